@@ -1,0 +1,57 @@
+//! The program: what the command line asks, and the exit status.
+#![tactic(auto)]
+
+mod command_line;
+
+use command_line::{Asked, asked_of};
+use rh_app::{RunFault, Watched, run};
+use rh_trail::Pick;
+use std::io::{BufWriter, Write};
+use std::process::ExitCode;
+use std::{env, io};
+
+// The exit status for how a rehearsal ended.
+fn status_of(ended: &Result<(), RunFault>) -> u8 {
+    match ended {
+        Ok(()) => 0,
+        Err(RunFault::Cluster(_)) => 2,
+        Err(RunFault::BadLine(_)) => 3,
+        Err(RunFault::Read | RunFault::Write) => 4,
+        Err(RunFault::OutOfMemory) => 5,
+    }
+}
+
+// Answers the script on standard input. What was written is flushed, however the rehearsal ended.
+fn rehearse(rt: &HostRuntime, pick: Pick) -> u8 {
+    let Ok(output) = BufWriter::new(rt.alloc(), io::writer(rt)) else {
+        return 5;
+    };
+    let mut reader = Watched::new(rt.reader());
+    let mut writer = Watched::new(output);
+    let ended = run(rt.alloc(), &mut reader, &mut writer, pick);
+    match writer.flush() {
+        Ok(()) => status_of(&ended),
+        Err(_) => 4,
+    }
+}
+
+fn answer(rt: &HostRuntime) -> u8 {
+    let Ok(arguments) = env::args(rt) else {
+        return 4;
+    };
+    let Ok(words) = arguments.collect::<Vec<String>>(rt.alloc()) else {
+        return 5;
+    };
+    match asked_of(rt.alloc(), words.as_slice()) {
+        Asked::Run(pick) => rehearse(rt, pick),
+        Asked::Refused(error) => {
+            let _ = eprint!(rt; "{error}");
+            1
+        }
+        Asked::OutOfMemory => 5,
+    }
+}
+
+fn main(rt: HostRuntime) -> ExitCode {
+    ExitCode::from(answer(&rt))
+}

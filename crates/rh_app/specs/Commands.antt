@@ -1,0 +1,49 @@
+-- What a line of a script asks (ours).
+use Rattle.std.specs.Prelude.{ℕ, List, [], ◌∷◌, length, filter, Bool, false, not, ◌==◌, if◌then◌else◌, codes, unwrap_or}
+use Rattle.std.specs.List.{slice_split}
+use Rattle.std.specs.Str.{bytes_eq, is_utf8}
+use Rattle.rh_cluster.specs.ClusterView.{ClusterView, node_of, numbered}
+use Rattle.rh_cluster.specs.declared.node.Node.{Node}
+use Rattle.rh_trail.specs.declared.event.Event.TheVariants.{Boot, Crash}
+use Rattle.rh_trail.specs.declared.call.Call.TheVariants as call
+use Rattle.rh_app.specs.declared.script.Line.{Line}
+use Rattle.rh_app.specs.declared.script.Line.TheVariants.{Nothing, Asks, Bad}
+
+-- the words between runs of spaces
+abbrev pub words_of : List ℕ → List (List ℕ)
+words_of line = filter (λ word. not (length word == 0)) (slice_split (λ b. b == 32) line)
+
+-- a name that no node has stands for number 255
+abbrev pub named : ClusterView → List ℕ → Node
+named c name = unwrap_or (node_of c name) (numbered 255)
+
+abbrev pub plain_command : List ℕ → Line
+plain_command word =
+    if bytes_eq word (codes "undo") then Asks call.Undo
+    else if bytes_eq word (codes "redo") then Asks call.Redo
+    else if bytes_eq word (codes "undo_all") then Asks call.UndoAll
+    else if bytes_eq word (codes "redo_all") then Asks call.RedoAll
+    else if bytes_eq word (codes "show") then Asks call.Look
+    else Bad
+
+abbrev pub node_command : ClusterView → List ℕ → List ℕ → Line
+node_command c word name =
+    if bytes_eq word (codes "boot") then Asks (call.Step (Boot (named c name)))
+    else if bytes_eq word (codes "crash") then Asks (call.Step (Crash (named c name)))
+    else Bad
+
+abbrev pub command_of : ClusterView → List (List ℕ) → Line
+command_of c [] = Nothing
+command_of c (word ∷ []) = plain_command word
+command_of c (word ∷ name ∷ []) = node_command c word name
+command_of c (word ∷ name ∷ other ∷ more) = Bad
+
+abbrev pub begins_with : ℕ → List ℕ → Bool
+begins_with b [] = false
+begins_with b (c ∷ bytes) = c == b
+
+unfoldable pub line_of : ClusterView → List ℕ → Line
+line_of c line =
+    if begins_with 35 line then Nothing
+    else if is_utf8 line then command_of c (words_of line)
+    else Bad

@@ -1,0 +1,109 @@
+-- What a run writes for the bytes that it reads, and how it ends (ours).
+use Rattle.std.specs.Prelude.{◌≡◌, ◌≤◌, ◌<◌, ◌⊎◌, ℕ, ◌+◌, List, [], ◌∷◌, ◌++◌, length, map, codes, Bool, true, false, Option, Some, None, Result, Ok, Err}
+use Rattle.std.specs.List.{flat_map}
+use Rattle.std.specs.Io.KnownBytes.{Appends, Keeps}
+use Rattle.rh_cluster.specs.ClusterView.{ClusterView}
+use Rattle.rh_cluster.specs.ClusterOf.{cluster_of}
+use Rattle.rh_cluster.specs.declared.fault.ClusterFault.{ClusterFault}
+use Rattle.rh_trail.specs.declared.event.Pick.{Pick}
+use Rattle.rh_trail.specs.declared.call.Call.{Call}
+use Rattle.rh_trail.specs.SimView.{SimView}
+use Rattle.rh_trail.specs.Lone.{opened, replies}
+use Rattle.rh_app.specs.declared.script.Line.{Line}
+use Rattle.rh_app.specs.declared.script.Line.TheVariants.{Nothing, Asks, Bad}
+use Rattle.rh_app.specs.declared.fault.RunFault.{RunFault}
+use Rattle.rh_app.specs.declared.fault.RunFault.TheVariants as end
+use Rattle.rh_app.specs.Lines.{cluster_text, script_lines}
+use Rattle.rh_app.specs.Commands.{line_of}
+use Rattle.rh_app.specs.Answers.{answer_text, fault_text, bad_text}
+use Rattle.rh_app.specs.Devices.{input_limit, AppendsFront}
+
+-- the commands up to the first bad line
+abbrev pub calls_of : List Line → List Call
+calls_of [] = []
+calls_of (Nothing ∷ lines) = calls_of lines
+calls_of (Asks call ∷ lines) = call ∷ calls_of lines
+calls_of (Bad ∷ lines) = []
+
+-- the number of the first bad line, where the first line has number k
+abbrev pub bad_line : ℕ → List Line → Option ℕ
+bad_line k [] = None
+bad_line k (Nothing ∷ lines) = bad_line (k + 1) lines
+bad_line k (Asks call ∷ lines) = bad_line (k + 1) lines
+bad_line k (Bad ∷ lines) = Some k
+
+abbrev pub end_text : Option ℕ → List ℕ
+end_text None = []
+end_text (Some k) = bad_text k
+
+abbrev pub script_end : Option ℕ → Option RunFault
+script_end None = None
+script_end (Some k) = Some (end.BadLine k)
+
+-- the answers to the commands, and then the bad line
+abbrev pub script_text : ClusterView → SimView → ℕ → List Line → List ℕ
+script_text c sim k lines = flat_map (answer_text c) (replies sim (calls_of lines)) ++ end_text (bad_line k lines)
+
+abbrev pub lines_asked : ClusterView → List (List ℕ) → List Line
+lines_asked c lines = map (line_of c) lines
+
+abbrev pub text_over : Pick → List (List ℕ) → Result ClusterView ClusterFault → List ℕ
+text_over pick lines (Ok c) = script_text c (opened c pick) 1 (lines_asked c lines)
+text_over pick lines (Err f) = fault_text f
+
+abbrev pub end_over : List (List ℕ) → Result ClusterView ClusterFault → Option RunFault
+end_over lines (Ok c) = script_end (bad_line 1 (lines_asked c lines))
+end_over lines (Err f) = Some (end.Cluster f)
+
+-- what is written
+unfoldable pub run_text : List ℕ → Pick → List ℕ
+run_text bytes pick = text_over pick (script_lines bytes) (cluster_of (cluster_text bytes))
+
+-- and the fault at the end, if there is one
+unfoldable pub run_end : List ℕ → Option RunFault
+run_end bytes = end_over (script_lines bytes) (cluster_of (cluster_text bytes))
+
+-- a text was written whole, or a front of it
+abbrev pub Wrote : Result (Unit {0}) RunFault → List ℕ → Option RunFault → Option (List ℕ) → Option (List ℕ) → Bool → Type 0
+Wrote (Ok x) text fault old new failed = (fault ≡ None) × Appends old new text × (failed ≡ false)
+Wrote (Err (end.Cluster f)) text fault old new failed = (fault ≡ Some (end.Cluster f)) × Appends old new text × (failed ≡ false)
+Wrote (Err (end.BadLine k)) text fault old new failed = (fault ≡ Some (end.BadLine k)) × Appends old new text × (failed ≡ false)
+Wrote (Err end.Read) text fault old new failed = ⊥
+Wrote (Err end.Write) text fault old new failed = AppendsFront old new text × (failed ≡ true)
+Wrote (Err end.OutOfMemory) text fault old new failed = AppendsFront old new text
+
+-- a piece was written whole, or a front of it
+abbrev pub Broke : Result (Unit {0}) RunFault → List ℕ → Option (List ℕ) → Option (List ℕ) → Bool → Type 0
+Broke (Ok x) text old new failed = Appends old new text × (failed ≡ false)
+Broke (Err (end.Cluster f)) text old new failed = ⊥
+Broke (Err (end.BadLine k)) text old new failed = ⊥
+Broke (Err end.Read) text old new failed = ⊥
+Broke (Err end.Write) text old new failed = AppendsFront old new text × (failed ≡ true)
+Broke (Err end.OutOfMemory) text old new failed = AppendsFront old new text
+
+-- one line was answered, and the other lines are left; or the run ends there
+abbrev pub Turns : Result (Unit {0}) RunFault → ClusterView → SimView → SimView → ℕ → Line → List Line → Option (List ℕ) → Option (List ℕ) → Bool → Type 0
+Turns (Ok x) c before after k line lines old new failed =
+    (piece : List ℕ) × Appends old new piece × (script_text c before k (line ∷ lines) ≡ piece ++ script_text c after (k + 1) lines)
+    × (bad_line k (line ∷ lines) ≡ bad_line (k + 1) lines) × (failed ≡ false)
+Turns (Err f) c before after k line lines old new failed =
+    Wrote (Err f) (script_text c before k (line ∷ lines)) (script_end (bad_line k (line ∷ lines))) old new failed
+
+-- the run came to its end: it wrote the whole text of its reader's bytes, and neither device has failed
+pub record IsWhole (told : Option RunFault) (bytes : List ℕ) (pick : Pick) (old new : Option (List ℕ)) (reader_failed writer_failed : Bool) : Type 0 where
+  pub end : run_end bytes ≡ told
+  pub text : Appends old new (run_text bytes pick)
+  pub small : length bytes ≤ input_limit
+  pub reader : reader_failed ≡ false
+  pub writer : writer_failed ≡ false
+
+-- what a run gives for the bytes of its reader: the whole text with its end, or a stated fault of a device or of memory
+abbrev pub RunGives : Result (Unit {0}) RunFault → List ℕ → Pick → Option (List ℕ) → Option (List ℕ) → Bool → Bool → Type 0
+RunGives (Ok x) bytes pick old new reader_failed writer_failed = IsWhole None bytes pick old new reader_failed writer_failed
+RunGives (Err (end.Cluster f)) bytes pick old new reader_failed writer_failed = IsWhole (Some (end.Cluster f)) bytes pick old new reader_failed writer_failed
+RunGives (Err (end.BadLine k)) bytes pick old new reader_failed writer_failed = IsWhole (Some (end.BadLine k)) bytes pick old new reader_failed writer_failed
+-- nothing was written
+RunGives (Err end.Read) bytes pick old new reader_failed writer_failed = ((reader_failed ≡ true) ⊎ (input_limit < length bytes)) × Keeps old new
+-- a front of the text was written
+RunGives (Err end.Write) bytes pick old new reader_failed writer_failed = (writer_failed ≡ true) × AppendsFront old new (run_text bytes pick)
+RunGives (Err end.OutOfMemory) bytes pick old new reader_failed writer_failed = AppendsFront old new (run_text bytes pick)

@@ -1,0 +1,17 @@
+//! The programs: from the bytes that are read to the bytes that are written.
+//!
+//! [`run`] reads a cluster file, a line `===` and a script, and answers the commands of the script.
+#![tactic(auto)]
+
+mod answers;
+mod device;
+mod fault;
+mod lines;
+mod running;
+mod script;
+mod watched;
+
+pub use fault::RunFault;
+pub use rh_trail::report;
+pub use running::run;
+pub use watched::Watched;

@@ -1,0 +1,198 @@
+//! The program `run`: commands are answered one after the other.
+
+ghost use Rattle.std.specs.Prelude.{List, ◌≡◌, ◌≢◌, ◌<◌, ◌≤◌, ◌⊎◌, length, map, true, false, None, Some, Err, OnOk, OnErr, IfOk, IfErr, IfSome};
+ghost use Rattle.std.specs.Io.KnownBytes.{Appends, Keeps};
+ghost use Rattle.rh_trail.specs.Lone.{opened, served};
+ghost use Rattle.rh_app.specs.Devices.{input_limit, AppendsFront};
+ghost use Rattle.rh_app.specs.Lines.{raw_lines, content};
+ghost use Rattle.rh_app.specs.declared.script.Line.{Line};
+ghost use Rattle.rh_app.specs.Commands.{line_of};
+ghost use Rattle.rh_app.specs.Answers.{answer_text, fault_text, bad_text};
+ghost use Rattle.rh_app.specs.RunText.{script_text, bad_line, script_end, lines_asked, run_text, run_end, Wrote, Broke, Turns, RunGives};
+
+use crate::answers::{answer_text, bad_text, fault_text};
+use crate::device::{read_input, write_text};
+use crate::fault::RunFault;
+use crate::lines::{content, cut, split_line};
+use crate::script::{Line, line_of};
+use crate::watched::Watched;
+use rh_cluster::{Cluster, ClusterFault, OutOfMemory, read_cluster};
+use rh_trail::{Call, Pick, Reply, Sim};
+use std::alloc::Global;
+use std::io::{Read, Write};
+
+/// Reads all of the input, a cluster file, a line `===` and a script, and then writes the answer to each command.
+///
+/// It ends at the first line that is no command. The input has at most 16,777,216 bytes. Neither device is flushed.
+///
+/// # Errors
+/// `Cluster` and `BadLine` are the end of the text that was written. `Read` comes where the reader has failed or the
+/// input is too long: nothing was written. `Write` comes where the writer has failed, and `OutOfMemory` where a growth
+/// was refused: a front of the text was written.
+pub fn run<R: Read, W: Write>(
+    alloc: Global,
+    reader: &mut Watched<R>,
+    writer: &mut Watched<W>,
+    pick: Pick,
+) -> Result<(), RunFault>
+    requires reader { reader.old.failed ≡ false }
+    requires writer { writer.old.failed ≡ false }
+    ensures { IfSome (R.remaining reader.old.inner) (λ bytes. RunGives result bytes pick
+        (W.contents writer.old.inner) (W.contents writer.new.inner) reader.new.failed writer.new.failed) }
+{
+    let input = read_input(alloc, reader)?;
+    answer_input(alloc, input.as_slice(), writer, pick)
+}
+
+// Writes the answers to an input.
+#[tactic(auto, unfolding(crate::specs::RunText::run_text, crate::specs::RunText::run_end))]
+fn answer_input<W: Write>(
+    alloc: Global,
+    input: &[u8],
+    writer: &mut Watched<W>,
+    pick: Pick,
+) -> Result<(), RunFault>
+    requires { writer.old.failed ≡ false }
+    ensures { Wrote result (run_text input.now pick) (run_end input.now) (W.contents writer.old.inner) (W.contents writer.new.inner) writer.new.failed }
+{
+    let (text, script) = cut(input);
+    match read_cluster(alloc, text) {
+        Err(ClusterFault::OutOfMemory) => Err(RunFault::OutOfMemory),
+        Err(fault) => {
+            write_fault(alloc, &fault, writer)?;
+            Err(RunFault::Cluster(fault))
+        }
+        Ok(cluster) => answer_script(alloc, &cluster, script, writer, pick),
+    }
+}
+
+// Writes why the text is no cluster.
+fn write_fault<W: Write>(
+    alloc: Global,
+    fault: &ClusterFault,
+    writer: &mut Watched<W>,
+) -> Result<(), RunFault>
+    requires { writer.old.failed ≡ false }
+    ensures { Broke result (fault_text fault.now) (W.contents writer.old.inner) (W.contents writer.new.inner) writer.new.failed }
+{
+    match fault_text(alloc, fault) {
+        Err(OutOfMemory) => Err(RunFault::OutOfMemory),
+        Ok(text) => write_text(writer, text.as_bytes()),
+    }
+}
+
+// Writes the answers to a script.
+fn answer_script<W: Write>(
+    alloc: Global,
+    cluster: &Cluster,
+    script: &[u8],
+    writer: &mut Watched<W>,
+    pick: Pick,
+) -> Result<(), RunFault>
+    requires { writer.old.failed ≡ false }
+    ensures { Wrote result
+        (script_text cluster.now (opened cluster.now pick) 1 (lines_asked cluster.now (map content (raw_lines script.now))))
+        (script_end (bad_line 1 (lines_asked cluster.now (map content (raw_lines script.now)))))
+        (W.contents writer.old.inner) (W.contents writer.new.inner) writer.new.failed }
+{
+    let mut sim = Sim::open(alloc, cluster.copy(alloc)?, pick)?;
+    answer_lines(alloc, cluster, &mut sim, script, writer)
+}
+
+// Writes the answers to lines, the first of which has number 1.
+fn answer_lines<W: Write>(
+    alloc: Global,
+    cluster: &Cluster,
+    sim: &mut Sim,
+    script: &[u8],
+    writer: &mut Watched<W>,
+) -> Result<(), RunFault>
+    requires { writer.old.failed ≡ false }
+    ensures { Wrote result
+        (script_text cluster.now sim.old.seen 1 (lines_asked cluster.now (map content (raw_lines script.now))))
+        (script_end (bad_line 1 (lines_asked cluster.now (map content (raw_lines script.now)))))
+        (W.contents writer.old.inner) (W.contents writer.new.inner) writer.new.failed }
+{
+    let mut rest = script;
+    let mut number: u64 = 1;
+    'lines: while !rest.is_empty() {
+        let (line, after) = split_line(rest);
+        match answer_line(alloc, cluster, sim, number, line, writer) {
+            Err(fault) => return Err(fault),
+            Ok(()) => {
+                rest = after;
+                number += 1;
+            }
+        }
+    }
+    Ok(())
+}
+
+// Writes the answer to a line, if it gets one.
+fn answer_line<W: Write>(
+    alloc: Global,
+    cluster: &Cluster,
+    sim: &mut Sim,
+    number: u64,
+    line: &[u8],
+    writer: &mut Watched<W>,
+) -> Result<(), RunFault>
+    requires { writer.old.failed ≡ false }
+    ensures { (lines : List Line) → Turns result cluster.now sim.old.seen sim.new.seen number (line_of cluster.now (content line.now)) lines
+        (W.contents writer.old.inner) (W.contents writer.new.inner) writer.new.failed }
+{
+    match line_of(alloc, cluster, content(line)) {
+        Err(OutOfMemory) => Err(RunFault::OutOfMemory),
+        Ok(Line::Nothing) => Ok(()),
+        Ok(Line::Asks(call)) => answer_call(alloc, cluster, sim, call, writer),
+        Ok(Line::Bad) => Err(answer_bad(alloc, number, writer)),
+    }
+}
+
+// Writes that a line is no command.
+fn answer_bad<W: Write>(alloc: Global, number: u64, writer: &mut Watched<W>) -> RunFault
+    requires { writer.old.failed ≡ false }
+    ensures { Wrote (Err result) (bad_text number) (Some (RunFault.BadLine number)) (W.contents writer.old.inner) (W.contents writer.new.inner) writer.new.failed }
+{
+    match bad_text(alloc, number) {
+        Err(OutOfMemory) => RunFault::OutOfMemory,
+        Ok(text) => match write_text(writer, text.as_bytes()) {
+            Err(fault) => fault,
+            Ok(()) => RunFault::BadLine(number),
+        },
+    }
+}
+
+// Gives a call to the simulation, and writes the answer.
+fn answer_call<W: Write>(
+    alloc: Global,
+    cluster: &Cluster,
+    sim: &mut Sim,
+    call: Call,
+    writer: &mut Watched<W>,
+) -> Result<(), RunFault>
+    requires { writer.old.failed ≡ false }
+    ensures sim { OnOk result (sim.new.seen ≡ (served sim.old.seen call).sim) }
+    ensures text { Broke result (answer_text cluster.now (served sim.old.seen call).reply) (W.contents writer.old.inner) (W.contents writer.new.inner) writer.new.failed }
+{
+    match sim.answer(alloc, call) {
+        Err(OutOfMemory) => Err(RunFault::OutOfMemory),
+        Ok(reply) => write_answer(alloc, cluster, &reply, writer),
+    }
+}
+
+// Writes the answer of a reply.
+fn write_answer<W: Write>(
+    alloc: Global,
+    cluster: &Cluster,
+    reply: &Reply,
+    writer: &mut Watched<W>,
+) -> Result<(), RunFault>
+    requires { writer.old.failed ≡ false }
+    ensures { Broke result (answer_text cluster.now reply.now) (W.contents writer.old.inner) (W.contents writer.new.inner) writer.new.failed }
+{
+    match answer_text(alloc, cluster, reply) {
+        Err(OutOfMemory) => Err(RunFault::OutOfMemory),
+        Ok(text) => write_text(writer, text.as_slice()),
+    }
+}

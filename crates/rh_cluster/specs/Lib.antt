@@ -1,0 +1,4 @@
+pub mod ClusterView
+pub mod NodeTerms
+pub mod FaultWords
+pub mod ClusterOf

@@ -1,0 +1,14 @@
+use Rattle.std.proofs.Common.{ap, sym, ◌∙◌}
+use Rattle.rh_cluster.specs.ClusterView.{numbered}
+use Rattle.rh_trail.specs.Words.{read}
+use Rattle.rh_trail.specs.Changes.{course, come_up_if_ready}
+use Rattle.rh_trail.proofs.Steps.{come_up_more}
+use Rattle.rh_trail.proofs.step.let_ready_come_up.Goals as goal
+
+pub loop-number-preserved : goal.loop-number-preserved
+loop-number-preserved c = record {
+  course = c.in_ok-let_come_up_if_ready.ensures.course
+      ∙ ap (λ o. come_up_if_ready o (numbered c.loop-number.number)) c.loop-number.invariant.course
+      ∙ sym (come_up_more (course (read c.args.state.now) c.args.notices.now.items) c.loop-number.number);
+  cluster = c.in_ok-let_come_up_if_ready.ensures.cluster ∙ c.loop-number.invariant.cluster;
+}

@@ -1,0 +1,20 @@
+use Rattle.std.proofs.Common.{ℕ, ◌++◌, List, map, codes, ap, sym, ◌∙◌, arith}
+use Rattle.std.specs.List.{flat_map, range_with_len}
+use Rattle.std.specs.Fmt.{decimal}
+use Rattle.std.proofs.lemmas.List.{flat_map_more}
+use Rattle.std.proofs.lemmas.List.FromFn.{map-range_with_len_more}
+use Rattle.rh_cluster.specs.ClusterView.{numbered}
+use Rattle.rh_cluster.specs.declared.node.Node.{Node}
+use Rattle.rh_trail.specs.Words.{read}
+use Rattle.rh_trail.specs.Report.{node_line}
+use Rattle.rh_trail.proofs.text.report.Goals as goal
+
+pub loop-number-preserved : goal.loop-number-preserved
+loop-number-preserved c =
+    let s = read c.args.state.now in
+    let i = c.loop-number.number in
+    let head = codes "now " ++ decimal s.time ++ codes "\n" in
+    c.in_ok-push_node_line.ensures
+    ∙ ap (λ (t : List ℕ). t ++ node_line s (numbered i)) c.loop-number.invariant
+    ∙ flat_map_more (node_line s) head (map numbered (range_with_len 0 i)) (numbered i)
+    ∙ ap (λ (ns : List Node). head ++ flat_map (node_line s) ns) (sym (map-range_with_len_more numbered 0 i i (omega arith)))

@@ -1,0 +1,59 @@
+-- What holds of a simulation after any list of calls (ours).
+use Rattle.std.specs.Prelude.{◌≡◌, ◌≤◌, List, length, Bool, true, false}
+use Rattle.rh_cluster.specs.ClusterView.{ClusterView}
+use Rattle.rh_trail.specs.declared.event.Event.{Event}
+use Rattle.rh_trail.specs.declared.event.Notice.{Notice}
+use Rattle.rh_trail.specs.declared.event.Pick.{Pick}
+use Rattle.rh_trail.specs.declared.call.Call.{Call}
+use Rattle.rh_trail.specs.declared.call.Call.TheVariants as call
+use Rattle.rh_trail.specs.declared.call.Reply.{Reply}
+use Rattle.rh_trail.specs.declared.call.Reply.TheVariants as reply
+use Rattle.rh_trail.specs.StateView.{first}
+use Rattle.rh_trail.specs.Changes.{course}
+use Rattle.rh_trail.specs.Allowed.{Allowed}
+use Rattle.rh_trail.specs.Runs.{after}
+use Rattle.rh_trail.specs.SimView.{SimView, state_of}
+use Rattle.rh_trail.specs.Lone.{served, sim_after, opened, trail_limit}
+
+-- the replies of calls that changed nothing
+abbrev pub is_refusal : Reply → Bool
+is_refusal (reply.Refused _) = true
+is_refusal reply.AtStart = true
+is_refusal reply.AtEnd = true
+is_refusal (reply.Done _) = false
+is_refusal reply.Undone = false
+is_refusal reply.Redone = false
+is_refusal (reply.Moved _) = false
+is_refusal (reply.Seen _ _ _) = false
+
+-- the simulation after one more call
+abbrev pub next_sim : SimView → Call → SimView
+next_sim s call = (served s call).sim
+
+-- the step of this event is accepted and has these notices
+abbrev pub Accepts : SimView → Event → List Notice → Type 0
+Accepts s e notices = (served s (call.Step e)).reply ≡ reply.Done notices
+
+pub record IsReversible (s : SimView) : Type 0 where
+  pub within : s.cursor ≤ length s.trail
+  pub limited : length s.trail ≤ trail_limit
+  -- each accepted step is one that the rules allow
+  pub allowed : (e : Event) (notices : List Notice) → Accepts s e notices
+      → Allowed (state_of s) e (course (state_of (next_sim s (call.Step e))) notices)
+  -- undoing it restores the whole earlier state, and redoing it the whole later simulation
+  pub undone : (e : Event) (notices : List Notice) → Accepts s e notices
+      → state_of (next_sim (next_sim s (call.Step e)) call.Undo) ≡ state_of s
+  pub redone : (e : Event) (notices : List Notice) → Accepts s e notices
+      → next_sim (next_sim (next_sim s (call.Step e)) call.Undo) call.Redo ≡ next_sim s (call.Step e)
+  -- a step that was taken back is made again by redo, and the other way round
+  pub back : (served s call.Undo).reply ≡ reply.Undone → next_sim (next_sim s call.Undo) call.Redo ≡ s
+  pub forth : (served s call.Redo).reply ≡ reply.Redone → next_sim (next_sim s call.Redo) call.Undo ≡ s
+  -- a refused call changes nothing
+  pub refused : (call : Call) → is_refusal (served s call).reply ≡ true → next_sim s call ≡ s
+  -- undoing all gives the first state, and redoing all the last one
+  pub all_undone : state_of (next_sim s call.UndoAll) ≡ first s.cluster
+  pub all_redone : state_of (next_sim s call.RedoAll) ≡ after s.cluster s.pick s.trail
+
+-- after any list of calls
+abbrev pub CallsAreReversible : Type 0
+CallsAreReversible = (c : ClusterView) (pick : Pick) (calls : List Call) → IsReversible (sim_after (opened c pick) calls)

@@ -1,0 +1,11 @@
+pub mod StateView
+pub mod Words
+pub mod Refusals
+pub mod Changes
+pub mod Allowed
+pub mod Runs
+pub mod SimView
+pub mod History
+pub mod Report
+pub mod Lone
+pub mod Laws

@@ -1,0 +1,23 @@
+-- What callers see of a simulation: the trail of its accepted events, and a cursor in it (ours).
+use Rattle.std.specs.Prelude.{ℕ, List, take}
+use Rattle.rh_cluster.specs.ClusterView.{ClusterView}
+use Rattle.rh_trail.specs.declared.event.Event.{Event}
+use Rattle.rh_trail.specs.declared.event.Pick.{Pick}
+use Rattle.rh_trail.specs.StateView.{StateView}
+use Rattle.rh_trail.specs.Runs.{after}
+
+pub record SimView : Type 0 where
+  pub cluster : ClusterView
+  pub pick : Pick
+  -- the events that stand, and behind them those that can be made again
+  pub trail : List Event
+  -- how many events stand
+  pub cursor : ℕ
+
+-- its state is that after the events up to the cursor
+abbrev pub state_of : SimView → StateView
+state_of s = after s.cluster s.pick (take s.cursor s.trail)
+
+-- all that a simulation is by its contracts
+pub record Held : Type 0 where
+  pub seen : SimView

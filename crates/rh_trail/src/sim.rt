@@ -1,0 +1,102 @@
+//! A simulation: the trail of the accepted events, with a state after each, and a cursor in it.
+
+ghost use Rattle.std.specs.Prelude.{◌≡◌, ◌≤◌, length, IfOk};
+ghost use Rattle.rh_trail.specs.Words.{read};
+
+mod moves;
+
+use crate::event::{Event, Pick};
+use crate::state::{State, first_state};
+use rh_cluster::{Cluster, OutOfMemory};
+use std::alloc::Global;
+use std::marker::Model;
+
+/// There is no step to take back.
+#[derive(Clone, Copy, Debug, PartialEq, Eq)]
+pub struct AtStart;
+
+/// There is no step to make again.
+#[derive(Clone, Copy, Debug, PartialEq, Eq)]
+pub struct AtEnd;
+
+/// A simulation of a cluster, with undo and redo.
+#[derive(Drop)]
+pub struct Sim {
+    cluster: Cluster,
+    pick: Pick,
+    trail: Vec<Event>,
+    states: Vec<State>,
+    cursor: usize,
+}
+
+impl Model for Sim {
+    ghost use Rattle.rh_trail.specs.SimView.{Held};
+    ghost use Rattle.rh_trail.specs.History.{IsHistory};
+
+    ghost Value = { Held };
+
+    ghost view = { λ s. record { seen = record { cluster = s.cluster; pick = s.pick; trail = s.trail.items; cursor = s.cursor } } };
+
+    ghost invariant = { λ s. IsHistory s.cluster s.pick s.trail.items s.states.items s.cursor };
+}
+
+impl Sim {
+    ghost use Rattle.rh_trail.specs.SimView.{state_of};
+    ghost use Rattle.rh_trail.specs.Lone.{opened, trail_limit};
+
+    /// The greatest number of events in a trail.
+    pub const TRAIL_LIMIT: usize = 65_535;
+
+    /// A simulation in the first state, with an empty trail. The cluster is dropped if memory is wanting.
+    pub fn open(alloc: Global, cluster: Cluster, pick: Pick) -> Result<Sim, OutOfMemory>
+        ensures { IfOk result (λ sim. sim.seen ≡ opened cluster pick) }
+    {
+        let first = first_state(alloc, &cluster)?;
+        let mut states = Vec::new(alloc);
+        states.push(first)?;
+        Ok(Sim {
+            cluster,
+            pick,
+            trail: Vec::new(alloc),
+            states,
+            cursor: 0,
+        })
+    }
+
+    /// The cluster.
+    pub fn cluster(&self) -> &Cluster
+        ensures { result.now ≡ self.now.seen.cluster }
+    {
+        &self.cluster
+    }
+
+    /// Which of several nodes of equal rank is taken.
+    pub fn pick(&self) -> Pick
+        ensures { result ≡ self.now.seen.pick }
+    {
+        self.pick
+    }
+
+    /// The state after the events up to the cursor.
+    pub fn state(&self) -> &State
+        ensures { read result.now ≡ state_of self.now.seen }
+    {
+        &self.states[self.cursor]
+    }
+
+    /// How many events of the trail stand.
+    pub fn cursor(&self) -> usize
+        ensures cursor { result ≡ self.now.seen.cursor }
+        ensures within { result ≤ length self.now.seen.trail }
+    {
+        self.cursor
+    }
+
+    /// The events that stand, and behind them those that can be made again.
+    pub fn trail(&self) -> &[Event]
+        ensures trail { result.now ≡ self.now.seen.trail }
+        ensures limit { length result.now ≤ trail_limit }
+    {
+        self.trail.as_slice()
+    }
+}
