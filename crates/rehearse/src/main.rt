@@ -35,14 +35,26 @@ fn rehearse(rt: &HostRuntime, pick: Pick) -> u8 {
     }
 }
 
-fn answer(rt: &HostRuntime) -> u8 {
-    let Ok(arguments) = env::args(rt) else {
-        return 4;
-    };
-    let Ok(words) = arguments.collect::<Vec<String>>(rt.alloc()) else {
-        return 5;
-    };
-    match asked_of(rt.alloc(), words.as_slice()) {
+// The words of the command line, or the exit status where there are none.
+fn words_of(rt: &HostRuntime) -> Result<Vec<String>, u8> {
+    match env::args(rt) {
+        Ok(arguments) => match arguments.collect(rt.alloc()) {
+            Ok(words) => Ok(words),
+            Err(_) => Err(5),
+        },
+        Err(error) => {
+            if error.kind() == io::ErrorKind::OutOfMemory {
+                return Err(5);
+            }
+            let _ = eprintln!(rt; "error: a word of the command line isn't UTF-8");
+            Err(1)
+        }
+    }
+}
+
+// Does what the words ask, and gives the exit status.
+fn answer(rt: &HostRuntime, words: &[String]) -> u8 {
+    match asked_of(rt.alloc(), words) {
         Asked::Run(pick) => rehearse(rt, pick),
         Asked::Refused(error) => {
             let _ = eprint!(rt; "{error}");
@@ -53,5 +65,8 @@ fn answer(rt: &HostRuntime) -> u8 {
 }
 
 fn main(rt: HostRuntime) -> ExitCode {
-    ExitCode::from(answer(&rt))
+    match words_of(&rt) {
+        Ok(words) => ExitCode::from(answer(&rt, words.as_slice())),
+        Err(status) => ExitCode::from(status),
+    }
 }

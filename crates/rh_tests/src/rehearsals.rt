@@ -130,7 +130,7 @@ fn writes_nothing_after_a_failed_read(rt: HostRuntime) {
 #[test]
 fn leaves_a_front_after_a_failed_write(rt: HostRuntime) {
     for failure in [Failure::Error, Failure::Full] {
-        let mut failed = 0;
+        let mut failed: u32 = 0;
         for call in 0..200 {
             let mut sink = Sink::failing(rt.alloc(), call, failure);
             let source = Source::of(TWO_NODES.as_bytes());
@@ -141,7 +141,7 @@ fn leaves_a_front_after_a_failed_write(rt: HostRuntime) {
                 Err(fault) => {
                     assert!(rt; matches!(fault, RunFault::Write), "call {call}");
                     assert!(rt; sink.bytes.len() < TWO_NODES_TEXT.len(), "call {call}");
-                    failed += 1;
+                    failed = failed.saturating_add(1);
                 }
             }
         }

@@ -1,0 +1,187 @@
+#!/usr/bin/env python3
+"""Tests the built program: run_program.py PROGRAM
+
+The worked rows are the files NAME.in (standard input), NAME.args (the words of the command line), NAME.out (the
+standard output that is owed) and NAME.status (the exit status) of the folders in tests/rows. Each example of the
+repository has its NAME.args, NAME.out and NAME.status in tests/examples. Then come inputs that are too large for
+files, and devices and memory that fail. The last line is 'N passed, M failed'.
+"""
+import difflib
+import os
+import subprocess
+import sys
+import tempfile
+
+HERE = os.path.dirname(os.path.abspath(__file__))
+TOP = os.path.dirname(HERE)
+TWO_NODES = b"{node, a@x, []}. {node, b@x, []}."
+INPUT_LIMIT = 16_777_216
+
+
+def read(path):
+    with open(path, "rb") as file:
+        return file.read()
+
+
+def run(program, words, **options):
+    options.setdefault("stdout", subprocess.PIPE)
+    return subprocess.run([program] + words, stderr=subprocess.PIPE, timeout=300, **options)
+
+
+def difference(want, have):
+    lines = difflib.unified_diff(
+        want.decode("utf-8", "replace").splitlines(), have.decode("utf-8", "replace").splitlines(),
+        "want", "have", lineterm="")
+    return "\n".join(list(lines)[:40])
+
+
+def fault_of(done, status, out):
+    """What is wrong with a finished run, or None."""
+    if done.returncode != status:
+        return f"status {done.returncode}, want {status}"
+    if out is not None and done.stdout != out:
+        return difference(out, done.stdout)
+    if status != 1 and done.stderr:
+        return f"standard error: {done.stderr[:200]}"
+    return None
+
+
+def rows(program):
+    folder = os.path.join(HERE, "rows")
+    for stage in sorted(os.listdir(folder)):
+        for name in sorted(f[:-3] for f in os.listdir(os.path.join(folder, stage)) if f.endswith(".in")):
+            row = os.path.join(folder, stage, name)
+            done = run(program, read(row + ".args").decode().split(), input=read(row + ".in"))
+            yield f"{stage}/{name}", fault_of(done, int(read(row + ".status")), read(row + ".out"))
+
+
+def examples(program):
+    for name in sorted(os.listdir(os.path.join(TOP, "examples"))):
+        want = os.path.join(HERE, "examples", name)
+        if not os.path.exists(want + ".out"):
+            yield f"examples/{name}", "no text is owed for it in tests/examples"
+            continue
+        done = run(program, read(want + ".args").decode().split(), input=read(os.path.join(TOP, "examples", name)))
+        yield f"examples/{name}", fault_of(done, int(read(want + ".status")), read(want + ".out"))
+
+
+def command_lines(program):
+    """What a newcomer reads: help and version go to standard error, with status 1."""
+    for words, texts in [
+            (["--help"], [b"rehearse", b"run", b"Exit status"]),
+            (["run", "--help"], [b"--pick", b"boot N", b"crash N", b"undo", b"redo", b"undo_all", b"redo_all", b"show"]),
+            (["--version"], [b"rehearse 0.1.0"])]:
+        done = run(program, words, input=b"")
+        missing = [text for text in texts if text not in done.stderr]
+        yield " ".join(words), fault_of(done, 1, b"") or (f"standard error lacks {missing}" if missing else None)
+
+
+def large_inputs(program):
+    filled = TWO_NODES + b" " * (INPUT_LIMIT - len(TWO_NODES))
+    yield "16,777,216 bytes", fault_of(run(program, ["run"], input=filled), 0, b"")
+    yield "16,777,217 bytes", fault_of(run(program, ["run"], input=filled + b" "), 4, b"")
+    turns = b"boot a@x\ncrash a@x\n" * 9_999
+    answers = b"ok\nup a@x\nok\nended a@x\n" * 9_999
+    done = run(program, ["run"], input=TWO_NODES + b"\n===\n" + turns + b"boot a@x\n")
+    yield "a node starts 9,999 times", fault_of(done, 0, answers + b"refused S4 incarnation_limit\n")
+    nodes = [b"n%d" % number for number in range(4)]
+    text = b" ".join(b"{node, %s, []}." % node for node in nodes)
+    steps = [(b"boot", b"up") if step // 4 % 2 == 0 else (b"crash", b"ended") for step in range(65_535)]
+    script = b"".join(b"%s %s\n" % (command, nodes[step % 4]) for step, (command, _) in enumerate(steps))
+    answers = b"".join(b"ok\n%s %s\n" % (notice, nodes[step % 4]) for step, (_, notice) in enumerate(steps))
+    done = run(program, ["run"], input=text + b"\n===\n" + script + b"boot n0\nundo\ncrash n2\nundo_all\n")
+    yield "a trail has 65,535 events", fault_of(
+        done, 0, answers + b"refused S18 trail_full\nok\nok\nended n2\nok 65535\n")
+
+
+def failing_devices(program):
+    row = os.path.join(HERE, "rows", "bare-nodes", "two-bare-nodes")
+    with open("/dev/full", "wb") as full:
+        done = run(program, ["run"], input=read(row + ".in"), stdout=full)
+    yield "output to a full device", fault_of(done, 4, None)
+    folder = os.open("/", os.O_RDONLY)
+    done = run(program, ["run"], stdin=folder)
+    os.close(folder)
+    yield "input from a folder", fault_of(done, 4, b"")
+
+
+# Refuses the allocation of the number in FAIL_ALLOCATION, counted from 1, and tells the file COUNT_FILE how many there were.
+REFUSING = r"""
+#define _GNU_SOURCE
+#include <dlfcn.h>
+#include <stdio.h>
+#include <stdlib.h>
+static long refused = -1, count = 0;
+__attribute__((constructor)) static void begin(void) {
+  const char *text = getenv("FAIL_ALLOCATION");
+  if (text) refused = atol(text);
+}
+__attribute__((destructor)) static void end(void) {
+  const char *path = getenv("COUNT_FILE");
+  long all = count;
+  FILE *file = path ? fopen(path, "w") : NULL;
+  if (file) { fprintf(file, "%ld", all); fclose(file); }
+}
+void *malloc(size_t size) {
+  static void *(*inner)(size_t);
+  if (!inner) inner = dlsym(RTLD_NEXT, "malloc");
+  return ++count == refused ? NULL : inner(size);
+}
+void *realloc(void *p, size_t size) {
+  static void *(*inner)(void *, size_t);
+  if (!inner) inner = dlsym(RTLD_NEXT, "realloc");
+  return ++count == refused ? NULL : inner(p, size);
+}
+"""
+
+
+def refused_memory(program):
+    """Each allocation of a whole run refused in turn: the whole text, or status 5 and a front of it."""
+    row = os.path.join(HERE, "rows", "bare-nodes", "two-bare-nodes")
+    source, want = read(row + ".in"), read(row + ".out")
+    with tempfile.TemporaryDirectory() as folder:
+        code, library, counted = (os.path.join(folder, name) for name in ("refusing.c", "refusing.so", "count"))
+        with open(code, "w") as file:
+            file.write(REFUSING)
+        made = subprocess.run(["cc", "-shared", "-fPIC", "-O1", "-o", library, code, "-ldl"], capture_output=True)
+        if made.returncode != 0:
+            yield "refused memory", f"cc: {made.stderr.decode()[:200]}"
+            return
+
+        def refusing(number):
+            return run(program, ["run"], input=source, env={
+                **os.environ, "LD_PRELOAD": library, "FAIL_ALLOCATION": str(number), "COUNT_FILE": counted})
+
+        wrong = fault_of(refusing(0), 0, want)
+        count = int(read(counted))
+        ends = []
+        for number in range(1, count + 1):
+            done = refusing(number)
+            ends.append(done.returncode)
+            is_whole = done.returncode == 0 and done.stdout == want
+            is_front = done.returncode == 5 and want.startswith(done.stdout)
+            if wrong is None and not (is_whole or is_front):
+                wrong = f"allocation {number}: status {done.returncode}, {done.stdout!r}"
+        # A growth that only would save room may be done without; most can't.
+        if wrong is None and ends.count(5) < 50:
+            wrong = f"of {count} allocations only {ends.count(5)} were missed"
+        yield f"each of {count} allocations refused in turn", wrong
+
+
+def main():
+    if len(sys.argv) != 2:
+        sys.exit(__doc__)
+    program = os.path.abspath(sys.argv[1])
+    passed = failed = 0
+    for tests in (rows, examples, command_lines, large_inputs, failing_devices, refused_memory):
+        for name, wrong in tests(program):
+            if wrong is None:
+                passed += 1
+            else:
+                failed += 1
+                print(f"FAILED {name}: {wrong}")
+    print(f"{passed} passed, {failed} failed")
+    sys.exit(1 if failed else 0)
+
+
+main()
