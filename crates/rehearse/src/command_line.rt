@@ -9,7 +9,8 @@ use std::alloc::Global;
 // The choices at a tie.
 static PICKS: [&str; 2] = ["first", "last"];
 
-static ABOUT: &str = "Rehearses maintenance and failures of a cluster of Erlang nodes, forwards and backwards";
+static ABOUT: &str =
+    "Rehearses maintenance and failures of a cluster of Erlang nodes, forwards and backwards";
 
 static AFTER_HELP: &str = "\
 The input is a cluster file, a line `===`, and a script:

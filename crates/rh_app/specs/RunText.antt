@@ -1,7 +1,7 @@
 -- What a run writes for the bytes that it reads, and how it ends (ours).
-use Rattle.std.specs.Prelude.{◌≡◌, ◌≤◌, ◌<◌, ◌⊎◌, ℕ, ◌+◌, List, [], ◌∷◌, ◌++◌, length, map, codes, Bool, true, false, Option, Some, None, Result, Ok, Err}
+use Rattle.std.specs.Prelude.{◌≡◌, ℕ, ◌+◌, List, [], ◌∷◌, ◌++◌, map, Bool, true, false, Option, Some, None, Result, Ok, Err}
 use Rattle.std.specs.List.{flat_map}
-use Rattle.std.specs.Io.KnownBytes.{Appends, Keeps}
+use Rattle.std.specs.Io.KnownBytes.{Appends}
 use Rattle.rh_cluster.specs.ClusterView.{ClusterView}
 use Rattle.rh_cluster.specs.ClusterOf.{cluster_of}
 use Rattle.rh_cluster.specs.declared.fault.ClusterFault.{ClusterFault}
@@ -16,7 +16,7 @@ use Rattle.rh_app.specs.declared.fault.RunFault.TheVariants as end
 use Rattle.rh_app.specs.Lines.{cluster_text, script_lines}
 use Rattle.rh_app.specs.Commands.{line_of}
 use Rattle.rh_app.specs.Answers.{answer_text, fault_text, bad_text}
-use Rattle.rh_app.specs.Devices.{input_limit, AppendsFront}
+use Rattle.rh_app.specs.Devices.{AppendsFront}
 
 -- the commands up to the first bad line
 abbrev pub calls_of : List Line → List Call
@@ -88,22 +88,3 @@ Turns (Ok x) c before after k line lines old new failed =
     × (bad_line k (line ∷ lines) ≡ bad_line (k + 1) lines) × (failed ≡ false)
 Turns (Err f) c before after k line lines old new failed =
     Wrote (Err f) (script_text c before k (line ∷ lines)) (script_end (bad_line k (line ∷ lines))) old new failed
-
--- the run came to its end: it wrote the whole text of its reader's bytes, and neither device has failed
-pub record IsWhole (told : Option RunFault) (bytes : List ℕ) (pick : Pick) (old new : Option (List ℕ)) (reader_failed writer_failed : Bool) : Type 0 where
-  pub end : run_end bytes ≡ told
-  pub text : Appends old new (run_text bytes pick)
-  pub small : length bytes ≤ input_limit
-  pub reader : reader_failed ≡ false
-  pub writer : writer_failed ≡ false
-
--- what a run gives for the bytes of its reader: the whole text with its end, or a stated fault of a device or of memory
-abbrev pub RunGives : Result (Unit {0}) RunFault → List ℕ → Pick → Option (List ℕ) → Option (List ℕ) → Bool → Bool → Type 0
-RunGives (Ok x) bytes pick old new reader_failed writer_failed = IsWhole None bytes pick old new reader_failed writer_failed
-RunGives (Err (end.Cluster f)) bytes pick old new reader_failed writer_failed = IsWhole (Some (end.Cluster f)) bytes pick old new reader_failed writer_failed
-RunGives (Err (end.BadLine k)) bytes pick old new reader_failed writer_failed = IsWhole (Some (end.BadLine k)) bytes pick old new reader_failed writer_failed
--- nothing was written
-RunGives (Err end.Read) bytes pick old new reader_failed writer_failed = ((reader_failed ≡ true) ⊎ (input_limit < length bytes)) × Keeps old new
--- a front of the text was written
-RunGives (Err end.Write) bytes pick old new reader_failed writer_failed = (writer_failed ≡ true) × AppendsFront old new (run_text bytes pick)
-RunGives (Err end.OutOfMemory) bytes pick old new reader_failed writer_failed = AppendsFront old new (run_text bytes pick)

@@ -8,7 +8,8 @@ ghost use Rattle.rh_app.specs.Lines.{raw_lines, content};
 ghost use Rattle.rh_app.specs.declared.script.Line.{Line};
 ghost use Rattle.rh_app.specs.Commands.{line_of};
 ghost use Rattle.rh_app.specs.Answers.{answer_text, fault_text, bad_text};
-ghost use Rattle.rh_app.specs.RunText.{script_text, bad_line, script_end, lines_asked, run_text, run_end, Wrote, Broke, Turns, RunGives};
+ghost use Rattle.rh_app.specs.RunText.{script_text, bad_line, script_end, lines_asked, run_text, run_end, Wrote, Broke, Turns};
+ghost use Rattle.rh_app.specs.Programs.{ProgramGives};
 
 use crate::answers::{answer_text, bad_text, fault_text};
 use crate::device::{read_input, write_text};
@@ -37,7 +38,7 @@ pub fn run<R: Read, W: Write>(
 ) -> Result<(), RunFault>
     requires reader { reader.old.failed ≡ false }
     requires writer { writer.old.failed ≡ false }
-    ensures { IfSome (R.remaining reader.old.inner) (λ bytes. RunGives result bytes pick
+    ensures { IfSome (R.remaining reader.old.inner) (λ bytes. ProgramGives result bytes (run_text bytes pick) (run_end bytes)
         (W.contents writer.old.inner) (W.contents writer.new.inner) reader.new.failed writer.new.failed) }
 {
     let input = read_input(alloc, reader)?;

@@ -10,7 +10,9 @@ use std::process::Abort;
 use std::test::Fail;
 
 const A: Node = Node(0);
+
 const B: Node = Node(1);
+
 const NOBODY: Node = Node(255);
 
 // The cluster of two bare nodes.
@@ -60,7 +62,9 @@ fn a_text_has_its_first_fault(rt: HostRuntime) -> Result<(), Fail> {
         ("{node, A, []}.", "C10 bad_value"),
         (long.as_str(), "C11 bad_name"),
     ] {
-        let fault = read_cluster(rt.alloc(), text.as_bytes()).err().ok_or("a fault")?;
+        let fault = read_cluster(rt.alloc(), text.as_bytes())
+            .err()
+            .ok_or("a fault")?;
         let shown = format!(in rt.alloc(); "{fault}")?;
         assert_eq!(rt; shown.as_str(), want);
     }
@@ -75,19 +79,30 @@ fn a_state_takes_steps(rt: HostRuntime) -> Result<(), Fail> {
     let cluster = two_nodes(&rt, alloc);
     let mut state = first_state(alloc, &cluster).ok().ok_or("memory")?;
     let boot = Event::Boot { node: A };
-    assert_eq!(rt; refusal_of(&state, &Event::Crash { node: A }), Some(Refusal::NotAlive));
-    assert_eq!(rt; refusal_of(&state, &Event::Crash { node: NOBODY }), Some(Refusal::UnknownNode));
+    assert_eq!(rt;
+        refusal_of(&state, &Event::Crash { node: A }),
+        Some(Refusal::NotAlive)
+    );
+    assert_eq!(rt;
+        refusal_of(&state, &Event::Crash { node: NOBODY }),
+        Some(Refusal::UnknownNode)
+    );
     assert_eq!(rt; refusal_of(&state, &boot), None);
     let mut notices = Vec::new(alloc);
     if refusal_of(&state, &boot).is_none() {
-        perform(&mut state, &boot, Pick::First, &mut notices).ok().ok_or("memory")?;
+        perform(&mut state, &boot, Pick::First, &mut notices)
+            .ok()
+            .ok_or("memory")?;
     }
     assert_eq!(rt; notices.as_slice(), [Notice::Up { node: A }].as_slice());
     assert_eq!(rt; refusal_of(&state, &boot), Some(Refusal::AlreadyAlive));
     assert_eq!(rt; state.now(), 0);
     let copy = state.copy(alloc).ok().ok_or("memory")?;
     let text = report(alloc, &copy).ok().ok_or("memory")?;
-    assert_eq!(rt; text.as_slice(), b"now 0\nnode a@x up 1\nnode b@x down 0\n".as_slice());
+    assert_eq!(rt;
+        text.as_slice(),
+        b"now 0\nnode a@x up 1\nnode b@x down 0\n".as_slice()
+    );
     Ok(())
 }
 
@@ -102,7 +117,10 @@ fn a_state_is_set_part_by_part(rt: HostRuntime) -> Result<(), Fail> {
         state.set_incarnation(B, 7);
     }
     let text = report(rt.alloc(), &state).ok().ok_or("memory")?;
-    assert_eq!(rt; text.as_slice(), b"now 0\nnode a@x down 0\nnode b@x waiting 7\n".as_slice());
+    assert_eq!(rt;
+        text.as_slice(),
+        b"now 0\nnode a@x down 0\nnode b@x waiting 7\n".as_slice()
+    );
     if state.cluster().node_count() == 2 {
         assert_eq!(rt; state.mode(B), Mode::Waiting);
         assert_eq!(rt; state.incarnation(B), 7);
@@ -113,24 +131,41 @@ fn a_state_is_set_part_by_part(rt: HostRuntime) -> Result<(), Fail> {
 #[test]
 fn a_simulation_goes_back_and_forth(rt: HostRuntime) -> Result<(), Fail> {
     let alloc = rt.alloc();
-    let mut sim = Sim::open(alloc, two_nodes(&rt, alloc), Pick::Last).ok().ok_or("memory")?;
+    let mut sim = Sim::open(alloc, two_nodes(&rt, alloc), Pick::Last)
+        .ok()
+        .ok_or("memory")?;
     assert_eq!(rt; sim.pick(), Pick::Last);
     assert_eq!(rt; sim.cluster().node_count(), 2);
     assert!(rt; sim.undo().is_err());
     assert!(rt; sim.redo().is_err());
-    let notices = sim.step(alloc, Event::Boot { node: A }).ok().ok_or("a step")?;
+    let notices = sim
+        .step(alloc, Event::Boot { node: A })
+        .ok()
+        .ok_or("a step")?;
     assert_eq!(rt; notices.as_slice(), [Notice::Up { node: A }].as_slice());
-    let notices = sim.step(alloc, Event::Crash { node: A }).ok().ok_or("a step")?;
+    let notices = sim
+        .step(alloc, Event::Crash { node: A })
+        .ok()
+        .ok_or("a step")?;
     assert_eq!(rt; notices.as_slice(), [Notice::Ended { node: A }].as_slice());
     assert_eq!(rt; sim.undo().ok(), Some(0));
-    assert_eq!(rt; sim.step(alloc, Event::Boot { node: A }).err(), Some(Refusal::AlreadyAlive));
+    assert_eq!(rt;
+        sim.step(alloc, Event::Boot { node: A }).err(),
+        Some(Refusal::AlreadyAlive)
+    );
     assert_eq!(rt; sim.cursor(), 1);
-    assert_eq!(rt; sim.trail(), [Event::Boot { node: A }, Event::Crash { node: A }].as_slice());
+    assert_eq!(rt;
+        sim.trail(),
+        [Event::Boot { node: A }, Event::Crash { node: A }].as_slice()
+    );
     assert_eq!(rt; sim.redo().ok(), Some(0));
     assert_eq!(rt; sim.undo_all(), 2);
     assert_eq!(rt; sim.redo_all(), 2);
     let text = report(alloc, sim.state()).ok().ok_or("memory")?;
-    assert_eq!(rt; text.as_slice(), b"now 0\nnode a@x down 1\nnode b@x down 0\n".as_slice());
+    assert_eq!(rt;
+        text.as_slice(),
+        b"now 0\nnode a@x down 1\nnode b@x down 0\n".as_slice()
+    );
     Ok(())
 }
 
@@ -146,7 +181,11 @@ fn said(reply: &Reply) -> &'static str {
         Reply::Moved(0) => "moved 0",
         Reply::Moved(1) => "moved 1",
         Reply::Moved(_) => "moved",
-        Reply::Seen { cursor: 1, trail: 1, .. } => "seen 1 of 1",
+        Reply::Seen {
+            cursor: 1,
+            trail: 1,
+            ..
+        } => "seen 1 of 1",
         Reply::Seen { .. } => "seen",
     }
 }
@@ -154,7 +193,9 @@ fn said(reply: &Reply) -> &'static str {
 #[test]
 fn a_simulation_answers_any_call(rt: HostRuntime) -> Result<(), Fail> {
     let alloc = rt.alloc();
-    let mut sim = Sim::open(alloc, two_nodes(&rt, alloc), Pick::First).ok().ok_or("memory")?;
+    let mut sim = Sim::open(alloc, two_nodes(&rt, alloc), Pick::First)
+        .ok()
+        .ok_or("memory")?;
     for (call, want) in [
         (Call::Undo, "at start"),
         (Call::Step(Event::Boot { node: A }), "done"),

@@ -63,7 +63,12 @@ bad line 7
 ";
 
 // How a run of an input ended.
-fn ended_with(alloc: Global, source: Source<'_>, sink: &mut Sink, pick: Pick) -> Result<(), RunFault> {
+fn ended_with(
+    alloc: Global,
+    source: Source<'_>,
+    sink: &mut Sink,
+    pick: Pick,
+) -> Result<(), RunFault> {
     let mut reader = Watched::new(source);
     let mut writer = Watched::new(sink);
     run(alloc, &mut reader, &mut writer, pick)
@@ -73,16 +78,30 @@ fn ended_with(alloc: Global, source: Source<'_>, sink: &mut Sink, pick: Pick) ->
 fn answers_each_command(rt: HostRuntime) {
     for pick in [Pick::First, Pick::Last] {
         let mut sink = Sink::new(rt.alloc());
-        let ended = ended_with(rt.alloc(), Source::of(TWO_NODES.as_bytes()), &mut sink, pick);
+        let ended = ended_with(
+            rt.alloc(),
+            Source::of(TWO_NODES.as_bytes()),
+            &mut sink,
+            pick,
+        );
         assert!(rt; ended.is_ok(), "{pick:?}");
-        assert_eq!(rt; sink.bytes.as_slice(), TWO_NODES_TEXT.as_bytes(), "{pick:?}");
+        assert_eq!(rt;
+            sink.bytes.as_slice(),
+            TWO_NODES_TEXT.as_bytes(),
+            "{pick:?}"
+        );
     }
 }
 
 #[test]
 fn ends_at_the_first_bad_line(rt: HostRuntime) {
     let mut sink = Sink::new(rt.alloc());
-    let ended = ended_with(rt.alloc(), Source::of(ONE_NODE.as_bytes()), &mut sink, Pick::First);
+    let ended = ended_with(
+        rt.alloc(),
+        Source::of(ONE_NODE.as_bytes()),
+        &mut sink,
+        Pick::First,
+    );
     assert!(rt; matches!(ended, Err(RunFault::BadLine(7))));
     assert_eq!(rt; sink.bytes.as_slice(), ONE_NODE_TEXT.as_bytes());
 }
@@ -91,11 +110,19 @@ fn ends_at_the_first_bad_line(rt: HostRuntime) {
 fn tells_why_a_cluster_is_refused(rt: HostRuntime) {
     for (text, want) in [
         ("", "cluster refused C2 no_nodes\n"),
-        ("{node, a, []}. {node, a, []}.", "cluster refused C4 duplicate_name\n"),
+        (
+            "{node, a, []}. {node, a, []}.",
+            "cluster refused C4 duplicate_name\n",
+        ),
         ("{node, a, []}", "cluster refused C10 bad_value\n"),
     ] {
         let mut sink = Sink::new(rt.alloc());
-        let ended = ended_with(rt.alloc(), Source::of(text.as_bytes()), &mut sink, Pick::First);
+        let ended = ended_with(
+            rt.alloc(),
+            Source::of(text.as_bytes()),
+            &mut sink,
+            Pick::First,
+        );
         assert!(rt; matches!(ended, Err(RunFault::Cluster(_))), "{text}");
         assert_eq!(rt; sink.bytes.as_slice(), want.as_bytes(), "{text}");
     }
@@ -104,7 +131,12 @@ fn tells_why_a_cluster_is_refused(rt: HostRuntime) {
 #[test]
 fn reads_one_byte_a_call(rt: HostRuntime) {
     let mut sink = Sink::new(rt.alloc());
-    let ended = ended_with(rt.alloc(), Source::slow(TWO_NODES.as_bytes()), &mut sink, Pick::First);
+    let ended = ended_with(
+        rt.alloc(),
+        Source::slow(TWO_NODES.as_bytes()),
+        &mut sink,
+        Pick::First,
+    );
     assert!(rt; ended.is_ok());
     assert_eq!(rt; sink.bytes.as_slice(), TWO_NODES_TEXT.as_bytes());
 }
@@ -123,7 +155,10 @@ fn writes_nothing_after_a_failed_read(rt: HostRuntime) {
     let mut sink = Sink::new(rt.alloc());
     let source = Source::failing(TWO_NODES.as_bytes(), calls);
     let ended = ended_with(rt.alloc(), source, &mut sink, Pick::First);
-    assert!(rt; ended.is_ok(), "the reader isn't called again behind the end");
+    assert!(rt;
+        ended.is_ok(),
+        "the reader isn't called again behind the end"
+    );
     assert_eq!(rt; sink.bytes.as_slice(), TWO_NODES_TEXT.as_bytes());
 }
 
@@ -135,7 +170,10 @@ fn leaves_a_front_after_a_failed_write(rt: HostRuntime) {
             let mut sink = Sink::failing(rt.alloc(), call, failure);
             let source = Source::of(TWO_NODES.as_bytes());
             let ended = ended_with(rt.alloc(), source, &mut sink, Pick::First);
-            assert!(rt; TWO_NODES_TEXT.as_bytes().starts_with(sink.bytes.as_slice()), "call {call}");
+            assert!(rt;
+                TWO_NODES_TEXT.as_bytes().starts_with(sink.bytes.as_slice()),
+                "call {call}"
+            );
             match ended {
                 Ok(()) => assert_eq!(rt; sink.bytes.as_slice(), TWO_NODES_TEXT.as_bytes()),
                 Err(fault) => {

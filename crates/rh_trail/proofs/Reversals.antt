@@ -104,7 +104,7 @@ accepted s e ns is = by (refused (state_of s) e) refl is
 pub state_of-with_event : (s : SimView) (e : Event) → s.cursor ≤ length s.trail → state_of (with_event s e) ≡ step s.pick (state_of s) e
 state_of-with_event s e within =
     ap (λ (es : List Event). after s.cluster s.pick es)
-      (take_all (s.cursor + 1) (take s.cursor s.trail ++ e ∷ []) (omega (arith, length_push (take s.cursor s.trail) e, kept_front s within)))
+    (take_all (s.cursor + 1) (take s.cursor s.trail ++ e ∷ []) (omega (arith, length_push (take s.cursor s.trail) e, kept_front s within)))
     ∙ fold_push (step s.pick) (first s.cluster) (take s.cursor s.trail) e
 
 -- the simulation with another cursor

@@ -15,7 +15,6 @@ use Rattle.rh_trail.specs.Runs.{step}
 use Rattle.rh_trail.specs.Report.{node_line}
 use Rattle.rh_trail.specs.Lone.{opened, replies, served}
 
-
 abbrev two_nodes : ClusterView
 two_nodes = record { node_names = codes "a@x" ∷ codes "b@x" ∷ [] }
 

@@ -12,12 +12,10 @@ ghost use Rattle.rh_trail.specs.Laws.{CallsAreReversible};
 /// The next state that a simulation takes is one that the rules allow.
 pub fn next_is_allowed()
     ensures { (s : StateView) (e : Event) (pick : Pick) → refused s e ≡ None → Allowed s e (next s e pick) }
-{
-}
+{}
 
 /// After any list of calls: each accepted step is allowed; undoing it restores the whole earlier state, and
 /// redoing it the later; a refused call changes nothing; undoing all gives the first state, redoing all the last.
 pub fn calls_are_reversible()
     ensures { CallsAreReversible }
-{
-}
+{}

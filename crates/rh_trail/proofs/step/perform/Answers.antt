@@ -25,9 +25,9 @@ returns-clause-allowed c =
     let outcome = next s e c.args.pick in
     on_ok_weaker c.let_ready_come_up.result
     (λ risen.
-      let is = next_by_parts _ _ _ _ _ _ c.args.event.now c.args.pick c.in_ok-make_change.ensures risen in (
-        outcome.notices,
-        ap (λ (o : Course). o.notices) is,
-        subst (λ (after : StateView). Allowed s e (course after outcome.notices)) (sym (ap (λ (o : Course). o.state) is)) (next_allowed s e c.args.pick c.requires),
-      ))
+    let is = next_by_parts _ _ _ _ _ _ c.args.event.now c.args.pick c.in_ok-make_change.ensures risen in (
+      outcome.notices,
+      ap (λ (o : Course). o.notices) is,
+      subst (λ (after : StateView). Allowed s e (course after outcome.notices)) (sym (ap (λ (o : Course). o.state) is)) (next_allowed s e c.args.pick c.requires),
+    ))
     c.let_ready_come_up.ensures
