@@ -1,11 +1,9 @@
-//! Tests that cross crates: worked rows, failing devices, limits, and each public call once.
+//! Tests that cross crates: whole runs over devices that work and devices that fail, and calls that the program doesn't make.
 #![tactic(auto)]
 
 #[cfg(test)]
 mod calls;
 #[cfg(test)]
 mod devices;
-#[cfg(test)]
-mod limits;
 #[cfg(test)]
 mod rehearsals;
