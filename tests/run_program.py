@@ -56,12 +56,14 @@ def rows(program):
 
 
 def examples(program):
-    for name in sorted(os.listdir(os.path.join(TOP, "examples"))):
+    folder = os.path.join(TOP, "examples")
+    for path in sorted(os.path.join(where, name) for where, _, names in os.walk(folder) for name in names):
+        name = os.path.relpath(path, folder)
         want = os.path.join(HERE, "examples", name)
         if not os.path.exists(want + ".out"):
             yield f"examples/{name}", "no text is owed for it in tests/examples"
             continue
-        done = run(program, read(want + ".args").decode().split(), input=read(os.path.join(TOP, "examples", name)))
+        done = run(program, read(want + ".args").decode().split(), input=read(path))
         yield f"examples/{name}", fault_of(done, int(read(want + ".status")), read(want + ".out"))
 
 
@@ -70,6 +72,7 @@ def command_lines(program):
     for words, texts in [
             (["--help"], [b"rehearse", b"run", b"Exit status"]),
             (["run", "--help"], [b"--pick", b"boot N", b"crash N", b"undo", b"redo", b"undo_all", b"redo_all", b"show"]),
+            (["check", "--help"], [b"{node, Name, SysConfig}", b"{application, Name, Keys}", b"cluster refused"]),
             (["--version"], [b"rehearse 0.1.0"])]:
         done = run(program, words, input=b"")
         missing = [text for text in texts if text not in done.stderr]

@@ -1,11 +1,11 @@
-//! Tests that cross crates: worked rows, failing devices, limits, and each public call once.
+//! Tests that cross crates: whole runs over devices that work and devices that fail, and calls that the program doesn't make.
 #![tactic(auto)]
 
 #[cfg(test)]
 mod calls;
 #[cfg(test)]
-mod devices;
+mod clusters;
 #[cfg(test)]
-mod limits;
+mod devices;
 #[cfg(test)]
 mod rehearsals;

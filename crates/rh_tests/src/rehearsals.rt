@@ -37,31 +37,6 @@ refused at_start
 ok 2
 ";
 
-// One bare node: a refused step leaves what can be made again.
-static ONE_NODE: &str = "\
-{node, a, []}.
-===
-undo
-boot a
-undo
-crash a
-redo
-boot b
-flip a
-show
-";
-
-static ONE_NODE_TEXT: &str = "\
-refused at_start
-ok
-up a
-ok
-refused S5 not_alive
-ok
-refused S1 unknown_node
-bad line 7
-";
-
 // How a run of an input ended.
 fn ended_with(
     alloc: Global,
@@ -72,60 +47,6 @@ fn ended_with(
     let mut reader = Watched::new(source);
     let mut writer = Watched::new(sink);
     run(alloc, &mut reader, &mut writer, pick)
-}
-
-#[test]
-fn answers_each_command(rt: HostRuntime) {
-    for pick in [Pick::First, Pick::Last] {
-        let mut sink = Sink::new(rt.alloc());
-        let ended = ended_with(
-            rt.alloc(),
-            Source::of(TWO_NODES.as_bytes()),
-            &mut sink,
-            pick,
-        );
-        assert!(rt; ended.is_ok(), "{pick:?}");
-        assert_eq!(rt;
-            sink.bytes.as_slice(),
-            TWO_NODES_TEXT.as_bytes(),
-            "{pick:?}"
-        );
-    }
-}
-
-#[test]
-fn ends_at_the_first_bad_line(rt: HostRuntime) {
-    let mut sink = Sink::new(rt.alloc());
-    let ended = ended_with(
-        rt.alloc(),
-        Source::of(ONE_NODE.as_bytes()),
-        &mut sink,
-        Pick::First,
-    );
-    assert!(rt; matches!(ended, Err(RunFault::BadLine(7))));
-    assert_eq!(rt; sink.bytes.as_slice(), ONE_NODE_TEXT.as_bytes());
-}
-
-#[test]
-fn tells_why_a_cluster_is_refused(rt: HostRuntime) {
-    for (text, want) in [
-        ("", "cluster refused C2 no_nodes\n"),
-        (
-            "{node, a, []}. {node, a, []}.",
-            "cluster refused C4 duplicate_name\n",
-        ),
-        ("{node, a, []}", "cluster refused C10 bad_value\n"),
-    ] {
-        let mut sink = Sink::new(rt.alloc());
-        let ended = ended_with(
-            rt.alloc(),
-            Source::of(text.as_bytes()),
-            &mut sink,
-            Pick::First,
-        );
-        assert!(rt; matches!(ended, Err(RunFault::Cluster(_))), "{text}");
-        assert_eq!(rt; sink.bytes.as_slice(), want.as_bytes(), "{text}");
-    }
 }
 
 #[test]
