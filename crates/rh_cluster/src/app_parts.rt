@@ -1,5 +1,6 @@
 //! What a cluster keeps of an application.
 
+use crate::names::same_text;
 use crate::parts::{Dep, Spread};
 use rh_terms::{OutOfMemory, Str, Term};
 use std::alloc::Global;
@@ -89,11 +90,21 @@ impl AppParts {
         let spread = copy_of_spread(alloc, self.spread())?;
         Ok(AppParts::of(deps, start, self.phases(), spread))
     }
+
+    pub fn same(&self, other: &AppParts) -> bool
+        ensures { IsTrue result ↔ (self.now ≡ other.now) }
+    {
+        same_deps(self.deps(), other.deps())
+            && same_start(self.start_arg(), other.start_arg())
+            && self.phases() == other.phases()
+            && same_spread(self.spread(), other.spread())
+    }
 }
 
-ghost use Rattle.std.specs.Prelude.{◌≡◌, IfOk, List, ℕ};
+ghost use Rattle.std.specs.Prelude.{◌≡◌, ◌↔◌, IfOk, IsTrue, List, ℕ};
 ghost use Rattle.std.specs.Option.{option_map};
 ghost use Rattle.rh_terms.specs.Tree.{Tree, tree_of};
+ghost use Rattle.rh_cluster.specs.TermWords.{TermWord, words_of};
 
 /// A copy of a start argument, with its module.
 pub fn copy_of_start(
@@ -125,5 +136,56 @@ pub fn copy_of_spread(alloc: Global, spread: Option<&Spread>) -> Result<Option<S
             }))
         }
         None => Ok(None),
+    }
+}
+
+fn same_dep(this: Dep, that: Dep) -> bool
+    ensures { IsTrue result ↔ (this ≡ that) }
+{
+    this == that
+}
+
+fn same_deps(these: &[Dep], those: &[Dep]) -> bool
+    ensures { IsTrue result ↔ (these.now ≡ those.now) }
+{
+    if these.len() != those.len() {
+        return false;
+    }
+    for index in 0..these.len() {
+        if !same_dep(these[index], those[index]) {
+            return false;
+        }
+    }
+    true
+}
+
+// The same words, and so the same term: no two terms have the same words.
+fn same_argument(this: &Term, that: &Term) -> bool
+    ensures { IsTrue result ↔ (words_of (tree_of this.now) ≡ words_of (tree_of that.now)) }
+{
+    this.same(that)
+}
+
+fn same_start(this: Option<(&str, &Term)>, that: Option<(&str, &Term)>) -> bool
+    ensures { IsTrue result ↔ (option_map {U = List ℕ × List TermWord} (λ s. (s.0.now, words_of (tree_of s.1.now))) this.entry ≡ option_map {U = List ℕ × List TermWord} (λ s. (s.0.now, words_of (tree_of s.1.now))) that.entry) }
+{
+    match (this, that) {
+        (Some((module, argument)), Some((other_module, other_argument))) => {
+            same_text(module, other_module) && same_argument(argument, other_argument)
+        }
+        (None, None) => true,
+        _ => false,
+    }
+}
+
+fn same_spread(this: Option<&Spread>, that: Option<&Spread>) -> bool
+    ensures { IsTrue result ↔ (option_map (λ s. s.now) this.entry ≡ option_map (λ s. s.now) that.entry) }
+{
+    match (this, that) {
+        (Some(this), Some(that)) => {
+            this.timeout == that.timeout && this.groups.same(&that.groups)
+        }
+        (None, None) => true,
+        _ => false,
     }
 }

@@ -1,4 +1,4 @@
-ghost use Rattle.std.specs.Prelude.{◌≡◌, IfOk};
+ghost use Rattle.std.specs.Prelude.{◌≡◌, ◌↔◌, IfOk, IsTrue};
 ghost use Rattle.rh_terms.specs.Tree.{tree_of, trees_of, items_of};
 
 use crate::fault::OutOfMemory;
@@ -37,6 +37,21 @@ impl Term {
             Term::Tuple(ts) => Ok(Term::Tuple(ts.copy(alloc)?)),
         }
     }
+
+    /// Are the terms equal?
+    #[cycle(comparing)]
+    pub fn same(&self, other: &Term) -> bool
+        ensures { IsTrue result ↔ (tree_of self.now ≡ tree_of other.now) }
+    {
+        match (self, other) {
+            (Term::Atom(this), Term::Atom(that)) => this.same(that),
+            (Term::Int(this), Term::Int(that)) => *this == *that,
+            (Term::Text(this), Term::Text(that)) => this.same(that),
+            (Term::List(these), Term::List(those)) => these.same(those),
+            (Term::Tuple(these), Term::Tuple(those)) => these.same(those),
+            _ => false,
+        }
+    }
 }
 
 impl Terms {
@@ -64,5 +79,21 @@ impl Terms {
             items.push(term.copy(alloc)?)?;
         }
         Ok(Terms { items })
+    }
+
+    /// Are these equal terms in the same order?
+    #[cycle(comparing)]
+    pub fn same(&self, other: &Terms) -> bool
+        ensures { IsTrue result ↔ (trees_of (items_of self.now) ≡ trees_of (items_of other.now)) }
+    {
+        if self.items.len() != other.items.len() {
+            return false;
+        }
+        'terms: for (index, term) in self.items.iter().enumerate() {
+            if !term.same(&other.items[index]) {
+                return false;
+            }
+        }
+        true
     }
 }

@@ -174,11 +174,33 @@ fn a_copy_is_equal(rt: HostRuntime) {
 }
 
 #[test]
+fn equal_terms_are_the_same(rt: HostRuntime) {
+    let one = read_terms(rt.alloc(), b"{'a', [1, \"t\"]}.").expect(&rt, "read");
+    let others = [
+        ("% again\n{a,[1,\"t\"]}.", true),
+        ("[a, [1, \"t\"]].", false),
+        ("{a, [1, t]}.", false),
+        ("{a, [1, \"t\", \"t\"]}.", false),
+        ("{a, [1]}.", false),
+        ("{a, [2, \"t\"]}.", false),
+        ("{b, [1, \"t\"]}.", false),
+        ("{a, [1, \"t\"]}. a.", false),
+        ("", false),
+    ];
+    for (text, want) in others {
+        let other = read_terms(rt.alloc(), text.as_bytes()).expect(&rt, "read");
+        assert_eq!(rt; one.same(&other), want, "{text}");
+        assert_eq!(rt; other.same(&one), want, "{text}");
+    }
+}
+
+#[test]
 fn made_by_hand(rt: HostRuntime) {
     let text = String::from_str(rt.alloc(), "svc").expect(&rt, "memory");
     let name = Str::of(text);
     let copy = name.copy(rt.alloc()).expect(&rt, "memory");
     assert_eq!(rt; copy.as_str(), "svc");
+    assert!(rt; name.same(&copy));
     let mut items = Vec::new(rt.alloc());
     items.push(Term::Atom(name)).expect(&rt, "memory");
     items.push(Term::Int(-3)).expect(&rt, "memory");

@@ -1,4 +1,4 @@
-ghost use Rattle.std.specs.Prelude.{◌≡◌, List, ℕ, IfOk};
+ghost use Rattle.std.specs.Prelude.{◌≡◌, ◌↔◌, List, ℕ, IfOk, IsTrue};
 ghost use Rattle.std.specs.Str.{IsUtf8};
 ghost use Rattle.std.specs.String.{string_bytes};
 
@@ -41,6 +41,13 @@ impl Str {
         Ok(Str {
             text: String::from_str(alloc, self.text.as_str())?,
         })
+    }
+
+    /// Are the texts equal?
+    pub fn same(&self, other: &Str) -> bool
+        ensures { IsTrue result ↔ (self.now ≡ other.now) }
+    {
+        self.as_str() == other.as_str()
     }
 }
 
