@@ -56,12 +56,14 @@ def rows(program):
 
 
 def examples(program):
-    for name in sorted(os.listdir(os.path.join(TOP, "examples"))):
+    folder = os.path.join(TOP, "examples")
+    for path in sorted(os.path.join(where, name) for where, _, names in os.walk(folder) for name in names):
+        name = os.path.relpath(path, folder)
         want = os.path.join(HERE, "examples", name)
         if not os.path.exists(want + ".out"):
             yield f"examples/{name}", "no text is owed for it in tests/examples"
             continue
-        done = run(program, read(want + ".args").decode().split(), input=read(os.path.join(TOP, "examples", name)))
+        done = run(program, read(want + ".args").decode().split(), input=read(path))
         yield f"examples/{name}", fault_of(done, int(read(want + ".status")), read(want + ".out"))
 
 
@@ -70,6 +72,7 @@ def command_lines(program):
     for words, texts in [
             (["--help"], [b"rehearse", b"run", b"Exit status"]),
             (["run", "--help"], [b"--pick", b"boot N", b"crash N", b"undo", b"redo", b"undo_all", b"redo_all", b"show"]),
+            (["check", "--help"], [b"{node, Name, SysConfig}", b"{application, Name, Keys}", b"cluster refused"]),
             (["--version"], [b"rehearse 0.1.0"])]:
         done = run(program, words, input=b"")
         missing = [text for text in texts if text not in done.stderr]
@@ -135,10 +138,33 @@ void *realloc(void *p, size_t size) {
 """
 
 
+def refusals(program, library, counted, words, source, want):
+    """Each allocation of a run refused in turn: how many there were, how many were missed, and what is wrong."""
+
+    def refusing(number):
+        return run(program, words, input=source, env={
+            **os.environ, "LD_PRELOAD": library, "FAIL_ALLOCATION": str(number), "COUNT_FILE": counted})
+
+    wrong = fault_of(refusing(0), 0, want)
+    count = int(read(counted))
+    missed = 0
+    for number in range(1, count + 1):
+        done = refusing(number)
+        missed += done.returncode == 5
+        is_whole = done.returncode == 0 and done.stdout == want
+        is_front = done.returncode == 5 and want.startswith(done.stdout)
+        if wrong is None and not (is_whole or is_front):
+            wrong = f"allocation {number}: status {done.returncode}, {done.stdout!r}"
+    # A growth that only would save room may be done without; most can't.
+    if wrong is None and missed < 50:
+        wrong = f"of {count} allocations only {missed} were missed"
+    return count, wrong
+
+
 def refused_memory(program):
-    """Each allocation of a whole run refused in turn: the whole text, or status 5 and a front of it."""
+    """Each allocation of whole runs refused in turn: the whole text, or status 5 and a front of it."""
     row = os.path.join(HERE, "rows", "bare-nodes", "two-bare-nodes")
-    source, want = read(row + ".in"), read(row + ".out")
+    cluster = os.path.join(TOP, "examples", "three-nodes.txt")
     with tempfile.TemporaryDirectory() as folder:
         code, library, counted = (os.path.join(folder, name) for name in ("refusing.c", "refusing.so", "count"))
         with open(code, "w") as file:
@@ -147,25 +173,11 @@ def refused_memory(program):
         if made.returncode != 0:
             yield "refused memory", f"cc: {made.stderr.decode()[:200]}"
             return
-
-        def refusing(number):
-            return run(program, ["run"], input=source, env={
-                **os.environ, "LD_PRELOAD": library, "FAIL_ALLOCATION": str(number), "COUNT_FILE": counted})
-
-        wrong = fault_of(refusing(0), 0, want)
-        count = int(read(counted))
-        ends = []
-        for number in range(1, count + 1):
-            done = refusing(number)
-            ends.append(done.returncode)
-            is_whole = done.returncode == 0 and done.stdout == want
-            is_front = done.returncode == 5 and want.startswith(done.stdout)
-            if wrong is None and not (is_whole or is_front):
-                wrong = f"allocation {number}: status {done.returncode}, {done.stdout!r}"
-        # A growth that only would save room may be done without; most can't.
-        if wrong is None and ends.count(5) < 50:
-            wrong = f"of {count} allocations only {ends.count(5)} were missed"
-        yield f"each of {count} allocations refused in turn", wrong
+        for words, source, want in [
+                (["run"], read(row + ".in"), read(row + ".out")),
+                (["check"], read(cluster), b"ok 3 nodes 1 applications\n")]:
+            count, wrong = refusals(program, library, counted, words, source, want)
+            yield f"{words[0]}: each of {count} allocations refused in turn", wrong
 
 
 def main():

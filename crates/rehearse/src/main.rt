@@ -3,14 +3,13 @@
 
 mod command_line;
 
-use command_line::{Asked, asked_of};
-use rh_app::{RunFault, Watched, run};
-use rh_trail::Pick;
+use command_line::{Asked, Program, asked_of};
+use rh_app::{RunFault, Watched, run, run_check};
 use std::io::{BufWriter, Write};
 use std::process::ExitCode;
 use std::{env, io};
 
-// The exit status for how a rehearsal ended.
+// The exit status for how a program ended.
 fn status_of(ended: &Result<(), RunFault>) -> u8 {
     match ended {
         Ok(()) => 0,
@@ -18,17 +17,21 @@ fn status_of(ended: &Result<(), RunFault>) -> u8 {
         Err(RunFault::BadLine(_)) => 3,
         Err(RunFault::Read | RunFault::Write) => 4,
         Err(RunFault::OutOfMemory) => 5,
+        Err(RunFault::Later) => 6,
     }
 }
 
-// Answers the script on standard input. What was written is flushed, however the rehearsal ended.
-fn rehearse(rt: &HostRuntime, pick: Pick) -> u8 {
+// Runs a program over standard input and output. What was written is flushed, however it ended.
+fn rehearse(rt: &HostRuntime, program: Program) -> u8 {
     let Ok(output) = BufWriter::new(rt.alloc(), io::writer(rt)) else {
         return 5;
     };
     let mut reader = Watched::new(rt.reader());
     let mut writer = Watched::new(output);
-    let ended = run(rt.alloc(), &mut reader, &mut writer, pick);
+    let ended = match program {
+        Program::Run(pick) => run(rt.alloc(), &mut reader, &mut writer, pick),
+        Program::Check => run_check(rt.alloc(), &mut reader, &mut writer),
+    };
     match writer.flush() {
         Ok(()) => status_of(&ended),
         Err(_) => 4,
@@ -55,7 +58,7 @@ fn words_of(rt: &HostRuntime) -> Result<Vec<String>, u8> {
 // Does what the words ask, and gives the exit status.
 fn answer(rt: &HostRuntime, words: &[String]) -> u8 {
     match asked_of(rt.alloc(), words) {
-        Asked::Run(pick) => rehearse(rt, pick),
+        Asked::For(program) => rehearse(rt, program),
         Asked::Refused(error) => {
             let _ = eprint!(rt; "{error}");
             1

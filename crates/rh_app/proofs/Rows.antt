@@ -3,22 +3,23 @@ use Rattle.std.proofs.Common.{◌≡◌, [], ◌∷◌, Some, codes, refl}
 use Rattle.std.specs.Fmt.{digits}
 use Rattle.std.specs.Str.{is_utf8, chars}
 use lib.Utf8.{encode}
-use Rattle.rh_cluster.specs.ClusterOf.{cluster_of, name_fault}
-use Rattle.rh_cluster.specs.NodeTerms.{behind_sign, atom, node_term, node_names}
 use Rattle.rh_cluster.specs.ClusterView.{ClusterView, numbered}
 use Rattle.rh_trail.specs.declared.event.Event.TheVariants.{Boot}
 use Rattle.rh_trail.specs.declared.event.Pick.TheVariants.{First}
 use Rattle.rh_trail.specs.declared.call.Call.TheVariants.{Step}
 use Rattle.rh_trail.specs.Changes.{come_up_if_ready, next_from}
 use Rattle.rh_app.specs.declared.script.Line.TheVariants.{Nothing, Asks, Bad}
-use Rattle.rh_app.specs.declared.fault.RunFault.TheVariants.{BadLine}
 use Rattle.rh_app.specs.Lines.{content, cluster_text, script_lines}
 use Rattle.rh_app.specs.Commands.{line_of}
 use Rattle.rh_app.specs.Answers.{notice_line, answer_text, fault_text, bad_text}
-use Rattle.rh_app.specs.RunText.{run_text, run_end}
+use Rattle.rh_app.specs.RunText.{script_text, bad_line, lines_asked}
+use Rattle.rh_app.specs.CheckText.{count_text}
+use Rattle.rh_trail.specs.Lone.{opened}
+use Rattle.rh_cluster.specs.declared.fault.ClusterFault.TheVariants.{Mismatch, Term}
+use Rattle.rh_terms.specs.declared.fault.TermFault.TheVariants.{Syntax}
 
 abbrev one_node : ClusterView
-one_node = record { node_names = codes "a" ∷ [] }
+one_node = record { node_names = codes "a" ∷ []; app_names = []; platform_names = []; nodes = []; apps = [] }
 
 boot_row : line_of one_node (codes "  boot   a ") ≡ Asks (Step (Boot (numbered 0)))
 unfolding line_of is_utf8 chars encode
@@ -52,14 +53,22 @@ carriage_return_row : script_lines (codes "a\r\n===\r\nundo\r\nredo\r") ≡ code
 unfolding content
 carriage_return_row = refl
 
-run_row : run_text (codes "{node, a, []}.\n===\nboot a\nundo\nflip a\nshow\n") First ≡ codes "ok\nup a\nok\nbad line 3\n"
-unfolding run_text cluster_of node_names node_term behind_sign atom name_fault content line_of answer_text notice_line bad_text come_up_if_ready next_from digits is_utf8 chars encode
-run_row = refl
+script_row : script_text one_node (opened one_node First) 1 (lines_asked one_node (script_lines (codes "===\nboot a\nundo\nflip a\nshow\n"))) ≡ codes "ok\nup a\nok\nbad line 3\n"
+unfolding content line_of answer_text notice_line bad_text come_up_if_ready next_from digits is_utf8 chars encode
+script_row = refl
 
-end_row : run_end (codes "{node, a, []}.\n===\nboot a\nundo\nflip a\nshow\n") ≡ Some (BadLine 3)
-unfolding run_end cluster_of node_names node_term behind_sign atom name_fault content line_of is_utf8 chars encode
-end_row = refl
+bad_line_row : bad_line 1 (lines_asked one_node (script_lines (codes "===\nboot a\nundo\nflip a\nshow\n"))) ≡ Some 3
+unfolding content line_of is_utf8 chars encode
+bad_line_row = refl
 
-empty_row : run_text [] First ≡ codes "cluster refused C2 no_nodes\n"
-unfolding run_text cluster_of node_names fault_text content
-empty_row = refl
+count_row : count_text one_node ≡ codes "ok 1 nodes 0 applications\n"
+unfolding count_text digits
+count_row = refl
+
+fault_row : fault_text (Mismatch (codes "n2@lab")) ≡ codes "cluster refused C8 mismatch n2@lab\n"
+unfolding fault_text
+fault_row = refl
+
+line_row : fault_text (Term (Syntax 12)) ≡ codes "cluster refused C1 T1 syntax line 12\n"
+unfolding fault_text digits
+line_row = refl

@@ -6,7 +6,8 @@ ghost use Rattle.std.specs.String.{string_bytes};
 ghost use Rattle.rh_cluster.specs.ClusterView.{name_of};
 ghost use Rattle.rh_app.specs.Answers.{notice_line, answer_text, fault_text, bad_text};
 
-use rh_cluster::{Cluster, ClusterFault, Node, OutOfMemory};
+use rh_cluster::{Cluster, ClusterFault, Node};
+use rh_terms::OutOfMemory;
 use rh_trail::{Notice, Reply};
 use std::alloc::Global;
 

@@ -3,7 +3,8 @@
 ghost use Rattle.std.specs.Prelude.{◌≡◌};
 ghost use Rattle.rh_app.specs.declared.fault.RunFault.TheVariants as run;
 
-use rh_cluster::{ClusterFault, OutOfMemory};
+use rh_cluster::ClusterFault;
+use rh_terms::OutOfMemory;
 use thiserror::Error;
 
 /// Why a program ended early.
@@ -15,6 +16,9 @@ pub enum RunFault {
     /// The line of this number, counted from 1 behind the line `===`, is no command. That was written.
     #[error("bad line {0}")]
     BadLine(u64),
+    /// The cluster has parts that can't be simulated yet. That was written.
+    #[error("cluster not yet simulated")]
+    Later,
     /// The input could not be read, or is longer than 16,777,216 bytes. Nothing was written.
     #[error("the input can't be read, or is too long")]
     Read,

@@ -1,52 +1,57 @@
--- The cluster that a text describes, or its first fault (ours).
-use Rattle.std.specs.Prelude.{◌≡◌, ℕ, List, [], ◌∷◌, ◌++◌, length, nat_lt, nat_le, Option, Some, None, Result, Ok, Err, if◌then◌else◌}
-use Rattle.std.specs.List.{list_any}
-use Rattle.std.specs.Str.{bytes_eq}
+-- The cluster that a text describes, or its first fault.
+use Rattle.std.specs.Prelude.{ℕ, List, [], ◌∷◌, ◌++◌, map, Result, Ok, Err}
+use Rattle.rh_terms.specs.Tree.{Tree, Trees, list_of_trees}
+use Rattle.rh_terms.specs.Grammar.{terms_of}
+use Rattle.rh_terms.specs.declared.fault.TermFault.{TermFault}
 use Rattle.rh_cluster.specs.declared.fault.ClusterFault.{ClusterFault}
 use Rattle.rh_cluster.specs.declared.fault.ClusterFault.TheVariants as fault
-use Rattle.rh_cluster.specs.ClusterView.{ClusterView}
-use Rattle.rh_cluster.specs.NodeTerms.{node_names}
+use Rattle.rh_cluster.specs.declared.shares.Share.{Share}
+use Rattle.rh_cluster.specs.ClusterView.{ClusterView, NodeView, AppView}
+use Rattle.rh_cluster.specs.Faults.{unless}
+use Rattle.rh_cluster.specs.Names.{KnownNames, nodes_in, apps_in, node_names, app_names, headers_pass}
+use Rattle.rh_cluster.specs.Parts.{parts_pass}
+use Rattle.rh_cluster.specs.Values.{platforms_in, node_view, shares_in, app_view}
+use Rattle.rh_cluster.specs.Agreement.{agreed_shares, agreement_pass}
 
--- what is wrong with a name behind earlier ones: it is too long, it was there before, or it is the 33rd
-unfoldable pub name_fault : List (List ℕ) → List ℕ → Option ClusterFault
-name_fault earlier name =
-    if nat_lt 255 (length name) then Some fault.BadName
-    else if list_any (bytes_eq name) earlier then Some fault.DuplicateName
-    else if nat_le 32 (length earlier) then Some fault.TooMany
-    else None
+-- the names of these terms
+unfoldable pub names_of : List Tree → KnownNames
+names_of ts = record { nodes = node_names ts; apps = app_names ts; platforms = (platforms_in ts).first }
 
--- a fault, or else what comes next
-abbrev pub unless : {A : Type 0} → Option ClusterFault → Result A ClusterFault → Result A ClusterFault
-unless None r = r
-unless (Some f) r = Err f
+-- what the terms say of each node
+unfoldable pub node_views : KnownNames → List Tree → List NodeView
+node_views names ts = map (λ (n : List ℕ × Tree). node_view names n.1) (nodes_in ts)
 
--- names in their order, behind earlier ones
-abbrev pub names_checked : List (List ℕ) → List (List ℕ) → Result (List (List ℕ)) ClusterFault
-names_checked earlier [] = Ok earlier
-names_checked earlier (name ∷ names) = unless (name_fault earlier name) (names_checked (earlier ++ name ∷ []) names)
+-- the `distributed` of each node
+unfoldable pub all_shares : KnownNames → List Tree → List (List Share)
+all_shares names ts = map (λ (n : List ℕ × Tree). shares_in names n.1) (nodes_in ts)
 
--- names make a cluster if there is one
-abbrev pub cluster_with : List (List ℕ) → Result ClusterView ClusterFault
-cluster_with [] = Err fault.NoNodes
-cluster_with (name ∷ names) = Ok (record { node_names = name ∷ names })
+-- what they say of each application
+unfoldable pub app_views : KnownNames → List Share → List Tree → List AppView
+app_views names shares ts = map (λ (a : List ℕ × Tree). app_view names shares a.0 a.1) (apps_in ts)
 
-abbrev pub cluster_named : Result (List (List ℕ)) ClusterFault → Result ClusterView ClusterFault
-cluster_named (Ok names) = cluster_with names
-cluster_named (Err f) = Err f
+-- the faults of the third and the fourth pass
+unfoldable pub faults_behind_headers : List Tree → List ClusterFault
+faults_behind_headers ts =
+    parts_pass (names_of ts) (platforms_in ts).known ts ++ agreement_pass (names_of ts).nodes (node_views (names_of ts) ts) (all_shares (names_of ts) ts)
 
-abbrev pub cluster_in : Option (List (List ℕ)) → Result ClusterView ClusterFault
-cluster_in None = Err fault.BadValue
-cluster_in (Some names) = cluster_named (names_checked [] names)
+-- the faults of the second, the third and the fourth pass, in this order
+unfoldable pub faults_in : List Tree → List ClusterFault
+faults_in ts = headers_pass ts ++ faults_behind_headers ts
 
--- the terms of a text, then its names in their order, then their number
+-- the cluster of terms that have no fault
+unfoldable pub cluster_view : List Tree → ClusterView
+cluster_view ts = record {
+  node_names = node_names ts;
+  app_names = app_names ts;
+  platform_names = (platforms_in ts).first;
+  nodes = node_views (names_of ts) ts;
+  apps = app_views (names_of ts) (agreed_shares (all_shares (names_of ts) ts)) ts;
+}
+
+abbrev pub cluster_in : Result Trees TermFault → Result ClusterView ClusterFault
+cluster_in (Ok ts) = unless (faults_in (list_of_trees ts)) (cluster_view (list_of_trees ts))
+cluster_in (Err f) = Err (fault.Term f)
+
+-- The first pass reads the terms. Then the first fault of the passes over the terms counts, and else this is the cluster.
 unfoldable pub cluster_of : List ℕ → Result ClusterView ClusterFault
-cluster_of bytes = cluster_in (node_names bytes)
-
--- what a reading function returned, seen by view, is what the definition gives, unless memory ran out
-abbrev pub Fails : {Y : Type 0} → ClusterFault → Result Y ClusterFault → Type 0
-Fails fault.OutOfMemory read = Unit {0}
-Fails f read = read ≡ Err f
-
-abbrev pub Gives : {X Y : Type 0} → (X → Y) → Result X ClusterFault → Result Y ClusterFault → Type 0
-Gives view (Ok x) read = read ≡ Ok (view x)
-Gives view (Err f) read = Fails f read
+cluster_of bytes = cluster_in (terms_of bytes)

@@ -1,4 +1,11 @@
+pub mod TermWords
 pub mod ClusterView
-pub mod NodeTerms
-pub mod FaultWords
+pub mod Shapes
+pub mod Faults
+pub mod Names
+pub mod Parts
+pub mod Values
+pub mod Agreement
 pub mod ClusterOf
+pub mod TermMemory
+pub mod FaultWords

@@ -1,12 +1,12 @@
 //! Calls that the program doesn't make, with ample memory.
 
 use rh_cluster::{Cluster, read_cluster};
-use rh_trail::{Event, Pick, Sim};
+use rh_trail::{Event, Pick, Sim, simulated};
 use std::alloc::Global;
 use std::process::Abort;
 
 // The cluster that a text describes.
-fn cluster_of(rt: &impl Abort, alloc: Global, text: &str) -> Cluster {
+pub fn cluster_of(rt: &impl Abort, alloc: Global, text: &str) -> Cluster {
     read_cluster(alloc, text.as_bytes())
         .ok()
         .expect(rt, "a cluster")
@@ -24,6 +24,7 @@ fn a_copy_of_a_cluster_is_the_same(rt: HostRuntime) {
 #[test]
 fn a_simulation_tells_what_it_was_opened_with(rt: HostRuntime) {
     let cluster = cluster_of(&rt, rt.alloc(), "{node, a@x, []}. {node, b@x, []}.");
+    assert!(rt; simulated(&cluster));
     let sim = Sim::open(rt.alloc(), cluster, Pick::Last)
         .ok()
         .expect(&rt, "memory");

@@ -4,6 +4,8 @@
 #[cfg(test)]
 mod calls;
 #[cfg(test)]
+mod clusters;
+#[cfg(test)]
 mod devices;
 #[cfg(test)]
 mod rehearsals;

@@ -37,6 +37,30 @@ refused at_start
 ok 2
 ";
 
+// One bare node: a refused step leaves what can be made again.
+static ONE_NODE: &str = "\
+{node, a, []}.
+===
+undo
+boot a
+undo
+crash a
+redo
+boot b
+flip a
+";
+
+static ONE_NODE_TEXT: &str = "\
+refused at_start
+ok
+up a
+ok
+refused S5 not_alive
+ok
+refused S1 unknown_node
+bad line 7
+";
+
 // How a run of an input ended.
 fn ended_with(
     alloc: Global,
@@ -47,6 +71,35 @@ fn ended_with(
     let mut reader = Watched::new(source);
     let mut writer = Watched::new(sink);
     run(alloc, &mut reader, &mut writer, pick)
+}
+
+// The end in short, for comparison.
+fn said(ended: &Result<(), RunFault>) -> &'static str {
+    match ended {
+        Ok(()) => "done",
+        Err(RunFault::Cluster(_)) => "cluster",
+        Err(RunFault::BadLine(7)) => "bad line 7",
+        Err(RunFault::BadLine(_)) => "bad line",
+        Err(RunFault::Later) => "later",
+        Err(RunFault::Read) => "read",
+        Err(RunFault::Write) => "write",
+        Err(RunFault::OutOfMemory) => "memory",
+    }
+}
+
+#[test]
+fn a_run_ends_as_its_input_asks(rt: HostRuntime) {
+    for (input, end, text) in [
+        ("", "cluster", "cluster refused C2 no_nodes\n"),
+        (ONE_NODE, "bad line 7", ONE_NODE_TEXT),
+        (TWO_NODES, "done", TWO_NODES_TEXT),
+    ] {
+        let mut sink = Sink::new(rt.alloc());
+        let source = Source::of(input.as_bytes());
+        let ended = ended_with(rt.alloc(), source, &mut sink, Pick::First);
+        assert!(rt; said(&ended) == end);
+        assert_eq!(rt; sink.bytes.as_slice(), text.as_bytes());
+    }
 }
 
 #[test]

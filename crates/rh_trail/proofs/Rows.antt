@@ -16,10 +16,10 @@ use Rattle.rh_trail.specs.Report.{node_line}
 use Rattle.rh_trail.specs.Lone.{opened, replies, served}
 
 abbrev two_nodes : ClusterView
-two_nodes = record { node_names = codes "a@x" ∷ codes "b@x" ∷ [] }
+two_nodes = record { node_names = codes "a@x" ∷ codes "b@x" ∷ []; app_names = []; platform_names = []; nodes = []; apps = [] }
 
 abbrev one_node : ClusterView
-one_node = record { node_names = codes "a" ∷ [] }
+one_node = record { node_names = codes "a" ∷ []; app_names = []; platform_names = []; nodes = []; apps = [] }
 
 -- boot, crash, undo, look, redo, undo all, undo, redo all
 two_nodes_row : replies (opened two_nodes First) (Step (Boot (numbered 0)) ∷ Step (Crash (numbered 0)) ∷ Undo ∷ Look ∷ Redo ∷ UndoAll ∷ Undo ∷ RedoAll ∷ [])

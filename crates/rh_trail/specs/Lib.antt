@@ -1,5 +1,6 @@
 pub mod StateView
 pub mod Words
+pub mod Simulated
 pub mod Refusals
 pub mod Changes
 pub mod Allowed

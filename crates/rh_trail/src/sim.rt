@@ -1,13 +1,15 @@
 //! A simulation: the trail of the accepted events, with a state after each, and a cursor in it.
 
-ghost use Rattle.std.specs.Prelude.{◌≡◌, ◌≤◌, length, IfOk};
+ghost use Rattle.std.specs.Prelude.{◌≡◌, ◌≤◌, length, IfOk, true};
+ghost use Rattle.rh_trail.specs.Simulated.{is_simulated};
 ghost use Rattle.rh_trail.specs.Words.{read};
 
 mod moves;
 
 use crate::event::{Event, Pick};
 use crate::state::{State, first_state};
-use rh_cluster::{Cluster, OutOfMemory};
+use rh_cluster::Cluster;
+use rh_terms::OutOfMemory;
 use std::alloc::Global;
 use std::marker::Model;
 
@@ -48,7 +50,9 @@ impl Sim {
     pub const TRAIL_LIMIT: usize = 65_535;
 
     /// A simulation in the first state, with an empty trail. The cluster is dropped if memory is wanting.
+    /// Asks that the cluster can be simulated.
     pub fn open(alloc: Global, cluster: Cluster, pick: Pick) -> Result<Sim, OutOfMemory>
+        requires { is_simulated cluster ≡ true }
         ensures { IfOk result (λ sim. sim.seen ≡ opened cluster pick) }
     {
         let first = first_state(alloc, &cluster)?;

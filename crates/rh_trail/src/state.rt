@@ -4,7 +4,8 @@ ghost use Rattle.std.specs.Prelude.{◌≡◌, ◌<◌, ◌≤◌, IfOk};
 ghost use Rattle.rh_cluster.specs.ClusterView.{node_count};
 ghost use Rattle.rh_trail.specs.Words.{read};
 
-use rh_cluster::{Cluster, Node, OutOfMemory};
+use rh_cluster::{Cluster, Node};
+use rh_terms::OutOfMemory;
 use std::alloc::Global;
 use std::marker::Model;
 
@@ -110,8 +111,8 @@ impl State {
         Ok(State {
             cluster: self.cluster.copy(alloc)?,
             time: self.time,
-            modes: self.modes.clone()?,
-            incarnations: self.incarnations.clone()?,
+            modes: Vec::from_slice(alloc, self.modes.as_slice())?,
+            incarnations: Vec::from_slice(alloc, self.incarnations.as_slice())?,
         })
     }
 }

@@ -10,7 +10,8 @@ ghost use Rattle.rh_trail.specs.Allowed.{Allowed};
 
 use crate::event::{Event, Notice, Pick};
 use crate::state::{Mode, State};
-use rh_cluster::{Node, OutOfMemory};
+use rh_cluster::Node;
+use rh_terms::OutOfMemory;
 
 /// Makes an event that isn't refused, and adds what follows from it behind the earlier notices.
 /// After want of memory nothing is said of the state and the notices.

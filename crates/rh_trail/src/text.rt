@@ -7,7 +7,8 @@ ghost use Rattle.rh_trail.specs.Words.{read};
 ghost use Rattle.rh_trail.specs.Report.{node_line, report_text};
 
 use crate::state::{Mode, State};
-use rh_cluster::{Node, OutOfMemory};
+use rh_cluster::Node;
+use rh_terms::OutOfMemory;
 use std::alloc::Global;
 use std::fmt;
 

@@ -17,7 +17,7 @@ use crate::sim::{AtEnd, AtStart, Sim};
 use crate::state::State;
 use crate::step::perform;
 use crate::text::report;
-use rh_cluster::OutOfMemory;
+use rh_terms::OutOfMemory;
 use std::alloc::Global;
 
 impl Sim {

@@ -1,0 +1,87 @@
+//! The program `check`: the cluster file is read, and that is all.
+
+ghost use Rattle.std.specs.Prelude.{◌≡◌, false, None, IfOk, IfSome};
+ghost use Rattle.std.specs.String.{string_bytes};
+ghost use Rattle.rh_app.specs.CheckText.{count_text, check_text, check_end};
+ghost use Rattle.rh_app.specs.Programs.{ProgramGives};
+ghost use Rattle.rh_app.specs.RunText.{Wrote, Broke};
+
+use crate::device::{read_input, write_text};
+use crate::fault::RunFault;
+use crate::lines::cut;
+use crate::running::write_fault;
+use crate::watched::Watched;
+use rh_cluster::{Cluster, ClusterFault, read_cluster};
+use rh_terms::OutOfMemory;
+use std::alloc::Global;
+use std::io::{Read, Write};
+
+/// Reads all of the input, and then writes how many nodes and applications its cluster file has, or its first fault.
+///
+/// A script behind a line `===` is ignored. The input has at most 16,777,216 bytes. Neither device is flushed.
+///
+/// # Errors
+/// `Cluster` is the end of the text that was written. `Read` comes where the reader has failed or the input is too
+/// long: nothing was written. `Write` comes where the writer has failed, and `OutOfMemory` where a growth was refused:
+/// a front of the text was written.
+pub fn run_check<R: Read, W: Write>(
+    alloc: Global,
+    reader: &mut Watched<R>,
+    writer: &mut Watched<W>,
+) -> Result<(), RunFault>
+    requires reader { reader.old.failed ≡ false }
+    requires writer { writer.old.failed ≡ false }
+    ensures { IfSome (R.remaining reader.old.inner) (λ bytes. ProgramGives result bytes (check_text bytes) (check_end bytes)
+        (W.contents writer.old.inner) (W.contents writer.new.inner) reader.new.failed writer.new.failed) }
+{
+    let input = read_input(alloc, reader)?;
+    check_input(alloc, input.as_slice(), writer)
+}
+
+// Writes what the check of an input says.
+#[tactic(auto, unfolding(crate::specs::CheckText::check_text, crate::specs::CheckText::check_end))]
+fn check_input<W: Write>(
+    alloc: Global,
+    input: &[u8],
+    writer: &mut Watched<W>,
+) -> Result<(), RunFault>
+    requires { writer.old.failed ≡ false }
+    ensures { Wrote result (check_text input.now) (check_end input.now) (W.contents writer.old.inner) (W.contents writer.new.inner) writer.new.failed }
+{
+    let (text, _) = cut(input);
+    match read_cluster(alloc, text) {
+        Err(fault) => {
+            if fault.is_memory() {
+                return Err(RunFault::OutOfMemory);
+            }
+            write_fault(alloc, &fault, writer)?;
+            Err(RunFault::Cluster(fault))
+        }
+        Ok(cluster) => write_counts(alloc, &cluster, writer),
+    }
+}
+
+// Writes how many nodes and applications a cluster has.
+fn write_counts<W: Write>(
+    alloc: Global,
+    cluster: &Cluster,
+    writer: &mut Watched<W>,
+) -> Result<(), RunFault>
+    requires { writer.old.failed ≡ false }
+    ensures { Wrote result (count_text cluster.now) None (W.contents writer.old.inner) (W.contents writer.new.inner) writer.new.failed }
+{
+    match count_text(alloc, cluster) {
+        Err(OutOfMemory) => Err(RunFault::OutOfMemory),
+        Ok(text) => write_text(writer, text.as_bytes()),
+    }
+}
+
+// The text that tells how many nodes and applications a cluster has.
+#[tactic(auto, unfolding(crate::specs::CheckText::count_text))]
+fn count_text(alloc: Global, cluster: &Cluster) -> Result<String, OutOfMemory>
+    ensures { IfOk result (λ text. string_bytes text ≡ count_text cluster.now) }
+{
+    let nodes = cluster.node_count();
+    let apps = cluster.app_count();
+    Ok(format!(in alloc; "ok {nodes} nodes {apps} applications\n")?)
+}

@@ -1,0 +1,17 @@
+-- What follows where the name of a value has no fault.
+use Rattle.std.proofs.Common.{◌≡◌, ◌++◌, ◌∷◌, [], ℕ, List, Bool, true, false, refl, ap, sym, ◌∙◌}
+use Rattle.std.specs.Prelude.{not}
+use Rattle.rh_cluster.specs.declared.fault.ClusterFault.{ClusterFault}
+use Rattle.rh_cluster.specs.declared.fault.ClusterFault.TheVariants as fault
+use Rattle.rh_cluster.specs.Faults.{when}
+use Rattle.rh_cluster.specs.Names.{is_name}
+use Rattle.rh_cluster.specs.Parts.{word_faults}
+
+not_empty : (fs : List ClusterFault) (f : ClusterFault) → fs ++ f ∷ [] ≡ [] → true ≡ false
+not_empty [] f h = cc
+not_empty (g ∷ fs) f h = cc
+
+pub not_repeated : (name : List ℕ) (known repeated : Bool) → word_faults name known repeated ≡ [] → repeated ≡ false
+unfolding word_faults
+not_repeated name known false h = refl
+not_repeated name known true h = not_empty _ _ h

@@ -1,0 +1,9 @@
+use Rattle.std.proofs.Common.{◌≡◌, map, take, drop, length}
+use Rattle.std.specs.Prelude.{filter_map}
+use Rattle.std.specs.List.{list_any, list_all}
+use Rattle.rh_terms.specs.Tree.{tree_of}
+use Rattle.rh_cluster.specs.Agreement.{names_node}
+use Rattle.rh_cluster.proofs.agreement.some_names_node.Given as goal
+
+abbrev pub invariant-loop-shares : goal.invariant-loop-shares
+invariant-loop-shares l = list_any (names_node l.node) (drop l.shares-index l.all) ≡ list_any (names_node l.node) l.all

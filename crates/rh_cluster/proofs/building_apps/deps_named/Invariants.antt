@@ -1,0 +1,8 @@
+use Rattle.std.proofs.Common.{◌≡◌, map, take}
+use Rattle.std.specs.Prelude.{filter_map}
+use Rattle.rh_terms.specs.Tree.{tree_of}
+use Rattle.rh_cluster.specs.Values.{dep_named}
+use Rattle.rh_cluster.proofs.building_apps.deps_named.Given as goal
+
+abbrev pub invariant-loop-term : goal.invariant-loop-term
+invariant-loop-term l = l.deps.items ≡ filter_map (dep_named l.names) (map tree_of (take l.term-index l.terms))

@@ -1,0 +1,9 @@
+use Rattle.std.proofs.Common.{◌≡◌, map, take, drop, length}
+use Rattle.std.specs.Prelude.{filter_map}
+use Rattle.std.specs.List.{list_any, list_all}
+use Rattle.rh_terms.specs.Tree.{tree_of}
+use Rattle.rh_cluster.specs.Values.{share_of}
+use Rattle.rh_cluster.proofs.building_shares.shares_of.Given as goal
+
+abbrev pub invariant-loop-term : goal.invariant-loop-term
+invariant-loop-term l = l.shares.items ≡ filter_map (share_of l.names) (map tree_of (take l.term-index l.terms))

@@ -1,0 +1,10 @@
+use Rattle.std.proofs.Common.{◌≡◌, map, drop, filter_map}
+use Rattle.std.specs.List.{list_any}
+use Rattle.rh_terms.specs.Tree.{tree_of}
+use Rattle.rh_cluster.specs.Shapes.{atoms}
+use Rattle.rh_cluster.specs.Names.{is_among}
+use Rattle.rh_cluster.specs.Parts.{has_key, app_in}
+use Rattle.rh_cluster.proofs.entries.repeats_key.Given as goal
+
+abbrev pub invariant-loop-term : goal.invariant-loop-term
+invariant-loop-term l = list_any (has_key l.key) (map tree_of (drop l.term-index l.earlier)) ≡ list_any (has_key l.key) (map tree_of l.earlier)

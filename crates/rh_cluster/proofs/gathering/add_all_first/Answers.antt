@@ -1,0 +1,10 @@
+use Rattle.std.proofs.Common.{arith}
+use Rattle.std.proofs.lemmas.Grind.{common_steps}
+use Rattle.std.proofs.lemmas.List.Elements.{filter_map-append}
+use Rattle.rh_cluster.proofs.gathering.add_all_first.Goals as goal
+
+pub loop-term-preserved : goal.loop-term-preserved
+loop-term-preserved c = record {
+  names = grind (arith, common_steps, filter_map-append);
+  few = λ h. c.in_ok-add_first.ensures.few (c.loop-term.invariant.few h);
+}

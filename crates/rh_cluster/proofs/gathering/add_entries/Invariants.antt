@@ -1,0 +1,12 @@
+use Rattle.std.proofs.Common.{◌≡◌, ◌≤◌, map, take, length, fold}
+use Rattle.std.specs.Prelude.{flat_map}
+use Rattle.rh_terms.specs.Tree.{tree_of}
+use Rattle.rh_cluster.specs.Shapes.{atoms}
+use Rattle.rh_cluster.specs.Values.{with_platforms, platform_in_entry}
+use Rattle.rh_cluster.proofs.gathering.add_entries.Given as goal
+
+abbrev pub invariant-loop-entry : goal.invariant-loop-entry
+invariant-loop-entry l = record {
+  names : l.platforms ≡ fold with_platforms l.initial.platforms (flat_map platform_in_entry (map tree_of (take l.entry-index l.entries)));
+  few : length l.initial.platforms.first ≤ 256 → length l.platforms.first ≤ 256;
+}

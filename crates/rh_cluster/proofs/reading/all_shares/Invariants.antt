@@ -1,0 +1,8 @@
+use Rattle.std.proofs.Common.{◌≡◌, ℕ, List, map, take}
+use Rattle.rh_terms.specs.Tree.{Tree, tree_of}
+use Rattle.rh_cluster.specs.Names.{nodes_in, apps_in}
+use Rattle.rh_cluster.specs.Values.{shares_in}
+use Rattle.rh_cluster.proofs.reading.all_shares.Given as goal
+
+abbrev pub invariant-loop-term : goal.invariant-loop-term
+invariant-loop-term l = l.all.items ≡ map (λ (n : List ℕ × Tree). shares_in l.names n.1) (nodes_in (map tree_of (take l.term-index l.terms)))

@@ -1,0 +1,36 @@
+use Rattle.std.proofs.Common.{◌∙◌, length, map, sym, ap}
+use Rattle.std.proofs.lemmas.Result.{err_from_is_err_and}
+use Rattle.rh_terms.specs.Tree.{tree_of}
+use Rattle.rh_cluster.specs.Names.{KnownNames}
+use Rattle.rh_cluster.specs.Agreement.{agreed_shares}
+use Rattle.rh_cluster.specs.ClusterOf.{names_of, all_shares, faults_in, cluster_view}
+use Rattle.rh_cluster.proofs.Counts.{length-node_views, length-app_views}
+use Rattle.rh_cluster.proofs.InTurn.{first-none}
+use Rattle.rh_cluster.proofs.reading.cluster_in.Goals as goal
+
+pub returns-in_err-nodes-clause-faults : goal.returns-in_err-nodes-clause-faults
+unfolding faults_in
+returns-in_err-nodes-clause-faults c =
+    let p = err_from_is_err_and c.from_residual-in_err-nodes.result c.from_residual-in_err-nodes.ensures.1 in
+    rw (p.1, p.2) (λ n. first-none _ _ c.in_err-nodes.field-0.0 c.in_ok-names.ensures.faults (c.in_err-nodes.ensures.faults n))
+
+pub of-requires-clause-nodes : goal.of-requires-clause-nodes
+of-requires-clause-nodes c =
+    let ts = map tree_of c.args.terms.now in
+    ap length c.in_ok-nodes.ensures.nodes ∙ length-node_views (names_of ts) ts ∙ sym (ap (λ (n : KnownNames). length n.nodes) c.in_ok-names.ensures.names)
+
+pub of-requires-clause-apps : goal.of-requires-clause-apps
+of-requires-clause-apps c =
+    let ts = map tree_of c.args.terms.now in
+    ap length c.in_ok-nodes.ensures.apps ∙ length-app_views (names_of ts) (agreed_shares (all_shares (names_of ts) ts)) ts ∙ sym (ap (λ (n : KnownNames). length n.apps) c.in_ok-names.ensures.names)
+
+pub returns-clause-cluster : goal.returns-clause-cluster
+unfolding cluster_view names_of
+returns-clause-cluster c =
+    c.of.ensures ∙ (λ i. record {
+      node_names = (c.in_ok-names.ensures.names i).nodes;
+      app_names = (c.in_ok-names.ensures.names i).apps;
+      platform_names = (c.in_ok-names.ensures.names i).platforms;
+      nodes = c.in_ok-nodes.ensures.nodes i;
+      apps = c.in_ok-nodes.ensures.apps i;
+    })

@@ -1,0 +1,62 @@
+-- Names: the rule, the shape of a term with its name, and which names are known.
+use Rattle.std.specs.Prelude.{ℕ, List, [], ◌∷◌, ◌++◌, length, map, filter_map, flat_map, fold, Bool, true, false, not, ◌&&◌, ◌||◌, ◌==◌, nat_le, Option, Some, None, codes, if◌then◌else◌}
+use Rattle.std.specs.List.{list_any, list_all}
+use Rattle.std.specs.Str.{bytes_eq}
+use Rattle.rh_terms.specs.Tree.{Tree}
+use Rattle.rh_cluster.specs.declared.fault.ClusterFault.{ClusterFault}
+use Rattle.rh_cluster.specs.declared.fault.ClusterFault.TheVariants as fault
+use Rattle.rh_cluster.specs.Shapes.{as_atom, as_node, as_app, atoms}
+use Rattle.rh_cluster.specs.Faults.{when, in_turn}
+
+-- neither a space nor a control byte
+abbrev pub is_name_byte : ℕ → Bool
+is_name_byte b = nat_le 33 b && not (b == 127)
+
+-- 1 to 255 such bytes
+unfoldable pub is_name : List ℕ → Bool
+is_name s = nat_le 1 (length s) && nat_le (length s) 255 && list_all is_name_byte s
+
+-- is the name one of these?
+abbrev pub is_among : List (List ℕ) → List ℕ → Bool
+is_among names name = list_any (bytes_eq name) names
+
+-- the names of a file: of its nodes, of its applications, and the first 256 different ones of its platforms
+pub record KnownNames : Type 0 where
+  pub nodes : List (List ℕ)
+  pub apps : List (List ℕ)
+  pub platforms : List (List ℕ)
+
+-- the names of the platform that every node has
+abbrev pub every_platform : List (List ℕ)
+every_platform = codes "kernel" ∷ (codes "stdlib" ∷ [])
+
+-- each node term as its name and its SysConfig, each application term as its name and its Keys
+abbrev pub nodes_in : List Tree → List (List ℕ × Tree)
+nodes_in = filter_map as_node
+
+abbrev pub apps_in : List Tree → List (List ℕ × Tree)
+apps_in = filter_map as_app
+
+unfoldable pub node_names : List Tree → List (List ℕ)
+node_names ts = map (λ (n : List ℕ × Tree). n.0) (nodes_in ts)
+
+unfoldable pub app_names : List Tree → List (List ℕ)
+app_names ts = map (λ (a : List ℕ × Tree). a.0) (apps_in ts)
+
+-- what is wrong with the name of a term, behind earlier names of its kind: the rule, a name that is taken, too many names
+unfoldable pub new_name_faults : ℕ → Bool → List (List ℕ) → List ℕ → List ClusterFault
+new_name_faults most reserved earlier name =
+    when (not (is_name name)) fault.BadName ++ when (reserved || is_among earlier name) fault.DuplicateName ++ when (nat_le most (length earlier)) fault.TooMany
+
+abbrev pub header_faults_by : List (List ℕ) → List (List ℕ) → Option (List ℕ × Tree) → Option (List ℕ × Tree) → List ClusterFault
+header_faults_by nodes apps (Some node) app = new_name_faults 32 false nodes node.0
+header_faults_by nodes apps None (Some app) = new_name_faults 64 (is_among every_platform app.0) apps app.0
+header_faults_by nodes apps None None = fault.BadValue ∷ []
+
+-- what is wrong with a term's shape or name, behind terms with these names
+unfoldable pub header_faults : List (List ℕ) → List (List ℕ) → Tree → List ClusterFault
+header_faults nodes apps t = header_faults_by nodes apps (as_node t) (as_app t)
+
+-- The second pass: each term in order; at last, whether there is a node.
+unfoldable pub headers_pass : List Tree → List ClusterFault
+headers_pass ts = in_turn (λ earlier t. header_faults (node_names earlier) (app_names earlier) t) [] ts ++ when (length (node_names ts) == 0) fault.NoNodes

@@ -1,0 +1,207 @@
+-- What the parts of a term are, where they are in order.
+use Rattle.std.specs.Prelude.{ℕ, List, [], ◌∷◌, ◌++◌, length, map, filter_map, flat_map, fold, position, Bool, true, false, not, ◌&&◌, ◌||◌, ◌==◌, nat_le, is_some, Option, Some, None, unwrap_or, codes, if◌then◌else◌}
+use Rattle.std.specs.List.{list_any, list_all}
+use Rattle.std.specs.Option.{option_map, option_or}
+use Rattle.std.specs.Str.{bytes_eq}
+use Rattle.rh_terms.specs.Tree.{Tree}
+use Rattle.rh_cluster.specs.declared.node.Node.{Node}
+use Rattle.rh_cluster.specs.declared.node.App.{App}
+use Rattle.rh_cluster.specs.declared.parts.Dep.{Dep}
+use Rattle.rh_cluster.specs.declared.parts.Dep.TheVariants.{Listed, Platform}
+use Rattle.rh_cluster.specs.declared.parts.Restart.{Restart}
+use Rattle.rh_cluster.specs.declared.parts.SyncWait.{SyncWait}
+use Rattle.rh_cluster.specs.declared.parts.SyncWait.TheVariants.{Unset}
+use Rattle.rh_cluster.specs.declared.parts.Spread.{Spread}
+use Rattle.rh_cluster.specs.declared.platforms.Platforms.{Platforms}
+use Rattle.rh_cluster.specs.declared.shares.Share.{Share}
+use Rattle.rh_cluster.specs.Shapes.{as_atom, as_list, as_pair, as_entry, as_node, as_time, atoms, ◌>>=◌}
+use Rattle.rh_cluster.specs.Names.{is_among, every_platform, KnownNames}
+use Rattle.rh_cluster.specs.ClusterView.{NodeView, AppView, numbered, app_numbered}
+use Rattle.rh_cluster.specs.TermWords.{TermWord, words_of}
+use Rattle.rh_cluster.specs.Parts.{as_sync_wait, as_truth, as_restart, as_share, members, atom_is}
+
+-- ---- entries
+
+abbrev pub list_or_none : Option (List Tree) → List Tree
+list_or_none None = []
+list_or_none (Some ts) = ts
+
+-- the elements of a list; another term has none
+unfoldable pub elements : Tree → List Tree
+elements t = list_or_none (as_list t)
+
+-- the value of an entry of this key
+unfoldable pub value_if : List ℕ → Tree → Option Tree
+value_if key t = as_entry t >>= λ e. if bytes_eq e.0 key then Some e.1 else None
+
+-- the value of the first entry of this key
+abbrev pub value_under : List ℕ → List Tree → Option Tree
+value_under key [] = None
+value_under key (t ∷ ts) = option_or (value_if key t) (value_under key ts)
+
+abbrev pub elements_if : Option Tree → List Tree
+elements_if None = []
+elements_if (Some t) = elements t
+
+-- the elements of that value
+unfoldable pub elements_under : List ℕ → List Tree → List Tree
+elements_under key ts = elements_if (value_under key ts)
+
+-- ---- platform names (ours)
+
+-- what f gives for the value, if there is one
+abbrev pub values_in : Option Tree → (Tree → List Tree) → List Tree
+values_in None f = []
+values_in (Some v) f = f v
+
+-- the value of a `platform` parameter
+unfoldable pub platform_in_entry : Tree → List Tree
+platform_in_entry t = values_in (value_if (codes "platform") t) (λ v. v ∷ [])
+
+-- those in a section `rehearse`
+unfoldable pub platform_in_section : Tree → List Tree
+platform_in_section t = values_in (value_if (codes "rehearse") t) (λ v. flat_map platform_in_entry (elements v))
+
+abbrev pub platform_in_node : Option (List ℕ × Tree) → List Tree
+platform_in_node None = []
+platform_in_node (Some n) = flat_map platform_in_section (elements n.1)
+
+-- those in a node term
+unfoldable pub platform_in_term : Tree → List Tree
+platform_in_term t = platform_in_node (as_node t)
+
+-- with this name, unless it is there
+unfoldable pub with_name : List (List ℕ) → List ℕ → List (List ℕ)
+with_name names name = if is_among names name then names else names ++ name ∷ []
+
+-- the same, as long as there are fewer than 256
+unfoldable pub with_first_name : List (List ℕ) → List ℕ → List (List ℕ)
+with_first_name names name = if nat_le 256 (length names) then names else with_name names name
+
+-- With the names of one platform list: `first` are the first 256 different names, of whatever lists; `known` are those of well-shaped lists, which hold atoms alone.
+unfoldable pub with_platforms : Platforms → Tree → Platforms
+with_platforms p v = record {
+  first = fold with_first_name p.first (atoms (elements v));
+  known = if list_all (λ t. is_some (as_atom t)) (elements v) then fold with_name p.known (atoms (elements v)) else p.known;
+}
+
+-- the platform names of a file; every node has the first two
+unfoldable pub platforms_in : List Tree → Platforms
+platforms_in ts = fold with_platforms (record { first = every_platform; known = every_platform }) (flat_map platform_in_term ts)
+
+-- ---- names
+
+-- the node of this name
+unfoldable pub node_named : KnownNames → Tree → Option Node
+node_named names t = as_atom t >>= λ name. option_map numbered (position (bytes_eq name) names.nodes)
+
+-- the application of this name
+unfoldable pub app_named : KnownNames → Tree → Option App
+app_named names t = as_atom t >>= λ name. option_map app_numbered (position (bytes_eq name) names.apps)
+
+-- ---- a node
+
+abbrev pub kernel_of : Tree → List Tree
+kernel_of config = elements_under (codes "kernel") (elements config)
+
+abbrev pub rehearse_of : Tree → List Tree
+rehearse_of config = elements_under (codes "rehearse") (elements config)
+
+abbrev pub wait_in : Option Tree → SyncWait
+wait_in None = Unset
+wait_in (Some t) = unwrap_or (as_sync_wait t) Unset
+
+unfoldable pub boot_entry : KnownNames → Tree → Option (App × Restart)
+boot_entry names t = as_pair t >>= λ e. app_named names e.0 >>= λ app. as_restart e.1 >>= λ restart. Some (app, restart)
+
+abbrev pub is_false : Option Bool → Bool
+is_false (Some false) = true
+is_false o = false
+
+abbrev pub forbids_by : List ℕ → Option (Tree × Tree) → Bool
+forbids_by name None = false
+forbids_by name (Some e) = atom_is (bytes_eq name) (as_atom e.0) && is_false (as_truth e.1)
+
+-- is this the entry {App, false} of that application?
+unfoldable pub forbids : List ℕ → Tree → Bool
+forbids name t = forbids_by name (as_pair t)
+
+-- for each application, whether it is permitted: it is, unless it is forbidden
+unfoldable pub permissions_in : KnownNames → List Tree → List Bool
+permissions_in names entries = map (λ name. not (list_any (forbids name) entries)) names.apps
+
+-- for each platform name, whether the node has it
+unfoldable pub platforms_of : KnownNames → List Tree → List Bool
+platforms_of names items = map (λ name. is_among every_platform name || is_among (atoms items) name) names.platforms
+
+-- what a SysConfig says of its node
+unfoldable pub node_view : KnownNames → Tree → NodeView
+node_view names config = record {
+  mandatory = filter_map (node_named names) (elements_under (codes "sync_nodes_mandatory") (kernel_of config));
+  optional = filter_map (node_named names) (elements_under (codes "sync_nodes_optional") (kernel_of config));
+  sync_wait = wait_in (value_under (codes "sync_nodes_timeout") (kernel_of config));
+  boot = filter_map (boot_entry names) (elements_under (codes "boot") (rehearse_of config));
+  permissions = permissions_in names (elements_under (codes "permissions") (kernel_of config));
+  platforms = platforms_of names (elements_under (codes "platform") (rehearse_of config));
+}
+
+-- ---- an application
+
+abbrev pub dep_by : Option ℕ → Option ℕ → Option Dep
+dep_by (Some a) p = Some (Listed (app_numbered a))
+dep_by None (Some p) = Some (Platform p)
+dep_by None None = None
+
+-- what this name stands for in `applications`
+unfoldable pub dep_named : KnownNames → Tree → Option Dep
+dep_named names t = as_atom t >>= λ name. dep_by (position (bytes_eq name) names.apps) (position (bytes_eq name) names.platforms)
+
+-- the module and the argument of {Module, StartArg}
+abbrev pub start_in : Option Tree → Option (List ℕ × Tree)
+start_in None = None
+start_in (Some t) = as_entry t
+
+-- the argument in prefix notation
+abbrev pub start_view : Option (List ℕ × Tree) → Option (List ℕ × List TermWord)
+start_view o = option_map (λ (s : List ℕ × Tree). (s.0, words_of s.1)) o
+
+abbrev pub is_list_there : Option Tree → Bool
+is_list_there None = false
+is_list_there (Some t) = is_some (as_list t)
+
+-- ---- `distributed`
+
+abbrev pub time_or_zero : Option Tree → ℕ
+time_or_zero None = 0
+time_or_zero (Some t) = unwrap_or (as_time t) 0
+
+-- the nodes of a group
+unfoldable pub group_in : KnownNames → Tree → List Node
+group_in names t = filter_map (node_named names) (members t)
+
+-- an entry of `distributed`
+unfoldable pub share_of : KnownNames → Tree → Option Share
+share_of names t = as_share t >>= λ s. app_named names s.0 >>= λ app.
+    Some (record { app = app; spread = record { timeout = time_or_zero s.1; groups = map (group_in names) (elements s.2) } })
+
+-- the entries of a node's `distributed`
+unfoldable pub shares_in : KnownNames → Tree → List Share
+shares_in names config = filter_map (share_of names) (elements_under (codes "distributed") (kernel_of config))
+
+-- the entry of an application
+abbrev pub spread_for : List Share → App → Option Spread
+spread_for [] a = None
+spread_for (s ∷ shares) a = if s.app.0 == a.0 then Some s.spread else spread_for shares a
+
+-- the application of this name, as the nodes that take part in distribution know it
+abbrev pub spread_named : KnownNames → List Share → List ℕ → Option Spread
+spread_named names shares name = option_map app_numbered (position (bytes_eq name) names.apps) >>= spread_for shares
+
+-- what Keys say of their application
+unfoldable pub app_view : KnownNames → List Share → List ℕ → Tree → AppView
+app_view names shares name keys = record {
+  deps = filter_map (dep_named names) (elements_under (codes "applications") (elements keys));
+  start_arg = start_view (start_in (value_under (codes "mod") (elements keys)));
+  phases = is_list_there (value_under (codes "start_phases") (elements keys));
+  spread = spread_named names shares name;
+}

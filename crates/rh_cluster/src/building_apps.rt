@@ -1,0 +1,83 @@
+//! What the keys say of their application, as a cluster keeps it.
+
+ghost use Rattle.std.specs.Prelude.{◌≡◌, map, filter_map, IfOk};
+ghost use Rattle.std.specs.Option.{option_map};
+ghost use Rattle.rh_terms.specs.Tree.{tree_of};
+ghost use Rattle.rh_cluster.specs.Values.{dep_named, start_in, is_list_there, spread_named, app_view};
+
+use crate::agreement::spread_for;
+use crate::app_parts::{AppParts, copy_of_spread, copy_of_start};
+use crate::known::Names;
+use crate::node::App;
+use crate::parts::{Dep, Spread};
+use crate::shapes;
+use crate::shares::Share;
+use crate::values::{elements, elements_under, value_under};
+use rh_terms::{OutOfMemory, Term};
+use std::alloc::Global;
+
+#[tactic(auto, unfolding(crate::specs::Values::dep_named))]
+fn dep_named(names: &Names, term: &Term) -> Option<Dep>
+    ensures { result ≡ dep_named names.now (tree_of term.now) }
+{
+    let name = shapes::atom(term)?;
+    if let Some(index) = names.apps().index_of(name) {
+        return Some(Dep::Listed(App(index as u8)));
+    }
+    match names.platforms().index_of(name) {
+        Some(index) => Some(Dep::Platform(index as u16)),
+        None => None,
+    }
+}
+
+fn deps_named(alloc: Global, names: &Names, terms: &[Term]) -> Result<Vec<Dep>, OutOfMemory>
+    ensures { IfOk result (λ deps. deps.items ≡ filter_map (dep_named names.now) (map tree_of terms.now)) }
+{
+    let mut deps = Vec::new(alloc);
+    for term in terms {
+        if let Some(dep) = dep_named(names, term) {
+            deps.push(dep)?;
+        }
+    }
+    Ok(deps)
+}
+
+fn start_in(value: Option<&Term>) -> Option<(&str, &Term)>
+    ensures { option_map (λ s. (s.0.now, tree_of s.1.now)) result ≡ start_in (option_map (λ t. tree_of t.now) value.entry) }
+{
+    shapes::entry(value?)
+}
+
+fn is_list_there(value: Option<&Term>) -> bool
+    ensures { result ≡ is_list_there (option_map (λ t. tree_of t.now) value.entry) }
+{
+    match value {
+        Some(term) => shapes::list(term).is_some(),
+        None => false,
+    }
+}
+
+fn spread_named<'a>(names: &Names, shares: &'a [Share], name: &str) -> Option<&'a Spread>
+    ensures { option_map (λ s. s.now) result ≡ spread_named names.now shares.now name.now }
+{
+    spread_for(shares, names.app_of(name)?)
+}
+
+/// The parts of the application of this name and these keys.
+#[tactic(auto, unfolding(crate::specs::Values::app_view))]
+pub fn app_parts(
+    alloc: Global,
+    names: &Names,
+    shares: &[Share],
+    name: &str,
+    keys: &Term,
+) -> Result<AppParts, OutOfMemory>
+    ensures { IfOk result (λ parts. parts ≡ app_view names.now shares.now name.now (tree_of keys.now)) }
+{
+    let keys = elements(keys);
+    let deps = deps_named(alloc, names, elements_under("applications", keys))?;
+    let start = copy_of_start(alloc, start_in(value_under("mod", keys)))?;
+    let phases = is_list_there(value_under("start_phases", keys));
+    let spread = copy_of_spread(alloc, spread_named(names, shares, name))?;
+    Ok(AppParts::of(deps, start, phases, spread))
+}

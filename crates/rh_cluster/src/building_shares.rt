@@ -1,0 +1,87 @@
+//! The entries of `distributed`, as they are kept.
+
+ghost use Rattle.std.specs.Prelude.{◌≡◌, ◌==◌, map, filter_map, IfOk, IfSome};
+ghost use Rattle.std.specs.Option.{option_map};
+ghost use Rattle.rh_terms.specs.Tree.{tree_of};
+ghost use Rattle.rh_cluster.specs.Values.{time_or_zero, group_in, elements, share_of, shares_in};
+
+use crate::building_nodes::nodes_named;
+use crate::descriptions::members;
+use crate::groups::{Group, Groups};
+use crate::kernel::share;
+use crate::known::Names;
+use crate::parts::Spread;
+use crate::shapes;
+use crate::shares::{Share, Shares};
+use crate::values::{app_named, elements, elements_under};
+use rh_terms::{OutOfMemory, Term};
+use std::alloc::Global;
+
+fn time_or_zero(value: Option<&Term>) -> u64
+    ensures { result ≡ time_or_zero (option_map (λ t. tree_of t.now) value.entry) }
+{
+    match value {
+        Some(term) => match shapes::time(term) {
+            Some(time) => time,
+            None => 0,
+        },
+        None => 0,
+    }
+}
+
+#[tactic(auto, unfolding(crate::specs::Values::group_in))]
+fn group_in(alloc: Global, names: &Names, term: &Term) -> Result<Group, OutOfMemory>
+    ensures { IfOk result (λ group. group ≡ group_in names.now (tree_of term.now)) }
+{
+    Ok(Group::of(nodes_named(alloc, names, members(term))?))
+}
+
+fn groups_in(alloc: Global, names: &Names, terms: &[Term]) -> Result<Groups, OutOfMemory>
+    ensures { IfOk result (λ groups. groups ≡ map (group_in names.now) (map tree_of terms.now)) }
+{
+    let mut groups = Vec::new(alloc);
+    for term in terms {
+        groups.push(group_in(alloc, names, term)?)?;
+    }
+    Ok(Groups::of(groups))
+}
+
+// An entry, if its application is known.
+#[tactic(auto, unfolding(crate::specs::Values::share_of))]
+fn share_of(alloc: Global, names: &Names, term: &Term) -> Result<Option<Share>, OutOfMemory>
+    ensures { IfOk result (λ found. found ≡ share_of names.now (tree_of term.now)) }
+{
+    let Some((app, timeout, groups)) = share(term) else {
+        return Ok(None);
+    };
+    let Some(app) = app_named(names, app) else {
+        return Ok(None);
+    };
+    let timeout = time_or_zero(timeout);
+    let groups = groups_in(alloc, names, elements(groups))?;
+    Ok(Some(Share {
+        app,
+        spread: Spread { timeout, groups },
+    }))
+}
+
+fn shares_of(alloc: Global, names: &Names, terms: &[Term]) -> Result<Shares, OutOfMemory>
+    ensures { IfOk result (λ shares. shares ≡ filter_map (share_of names.now) (map tree_of terms.now)) }
+{
+    let mut shares = Vec::new(alloc);
+    for term in terms {
+        if let Some(share) = share_of(alloc, names, term)? {
+            shares.push(share)?;
+        }
+    }
+    Ok(Shares::of(shares))
+}
+
+/// The entries of a configuration's `distributed`.
+#[tactic(auto, unfolding(crate::specs::Values::shares_in))]
+pub fn shares_in(alloc: Global, names: &Names, config: &Term) -> Result<Shares, OutOfMemory>
+    ensures { IfOk result (λ shares. shares ≡ shares_in names.now (tree_of config.now)) }
+{
+    let kernel = elements_under("kernel", elements(config));
+    shares_of(alloc, names, elements_under("distributed", kernel))
+}

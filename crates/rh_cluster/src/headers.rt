@@ -1,0 +1,110 @@
+//! The second pass: the shape and the name of each term.
+
+ghost use Rattle.std.specs.Prelude.{◌≡◌, ◌<◌, ◌≤◌, ℕ, [], ◌∷◌, ◌++◌, map, length, IfOk, OnOk};
+ghost use Rattle.std.specs.List.{list_all};
+ghost use Rattle.rh_terms.specs.Tree.{tree_of};
+ghost use Rattle.rh_cluster.specs.Faults.{Finds};
+ghost use Rattle.rh_cluster.specs.Names.{is_name_byte, is_name, is_among, every_platform, new_name_faults, header_faults, headers_pass, node_names, app_names};
+
+use crate::fault::ClusterFault;
+use crate::names::NameSet;
+use crate::shapes;
+use rh_terms::Term;
+use std::alloc::Global;
+
+fn is_name_byte(byte: u8) -> bool
+    ensures { result ≡ is_name_byte byte }
+{
+    b' ' < byte && byte != 0x7f
+}
+
+fn are_name_bytes(bytes: &[u8]) -> bool
+    ensures { result ≡ list_all is_name_byte bytes.now }
+{
+    bytes.iter().all(|byte| is_name_byte(*byte))
+}
+
+/// Does it follow the rule of names?
+#[tactic(auto, unfolding(crate::specs::Names::is_name))]
+pub fn is_name(name: &str) -> bool
+    ensures { result ≡ is_name name.now }
+{
+    let bytes = name.as_bytes();
+    1 <= bytes.len() && bytes.len() <= 255 && are_name_bytes(bytes)
+}
+
+/// Is it a platform name of every node?
+pub fn is_platform_everywhere(name: &str) -> bool
+    ensures { result ≡ is_among every_platform name.now }
+{
+    name == "kernel" || name == "stdlib"
+}
+
+// Adds the name of a term behind the earlier ones of its kind.
+#[tactic(auto, unfolding(crate::specs::Names::new_name_faults))]
+fn add_name(
+    alloc: Global,
+    most: usize,
+    reserved: bool,
+    names: &mut NameSet,
+    name: &str,
+) -> Result<(), ClusterFault>
+    ensures faults { Finds result (new_name_faults most reserved names.old name.now) }
+    ensures added { OnOk result (names.new ≡ names.old ++ name.now ∷ []) }
+    ensures room { OnOk result (length names.old < most) }
+{
+    if !is_name(name) {
+        return Err(ClusterFault::BadName);
+    }
+    if reserved || names.contains(name) {
+        return Err(ClusterFault::DuplicateName);
+    }
+    if most <= names.len() {
+        return Err(ClusterFault::TooMany);
+    }
+    names.add(alloc, name)?;
+    Ok(())
+}
+
+// Adds the name of a term to the nodes or to the applications.
+#[tactic(auto, unfolding(crate::specs::Names::header_faults))]
+fn add_header(
+    alloc: Global,
+    nodes: &mut NameSet,
+    apps: &mut NameSet,
+    term: &Term,
+) -> Result<(), ClusterFault>
+    ensures faults { Finds result (header_faults nodes.old apps.old (tree_of term.now)) }
+    ensures nodes { OnOk result (nodes.new ≡ nodes.old ++ node_names (tree_of term.now ∷ [])) }
+    ensures apps { OnOk result (apps.new ≡ apps.old ++ app_names (tree_of term.now ∷ [])) }
+    ensures few_nodes { OnOk result (length nodes.old ≤ 32 → length nodes.new ≤ 32) }
+    ensures few_apps { OnOk result (length apps.old ≤ 64 → length apps.new ≤ 64) }
+{
+    if let Some((name, _)) = shapes::node(term) {
+        return add_name(alloc, 32, false, nodes, name);
+    }
+    if let Some((name, _)) = shapes::app(term) {
+        return add_name(alloc, 64, is_platform_everywhere(name), apps, name);
+    }
+    Err(ClusterFault::BadValue)
+}
+
+/// The names of the nodes and of the applications.
+#[tactic(auto, unfolding(crate::specs::Names::headers_pass))]
+pub fn headers(alloc: Global, terms: &[Term]) -> Result<(NameSet, NameSet), ClusterFault>
+    ensures faults { Finds result (headers_pass (map tree_of terms.now)) }
+    ensures nodes { IfOk result (λ names. names.0 ≡ node_names (map tree_of terms.now)) }
+    ensures apps { IfOk result (λ names. names.1 ≡ app_names (map tree_of terms.now)) }
+    ensures few_nodes { IfOk result (λ names. length names.0 ≤ 32) }
+    ensures few_apps { IfOk result (λ names. length names.1 ≤ 64) }
+{
+    let mut nodes = NameSet::new(alloc);
+    let mut apps = NameSet::new(alloc);
+    for term in terms {
+        add_header(alloc, &mut nodes, &mut apps, term)?;
+    }
+    if nodes.len() == 0 {
+        return Err(ClusterFault::NoNodes);
+    }
+    Ok((nodes, apps))
+}

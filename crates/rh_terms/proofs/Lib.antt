@@ -1,0 +1,10 @@
+pub mod Joined
+pub mod Told
+pub mod Spelled
+pub mod Whole
+pub mod Trees
+pub mod Cut
+pub mod Read
+pub mod Found
+pub mod Enough
+pub mod Nesting

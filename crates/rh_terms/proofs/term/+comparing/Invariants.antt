@@ -1,0 +1,9 @@
+use Rattle.std.proofs.Common.{◌≡◌, take, map, length}
+use Rattle.rh_terms.specs.Tree.{tree_of}
+use Rattle.rh_terms.proofs.term.+comparing.Given as goal
+
+abbrev pub invariant-Terms::same-terms : goal.invariant-Terms::same-terms
+invariant-Terms::same-terms l = record {
+  same : map tree_of (take l.index l.self.items.items) ≡ map tree_of (take l.index l.other.items.items);
+  lengths : length l.self.items.items ≡ length l.other.items.items;
+}

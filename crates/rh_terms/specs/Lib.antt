@@ -1,0 +1,9 @@
+pub mod Bytes
+pub mod Tree
+pub mod Faults
+pub mod Words
+pub mod Grammar
+pub mod Spelling
+pub mod Constructs
+pub mod Nest
+pub mod FaultWords

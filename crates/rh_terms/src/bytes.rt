@@ -1,0 +1,83 @@
+ghost use Rattle.std.specs.Prelude.{◌≡◌, ℕ, List, ◌==◌, ◌≤◌, length, IsTrue, ◌<◌};
+ghost use Rattle.rh_terms.specs.Bytes.{is_white, is_digit, is_name, is_lower, is_unsupported, past_blank, begins};
+ghost use Rattle.rh_terms.specs.Faults.{stuck};
+
+use crate::fault::{Fault, ReadError};
+
+pub fn is_white_byte(b: u8) -> bool
+    ensures { result ≡ is_white b }
+{
+    b == b' ' || (9 <= b && b <= 13)
+}
+
+pub fn is_digit_byte(b: u8) -> bool
+    ensures { result ≡ is_digit b }
+{
+    48 <= b && b <= 57
+}
+
+pub fn is_lower_byte(b: u8) -> bool
+    ensures { result ≡ is_lower b }
+{
+    97 <= b && b <= 122
+}
+
+pub fn is_name_byte(b: u8) -> bool
+    ensures { result ≡ is_name b }
+{
+    is_lower_byte(b) || (64 <= b && b <= 90) || is_digit_byte(b) || b == b'_'
+}
+
+pub fn is_unsupported_byte(b: u8) -> bool
+    ensures { result ≡ is_unsupported b }
+{
+    b == b'$' || b == b'#' || b == b'<' || b == b'~' || b == b'+' || 128 <= b
+}
+
+/// Whether the bytes begin with this one.
+pub fn begins_with(bytes: &[u8], b: u8) -> bool
+    ensures begins { result ≡ begins (λ x. x == b) bytes.now }
+    ensures some { IsTrue result → 0 < length bytes.now }
+{
+    match bytes {
+        [] => false,
+        [first, ..] => *first == b,
+    }
+}
+
+/// The fault at a place where nothing can continue.
+pub fn stuck_at(bytes: &[u8]) -> ReadError
+    ensures { let errors = stuck bytes.now in result ≡ ReadError.Fault errors }
+{
+    match bytes {
+        [] => ReadError::Fault(Fault::Syntax(0)),
+        [b, ..] => {
+            if is_unsupported_byte(*b) {
+                ReadError::Fault(Fault::Unsupported(bytes.len()))
+            } else {
+                ReadError::Fault(Fault::Syntax(bytes.len()))
+            }
+        }
+    }
+}
+
+/// What stands behind white space and comments.
+#[tactic(auto, unfolding(crate::specs::Bytes::past))]
+pub fn skip_blank(bytes: &[u8]) -> &[u8]
+    ensures behind { result.now ≡ past_blank bytes.now }
+    ensures shorter { length result.now ≤ length bytes.now }
+{
+    let mut rest = bytes;
+    let mut in_comment = false;
+    'bytes: while let [b, after @ ..] = rest {
+        if in_comment {
+            in_comment = *b != b'\n';
+        } else if *b == b'%' {
+            in_comment = true;
+        } else if !is_white_byte(*b) {
+            return rest;
+        }
+        rest = after;
+    }
+    rest
+}

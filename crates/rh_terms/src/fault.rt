@@ -1,0 +1,83 @@
+ghost use Rattle.std.specs.Prelude.{◌≡◌, ⊤};
+ghost use Rattle.rh_terms.specs.declared.fault.ReadError.TheVariants.{Memory};
+ghost use Rattle.rh_terms.specs.declared.fault.TermFault.TheVariants as faults;
+
+use std::alloc::{AllocError, AllocFailed};
+
+/// A growth was refused. Nothing has changed.
+#[derive(Clone, Copy, Debug, PartialEq, Eq)]
+pub struct OutOfMemory;
+
+impl From<AllocError> for OutOfMemory {
+    ghost from_gives = { λ _ _. ⊤ };
+
+    fn from(_error: AllocError) -> OutOfMemory {
+        OutOfMemory
+    }
+}
+
+impl<T: Drop> From<AllocFailed<T>> for OutOfMemory {
+    ghost from_gives = { λ _ _. ⊤ };
+
+    fn from(_error: AllocFailed<T>) -> OutOfMemory {
+        OutOfMemory
+    }
+}
+
+/// Why a text is no list of terms: its first fault from left to right. Lines count from 1.
+#[derive(Clone, Copy, Debug, PartialEq, Eq)]
+pub enum TermFault {
+    /// The first byte that can't continue the text stands on this line, or the text ends there too early.
+    Syntax { line: usize },
+    /// On this line stands what Erlang reads and this project doesn't, as a float, a map or a string's
+    /// concatenation.
+    Unsupported { line: usize },
+    /// The text isn't UTF-8. This is answered before any other fault.
+    NotUtf8,
+    /// More than 64 lists and tuples stand inside each other.
+    TooDeep,
+    /// An integer is below -2^63 or above 2^63 - 1.
+    IntRange,
+    /// A growth was refused.
+    OutOfMemory,
+}
+
+impl From<OutOfMemory> for TermFault {
+    ghost from_gives = { λ _ fault. fault ≡ faults.OutOfMemory };
+
+    fn from(_error: OutOfMemory) -> TermFault {
+        TermFault::OutOfMemory
+    }
+}
+
+/// A fault, and how many bytes are left from its place on.
+#[derive(Clone, Copy)]
+pub enum Fault {
+    Syntax(usize),
+    Unsupported(usize),
+    TooDeep,
+    IntRange,
+}
+
+/// Why a part of a text wasn't read.
+#[derive(Clone, Copy)]
+pub enum ReadError {
+    Memory,
+    Fault(Fault),
+}
+
+impl From<AllocError> for ReadError {
+    ghost from_gives = { λ _ e. e ≡ Memory };
+
+    fn from(_error: AllocError) -> ReadError {
+        ReadError::Memory
+    }
+}
+
+impl<T: Drop> From<AllocFailed<T>> for ReadError {
+    ghost from_gives = { λ _ e. e ≡ Memory };
+
+    fn from(_error: AllocFailed<T>) -> ReadError {
+        ReadError::Memory
+    }
+}

@@ -1,0 +1,89 @@
+ghost use Rattle.std.specs.Prelude.{◌≡◌, ℕ, List, ◌==◌, ◌≤◌, length, Ok, Err, count_by, IfOk, IsTrue};
+ghost use Rattle.std.specs.Str.{is_utf8, IsUtf8};
+ghost use Rattle.rh_terms.specs.Constructs.{HasConstruct};
+ghost use Rattle.rh_terms.specs.Faults.{Gives};
+ghost use Rattle.rh_terms.specs.Grammar.{terms_from, line_at, terms_of, Tells, fault_told};
+ghost use Rattle.rh_terms.specs.Spelling.{AreDotted};
+ghost use Rattle.rh_terms.specs.Tree.{Trees, trees_of, items_of};
+
+use crate::bytes::skip_blank;
+use crate::fault::{Fault, ReadError, TermFault};
+use crate::nest::Nest;
+use crate::term::{Term, Terms};
+use std::alloc::Global;
+
+/// The terms from the first one on.
+fn terms_of_text(alloc: Global, bytes: &[u8]) -> Result<Vec<Term>, ReadError>
+    requires { IsUtf8 bytes.now }
+    ensures { Gives (λ x. trees_of x.items) result (terms_from bytes.now) }
+{
+    let mut nest = Nest::new(alloc);
+    let mut rest = bytes;
+    'bytes: while !rest.is_empty() {
+        rest = nest.step(alloc, rest)?;
+    }
+    nest.finish()
+}
+
+/// The line of the place from which on so many bytes are left.
+fn line_of(bytes: &[u8], left: usize) -> usize
+    ensures { result ≡ line_at bytes.now left }
+{
+    let front = &bytes[..bytes.len().saturating_sub(left)];
+    line_feeds(front) + 1
+}
+
+fn line_feeds(bytes: &[u8]) -> usize
+    ensures count { result ≡ count_by (λ b. b == 10) bytes.now }
+    ensures most { result ≤ length bytes.now }
+{
+    bytes.iter().filter(|b| **b == b'\n').count()
+}
+
+fn is_text(bytes: &[u8]) -> bool
+    ensures { result ≡ is_utf8 bytes.now }
+{
+    match str::from_utf8(bytes) {
+        Ok(_) => true,
+        Err(_) => false,
+    }
+}
+
+fn fault_of(bytes: &[u8], error: ReadError) -> TermFault
+    ensures { result ≡ fault_told bytes.now error }
+{
+    match error {
+        ReadError::Memory => TermFault::OutOfMemory,
+        ReadError::Fault(Fault::Syntax(left)) => TermFault::Syntax {
+            line: line_of(bytes, left),
+        },
+        ReadError::Fault(Fault::Unsupported(left)) => TermFault::Unsupported {
+            line: line_of(bytes, left),
+        },
+        ReadError::Fault(Fault::TooDeep) => TermFault::TooDeep,
+        ReadError::Fault(Fault::IntRange) => TermFault::IntRange,
+    }
+}
+
+/// The terms of a text: each is followed by a dot, as in a file that Erlang's `file:consult/1` reads.
+///
+/// A text that holds no such terms is answered by its first fault from left to right.
+/// `OutOfMemory` is answered only where a growth was refused.
+pub fn read_terms(alloc: Global, bytes: &[u8]) -> Result<Terms, TermFault>
+    // Want of memory aside, the answer is the definition's: the terms, or the first fault and its line.
+    ensures exact { Tells result (terms_of bytes.now) }
+    // The text spells what is read.
+    ensures spelled { IfOk result (λ ts. AreDotted (trees_of (items_of ts)) bytes.now) }
+    // What a text in UTF-8 spells is read, want of memory aside.
+    ensures read { (ts : Trees) → AreDotted ts bytes.now → IsTrue (is_utf8 bytes.now) → Tells result (Ok ts) }
+    // Where a text is refused as unsupported, one of the constructs stands on that line.
+    ensures unsupported { (line : ℕ) → result ≡ Err (TermFault.Unsupported line) → HasConstruct line bytes.now }
+{
+    if !is_text(bytes) {
+        return Err(TermFault::NotUtf8);
+    }
+    match terms_of_text(alloc, skip_blank(bytes)) {
+        Ok(items) => Ok(Terms::of(items)),
+        Err(error) => Err(fault_of(bytes, error)),
+    }
+}

@@ -1,0 +1,5 @@
+pub mod Arming
+pub mod Cancelling
+pub mod Finding
+mod Rows
+pub mod Room
