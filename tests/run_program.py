@@ -71,7 +71,7 @@ def command_lines(program):
     """What a newcomer reads: help and version go to standard error, with status 1."""
     for words, texts in [
             (["--help"], [b"rehearse", b"run", b"Exit status"]),
-            (["run", "--help"], [b"--pick", b"boot N", b"crash N", b"undo", b"redo", b"undo_all", b"redo_all", b"show"]),
+            (["run", "--help"], [b"--pick", b"boot N", b"crash N", b"tick D", b"undo", b"redo", b"undo_all", b"redo_all", b"show"]),
             (["check", "--help"], [b"{node, Name, SysConfig}", b"{application, Name, Keys}", b"cluster refused"]),
             (["--version"], [b"rehearse 0.1.0"])]:
         done = run(program, words, input=b"")
@@ -165,6 +165,7 @@ def refused_memory(program):
     """Each allocation of whole runs refused in turn: the whole text, or status 5 and a front of it."""
     row = os.path.join(HERE, "rows", "bare-nodes", "two-bare-nodes")
     cluster = os.path.join(TOP, "examples", "three-nodes.txt")
+    timed = os.path.join("examples", "waiting-nodes.txt")
     with tempfile.TemporaryDirectory() as folder:
         code, library, counted = (os.path.join(folder, name) for name in ("refusing.c", "refusing.so", "count"))
         with open(code, "w") as file:
@@ -175,6 +176,7 @@ def refused_memory(program):
             return
         for words, source, want in [
                 (["run"], read(row + ".in"), read(row + ".out")),
+                (["run"], read(os.path.join(TOP, timed)), read(os.path.join(HERE, timed + ".out"))),
                 (["check"], read(cluster), b"ok 3 nodes 1 applications\n")]:
             count, wrong = refusals(program, library, counted, words, source, want)
             yield f"{words[0]}: each of {count} allocations refused in turn", wrong

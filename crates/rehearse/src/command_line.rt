@@ -3,7 +3,7 @@
 use clap::builder::ValueParser;
 use clap::error::ErrorKind;
 use clap::{Arg, ArgAction, Command, Error};
-use rh_trail::Pick;
+use rh_step::Pick;
 use std::alloc::Global;
 
 // The choices at a tie.
@@ -38,12 +38,14 @@ ends it. Each line behind it is a command, is blank, or begins with `#`:
 
   boot N     starts node N
   crash N    ends node N without a warning
+  tick D     lets D milliseconds pass: timers that are due fire, in order
   undo       takes the last step back
   redo       makes the next step again
   undo_all   takes all steps back, and tells how many
   redo_all   makes all steps again, and tells how many
-  show       shows the time in milliseconds, and each node with its mode
-             (down, waiting, up) and how often it was started
+  show       shows the time in milliseconds, each node with its mode (down,
+             waiting, up) and how often it was started, and each timer that
+             is set with the time at which it is due
 
 A step is answered by `ok` and by what follows from it, one line each, or by
 `refused` and the reason; a refused step changes nothing. The first line that is

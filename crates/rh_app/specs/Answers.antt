@@ -2,14 +2,14 @@
 use Rattle.std.specs.Prelude.{ℕ, List, ◌++◌, codes}
 use Rattle.std.specs.List.{flat_map}
 use Rattle.std.specs.Fmt.{decimal}
-use Rattle.rh_cluster.specs.ClusterView.{ClusterView, name_of}
-use Rattle.rh_cluster.specs.FaultWords.{fault_words}
-use Rattle.rh_cluster.specs.declared.fault.ClusterFault.{ClusterFault}
-use Rattle.rh_trail.specs.declared.event.Notice.{Notice}
-use Rattle.rh_trail.specs.declared.event.Notice.TheVariants.{Up, Ended}
+use Rattle.rh_parts.specs.ClusterView.{ClusterView, name_of}
+use Rattle.rh_sections.specs.FaultWords.{fault_words}
+use Rattle.rh_sections.specs.declared.fault.ClusterFault.{ClusterFault}
+use Rattle.rh_step.specs.declared.event.Notice.{Notice}
+use Rattle.rh_step.specs.declared.event.Notice.TheVariants.{Up, Ended}
 use Rattle.rh_trail.specs.declared.call.Reply.{Reply}
 use Rattle.rh_trail.specs.declared.call.Reply.TheVariants as reply
-use Rattle.rh_trail.specs.Refusals.{refusal_words}
+use Rattle.rh_step.specs.Refusals.{refusal_words}
 
 unfoldable pub notice_line : ClusterView → Notice → List ℕ
 notice_line c (Up n) = codes "up " ++ name_of c n ++ codes "\n"

@@ -1,10 +1,12 @@
 -- What a line of a script asks (ours).
-use Rattle.std.specs.Prelude.{ℕ, List, [], ◌∷◌, length, filter, Bool, false, not, ◌==◌, if◌then◌else◌, codes, unwrap_or}
-use Rattle.std.specs.List.{slice_split}
+use Rattle.std.specs.Prelude.{ℕ, ◌^◌, ◌&&◌, ◌==◌, List, [], ◌∷◌, length, filter, Bool, false, not, nat_lt, if◌then◌else◌, codes, Option, Some, None, unwrap_or}
+use Rattle.std.specs.List.{slice_split, list_all}
+use Rattle.std.specs.Char.{digit_value}
 use Rattle.std.specs.Str.{bytes_eq, is_utf8}
-use Rattle.rh_cluster.specs.ClusterView.{ClusterView, node_of, numbered}
-use Rattle.rh_cluster.specs.declared.node.Node.{Node}
-use Rattle.rh_trail.specs.declared.event.Event.TheVariants.{Boot, Crash}
+use Rattle.std.specs.Str.Parse.{digits_value}
+use Rattle.rh_parts.specs.ClusterView.{ClusterView, node_of, numbered}
+use Rattle.rh_parts.specs.declared.node.Node.{Node}
+use Rattle.rh_step.specs.declared.event.Event.TheVariants.{Boot, Crash, Tick}
 use Rattle.rh_trail.specs.declared.call.Call.TheVariants as call
 use Rattle.rh_app.specs.declared.script.Line.{Line}
 use Rattle.rh_app.specs.declared.script.Line.TheVariants.{Nothing, Asks, Bad}
@@ -26,21 +28,34 @@ plain_command word =
     else if bytes_eq word (codes "show") then Asks call.Look
     else Bad
 
-abbrev pub node_command : ClusterView → List ℕ → List ℕ → Line
-node_command c word name =
+abbrev pub begins_with : ℕ → List ℕ → Bool
+begins_with b [] = false
+begins_with b (c ∷ bytes) = c == b
+
+-- one decimal digit or more, and nothing else
+abbrev pub is_numeral : List ℕ → Bool
+is_numeral word = not (length word == 0) && list_all (λ b. nat_lt (digit_value b) 10) word
+
+-- a number of milliseconds, within 64 bits
+unfoldable pub milliseconds : List ℕ → Option ℕ
+milliseconds word = if is_numeral word && nat_lt (digits_value 10 word) (2 ^ 64) then Some (digits_value 10 word) else None
+
+abbrev pub tick_command : Option ℕ → Line
+tick_command None = Bad
+tick_command (Some ms) = Asks (call.Step (Tick ms))
+
+abbrev pub two_word_command : ClusterView → List ℕ → List ℕ → Line
+two_word_command c word name =
     if bytes_eq word (codes "boot") then Asks (call.Step (Boot (named c name)))
     else if bytes_eq word (codes "crash") then Asks (call.Step (Crash (named c name)))
+    else if bytes_eq word (codes "tick") then tick_command (milliseconds name)
     else Bad
 
 abbrev pub command_of : ClusterView → List (List ℕ) → Line
 command_of c [] = Nothing
 command_of c (word ∷ []) = plain_command word
-command_of c (word ∷ name ∷ []) = node_command c word name
+command_of c (word ∷ name ∷ []) = two_word_command c word name
 command_of c (word ∷ name ∷ other ∷ more) = Bad
-
-abbrev pub begins_with : ℕ → List ℕ → Bool
-begins_with b [] = false
-begins_with b (c ∷ bytes) = c == b
 
 unfoldable pub line_of : ClusterView → List ℕ → Line
 line_of c line =

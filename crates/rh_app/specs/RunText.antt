@@ -2,10 +2,10 @@
 use Rattle.std.specs.Prelude.{◌≡◌, ℕ, ◌+◌, List, [], ◌∷◌, ◌++◌, map, Bool, true, false, Option, Some, None, Result, Ok, Err, if◌then◌else◌, codes}
 use Rattle.std.specs.List.{flat_map}
 use Rattle.std.specs.Io.KnownBytes.{Appends}
-use Rattle.rh_cluster.specs.ClusterView.{ClusterView}
+use Rattle.rh_parts.specs.ClusterView.{ClusterView}
 use Rattle.rh_cluster.specs.ClusterOf.{cluster_of}
-use Rattle.rh_cluster.specs.declared.fault.ClusterFault.{ClusterFault}
-use Rattle.rh_trail.specs.declared.event.Pick.{Pick}
+use Rattle.rh_sections.specs.declared.fault.ClusterFault.{ClusterFault}
+use Rattle.rh_step.specs.declared.event.Pick.{Pick}
 use Rattle.rh_trail.specs.declared.call.Call.{Call}
 use Rattle.rh_trail.specs.SimView.{SimView}
 use Rattle.rh_trail.specs.Simulated.{is_simulated}

@@ -3,12 +3,13 @@
 ghost use Rattle.std.specs.Prelude.{◌≡◌, ◌++◌, OnOk, IfOk};
 ghost use Rattle.std.specs.List.{flat_map};
 ghost use Rattle.std.specs.String.{string_bytes};
-ghost use Rattle.rh_cluster.specs.ClusterView.{name_of};
+ghost use Rattle.rh_parts.specs.ClusterView.{name_of};
 ghost use Rattle.rh_app.specs.Answers.{notice_line, answer_text, fault_text, bad_text};
 
 use rh_cluster::{Cluster, ClusterFault, Node};
+use rh_step::Notice;
 use rh_terms::OutOfMemory;
-use rh_trail::{Notice, Reply};
+use rh_trail::Reply;
 use std::alloc::Global;
 
 // The name of a node, or nothing for a number that no node has.

@@ -19,8 +19,9 @@ use crate::lines::{content, cut, split_line};
 use crate::script::{Line, line_of};
 use crate::watched::Watched;
 use rh_cluster::{Cluster, ClusterFault, read_cluster};
+use rh_step::Pick;
 use rh_terms::OutOfMemory;
-use rh_trail::{Call, Pick, Reply, Sim, simulated};
+use rh_trail::{Call, Reply, Sim, simulated};
 use std::alloc::Global;
 use std::io::{Read, Write};
 

@@ -1,15 +1,15 @@
 -- Groups and nodes, one after the other.
-use Rattle.std.proofs.Common.{◌≡◌, ℕ, suc, ◌+◌, ◌-◌, ◌<◌, ◌&&◌, List, [], ◌∷◌, Bool, true, false, cond, length, Some, drop, get_or, ◌++◌, ◌≤◌, refl, sym, ap, ◌∙◌, arith}
+use Rattle.std.proofs.Common.{◌≡◌, ℕ, suc, ◌+◌, ◌-◌, ◌<◌, ◌&&◌, List, [], ◌∷◌, Bool, true, false, cond, length, Some, drop, get_or, ◌++◌, refl, sym, ap, ◌∙◌, arith}
 use Rattle.std.specs.List.{range_with_len}
 use Rattle.std.proofs.lemmas.List.{drop_more}
 use Rattle.std.specs.Prelude.{flat_map}
-use Rattle.rh_cluster.specs.declared.fault.ClusterFault.{ClusterFault}
-use Rattle.rh_cluster.specs.Faults.{first}
-use Rattle.rh_cluster.proofs.InTurn.{first-append}
-use Rattle.rh_cluster.specs.declared.node.Node.{Node}
+use Rattle.rh_sections.specs.declared.fault.ClusterFault.{ClusterFault}
+use Rattle.rh_sections.specs.Faults.{first}
+use Rattle.rh_sections.proofs.InTurn.{first-append}
+use Rattle.rh_parts.specs.declared.node.Node.{Node}
 use Rattle.rh_cluster.specs.declared.shares.Share.{Share}
 use Rattle.rh_cluster.specs.Agreement.{same_group, same_groups, is_involved, first_involved_in, first_involved, mismatch_faults, mismatches, mismatches_with, numbers_below}
-use Rattle.rh_cluster.specs.ClusterView.{NodeView}
+use Rattle.rh_parts.specs.ClusterView.{NodeView}
 
 and_false : (b c : Bool) → false ≡ c → false ≡ (b && c)
 and_false true c h = h

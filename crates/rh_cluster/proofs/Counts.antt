@@ -1,9 +1,10 @@
 -- There is a part for each name.
-use Rattle.std.proofs.Common.{◌≡◌, ℕ, List, length, map, sym, ◌∙◌}
+use Rattle.std.proofs.Common.{◌≡◌, ℕ, List, length, sym, ◌∙◌}
 use Rattle.std.proofs.lemmas.List.{length-map}
 use Rattle.rh_terms.specs.Tree.{Tree}
 use Rattle.rh_cluster.specs.declared.shares.Share.{Share}
-use Rattle.rh_cluster.specs.Names.{KnownNames, nodes_in, apps_in, node_names, app_names}
+use Rattle.rh_parts.specs.Names.{KnownNames}
+use Rattle.rh_cluster.specs.Headers.{nodes_in, apps_in, node_names, app_names}
 use Rattle.rh_cluster.specs.Values.{node_view, shares_in, app_view}
 use Rattle.rh_cluster.specs.ClusterOf.{names_of, node_views, all_shares, app_views}
 

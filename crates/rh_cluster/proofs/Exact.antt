@@ -1,16 +1,16 @@
 -- From the faults and the value of a list of terms to what the definition says of the text.
 use Rattle.std.proofs.Common.{◌≡◌, ◌≢◌, ℕ, List, [], ◌∷◌, Result, Ok, Err, Some, refl, sym, ap, ◌∙◌}
 use Rattle.std.specs.Prelude.{IfOk}
-use Rattle.rh_terms.specs.Tree.{Tree, Trees, trees_from, list_of_trees}
+use Rattle.rh_terms.specs.Tree.{Tree, trees_from}
 use Rattle.rh_terms.specs.Grammar.{terms_of, FaultIs}
 use Rattle.rh_terms.specs.declared.fault.TermFault.{TermFault}
 use Rattle.rh_terms.specs.declared.fault.TermFault.TheVariants as terms
-use Rattle.rh_cluster.specs.declared.fault.ClusterFault.{ClusterFault}
-use Rattle.rh_cluster.specs.declared.fault.ClusterFault.TheVariants as fault
-use Rattle.rh_cluster.specs.ClusterView.{ClusterView}
-use Rattle.rh_cluster.specs.Faults.{Finds, Gives, first, unless}
+use Rattle.rh_sections.specs.declared.fault.ClusterFault.{ClusterFault}
+use Rattle.rh_sections.specs.declared.fault.ClusterFault.TheVariants as fault
+use Rattle.rh_parts.specs.ClusterView.{ClusterView}
+use Rattle.rh_sections.specs.Faults.{Finds, Gives, first, unless}
 use Rattle.rh_cluster.specs.ClusterOf.{faults_in, cluster_view, cluster_in, cluster_of}
-use Rattle.rh_cluster.proofs.Trees.{list_of_trees-trees_from}
+use Rattle.rh_sections.proofs.Trees.{list_of_trees-trees_from}
 
 unless_err : {A : Type 0} (fs : List ClusterFault) (v : A) (f : ClusterFault) → first fs ≡ Some f → unless fs v ≡ Err f
 unless_err [] v f h = cc

@@ -1,5 +1,5 @@
 -- The name of one term.
-use Rattle.std.proofs.Common.{◌≡◌, ℕ, Bool, true, false, cond, List, [], ◌∷◌, ◌++◌, length, map, Option, Some, None, Result, Ok, Err, codes, refl, sym, ap, ◌∙◌, subst}
+use Rattle.std.proofs.Common.{◌≡◌, ℕ, Bool, true, false, cond, List, [], ◌∷◌, ◌++◌, map, Option, Some, None, Result, Ok, Err, codes, refl, ap, ◌∙◌}
 use Rattle.std.specs.List.{filter_map, cons_option}
 use Rattle.std.specs.Prelude.{OnOk}
 use Rattle.std.specs.Str.{bytes_eq}
@@ -7,8 +7,8 @@ use Rattle.std.proofs.lemmas.Slice.Eq.{bytes_eq-Decides}
 use Rattle.std.proofs.lemmas.List.{map-append}
 use Rattle.std.proofs.lemmas.List.Elements.{filter_map-append}
 use Rattle.rh_terms.specs.Tree.{Tree}
-use Rattle.rh_cluster.specs.Shapes.{as_node, as_app, as_headed, as_triple, as_atom, ◌>>=◌}
-use Rattle.rh_cluster.specs.Names.{node_names, app_names}
+use Rattle.rh_sections.specs.Shapes.{as_node, as_app, as_headed, as_triple, as_atom, ◌>>=◌}
+use Rattle.rh_cluster.specs.Headers.{node_names, app_names}
 
 pub on_ok : {A E : Type 0} {P : Type 0} (r : Result A E) → P → OnOk r P
 on_ok (Ok x) p = p

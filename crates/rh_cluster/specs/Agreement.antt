@@ -1,19 +1,18 @@
 -- The fourth pass: what the nodes must agree on (kernel(6), `distributed` and `sync_nodes_timeout`).
-use Rattle.std.specs.Prelude.{ℕ, List, [], ◌∷◌, ◌++◌, length, map, filter_map, flat_map, Bool, true, false, not, ◌&&◌, ◌||◌, ◌==◌, slice_get, Option, Some, None, unwrap_or, if◌then◌else◌}
+use Rattle.std.specs.Prelude.{ℕ, List, [], ◌∷◌, ◌++◌, length, flat_map, Bool, true, false, not, ◌&&◌, ◌||◌, ◌==◌, slice_get, Option, Some, None, unwrap_or, if◌then◌else◌}
 use Rattle.std.specs.List.{list_any, list_all, range_with_len}
 use Rattle.std.specs.Option.{option_map}
-use Rattle.rh_terms.specs.Tree.{Tree}
-use Rattle.rh_cluster.specs.declared.fault.ClusterFault.{ClusterFault}
-use Rattle.rh_cluster.specs.declared.fault.ClusterFault.TheVariants as fault
-use Rattle.rh_cluster.specs.declared.node.Node.{Node}
-use Rattle.rh_cluster.specs.declared.node.App.{App}
-use Rattle.rh_cluster.specs.declared.parts.Restart.{Restart}
-use Rattle.rh_cluster.specs.declared.parts.Spread.{Spread}
-use Rattle.rh_cluster.specs.declared.parts.SyncWait.{SyncWait}
-use Rattle.rh_cluster.specs.declared.parts.SyncWait.TheVariants.{Unset, After, Forever}
+use Rattle.rh_sections.specs.declared.fault.ClusterFault.{ClusterFault}
+use Rattle.rh_sections.specs.declared.fault.ClusterFault.TheVariants as fault
+use Rattle.rh_parts.specs.declared.node.Node.{Node}
+use Rattle.rh_parts.specs.declared.node.App.{App}
+use Rattle.rh_parts.specs.declared.parts.Restart.{Restart}
+use Rattle.rh_parts.specs.declared.parts.Spread.{Spread}
+use Rattle.rh_parts.specs.declared.parts.SyncWait.{SyncWait}
+use Rattle.rh_parts.specs.declared.parts.SyncWait.TheVariants.{Unset, After, Forever}
 use Rattle.rh_cluster.specs.declared.shares.Share.{Share}
-use Rattle.rh_cluster.specs.ClusterView.{NodeView, numbered, is_in}
-use Rattle.rh_cluster.specs.Faults.{when}
+use Rattle.rh_parts.specs.ClusterView.{NodeView, numbered, is_in}
+use Rattle.rh_sections.specs.Faults.{when}
 use Rattle.rh_cluster.specs.Values.{spread_for}
 
 -- ---- equal `distributed`

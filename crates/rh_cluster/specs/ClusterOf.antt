@@ -1,15 +1,16 @@
 -- The cluster that a text describes, or its first fault.
-use Rattle.std.specs.Prelude.{ℕ, List, [], ◌∷◌, ◌++◌, map, Result, Ok, Err}
+use Rattle.std.specs.Prelude.{ℕ, List, ◌++◌, map, Result, Ok, Err}
 use Rattle.rh_terms.specs.Tree.{Tree, Trees, list_of_trees}
 use Rattle.rh_terms.specs.Grammar.{terms_of}
 use Rattle.rh_terms.specs.declared.fault.TermFault.{TermFault}
-use Rattle.rh_cluster.specs.declared.fault.ClusterFault.{ClusterFault}
-use Rattle.rh_cluster.specs.declared.fault.ClusterFault.TheVariants as fault
+use Rattle.rh_sections.specs.declared.fault.ClusterFault.{ClusterFault}
+use Rattle.rh_sections.specs.declared.fault.ClusterFault.TheVariants as fault
 use Rattle.rh_cluster.specs.declared.shares.Share.{Share}
-use Rattle.rh_cluster.specs.ClusterView.{ClusterView, NodeView, AppView}
-use Rattle.rh_cluster.specs.Faults.{unless}
-use Rattle.rh_cluster.specs.Names.{KnownNames, nodes_in, apps_in, node_names, app_names, headers_pass}
-use Rattle.rh_cluster.specs.Parts.{parts_pass}
+use Rattle.rh_parts.specs.ClusterView.{ClusterView, NodeView, AppView}
+use Rattle.rh_sections.specs.Faults.{unless}
+use Rattle.rh_parts.specs.Names.{KnownNames}
+use Rattle.rh_cluster.specs.Headers.{nodes_in, apps_in, node_names, app_names, headers_pass}
+use Rattle.rh_sections.specs.Parts.{parts_pass}
 use Rattle.rh_cluster.specs.Values.{platforms_in, node_view, shares_in, app_view}
 use Rattle.rh_cluster.specs.Agreement.{agreed_shares, agreement_pass}
 

@@ -1,11 +1,8 @@
-pub mod TermWords
-pub mod ClusterView
-pub mod Shapes
-pub mod Faults
-pub mod Names
-pub mod Parts
+pub mod Headers
 pub mod Values
 pub mod Agreement
 pub mod ClusterOf
-pub mod TermMemory
-pub mod FaultWords
+pub use Rattle.rh_parts.specs.ClusterView
+pub use Rattle.rh_parts.specs.TermWords
+pub use Rattle.rh_sections.specs.Faults
+pub use Rattle.rh_sections.specs.FaultWords

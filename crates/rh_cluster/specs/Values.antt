@@ -4,21 +4,22 @@ use Rattle.std.specs.List.{list_any, list_all}
 use Rattle.std.specs.Option.{option_map, option_or}
 use Rattle.std.specs.Str.{bytes_eq}
 use Rattle.rh_terms.specs.Tree.{Tree}
-use Rattle.rh_cluster.specs.declared.node.Node.{Node}
-use Rattle.rh_cluster.specs.declared.node.App.{App}
-use Rattle.rh_cluster.specs.declared.parts.Dep.{Dep}
-use Rattle.rh_cluster.specs.declared.parts.Dep.TheVariants.{Listed, Platform}
-use Rattle.rh_cluster.specs.declared.parts.Restart.{Restart}
-use Rattle.rh_cluster.specs.declared.parts.SyncWait.{SyncWait}
-use Rattle.rh_cluster.specs.declared.parts.SyncWait.TheVariants.{Unset}
-use Rattle.rh_cluster.specs.declared.parts.Spread.{Spread}
-use Rattle.rh_cluster.specs.declared.platforms.Platforms.{Platforms}
+use Rattle.rh_parts.specs.declared.node.Node.{Node}
+use Rattle.rh_parts.specs.declared.node.App.{App}
+use Rattle.rh_parts.specs.declared.parts.Dep.{Dep}
+use Rattle.rh_parts.specs.declared.parts.Dep.TheVariants.{Listed, Platform}
+use Rattle.rh_parts.specs.declared.parts.Restart.{Restart}
+use Rattle.rh_parts.specs.declared.parts.SyncWait.{SyncWait}
+use Rattle.rh_parts.specs.declared.parts.SyncWait.TheVariants.{Unset}
+use Rattle.rh_parts.specs.declared.parts.Spread.{Spread}
+use Rattle.rh_parts.specs.declared.platforms.Platforms.{Platforms}
 use Rattle.rh_cluster.specs.declared.shares.Share.{Share}
-use Rattle.rh_cluster.specs.Shapes.{as_atom, as_list, as_pair, as_entry, as_node, as_time, atoms, ◌>>=◌}
-use Rattle.rh_cluster.specs.Names.{is_among, every_platform, KnownNames}
-use Rattle.rh_cluster.specs.ClusterView.{NodeView, AppView, numbered, app_numbered}
-use Rattle.rh_cluster.specs.TermWords.{TermWord, words_of}
-use Rattle.rh_cluster.specs.Parts.{as_sync_wait, as_truth, as_restart, as_share, members, atom_is}
+use Rattle.rh_sections.specs.Shapes.{as_atom, as_list, as_pair, as_entry, as_node, as_time, atoms, ◌>>=◌}
+use Rattle.rh_parts.specs.Names.{is_among, KnownNames}
+use Rattle.rh_cluster.specs.Headers.{every_platform}
+use Rattle.rh_parts.specs.ClusterView.{NodeView, AppView, numbered, app_numbered}
+use Rattle.rh_parts.specs.TermWords.{TermWord, words_of}
+use Rattle.rh_sections.specs.Parts.{as_sync_wait, as_truth, as_restart, as_share, members, atom_is}
 
 -- ---- entries
 

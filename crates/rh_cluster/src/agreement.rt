@@ -3,32 +3,16 @@
 ghost use Rattle.std.specs.Prelude.{◌≡◌, ◌<◌, ◌≤◌, map, flat_map, length, slice_get, Some, IfOk};
 ghost use Rattle.std.specs.List.{list_any, list_all};
 ghost use Rattle.std.specs.Option.{option_map};
-ghost use Rattle.rh_cluster.specs.ClusterView.{is_in, numbered};
-ghost use Rattle.rh_cluster.specs.Faults.{Finds};
+ghost use Rattle.rh_parts.specs.ClusterView.{is_in, numbered};
+ghost use Rattle.rh_sections.specs.Faults.{Finds};
 ghost use Rattle.rh_cluster.specs.Values.{spread_for};
 ghost use Rattle.rh_cluster.specs.Agreement.{same_group, same_groups, same_share, same_shares, same_wait, shares_at, wait_at, lists_node, names_node, is_involved, first_involved, agreed_shares, agree, mismatch_faults, mismatches, boot_entry_faults, boot_list_faults, boot_at, agreement_pass, numbers_below};
 
-use crate::fault::ClusterFault;
-use crate::groups::Group;
-use crate::names::NameSet;
-use crate::node::{App, Node};
-use crate::node_parts::NodeParts;
-use crate::parts::{Restart, Spread, SyncWait};
 use crate::shares::{Share, Shares};
+use rh_parts::{App, Group, NameSet, Node, NodeParts, Restart, Spread, SyncWait, is_in};
+use rh_sections::ClusterFault;
 use rh_terms::{OutOfMemory, Str};
 use std::alloc::Global;
-
-/// Is the node in the group?
-pub fn is_in(node: Node, group: &[Node]) -> bool
-    ensures { result ≡ is_in node group.now }
-{
-    for other in group {
-        if node.0 == other.0 {
-            return true;
-        }
-    }
-    false
-}
 
 // Are all of these nodes in the other group?
 fn are_in(these: &[Node], those: &[Node]) -> bool

@@ -6,13 +6,10 @@ ghost use Rattle.rh_terms.specs.Tree.{tree_of};
 ghost use Rattle.rh_cluster.specs.Values.{dep_named, start_in, is_list_there, spread_named, app_view};
 
 use crate::agreement::spread_for;
-use crate::app_parts::{AppParts, copy_of_spread, copy_of_start};
-use crate::known::Names;
-use crate::node::App;
-use crate::parts::{Dep, Spread};
-use crate::shapes;
 use crate::shares::Share;
 use crate::values::{elements, elements_under, value_under};
+use rh_parts::{App, AppParts, Dep, Names, Spread, copy_of_spread, copy_of_start};
+use rh_sections::shapes;
 use rh_terms::{OutOfMemory, Term};
 use std::alloc::Global;
 

@@ -5,21 +5,17 @@ ghost use Rattle.std.specs.List.{list_any};
 ghost use Rattle.std.specs.Option.{option_map};
 ghost use Rattle.rh_terms.specs.Tree.{tree_of};
 ghost use Rattle.std.specs.Str.{bytes_eq};
-ghost use Rattle.rh_cluster.specs.Names.{is_among, every_platform};
-ghost use Rattle.rh_cluster.specs.Shapes.{as_atom, atoms};
-ghost use Rattle.rh_cluster.specs.Parts.{as_truth, atom_is};
+ghost use Rattle.rh_parts.specs.Limits.{IsWithinLimit};
+ghost use Rattle.rh_parts.specs.Names.{is_among};
+ghost use Rattle.rh_cluster.specs.Headers.{every_platform};
+ghost use Rattle.rh_sections.specs.Shapes.{as_atom, atoms};
+ghost use Rattle.rh_sections.specs.Parts.{as_truth, atom_is};
 ghost use Rattle.rh_cluster.specs.Values.{node_named, boot_entry, is_false, forbids, permissions_in, platforms_of, wait_in, node_view};
 
-use crate::entries::repeats_atom;
 use crate::headers::is_platform_everywhere;
-use crate::kernel::{sync_wait, truth};
-use crate::known::Names;
-use crate::node::{App, Node};
-use crate::node_parts::NodeParts;
-use crate::parts::{Restart, SyncWait};
-use crate::rehearse::restart;
-use crate::shapes;
 use crate::values::{app_named, elements, elements_under, node_named, value_under};
+use rh_parts::{App, Names, Node, NodeParts, Restart, SyncWait};
+use rh_sections::{repeats_atom, restart, shapes, sync_wait, truth};
 use rh_terms::{OutOfMemory, Term};
 use std::alloc::Global;
 
@@ -37,7 +33,8 @@ pub fn nodes_named(alloc: Global, names: &Names, terms: &[Term]) -> Result<Vec<N
 }
 
 fn wait_in(value: Option<&Term>) -> SyncWait
-    ensures { result ≡ wait_in (option_map (λ t. tree_of t.now) value.entry) }
+    ensures wait { result ≡ wait_in (option_map (λ t. tree_of t.now) value.entry) }
+    ensures limit { IsWithinLimit result }
 {
     match value {
         Some(term) => match sync_wait(term) {

@@ -6,14 +6,10 @@ ghost use Rattle.rh_terms.specs.Tree.{tree_of};
 ghost use Rattle.rh_cluster.specs.Values.{time_or_zero, group_in, elements, share_of, shares_in};
 
 use crate::building_nodes::nodes_named;
-use crate::descriptions::members;
-use crate::groups::{Group, Groups};
-use crate::kernel::share;
-use crate::known::Names;
-use crate::parts::Spread;
-use crate::shapes;
 use crate::shares::{Share, Shares};
 use crate::values::{app_named, elements, elements_under};
+use rh_parts::{Group, Groups, Names, Spread};
+use rh_sections::{members, shapes, share};
 use rh_terms::{OutOfMemory, Term};
 use std::alloc::Global;
 

@@ -3,14 +3,13 @@
 ghost use Rattle.std.specs.Prelude.{◌≡◌, ◌≤◌, ◌∷◌, [], map, flat_map, fold, length, is_some, OnOk, IfOk};
 ghost use Rattle.std.specs.List.{list_all};
 ghost use Rattle.rh_terms.specs.Tree.{tree_of};
-ghost use Rattle.rh_cluster.specs.Names.{every_platform};
-ghost use Rattle.rh_cluster.specs.Shapes.{as_atom, atoms};
+ghost use Rattle.rh_cluster.specs.Headers.{every_platform};
+ghost use Rattle.rh_sections.specs.Shapes.{as_atom, atoms};
 ghost use Rattle.rh_cluster.specs.Values.{with_name, with_first_name, with_platforms, platform_in_entry, platform_in_section, platform_in_term, platforms_in, elements};
 
-use crate::names::NameSet;
-use crate::platforms::Platforms;
-use crate::shapes;
 use crate::values::{elements, value_if};
+use rh_parts::{NameSet, Platforms};
+use rh_sections::shapes;
 use rh_terms::{OutOfMemory, Term};
 use std::alloc::Global;
 

@@ -1,37 +1,15 @@
 //! The second pass: the shape and the name of each term.
 
 ghost use Rattle.std.specs.Prelude.{◌≡◌, ◌<◌, ◌≤◌, ℕ, [], ◌∷◌, ◌++◌, map, length, IfOk, OnOk};
-ghost use Rattle.std.specs.List.{list_all};
 ghost use Rattle.rh_terms.specs.Tree.{tree_of};
-ghost use Rattle.rh_cluster.specs.Faults.{Finds};
-ghost use Rattle.rh_cluster.specs.Names.{is_name_byte, is_name, is_among, every_platform, new_name_faults, header_faults, headers_pass, node_names, app_names};
+ghost use Rattle.rh_sections.specs.Faults.{Finds};
+ghost use Rattle.rh_parts.specs.Names.{is_among};
+ghost use Rattle.rh_cluster.specs.Headers.{every_platform, new_name_faults, header_faults, headers_pass, node_names, app_names};
 
-use crate::fault::ClusterFault;
-use crate::names::NameSet;
-use crate::shapes;
+use rh_parts::NameSet;
+use rh_sections::{ClusterFault, is_name, shapes};
 use rh_terms::Term;
 use std::alloc::Global;
-
-fn is_name_byte(byte: u8) -> bool
-    ensures { result ≡ is_name_byte byte }
-{
-    b' ' < byte && byte != 0x7f
-}
-
-fn are_name_bytes(bytes: &[u8]) -> bool
-    ensures { result ≡ list_all is_name_byte bytes.now }
-{
-    bytes.iter().all(|byte| is_name_byte(*byte))
-}
-
-/// Does it follow the rule of names?
-#[tactic(auto, unfolding(crate::specs::Names::is_name))]
-pub fn is_name(name: &str) -> bool
-    ensures { result ≡ is_name name.now }
-{
-    let bytes = name.as_bytes();
-    1 <= bytes.len() && bytes.len() <= 255 && are_name_bytes(bytes)
-}
 
 /// Is it a platform name of every node?
 pub fn is_platform_everywhere(name: &str) -> bool
@@ -41,7 +19,7 @@ pub fn is_platform_everywhere(name: &str) -> bool
 }
 
 // Adds the name of a term behind the earlier ones of its kind.
-#[tactic(auto, unfolding(crate::specs::Names::new_name_faults))]
+#[tactic(auto, unfolding(crate::specs::Headers::new_name_faults))]
 fn add_name(
     alloc: Global,
     most: usize,
@@ -67,7 +45,7 @@ fn add_name(
 }
 
 // Adds the name of a term to the nodes or to the applications.
-#[tactic(auto, unfolding(crate::specs::Names::header_faults))]
+#[tactic(auto, unfolding(crate::specs::Headers::header_faults))]
 fn add_header(
     alloc: Global,
     nodes: &mut NameSet,
@@ -90,7 +68,7 @@ fn add_header(
 }
 
 /// The names of the nodes and of the applications.
-#[tactic(auto, unfolding(crate::specs::Names::headers_pass))]
+#[tactic(auto, unfolding(crate::specs::Headers::headers_pass))]
 pub fn headers(alloc: Global, terms: &[Term]) -> Result<(NameSet, NameSet), ClusterFault>
     ensures faults { Finds result (headers_pass (map tree_of terms.now)) }
     ensures nodes { IfOk result (λ names. names.0 ≡ node_names (map tree_of terms.now)) }

@@ -1,7 +1,6 @@
 //! The entries of `distributed`.
 
-use crate::node::App;
-use crate::parts::Spread;
+use rh_parts::{App, Spread};
 use std::marker::Model;
 
 /// An entry of a node's `distributed`: an application, and where it may run.

@@ -3,12 +3,11 @@
 ghost use Rattle.std.specs.Prelude.{◌≡◌, map};
 ghost use Rattle.std.specs.Option.{option_map};
 ghost use Rattle.rh_terms.specs.Tree.{tree_of};
-ghost use Rattle.rh_cluster.specs.Names.{KnownNames};
+ghost use Rattle.rh_parts.specs.Names.{KnownNames};
 ghost use Rattle.rh_cluster.specs.Values.{elements, value_if, value_under, elements_under, node_named, app_named};
 
-use crate::known::Names;
-use crate::node::{App, Node};
-use crate::shapes;
+use rh_parts::{App, Names, Node};
+use rh_sections::shapes;
 use rh_terms::Term;
 
 /// The elements of a list; another term has none.

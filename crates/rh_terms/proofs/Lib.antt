@@ -1,3 +1,4 @@
+pub mod Quoted
 pub mod Joined
 pub mod Told
 pub mod Spelled

@@ -1,3 +1,4 @@
+pub mod Letters
 pub mod Bytes
 pub mod Tree
 pub mod Faults

@@ -17,6 +17,10 @@ escape b =
 abbrev pub with_byte : ℕ → Read (List ℕ) → Read (List ℕ)
 with_byte b read = read >>= λ x. Ok (b ∷ x.0, x.1)
 
+-- a byte between quotes that stands for itself
+abbrev pub is_plain : ℕ → ℕ → Bool
+is_plain quote b = not (b == quote) && not (b == 92)
+
 -- What the bytes up to the closing quote stand for, and what is behind the quote (Data Types, Atom and String); or the same directly behind a `\`.
 unfoldable pub quoted : Bool → ℕ → List ℕ → Read (List ℕ)
 quoted escaped quote [] = Err (Syntax 0)

@@ -68,6 +68,8 @@ impl Nest {
     }
 
     /// Puts a term in its place, closes what closes behind it, and gives the place of the next term.
+    // It is inlined, as `enter` and `step` are, since a call would pass each term through memory.
+    #[inline(always)]
     fn place<'a>(&mut self, term: Term, behind: &'a [u8]) -> Result<&'a [u8], ReadError>
         requires { IsUtf8 behind.now }
         ensures exact { MatchResult result
@@ -94,6 +96,7 @@ impl Nest {
     }
 
     /// Opens a list or a tuple, of which these bytes stand behind the opening one.
+    #[inline(always)]
     fn enter<'a>(
         &mut self,
         alloc: Global,
@@ -121,6 +124,7 @@ impl Nest {
     }
 
     /// Reads on from the place of a term to that of the next.
+    #[inline(always)]
     pub fn step<'a>(&mut self, alloc: Global, bytes: &'a [u8]) -> Result<&'a [u8], ReadError>
         requires text { IsUtf8 bytes.now }
         requires some { 0 < length bytes.now }

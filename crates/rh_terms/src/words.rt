@@ -3,14 +3,14 @@ ghost use Rattle.std.specs.List.{prefix_len};
 ghost use Rattle.std.specs.Str.{IsUtf8};
 ghost use Rattle.rh_terms.specs.Bytes.{is_digit, is_name};
 ghost use Rattle.rh_terms.specs.Faults.{Gives};
-ghost use Rattle.rh_terms.specs.Words.{escape, quoted, number, digits_at, integer_at, name_at, quoted_atom_at, text_at, is_other_number, signed, fits, IsAtMost};
+ghost use Rattle.rh_terms.specs.Words.{escape, is_plain, quoted, number, digits_at, integer_at, name_at, quoted_atom_at, text_at, is_other_number, signed, fits, IsAtMost};
 ghost use Rattle.rh_terms.specs.Grammar.{word_at};
 ghost use Rattle.rh_terms.specs.Tree.{tree_of};
 
-use crate::bytes::{is_digit_byte, is_lower_byte, is_name_byte, skip_blank, stuck_at};
+use crate::bytes::{begins_with, is_digit_byte, is_lower_byte, is_name_byte, skip_blank, stuck_at};
 use crate::fault::{Fault, ReadError};
 use crate::term::Term;
-use crate::text::text_of_bytes;
+use crate::text::{Str, text_of_bytes, text_of_vec};
 use std::alloc::Global;
 
 fn escaped(b: u8) -> Option<u8>
@@ -53,6 +53,37 @@ fn quoted_of(alloc: Global, quote: u8, bytes: &[u8]) -> Result<(Vec<u8>, &[u8]),
         }
     }
     Err(ReadError::Fault(Fault::Syntax(0)))
+}
+
+/// How many bytes stand for themselves: those before the first quote or `\\`.
+fn plain_len(quote: u8, bytes: &[u8]) -> usize
+    ensures { result ≡ prefix_len (is_plain quote) bytes.now }
+{
+    let mut rest = bytes;
+    let mut count = 0;
+    'bytes: while let [b, after @ ..] = rest {
+        if *b == quote || *b == b'\\' {
+            return count;
+        }
+        count += 1;
+        rest = after;
+    }
+    count
+}
+
+/// What `quoted_of` reads, copied in one step where it has no escapes.
+fn quoted_text_of(alloc: Global, quote: u8, bytes: &[u8]) -> Result<(Str, &[u8]), ReadError>
+    requires quote { quote < 128 }
+    requires text { IsUtf8 bytes.now }
+    ensures { Gives (λ x. (x.0, x.1.now)) result (quoted false quote bytes.now) }
+{
+    let count = plain_len(quote, bytes);
+    let (plain, rest) = bytes.split_at(count);
+    if begins_with(rest, quote) {
+        return Ok((text_of_bytes(alloc, plain)?, &rest[1..]));
+    }
+    let (content, after) = quoted_of(alloc, quote, bytes)?;
+    Ok((text_of_vec(content), after))
 }
 
 fn name_len(bytes: &[u8]) -> usize
@@ -183,10 +214,7 @@ fn name_of(alloc: Global, bytes: &[u8]) -> Result<(Term, &[u8]), ReadError>
 {
     let count = name_len(bytes);
     let (name, rest) = bytes.split_at(count);
-    Ok((
-        Term::Atom(text_of_bytes(Vec::from_slice(alloc, name)?)),
-        rest,
-    ))
+    Ok((Term::Atom(text_of_bytes(alloc, name)?), rest))
 }
 
 #[tactic(auto, unfolding(crate::specs::Words::quoted_atom_at))]
@@ -194,8 +222,8 @@ fn quoted_atom_of(alloc: Global, bytes: &[u8]) -> Result<(Term, &[u8]), ReadErro
     requires { IsUtf8 bytes.now }
     ensures { Gives (λ x. (tree_of x.0, x.1.now)) result (quoted_atom_at bytes.now) }
 {
-    let (content, rest) = quoted_of(alloc, b'\'', bytes)?;
-    Ok((Term::Atom(text_of_bytes(content)), rest))
+    let (name, rest) = quoted_text_of(alloc, b'\'', bytes)?;
+    Ok((Term::Atom(name), rest))
 }
 
 #[tactic(auto, unfolding(crate::specs::Words::text_at))]
@@ -203,12 +231,12 @@ fn text_of(alloc: Global, bytes: &[u8]) -> Result<(Term, &[u8]), ReadError>
     requires { IsUtf8 bytes.now }
     ensures { Gives (λ x. (tree_of x.0, x.1.now)) result (text_at bytes.now) }
 {
-    let (content, rest) = quoted_of(alloc, b'"', bytes)?;
+    let (text, rest) = quoted_text_of(alloc, b'"', bytes)?;
     let behind = skip_blank(rest);
     if let [b'"', ..] = behind {
         return Err(ReadError::Fault(Fault::Unsupported(behind.len())));
     }
-    Ok((Term::Text(text_of_bytes(content)), rest))
+    Ok((Term::Text(text), rest))
 }
 
 /// An atom, a text or an integer.

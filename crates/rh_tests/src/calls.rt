@@ -1,7 +1,8 @@
 //! Calls that the program doesn't make, with ample memory.
 
 use rh_cluster::{Cluster, read_cluster};
-use rh_trail::{Event, Pick, Sim, simulated};
+use rh_step::{Event, Pick};
+use rh_trail::{Sim, simulated};
 use std::alloc::Global;
 use std::process::Abort;
 

@@ -9,3 +9,5 @@ mod clusters;
 mod devices;
 #[cfg(test)]
 mod rehearsals;
+#[cfg(test)]
+mod states;

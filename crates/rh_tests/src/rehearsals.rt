@@ -2,7 +2,7 @@
 
 use crate::devices::{Failure, Sink, Source};
 use rh_app::{RunFault, Watched, run};
-use rh_trail::Pick;
+use rh_step::Pick;
 use std::alloc::Global;
 use std::io::{Read, Write};
 use std::test::Fail;

@@ -3,28 +3,37 @@ use Rattle.std.proofs.Common.{◌≡◌, ℕ, ◌+◌, ◌-◌, ◌<◌, ◌≤�
 use Rattle.std.proofs.lemmas.Bool.Decides.{nat_tests}
 use Rattle.std.proofs.lemmas.List.{length-take-le, take_all, take_at, length_push}
 use Rattle.std.proofs.lemmas.List.Sums.{fold_push}
-use Rattle.rh_trail.specs.declared.event.Event.{Event}
-use Rattle.rh_trail.specs.declared.event.Notice.{Notice}
-use Rattle.rh_trail.specs.declared.refusal.Refusal.{Refusal}
-use Rattle.rh_trail.specs.declared.refusal.Refusal.TheVariants.{TrailFull}
+use Rattle.rh_step.specs.declared.event.Event.{Event}
+use Rattle.rh_step.specs.declared.event.Notice.{Notice}
+use Rattle.rh_step.specs.declared.refusal.Refusal.{Refusal}
+use Rattle.rh_step.specs.declared.refusal.Refusal.TheVariants.{TrailFull}
 use Rattle.rh_trail.specs.declared.call.Call.{Call}
 use Rattle.rh_trail.specs.declared.call.Call.TheVariants as call
 use Rattle.rh_trail.specs.declared.call.Reply.{Reply}
 use Rattle.rh_trail.specs.declared.call.Reply.TheVariants as reply
-use Rattle.rh_trail.specs.StateView.{first}
-use Rattle.rh_trail.specs.Refusals.{refused}
-use Rattle.rh_trail.specs.Changes.{Course, course, next}
-use Rattle.rh_trail.specs.Allowed.{Allowed}
+use Rattle.rh_state.specs.First.{first}
+use Rattle.rh_step.specs.Refusals.{refused}
+use Rattle.rh_step.specs.Course.{Course, course}
+use Rattle.rh_step.specs.Outcomes.{next}
+use Rattle.rh_step.specs.Allowed.{Allowed}
 use Rattle.rh_trail.specs.Runs.{step, after}
 use Rattle.rh_trail.specs.SimView.{SimView, state_of}
 use Rattle.rh_trail.specs.Lone.{Served, answered, served, stepped, with_event, opened, sim_after}
 use Rattle.rh_trail.specs.Laws.{is_refusal, next_sim, Accepts, IsReversible, CallsAreReversible}
-use Rattle.rh_trail.proofs.Outcomes.{next_allowed}
+use Rattle.rh_step.specs.Validity.{IsValid}
+use Rattle.rh_step.proofs.Outcomes.{next_allowed}
+use Rattle.rh_step.proofs.ValidEvents.{next_valid}
+use Rattle.rh_trail.proofs.Histories.{opened_valid, each_state, state_last}
 
 -- the cursor stands in the trail, and the trail keeps its limit
 pub record IsSound (s : SimView) : Type 0 where
   pub within : s.cursor ≤ length s.trail
   pub limited : length s.trail ≤ 65535
+  pub valid : (k : ℕ) → k ≤ length s.trail → IsValid (after s.cluster s.pick (take k s.trail))
+
+-- so the state is one that a cluster reaches
+state_valid : (s : SimView) → IsSound s → IsValid (state_of s)
+state_valid s sound = sound.valid s.cursor sound.within
 
 abbrev done : SimView → Event → Served
 done s e = answered (reply.Done (next (state_of s) e s.pick).notices) (with_event s e)
@@ -35,36 +44,38 @@ full s = answered (reply.Refused TrailFull) s
 kept_front : (s : SimView) → s.cursor ≤ length s.trail → length (take s.cursor s.trail) ≡ s.cursor
 kept_front s within = length-take-le s.cursor s.trail within
 
-event_sound : (s : SimView) (e : Event) → IsSound s → (s.cursor == 65535) ≡ false → IsSound (with_event s e)
-event_sound s e sound room =
+event_sound : (s : SimView) (e : Event) → IsSound s → refused (state_of s) e ≡ None → (s.cursor == 65535) ≡ false → IsSound (with_event s e)
+unfolding step
+event_sound s e sound fine room =
     let below : s.cursor < 65535 = grind (arith, nat_tests, sound.within, sound.limited) in
     record {
       within = omega (arith, length_push (take s.cursor s.trail) e, kept_front s sound.within);
       limited = omega (arith, length_push (take s.cursor s.trail) e, kept_front s sound.within);
+      valid = each_state s.cluster s.pick s.trail s.cursor e sound.within IsValid sound.valid (next_valid (state_of s) e s.pick (state_valid s sound) fine);
     }
 
-step_sound : (s : SimView) (e : Event) (o : Option Refusal) → IsSound s → IsSound (stepped s e o).sim
-step_sound s e (Some r) sound = sound
-step_sound s e None sound = by (s.cursor == 65535) refl
+step_sound : (s : SimView) (e : Event) (o : Option Refusal) → refused (state_of s) e ≡ o → IsSound s → IsSound (stepped s e o).sim
+step_sound s e (Some r) fine sound = sound
+step_sound s e None fine sound = by (s.cursor == 65535) refl
   where
     by : (b : Bool) → (s.cursor == 65535) ≡ b → IsSound (cond b (full s) (done s e)).sim
     by true _ = sound
-    by false room = event_sound s e sound room
+    by false room = event_sound s e sound fine room
 
 call_sound : (s : SimView) (call : Call) → IsSound s → IsSound (served s call).sim
-call_sound s (call.Step e) sound = step_sound s e (refused (state_of s) e) sound
+call_sound s (call.Step e) sound = step_sound s e (refused (state_of s) e) refl sound
 call_sound s call.Undo sound = by (s.cursor == 0)
   where
     by : (b : Bool) → IsSound (cond b (answered reply.AtStart s) (answered reply.Undone (record s { cursor = s.cursor - 1 }))).sim
     by true = sound
-    by false = record { within = omega (arith, sound.within); limited = sound.limited }
+    by false = record { within = omega (arith, sound.within); limited = sound.limited; valid = sound.valid }
 call_sound s call.Redo sound = by (s.cursor == length s.trail) refl
   where
     by : (b : Bool) → (s.cursor == length s.trail) ≡ b → IsSound (cond b (answered reply.AtEnd s) (answered reply.Redone (record s { cursor = s.cursor + 1 }))).sim
     by true _ = sound
-    by false more = record { within = grind (arith, nat_tests, sound.within); limited = sound.limited }
-call_sound s call.UndoAll sound = record { within = omega arith; limited = sound.limited }
-call_sound s call.RedoAll sound = record { within = omega arith; limited = sound.limited }
+    by false more = record { within = grind (arith, nat_tests, sound.within); limited = sound.limited; valid = sound.valid }
+call_sound s call.UndoAll sound = record { within = omega arith; limited = sound.limited; valid = sound.valid }
+call_sound s call.RedoAll sound = record { within = omega arith; limited = sound.limited; valid = sound.valid }
 call_sound s call.Look sound = sound
 
 calls_sound : (s : SimView) (calls : List Call) → IsSound s → IsSound (sim_after s calls)
@@ -102,10 +113,7 @@ accepted s e ns is = by (refused (state_of s) e) refl is
 
 -- the state after one more event
 pub state_of-with_event : (s : SimView) (e : Event) → s.cursor ≤ length s.trail → state_of (with_event s e) ≡ step s.pick (state_of s) e
-state_of-with_event s e within =
-    ap (λ (es : List Event). after s.cluster s.pick es)
-    (take_all (s.cursor + 1) (take s.cursor s.trail ++ e ∷ []) (omega (arith, length_push (take s.cursor s.trail) e, kept_front s within)))
-    ∙ fold_push (step s.pick) (first s.cluster) (take s.cursor s.trail) e
+state_of-with_event s e within = state_last s.cluster s.pick s.trail s.cursor e within
 
 -- the simulation with another cursor
 abbrev at_cursor : SimView → ℕ → SimView
@@ -211,6 +219,7 @@ reversible : (s : SimView) → IsSound s → IsReversible s
 reversible s sound = record {
   within = sound.within;
   limited = sound.limited;
+  valid = state_valid s sound;
   allowed = λ e ns is. is_allowed s sound e ns is;
   undone = λ e ns is. is_undone_to s sound e ns is;
   redone = λ e ns is. is_redone_to s sound e ns is;
@@ -222,4 +231,4 @@ reversible s sound = record {
 }
 
 pub calls_reversible : CallsAreReversible
-calls_reversible c pick calls = reversible (sim_after (opened c pick) calls) (calls_sound (opened c pick) calls (record { within = omega arith; limited = omega arith }))
+calls_reversible c pick calls = reversible (sim_after (opened c pick) calls) (calls_sound (opened c pick) calls (record { within = omega arith; limited = omega arith; valid = λ k none. opened_valid c pick k }))

@@ -1,16 +1,17 @@
 -- What holds of a simulation after any list of calls (ours).
 use Rattle.std.specs.Prelude.{◌≡◌, ◌≤◌, List, length, Bool, true, false}
-use Rattle.rh_cluster.specs.ClusterView.{ClusterView}
-use Rattle.rh_trail.specs.declared.event.Event.{Event}
-use Rattle.rh_trail.specs.declared.event.Notice.{Notice}
-use Rattle.rh_trail.specs.declared.event.Pick.{Pick}
+use Rattle.rh_parts.specs.ClusterView.{ClusterView}
+use Rattle.rh_step.specs.declared.event.Event.{Event}
+use Rattle.rh_step.specs.declared.event.Notice.{Notice}
+use Rattle.rh_step.specs.declared.event.Pick.{Pick}
 use Rattle.rh_trail.specs.declared.call.Call.{Call}
 use Rattle.rh_trail.specs.declared.call.Call.TheVariants as call
 use Rattle.rh_trail.specs.declared.call.Reply.{Reply}
 use Rattle.rh_trail.specs.declared.call.Reply.TheVariants as reply
-use Rattle.rh_trail.specs.StateView.{first}
-use Rattle.rh_trail.specs.Changes.{course}
-use Rattle.rh_trail.specs.Allowed.{Allowed}
+use Rattle.rh_state.specs.First.{first}
+use Rattle.rh_step.specs.Course.{course}
+use Rattle.rh_step.specs.Allowed.{Allowed}
+use Rattle.rh_step.specs.Validity.{IsValid}
 use Rattle.rh_trail.specs.Runs.{after}
 use Rattle.rh_trail.specs.SimView.{SimView, state_of}
 use Rattle.rh_trail.specs.Lone.{served, sim_after, opened, trail_limit}
@@ -37,6 +38,8 @@ Accepts s e notices = (served s (call.Step e)).reply ≡ reply.Done notices
 pub record IsReversible (s : SimView) : Type 0 where
   pub within : s.cursor ≤ length s.trail
   pub limited : length s.trail ≤ trail_limit
+  -- the state is one that a cluster reaches
+  pub valid : IsValid (state_of s)
   -- each accepted step is one that the rules allow
   pub allowed : (e : Event) (notices : List Notice) → Accepts s e notices
       → Allowed (state_of s) e (course (state_of (next_sim s (call.Step e))) notices)

@@ -1,9 +1,4 @@
-pub mod StateView
-pub mod Words
 pub mod Simulated
-pub mod Refusals
-pub mod Changes
-pub mod Allowed
 pub mod Runs
 pub mod SimView
 pub mod History

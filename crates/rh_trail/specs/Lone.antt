@@ -1,18 +1,18 @@
 -- The calls of one caller, with their replies (ours).
 use Rattle.std.specs.Prelude.{ℕ, ◌+◌, ◌-◌, List, [], ◌∷◌, ◌++◌, length, take, Option, Some, None, Result, Ok, Err, ◌==◌, if◌then◌else◌}
-use Rattle.rh_cluster.specs.ClusterView.{ClusterView}
-use Rattle.rh_trail.specs.declared.event.Event.{Event}
-use Rattle.rh_trail.specs.declared.event.Pick.{Pick}
-use Rattle.rh_trail.specs.declared.refusal.Refusal.{Refusal}
-use Rattle.rh_trail.specs.declared.refusal.Refusal.TheVariants.{TrailFull}
+use Rattle.rh_parts.specs.ClusterView.{ClusterView}
+use Rattle.rh_step.specs.declared.event.Event.{Event}
+use Rattle.rh_step.specs.declared.event.Pick.{Pick}
+use Rattle.rh_step.specs.declared.refusal.Refusal.{Refusal}
+use Rattle.rh_step.specs.declared.refusal.Refusal.TheVariants.{TrailFull}
 use Rattle.rh_trail.specs.declared.call.Call.{Call}
 use Rattle.rh_trail.specs.declared.call.Call.TheVariants as call
 use Rattle.rh_trail.specs.declared.call.Reply.{Reply}
 use Rattle.rh_trail.specs.declared.call.Reply.TheVariants as reply
 use Rattle.rh_trail.specs.declared.sim.AtStart.{AtStart}
 use Rattle.rh_trail.specs.declared.sim.AtEnd.{AtEnd}
-use Rattle.rh_trail.specs.Refusals.{refused}
-use Rattle.rh_trail.specs.Changes.{next}
+use Rattle.rh_step.specs.Refusals.{refused}
+use Rattle.rh_step.specs.Outcomes.{next}
 use Rattle.rh_trail.specs.SimView.{SimView, state_of}
 use Rattle.rh_trail.specs.Report.{report_text}
 

@@ -1,10 +1,11 @@
 -- The state after a list of events (ours).
 use Rattle.std.specs.Prelude.{List, fold}
-use Rattle.rh_cluster.specs.ClusterView.{ClusterView}
-use Rattle.rh_trail.specs.declared.event.Event.{Event}
-use Rattle.rh_trail.specs.declared.event.Pick.{Pick}
-use Rattle.rh_trail.specs.StateView.{StateView, first}
-use Rattle.rh_trail.specs.Changes.{next}
+use Rattle.rh_parts.specs.ClusterView.{ClusterView}
+use Rattle.rh_step.specs.declared.event.Event.{Event}
+use Rattle.rh_step.specs.declared.event.Pick.{Pick}
+use Rattle.rh_state.specs.First.{first}
+use Rattle.rh_state.specs.StateView.{StateView}
+use Rattle.rh_step.specs.Outcomes.{next}
 
 unfoldable pub step : Pick → StateView → Event → StateView
 step pick s e = (next s e pick).state

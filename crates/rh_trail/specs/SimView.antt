@@ -1,9 +1,9 @@
 -- What callers see of a simulation: the trail of its accepted events, and a cursor in it (ours).
 use Rattle.std.specs.Prelude.{ℕ, List, take}
-use Rattle.rh_cluster.specs.ClusterView.{ClusterView}
-use Rattle.rh_trail.specs.declared.event.Event.{Event}
-use Rattle.rh_trail.specs.declared.event.Pick.{Pick}
-use Rattle.rh_trail.specs.StateView.{StateView}
+use Rattle.rh_parts.specs.ClusterView.{ClusterView}
+use Rattle.rh_step.specs.declared.event.Event.{Event}
+use Rattle.rh_step.specs.declared.event.Pick.{Pick}
+use Rattle.rh_state.specs.StateView.{StateView}
 use Rattle.rh_trail.specs.Runs.{after}
 
 pub record SimView : Type 0 where

@@ -2,8 +2,7 @@
 
 ghost use Rattle.std.specs.Prelude.{◌≡◌};
 
-use crate::event::{Event, Notices};
-use crate::refusal::Refusal;
+use rh_step::{Event, Notices, Refusal};
 use std::marker::Model;
 
 /// Some bytes.

@@ -2,13 +2,13 @@
 
 ghost use Rattle.std.specs.Prelude.{◌≡◌, ◌≤◌, length, IfOk, true};
 ghost use Rattle.rh_trail.specs.Simulated.{is_simulated};
-ghost use Rattle.rh_trail.specs.Words.{read};
+ghost use Rattle.rh_state.specs.Words.{read};
 
 mod moves;
 
-use crate::event::{Event, Pick};
-use crate::state::{State, first_state};
-use rh_cluster::Cluster;
+use rh_parts::Cluster;
+use rh_state::{State, first_state};
+use rh_step::{Event, Pick};
 use rh_terms::OutOfMemory;
 use std::alloc::Global;
 use std::marker::Model;
@@ -45,6 +45,7 @@ impl Model for Sim {
 impl Sim {
     ghost use Rattle.rh_trail.specs.SimView.{state_of};
     ghost use Rattle.rh_trail.specs.Lone.{opened, trail_limit};
+    ghost use Rattle.rh_step.specs.Validity.{IsValid};
 
     /// The greatest number of events in a trail.
     pub const TRAIL_LIMIT: usize = 65_535;
@@ -83,7 +84,8 @@ impl Sim {
 
     /// The state after the events up to the cursor.
     pub fn state(&self) -> &State
-        ensures { read result.now ≡ state_of self.now.seen }
+        ensures state { read result.now ≡ state_of self.now.seen }
+        ensures valid { IsValid (read result.now) }
     {
         &self.states[self.cursor]
     }

@@ -15,7 +15,7 @@ first = refl
 first_after_cancelling : slice_get (without 0 armed) 0 ≡ Some (100, 2)
 first_after_cancelling = refl
 
-equals_the_other_way_round : behind (100, 2) (behind (100, 1) []) ≡ (100, 1) ∷ (100, 2) ∷ []
+equals_the_other_way_round : behind {A = ℕ} (100, 2) (behind {A = ℕ} (100, 1) []) ≡ (100, 1) ∷ (100, 2) ∷ []
 equals_the_other_way_round = refl
 
 armed_anew_behind_its_equals : behind (100, 2) (without 2 armed) ≡ (36, 0) ∷ (100, 1) ∷ (100, 2) ∷ []

@@ -9,7 +9,7 @@ abbrev pub timers_of : List (ℕ × ℕ) → List ℕ
 timers_of entries = map (λ entry. entry.1) entries
 
 -- the entries with one more, which stands behind the last one that isn't due later
-abbrev pub behind : ℕ × ℕ → List (ℕ × ℕ) → List (ℕ × ℕ)
+abbrev pub behind : {A : Type 0} → ℕ × A → List (ℕ × A) → List (ℕ × A)
 behind armed [] = armed ∷ []
 behind armed (entry ∷ entries) =
     if nat_le entry.0 armed.0 then entry ∷ behind armed entries else armed ∷ (entry ∷ entries)

@@ -1,9 +1,10 @@
 //! The calls that move a simulation: steps, undo and redo.
 
 ghost use Rattle.std.specs.Prelude.{◌≡◌, ◌≢◌, ◌<◌, Err, IfOk, IfErr, OnOk, OnErr, None};
-ghost use Rattle.rh_trail.specs.Words.{read};
-ghost use Rattle.rh_trail.specs.Refusals.{refused};
-ghost use Rattle.rh_trail.specs.Changes.{next};
+ghost use Rattle.rh_state.specs.Words.{read};
+ghost use Rattle.rh_step.specs.Refusals.{refused};
+ghost use Rattle.rh_step.specs.Outcomes.{next};
+ghost use Rattle.rh_step.specs.Validity.{IsValid};
 ghost use Rattle.rh_trail.specs.Runs.{step};
 ghost use Rattle.rh_trail.specs.SimView.{state_of};
 ghost use Rattle.rh_trail.specs.Lone.{served, answered, with_event, undo_reply, redo_reply, trail_limit};
@@ -11,12 +12,10 @@ ghost use Rattle.rh_trail.specs.declared.call.Call.TheVariants as call;
 ghost use Rattle.rh_trail.specs.declared.call.Reply.TheVariants as reply;
 
 use crate::call::{Bytes, Call, Reply};
-use crate::event::{Event, Notice, Notices, Pick};
-use crate::refusal::{Refusal, refusal_of};
 use crate::sim::{AtEnd, AtStart, Sim};
-use crate::state::State;
-use crate::step::perform;
 use crate::text::report;
+use rh_state::State;
+use rh_step::{Event, Notice, Notices, Pick, Refusal, perform, refusal_of};
 use rh_terms::OutOfMemory;
 use std::alloc::Global;
 
@@ -50,6 +49,7 @@ impl Sim {
     fn keep(&mut self, event: Event, state: State) -> Result<(), OutOfMemory>
         requires room { self.old.seen.cursor < trail_limit }
         requires state { read state ≡ step self.old.seen.pick (state_of self.old.seen) event }
+        requires valid { IsValid (read state) }
         ensures ok { OnOk result (self.new.seen ≡ with_event self.old.seen event) }
         ensures err { OnErr result (self.new ≡ self.old) }
     {
@@ -147,9 +147,11 @@ fn next_of(
     event: &Event,
     pick: Pick,
 ) -> Result<(State, Vec<Notice>), OutOfMemory>
-    requires { refused (read state.now) event.now ≡ None }
+    requires accepted { refused (read state.now) event.now ≡ None }
+    requires valid { IsValid (read state.now) }
     ensures state { IfOk result (λ r. read r.0 ≡ (next (read state.now) event.now pick).state) }
     ensures notices { IfOk result (λ r. r.1.items ≡ (next (read state.now) event.now pick).notices) }
+    ensures valid { IfOk result (λ r. IsValid (read r.0)) }
 {
     let mut after = state.copy(alloc)?;
     let mut notices = Vec::new(alloc);

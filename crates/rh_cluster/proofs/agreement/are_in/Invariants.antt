@@ -1,8 +1,6 @@
-use Rattle.std.proofs.Common.{◌≡◌, map, take, drop, length}
-use Rattle.std.specs.Prelude.{filter_map}
-use Rattle.std.specs.List.{list_any, list_all}
-use Rattle.rh_terms.specs.Tree.{tree_of}
-use Rattle.rh_cluster.specs.ClusterView.{is_in}
+use Rattle.std.proofs.Common.{◌≡◌, drop}
+use Rattle.std.specs.List.{list_all}
+use Rattle.rh_parts.specs.ClusterView.{is_in}
 use Rattle.rh_cluster.proofs.agreement.are_in.Given as goal
 
 abbrev pub invariant-loop-node : goal.invariant-loop-node

@@ -1,7 +1,4 @@
-use Rattle.std.proofs.Common.{◌≡◌, map, take, drop, length}
-use Rattle.std.specs.Prelude.{filter_map}
-use Rattle.std.specs.List.{list_any, list_all}
-use Rattle.rh_terms.specs.Tree.{tree_of}
+use Rattle.std.proofs.Common.{◌≡◌, length}
 use Rattle.rh_cluster.specs.Agreement.{first_involved_in, numbers_below}
 use Rattle.std.specs.List.{range_with_len}
 use Rattle.std.specs.Prelude.{◌-◌}

@@ -1,7 +1,5 @@
-use Rattle.std.proofs.Common.{◌≡◌, map, take, drop, length}
-use Rattle.std.specs.Prelude.{filter_map}
-use Rattle.std.specs.List.{list_any, list_all}
-use Rattle.rh_terms.specs.Tree.{tree_of}
+use Rattle.std.proofs.Common.{◌≡◌, drop}
+use Rattle.std.specs.List.{list_any}
 use Rattle.rh_cluster.specs.Agreement.{same_share}
 use Rattle.rh_cluster.proofs.agreement.has_share.Given as goal
 

@@ -1,7 +1,4 @@
-use Rattle.std.proofs.Common.{◌≡◌, map, take, drop, length}
-use Rattle.std.specs.Prelude.{filter_map}
-use Rattle.std.specs.List.{list_any, list_all}
-use Rattle.rh_terms.specs.Tree.{tree_of}
+use Rattle.std.proofs.Common.{◌≡◌, drop, length}
 use Rattle.rh_cluster.specs.Agreement.{same_groups}
 use Rattle.rh_cluster.proofs.agreement.same_groups.Given as goal
 

@@ -1,7 +1,8 @@
 use Rattle.std.proofs.Common.{◌∙◌, ◌++◌, ◌∷◌, [], ◌||◌, ℕ, List, Bool, map, sym, arith}
 use Rattle.rh_terms.specs.Tree.{tree_of}
-use Rattle.rh_cluster.specs.Names.{is_among, every_platform}
-use Rattle.rh_cluster.specs.Shapes.{atoms}
+use Rattle.rh_parts.specs.Names.{is_among}
+use Rattle.rh_cluster.specs.Headers.{every_platform}
+use Rattle.rh_sections.specs.Shapes.{atoms}
 use Rattle.rh_cluster.proofs.Alike.{map_more}
 use Rattle.rh_cluster.proofs.building_nodes.platforms_of.Goals as goal
 

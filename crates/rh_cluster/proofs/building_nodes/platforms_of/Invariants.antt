@@ -1,9 +1,8 @@
-use Rattle.std.proofs.Common.{◌≡◌, ◌||◌, not, map, take, drop}
-use Rattle.std.specs.Prelude.{filter_map}
-use Rattle.std.specs.List.{list_any}
+use Rattle.std.proofs.Common.{◌≡◌, ◌||◌, map, take}
 use Rattle.rh_terms.specs.Tree.{tree_of}
-use Rattle.rh_cluster.specs.Names.{is_among, every_platform}
-use Rattle.rh_cluster.specs.Shapes.{atoms}
+use Rattle.rh_parts.specs.Names.{is_among}
+use Rattle.rh_cluster.specs.Headers.{every_platform}
+use Rattle.rh_sections.specs.Shapes.{atoms}
 use Rattle.rh_cluster.proofs.building_nodes.platforms_of.Given as goal
 
 abbrev pub invariant-loop-index : goal.invariant-loop-index

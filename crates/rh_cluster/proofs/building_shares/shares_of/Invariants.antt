@@ -1,6 +1,5 @@
-use Rattle.std.proofs.Common.{◌≡◌, map, take, drop, length}
+use Rattle.std.proofs.Common.{◌≡◌, map, take}
 use Rattle.std.specs.Prelude.{filter_map}
-use Rattle.std.specs.List.{list_any, list_all}
 use Rattle.rh_terms.specs.Tree.{tree_of}
 use Rattle.rh_cluster.specs.Values.{share_of}
 use Rattle.rh_cluster.proofs.building_shares.shares_of.Given as goal

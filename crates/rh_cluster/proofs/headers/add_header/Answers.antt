@@ -1,4 +1,4 @@
-use Rattle.std.proofs.Common.{◌≡◌, ◌∙◌, ◌++◌, ◌∷◌, [], List, ℕ, sym, ap, subst, append-nil}
+use Rattle.std.proofs.Common.{◌≡◌, ◌∙◌, ◌++◌, List, ℕ, sym, ap, subst, append-nil}
 use Rattle.std.specs.Prelude.{OnOk}
 use Rattle.rh_cluster.proofs.OneHeader.{on_ok, node_names_one, node_names_none, app_names_one, app_names_none, no_app}
 use Rattle.rh_cluster.proofs.headers.add_header.Goals as goal

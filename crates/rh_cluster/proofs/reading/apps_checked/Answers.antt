@@ -1,8 +1,6 @@
-use Rattle.std.proofs.Common.{◌≡◌, ◌∙◌, List, ℕ, length, map, sym, ap, arith}
+use Rattle.std.proofs.Common.{◌≡◌, ◌∙◌, length, map, sym, ap, arith}
 use Rattle.rh_terms.specs.Tree.{tree_of}
-use Rattle.rh_cluster.specs.declared.shares.Share.{Share}
-use Rattle.rh_cluster.specs.ClusterView.{NodeView}
-use Rattle.rh_cluster.specs.Names.{KnownNames}
+use Rattle.rh_parts.specs.Names.{KnownNames}
 use Rattle.rh_cluster.proofs.Counts.{length-node_views, length-all_shares}
 use Rattle.rh_cluster.proofs.reading.apps_checked.Goals as goal
 

@@ -1,11 +1,13 @@
-use Rattle.std.proofs.Common.{◌∙◌, length, map, sym, ap}
+use Rattle.std.proofs.Common.{◌≡◌, ◌∙◌, length, map, sym, ap, subst}
 use Rattle.std.proofs.lemmas.Result.{err_from_is_err_and}
 use Rattle.rh_terms.specs.Tree.{tree_of}
-use Rattle.rh_cluster.specs.Names.{KnownNames}
+use Rattle.rh_parts.specs.ClusterView.{IsWithin}
+use Rattle.rh_parts.specs.Names.{KnownNames}
 use Rattle.rh_cluster.specs.Agreement.{agreed_shares}
 use Rattle.rh_cluster.specs.ClusterOf.{names_of, all_shares, faults_in, cluster_view}
 use Rattle.rh_cluster.proofs.Counts.{length-node_views, length-app_views}
-use Rattle.rh_cluster.proofs.InTurn.{first-none}
+use Rattle.rh_sections.proofs.InTurn.{first-none}
+use Rattle.rh_cluster.proofs.Within.{view_is_within}
 use Rattle.rh_cluster.proofs.reading.cluster_in.Goals as goal
 
 pub returns-in_err-nodes-clause-faults : goal.returns-in_err-nodes-clause-faults
@@ -34,3 +36,19 @@ returns-clause-cluster c =
       nodes = c.in_ok-nodes.ensures.nodes i;
       apps = c.in_ok-nodes.ensures.apps i;
     })
+
+pub of-requires-clause-within : goal.of-requires-clause-within
+unfolding cluster_view names_of
+of-requires-clause-within c =
+    let ts = map tree_of c.args.terms.now in
+    let names = sym c.in_ok-names.ensures.names in
+    let nodes = sym c.in_ok-nodes.ensures.nodes in
+    let apps = sym c.in_ok-nodes.ensures.apps in
+    let is : cluster_view ts ≡ record {
+      node_names = c.in_ok-names.names.nodes;
+      app_names = c.in_ok-names.names.apps;
+      platform_names = c.in_ok-names.names.platforms;
+      nodes = c.in_ok-nodes.nodes.items;
+      apps = c.in_ok-nodes.apps.items;
+    } = λ i. record { node_names = (names i).nodes; app_names = (names i).apps; platform_names = (names i).platforms; nodes = nodes i; apps = apps i } in
+    subst IsWithin is (view_is_within ts)

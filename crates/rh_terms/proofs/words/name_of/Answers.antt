@@ -8,4 +8,4 @@ pub split_at-requires : goal.split_at-requires
 split_at-requires c = omega (arith, prefix_len-le-length is_name c.args.bytes.now)
 
 pub text_of_bytes-requires : goal.text_of_bytes-requires
-text_of_bytes-requires c = rw (c.in_ok-from_slice.ensures.items, c.split_at.ensures.front, c.name_len-count.ensures) (front_text is_name (λ b e. name_ascii b e) c.args.bytes.now)
+text_of_bytes-requires c = rw (c.split_at.ensures.front, c.name_len-count.ensures) (front_text is_name (λ b e. name_ascii b e) c.args.bytes.now)

@@ -1,7 +1,7 @@
 use Rattle.std.proofs.Common.{◌≡◌, ◌+◌, ◌<◌, [], ◌∷◌, ◌++◌, List, take, if◌then◌else◌, subst, ap, sym, ◌∙◌}
 use Rattle.std.specs.Result.{is_ok}
-use Rattle.rh_trail.specs.declared.event.Event.{Event}
-use Rattle.rh_trail.specs.Words.{Words, read}
+use Rattle.rh_step.specs.declared.event.Event.{Event}
+use Rattle.rh_state.specs.Words.{Words, read}
 use Rattle.rh_trail.specs.SimView.{Held, state_of}
 use Rattle.rh_trail.specs.Runs.{step}
 use Rattle.rh_trail.proofs.Histories.{history_goes_on}
@@ -21,4 +21,5 @@ invariant_of-self-2 c =
     rw (trail_is, states_is)
     (history_goes_on s.cluster s.pick s.trail.items s.states.items s.cursor c.args.event c.args.state c.self.invariant
     (subst (λ (v : Held). v.seen.cursor < 65535) (sym c.self.view_is) c.requires.room)
-    (subst (λ (v : Held). read c.args.state ≡ step v.seen.pick (state_of v.seen) c.args.event) (sym c.self.view_is) c.requires.state))
+    (subst (λ (v : Held). read c.args.state ≡ step v.seen.pick (state_of v.seen) c.args.event) (sym c.self.view_is) c.requires.state)
+    c.requires.valid)

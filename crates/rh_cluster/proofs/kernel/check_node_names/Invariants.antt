@@ -1,8 +1,0 @@
-use Rattle.std.proofs.Common.{◌≡◌, [], map, take}
-use Rattle.rh_terms.specs.Tree.{tree_of}
-use Rattle.rh_cluster.specs.Faults.{in_turn}
-use Rattle.rh_cluster.specs.Parts.{node_name_faults}
-use Rattle.rh_cluster.proofs.kernel.check_node_names.Given as goal
-
-abbrev pub invariant-loop-index : goal.invariant-loop-index
-invariant-loop-index l = in_turn (node_name_faults l.names) [] (map tree_of (take l.index l.terms)) ≡ []

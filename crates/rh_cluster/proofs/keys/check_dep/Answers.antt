@@ -1,6 +1,0 @@
-use Rattle.std.proofs.Common.{sym, ◌∙◌}
-use Rattle.rh_cluster.proofs.Words.{not_repeated}
-use Rattle.rh_cluster.proofs.keys.check_dep.Goals as goal
-
-pub add-requires : goal.add-requires
-add-requires c = sym c.contains.ensures ∙ not_repeated _ _ _ c.in_ok-check_word.ensures

@@ -1,0 +1,4 @@
+pub mod TermWords
+pub mod ClusterView
+pub mod Limits
+pub mod Names

@@ -1,0 +1,11 @@
+use Rattle.std.proofs.Common.{◌≡◌, ◌==◌, take}
+use Rattle.std.specs.List.{filter}
+use Rattle.rh_parts.specs.declared.node.Node.{Node}
+use Rattle.rh_parts.specs.ClusterView.{is_in}
+use Rattle.rh_state.specs.StateView.{running_count}
+use Rattle.rh_state.specs.Words.{read}
+use Rattle.rh_place.specs.Sets.{has}
+use Rattle.rh_place.proofs.choosing.lightest.Given as goal
+
+abbrev pub invariant-nodes : goal.invariant-nodes
+invariant-nodes l = (n : Node) → has l.nodes n ≡ is_in n (filter (λ (m : Node). running_count (read l.state) m == l.count) (filter (has l.set) (take l.node-index l.group)))

@@ -1,0 +1,8 @@
+use Rattle.std.proofs.Common.{◌≡◌, drop, find, not}
+use Rattle.rh_parts.specs.declared.parts.Dep.{Dep}
+use Rattle.rh_state.specs.Words.{read}
+use Rattle.rh_place.specs.Placing.{dep_runs}
+use Rattle.rh_place.proofs.operating.missing_dep.Given as goal
+
+abbrev pub invariant-deps : goal.invariant-deps
+invariant-deps l = find (λ (d : Dep). not (dep_runs (read l.state) l.node d)) (drop l.dep-index l.deps) ≡ find (λ (d : Dep). not (dep_runs (read l.state) l.node d)) l.deps

@@ -1,0 +1,17 @@
+//! Where an application can run, and where it is to run.
+//!
+//! Each call reads a state and changes nothing, and none takes memory.
+#![tactic(auto)]
+
+mod choosing;
+mod node_set;
+mod operating;
+mod starting;
+
+pub use choosing::{Pick, best, candidates, choose};
+pub use node_set::NodeSet;
+pub use operating::{deps_run, missing_dep, operational};
+pub use starting::start_kind;
+
+#[cfg(test)]
+mod tests;

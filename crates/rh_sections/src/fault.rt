@@ -1,0 +1,120 @@
+//! Why a text is no cluster.
+
+ghost use Rattle.std.specs.Prelude.{◌≡◌};
+ghost use Rattle.rh_sections.specs.declared.fault.ClusterFault.TheVariants as cluster;
+
+use rh_terms::{OutOfMemory, Str, TermFault};
+use std::alloc::{AllocError, AllocFailed};
+
+/// Why a text is no cluster: the first fault of the first of four passes that has one. The passes look
+/// at the terms of the text; at the shape and name of each term; at the parts of each term; at what
+/// the nodes must agree on.
+#[derive(Debug, Drop)]
+pub enum ClusterFault {
+    /// The text is no list of terms.
+    Term(TermFault),
+    /// There is no node.
+    NoNodes,
+    /// There are more than 32 nodes, 64 applications or 256 platform names.
+    TooMany,
+    /// Two nodes, two applications, or an application and the platform have one name.
+    DuplicateName,
+    /// A name is that of no node, or of no application.
+    UnknownName,
+    /// A name stands twice in one list.
+    DuplicateInList,
+    /// A section, a parameter or a key stands twice.
+    DuplicateParameter,
+    /// This node has another `distributed` or `sync_nodes_timeout` than the first node that is
+    /// involved in distribution.
+    Mismatch {
+        /// The node's name.
+        node: Str,
+    },
+    /// A node is to start a distributed application that doesn't list the node.
+    BootNotListed,
+    /// A value has another shape than is asked for, or is out of range.
+    BadValue,
+    /// A name is empty, has more than 255 bytes, or has a space or a control byte.
+    BadName,
+    /// A growth was refused.
+    OutOfMemory,
+}
+
+impl ClusterFault {
+    ghost use Rattle.std.specs.Prelude.{◌≢◌, false};
+    ghost use Rattle.rh_terms.specs.declared.fault.TermFault.TheVariants as terms;
+    ghost use Rattle.rh_sections.specs.FaultWords.{is_memory};
+
+    /// Whether a growth was refused. Any other fault is one of the text.
+    pub fn is_memory(&self) -> bool
+        ensures is { result ≡ is_memory self.now }
+        ensures other { result ≡ false → (self.now ≢ cluster.OutOfMemory) × (self.now ≢ cluster.Term terms.OutOfMemory) }
+    {
+        match self {
+            ClusterFault::OutOfMemory => true,
+            ClusterFault::Term(fault) => is_term_memory(fault),
+            ClusterFault::NoNodes => false,
+            ClusterFault::TooMany => false,
+            ClusterFault::DuplicateName => false,
+            ClusterFault::UnknownName => false,
+            ClusterFault::DuplicateInList => false,
+            ClusterFault::DuplicateParameter => false,
+            ClusterFault::Mismatch { node: _ } => false,
+            ClusterFault::BootNotListed => false,
+            ClusterFault::BadValue => false,
+            ClusterFault::BadName => false,
+        }
+    }
+}
+
+ghost use Rattle.std.specs.Prelude.{◌≢◌, false};
+ghost use Rattle.rh_terms.specs.declared.fault.TermFault.TheVariants as terms;
+ghost use Rattle.rh_sections.specs.TermMemory.{is_term_memory};
+
+// Whether a growth was refused while terms were read.
+fn is_term_memory(fault: &TermFault) -> bool
+    ensures is { result ≡ is_term_memory fault.now }
+    ensures other { result ≡ false → fault.now ≢ terms.OutOfMemory }
+{
+    match fault {
+        TermFault::OutOfMemory => true,
+        TermFault::Syntax { line: _ } => false,
+        TermFault::Unsupported { line: _ } => false,
+        TermFault::NotUtf8 => false,
+        TermFault::TooDeep => false,
+        TermFault::IntRange => false,
+    }
+}
+
+impl From<TermFault> for ClusterFault {
+    ghost from_gives = { λ fault e. e ≡ cluster.Term fault };
+
+    fn from(fault: TermFault) -> ClusterFault {
+        ClusterFault::Term(fault)
+    }
+}
+
+impl From<OutOfMemory> for ClusterFault {
+    ghost from_gives = { λ _ e. e ≡ cluster.OutOfMemory };
+
+    fn from(_error: OutOfMemory) -> ClusterFault {
+        ClusterFault::OutOfMemory
+    }
+}
+
+impl From<AllocError> for ClusterFault {
+    ghost from_gives = { λ _ e. e ≡ cluster.OutOfMemory };
+
+    fn from(_error: AllocError) -> ClusterFault {
+        ClusterFault::OutOfMemory
+    }
+}
+
+impl<T: Drop> From<AllocFailed<T>> for ClusterFault {
+    ghost from_gives = { λ _ e. e ≡ cluster.OutOfMemory };
+
+    fn from(_error: AllocFailed<T>) -> ClusterFault {
+        ClusterFault::OutOfMemory
+    }
+}

@@ -1,0 +1,92 @@
+-- Timers by their numbers: what a wheel keeps of numbers, it means of timers.
+use Rattle.std.proofs.Common.{◌≡◌, ◌+◌, ◌-◌, ◌==◌, ℕ, Bool, true, false, not, cond, nat_le, Some, List, [], ◌∷◌, ◌++◌, map, take, find, slice_get, refl, sym, ap, ◌∙◌, inl, inr, arith}
+use Rattle.std.specs.Option.{option_map}
+use Rattle.std.proofs.lemmas.Bool.{cases_lt, eq-eqb, lt-ltb, le-ltb}
+use Rattle.std.proofs.lemmas.Bool.Decides.{eqb_tells}
+use Rattle.std.proofs.lemmas.List.{map_more}
+use Rattle.std.proofs.lemmas.Option.{slice_get-map, slice_get_within, get_or_from_slice_get}
+use Rattle.rh_parts.specs.ClusterView.{ClusterView, node_count}
+use Rattle.rh_wheel.specs.Firing.{behind, without, due_in}
+use Rattle.rh_wheel.specs.Words as wheel
+use Rattle.rh_state.specs.declared.parts.Timer.{Timer}
+use Rattle.rh_state.specs.Timers.{same_timer, without_timer, due_among, timer_numbered}
+use Rattle.rh_state.specs.Words.{timers_of}
+
+-- what an entry of a wheel means
+abbrev pub meant : ClusterView → ℕ × ℕ → ℕ × Timer
+meant c e = (e.0, timer_numbered c e.1)
+
+same_number : (j k m n : ℕ) → (j ≡ k → m ≡ n) → (m ≡ n → j ≡ k) → j == k ≡ (m == n)
+same_number j k m n to from = elim (eqb_tells j k) [
+  | inl a ↦ a.0 ∙ sym (eq-eqb m n (to a.1))
+  | inr a ↦ elim (eqb_tells m n) [ inl b ↦ absurd (a.1 (from b.1)) | inr b ↦ a.0 ∙ sym b.0 ]
+]
+
+-- two timers are the same exactly if their numbers are
+same_numbered : (c : ClusterView) (j k : ℕ) → same_timer (timer_numbered c j) (timer_numbered c k) ≡ (k == j)
+same_numbered c j k = elim (cases_lt j (node_count c)) [
+  | inl a ↦ elim (cases_lt k (node_count c)) [
+    | inl b ↦ simp (lt-ltb j (node_count c) a, lt-ltb k (node_count c) b) (same_number j k k j (λ e. sym e) (λ e. sym e))
+    | inr b ↦ simp (lt-ltb j (node_count c) a, le-ltb k (node_count c) b) (elim (eqb_tells k j) [ inl e ↦ absurd (omega (arith, e.1)) | inr e ↦ sym e.0 ])
+  ]
+  | inr a ↦ elim (cases_lt k (node_count c)) [
+    | inl b ↦ simp (le-ltb j (node_count c) a, lt-ltb k (node_count c) b) (elim (eqb_tells k j) [ inl e ↦ absurd (omega (arith, e.1)) | inr e ↦ sym e.0 ])
+    | inr b ↦ simp (le-ltb j (node_count c) a, le-ltb k (node_count c) b) (same_number (j - node_count c) (k - node_count c) k j (λ e. omega (arith, e)) (λ e. omega (arith, e)))
+  ]
+]
+
+due_meant : (c : ClusterView) (k : ℕ) (es : List (ℕ × ℕ)) → due_among (timer_numbered c k) (map (meant c) es) ≡ due_in k es
+due_meant c k [] = refl
+due_meant c k (e ∷ es) = rw (same_numbered c k e.1) (by (e.1 == k) (due_meant c k es))
+  where
+    by : (b : Bool) → due_among (timer_numbered c k) (map (meant c) es) ≡ due_in k es
+        → option_map (λ (entry : ℕ × Timer). entry.0) (cond b (Some (meant c e)) (find (λ entry. same_timer (timer_numbered c k) entry.1) (map (meant c) es)))
+        ≡ option_map (λ (entry : ℕ × ℕ). entry.0) (cond b (Some e) (find (λ entry. entry.1 == k) es))
+    by true h = refl
+    by false h = h
+
+without_meant : (c : ClusterView) (k : ℕ) (es : List (ℕ × ℕ)) → without_timer (timer_numbered c k) (map (meant c) es) ≡ map (meant c) (without k es)
+without_meant c k [] = refl
+without_meant c k (e ∷ es) = rw (same_numbered c k e.1) (by (e.1 == k) (without_meant c k es))
+  where
+    by : (b : Bool) → without_timer (timer_numbered c k) (map (meant c) es) ≡ map (meant c) (without k es)
+        → cond (not b) (meant c e ∷ without_timer (timer_numbered c k) (map (meant c) es)) (without_timer (timer_numbered c k) (map (meant c) es))
+        ≡ map (meant c) (cond (not b) (e ∷ without k es) (without k es))
+    by true h = h
+    by false h = ap (λ (l : List (ℕ × Timer)). meant c e ∷ l) h
+
+behind_meant : (c : ClusterView) (new : ℕ × ℕ) (es : List (ℕ × ℕ)) → behind (meant c new) (map (meant c) es) ≡ map (meant c) (behind new es)
+behind_meant c new [] = refl
+behind_meant c new (e ∷ es) = by (nat_le e.0 new.0) (behind_meant c new es)
+  where
+    by : (b : Bool) → behind (meant c new) (map (meant c) es) ≡ map (meant c) (behind new es)
+        → cond b (meant c e ∷ behind (meant c new) (map (meant c) es)) (meant c new ∷ (meant c e ∷ map (meant c) es))
+        ≡ map (meant c) (cond b (e ∷ behind new es) (new ∷ (e ∷ es)))
+    by true h = ap (λ (l : List (ℕ × Timer)). meant c e ∷ l) h
+    by false h = refl
+
+-- when a timer is due
+pub due_numbered : (c : ClusterView) (w : wheel.Words) (k : ℕ) (t : Timer) → timer_numbered c k ≡ t → due_in k (wheel.listed w) ≡ due_among t (timers_of c w)
+unfolding timers_of
+due_numbered c w k t e = rw (← e) (sym (due_meant c k (wheel.listed w)))
+
+-- a wheel with one timer more, and with one less
+pub behind_numbered : (c : ClusterView) (w v : wheel.Words) (due k : ℕ) (t : Timer) → timer_numbered c k ≡ t → wheel.listed v ≡ behind (due, k) (wheel.listed w) → timers_of c v ≡ behind (due, t) (timers_of c w)
+unfolding timers_of
+behind_numbered c w v due k t e h = rw (← e, h) (sym (behind_meant c (due, k) (wheel.listed w)))
+
+pub without_numbered : (c : ClusterView) (w v : wheel.Words) (k : ℕ) (t : Timer) → timer_numbered c k ≡ t → wheel.listed v ≡ without k (wheel.listed w) → timers_of c v ≡ without_timer t (timers_of c w)
+unfolding timers_of
+without_numbered c w v k t e h = rw (← e, h) (sym (without_meant c k (wheel.listed w)))
+
+-- the timer that fires first
+pub first_numbered : (c : ClusterView) (w : wheel.Words) → slice_get (timers_of c w) 0 ≡ option_map (meant c) (slice_get (wheel.listed w) 0)
+unfolding timers_of
+first_numbered c w = slice_get-map (meant c) (wheel.listed w) 0
+
+-- one entry more
+pub meant_more : (c : ClusterView) (es : List (ℕ × ℕ)) (i due k : ℕ) → slice_get es i ≡ Some (due, k) → map (meant c) (take (i + 1) es) ≡ map (meant c) (take i es) ++ (due, timer_numbered c k) ∷ []
+meant_more c es i due k h =
+    let within = slice_get_within es i (due, k) h in
+    let here = get_or_from_slice_get es i (due, k) (due, k) h in
+    rw (map_more (meant c) es i (due, k) within, here)

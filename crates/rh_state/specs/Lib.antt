@@ -1,0 +1,10 @@
+pub mod Numbers
+pub mod Limits
+pub mod Tables
+pub mod Lists
+pub mod Timers
+pub mod StateView
+pub mod Setters
+pub mod First
+pub mod Shape
+pub mod Words

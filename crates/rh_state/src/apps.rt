@@ -1,0 +1,123 @@
+//! The applications that run, or wait, at a node.
+
+ghost use Rattle.std.specs.Prelude.{◌≡◌, ◌<◌, ◌++◌, ◌∷◌, [], false, length, slice_get, replicate, position, IfOk};
+ghost use Rattle.rh_state.specs.Numbers.{same_app};
+ghost use Rattle.rh_state.specs.Lists.{has_app, without_app, next_app};
+
+use rh_parts::App;
+use rh_terms::OutOfMemory;
+use std::alloc::Global;
+use std::marker::Model;
+
+/// Applications in an order, each at most once. There is room for all that a cluster can have.
+#[derive(Drop)]
+pub struct AppList {
+    apps: Vec<App>,
+}
+
+impl Model for AppList {
+    ghost use Rattle.std.specs.Prelude.{◌≢◌, ◌<◌, ◌≤◌, List, All, AllPairs, vec_capacity};
+    ghost use Rattle.rh_parts.specs.declared.node.App.{App};
+
+    ghost Value = { List App };
+
+    ghost view = { λ l. l.apps.items };
+
+    ghost invariant = { λ l. record { once : AllPairs (λ (a b : App). a.0 ≢ b.0) l.apps.items; few : All (λ (a : App). a.0 < 64) l.apps.items; room : 64 ≤ vec_capacity l.apps } };
+}
+
+impl AppList {
+    /// No application.
+    pub fn new(alloc: Global) -> Result<AppList, OutOfMemory>
+        ensures { IfOk result (λ list. list ≡ []) }
+    {
+        Ok(AppList {
+            apps: Vec::with_capacity(alloc, 64)?,
+        })
+    }
+
+    /// The same ones in the same order.
+    pub fn copy(&self, alloc: Global) -> Result<AppList, OutOfMemory>
+        ensures { IfOk result (λ copy. copy ≡ self.now) }
+    {
+        let mut apps = Vec::with_capacity(alloc, 64)?;
+        apps.extend_from_slice(self.apps.as_slice())?;
+        Ok(AppList { apps })
+    }
+
+    /// How many there are.
+    pub fn count(&self) -> usize
+        ensures { result ≡ length self.now }
+    {
+        self.apps.len()
+    }
+
+    /// Is the application one of them?
+    pub fn has(&self, app: App) -> bool
+        ensures { result ≡ has_app self.now app }
+    {
+        self.apps.iter().any(|other| app.0 == other.0)
+    }
+
+    /// The first one.
+    pub fn first(&self) -> Option<App>
+        ensures { result ≡ slice_get self.now 0 }
+    {
+        self.apps.first().copied()
+    }
+
+    /// The one behind an application.
+    pub fn behind(&self, app: App) -> Option<App>
+        ensures { result ≡ next_app self.now app }
+    {
+        match self.place_of(app) {
+            Some(place) => self.apps.get(place + 1).copied(),
+            None => None,
+        }
+    }
+
+    // The place of the application, if it is one of them.
+    fn place_of(&self, app: App) -> Option<usize>
+        ensures { result ≡ position (same_app app) self.now }
+    {
+        self.apps.iter().position(|other| app.0 == other.0)
+    }
+
+    /// Puts an application at the end.
+    pub fn push(&mut self, app: App)
+        requires number { app.0 < 64 }
+        requires absent { has_app self.old app ≡ false }
+        ensures { self.new ≡ self.old ++ app ∷ [] }
+    {
+        self.apps.push(app).unwrap();
+    }
+
+    /// Takes an application out, if it is there.
+    pub fn remove(&mut self, app: App)
+        ensures { self.new ≡ without_app self.old app }
+    {
+        self.apps.retain(|other| app.0 != other.0);
+    }
+}
+
+/// So many lists without an application.
+pub fn empty_lists(alloc: Global, count: usize) -> Result<Vec<AppList>, OutOfMemory>
+    ensures { IfOk result (λ lists. lists.items ≡ replicate count []) }
+{
+    let mut lists = Vec::new(alloc);
+    for _ in 0..count {
+        lists.push(AppList::new(alloc)?)?;
+    }
+    Ok(lists)
+}
+
+/// Equal lists.
+pub fn copies_of(alloc: Global, lists: &[AppList]) -> Result<Vec<AppList>, OutOfMemory>
+    ensures { IfOk result (λ copies. copies.items ≡ lists.now) }
+{
+    let mut copies = Vec::new(alloc);
+    for list in lists {
+        copies.push(list.copy(alloc)?)?;
+    }
+    Ok(copies)
+}

@@ -1,0 +1,13 @@
+//! The state of a cluster at one time, with its timers.
+//!
+//! A [`State`] is read and set part by part, and each part is what it says: which nodes are up, what runs and waits at
+//! each, where each distributed application stands, which timers are set. What may happen to it is not said here.
+#![tactic(auto)]
+
+mod apps;
+mod parts;
+mod state;
+mod table;
+
+pub use parts::{Kind, Mode, Place, Standing, Timer};
+pub use state::{State, first_state};

@@ -1,0 +1,192 @@
+//! The state of a cluster.
+
+ghost use Rattle.std.specs.Prelude.{◌≡◌, ◌<◌, IfOk, map};
+ghost use Rattle.rh_parts.specs.ClusterView.{node_count};
+ghost use Rattle.rh_state.specs.Numbers.{nodes_of};
+ghost use Rattle.rh_state.specs.First.{first, configured};
+ghost use Rattle.rh_state.specs.Shape.{IsShaped};
+ghost use Rattle.rh_state.specs.Words.{read};
+
+mod reading;
+mod setting;
+mod timers;
+
+use crate::apps::{AppList, copies_of as copies_of_lists, empty_lists};
+use crate::parts::{Kind, Mode, Standing};
+use crate::table::{Row, copies_of as copies_of_rows, rows_of};
+use rh_parts::{App, Cluster, Node, Restart};
+use rh_terms::OutOfMemory;
+use rh_wheel::Wheel;
+use std::alloc::Global;
+use std::marker::Model;
+
+/// The state of a cluster at one time.
+///
+/// [`first_state`] and [`State::copy`] take all the memory that a state needs; of the other calls only
+/// [`State::timers`] takes any.
+#[derive(Drop)]
+pub struct State {
+    cluster: Cluster,
+    time: u64,
+    modes: Vec<Mode>,
+    incarnations: Vec<u16>,
+    running: Vec<AppList>,
+    waiting: Vec<AppList>,
+    restarts: Vec<Row<Restart>>,
+    kinds: Vec<Row<Kind>>,
+    allowed: Vec<Row<bool>>,
+    standings: Vec<Standing>,
+    // The sync timer of node n has number n, the failover timer of application a the number of nodes + a.
+    wheel: Wheel,
+}
+
+impl Model for State {
+    ghost use Rattle.std.specs.Prelude.{◌≡◌, ◌+◌, []};
+    ghost use Rattle.rh_parts.specs.ClusterView.{node_count, app_count};
+    ghost use Rattle.rh_wheel.specs.Words.{timer_count};
+    ghost use Rattle.rh_state.specs.Shape.{IsShaped};
+    ghost use Rattle.rh_state.specs.Words.{Words, read};
+
+    ghost Value = { Words };
+
+    ghost view = { λ s. record { cluster = s.cluster; time = s.time; modes = s.modes.items; incarnations = s.incarnations.items; running = s.running.items; waiting = s.waiting.items; restarts = s.restarts.items; kinds = s.kinds.items; allowed = s.allowed.items; standings = s.standings.items; wheel = s.wheel } };
+
+    ghost invariant = { λ s. record { shape : IsShaped (record { cluster = s.cluster; time = s.time; modes = s.modes.items; incarnations = s.incarnations.items; running = s.running.items; waiting = s.waiting.items; restarts = s.restarts.items; kinds = s.kinds.items; allowed = s.allowed.items; standings = s.standings.items; timers = [] }); timers : timer_count s.wheel ≡ node_count s.cluster + app_count s.cluster } };
+}
+
+impl State {
+    /// The last millisecond of a simulation.
+    pub const TIME_LIMIT: u64 = 1_000_000_000_000;
+
+    /// The last incarnation that a node may have.
+    pub const INCARNATION_LIMIT: u16 = 9_999;
+
+    /// A state has a place for each node and each application of its cluster, and names no others.
+    #[tactic(auto, unfolding(crate::specs::Words::read))]
+    pub fn shape(&self)
+        ensures { IsShaped (read self.now) }
+    {
+        let _ = &self.cluster;
+    }
+
+    /// An equal state, with equal words.
+    pub fn copy(&self, alloc: Global) -> Result<State, OutOfMemory>
+        ensures { IfOk result (λ copy. copy ≡ self.now) }
+    {
+        let (modes, incarnations, standings) = self.copy_marks(alloc)?;
+        let (running, waiting) = self.copy_lists(alloc)?;
+        let (restarts, kinds, allowed) = self.copy_tables(alloc)?;
+        let wheel = self.wheel.copy(alloc)?;
+        // The cluster comes last: there is most to drop of it.
+        let cluster = self.cluster.copy(alloc)?;
+        Ok(State {
+            cluster,
+            time: self.time,
+            modes,
+            incarnations,
+            running,
+            waiting,
+            restarts,
+            kinds,
+            allowed,
+            standings,
+            wheel,
+        })
+    }
+
+    // What is said of each node, and where each application stands.
+    fn copy_marks(&self, alloc: Global) -> Result<(Vec<Mode>, Vec<u16>, Vec<Standing>), OutOfMemory>
+        ensures modes { IfOk result (λ marks. marks.0.items ≡ self.now.modes) }
+        ensures incarnations { IfOk result (λ marks. marks.1.items ≡ self.now.incarnations) }
+        ensures standings { IfOk result (λ marks. marks.2.items ≡ self.now.standings) }
+    {
+        let modes = Vec::from_slice(alloc, self.modes.as_slice())?;
+        let incarnations = Vec::from_slice(alloc, self.incarnations.as_slice())?;
+        let standings = Vec::from_slice(alloc, self.standings.as_slice())?;
+        Ok((modes, incarnations, standings))
+    }
+
+    // What runs and what waits at each node.
+    fn copy_lists(&self, alloc: Global) -> Result<(Vec<AppList>, Vec<AppList>), OutOfMemory>
+        ensures running { IfOk result (λ lists. lists.0.items ≡ self.now.running) }
+        ensures waiting { IfOk result (λ lists. lists.1.items ≡ self.now.waiting) }
+    {
+        let running = copies_of_lists(alloc, self.running.as_slice())?;
+        let waiting = copies_of_lists(alloc, self.waiting.as_slice())?;
+        Ok((running, waiting))
+    }
+
+    // The tables over pairs.
+    fn copy_tables(
+        &self,
+        alloc: Global,
+    ) -> Result<(Vec<Row<Restart>>, Vec<Row<Kind>>, Vec<Row<bool>>), OutOfMemory>
+        ensures restarts { IfOk result (λ tables. tables.0.items ≡ self.now.restarts) }
+        ensures kinds { IfOk result (λ tables. tables.1.items ≡ self.now.kinds) }
+        ensures allowed { IfOk result (λ tables. tables.2.items ≡ self.now.allowed) }
+    {
+        let restarts = copies_of_rows(alloc, self.restarts.as_slice())?;
+        let kinds = copies_of_rows(alloc, self.kinds.as_slice())?;
+        let allowed = copies_of_rows(alloc, self.allowed.as_slice())?;
+        Ok((restarts, kinds, allowed))
+    }
+}
+
+/// The state before any event: the time is 0, all nodes are down, nothing is started, and the permissions are those of the
+/// cluster file. It keeps a copy of the cluster.
+#[tactic(auto, unfolding(crate::specs::Words::read, crate::specs::Words::timers_of))]
+pub fn first_state(alloc: Global, cluster: &Cluster) -> Result<State, OutOfMemory>
+    ensures { IfOk result (λ state. read state ≡ first cluster.now) }
+{
+    let nodes = cluster.node_count();
+    let apps = cluster.app_count();
+    let modes = vec![in alloc; Mode::Down; nodes]?;
+    let incarnations = vec![in alloc; 0; nodes]?;
+    let running = empty_lists(alloc, nodes)?;
+    let waiting = empty_lists(alloc, nodes)?;
+    let restarts = rows_of(alloc, nodes, apps, Restart::Temporary)?;
+    let kinds = rows_of(alloc, nodes, apps, Kind::Normal)?;
+    let allowed = permissions_of(alloc, cluster)?;
+    let standings = vec![in alloc; Standing::Quiet; apps]?;
+    let wheel = Wheel::new(alloc, (nodes + apps) as u32)?;
+    // The cluster comes last: there is most to drop of it.
+    let cluster = cluster.copy(alloc)?;
+    Ok(State {
+        cluster,
+        time: 0,
+        modes,
+        incarnations,
+        running,
+        waiting,
+        restarts,
+        kinds,
+        allowed,
+        standings,
+        wheel,
+    })
+}
+
+// The permissions that are configured, node by node.
+#[tactic(auto, using(crate::proofs::FirstStates::map_numbered_more), unfolding(crate::specs::Numbers::nodes_of))]
+fn permissions_of(alloc: Global, cluster: &Cluster) -> Result<Vec<Row<bool>>, OutOfMemory>
+    ensures { IfOk result (λ table. table.items ≡ map (configured cluster.now) (nodes_of cluster.now)) }
+{
+    let mut table = Vec::new(alloc);
+    for number in 0..cluster.node_count() {
+        table.push(permissions_at(alloc, cluster, Node(number as u8))?)?;
+    }
+    Ok(table)
+}
+
+// The permissions that are configured at a node.
+#[tactic(auto, using(crate::proofs::FirstStates::map_numbered_more), unfolding(crate::specs::First::configured, crate::specs::Numbers::apps_of))]
+fn permissions_at(alloc: Global, cluster: &Cluster, node: Node) -> Result<Row<bool>, OutOfMemory>
+    requires { node.0 < node_count cluster.now }
+    ensures { IfOk result (λ row. row ≡ configured cluster.now node) }
+{
+    let mut permissions = Vec::new(alloc);
+    for number in 0..cluster.app_count() {
+        permissions.push(cluster.permitted(node, App(number as u8)))?;
+    }
+    Ok(Row::of(permissions))
+}

@@ -1,0 +1,154 @@
+//! The readers of a state.
+
+ghost use Rattle.std.specs.Prelude.{◌≡◌, ◌<◌, ◌≤◌, IfSome};
+ghost use Rattle.rh_parts.specs.ClusterView.{node_count, app_count};
+ghost use Rattle.rh_state.specs.Limits.{time_limit, incarnation_limit};
+ghost use Rattle.rh_state.specs.StateView.{mode_of, incarnation_of, running_at, waiting_at, running_count, place_of, next_in_list, restart_of, kind_of, is_allowed, standing_of};
+ghost use Rattle.rh_state.specs.Shape.{IsAppOf, IsKindOf, IsStandingOf};
+ghost use Rattle.rh_state.specs.Words.{read};
+ghost use Rattle.std.specs.Prelude.{slice_get};
+
+use crate::parts::{Kind, Mode, Place, Standing};
+use crate::state::State;
+use rh_parts::{App, Cluster, Node, Restart};
+
+impl State {
+    /// The cluster.
+    #[tactic(auto, unfolding(crate::specs::Words::read))]
+    pub fn cluster(&self) -> &Cluster
+        ensures { result.now ≡ (read self.now).cluster }
+    {
+        &self.cluster
+    }
+
+    /// The time in milliseconds since the first state: at most 10^12.
+    #[tactic(auto, unfolding(crate::specs::Words::read))]
+    pub fn now(&self) -> u64
+        ensures time { result ≡ (read self.now).time }
+        ensures limit { result ≤ time_limit }
+    {
+        self.time
+    }
+
+    /// What a node does.
+    #[tactic(auto, unfolding(crate::specs::Words::read))]
+    pub fn mode(&self, node: Node) -> Mode
+        requires { node.0 < node_count (read self.now).cluster }
+        ensures { result ≡ mode_of (read self.now) node }
+    {
+        self.modes[node.0 as usize]
+    }
+
+    /// How often a node was started: 0 to 9,999.
+    #[tactic(auto, unfolding(crate::specs::Words::read))]
+    pub fn incarnation(&self, node: Node) -> u16
+        requires { node.0 < node_count (read self.now).cluster }
+        ensures incarnation { result ≡ incarnation_of (read self.now) node }
+        ensures limit { result ≤ incarnation_limit }
+    {
+        self.incarnations[node.0 as usize]
+    }
+
+    /// In which list of a node an application stands.
+    #[tactic(auto, unfolding(crate::specs::Words::read))]
+    pub fn place_of(&self, node: Node, app: App) -> Place
+        requires { node.0 < node_count (read self.now).cluster }
+        ensures { result ≡ place_of (read self.now) node app }
+    {
+        let index = node.0 as usize;
+        if self.running[index].has(app) {
+            Place::InRunning
+        } else if self.waiting[index].has(app) {
+            Place::InWaiting
+        } else {
+            Place::Off
+        }
+    }
+
+    /// The application that stands first among those that run at a node.
+    #[tactic(auto, unfolding(crate::specs::Words::read))]
+    pub fn first_running(&self, node: Node) -> Option<App>
+        requires { node.0 < node_count (read self.now).cluster }
+        ensures first { result ≡ slice_get (running_at (read self.now) node) 0 }
+        ensures number { IfSome result (λ app. IsAppOf (read self.now).cluster app) }
+    {
+        self.running[node.0 as usize].first()
+    }
+
+    /// The application that stands first among those that wait at a node.
+    #[tactic(auto, unfolding(crate::specs::Words::read))]
+    pub fn first_waiting(&self, node: Node) -> Option<App>
+        requires { node.0 < node_count (read self.now).cluster }
+        ensures first { result ≡ slice_get (waiting_at (read self.now) node) 0 }
+        ensures number { IfSome result (λ app. IsAppOf (read self.now).cluster app) }
+    {
+        self.waiting[node.0 as usize].first()
+    }
+
+    /// The application that stands behind this one in its list at a node; `None` for the last one of a list, and for one that
+    /// stands in none.
+    #[tactic(auto, unfolding(crate::specs::Words::read))]
+    pub fn next_in_list(&self, node: Node, app: App) -> Option<App>
+        requires { node.0 < node_count (read self.now).cluster }
+        ensures next { result ≡ next_in_list (read self.now) node app }
+        ensures number { IfSome result (λ app. IsAppOf (read self.now).cluster app) }
+    {
+        let index = node.0 as usize;
+        if self.running[index].has(app) {
+            self.running[index].behind(app)
+        } else {
+            self.waiting[index].behind(app)
+        }
+    }
+
+    /// How many applications run at a node.
+    #[tactic(auto, unfolding(crate::specs::Words::read))]
+    pub fn running_count(&self, node: Node) -> usize
+        requires { node.0 < node_count (read self.now).cluster }
+        ensures { result ≡ running_count (read self.now) node }
+    {
+        self.running[node.0 as usize].count()
+    }
+
+    /// The restart type that an application was last given at a node, also where it isn't started: temporary at first
+    /// (application(3)).
+    #[tactic(auto, unfolding(crate::specs::Words::read))]
+    pub fn restart_of(&self, node: Node, app: App) -> Restart
+        requires node { node.0 < node_count (read self.now).cluster }
+        requires app { app.0 < app_count (read self.now).cluster }
+        ensures { result ≡ restart_of (read self.now) node app }
+    {
+        self.restarts[node.0 as usize].at(app.0)
+    }
+
+    /// How an application was last started at a node, also where it doesn't run: normally at first (application(3)).
+    #[tactic(auto, unfolding(crate::specs::Words::read))]
+    pub fn kind_of(&self, node: Node, app: App) -> Kind
+        requires node { node.0 < node_count (read self.now).cluster }
+        requires app { app.0 < app_count (read self.now).cluster }
+        ensures kind { result ≡ kind_of (read self.now) node app }
+        ensures number { IsKindOf (read self.now).cluster result }
+    {
+        self.kinds[node.0 as usize].at(app.0)
+    }
+
+    /// May an application run at a node (kernel(6), `permissions`)?
+    #[tactic(auto, unfolding(crate::specs::Words::read))]
+    pub fn allowed(&self, node: Node, app: App) -> bool
+        requires node { node.0 < node_count (read self.now).cluster }
+        requires app { app.0 < app_count (read self.now).cluster }
+        ensures { result ≡ is_allowed (read self.now) node app }
+    {
+        self.allowed[node.0 as usize].at(app.0)
+    }
+
+    /// Where an application stands; a local one is always quiet.
+    #[tactic(auto, unfolding(crate::specs::Words::read))]
+    pub fn standing(&self, app: App) -> Standing
+        requires { app.0 < app_count (read self.now).cluster }
+        ensures standing { result ≡ standing_of (read self.now) app }
+        ensures number { IsStandingOf (read self.now).cluster result }
+    {
+        self.standings[app.0 as usize]
+    }
+}

@@ -1,0 +1,102 @@
+//! The timers of a state. Only the list of all of them takes memory.
+
+ghost use Rattle.std.specs.Prelude.{◌≡◌, ◌<◌, IsSome, IsNone, IfSome, IfOk, All};
+ghost use Rattle.rh_wheel.specs.Words.{timer_count};
+ghost use Rattle.rh_state.specs.Timers.{number_of, timer_numbered};
+ghost use Rattle.rh_state.specs.StateView.{due_of, earliest};
+ghost use Rattle.rh_state.specs.Setters.{with_timer, without_due};
+ghost use Rattle.rh_state.specs.Shape.{IsTimerOf};
+ghost use Rattle.rh_state.specs.Words.{read};
+
+use crate::parts::Timer;
+use crate::state::State;
+use rh_parts::{App, Node};
+use rh_terms::OutOfMemory;
+use std::alloc::Global;
+
+impl State {
+    // The number of a timer in the wheel.
+    fn number_of(&self, timer: Timer) -> u32
+        requires { IsTimerOf self.now.cluster timer }
+        ensures number { result ≡ number_of self.now.cluster timer }
+        ensures numbered { timer_numbered self.now.cluster result ≡ timer }
+        ensures within { result < timer_count self.now.wheel }
+    {
+        match timer {
+            Timer::Sync(node) => node.0 as u32,
+            Timer::Failover(app) => self.cluster.node_count() as u32 + app.0 as u32,
+        }
+    }
+
+    // The timer that has a number in the wheel.
+    fn timer_of(&self, number: u32) -> Timer
+        requires { number < timer_count self.now.wheel }
+        ensures timer { result ≡ timer_numbered self.now.cluster number }
+        ensures within { IsTimerOf self.now.cluster result }
+    {
+        let nodes = self.cluster.node_count() as u32;
+        if number < nodes {
+            Timer::Sync(Node(number as u8))
+        } else {
+            let _apps = self.cluster.app_count();
+            Timer::Failover(App((number - nodes) as u8))
+        }
+    }
+
+    /// When a timer is due, in milliseconds; `None` exactly if it isn't set.
+    #[tactic(auto, unfolding(crate::specs::Words::read))]
+    pub fn due_of(&self, timer: Timer) -> Option<u64>
+        requires { IsTimerOf (read self.now).cluster timer }
+        ensures { result ≡ due_of (read self.now) timer }
+    {
+        self.wheel.due_of(self.number_of(timer))
+    }
+
+    /// The timer that fires first, behind its due time; `None` exactly if none is set.
+    #[tactic(auto, unfolding(crate::specs::Words::read))]
+    pub fn earliest(&self) -> Option<(u64, Timer)>
+        ensures first { result ≡ earliest (read self.now) }
+        ensures number { IfSome result (λ entry. IsTimerOf (read self.now).cluster entry.1) }
+    {
+        match self.wheel.earliest() {
+            Some((due, number)) => Some((due, self.timer_of(number))),
+            None => None,
+        }
+    }
+
+    /// All timers that are set, each behind its due time, in the order in which they fire.
+    pub fn timers(&self, alloc: Global) -> Result<Vec<(u64, Timer)>, OutOfMemory>
+        ensures timers { IfOk result (λ timers. timers.items ≡ (read self.now).timers) }
+        ensures numbers { IfOk result (λ timers. All (λ entry. IsTimerOf (read self.now).cluster entry.1) timers.items) }
+    {
+        let mut timers = Vec::new(alloc);
+        for place in 0..self.wheel.armed_count() {
+            if let Some((due, number)) = self.wheel.entry(place) {
+                timers.push((due, self.timer_of(number)))?;
+            }
+        }
+        Ok(timers)
+    }
+
+    /// Sets a timer that isn't set, with its due time in milliseconds. It fires behind all that aren't due later.
+    #[tactic(auto, unfolding(crate::specs::Words::read))]
+    pub fn arm_timer(&mut self, timer: Timer, due: u64)
+        requires timer { IsTimerOf (read self.old).cluster timer }
+        requires unset { IsNone (due_of (read self.old) timer) }
+        ensures { read self.new ≡ with_timer (read self.old) due timer }
+    {
+        let number = self.number_of(timer);
+        self.wheel.arm(number, due);
+    }
+
+    /// Cancels a timer that is set.
+    #[tactic(auto, unfolding(crate::specs::Words::read))]
+    pub fn cancel_timer(&mut self, timer: Timer)
+        requires timer { IsTimerOf (read self.old).cluster timer }
+        requires set { IsSome (due_of (read self.old) timer) }
+        ensures { read self.new ≡ without_due (read self.old) timer }
+    {
+        let number = self.number_of(timer);
+        self.wheel.cancel(number);
+    }
+}

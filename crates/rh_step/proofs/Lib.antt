@@ -1,0 +1,15 @@
+pub mod Steps
+pub mod Fuel
+pub mod Outcomes
+pub mod TimeLaws
+pub mod TickLaws
+pub mod StayUp
+pub mod ValidTimers
+pub mod ValidArming
+pub mod ValidParts
+pub mod ValidReadiness
+pub mod ValidSteps
+pub mod ValidTicks
+pub mod ValidEvents
+pub mod Rows
+pub mod Alive

@@ -1,0 +1,9 @@
+pub mod Course
+pub mod Readiness
+pub mod Refusals
+pub mod Changes
+pub mod Ticks
+pub mod Outcomes
+pub mod Allowed
+pub mod Validity
+pub mod Laws

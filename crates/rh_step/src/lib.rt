@@ -1,0 +1,18 @@
+//! One step of a cluster: what may happen to it, when that is refused, and what follows from it.
+//!
+//! [`refusal_of`] says why an [`Event`] is refused in a state, and [`perform`] makes one that isn't.
+#![tactic(auto)]
+
+mod changes;
+mod event;
+mod laws;
+mod refusal;
+mod step;
+mod ticks;
+
+pub use event::{Event, Notice, Notices, Pick};
+pub use laws::{
+    first_is_valid, next_is_allowed, next_is_valid, ticks_add_up, time_goes_on, up_until_ended,
+};
+pub use refusal::{Refusal, refusal_of};
+pub use step::perform;

@@ -1,0 +1,51 @@
+//! The calls of a state that take memory, with ample memory.
+
+use crate::calls::cluster_of;
+use rh_cluster::{App, Node};
+use rh_state::{State, Timer, first_state};
+use std::alloc::Global;
+use std::process::Abort;
+
+static TWO_NODES: &str = "\
+{node, n1@cave, []}.
+{node, n2@cave, [{kernel, [{permissions, [{app, false}]}]}]}.
+{application, app, []}.
+";
+
+fn has_permissions(rt: &impl Abort, state: &State) {
+    assert!(rt; state.cluster().node_count() == 2);
+    assert!(rt; state.cluster().app_count() == 1);
+    assert!(rt; state.allowed(Node(0), App(0)));
+    assert!(rt; !state.allowed(Node(1), App(0)));
+}
+
+fn arm(rt: &impl Abort, state: &mut State) {
+    assert!(rt; state.cluster().app_count() == 1);
+    let timer = Timer::Failover(App(0));
+    assert!(rt; state.due_of(timer).is_none());
+    state.arm_timer(timer, 36);
+}
+
+fn has_timer(rt: &impl Abort, alloc: Global, state: &State) {
+    let timers = state.timers(alloc).ok().expect(rt, "memory");
+    assert!(rt; timers.as_slice() == [(36, Timer::Failover(App(0)))].as_slice());
+}
+
+// The first state of the cluster, which drops the cluster that was read.
+fn begun(rt: &impl Abort, alloc: Global) -> State {
+    let cluster = cluster_of(rt, alloc, TWO_NODES);
+    first_state(alloc, &cluster).ok().expect(rt, "memory")
+}
+
+fn copied(rt: &impl Abort, alloc: Global, state: &State) {
+    let copy = state.copy(alloc).ok().expect(rt, "memory");
+    has_timer(rt, alloc, &copy);
+}
+
+#[test]
+fn a_state_its_copy_and_its_timers(rt: HostRuntime) {
+    let mut state = begun(&rt, rt.alloc());
+    has_permissions(&rt, &state);
+    arm(&rt, &mut state);
+    copied(&rt, rt.alloc(), &state);
+}
