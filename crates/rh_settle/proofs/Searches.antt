@@ -1,0 +1,124 @@
+-- A search for the first that is given.
+use Rattle.std.proofs.Common.{◌≡◌, ℕ, ◌+◌, ◌<◌, ◌≤◌, List, [], ◌∷◌, map, Option, Some, None, refl, sym, ap, ◌∙◌, drop, get_or, length, arith, zero, suc, is_some}
+use Rattle.std.specs.List.{range_with_len, last_or}
+use Rattle.std.specs.Option.{option_map}
+use Rattle.std.proofs.lemmas.List.{length-map}
+use Rattle.std.proofs.lemmas.List.FromFn.{get_or-range_with_len, length-range_with_len}
+use Rattle.rh_place.specs.declared.choosing.Pick.{Pick}
+use Rattle.rh_place.specs.declared.choosing.Pick.TheVariants.{First, Last}
+use Rattle.rh_place.specs.Picks.{or_else, first_given, picked}
+use Rattle.rh_place.proofs.Lists.{picked_none}
+use Rattle.std.proofs.lemmas.List.{at_drop_more, at_drop_all}
+use Rattle.rh_state.specs.Numbers.{nodes_of, apps_of}
+use Rattle.rh_parts.specs.declared.node.Node.{Node}
+use Rattle.rh_parts.specs.declared.node.App.{App}
+use Rattle.rh_parts.specs.ClusterView.{ClusterView, node_count, app_count, numbered, app_numbered}
+
+pub none_of_none : {A : Type 0} (pick : Pick) → None ≡ picked {A = A} pick []
+none_of_none First = refl
+none_of_none Last = refl
+
+given_more : {A B : Type 0} (f : A → List B) (xs : List A) (i : ℕ) (d : A) → i < length xs → first_given f (drop i xs) ≡ or_else (f (get_or xs i d)) (first_given f (drop (i + 1) xs))
+given_more f xs i d h = at_drop_more (first_given f) xs i d h
+
+given_all : {A B : Type 0} (f : A → List B) (xs : List A) (i : ℕ) → length xs ≤ i → first_given f (drop i xs) ≡ []
+given_all f xs i h = at_drop_all (first_given f) xs i h
+
+-- the pick takes none only of an empty list
+pub none_picked : {A : Type 0} (pick : Pick) (xs : List A) → picked pick xs ≡ None → xs ≡ []
+none_picked pick xs h = (picked_none pick xs).0 (ap is_some h)
+
+pub some_picked : {A : Type 0} (pick : Pick) (xs ys : List A) (o : A) → picked pick xs ≡ Some o → or_else xs ys ≡ xs
+some_picked pick (x ∷ xs) ys o h = refl
+some_picked pick [] ys o h = clash pick o h
+  where
+    clash : {A P : Type 0} (pick : Pick) (y : A) → picked pick [] ≡ Some y → P
+    clash First y e = cc
+    clash Last y e = cc
+
+module _ {A B : Type 0} (pick : Pick) (f : A → List B) (items all : List A) (i : ℕ) (so_far : first_given f (drop i items) ≡ first_given f all) where
+  pub found : (d : A) (o : B) → i < length items → Some o ≡ picked pick (f (get_or items i d)) → Some o ≡ picked pick (first_given f all)
+  found d o lt h = h ∙ ap (picked pick)
+      (sym (some_picked pick (f (get_or items i d)) (first_given f (drop (i + 1) items)) o (sym h))
+      ∙ sym (given_more f items i d lt) ∙ so_far)
+
+  pub later : (d : A) → i < length items → None ≡ picked pick (f (get_or items i d)) → first_given f (drop (i + 1) items) ≡ first_given f all
+  later d lt h =
+      ap (λ xs. or_else xs (first_given f (drop (i + 1) items))) (sym (none_picked pick (f (get_or items i d)) (sym h)))
+      ∙ sym (given_more f items i d lt) ∙ so_far
+
+  pub none : length items ≤ i → None ≡ picked pick (first_given f all)
+  none ge = none_of_none pick ∙ ap (picked pick) (sym (given_all f items i ge) ∙ so_far)
+
+get_or-map_here : {A B : Type 0} (f : A → B) (xs : List A) (i : ℕ) (d : A) (e : B) → i < length xs → get_or (map f xs) i e ≡ f (get_or xs i d)
+get_or-map_here f [] i d e h = absurd (omega arith)
+get_or-map_here f (x ∷ xs) zero d e h = refl
+get_or-map_here f (x ∷ xs) (suc i) d e h = get_or-map_here f xs i d e (omega arith)
+
+pub length_nodes : (c : ClusterView) → length (nodes_of c) ≡ node_count c
+unfolding nodes_of
+length_nodes c = length-map (range_with_len 0 (node_count c)) numbered ∙ length-range_with_len 0 (node_count c)
+
+pub length_apps : (c : ClusterView) → length (apps_of c) ≡ app_count c
+unfolding apps_of
+length_apps c = length-map (range_with_len 0 (app_count c)) app_numbered ∙ length-range_with_len 0 (app_count c)
+
+pub node_there : (c : ClusterView) (i : ℕ) (d : Node) → i < node_count c → get_or (nodes_of c) i d ≡ numbered i
+unfolding nodes_of
+node_there c i d lt =
+    let l : i < length (range_with_len 0 (node_count c)) = (let e = length-range_with_len 0 (node_count c) in omega arith) in
+    get_or-map_here numbered (range_with_len 0 (node_count c)) i 0 d l ∙ ap numbered (get_or-range_with_len 0 (node_count c) i 0 lt ∙ plus i)
+  where
+    plus : (i : ℕ) → 0 + i ≡ i
+    plus i = omega arith
+
+pub app_there : (c : ClusterView) (i : ℕ) (d : App) → i < app_count c → get_or (apps_of c) i d ≡ app_numbered i
+unfolding apps_of
+app_there c i d lt =
+    let l : i < length (range_with_len 0 (app_count c)) = (let e = length-range_with_len 0 (app_count c) in omega arith) in
+    get_or-map_here app_numbered (range_with_len 0 (app_count c)) i 0 d l ∙ ap app_numbered (get_or-range_with_len 0 (app_count c) i 0 lt ∙ plus i)
+  where
+    plus : (i : ℕ) → 0 + i ≡ i
+    plus i = omega arith
+
+-- the pick of moves to several nodes
+pub picked_map : {A B : Type 0} (pick : Pick) (f : A → B) (xs : List A) → picked pick (map f xs) ≡ option_map f (picked pick xs)
+picked_map First f [] = refl
+picked_map First f (x ∷ xs) = refl
+picked_map Last f xs = last f xs None
+  where
+    last : {A B : Type 0} (f : A → B) (xs : List A) (before : Option A) → last_or (option_map f before) (map f xs) ≡ option_map f (last_or before xs)
+    last f [] before = refl
+    last f (x ∷ xs) before = last f xs (Some x)
+
+module _ {B : Type 0} (pick : Pick) (c : ClusterView) (f : Node → List B) (i : ℕ) (so_far : first_given f (drop i (nodes_of c)) ≡ first_given f (nodes_of c)) where
+  no_such : Node
+  no_such = numbered 0
+
+  pub found_node : (o : B) → i < node_count c → Some o ≡ picked pick (f (numbered i)) → Some o ≡ picked pick (first_given f (nodes_of c))
+  found_node o lt h = let l = length_nodes c in found pick f (nodes_of c) (nodes_of c) i so_far no_such o (omega arith) (h ∙ ap (λ n. picked pick (f n)) (sym (node_there c i no_such lt)))
+
+  pub later_node : i < node_count c → None ≡ picked pick (f (numbered i)) → first_given f (drop (i + 1) (nodes_of c)) ≡ first_given f (nodes_of c)
+  later_node lt h = let l = length_nodes c in later pick f (nodes_of c) (nodes_of c) i so_far no_such (omega arith) (h ∙ ap (λ n. picked pick (f n)) (sym (node_there c i no_such lt)))
+
+  pub no_node_left : node_count c ≤ i → None ≡ picked pick (first_given f (nodes_of c))
+  no_node_left ge = let l = length_nodes c in none pick f (nodes_of c) (nodes_of c) i so_far (omega arith)
+
+module _ {B : Type 0} (pick : Pick) (c : ClusterView) (f : App → List B) (i : ℕ) (so_far : first_given f (drop i (apps_of c)) ≡ first_given f (apps_of c)) where
+  no_such_app : App
+  no_such_app = app_numbered 0
+
+  pub found_app : (o : B) → i < app_count c → Some o ≡ picked pick (f (app_numbered i)) → Some o ≡ picked pick (first_given f (apps_of c))
+  found_app o lt h = let l = length_apps c in found pick f (apps_of c) (apps_of c) i so_far no_such_app o (omega arith) (h ∙ ap (λ n. picked pick (f n)) (sym (app_there c i no_such_app lt)))
+
+  pub later_app : i < app_count c → None ≡ picked pick (f (app_numbered i)) → first_given f (drop (i + 1) (apps_of c)) ≡ first_given f (apps_of c)
+  later_app lt h = let l = length_apps c in later pick f (apps_of c) (apps_of c) i so_far no_such_app (omega arith) (h ∙ ap (λ n. picked pick (f n)) (sym (app_there c i no_such_app lt)))
+
+  pub no_app_left : app_count c ≤ i → None ≡ picked pick (first_given f (apps_of c))
+  no_app_left ge = let l = length_apps c in none pick f (apps_of c) (apps_of c) i so_far (omega arith)
+
+pub either_some : {A : Type 0} (pick : Pick) (xs ys : List A) (o : A) → Some o ≡ picked pick xs → Some o ≡ picked pick (or_else xs ys)
+either_some pick xs ys o h = h ∙ ap (picked pick) (sym (some_picked pick xs ys o (sym h)))
+
+pub either_none : {A : Type 0} (pick : Pick) (xs ys : List A) (r : Option A) → None ≡ picked pick xs → r ≡ picked pick ys → r ≡ picked pick (or_else xs ys)
+either_none pick xs ys r h k = k ∙ ap (λ zs. picked pick (or_else zs ys)) (sym (none_picked pick xs (sym h)))

@@ -1,0 +1,91 @@
+use Rattle.std.proofs.Common.{◌≡◌, ◌<◌, ℕ, sym, ap, ◌∙◌, cond, true, false, List, [], ◌∷◌, Some, IfSome, length, refl, subst, arith}
+use Rattle.rh_parts.specs.declared.node.Node.{Node}
+use Rattle.rh_parts.specs.declared.node.App.{App}
+use Rattle.rh_state.specs.Lists.{has_app, next_app}
+use Rattle.rh_state.specs.StateView.{StateView, waiting_at, running_at, next_in_list}
+use Rattle.rh_state.specs.Words.{read}
+use Rattle.rh_place.specs.declared.choosing.Pick.{Pick}
+use Rattle.rh_place.specs.declared.choosing.Pick.TheVariants.{First, Last}
+use Rattle.rh_place.specs.Picks.{picked, first_given}
+use Rattle.rh_settle.specs.declared.notice.Move.{Move}
+use Rattle.rh_settle.specs.declared.notice.Move.TheVariants.{Local}
+use Rattle.rh_settle.specs.Moves.{can_start, local_move, local_moves}
+use Rattle.rh_settle.specs.Validity.{OnceAtEachNode}
+use Rattle.rh_settle.proofs.Searches.{none_of_none}
+use Rattle.rh_settle.proofs.ListWalks.{once_of, left_of, all_left, first_is_next, next_is_next, found_on_walk, later_on_walk, end_of_walk, shorter_walk, is_in_list}
+use Rattle.rh_settle.proofs.search.local_at.Goals as goal
+
+single : (pick : Pick) (m : Move) → Some m ≡ picked pick (m ∷ [])
+single First m = refl
+single Last m = refl
+
+-- behind a pair that waits stands the next one that waits
+behind_waiting : (s : StateView) (n : Node) (a : App) → OnceAtEachNode s → has_app (waiting_at s n) a ≡ true → next_in_list s n a ≡ next_app (waiting_at s n) a
+behind_waiting s n a once h = ap (λ b. cond b (next_app (running_at s n) a) (next_app (waiting_at s n) a)) (once.apart n a h)
+
+-- an application that can start gives its move, and another gives none
+move_of : (s : StateView) (n : Node) (a : App) → can_start s n a ≡ true → local_move s n a ≡ Local n a ∷ []
+move_of s n a h = ap (λ b. cond b (Local n a ∷ []) []) h
+
+no_move_of : (s : StateView) (n : Node) (a : App) → can_start s n a ≡ false → local_move s n a ≡ []
+no_move_of s n a h = ap (λ b. cond b (Local n a ∷ []) []) h
+
+pub waiting-init : goal.waiting-init
+waiting-init c =
+    let s = read c.args.state.now in
+    let apps : List App = waiting_at s c.args.node in
+    record {
+      same = ap (λ o. first_given (local_move s c.args.node) (left_of apps o)) c.first_waiting-waiting.ensures.first
+          ∙ ap (first_given (local_move s c.args.node)) (all_left apps);
+      next = subst (λ o. IfSome o (λ a. has_app apps a ≡ true)) (sym c.first_waiting-waiting.ensures.first) (first_is_next apps);
+      number = c.first_waiting-waiting.ensures.number;
+    }
+
+pub returns-then-can_start : goal.returns-then-can_start
+unfolding local_moves
+returns-then-can_start c = λ pick.
+    let s = read c.args.state.now in
+    let n = c.args.node in
+    let a = c.in-Some.app in
+    let apps : List App = waiting_at s n in
+    let there = is_in_list (λ b. has_app apps b ≡ true) c.waiting.waiting a c.waiting.invariant.next c.in-Some.is in
+    single pick (Local n a)
+    ∙ ap (picked pick) (sym (found_on_walk (local_move s n) apps c.waiting.waiting c.waiting.invariant.same a (Local n a)
+    (once_of apps (c.requires.once.waiting n)) there c.in-Some.is (move_of s n a (sym c.can_start.ensures ∙ c.if-can_start.true))))
+
+pub waiting-smaller : goal.waiting-smaller
+waiting-smaller c =
+    let s = read c.args.state.now in
+    let n = c.args.node in
+    let a = c.in-Some.app in
+    let apps : List App = waiting_at s n in
+    let there = is_in_list (λ b. has_app apps b ≡ true) c.waiting.waiting a c.waiting.invariant.next c.in-Some.is in
+    let less = shorter_walk apps a (once_of apps (c.requires.once.waiting n)) there in
+    let before : length (left_of apps c.waiting.waiting) ≡ length (left_of apps (Some a)) = ap (λ o. length (left_of apps o)) c.in-Some.is in
+    let after : length (left_of apps c.next_in_list-waiting.result) ≡ length (left_of apps (next_app apps a)) =
+    ap (λ o. length (left_of apps o)) (c.next_in_list-waiting.ensures.next ∙ behind_waiting s n a c.requires.once there) in
+    fewer before after less
+  where
+    fewer : {i j k l : ℕ} → i ≡ j → k ≡ l → l < j → k < i
+    fewer e f h = omega arith
+
+pub waiting-preserved : goal.waiting-preserved
+waiting-preserved c =
+    let s = read c.args.state.now in
+    let n = c.args.node in
+    let a = c.in-Some.app in
+    let apps : List App = waiting_at s n in
+    let there = is_in_list (λ b. has_app apps b ≡ true) c.waiting.waiting a c.waiting.invariant.next c.in-Some.is in
+    let behind = c.next_in_list-waiting.ensures.next ∙ behind_waiting s n a c.requires.once there in
+    record {
+      same = ap (λ o. first_given (local_move s n) (left_of apps o)) behind
+          ∙ later_on_walk (local_move s n) apps c.waiting.waiting c.waiting.invariant.same a (once_of apps (c.requires.once.waiting n)) there c.in-Some.is (no_move_of s n a (sym c.can_start.ensures ∙ c.if-can_start.false));
+      next = subst (λ o. IfSome o (λ b. has_app apps b ≡ true)) (sym behind) (next_is_next apps a);
+      number = c.next_in_list-waiting.ensures.number;
+    }
+
+pub returns : goal.returns
+unfolding local_moves
+returns c = λ pick.
+    let s = read c.args.state.now in
+    none_of_none pick ∙ ap (picked pick) (sym (end_of_walk (local_move s c.args.node) (waiting_at s c.args.node) c.waiting.waiting c.waiting.invariant.same c.in_default.is))

@@ -1,0 +1,18 @@
+use Rattle.std.proofs.Common.{◌≡◌}
+use Rattle.rh_state.specs.Words.{read}
+use Rattle.rh_settle.specs.Course.{course}
+use Rattle.rh_settle.specs.Settling.{all_moved}
+use Rattle.rh_settle.specs.Validity.{RunsWhereItStands, OnceAtEachNode}
+use Rattle.rh_settle.proofs.Falls.{points}
+use Rattle.rh_settle.proofs.settling.make_moves.Given as goal
+
+abbrev pub invariant-moves : goal.invariant-moves
+invariant-moves l = record {
+  same : all_moved l.pick (course (read l.state) l.notices.items l.marked) ≡ all_moved l.pick (course (read l.fn.state) l.fn.notices.items l.marked);
+  cluster : (read l.state).cluster ≡ (read l.fn.state).cluster;
+  runs : RunsWhereItStands (read l.state);
+  once : OnceAtEachNode (read l.state);
+}
+
+abbrev pub decreases-moves : goal.decreases-moves
+decreases-moves l = points (read l.state)

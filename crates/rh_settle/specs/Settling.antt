@@ -1,0 +1,52 @@
+-- Settling: next moves until there is none, and then the pairs that wait (Distributed Applications; ours).
+use Rattle.std.specs.Prelude.{ℕ, ◌*◌, ◌≡◌, zero, suc, List, [], ◌∷◌, fold, Contains, Option, Some, None, if◌then◌else◌}
+use Rattle.rh_parts.specs.ClusterView.{ClusterView, node_count, app_count}
+use Rattle.rh_state.specs.StateView.{waits_at}
+use Rattle.rh_place.specs.declared.choosing.Pick.{Pick}
+use Rattle.rh_place.specs.Picks.{picked}
+use Rattle.rh_settle.specs.declared.notice.Move.{Move}
+use Rattle.rh_settle.specs.declared.notice.Notice.TheVariants as notice
+use Rattle.rh_settle.specs.declared.notice.Pair.{Pair}
+use Rattle.rh_settle.specs.Course.{Course, told}
+use Rattle.rh_settle.specs.Moves.{next_moves, moved}
+
+abbrev pub nexts : Course → List Move
+nexts o = next_moves o.state o.marked
+
+-- each move is a next one when it is made, and behind the last there is none
+abbrev pub AreNext : Course → List Move → Type 0
+AreNext o [] = nexts o ≡ []
+AreNext o (move ∷ moves) = Contains (nexts o) move × AreNext (moved o move) moves
+
+-- each marked pair that waits is told, in marking order
+abbrev pub tell_waiting : Course → Pair → Course
+tell_waiting o p = if waits_at o.state p.node p.app then told o (notice.Waits p.app p.node) else o
+
+abbrev pub waits_told : Course → Course
+waits_told o = fold tell_waiting o o.marked
+
+-- settling, with ties free
+pub record Settles (o p : Course) : Type 0 where
+  pub moves : List Move
+  pub are_next : AreNext o moves
+  pub outcome : p ≡ waits_told (fold moved o moves)
+
+-- the moves in which each tie goes to the pick, at most so many
+abbrev pub after_move : Course → Option Move → (Course → Course) → Course
+after_move o None go_on = o
+after_move o (Some move) go_on = go_on (moved o move)
+
+unfoldable pub moved_by : Pick → ℕ → Course → Course
+moved_by pick zero o = o
+moved_by pick (suc limit) o = after_move o (picked pick (nexts o)) (moved_by pick limit)
+
+abbrev pub pair_count : ClusterView → ℕ
+pair_count c = node_count c * app_count c
+
+-- all of them: twice as many moves as pairs are enough
+unfoldable pub all_moved : Pick → Course → Course
+all_moved pick o = moved_by pick (2 * pair_count o.state.cluster) o
+
+-- settling, where each tie goes to the pick
+abbrev pub settled : Pick → Course → Course
+settled pick o = waits_told (all_moved pick o)
