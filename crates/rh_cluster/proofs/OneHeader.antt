@@ -57,6 +57,10 @@ pub no_app : (t : Tree) (x : List ℕ × Tree) → as_node t ≡ Some x → as_a
 unfolding as_headed
 no_app t x h = one_word_parts (codes "node") (codes "application") (as_triple t) x refl h
 
+pub no_node : (t : Tree) (x : List ℕ × Tree) → as_app t ≡ Some x → as_node t ≡ None
+unfolding as_headed
+no_node t x h = one_word_parts (codes "application") (codes "node") (as_triple t) x refl h
+
 pub node_names-append : (ts : List Tree) (t : Tree) → node_names (ts ++ t ∷ []) ≡ node_names ts ++ node_names (t ∷ [])
 unfolding node_names
 node_names-append ts t = ap (map (λ (n : List ℕ × Tree). n.0)) (filter_map-append as_node ts (t ∷ [])) ∙ map-append (λ (n : List ℕ × Tree). n.0) (filter_map as_node ts) (filter_map as_node (t ∷ []))

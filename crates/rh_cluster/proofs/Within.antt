@@ -1,7 +1,7 @@
 -- What the terms of a file say of nodes and of applications is within the cluster.
-use Rattle.std.proofs.Common.{◌≡◌, ◌<◌, ℕ, Bool, List, [], ◌∷◌, length, map, position, cond, Option, Some, None, refl, sym, ap, ◌∙◌, subst, slice_get, true, false, codes, ◌||◌}
-use Rattle.std.specs.Prelude.{All, IsSome, is_some, unwrap_or, not, ◌==◌}
-use Rattle.std.specs.List.{filter_map, cons_option, list_any}
+use Rattle.std.proofs.Common.{◌≡◌, ◌≢◌, ◌<◌, ◌≤◌, ℕ, Bool, List, [], ◌∷◌, length, map, position, cond, Option, Some, None, refl, sym, ap, ◌∙◌, subst, slice_get, true, false, codes, ◌||◌, arith}
+use Rattle.std.specs.Prelude.{All, AllPairs, IsSome, is_some, unwrap_or, not, ◌==◌}
+use Rattle.std.specs.List.{filter_map, list_any}
 use Rattle.std.specs.Option.{option_map, option_and_then}
 use Rattle.std.specs.Str.{bytes_eq}
 use Rattle.std.proofs.lemmas.List.{length-map}
@@ -17,22 +17,23 @@ use Rattle.rh_parts.specs.declared.parts.Restart.{Restart}
 use Rattle.rh_parts.specs.declared.parts.Spread.{Spread}
 use Rattle.rh_parts.specs.ClusterView.{NodeView, AppView, IsWithin, numbered, app_numbered, dep_name}
 use Rattle.rh_parts.specs.Names.{KnownNames, is_among}
+use Rattle.rh_parts.specs.Limits.{timeout_limit}
 use Rattle.rh_sections.specs.Shapes.{as_atom, as_pair, atoms, ◌>>=◌}
-use Rattle.rh_sections.specs.Parts.{as_share, as_restart, members}
+use Rattle.rh_sections.specs.Parts.{as_share, as_restart, members, parts_pass}
 use Rattle.rh_cluster.specs.declared.shares.Share.{Share}
-use Rattle.rh_cluster.specs.Headers.{every_platform, nodes_in, apps_in}
-use Rattle.rh_cluster.specs.Values.{node_named, app_named, boot_entry, dep_named, dep_by, elements, elements_under, kernel_of, rehearse_of, node_view, app_view, group_in, share_of, shares_in, spread_for, spread_named, permissions_in, platforms_of, forbids, time_or_zero}
+use Rattle.rh_cluster.specs.Headers.{every_platform, nodes_in, apps_in, headers_pass}
+use Rattle.rh_cluster.specs.Values.{node_named, app_named, boot_entry, dep_named, dep_by, elements, elements_under, kernel_of, rehearse_of, node_view, app_view, group_in, share_of, shares_in, spread_for, spread_named, permissions_in, platforms_of, forbids, time_or_zero, platforms_in}
 use Rattle.rh_cluster.specs.Agreement.{shares_of, first_involved, agreed_shares}
-use Rattle.rh_cluster.specs.ClusterOf.{names_of, node_views, all_shares, app_views, cluster_view}
+use Rattle.rh_cluster.specs.ClusterOf.{names_of, node_views, all_shares, app_views, faults_behind_headers, cluster_view}
 use Rattle.rh_cluster.proofs.Counts.{length-node_views, length-app_views}
+use Rattle.rh_cluster.proofs.NoFaults.{none_left, none_right, All-cons_option, at_place}
+use Rattle.rh_cluster.proofs.Timeouts.{time_within}
+use Rattle.rh_cluster.proofs.BootLists.{IsInOrder, boot_once_in, in_order}
+use Rattle.rh_cluster.proofs.Listing.{boots_listed}
 
 -- ---- lists and options
 
 -- what holds of each value that f gives holds of all that it gives
-All-cons_option : {Y : Type 0} (P : Y → Type 0) (o : Option Y) (ys : List Y) → ((y : Y) → o ≡ Some y → P y) → All P ys → All P (cons_option o ys)
-All-cons_option P None ys each rest = rest
-All-cons_option P (Some y) ys each rest = All-cons P y ys (each y refl) rest
-
 All-filter_map : {X Y : Type 0} (P : Y → Type 0) (f : X → Option Y) → ((x : X) (y : Y) → f x ≡ Some y → P y) → (xs : List X) → All P (filter_map f xs)
 All-filter_map P f each [] = All-nil P
 All-filter_map P f each (x ∷ xs) = All-cons_option P (f x) (filter_map f xs) (each x) (All-filter_map P f each xs)
@@ -116,8 +117,12 @@ unfolding group_in
 groups_within names [] = All-nil (AreNodes names)
 groups_within names (t ∷ ts) = All-cons (AreNodes names) (group_in names t) (map (group_in names) ts) (nodes_within names (members t)) (groups_within names ts)
 
+-- the nodes of a spread are among the names, and its timeout is within the limit
+abbrev IsSpread : KnownNames → Spread → Type 0
+IsSpread names s = AreGroups names s.groups × (s.timeout ≤ timeout_limit)
+
 abbrev IsShare : KnownNames → Share → Type 0
-IsShare names s = AreGroups names s.spread.groups
+IsShare names s = IsSpread names s.spread
 
 abbrev share_made : KnownNames → (Tree × Option Tree × Tree) → App → Share
 share_made names p app = record { app = app; spread = record { timeout = time_or_zero p.1; groups = map (group_in names) (elements p.2) } }
@@ -127,7 +132,7 @@ unfolding share_of
 share_within names t s h =
     at_value (as_share t) (λ p. app_named names p.0 >>= λ app. Some (share_made names p app)) (IsShare names)
     (λ p s _ k. at_value (app_named names p.0) (λ app. Some (share_made names p app)) (IsShare names)
-    (λ app s _ k. subst (IsShare names) (same_Some (share_made names p app) s k) (groups_within names (elements p.2))) s k) s h
+    (λ app s _ k. subst (IsShare names) (same_Some (share_made names p app) s k) (groups_within names (elements p.2), time_within p.1)) s k) s h
 
 shares_in_within : (names : KnownNames) (config : Tree) → All (IsShare names) (shares_in names config)
 unfolding shares_in
@@ -152,15 +157,15 @@ one_of : (b : Bool) (x : Spread) (o : Option Spread) (s : Spread) (Q : Spread �
 one_of true x o s Q here rest h = subst Q (same_Some x s h) here
 one_of false x o s Q here rest h = rest h
 
-spread_for_within : (names : KnownNames) (shares : List Share) → All (IsShare names) shares → (a : App) (s : Spread) → spread_for shares a ≡ Some s → AreGroups names s.groups
+spread_for_within : (names : KnownNames) (shares : List Share) → All (IsShare names) shares → (a : App) (s : Spread) → spread_for shares a ≡ Some s → IsSpread names s
 spread_for_within names [] all a s h = cc
 spread_for_within names (x ∷ xs) all a s h =
-    one_of (x.app.0 == a.0) x.spread (spread_for xs a) s (λ (s : Spread). AreGroups names s.groups) (All-head (IsShare names) x xs all)
+    one_of (x.app.0 == a.0) x.spread (spread_for xs a) s (IsSpread names) (All-head (IsShare names) x xs all)
     (spread_for_within names xs (All-tail (IsShare names) x xs all) a s) h
 
-spread_within : (names : KnownNames) (shares : List Share) → All (IsShare names) shares → (name : List ℕ) (s : Spread) → spread_named names shares name ≡ Some s → AreGroups names s.groups
+spread_within : (names : KnownNames) (shares : List Share) → All (IsShare names) shares → (name : List ℕ) (s : Spread) → spread_named names shares name ≡ Some s → IsSpread names s
 spread_within names shares all name s h =
-    at_value (option_map app_numbered (position (bytes_eq name) names.apps)) (spread_for shares) (λ (s : Spread). AreGroups names s.groups) (λ a s _ k. spread_for_within names shares all a s k) s h
+    at_value (option_map app_numbered (position (bytes_eq name) names.apps)) (spread_for shares) (IsSpread names) (λ a s _ k. spread_for_within names shares all a s k) s h
 
 -- ---- the cluster
 
@@ -210,24 +215,35 @@ module _ (ts : List Tree) where
       (λ x. All-filter_map (λ d. IsSome (dep_name (cluster_view ts) d)) (dep_named (names_of ts))
       (dep_within (names_of ts) (λ d. IsSome (dep_name (cluster_view ts) d)) (some_inside (names_of ts).apps) (some_inside (names_of ts).platforms)) (elements_under (codes "applications") (elements x.1))) (apps_in ts) a
 
-  spreads_within : (a : ℕ) (s : Spread) → option_and_then (λ (v : AppView). v.spread) (slice_get (map app_at (apps_in ts)) a) ≡ Some s → AreGroups (names_of ts) s.groups
+  spreads_within : (a : ℕ) (s : Spread) → option_and_then (λ (v : AppView). v.spread) (slice_get (map app_at (apps_in ts)) a) ≡ Some s → IsSpread (names_of ts) s
   unfolding app_view
   spreads_within a s h = by (slice_get (apps_in ts) a) (sym (ap (option_and_then (λ (v : AppView). v.spread)) (slice_get-map app_at (apps_in ts) a)) ∙ h)
     where
-      by : (o : Option (List ℕ × Tree)) → option_and_then (λ (v : AppView). v.spread) (option_map app_at o) ≡ Some s → AreGroups (names_of ts) s.groups
+      by : (o : Option (List ℕ × Tree)) → option_and_then (λ (v : AppView). v.spread) (option_map app_at o) ≡ Some s → IsSpread (names_of ts) s
       by None k = cc
       by (Some x) k = spread_within (names_of ts) (agreed_shares (all_shares (names_of ts) ts)) (agreed_within (names_of ts) ts) x.0 s k
 
-  pub view_is_within : IsWithin (cluster_view ts)
-  unfolding cluster_view names_of node_views app_views
-  view_is_within = record {
+  boots_once : parts_pass (names_of ts) (platforms_in ts).known ts ≡ [] → (n : ℕ)
+      → AllPairs (λ (e later : App × Restart). e.0.0 ≢ later.0.0) (unwrap_or (option_map (λ (v : NodeView). v.boot) (slice_get (map node_at (nodes_in ts)) n)) [])
+  unfolding node_view
+  boots_once none n =
+      at_place (IsInOrder (names_of ts)) node_at (λ (v : NodeView). v.boot) (AllPairs (λ (e later : App × Restart). e.0.0 ≢ later.0.0)) (λ i j d l k. absurd (omega arith))
+      (boot_once_in (names_of ts)) (nodes_in ts) (in_order (names_of ts) (platforms_in ts).known ts none) n
+
+  -- terms in which no pass finds a fault
+  pub view_is_within : headers_pass ts ≡ [] → faults_behind_headers ts ≡ [] → IsWithin (cluster_view ts)
+  unfolding cluster_view names_of node_views app_views faults_behind_headers
+  view_is_within headers behind = record {
     nodes = length-node_views (names_of ts) ts;
     apps = length-app_views (names_of ts) (agreed_shares (all_shares (names_of ts) ts)) ts;
     mandatory = λ n. mandatory_within n.0;
     optional = λ n. optional_within n.0;
     boot = λ n. boots_within n.0;
+    boot_once = λ n. boots_once (none_left _ _ behind) n.0;
+    boot_listed = boots_listed ts headers (node_views (names_of ts) ts) (none_right _ _ behind);
     permissions = permissions_within;
     platforms = platforms_within;
     deps = λ a. deps_within a.0;
-    groups = λ a. spreads_within a.0;
+    groups = λ a s h. (spreads_within a.0 s h).0;
+    timeouts = λ a s h. (spreads_within a.0 s h).1;
   }

@@ -8,10 +8,12 @@ mod building_nodes;
 mod building_shares;
 mod gathering;
 mod headers;
+mod laws;
 mod reading;
 mod shares;
 mod values;
 
+pub use laws::clusters_are_within;
 pub use reading::read_cluster;
 pub use rh_parts::{App, Cluster, Dep, Group, Groups, Node, Restart, Spread, SyncWait};
 pub use rh_sections::ClusterFault;

@@ -1,5 +1,5 @@
 -- What callers see of a cluster, and the words of its readers.
-use Rattle.std.specs.Prelude.{◌≡◌, ◌<◌, ℕ, List, [], length, position, slice_get, Bool, false, ◌==◌, Option, Some, unwrap_or, All, IsSome}
+use Rattle.std.specs.Prelude.{◌≡◌, ◌≢◌, ◌<◌, ◌≤◌, ℕ, List, [], length, position, slice_get, Bool, true, false, ◌==◌, ◌||◌, Option, Some, is_none, is_some, unwrap_or, All, AllPairs, IsSome}
 use Rattle.std.specs.Option.{option_map, option_and_then}
 use Rattle.std.specs.List.{list_any}
 use Rattle.std.specs.Str.{bytes_eq}
@@ -12,6 +12,7 @@ use Rattle.rh_parts.specs.declared.parts.SyncWait.{SyncWait}
 use Rattle.rh_parts.specs.declared.parts.SyncWait.TheVariants.{Unset}
 use Rattle.rh_parts.specs.declared.parts.Spread.{Spread}
 use Rattle.rh_parts.specs.TermWords.{TermWord}
+use Rattle.rh_parts.specs.Limits.{timeout_limit}
 
 -- what a cluster file says of one node; permissions by application, platforms by platform name
 pub record NodeView : Type 0 where
@@ -114,15 +115,23 @@ is_in n group = list_any (λ (m : Node). n.0 == m.0) group
 abbrev pub group_of : ClusterView → App → Node → Option ℕ
 group_of c a n = option_and_then (λ (s : Spread). position (is_in n) s.groups) (spread_of c a)
 
+-- may the application be started at the node? One that is distributed only where its list has the node.
+abbrev pub is_listed_at : ClusterView → App → Node → Bool
+is_listed_at c a n = is_none (spread_of c a) || is_some (group_of c a n)
+
 -- The lists of a cluster fit together: there are parts for each name, as many tests as what they are of, and each number
--- is that of a node, of an application or of a platform name of the cluster.
+-- is that of a node, of an application or of a platform name of the cluster. What a node boots, it boots once, and may
+-- start; and each timeout is within its limit.
 pub record IsWithin (c : ClusterView) : Type 0 where
   pub nodes : length c.nodes ≡ node_count c
   pub apps : length c.apps ≡ app_count c
   pub mandatory : (n : Node) → All (λ (m : Node). m.0 < node_count c) (mandatory_of c n)
   pub optional : (n : Node) → All (λ (m : Node). m.0 < node_count c) (optional_of c n)
   pub boot : (n : Node) → All (λ (e : App × Restart). e.0.0 < app_count c) (boot_of c n)
+  pub boot_once : (n : Node) → AllPairs (λ (e later : App × Restart). e.0.0 ≢ later.0.0) (boot_of c n)
+  pub boot_listed : (n : Node) → All (λ (e : App × Restart). is_listed_at c e.0 n ≡ true) (boot_of c n)
   pub permissions : (n : ℕ) (v : NodeView) → slice_get c.nodes n ≡ Some v → length v.permissions ≡ app_count c
   pub platforms : (n : ℕ) (v : NodeView) → slice_get c.nodes n ≡ Some v → length v.platforms ≡ length c.platform_names
   pub deps : (a : App) → All (λ (d : Dep). IsSome (dep_name c d)) (deps_of c a)
   pub groups : (a : App) (s : Spread) → spread_of c a ≡ Some s → All (λ (g : List Node). All (λ (m : Node). m.0 < node_count c) g) s.groups
+  pub timeouts : (a : App) (s : Spread) → spread_of c a ≡ Some s → s.timeout ≤ timeout_limit

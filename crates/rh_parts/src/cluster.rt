@@ -48,8 +48,9 @@ impl Cluster {
         Cluster { names, nodes, apps }
     }
 
-    /// The lists of each cluster fit together, and each number in them is one of the cluster's. (It does
-    /// nothing: its contract is what it is for.)
+    /// The lists of each cluster fit together, and each number in them is one of the cluster's; a node boots no
+    /// application twice, and none that doesn't list it; timeouts are within their limit. (It does nothing: its
+    /// contract is what it is for.)
     pub fn is_within(&self)
         ensures { IsWithin self.now }
     {
@@ -86,6 +87,13 @@ impl Cluster {
         ensures limit { result ≤ 64 }
     {
         self.names.apps().len()
+    }
+
+    /// The number of platform names.
+    pub fn platform_count(&self) -> usize
+        ensures { result ≡ length self.now.platform_names }
+    {
+        self.names.platforms().len()
     }
 
     /// The name of a node.

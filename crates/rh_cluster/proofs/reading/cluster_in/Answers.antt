@@ -51,4 +51,4 @@ of-requires-clause-within c =
       nodes = c.in_ok-nodes.nodes.items;
       apps = c.in_ok-nodes.apps.items;
     } = λ i. record { node_names = (names i).nodes; app_names = (names i).apps; platform_names = (names i).platforms; nodes = nodes i; apps = apps i } in
-    subst IsWithin is (view_is_within ts)
+    subst IsWithin is (view_is_within ts c.in_ok-names.ensures.faults c.in_ok-nodes.ensures.faults)
