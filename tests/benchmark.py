@@ -1,8 +1,9 @@
 #!/usr/bin/env python3
 """Prints how long the built program takes, and its peak memory: benchmark.py PROGRAM
 
-Each input is a cluster file of one bare node with a long section that is skipped, in four shapes, at 1, 4 and 16 MiB.
-Nothing is asserted: the times depend on the machine.
+First `check` reads a cluster file of one bare node with a long section that is skipped, in four shapes, at 1, 4 and 16 MiB.
+Then `run` rehearses: 64 applications in one chain that settle in one step, in the worst order; 2,000 steps of 32 nodes and 64
+applications; and a cluster of that size that is shown 200 times. Nothing is asserted: the times depend on the machine.
 """
 import os
 import resource
@@ -27,15 +28,57 @@ SHAPES = {
 }
 
 
-def run(program, text):
-    """Seconds, and the peak memory in MiB."""
+def chain():
+    """One node that boots 64 applications, of which each needs the next one."""
+    names = [b"a%d" % number for number in range(64)]
+    boot = b", ".join(b"{%s, permanent}" % name for name in names)
+    needs = [b"[%s]" % name for name in names[1:]] + [b"[]"]
+    apps = b" ".join(b"{application, %s, [{applications, %s}]}." % pair for pair in zip(names, needs))
+    return b"{node, z, [{rehearse, [{boot, [%s]}]}]}. %s\n===\n" % (boot, apps)
+
+
+def large():
+    """32 nodes and 64 applications, each of them distributed over eight nodes in four groups."""
+    nodes = [b"n%d@lab" % number for number in range(32)]
+    lists = {}
+    for app in range(64):
+        eight = [nodes[(app + step) % 32] for step in range(8)]
+        lists[b"a%d" % app] = eight
+    entries = b", ".join(
+        b"{%s, 500, [{%s, %s}, {%s, %s}, {%s, %s}, {%s, %s}]}" % (name, *eight) for name, eight in lists.items())
+    text = b""
+    for node in nodes:
+        boot = b", ".join(b"{%s, temporary}" % name for name, eight in lists.items() if node in eight)
+        text += b"{node, %s, [{kernel, [{distributed, [%s]}]}, {rehearse, [{boot, [%s]}]}]}.\n" % (node, entries, boot)
+    text += b" ".join(b"{application, %s, []}." % name for name in lists)
+    return nodes, text + b"\n===\n"
+
+
+def steps(nodes, count):
+    """All nodes boot; then one after the other crashes, time passes, and it boots again."""
+    script = [b"boot %s" % node for node in nodes]
+    turn = 0
+    while len(script) < count:
+        node = nodes[turn % len(nodes)]
+        script += [b"crash %s" % node, b"tick 700", b"boot %s" % node, b"tick 100"]
+        turn += 1
+    return b"\n".join(script[:count]) + b"\n"
+
+
+def run(program, text, word="check"):
+    """Seconds."""
     begin = time.monotonic()
-    process = subprocess.Popen([program, "check"], stdin=subprocess.PIPE, stdout=subprocess.PIPE)
+    process = subprocess.Popen([program, word], stdin=subprocess.PIPE, stdout=subprocess.PIPE)
     out, _ = process.communicate(text)
     seconds = time.monotonic() - begin
     if process.returncode != 0:
         sys.exit(f"status {process.returncode}: {out!r}")
     return seconds
+
+
+def peak():
+    """The peak memory of the largest run so far, in MiB."""
+    return resource.getrusage(resource.RUSAGE_CHILDREN).ru_maxrss / 1024
 
 
 def main():
@@ -46,8 +89,14 @@ def main():
     for name, shape in SHAPES.items():
         for size in (1, 4, 16):
             seconds = run(program, shape(size * MIB - 1))
-            peak = resource.getrusage(resource.RUSAGE_CHILDREN).ru_maxrss / 1024
-            print(f"{name:22} {size:3} MiB  {seconds:7.3f} s  peak so far {peak:7.1f} MiB")
+            print(f"{name:22} {size:3} MiB  {seconds:7.3f} s  peak so far {peak():7.1f} MiB")
+    nodes, text = large()
+    for name, script in {
+        "one step: 64 applications in a chain": chain() + b"boot z\n",
+        "2,000 steps: 32 nodes, 64 applications": text + steps(nodes, 2_000),
+        "200 times show of that cluster": text + steps(nodes, 32) + b"show\n" * 200,
+    }.items():
+        print(f"{name:40} {run(program, script, 'run'):7.3f} s  peak so far {peak():7.1f} MiB")
 
 
 main()

@@ -71,7 +71,8 @@ def command_lines(program):
     """What a newcomer reads: help and version go to standard error, with status 1."""
     for words, texts in [
             (["--help"], [b"rehearse", b"run", b"Exit status"]),
-            (["run", "--help"], [b"--pick", b"boot N", b"crash N", b"tick D", b"undo", b"redo", b"undo_all", b"redo_all", b"show"]),
+            (["run", "--help"], [b"--pick", b"boot N", b"crash N", b"tick D", b"start N A T", b"stop N A", b"permit N A B",
+                                 b"takeover N A T", b"exit N A R", b"undo", b"redo", b"undo_all", b"redo_all", b"show"]),
             (["check", "--help"], [b"{node, Name, SysConfig}", b"{application, Name, Keys}", b"cluster refused"]),
             (["--version"], [b"rehearse 0.1.0"])]:
         done = run(program, words, input=b"")
@@ -95,6 +96,24 @@ def large_inputs(program):
     done = run(program, ["run"], input=text + b"\n===\n" + script + b"boot n0\nundo\ncrash n2\nundo_all\n")
     yield "a trail has 65,535 events", fault_of(
         done, 0, answers + b"refused S18 trail_full\nok\nok\nended n2\nok 65535\n")
+
+
+def long_chains(program):
+    """Applications that each need the next one of the list, started in the worst order: the last one starts first."""
+    for count in (1, 2, 64):
+        names = [b"a%d" % number for number in range(count)]
+        boot = b", ".join(b"{%s, permanent}" % name for name in names)
+        needs = [b"[%s]" % name for name in names[1:]] + [b"[]"]
+        apps = b" ".join(b"{application, %s, [{applications, %s}]}." % pair for pair in zip(names, needs))
+        text = b"{node, z, [{rehearse, [{boot, [%s]}]}]}. %s\n===\n" % (boot, apps)
+        started = b"".join(b"started %s z normal\n" % name for name in reversed(names))
+        done = run(program, ["run"], input=text + b"boot z\n")
+        yield f"a chain of {count} applications", fault_of(done, 0, b"ok\nup z\n" + started)
+        # The last one may not run: nothing can start. Then it may, and all follow it.
+        forbidding = text.replace(b"{rehearse", b"{kernel, [{permissions, [{%s, false}]}]}, {rehearse" % names[-1])
+        waits = b"".join(b"waits %s z\n" % name for name in names)
+        done = run(program, ["run"], input=forbidding + b"boot z\npermit z %s true\n" % names[-1])
+        yield f"a forbidden chain of {count}", fault_of(done, 0, b"ok\nup z\n" + waits + b"ok\n" + started)
 
 
 def failing_devices(program):
@@ -165,7 +184,8 @@ def refused_memory(program):
     """Each allocation of whole runs refused in turn: the whole text, or status 5 and a front of it."""
     row = os.path.join(HERE, "rows", "bare-nodes", "two-bare-nodes")
     cluster = os.path.join(TOP, "examples", "three-nodes.txt")
-    timed = os.path.join("examples", "waiting-nodes.txt")
+    told = [os.path.join("examples", name) for name in (
+        "waiting-nodes.txt", "local-applications.txt", "failover-and-takeover.txt")]
     with tempfile.TemporaryDirectory() as folder:
         code, library, counted = (os.path.join(folder, name) for name in ("refusing.c", "refusing.so", "count"))
         with open(code, "w") as file:
@@ -176,7 +196,7 @@ def refused_memory(program):
             return
         for words, source, want in [
                 (["run"], read(row + ".in"), read(row + ".out")),
-                (["run"], read(os.path.join(TOP, timed)), read(os.path.join(HERE, timed + ".out"))),
+                *((["run"], read(os.path.join(TOP, name)), read(os.path.join(HERE, name + ".out"))) for name in told),
                 (["check"], read(cluster), b"ok 3 nodes 1 applications\n")]:
             count, wrong = refusals(program, library, counted, words, source, want)
             yield f"{words[0]}: each of {count} allocations refused in turn", wrong
@@ -187,7 +207,7 @@ def main():
         sys.exit(__doc__)
     program = os.path.abspath(sys.argv[1])
     passed = failed = 0
-    for tests in (rows, examples, command_lines, large_inputs, failing_devices, refused_memory):
+    for tests in (rows, examples, command_lines, large_inputs, long_chains, failing_devices, refused_memory):
         for name, wrong in tests(program):
             if wrong is None:
                 passed += 1

@@ -16,44 +16,69 @@ static AFTER_HELP: &str = "\
 The input is a cluster file, a line `===`, and a script:
 
   {node, a@x, []}.
-  {node, b@x, []}.
+  {application, web, []}.
   ===
   boot a@x
+  start a@x web permanent
+  crash a@x
   undo
   show
 
-`rehearse run --help` lists the commands of a script.
+`rehearse run --help` lists the commands of a script, `rehearse check --help`
+says what a cluster file holds.
 
 Exit status: 0 done, 1 the command line was refused (or help was asked for),
 2 the cluster file was refused, 3 a line of the script is no command,
-4 the input can't be read or the output can't be written, 5 out of memory,
-6 the cluster has parts that `run` can't simulate yet.";
+4 the input can't be read or the output can't be written, 5 out of memory.";
 
 static RUN_ABOUT: &str =
     "Reads a cluster file and a script from standard input, and answers each command";
 
 static RUN_AFTER_HELP: &str = "\
-A cluster file has a term for each node, as `{node, a@x, []}.`; the line `===`
-ends it. Each line behind it is a command, is blank, or begins with `#`:
+A cluster file has a term for each node, as `{node, a@x, []}.`, and for each
+application, as `{application, web, []}.`; the line `===` ends it. Each line
+behind it is a command, is blank, or begins with `#`:
 
-  boot N     starts node N
-  crash N    ends node N without a warning
-  tick D     lets D milliseconds pass: timers that are due fire, in order
-  undo       takes the last step back
-  redo       makes the next step again
-  undo_all   takes all steps back, and tells how many
-  redo_all   makes all steps again, and tells how many
-  show       shows the time in milliseconds, each node with its mode (down,
-             waiting, up) and how often it was started, and each timer that
-             is set with the time at which it is due
+  boot N          starts node N                     boot a@x
+  crash N         ends node N without a warning     crash a@x
+  tick D          lets D milliseconds pass          tick 5000
+  start N A T     starts application A at node N    start a@x web permanent
+  stop N A        stops A at N                      stop a@x web
+  permit N A B    lets A run at N, or forbids it    permit a@x web false
+  takeover N A T  moves A to N from where it runs   takeover a@x web permanent
+  exit N A R      A, running at N, ends by itself   exit a@x web abnormal
+  undo            takes the last step back          undo
+  redo            makes the next step again         redo
+  undo_all        takes all steps back              undo_all
+  redo_all        makes all steps again             redo_all
+  show            shows the state of the cluster    show
 
-A step is answered by `ok` and by what follows from it, one line each, or by
-`refused` and the reason; a refused step changes nothing. The first line that is
-no command ends the rehearsal with `bad line K`; lines count from 1 behind `===`.
+B is true or false, R normal or abnormal. T says what the exit of A does to its
+node: permanent ends it, transient ends it where the exit is abnormal,
+temporary lets it go on.
+
+A step is answered by `ok` and by what follows from it, one line each:
+
+  up N                    node N is up
+  ended N                 it has ended
+  started A N normal      A runs at N
+  started A N failover M  A runs at N in place of the one that was lost with M
+  started A N takeover M  A runs at N in place of the one that ran at M
+  stopped A N             A runs no more at N
+  waits A N               A is started at N, and waits there
+
+or by `refused` and the reason; a refused step changes nothing. `undo_all` and
+`redo_all` tell the number of steps. `show` tells the time in milliseconds, each
+node with its mode (down, waiting, up), how often it was started, and what runs,
+waits and is forbidden there, where each distributed application stands (quiet,
+wanted, running, lost), and each timer that is set with the time when it is due.
+
+The first line that is no command ends the rehearsal with `bad line K`; lines
+count from 1 behind `===`.
 
 Example:
 
-  printf '{node, a@x, []}.\\n===\\nboot a@x\\nundo\\nshow\\n' | rehearse run";
+  rehearse run < examples/failover-and-takeover.txt";
 
 static CHECK_ABOUT: &str = "Reads a cluster file from standard input, and says whether it is one";
 

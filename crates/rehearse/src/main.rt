@@ -17,7 +17,6 @@ fn status_of(ended: &Result<(), RunFault>) -> u8 {
         Err(RunFault::BadLine(_)) => 3,
         Err(RunFault::Read | RunFault::Write) => 4,
         Err(RunFault::OutOfMemory) => 5,
-        Err(RunFault::Later) => 6,
     }
 }
 

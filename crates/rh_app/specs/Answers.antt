@@ -1,23 +1,48 @@
 -- The texts of answers (ours).
-use Rattle.std.specs.Prelude.{ℕ, List, ◌++◌, codes}
+use Rattle.std.specs.Prelude.{ℕ, List, [], ◌++◌, codes, unwrap_or}
 use Rattle.std.specs.List.{flat_map}
 use Rattle.std.specs.Fmt.{decimal}
-use Rattle.rh_parts.specs.ClusterView.{ClusterView, name_of}
+use Rattle.rh_parts.specs.ClusterView.{ClusterView, name_of, dep_name}
+use Rattle.rh_parts.specs.declared.node.Node.{Node}
+use Rattle.rh_parts.specs.declared.node.App.{App}
+use Rattle.rh_parts.specs.declared.parts.Dep.{Dep}
 use Rattle.rh_sections.specs.FaultWords.{fault_words}
 use Rattle.rh_sections.specs.declared.fault.ClusterFault.{ClusterFault}
-use Rattle.rh_step.specs.declared.event.Notice.{Notice}
-use Rattle.rh_step.specs.declared.event.Notice.TheVariants.{Up, Ended}
+use Rattle.rh_settle.specs.declared.notice.Notice.{Notice}
+use Rattle.rh_settle.specs.declared.notice.Notice.TheVariants.{Up, Ended, Started, Stopped, Waits}
+use Rattle.rh_step.specs.declared.refusal.Refusal.{Refusal}
+use Rattle.rh_step.specs.declared.refusal.Refusal.TheVariants.{DependencyNotStarted}
 use Rattle.rh_trail.specs.declared.call.Reply.{Reply}
 use Rattle.rh_trail.specs.declared.call.Reply.TheVariants as reply
+use Rattle.rh_trail.specs.Report.{app_name_of, kind_words}
 use Rattle.rh_step.specs.Refusals.{refusal_words}
+
+-- the name of a dependency, or nothing for one that isn't of this cluster
+abbrev pub dep_words : ClusterView → Dep → List ℕ
+dep_words c d = unwrap_or (dep_name c d) []
+
+-- an application, and a node
+abbrev pub pair_words : ClusterView → App → Node → List ℕ
+pair_words c a n = app_name_of c a ++ codes " " ++ name_of c n
 
 unfoldable pub notice_line : ClusterView → Notice → List ℕ
 notice_line c (Up n) = codes "up " ++ name_of c n ++ codes "\n"
 notice_line c (Ended n) = codes "ended " ++ name_of c n ++ codes "\n"
+notice_line c (Started a n kind lost) = codes "started " ++ pair_words c a n ++ codes " " ++ kind_words c kind ++ codes "\n"
+notice_line c (Stopped a n) = codes "stopped " ++ pair_words c a n ++ codes "\n"
+notice_line c (Waits a n) = codes "waits " ++ pair_words c a n ++ codes "\n"
+
+-- a dependency that isn't started is named
+abbrev pub reason_words : ClusterView → Refusal → List ℕ
+reason_words c (DependencyNotStarted dep) = codes " " ++ dep_words c dep
+reason_words c other = []
+
+abbrev pub refusal_line : ClusterView → Refusal → List ℕ
+refusal_line c refusal = codes "refused " ++ refusal_words refusal ++ reason_words c refusal ++ codes "\n"
 
 unfoldable pub answer_text : ClusterView → Reply → List ℕ
 answer_text c (reply.Done notices) = codes "ok\n" ++ flat_map (notice_line c) notices
-answer_text c (reply.Refused refusal) = codes "refused " ++ refusal_words refusal ++ codes "\n"
+answer_text c (reply.Refused refusal) = refusal_line c refusal
 answer_text c reply.Undone = codes "ok\n"
 answer_text c reply.Redone = codes "ok\n"
 answer_text c reply.AtStart = codes "refused at_start\n"

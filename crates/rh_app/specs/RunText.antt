@@ -1,14 +1,13 @@
 -- What a run writes for the bytes that it reads, and how it ends (ours).
-use Rattle.std.specs.Prelude.{◌≡◌, ℕ, ◌+◌, List, [], ◌∷◌, ◌++◌, map, Bool, true, false, Option, Some, None, Result, Ok, Err, if◌then◌else◌, codes}
+use Rattle.std.specs.Prelude.{◌≡◌, ℕ, ◌+◌, List, [], ◌∷◌, ◌++◌, map, Bool, true, false, Option, Some, None, Result, Ok, Err}
 use Rattle.std.specs.List.{flat_map}
 use Rattle.std.specs.Io.KnownBytes.{Appends}
 use Rattle.rh_parts.specs.ClusterView.{ClusterView}
 use Rattle.rh_cluster.specs.ClusterOf.{cluster_of}
 use Rattle.rh_sections.specs.declared.fault.ClusterFault.{ClusterFault}
-use Rattle.rh_step.specs.declared.event.Pick.{Pick}
+use Rattle.rh_place.specs.declared.choosing.Pick.{Pick}
 use Rattle.rh_trail.specs.declared.call.Call.{Call}
 use Rattle.rh_trail.specs.SimView.{SimView}
-use Rattle.rh_trail.specs.Simulated.{is_simulated}
 use Rattle.rh_trail.specs.Lone.{opened, replies}
 use Rattle.rh_app.specs.declared.script.Line.{Line}
 use Rattle.rh_app.specs.declared.script.Line.TheVariants.{Nothing, Asks, Bad}
@@ -48,16 +47,12 @@ script_text c sim k lines = flat_map (answer_text c) (replies sim (calls_of line
 abbrev pub lines_asked : ClusterView → List (List ℕ) → List Line
 lines_asked c lines = map (line_of c) lines
 
--- a cluster that can't be simulated yet is told so
-abbrev pub later_text : List ℕ
-later_text = codes "cluster not yet simulated\n"
-
 abbrev pub text_over : Pick → List (List ℕ) → Result ClusterView ClusterFault → List ℕ
-text_over pick lines (Ok c) = if is_simulated c then script_text c (opened c pick) 1 (lines_asked c lines) else later_text
+text_over pick lines (Ok c) = script_text c (opened c pick) 1 (lines_asked c lines)
 text_over pick lines (Err f) = fault_text f
 
 abbrev pub end_over : List (List ℕ) → Result ClusterView ClusterFault → Option RunFault
-end_over lines (Ok c) = if is_simulated c then script_end (bad_line 1 (lines_asked c lines)) else Some end.Later
+end_over lines (Ok c) = script_end (bad_line 1 (lines_asked c lines))
 end_over lines (Err f) = Some (end.Cluster f)
 
 -- what is written
@@ -73,7 +68,6 @@ abbrev pub Wrote : Result (Unit {0}) RunFault → List ℕ → Option RunFault �
 Wrote (Ok x) text fault old new failed = (fault ≡ None) × Appends old new text × (failed ≡ false)
 Wrote (Err (end.Cluster f)) text fault old new failed = (fault ≡ Some (end.Cluster f)) × Appends old new text × (failed ≡ false)
 Wrote (Err (end.BadLine k)) text fault old new failed = (fault ≡ Some (end.BadLine k)) × Appends old new text × (failed ≡ false)
-Wrote (Err end.Later) text fault old new failed = (fault ≡ Some end.Later) × Appends old new text × (failed ≡ false)
 Wrote (Err end.Read) text fault old new failed = ⊥
 Wrote (Err end.Write) text fault old new failed = AppendsFront old new text × (failed ≡ true)
 Wrote (Err end.OutOfMemory) text fault old new failed = AppendsFront old new text
@@ -83,7 +77,6 @@ abbrev pub Broke : Result (Unit {0}) RunFault → List ℕ → Option (List ℕ)
 Broke (Ok x) text old new failed = Appends old new text × (failed ≡ false)
 Broke (Err (end.Cluster f)) text old new failed = ⊥
 Broke (Err (end.BadLine k)) text old new failed = ⊥
-Broke (Err end.Later) text old new failed = ⊥
 Broke (Err end.Read) text old new failed = ⊥
 Broke (Err end.Write) text old new failed = AppendsFront old new text × (failed ≡ true)
 Broke (Err end.OutOfMemory) text old new failed = AppendsFront old new text

@@ -16,9 +16,6 @@ pub enum RunFault {
     /// The line of this number, counted from 1 behind the line `===`, is no command. That was written.
     #[error("bad line {0}")]
     BadLine(u64),
-    /// The cluster has parts that can't be simulated yet. That was written.
-    #[error("cluster not yet simulated")]
-    Later,
     /// The input could not be read, or is longer than 16,777,216 bytes. Nothing was written.
     #[error("the input can't be read, or is too long")]
     Read,

@@ -8,6 +8,7 @@ mod answers;
 mod checking;
 mod device;
 mod fault;
+mod laws;
 mod lines;
 mod running;
 mod script;
@@ -15,6 +16,7 @@ mod watched;
 
 pub use checking::run_check;
 pub use fault::RunFault;
+pub use laws::rehearsals_are_reversible;
 pub use rh_trail::report;
 pub use running::run;
 pub use watched::Watched;

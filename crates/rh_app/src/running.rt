@@ -2,14 +2,13 @@
 
 ghost use Rattle.std.specs.Prelude.{List, ◌≡◌, ◌≢◌, ◌<◌, ◌≤◌, ◌⊎◌, length, map, true, false, None, Some, Err, OnOk, OnErr, IfOk, IfErr, IfSome};
 ghost use Rattle.std.specs.Io.KnownBytes.{Appends, Keeps};
-ghost use Rattle.rh_trail.specs.Simulated.{is_simulated};
 ghost use Rattle.rh_trail.specs.Lone.{opened, served};
 ghost use Rattle.rh_app.specs.Devices.{input_limit, AppendsFront};
 ghost use Rattle.rh_app.specs.Lines.{raw_lines, content};
 ghost use Rattle.rh_app.specs.declared.script.Line.{Line};
 ghost use Rattle.rh_app.specs.Commands.{line_of};
 ghost use Rattle.rh_app.specs.Answers.{answer_text, fault_text, bad_text};
-ghost use Rattle.rh_app.specs.RunText.{script_text, bad_line, script_end, lines_asked, later_text, run_text, run_end, Wrote, Broke, Turns};
+ghost use Rattle.rh_app.specs.RunText.{script_text, bad_line, script_end, lines_asked, run_text, run_end, Wrote, Broke, Turns};
 ghost use Rattle.rh_app.specs.Programs.{ProgramGives};
 
 use crate::answers::{answer_text, bad_text, fault_text};
@@ -21,7 +20,7 @@ use crate::watched::Watched;
 use rh_cluster::{Cluster, ClusterFault, read_cluster};
 use rh_step::Pick;
 use rh_terms::OutOfMemory;
-use rh_trail::{Call, Reply, Sim, simulated};
+use rh_trail::{Call, Reply, Sim};
 use std::alloc::Global;
 use std::io::{Read, Write};
 
@@ -30,7 +29,7 @@ use std::io::{Read, Write};
 /// It ends at the first line that is no command. The input has at most 16,777,216 bytes. Neither device is flushed.
 ///
 /// # Errors
-/// `Cluster`, `Later` and `BadLine` are the end of the text that was written. `Read` comes where the reader has failed or the
+/// `Cluster` and `BadLine` are the end of the text that was written. `Read` comes where the reader has failed or the
 /// input is too long: nothing was written. `Write` comes where the writer has failed, and `OutOfMemory` where a growth
 /// was refused: a front of the text was written.
 pub fn run<R: Read, W: Write>(
@@ -68,24 +67,7 @@ fn answer_input<W: Write>(
             write_fault(alloc, &fault, writer)?;
             Err(RunFault::Cluster(fault))
         }
-        Ok(cluster) => {
-            if simulated(&cluster) {
-                answer_script(alloc, &cluster, script, writer, pick)
-            } else {
-                Err(answer_later(writer))
-            }
-        }
-    }
-}
-
-// Writes that the cluster can't be simulated yet.
-fn answer_later<W: Write>(writer: &mut Watched<W>) -> RunFault
-    requires { writer.old.failed ≡ false }
-    ensures { Wrote (Err result) later_text (Some RunFault.Later) (W.contents writer.old.inner) (W.contents writer.new.inner) writer.new.failed }
-{
-    match write_text(writer, b"cluster not yet simulated\n".as_slice()) {
-        Err(fault) => fault,
-        Ok(()) => RunFault::Later,
+        Ok(cluster) => answer_script(alloc, &cluster, script, writer, pick),
     }
 }
 
@@ -112,8 +94,7 @@ fn answer_script<W: Write>(
     writer: &mut Watched<W>,
     pick: Pick,
 ) -> Result<(), RunFault>
-    requires cluster { is_simulated cluster.now ≡ true }
-    requires writer { writer.old.failed ≡ false }
+    requires { writer.old.failed ≡ false }
     ensures { Wrote result
         (script_text cluster.now (opened cluster.now pick) 1 (lines_asked cluster.now (map content (raw_lines script.now))))
         (script_end (bad_line 1 (lines_asked cluster.now (map content (raw_lines script.now)))))

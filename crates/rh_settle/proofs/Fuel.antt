@@ -9,8 +9,11 @@ use Rattle.rh_settle.specs.declared.notice.Move.TheVariants.{Local, Placement, T
 use Rattle.rh_settle.specs.Course.{Course}
 use Rattle.rh_settle.specs.Moves.{moved, moved_state}
 use Rattle.rh_settle.specs.Settling.{nexts, after_move, moved_by, pair_count, all_moved}
-use Rattle.rh_settle.proofs.Every.{picked_every}
-use Rattle.rh_settle.proofs.Falls.{IsSized, Progresses, points, falls, stays_sized, bounded}
+use Rattle.rh_settle.proofs.Searches.{contains_picked}
+use Rattle.rh_settle.specs.Soundness.{IsSized}
+use Rattle.rh_settle.proofs.Points.{points, bounded}
+use Rattle.rh_settle.proofs.Falls.{Progresses, falls}
+use Rattle.rh_settle.proofs.Sized.{stays_sized}
 use Rattle.rh_settle.proofs.NextMoves.{progresses}
 
 -- the state, the marks and the cluster after a move
@@ -33,7 +36,7 @@ pub sized_moved : (o : Course) (m : Move) → IsSized o.state → Progresses o.s
 sized_moved o m h p = subst IsSized (sym (state_moved o m)) (stays_sized o.state m h p)
 
 pub progress : (o : Course) (pick : Pick) (m : Move) → IsSized o.state → picked pick (nexts o) ≡ Some m → Progresses o.state m
-progress o pick m h e = picked_every (Progresses o.state) pick (nexts o) m (progresses o.state o.marked h) e
+progress o pick m h e = progresses o.state o.marked h m (contains_picked pick (nexts o) m e)
 
 pub sized_next : (o : Course) (pick : Pick) (m : Move) → IsSized o.state → picked pick (nexts o) ≡ Some m → IsSized (moved o m).state
 sized_next o pick m h e = sized_moved o m h (progress o pick m h e)

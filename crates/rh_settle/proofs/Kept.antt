@@ -1,8 +1,6 @@
 -- A move keeps that no application stands twice at a node, and that each runs where it stands as running.
-use Rattle.std.proofs.Common.{◌≡◌, ◌≢◌, ◌<◌, ℕ, zero, suc, Bool, true, false, List, [], ◌∷◌, ◌++◌, length, refl, sym, ap, ◌∙◌, arith, nat_eq, unwrap_or, slice_get, slice_set, AllPairs, subst, not, Option, Some, None, All, IfSome}
-use Rattle.std.proofs.lemmas.Bool.Decides.{nat_tests}
+use Rattle.std.proofs.Common.{◌≡◌, ◌≢◌, ◌<◌, ℕ, zero, suc, true, false, List, [], ◌∷◌, ◌++◌, length, refl, sym, ap, ◌∙◌, arith, nat_eq, unwrap_or, slice_get, slice_set, subst, Option, Some, None, All, IfSome}
 use Rattle.std.proofs.lemmas.List.{length-set}
-use Rattle.std.proofs.lemmas.List.Kept.{AllPairs-filter}
 use Rattle.rh_parts.specs.declared.node.Node.{Node}
 use Rattle.rh_parts.specs.declared.node.App.{App}
 use Rattle.rh_parts.specs.ClusterView.{node_count, app_count, numbered, app_numbered, group_of}
@@ -12,89 +10,20 @@ use Rattle.rh_state.specs.declared.parts.Standing.{Standing}
 use Rattle.rh_state.specs.declared.parts.Standing.TheVariants.{Quiet, Wanted, Running}
 use Rattle.rh_state.specs.Numbers.{same_app}
 use Rattle.rh_state.specs.Tables.{row}
-use Rattle.rh_state.specs.Lists.{has_app, without_app}
+use Rattle.rh_state.specs.Lists.{without_app}
 use Rattle.rh_state.specs.Shape.{IsShaped, IsNodeOf, IsStandingOf}
 use Rattle.rh_state.specs.StateView.{StateView, runs_at, waits_at, standing_of}
 use Rattle.rh_state.specs.Setters.{unlisted, with_running, with_waiting}
-use Rattle.rh_state.proofs.AppLists.{AreOnce-push}
 use Rattle.rh_place.proofs.Lists.{cases}
 use Rattle.rh_settle.specs.declared.notice.Move.{Move}
 use Rattle.rh_settle.specs.declared.notice.Move.TheVariants.{Local, Placement, Takeover}
 use Rattle.rh_settle.specs.Moves.{comes_before, with_started, with_stopped, moved_state}
 use Rattle.rh_settle.specs.Validity.{RunsWhereItStands, OnceAtEachNode, CanBeMade}
-use Rattle.rh_settle.proofs.Places.{at_set, at_set_here, at_set_there, or_left, or_right, without_has, without_not, without_keeps, append_has, append_keeps, append_gives, started_on}
-use Rattle.rh_settle.proofs.Falls.{Progresses, not_before}
-
-same_number : (i j : ℕ) → nat_eq i j ≡ true → i ≡ j
-same_number i j t = grind (arith, nat_tests)
-
-other_number : (i j : ℕ) → nat_eq i j ≡ false → i ≢ j
-other_number i j f e = grind (arith, nat_tests)
-
-is_false : (p : Bool) → (p ≡ true → ⊥) → p ≡ false
-is_false true h = absurd (h refl)
-is_false false h = refl
-
-both : {P : Type 0} (p : Bool) → p ≡ true → p ≡ false → P
-both p t f = cc
-
--- ---- a table of lists, in which one list loses an application or gains one at its end
-abbrev taken : List (List App) → ℕ → App → List (List App)
-taken table n a = slice_set table n (without_app (row table n) a)
-
-abbrev put : List (List App) → ℕ → App → List (List App)
-put table n a = slice_set table n (row table n ++ a ∷ [])
-
-abbrev has : List (List App) → ℕ → App → Bool
-has table m b = has_app (row table m) b
-
-taken_has : (table : List (List App)) (n m : ℕ) (a b : App) → has (taken table n a) m b ≡ true → has table m b ≡ true
-taken_has table n m a b h = at_set table n m (without_app (row table n) a) []
-    (λ e. sym (ap (λ xs. has_app xs b) e) ∙ h)
-    (λ e v. ap (λ k. has table k b) e ∙ without_has (row table n) a b (sym (ap (λ xs. has_app xs b) v) ∙ h))
-
-taken_not : (table : List (List App)) (n : ℕ) (a : App) → n < length table → has (taken table n a) n a ≡ false
-taken_not table n a h = ap (λ xs. has_app xs a) (at_set_here table n (without_app (row table n) a) [] h) ∙ without_not (row table n) a
-
--- another application stays
-taken_keeps : (table : List (List App)) (n m : ℕ) (a b : App) → same_app b a ≡ false → has table m b ≡ true → has (taken table n a) m b ≡ true
-taken_keeps table n m a b d h = at_set table n m (without_app (row table n) a) []
-    (λ e. ap (λ xs. has_app xs b) e ∙ h)
-    (λ e v. ap (λ xs. has_app xs b) v ∙ without_keeps (row table n) a b d (sym (ap (λ k. has table k b) e) ∙ h))
-
--- and so it does in another list
-there : (table : List (List App)) (n m : ℕ) (xs : List App) (b : App) → m ≢ n → has (slice_set table n xs) m b ≡ has table m b
-there table n m xs b other = ap (λ ys. has_app ys b) (at_set_there table n m xs [] other)
-
-put_has : {P : Type 0} (table : List (List App)) (n m : ℕ) (a b : App) → has (put table n a) m b ≡ true → (has table m b ≡ true → P) → (m ≡ n → same_app b a ≡ true → P) → P
-put_has table n m a b h before more = cases (same_app b a)
-    (λ t. at_set table n m (row table n ++ a ∷ []) []
-    (λ e. before (sym (ap (λ xs. has_app xs b) e) ∙ h))
-    (λ e v. more e t))
-    (λ f. before (at_set table n m (row table n ++ a ∷ []) []
-    (λ e. sym (ap (λ xs. has_app xs b) e) ∙ h)
-    (λ e v. ap (λ k. has table k b) e ∙ append_has (row table n) a b f (sym (ap (λ xs. has_app xs b) v) ∙ h))))
-
-put_keeps : (table : List (List App)) (n m : ℕ) (a b : App) → has table m b ≡ true → has (put table n a) m b ≡ true
-put_keeps table n m a b h = at_set table n m (row table n ++ a ∷ []) []
-    (λ e. ap (λ xs. has_app xs b) e ∙ h)
-    (λ e v. ap (λ xs. has_app xs b) v ∙ append_keeps (row table n) a b (sym (ap (λ k. has table k b) e) ∙ h))
-
-put_gives : (table : List (List App)) (n : ℕ) (a b : App) → n < length table → same_app b a ≡ true → has (put table n a) n b ≡ true
-put_gives table n a b lt t = ap (λ xs. has_app xs b) (at_set_here table n (row table n ++ a ∷ []) [] lt) ∙ append_gives (row table n) a b t
-
-abbrev AreOnce : List App → Type 0
-AreOnce apps = AllPairs (λ (a b : App). a.0 ≢ b.0) apps
-
-once_taken : (table : List (List App)) (n m : ℕ) (a : App) → AreOnce (row table n) → AreOnce (row table m) → AreOnce (row (taken table n a) m)
-once_taken table n m a here at = at_set table n m (without_app (row table n) a) []
-    (λ e. subst AreOnce (sym e) at)
-    (λ e v. subst AreOnce (sym v) (AllPairs-filter (λ (x y : App). x.0 ≢ y.0) (λ x. not (same_app a x)) (row table n) here))
-
-once_put : (table : List (List App)) (n m : ℕ) (a : App) → AreOnce (row table n) → AreOnce (row table m) → has table n a ≡ false → AreOnce (row (put table n a) m)
-once_put table n m a here at absent = at_set table n m (row table n ++ a ∷ []) []
-    (λ e. subst AreOnce (sym e) at)
-    (λ e v. subst AreOnce (sym v) (AreOnce-push a (row table n) here absent))
+use Rattle.rh_settle.specs.Soundness.{IsSized}
+use Rattle.rh_settle.proofs.Places.{at_set_here, at_set_there, or_left, or_right, started_on}
+use Rattle.rh_settle.proofs.Entries.{same_number, other_number, is_false, both, taken, put, has, taken_has, taken_not, taken_keeps, there, put_has, put_keeps, put_gives, once_taken, once_put, row_there, length_taken, length_put}
+use Rattle.rh_settle.proofs.Points.{not_before}
+use Rattle.rh_settle.proofs.Falls.{Progresses}
 
 -- ---- no application stands twice
 once_unlisted : (s : StateView) (n : Node) (a : App) → OnceAtEachNode s → OnceAtEachNode (unlisted s n a)
@@ -149,7 +78,7 @@ started_runs s n m a b k lt h = cases (same_app b a)
 started_here : (s : StateView) (n : Node) (a b : App) (k : Kind) → n.0 < length s.running → same_app b a ≡ true → runs_at (with_started s n a k) n b ≡ true
 started_here s n a b k lt t = put_gives (taken s.running n.0 a) n.0 a b (let e = length-set s.running n.0 (without_app (row s.running n.0) a) in omega (arith, e)) t
 
-same_running : (x y : Node) → Running x ≡ Running y → x ≡ y
+pub same_running : (x y : Node) → Running x ≡ Running y → x ≡ y
 same_running x y e = cc
 
 -- the standings are those of s, but that a runs at n; it runs there, and what runs in s still runs, but for a
@@ -170,17 +99,14 @@ runs_after s t n a is lt here others h = record {
       others m b d (h.runs b m (sym before ∙ e)));
 }
 
--- a move keeps all of this
+-- a group doesn't come before itself
+pub elsewhere : (s : StateView) (a : App) (m n : Node) → comes_before (group_of s.cluster a n) (group_of s.cluster a m) ≡ true → m.0 ≢ n.0
+elsewhere s a m n h e = both (comes_before (group_of s.cluster a n) (group_of s.cluster a n))
+    (ap (λ k. comes_before (group_of s.cluster a n) (group_of s.cluster a (numbered k))) (sym e) ∙ h)
+    (not_before (group_of s.cluster a n))
+
+-- what is moved is of the cluster
 module _ (s : StateView) (shape : IsShaped s) where
-  in_running : (n : Node) → n.0 < node_count s.cluster → n.0 < length s.running
-  in_running n lt = let e = shape.running in omega (arith, e)
-
-  in_waiting : (n : Node) → n.0 < node_count s.cluster → n.0 < length s.waiting
-  in_waiting n lt = let e = shape.waiting in omega (arith, e)
-
-  in_standings : (a : App) → a.0 < app_count s.cluster → a.0 < length s.standings
-  in_standings a lt = let e = shape.standings in omega (arith, e)
-
   stood : (a : App) (xs : List Standing) (i : ℕ) → All (IsStandingOf s.cluster) xs → IsStandingOf s.cluster (unwrap_or (slice_get xs i) Quiet)
   stood a [] i all = tt
   stood a (x ∷ xs) zero all = all 0 x (omega arith)
@@ -193,30 +119,36 @@ module _ (s : StateView) (shape : IsShaped s) where
   from_within a None e = tt
   from_within a (Some m) e = stands_within a (Wanted (Some m)) e
 
-  elsewhere : (a : App) (m n : Node) → comes_before (group_of s.cluster a n) (group_of s.cluster a m) ≡ true → m.0 ≢ n.0
-  elsewhere a m n h e = both (comes_before (group_of s.cluster a n) (group_of s.cluster a n))
-      (ap (λ k. comes_before (group_of s.cluster a n) (group_of s.cluster a (numbered k))) (sym e) ∙ h)
-      (not_before (group_of s.cluster a n))
-
   pub can_be_made : RunsWhereItStands s → (m : Move) → Progresses s m → CanBeMade s m
   can_be_made h (Local n a) p = record { node = p.0; app = p.1; started = started_on s n a (or_right (runs_at s n a) _ p.3) }
   can_be_made h (Placement a from n) p = (record { node = p.0; app = p.1; started = started_on s n a p.3 }, from_within a from p.2)
   can_be_made h (Takeover a m n) p = (
     record { node = p.0; app = p.1; started = started_on s n a p.5 },
     record { node = stands_within a (Running m) p.2; app = p.1; started = started_on s m a (or_left (runs_at s m a) _ (h.runs a m p.2)) },
-    elsewhere a m n p.3,
+    elsewhere s a m n p.3,
   )
 
-  pub once_moved : (m : Move) → Progresses s m → OnceAtEachNode s → OnceAtEachNode (moved_state s m)
-  once_moved (Local n a) p h = once_started s n a Normal (in_running n p.0) (in_waiting n p.0) h
-  once_moved (Placement a from n) p h =
+-- a move keeps all of this
+module _ (s : StateView) (sized : IsSized s) where
+  in_running : (n : Node) → n.0 < node_count s.cluster → n.0 < length s.running
+  in_running n lt = let e = sized.running in omega (arith, e)
+
+  in_waiting : (n : Node) → n.0 < node_count s.cluster → n.0 < length s.waiting
+  in_waiting n lt = let e = sized.waiting in omega (arith, e)
+
+  in_standings : (a : App) → a.0 < app_count s.cluster → a.0 < length s.standings
+  in_standings a lt = let e = sized.standings in omega (arith, e)
+
+  pub once_moved : RunsWhereItStands s → (m : Move) → Progresses s m → OnceAtEachNode s → OnceAtEachNode (moved_state s m)
+  once_moved runs (Local n a) p h = once_started s n a Normal (in_running n p.0) (in_waiting n p.0) h
+  once_moved runs (Placement a from n) p h =
       let o = once_started s n a Normal (in_running n p.0) (in_waiting n p.0) h in
       record { running = o.running; waiting = o.waiting; apart = o.apart }
-  once_moved (Takeover a m n) p h =
+  once_moved runs (Takeover a m n) p h =
       let t : StateView = with_started s n a Normal in
-      let lt = stands_within a (Running m) p.2 in
-      let r : m.0 < length t.running = (let e = length-set (taken s.running n.0 a) n.0 (row (taken s.running n.0 a) n.0 ++ a ∷ []) in let f = length-set s.running n.0 (without_app (row s.running n.0) a) in let g = in_running m lt in omega (arith, e, f, g)) in
-      let w : m.0 < length t.waiting = (let e = length-set s.waiting n.0 (without_app (row s.waiting n.0) a) in let g = in_waiting m lt in omega (arith, e, g)) in
+      let l : m.0 < length s.running = row_there s.running m.0 a (runs.runs a m p.2) in
+      let r : m.0 < length t.running = (let e = length_put (taken s.running n.0 a) n.0 a in let f = length_taken s.running n.0 a in omega (arith, e, f, l)) in
+      let w : m.0 < length t.waiting = (let e = length_taken s.waiting n.0 a in let f = sized.running in let g = sized.waiting in omega (arith, e, f, g, l)) in
       let o = once_stopped t m a r w (once_started s n a Normal (in_running n p.0) (in_waiting n p.0) h) in
       record { running = o.running; waiting = o.waiting; apart = o.apart }
 
@@ -229,5 +161,5 @@ module _ (s : StateView) (shape : IsShaped s) where
   runs_moved (Takeover a m n) p h =
       let t : StateView = with_started s n a Normal in
       runs_after s (moved_state s (Takeover a m n)) n a refl (in_standings a p.1)
-      (λ b f. there t.running m.0 n.0 (without_app (row t.running m.0) a) b (λ e. elsewhere a m n p.3 (sym e)) ∙ started_here s n a b Normal (in_running n p.0) f)
+      (λ b f. there t.running m.0 n.0 (without_app (row t.running m.0) a) b (λ e. elsewhere s a m n p.3 (sym e)) ∙ started_here s n a b Normal (in_running n p.0) f)
       (λ k b d r. taken_keeps t.running m.0 k.0 a b d (started_runs s n k a b Normal (in_running n p.0) r)) h

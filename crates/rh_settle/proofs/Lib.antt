@@ -1,12 +1,25 @@
 pub mod Every
+pub mod Firsts
 pub mod Sums
 pub mod Searches
 pub mod Places
 pub mod ListWalks
+pub mod Entries
+pub mod Points
 pub mod Falls
+pub mod Sized
 pub mod NextMoves
 pub mod Fuel
 pub mod SettlingLaws
 pub mod Kept
 pub mod Making
+pub mod Soundly
+pub mod Unchanged
+pub mod Behind
+pub mod Still
+pub mod InGroups
+pub mod Best
+pub mod LocalFirsts
+pub mod NextFirsts
+pub mod FieldLaws
 mod Rows

@@ -1,12 +1,13 @@
 -- A walk over a list of applications, from each to the one behind it.
-use Rattle.std.proofs.Common.{◌≡◌, ◌≢◌, ◌<◌, ◌||◌, ℕ, suc, true, false, cond, Option, Some, None, List, [], ◌∷◌, length, slice_get, All, AllPairs, IfSome, refl, sym, ap, ◌∙◌, arith, nat_eq, subst}
-use Rattle.std.proofs.lemmas.Bool.Decides.{nat_tests}
+use Rattle.std.proofs.Common.{◌≡◌, ◌≢◌, ◌<◌, ◌||◌, ℕ, suc, true, false, cond, Option, Some, None, List, [], ◌∷◌, length, slice_get, All, AllPairs, IfSome, refl, sym, ap, ◌∙◌, arith, subst}
 use Rattle.rh_parts.specs.declared.node.App.{App}
 use Rattle.rh_parts.specs.ClusterView.{app_numbered}
 use Rattle.rh_state.specs.Numbers.{same_app}
 use Rattle.rh_state.specs.Lists.{has_app, next_app}
 use Rattle.rh_place.proofs.Lists.{cases}
 use Rattle.rh_place.specs.Picks.{or_else, first_given}
+use Rattle.rh_settle.proofs.Entries.{both, same_number}
+use Rattle.rh_settle.proofs.Searches.{same_some}
 use Rattle.rh_settle.proofs.Places.{same_refl, or_left, or_right}
 
 -- no application stands twice in the list
@@ -17,11 +18,8 @@ Once (a ∷ apps) = (has_app apps a ≡ false) × Once apps
 absent : (a : App) (apps : List App) → All (λ (b : App). a.0 ≢ b.0) apps → has_app apps a ≡ false
 absent a [] h = refl
 absent a (b ∷ apps) h = cases (same_app a b)
-    (λ t. absurd (h 0 b (omega arith) (equal a.0 b.0 t)))
+    (λ t. absurd (h 0 b (omega arith) (same_number a.0 b.0 t)))
     (λ f. ap (λ p. p || has_app apps a) f ∙ absent a apps (λ k d l. h (suc k) d (omega arith)))
-  where
-    equal : (i j : ℕ) → nat_eq i j ≡ true → i ≡ j
-    equal i j t = grind (arith, nat_tests)
 
 pub once_of : (apps : List App) → AllPairs (λ (a b : App). a.0 ≢ b.0) apps → Once apps
 once_of [] h = tt
@@ -46,10 +44,7 @@ first_is_next (a ∷ apps) = or_left (same_app a a) _ (same_refl a.0)
 
 first_in : (apps : List App) (c : App) → slice_get apps 0 ≡ Some c → has_app apps c ≡ true
 first_in [] c e = cc
-first_in (b ∷ apps) c e = or_left (same_app c b) _ (subst (λ (x : App). same_app c x ≡ true) (sym (same b c e)) (same_refl c.0))
-  where
-    same : (b c : App) → Some b ≡ Some c → b ≡ c
-    same b c e = cc
+first_in (b ∷ apps) c e = or_left (same_app c b) _ (subst (λ (x : App). same_app c x ≡ true) (sym (same_some b c e)) (same_refl c.0))
 
 -- the one behind another is in the list
 next_in : (apps : List App) (a c : App) → next_app apps a ≡ Some c → has_app apps c ≡ true
@@ -69,14 +64,8 @@ next_is_next apps a = by (next_app apps a) refl
 passed : (b : App) (apps : List App) (next : Option App) → has_app apps b ≡ false → IfSome next (λ c. has_app apps c ≡ true) → left_of (b ∷ apps) next ≡ left_of apps next
 passed b apps None out h = refl
 passed b apps (Some c) out h = cases (same_app c b)
-    (λ t. absurd (clash (sym out ∙ ap (λ (k : ℕ). has_app apps (app_numbered k)) (sym (equal c.0 b.0 t)) ∙ h)))
+    (λ t. both (has_app apps b) (ap (λ (k : ℕ). has_app apps (app_numbered k)) (sym (same_number c.0 b.0 t)) ∙ h) out)
     (λ f. ap (λ p. cond p (b ∷ apps) (from_app apps c)) f)
-  where
-    equal : (i j : ℕ) → nat_eq i j ≡ true → i ≡ j
-    equal i j t = grind (arith, nat_tests)
-
-    clash : false ≡ true → ⊥
-    clash e = cc
 
 -- what is left from an application on is that one, and what is left from the next one on
 pub left_more : (apps : List App) (a : App) → Once apps → has_app apps a ≡ true → left_of apps (Some a) ≡ a ∷ left_of apps (next_app apps a)
@@ -84,15 +73,12 @@ left_more [] a once h = cc
 left_more (b ∷ apps) a once h = cases (same_app a b)
     (λ t. ap (λ p. cond p (b ∷ apps) (from_app apps a)) t
     ∙ ap (λ xs. b ∷ xs) (sym (all_left apps) ∙ sym (passed b apps (slice_get apps 0) once.0 (first_is_next apps)))
-    ∙ ap (λ (k : ℕ). app_numbered k ∷ left_of (b ∷ apps) (slice_get apps 0)) (sym (equal a.0 b.0 t))
+    ∙ ap (λ (k : ℕ). app_numbered k ∷ left_of (b ∷ apps) (slice_get apps 0)) (sym (same_number a.0 b.0 t))
     ∙ ap (λ p. a ∷ left_of (b ∷ apps) (cond p (slice_get apps 0) (next_app apps a))) (sym t))
     (λ f. ap (λ p. cond p (b ∷ apps) (from_app apps a)) f
     ∙ left_more apps a once.1 (sym (ap (λ p. p || has_app apps a) f) ∙ h)
     ∙ ap (λ xs. a ∷ xs) (sym (passed b apps (next_app apps a) once.0 (next_is_next apps a)))
     ∙ ap (λ p. a ∷ left_of (b ∷ apps) (cond p (slice_get apps 0) (next_app apps a))) (sym f))
-  where
-    equal : (i j : ℕ) → nat_eq i j ≡ true → i ≡ j
-    equal i j t = grind (arith, nat_tests)
 
 -- ---- a search along the walk
 module _ {B : Type 0} (f : App → List B) (apps : List App) (next : Option App) (so_far : first_given f (left_of apps next) ≡ first_given f apps) where
@@ -115,7 +101,4 @@ shorter_walk apps a once h = let e = ap length (left_more apps a once h) in omeg
 -- what is next is in the list
 pub is_in_list : (P : App → Type 0) (next : Option App) (a : App) → IfSome next P → next ≡ Some a → P a
 is_in_list P None a h e = cc
-is_in_list P (Some b) a h e = subst P (same b a e) h
-  where
-    same : (b c : App) → Some b ≡ Some c → b ≡ c
-    same b c e = cc
+is_in_list P (Some b) a h e = subst P (same_some b a e) h

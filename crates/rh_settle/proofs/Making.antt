@@ -12,7 +12,9 @@ use Rattle.rh_settle.specs.Moves.{next_moves, moved, moved_state}
 use Rattle.rh_settle.specs.Settling.{all_moved}
 use Rattle.rh_settle.specs.Validity.{RunsWhereItStands, OnceAtEachNode, CanBeMade}
 use Rattle.rh_settle.proofs.Searches.{none_picked}
-use Rattle.rh_settle.proofs.Falls.{Progresses, points, sized_of}
+use Rattle.rh_settle.proofs.Points.{points}
+use Rattle.rh_settle.proofs.Falls.{Progresses}
+use Rattle.rh_settle.proofs.Sized.{sized_of}
 use Rattle.rh_settle.proofs.Fuel.{state_moved, cluster_moved, progress, falls_next, unrolled, ended}
 use Rattle.rh_settle.proofs.Kept.{can_be_made, once_moved, runs_moved}
 
@@ -39,10 +41,10 @@ module _ (s : StateView) (notices : List Notice) (marked : List Pair) (pick : Pi
     same_cluster = ap (λ (o : Course). o.state.cluster) (made marked) ∙ cluster_moved (course s notices marked) m
 
     pub runs_still : RunsWhereItStands s → RunsWhereItStands t
-    runs_still runs = subst RunsWhereItStands (sym is_moved) (runs_moved s shape m known runs)
+    runs_still runs = subst RunsWhereItStands (sym is_moved) (runs_moved s (sized_of s shape) m known runs)
 
-    pub once_still : OnceAtEachNode s → OnceAtEachNode t
-    once_still once = subst OnceAtEachNode (sym is_moved) (once_moved s shape m known once)
+    pub once_still : RunsWhereItStands s → OnceAtEachNode s → OnceAtEachNode t
+    once_still runs once = subst OnceAtEachNode (sym is_moved) (once_moved s (sized_of s shape) runs m known once)
 
 -- the end
 pub none_left : (s : StateView) (notices : List Notice) (marked : List Pair) (pick : Pick) → None ≡ picked pick (next_moves s marked) → (all_moved pick (course s notices marked) ≡ course s notices marked) × (next_moves s marked ≡ [])

@@ -1,7 +1,7 @@
 -- Three nodes n1, n2 and n3, a distributed application with the groups n1 and {n2, n3}, one that needs another, and that
 -- other one: what follows of itself, computed from the definitions.
-use Rattle.std.proofs.Common.{◌≡◌, List, Bool, true, false, Some, None, [], ◌∷◌, refl}
-use Rattle.rh_parts.specs.ClusterView.{ClusterView, NodeView}
+use Rattle.std.proofs.Common.{◌≡◌, List, Bool, true, false, Some, None, [], ◌∷◌, refl, arith}
+use Rattle.rh_parts.specs.ClusterView.{ClusterView, NodeView, group_of}
 use Rattle.rh_parts.specs.declared.node.Node.{Node}
 use Rattle.rh_parts.specs.declared.node.App.{App}
 use Rattle.rh_parts.specs.declared.parts.Dep.TheVariants.{Listed}
@@ -22,7 +22,9 @@ use Rattle.rh_settle.specs.declared.notice.Notice.TheVariants.{Started, Stopped,
 use Rattle.rh_settle.specs.declared.notice.Pair.{Pair}
 use Rattle.rh_settle.specs.Course.{course}
 use Rattle.rh_settle.specs.Moves.{can_start, local_moves, placements, calls_away, takeovers, next_moves}
+use Rattle.rh_settle.specs.Enabled.{IsEnabled, goes_before}
 use Rattle.rh_settle.specs.Settling.{moved_by, all_moved, settled}
+use Rattle.rh_settle.proofs.InGroups.{none_before}
 
 abbrev n1 : Node
 n1 = record { 0 = 0 }
@@ -149,9 +151,33 @@ local_goes_first : next_moves (up false none ((app ∷ []) ∷ [] ∷ (helper �
 unfolding nodes_of apps_of is_operational deps_run best candidates can_start local_moves placements calls_away takeovers next_moves
 local_goes_first = refl
 
+-- the placement is enabled there too, and the local one goes before it
+abbrev both_kinds : StateView
+both_kinds = up false none ((app ∷ []) ∷ [] ∷ (helper ∷ []) ∷ []) (Wanted None)
+
+enabled_too : IsEnabled both_kinds [] (Placement app None n1)
+unfolding is_operational deps_run
+enabled_too = (omega arith, refl, record { listed = refl; passes = refl; first = λ k h. none_before (group_of (cluster false) app k); fewest = λ k h e. omega arith })
+
+local_before : goes_before both_kinds (Local n3 helper) (Placement app None n1) ≡ true
+local_before = refl
+
+-- local ones go by node first, and then as they wait there
+earlier_node : goes_before (up false none ((user ∷ helper ∷ []) ∷ [] ∷ (helper ∷ []) ∷ []) Quiet) (Local n1 helper) (Local n3 helper) ≡ true
+earlier_node = refl
+
+as_they_wait : goes_before (up false none ((helper ∷ user ∷ []) ∷ [] ∷ [] ∷ []) Quiet) (Local n1 helper) (Local n1 user) ≡ true
+as_they_wait = refl
+
+not_by_name : goes_before (up false none ((helper ∷ user ∷ []) ∷ [] ∷ [] ∷ []) Quiet) (Local n1 user) (Local n1 helper) ≡ false
+not_by_name = refl
+
 equally_good : next_moves (up false none ([] ∷ (app ∷ []) ∷ (app ∷ []) ∷ []) (Wanted None)) [] ≡ Placement app None n2 ∷ Placement app None n3 ∷ []
 unfolding nodes_of apps_of is_operational deps_run best candidates can_start local_moves placements calls_away takeovers next_moves
 equally_good = refl
+
+neither_before : goes_before (up false none ([] ∷ (app ∷ []) ∷ (app ∷ []) ∷ []) (Wanted None)) (Placement app None n2) (Placement app None n3) ≡ false
+neither_before = refl
 
 -- a lost one waits for its timer
 lost_stays : next_moves (up false none everywhere (Lost n1)) all_fresh ≡ []

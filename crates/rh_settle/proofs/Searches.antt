@@ -1,6 +1,6 @@
 -- A search for the first that is given.
 use Rattle.std.proofs.Common.{◌≡◌, ℕ, ◌+◌, ◌<◌, ◌≤◌, List, [], ◌∷◌, map, Option, Some, None, refl, sym, ap, ◌∙◌, drop, get_or, length, arith, zero, suc, is_some}
-use Rattle.std.specs.List.{range_with_len, last_or}
+use Rattle.std.specs.List.{Contains, range_with_len, last_or}
 use Rattle.std.specs.Option.{option_map}
 use Rattle.std.proofs.lemmas.List.{length-map}
 use Rattle.std.proofs.lemmas.List.FromFn.{get_or-range_with_len, length-range_with_len}
@@ -122,3 +122,21 @@ either_some pick xs ys o h = h ∙ ap (picked pick) (sym (some_picked pick xs ys
 
 pub either_none : {A : Type 0} (pick : Pick) (xs ys : List A) (r : Option A) → None ≡ picked pick xs → r ≡ picked pick ys → r ≡ picked pick (or_else xs ys)
 either_none pick xs ys r h k = k ∙ ap (λ zs. picked pick (or_else zs ys)) (sym (none_picked pick xs (sym h)))
+
+-- what the pick takes is in the list
+pub same_some : {A : Type 0} (x y : A) → Some x ≡ Some y → x ≡ y
+same_some x y e = cc
+
+no_pick : {A P : Type 0} (y : A) → None ≡ Some y → P
+no_pick y e = cc
+
+-- the last is there before, or is in the list
+last_contained : {A P : Type 0} (xs : List A) (before : Option A) (y : A) → last_or before xs ≡ Some y → (before ≡ Some y → P) → (Contains xs y → P) → P
+last_contained [] before y e earlier here = earlier e
+last_contained (x ∷ xs) before y e earlier here =
+    last_contained xs (Some x) y e (λ s. here (0, omega arith, same_some x y s)) (λ c. here (suc c.0, (let l = c.1 in omega arith), c.2))
+
+pub contains_picked : {A : Type 0} (pick : Pick) (xs : List A) (y : A) → picked pick xs ≡ Some y → Contains xs y
+contains_picked First [] y e = no_pick y e
+contains_picked First (x ∷ xs) y e = (0, omega arith, same_some x y e)
+contains_picked Last xs y e = last_contained xs None y e (λ h. no_pick y h) (λ c. c)

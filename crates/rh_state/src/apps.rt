@@ -45,6 +45,13 @@ impl AppList {
         Ok(AppList { apps })
     }
 
+    /// The same ones in the same order, as a vector.
+    pub fn to_vec(&self, alloc: Global) -> Result<Vec<App>, OutOfMemory>
+        ensures { IfOk result (λ apps. apps.items ≡ self.now) }
+    {
+        Ok(Vec::from_slice(alloc, self.apps.as_slice())?)
+    }
+
     /// How many there are.
     pub fn count(&self) -> usize
         ensures { result ≡ length self.now }

@@ -23,7 +23,7 @@ use std::marker::Model;
 /// The state of a cluster at one time.
 ///
 /// [`first_state`] and [`State::copy`] take all the memory that a state needs; of the other calls only
-/// [`State::timers`] takes any.
+/// [`State::running`], [`State::waiting`] and [`State::timers`] take any.
 #[derive(Drop)]
 pub struct State {
     cluster: Cluster,

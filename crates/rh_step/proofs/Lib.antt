@@ -1,15 +1,23 @@
-pub mod Steps
+pub mod ByHand
+pub mod Accepted
+pub mod Requirements
+pub mod SoundChange
+pub mod Comes
+pub mod TakenOff
 pub mod Fuel
-pub mod Outcomes
-pub mod TimeLaws
+pub mod FiredSound
 pub mod TickLaws
+pub mod AnyTime
+pub mod TickedValid
+pub mod FiresAll
+pub mod TimeLaws
+pub mod ModesKept
 pub mod StayUp
-pub mod ValidTimers
-pub mod ValidArming
-pub mod ValidParts
-pub mod ValidReadiness
-pub mod ValidSteps
-pub mod ValidTicks
-pub mod ValidEvents
-pub mod Rows
-pub mod Alive
+pub mod FirstStates
+pub mod Validity
+pub mod Outcomes
+pub mod NextAfter
+pub mod Performing
+pub mod Firing
+mod Rows
+mod RowsElsewhere

@@ -1,97 +1,144 @@
--- Worked rows: the definitions compute to what an operator expects.
-use Rattle.std.proofs.Common.{◌≡◌, ◌^◌, List, [], ◌∷◌, Some, None, codes, refl}
-use Rattle.rh_parts.specs.ClusterView.{ClusterView, NodeView, numbered}
+-- Worked rows of local applications: the definitions compute to what an operator expects.
+use Rattle.std.proofs.Common.{◌≡◌, List, Bool, true, false, [], ◌∷◌, Some, None, codes, refl}
+use Rattle.rh_parts.specs.ClusterView.{ClusterView, NodeView, AppView, numbered, app_numbered}
 use Rattle.rh_parts.specs.declared.node.Node.{Node}
-use Rattle.rh_parts.specs.declared.parts.SyncWait.{SyncWait}
-use Rattle.rh_parts.specs.declared.parts.SyncWait.TheVariants.{Unset, After, Forever}
-use Rattle.rh_state.specs.declared.parts.Timer.TheVariants.{Sync}
-use Rattle.rh_state.specs.Numbers.{nodes_of}
+use Rattle.rh_parts.specs.declared.node.App.{App}
+use Rattle.rh_parts.specs.declared.parts.Dep.{Dep}
+use Rattle.rh_parts.specs.declared.parts.Dep.TheVariants.{Listed, Platform}
+use Rattle.rh_parts.specs.declared.parts.Restart.{Restart}
+use Rattle.rh_parts.specs.declared.parts.Restart.TheVariants.{Permanent, Temporary}
+use Rattle.rh_parts.specs.declared.parts.SyncWait.TheVariants.{Unset}
+use Rattle.rh_state.specs.declared.parts.Kind.TheVariants.{Normal}
+use Rattle.rh_state.specs.Numbers.{nodes_of, apps_of}
 use Rattle.rh_state.specs.First.{first, configured}
 use Rattle.rh_state.specs.StateView.{StateView}
-use Rattle.rh_step.specs.declared.event.Event.{Event}
-use Rattle.rh_step.specs.declared.event.Event.TheVariants.{Boot, Crash, Tick}
-use Rattle.rh_step.specs.declared.event.Notice.{Notice}
-use Rattle.rh_step.specs.declared.event.Notice.TheVariants.{Up, Ended}
-use Rattle.rh_step.specs.declared.event.Pick.TheVariants.{First}
-use Rattle.rh_step.specs.declared.refusal.Refusal.TheVariants.{UnknownNode, AlreadyAlive, IncarnationLimit, NotAlive, ZeroTick, TimeLimit}
-use Rattle.rh_step.specs.Readiness.{all_alive, is_ready, come_up, come_up_if_ready, ready_come_up}
+use Rattle.rh_place.specs.declared.choosing.Pick.TheVariants.{First}
+use Rattle.rh_place.specs.Placing.{missing_dep, deps_run, is_operational, best, candidates}
+use Rattle.rh_settle.specs.declared.notice.Notice.{Notice}
+use Rattle.rh_settle.specs.declared.notice.Notice.TheVariants.{Up, Ended, Started, Stopped, Waits}
+use Rattle.rh_settle.specs.Moves.{can_start, local_moves, placements, calls_away, takeovers, next_moves}
+use Rattle.rh_settle.specs.Settling.{moved_by, all_moved}
+use Rattle.rh_change.specs.declared.event.Event.{Event}
+use Rattle.rh_change.specs.declared.event.Event.TheVariants.{Boot, Crash, Start, Stop, Permit}
+use Rattle.rh_change.specs.Readiness.{all_alive, is_ready}
+use Rattle.rh_change.specs.Marking.{with_mark, mark_all}
+use Rattle.rh_change.specs.ComingUp.{come_up, come_up_if_ready, ready_come_up}
+use Rattle.rh_change.specs.Ending.{cleared, lost_if_ran, all_lost, ended}
+use Rattle.rh_change.specs.ByHand.{stopped, is_started_anywhere, left_waiting, forbidden, permitted}
+use Rattle.rh_change.specs.Changes.{booted}
+use Rattle.rh_step.specs.declared.refusal.Refusal.TheVariants.{NodeNotUp, AlreadyStarted, DependencyNotStarted}
 use Rattle.rh_step.specs.Refusals.{refused}
-use Rattle.rh_step.specs.Changes.{ended}
-use Rattle.rh_step.specs.Ticks.{fired, fired_by, all_fired, ticked}
-use Rattle.rh_step.specs.Outcomes.{next}
+use Rattle.rh_step.specs.Outcomes.{followed, next}
 
-abbrev node : List Node → List Node → SyncWait → NodeView
-node mandatory optional wait = record { mandatory = mandatory; optional = optional; sync_wait = wait; boot = []; permissions = []; platforms = [] }
-
-abbrev p : Node
-p = numbered 0
-
-abbrev q : Node
-q = numbered 1
-
-abbrev r : Node
-r = numbered 2
-
--- p can't do without q, q waits for p and r, and r for nobody
-abbrev three : SyncWait → ClusterView
-three wait = record {
-  node_names = codes "p" ∷ codes "q" ∷ codes "r" ∷ [];
-  app_names = [];
-  platform_names = [];
-  nodes = node (q ∷ []) [] wait ∷ node [] (p ∷ r ∷ []) (After 500) ∷ node [] [] Unset ∷ [];
-  apps = [];
-}
-
-abbrev state_after : StateView → List Event → StateView
+abbrev pub state_after : StateView → List Event → StateView
 state_after s [] = s
 state_after s (e ∷ events) = state_after (next s e First).state events
 
-abbrev answers : StateView → List Event → List (List Notice)
+abbrev pub answers : StateView → List Event → List (List Notice)
 answers s [] = []
 answers s (e ∷ events) = (next s e First).notices ∷ answers (next s e First).state events
 
--- a node comes up as soon as the others are there, or at the end of its wait
-waits_end_row : answers (first (three (After 1000))) (Boot p ∷ Tick 500 ∷ Boot q ∷ Tick 500 ∷ []) ≡ [] ∷ [] ∷ (Up p ∷ []) ∷ (Up q ∷ []) ∷ []
-unfolding nodes_of configured all_alive is_ready come_up come_up_if_ready ready_come_up ended fired fired_by all_fired ticked next
-waits_end_row = refl
+abbrev node : List (App × Restart) → List Bool → NodeView
+node boot permissions = record { mandatory = []; optional = []; sync_wait = Unset; boot = boot; permissions = permissions; platforms = true ∷ true ∷ [] }
 
-timer_row : (state_after (first (three (After 1000))) (Boot p ∷ Tick 500 ∷ Boot q ∷ [])).timers ≡ (1000, Sync q) ∷ []
-unfolding nodes_of configured all_alive is_ready come_up come_up_if_ready ready_come_up ended fired fired_by all_fired ticked next
-timer_row = refl
+abbrev local : List Dep → AppView
+local deps = record { deps = deps; start_arg = None; phases = false; spread = None }
 
--- without its mandatory node it ends; and nodes that come up make others ready
-mandatory_row : answers (first (three (After 1000))) (Boot p ∷ Tick 500 ∷ Tick 500 ∷ Boot q ∷ Boot r ∷ Boot p ∷ [])
-    ≡ [] ∷ [] ∷ (Ended p ∷ []) ∷ [] ∷ (Up r ∷ []) ∷ (Up p ∷ Up q ∷ []) ∷ []
-unfolding nodes_of configured all_alive is_ready come_up come_up_if_ready ready_come_up ended fired fired_by all_fired ticked next
-mandatory_row = refl
+-- ---- one node that boots three applications
+abbrev one : Node
+one = numbered 0
 
--- a wait without an end has no timer
-endless_row : answers (first (three Forever)) (Boot p ∷ Tick 1000000000000 ∷ Crash p ∷ []) ≡ [] ∷ [] ∷ (Ended p ∷ []) ∷ []
-unfolding nodes_of configured all_alive is_ready come_up come_up_if_ready ready_come_up ended fired fired_by all_fired ticked next
-endless_row = refl
+abbrev a : App
+a = app_numbered 0
 
--- two timers that are due together fire in the order in which they were set
-abbrev both : ClusterView
-both = record { node_names = codes "p" ∷ codes "q" ∷ codes "r" ∷ []; app_names = []; platform_names = []; nodes = node [] (r ∷ []) (After 10) ∷ node [] (r ∷ []) (After 10) ∷ node [] [] Unset ∷ []; apps = [] }
+abbrev b : App
+b = app_numbered 1
 
-together_row : answers (first both) (Boot q ∷ Boot p ∷ Tick 10 ∷ []) ≡ [] ∷ [] ∷ (Up q ∷ Up p ∷ []) ∷ []
-unfolding nodes_of configured all_alive is_ready come_up come_up_if_ready ready_come_up ended fired fired_by all_fired ticked next
-together_row = refl
+abbrev c : App
+c = app_numbered 2
 
-zero_tick_row : refused (first both) (Tick 0) ≡ Some ZeroTick
-zero_tick_row = refl
+abbrev three_apps : ClusterView
+three_apps = record {
+  node_names = codes "one@lab" ∷ [];
+  app_names = codes "a" ∷ codes "b" ∷ codes "c" ∷ [];
+  platform_names = codes "kernel" ∷ codes "stdlib" ∷ [];
+  nodes = node ((a, Temporary) ∷ (b, Temporary) ∷ (c, Temporary) ∷ []) (true ∷ true ∷ true ∷ []) ∷ [];
+  apps = local [] ∷ local [] ∷ local [] ∷ [];
+}
 
-time_limit_row : refused (record (first both) { time = 1000000000000 }) (Tick 1) ≡ Some TimeLimit
-time_limit_row = refl
+-- an application that is started again goes behind the others
+started_again_row : answers (first three_apps) (Boot one ∷ Stop one b ∷ Start one b Temporary ∷ [])
+    ≡ (Up one ∷ Started a one Normal None ∷ Started b one Normal None ∷ Started c one Normal None ∷ [])
+    ∷ (Stopped b one ∷ []) ∷ (Started b one Normal None ∷ []) ∷ []
+unfolding nodes_of apps_of configured all_alive is_ready booted with_mark mark_all come_up come_up_if_ready ready_come_up stopped left_waiting is_started_anywhere missing_dep deps_run is_operational best candidates can_start local_moves placements calls_away takeovers next_moves moved_by all_moved followed next
+started_again_row = refl
 
-big_tick_row : refused (first both) (Tick 18446744073709551615) ≡ Some TimeLimit
-big_tick_row = refl
+order_row : (state_after (first three_apps) (Boot one ∷ Stop one b ∷ Start one b Temporary ∷ [])).running ≡ (a ∷ c ∷ b ∷ []) ∷ []
+unfolding nodes_of apps_of configured all_alive is_ready booted with_mark mark_all come_up come_up_if_ready ready_come_up stopped left_waiting is_started_anywhere missing_dep deps_run is_operational best candidates can_start local_moves placements calls_away takeovers next_moves moved_by all_moved followed next
+order_row = refl
 
-last_tick_row : refused (first both) (Tick 1000000000000) ≡ None
-last_tick_row = refl
+-- one that may not run waits, and starts again as soon as it may
+abbrev forbidden_b : StateView
+forbidden_b = state_after (first three_apps) (Boot one ∷ Permit one b false ∷ [])
 
-unknown_row : refused (first both) (Crash (numbered 255)) ≡ Some UnknownNode
-unknown_row = refl
+forbidden_row : answers (first three_apps) (Boot one ∷ Permit one b false ∷ Permit one b true ∷ Crash one ∷ [])
+    ≡ (Up one ∷ Started a one Normal None ∷ Started b one Normal None ∷ Started c one Normal None ∷ [])
+    ∷ (Stopped b one ∷ []) ∷ (Started b one Normal None ∷ []) ∷ (Ended one ∷ []) ∷ []
+unfolding nodes_of apps_of configured all_alive is_ready booted with_mark mark_all come_up come_up_if_ready ready_come_up cleared lost_if_ran all_lost ended forbidden permitted missing_dep deps_run is_operational best candidates can_start local_moves placements calls_away takeovers next_moves moved_by all_moved followed next
+forbidden_row = refl
 
-last_incarnation_row : refused (record (first both) { incarnations = 9999 ∷ 0 ∷ 0 ∷ [] }) (Boot p) ≡ Some IncarnationLimit
-last_incarnation_row = refl
+started_already_row : refused forbidden_b (Start one b Permanent) ≡ Some AlreadyStarted
+unfolding nodes_of apps_of configured all_alive is_ready booted with_mark mark_all come_up come_up_if_ready ready_come_up forbidden permitted missing_dep deps_run is_operational best candidates can_start local_moves placements calls_away takeovers next_moves moved_by all_moved followed next refused
+started_already_row = refl
+
+not_up_row : refused (first three_apps) (Permit one a true) ≡ Some NodeNotUp
+unfolding refused
+not_up_row = refl
+
+-- ---- what an application needs: x needs d1 and d2
+abbrev v : Node
+v = numbered 0
+
+abbrev w : Node
+w = numbered 1
+
+abbrev x : App
+x = app_numbered 0
+
+abbrev d1 : App
+d1 = app_numbered 1
+
+abbrev d2 : App
+d2 = app_numbered 2
+
+abbrev needs : ClusterView
+needs = record {
+  node_names = codes "v@lab" ∷ codes "w@lab" ∷ [];
+  app_names = codes "x" ∷ codes "d1" ∷ codes "d2" ∷ [];
+  platform_names = codes "kernel" ∷ codes "stdlib" ∷ [];
+  nodes = node [] (true ∷ true ∷ true ∷ []) ∷ node ((x, Permanent) ∷ (d1, Permanent) ∷ []) (true ∷ true ∷ true ∷ []) ∷ [];
+  apps = local (Platform 0 ∷ Listed d1 ∷ Listed d2 ∷ []) ∷ local [] ∷ local [] ∷ [];
+}
+
+missing_row : refused (state_after (first needs) (Boot v ∷ [])) (Start v x Permanent) ≡ Some (DependencyNotStarted (Listed d1))
+unfolding nodes_of apps_of configured all_alive is_ready booted with_mark mark_all come_up come_up_if_ready ready_come_up missing_dep deps_run is_operational best candidates can_start local_moves placements calls_away takeovers next_moves moved_by all_moved followed next refused
+missing_row = refl
+
+needs_row : answers (first needs) (Boot v ∷ Boot w ∷ Start w d2 Temporary ∷ [])
+    ≡ (Up v ∷ []) ∷ (Up w ∷ Started d1 w Normal None ∷ Waits x w ∷ []) ∷ (Started d2 w Normal None ∷ Started x w Normal None ∷ []) ∷ []
+unfolding nodes_of apps_of configured all_alive is_ready booted with_mark mark_all come_up come_up_if_ready ready_come_up missing_dep deps_run is_operational best candidates can_start local_moves placements calls_away takeovers next_moves moved_by all_moved followed next
+needs_row = refl
+
+-- two that need each other wait for ever
+abbrev circle : ClusterView
+circle = record {
+  node_names = codes "z" ∷ [];
+  app_names = codes "f" ∷ codes "g" ∷ [];
+  platform_names = codes "kernel" ∷ codes "stdlib" ∷ [];
+  nodes = node ((a, Permanent) ∷ (b, Permanent) ∷ []) (true ∷ true ∷ []) ∷ [];
+  apps = local (Listed b ∷ []) ∷ local (Listed a ∷ []) ∷ [];
+}
+
+circle_row : answers (first circle) (Boot one ∷ []) ≡ (Up one ∷ Waits a one ∷ Waits b one ∷ []) ∷ []
+unfolding nodes_of apps_of configured all_alive is_ready booted with_mark mark_all come_up come_up_if_ready ready_come_up missing_dep deps_run is_operational best candidates can_start local_moves placements calls_away takeovers next_moves moved_by all_moved followed next
+circle_row = refl

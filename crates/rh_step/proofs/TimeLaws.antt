@@ -1,45 +1,34 @@
 -- Time never runs backwards.
-use Rattle.std.proofs.Common.{◌≡◌, ◌≤◌, ℕ, ◌+◌, Bool, true, false, cond, List, [], ◌∷◌, fold, None, refl, ◌∙◌, arith}
-use Rattle.rh_parts.specs.ClusterView.{sync_wait_of}
-use Rattle.rh_parts.specs.declared.node.Node.{Node}
-use Rattle.rh_parts.specs.declared.parts.SyncWait.{SyncWait}
-use Rattle.rh_parts.specs.declared.parts.SyncWait.TheVariants.{Unset, After, Forever}
-use Rattle.rh_state.specs.declared.parts.Mode.TheVariants.{Waiting}
-use Rattle.rh_state.specs.Numbers.{nodes_of}
-use Rattle.rh_state.specs.StateView.{StateView, incarnation_of}
-use Rattle.rh_state.specs.Setters.{with_mode, with_incarnation}
-use Rattle.rh_step.specs.declared.event.Event.{Event}
-use Rattle.rh_step.specs.declared.event.Event.TheVariants.{Boot, Crash, Tick}
-use Rattle.rh_step.specs.declared.event.Pick.{Pick}
-use Rattle.rh_step.specs.Course.{Course, course}
-use Rattle.rh_step.specs.Readiness.{is_ready, come_up, come_up_if_ready, ready_come_up}
-use Rattle.rh_step.specs.Changes.{with_sync_timer, booted, ended, change}
+use Rattle.std.proofs.Common.{◌≡◌, ◌≤◌, [], ◌∙◌, arith}
+use Rattle.rh_state.specs.StateView.{StateView}
+use Rattle.rh_place.specs.declared.choosing.Pick.{Pick}
+use Rattle.rh_settle.specs.Course.{Course, course}
+use Rattle.rh_change.specs.declared.event.Event.{Event}
+use Rattle.rh_change.specs.declared.event.Event.TheVariants.{Boot, Crash, Tick, Start, Stop, Permit, Takeover, Exit}
+use Rattle.rh_change.specs.ComingUp.{ready_come_up}
+use Rattle.rh_change.specs.Changes.{change}
 use Rattle.rh_step.specs.Ticks.{ticked}
-use Rattle.rh_step.specs.Outcomes.{next}
+use Rattle.rh_step.specs.Outcomes.{followed, next}
+use Rattle.rh_step.specs.Laws.{TimeGoesOn}
+use Rattle.rh_change.proofs.Fields.{change_time}
+use Rattle.rh_change.proofs.SoundComingUp.{ready_come_up_time}
+use Rattle.rh_settle.proofs.Unchanged.{settled_time}
 
-each_time : (ns : List Node) (o : Course) → (fold come_up_if_ready o ns).state.time ≡ o.state.time
-unfolding come_up_if_ready come_up
-each_time [] o = refl
-each_time (n ∷ ns) o = each_time ns (come_up_if_ready o n) ∙ by (is_ready o.state n)
-  where
-    by : (b : Bool) → (cond b (come_up o n) o).state.time ≡ o.state.time
-    by true = refl
-    by false = refl
+-- an event that is no tick takes no time
+pub followed_time : (pick : Pick) (o : Course) (e : Event) → (followed pick o e).state.time ≡ o.state.time
+unfolding followed
+followed_time pick o e = settled_time pick (ready_come_up (change o e)) ∙ ready_come_up_time (change o e) ∙ change_time o e
 
-ready_time : (o : Course) → (ready_come_up o).state.time ≡ o.state.time
-unfolding ready_come_up
-ready_time o = each_time (nodes_of o.state.cluster) o
+at_once : (pick : Pick) (s : StateView) (e : Event) → s.time ≤ (followed pick (course s [] []) e).state.time
+at_once pick s e = let same = followed_time pick (course s [] []) e in omega (arith, same)
 
-booted_time : (s : StateView) (n : Node) → (booted s n).time ≡ s.time
-booted_time s n = by (with_mode (with_incarnation s n (incarnation_of s n + 1)) n Waiting) (sync_wait_of s.cluster n)
-  where
-    by : (t : StateView) (wait : SyncWait) → (with_sync_timer t n wait).time ≡ t.time
-    by t Unset = refl
-    by t (After ms) = refl
-    by t Forever = refl
-
-pub time_on : (s : StateView) (e : Event) (pick : Pick) → s.time ≤ (next s e pick).state.time
-unfolding next ticked ended
-time_on s (Boot n) pick = let e = ready_time (change (course s []) (Boot n)) ∙ booted_time s n in omega (arith, e)
-time_on s (Crash n) pick = let e = ready_time (change (course s []) (Crash n)) in omega (arith, e)
-time_on s (Tick ms) pick = omega arith
+pub time_goes_on : TimeGoesOn
+unfolding next ticked
+time_goes_on s (Boot n) pick fine = at_once pick s (Boot n)
+time_goes_on s (Crash n) pick fine = at_once pick s (Crash n)
+time_goes_on s (Tick ms) pick fine = omega arith
+time_goes_on s (Start n a r) pick fine = at_once pick s (Start n a r)
+time_goes_on s (Stop n a) pick fine = at_once pick s (Stop n a)
+time_goes_on s (Permit n a allow) pick fine = at_once pick s (Permit n a allow)
+time_goes_on s (Takeover n a r) pick fine = at_once pick s (Takeover n a r)
+time_goes_on s (Exit n a normal) pick fine = at_once pick s (Exit n a normal)

@@ -1,4 +1,4 @@
--- The steps that the rules allow (Distributed Applications; kernel(6), sync_nodes).
+-- The steps that the rules allow (Distributed Applications; application(3); kernel(6), distributed, sync_nodes).
 -- This is a relation: where the rules leave a choice, it has several outcomes, and `next` is one of them.
 use Rattle.std.specs.Prelude.{◌≡◌, ◌+◌, ℕ, List, [], ◌∷◌, true, false, Some, None}
 use Rattle.rh_parts.specs.declared.node.Node.{Node}
@@ -6,13 +6,16 @@ use Rattle.rh_state.specs.declared.parts.Timer.{Timer}
 use Rattle.rh_state.specs.Numbers.{nodes_of}
 use Rattle.rh_state.specs.StateView.{StateView, earliest}
 use Rattle.rh_state.specs.Setters.{with_time}
-use Rattle.rh_step.specs.declared.event.Event.{Event}
-use Rattle.rh_step.specs.declared.event.Event.TheVariants.{Boot, Crash, Tick}
-use Rattle.rh_step.specs.Course.{Course, course, now_in}
-use Rattle.rh_step.specs.Readiness.{is_ready, come_up}
+use Rattle.rh_settle.specs.Course.{Course, course}
+use Rattle.rh_settle.specs.Settling.{Settles}
+use Rattle.rh_change.specs.declared.event.Event.{Event}
+use Rattle.rh_change.specs.declared.event.Event.TheVariants.{Boot, Crash, Tick, Start, Stop, Permit, Takeover, Exit}
+use Rattle.rh_change.specs.Readiness.{is_ready}
+use Rattle.rh_change.specs.ComingUp.{come_up}
+use Rattle.rh_change.specs.Changes.{change}
 use Rattle.rh_step.specs.Refusals.{refused}
-use Rattle.rh_step.specs.Changes.{change}
 use Rattle.rh_step.specs.Ticks.{due_by, taken_off, effect}
+use Rattle.rh_step.specs.Outcomes.{Outcome, outcome, outcome_of}
 
 -- one node after the other comes up where it is ready then, and stays as it is where it isn't
 pub data ComeUp : List Node → Course → Course → Type 0 where
@@ -20,24 +23,41 @@ pub data ComeUp : List Node → Course → Course → Type 0 where
   ready : (n : Node) (ns : List Node) (o p : Course) → is_ready o.state n ≡ true → ComeUp ns (come_up o n) p → ComeUp (n ∷ ns) o p
   not_ready : (n : Node) (ns : List Node) (o p : Course) → is_ready o.state n ≡ false → ComeUp ns o p → ComeUp (n ∷ ns) o p
 
--- as long as a timer is due by the limit, the first of them fires, and then the ready nodes come up
+-- behind a change the ready nodes come up, and then the applications settle
+pub record ComesOf (changed p : Course) : Type 0 where
+  pub risen : Course
+  pub rises : ComeUp (nodes_of changed.state.cluster) changed risen
+  pub settles : Settles risen p
+
+-- as long as a timer is due by the limit, the first of them fires
 pub data Fires (limit : ℕ) : Course → Course → Type 0 where
   none_due : (o : Course) → due_by limit (earliest o.state) ≡ None → Fires limit o o
   one_due : (entry : ℕ × Timer) (o p q : Course) → due_by limit (earliest o.state) ≡ Some entry
-      → ComeUp (nodes_of o.state.cluster) (effect (taken_off o entry) entry.1) p → Fires limit p q → Fires limit o q
+      → ComesOf (effect (taken_off o entry) entry.1) p → Fires limit p q → Fires limit o q
 
 -- time passes to its end
-pub record Passes (s : StateView) (ms : ℕ) (p : Course) : Type 0 where
+pub record Passes (s : StateView) (ms : ℕ) (p : Outcome) : Type 0 where
   pub before : Course
-  pub fires : Fires (s.time + ms) (course s []) before
-  pub end : p ≡ now_in before (with_time before.state (s.time + ms))
+  pub fires : Fires (s.time + ms) (course s [] []) before
+  pub end : p ≡ outcome (with_time before.state (s.time + ms)) before.notices
 
-abbrev pub Follows : StateView → Event → Course → Type 0
-Follows s (Boot n) p = ComeUp (nodes_of s.cluster) (change (course s []) (Boot n)) p
-Follows s (Crash n) p = ComeUp (nodes_of s.cluster) (change (course s []) (Crash n)) p
+-- an event that is no tick
+pub record Happens (s : StateView) (e : Event) (p : Outcome) : Type 0 where
+  pub last : Course
+  pub comes : ComesOf (change (course s [] []) e) last
+  pub end : p ≡ outcome_of last
+
+abbrev pub Follows : StateView → Event → Outcome → Type 0
+Follows s (Boot n) p = Happens s (Boot n) p
+Follows s (Crash n) p = Happens s (Crash n) p
 Follows s (Tick ms) p = Passes s ms p
+Follows s (Start n a r) p = Happens s (Start n a r) p
+Follows s (Stop n a) p = Happens s (Stop n a) p
+Follows s (Permit n a allow) p = Happens s (Permit n a allow) p
+Follows s (Takeover n a r) p = Happens s (Takeover n a r) p
+Follows s (Exit n a normal) p = Happens s (Exit n a normal) p
 
 -- the event isn't refused, and this follows from it
-pub record Allowed (s : StateView) (e : Event) (p : Course) : Type 0 where
+pub record Allowed (s : StateView) (e : Event) (p : Outcome) : Type 0 where
   pub accepted : refused s e ≡ None
   pub outcome : Follows s e p

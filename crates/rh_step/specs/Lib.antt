@@ -1,7 +1,4 @@
-pub mod Course
-pub mod Readiness
 pub mod Refusals
-pub mod Changes
 pub mod Ticks
 pub mod Outcomes
 pub mod Allowed

@@ -1,19 +1,41 @@
--- The outcome of an event that isn't refused, where each tie goes to the pick (ours; nothing is tied yet).
-use Rattle.std.specs.Prelude.{[]}
+-- The outcome of an event that isn't refused, where each tie goes to the pick (ours).
+use Rattle.std.specs.Prelude.{List, []}
 use Rattle.rh_state.specs.StateView.{StateView}
-use Rattle.rh_step.specs.declared.event.Event.{Event}
-use Rattle.rh_step.specs.declared.event.Event.TheVariants.{Boot, Crash, Tick}
-use Rattle.rh_step.specs.declared.event.Pick.{Pick}
-use Rattle.rh_step.specs.Course.{Course, course}
-use Rattle.rh_step.specs.Readiness.{ready_come_up}
-use Rattle.rh_step.specs.Changes.{change}
+use Rattle.rh_place.specs.declared.choosing.Pick.{Pick}
+use Rattle.rh_settle.specs.declared.notice.Notice.{Notice}
+use Rattle.rh_settle.specs.Course.{Course, course}
+use Rattle.rh_settle.specs.Settling.{settled}
+use Rattle.rh_change.specs.declared.event.Event.{Event}
+use Rattle.rh_change.specs.declared.event.Event.TheVariants.{Boot, Crash, Tick, Start, Stop, Permit, Takeover, Exit}
+use Rattle.rh_change.specs.ComingUp.{ready_come_up}
+use Rattle.rh_change.specs.Changes.{change}
 use Rattle.rh_step.specs.Ticks.{ticked}
 
--- the change of the event, and then the ready nodes come up; a tick does so at each timer that fires
-abbrev pub next_from : Course → Event → Pick → Course
-next_from o (Boot n) pick = ready_come_up (change o (Boot n))
-next_from o (Crash n) pick = ready_come_up (change o (Crash n))
-next_from o (Tick ms) pick = ticked o ms
+-- a state, and what was told on the way to it
+pub record Outcome : Type 0 where
+  pub state : StateView
+  pub notices : List Notice
 
-unfoldable pub next : StateView → Event → Pick → Course
-next s e pick = next_from (course s []) e pick
+abbrev pub outcome : StateView → List Notice → Outcome
+outcome s notices = record { state = s; notices = notices }
+
+abbrev pub outcome_of : Course → Outcome
+outcome_of o = outcome o.state o.notices
+
+-- the change of the event; then the ready nodes come up, and the applications settle
+unfoldable pub followed : Pick → Course → Event → Course
+followed pick o e = settled pick (ready_come_up (change o e))
+
+-- a tick does so at each timer that fires
+abbrev pub next_from : Course → Event → Pick → Course
+next_from o (Boot n) pick = followed pick o (Boot n)
+next_from o (Crash n) pick = followed pick o (Crash n)
+next_from o (Tick ms) pick = ticked pick o ms
+next_from o (Start n a r) pick = followed pick o (Start n a r)
+next_from o (Stop n a) pick = followed pick o (Stop n a)
+next_from o (Permit n a allow) pick = followed pick o (Permit n a allow)
+next_from o (Takeover n a r) pick = followed pick o (Takeover n a r)
+next_from o (Exit n a normal) pick = followed pick o (Exit n a normal)
+
+unfoldable pub next : StateView → Event → Pick → Outcome
+next s e pick = outcome_of (next_from (course s [] []) e pick)

@@ -1,6 +1,6 @@
--- Time that passes: the timers that are due fire one after the other, each followed by the ready nodes coming up
--- (kernel(6), sync_nodes_timeout; ours for the order of timers).
-use Rattle.std.specs.Prelude.{ℕ, ◌+◌, zero, suc, List, [], ◌∷◌, length, Option, Some, None, nat_le, if◌then◌else◌}
+-- Time that passes: the timers that are due fire one after the other, each followed by the ready nodes coming up and the
+-- applications settling (kernel(6), sync_nodes_timeout, distributed; ours for the order of timers).
+use Rattle.std.specs.Prelude.{ℕ, ◌+◌, zero, suc, [], length, Option, Some, None, nat_le, if◌then◌else◌}
 use Rattle.rh_parts.specs.ClusterView.{mandatory_of}
 use Rattle.rh_parts.specs.declared.node.App.{App}
 use Rattle.rh_state.specs.declared.parts.Standing.{Standing}
@@ -9,9 +9,12 @@ use Rattle.rh_state.specs.declared.parts.Timer.{Timer}
 use Rattle.rh_state.specs.declared.parts.Timer.TheVariants.{Sync, Failover}
 use Rattle.rh_state.specs.StateView.{StateView, standing_of, earliest}
 use Rattle.rh_state.specs.Setters.{with_time, with_standing, without_due}
-use Rattle.rh_step.specs.Course.{Course, now_in}
-use Rattle.rh_step.specs.Readiness.{all_alive, come_up, ready_come_up}
-use Rattle.rh_step.specs.Changes.{ended}
+use Rattle.rh_place.specs.declared.choosing.Pick.{Pick}
+use Rattle.rh_settle.specs.Course.{Course, course, now_in}
+use Rattle.rh_settle.specs.Settling.{settled}
+use Rattle.rh_change.specs.Readiness.{all_alive}
+use Rattle.rh_change.specs.ComingUp.{come_up, ready_come_up}
+use Rattle.rh_change.specs.Ending.{ended}
 
 -- the timer that fires next, if it is due by the limit
 abbrev pub due_by : ℕ → Option (ℕ × Timer) → Option (ℕ × Timer)
@@ -30,27 +33,27 @@ abbrev pub effect : Course → Timer → Course
 effect o (Sync n) = if all_alive o.state (mandatory_of o.state.cluster n) then come_up o n else ended o n
 effect o (Failover a) = now_in o (wanted_if_lost o.state a (standing_of o.state a))
 
--- the timer is taken off, and it is as late as it was due
+-- the timer is taken off, it is as late as it was due, and what was marked before is no longer fresh
 abbrev pub taken_off : Course → ℕ × Timer → Course
-taken_off o entry = now_in o (with_time (without_due o.state entry.1) entry.0)
+taken_off o entry = course (with_time (without_due o.state entry.1) entry.0) o.notices []
 
 -- a timer fires
-unfoldable pub fired : Course → ℕ × Timer → Course
-fired o entry = ready_come_up (effect (taken_off o entry) entry.1)
+unfoldable pub fired : Pick → Course → ℕ × Timer → Course
+fired pick o entry = settled pick (ready_come_up (effect (taken_off o entry) entry.1))
 
 -- the timers that are due by the limit fire, at most so many; each time it is the first of those that are set then
 abbrev pub go_on : Course → Option (ℕ × Timer) → (ℕ × Timer → Course) → Course
 go_on o None rest = o
 go_on o (Some entry) rest = rest entry
 
-unfoldable pub fired_by : ℕ → ℕ → Course → Course
-fired_by zero limit o = o
-fired_by (suc most) limit o = go_on o (due_by limit (earliest o.state)) (λ entry. fired_by most limit (fired o entry))
+unfoldable pub fired_by : Pick → ℕ → ℕ → Course → Course
+fired_by pick zero limit o = o
+fired_by pick (suc most) limit o = go_on o (due_by limit (earliest o.state)) (λ entry. fired_by pick most limit (fired pick o entry))
 
 -- all of them: a timer that fires sets no other, so there are at most as many as are set
-unfoldable pub all_fired : ℕ → Course → Course
-all_fired limit o = fired_by (length o.state.timers) limit o
+unfoldable pub all_fired : Pick → ℕ → Course → Course
+all_fired pick limit o = fired_by pick (length o.state.timers) limit o
 
 -- so many milliseconds pass
-unfoldable pub ticked : Course → ℕ → Course
-ticked o ms = let p = all_fired (o.state.time + ms) o in now_in p (with_time p.state (o.state.time + ms))
+unfoldable pub ticked : Pick → Course → ℕ → Course
+ticked pick o ms = let p = all_fired pick (o.state.time + ms) o in now_in p (with_time p.state (o.state.time + ms))

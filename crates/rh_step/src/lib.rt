@@ -3,16 +3,18 @@
 //! [`refusal_of`] says why an [`Event`] is refused in a state, and [`perform`] makes one that isn't.
 #![tactic(auto)]
 
-mod changes;
-mod event;
 mod laws;
+mod notices;
 mod refusal;
 mod step;
 mod ticks;
 
-pub use event::{Event, Notice, Notices, Pick};
 pub use laws::{
     first_is_valid, next_is_allowed, next_is_valid, ticks_add_up, time_goes_on, up_until_ended,
 };
+pub use notices::Notices;
 pub use refusal::{Refusal, refusal_of};
+pub use rh_change::Event;
+pub use rh_place::Pick;
+pub use rh_settle::Notice;
 pub use step::perform;

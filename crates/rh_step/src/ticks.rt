@@ -1,38 +1,62 @@
 //! Time that passes.
 
-ghost use Rattle.std.specs.Prelude.{◌≡◌, ◌≤◌, ◌+◌, IfSome, OnOk};
+ghost use Rattle.std.specs.Prelude.{◌≡◌, ◌≤◌, ◌<◌, ◌+◌, [], Some, IfSome, IsNone, OnOk};
+ghost use Rattle.rh_parts.specs.ClusterView.{app_count};
+ghost use Rattle.rh_parts.specs.declared.node.Node.{Node};
+ghost use Rattle.rh_parts.specs.declared.node.App.{App};
 ghost use Rattle.rh_state.specs.Limits.{time_limit};
-ghost use Rattle.rh_state.specs.StateView.{earliest};
-ghost use Rattle.rh_state.specs.Shape.{IsTimerOf};
+ghost use Rattle.rh_state.specs.StateView.{earliest, standing_of, running_at, waiting_at, due_of};
+ghost use Rattle.rh_state.specs.Shape.{IsNodeOf, IsTimerOf};
 ghost use Rattle.rh_state.specs.Words.{read};
-ghost use Rattle.rh_step.specs.Course.{course};
-ghost use Rattle.rh_step.specs.Ticks.{due_by, effect, fired, all_fired, ticked};
+ghost use Rattle.rh_state.specs.declared.parts.Standing.TheVariants.{Running};
+ghost use Rattle.rh_state.specs.declared.parts.Timer.TheVariants.{Sync, Failover};
+ghost use Rattle.rh_settle.specs.Course.{course};
+ghost use Rattle.rh_settle.specs.Soundness.{IsSound};
+ghost use Rattle.rh_step.specs.Outcomes.{outcome, outcome_of};
+ghost use Rattle.rh_step.specs.Ticks.{due_by, wanted_if_lost, effect, fired, all_fired, ticked};
 
-use crate::changes::{all_alive, cancel_if_set, come_up, end, let_ready_come_up};
-use crate::event::Notice;
+use crate::step::follow;
+use rh_change::{all_alive, cancel_if_set, come_up, end};
 use rh_parts::{App, Node};
+use rh_place::Pick;
+use rh_settle::{Notice, Pair};
 use rh_state::{Standing, State, Timer};
 use rh_terms::OutOfMemory;
+use std::alloc::Global;
 
 /// So many milliseconds pass.
 #[tactic(auto, unfolding(crate::specs::Ticks::ticked))]
-pub fn pass_time(state: &mut State, ms: u64, notices: &mut Vec<Notice>) -> Result<(), OutOfMemory>
-    requires { (read state.old).time + ms ≤ time_limit }
-    ensures { OnOk result (course (read state.new) notices.new.items ≡ ticked (course (read state.old) notices.old.items) ms) }
+pub fn pass_time(
+    alloc: Global,
+    state: &mut State,
+    ms: u64,
+    pick: Pick,
+    notices: &mut Vec<Notice>,
+) -> Result<(), OutOfMemory>
+    requires end { (read state.old).time + ms ≤ time_limit }
+    requires sound { IsSound (read state.old) }
+    ensures { OnOk result (outcome (read state.new) notices.new.items ≡ outcome_of (ticked pick (course (read state.old) notices.old.items []) ms)) }
 {
     let end = state.now() + ms;
-    fire_due(state, end, notices)?;
+    fire_due(alloc, state, end, pick, notices)?;
     state.set_now(end);
     Ok(())
 }
 
 // The timers that are due by the limit fire, one after the other.
-fn fire_due(state: &mut State, limit: u64, notices: &mut Vec<Notice>) -> Result<(), OutOfMemory>
-    requires { limit ≤ time_limit }
-    ensures { OnOk result (course (read state.new) notices.new.items ≡ all_fired limit (course (read state.old) notices.old.items)) }
+fn fire_due(
+    alloc: Global,
+    state: &mut State,
+    limit: u64,
+    pick: Pick,
+    notices: &mut Vec<Notice>,
+) -> Result<(), OutOfMemory>
+    requires limit { limit ≤ time_limit }
+    requires sound { IsSound (read state.old) }
+    ensures { OnOk result (outcome (read state.new) notices.new.items ≡ outcome_of (all_fired pick limit (course (read state.old) notices.old.items []))) }
 {
     'timers: while let Some((due, timer)) = due_by(state, limit) {
-        fire(state, due, timer, notices)?;
+        fire(alloc, state, due, timer, pick, notices)?;
     }
     Ok(())
 }
@@ -49,22 +73,27 @@ fn due_by(state: &State, limit: u64) -> Option<(u64, Timer)>
     }
 }
 
-// A timer fires, and then the ready nodes come up.
+// The timer that is set first fires, and what follows from it happens.
 #[tactic(auto, unfolding(crate::specs::Ticks::fired))]
 fn fire(
+    alloc: Global,
     state: &mut State,
     due: u64,
     timer: Timer,
+    pick: Pick,
     notices: &mut Vec<Notice>,
 ) -> Result<(), OutOfMemory>
     requires due { due ≤ time_limit }
     requires timer { IsTimerOf (read state.old).cluster timer }
-    ensures { OnOk result (course (read state.new) notices.new.items ≡ fired (course (read state.old) notices.old.items) (due, timer)) }
+    requires first { earliest (read state.old) ≡ Some (due, timer) }
+    requires sound { IsSound (read state.old) }
+    ensures { OnOk result (outcome (read state.new) notices.new.items ≡ outcome_of (fired pick (course (read state.old) notices.old.items []) (due, timer))) }
 {
+    let mut marked = Vec::new(alloc);
     cancel_if_set(state, timer);
     state.set_now(due);
-    take_effect(state, timer, notices)?;
-    let_ready_come_up(state, notices)
+    take_effect(state, timer, notices, &mut marked)?;
+    follow(state, pick, notices, &mut marked)
 }
 
 // What a timer does.
@@ -72,12 +101,16 @@ fn take_effect(
     state: &mut State,
     timer: Timer,
     notices: &mut Vec<Notice>,
+    marked: &mut Vec<Pair>,
 ) -> Result<(), OutOfMemory>
-    requires { IsTimerOf (read state.old).cluster timer }
-    ensures { OnOk result (course (read state.new) notices.new.items ≡ effect (course (read state.old) notices.old.items) timer) }
+    requires timer { IsTimerOf (read state.old).cluster timer }
+    requires running { (n : Node) → timer ≡ Sync n → running_at (read state.old) n ≡ [] }
+    requires waiting { (n : Node) → timer ≡ Sync n → waiting_at (read state.old) n ≡ [] }
+    requires unset { (n : Node) (a : App) → timer ≡ Sync n → standing_of (read state.old) a ≡ Running n → IsNone (due_of (read state.old) (Failover a)) }
+    ensures { OnOk result (course (read state.new) notices.new.items marked.new.items ≡ effect (course (read state.old) notices.old.items marked.old.items) timer) }
 {
     match timer {
-        Timer::Sync(node) => end_wait(state, node, notices),
+        Timer::Sync(node) => end_wait(state, node, notices, marked),
         Timer::Failover(app) => {
             want_if_lost(state, app);
             Ok(())
@@ -86,12 +119,20 @@ fn take_effect(
 }
 
 // A node's wait for others is over.
-fn end_wait(state: &mut State, node: Node, notices: &mut Vec<Notice>) -> Result<(), OutOfMemory>
-    requires { node.0 < node_count (read state.old).cluster }
-    ensures { OnOk result (course (read state.new) notices.new.items ≡ effect (course (read state.old) notices.old.items) (Sync node)) }
+fn end_wait(
+    state: &mut State,
+    node: Node,
+    notices: &mut Vec<Notice>,
+    marked: &mut Vec<Pair>,
+) -> Result<(), OutOfMemory>
+    requires node { IsNodeOf (read state.old).cluster node }
+    requires running { running_at (read state.old) node ≡ [] }
+    requires waiting { waiting_at (read state.old) node ≡ [] }
+    requires unset { (a : App) → standing_of (read state.old) a ≡ Running node → IsNone (due_of (read state.old) (Failover a)) }
+    ensures { OnOk result (course (read state.new) notices.new.items marked.new.items ≡ effect (course (read state.old) notices.old.items marked.old.items) (Sync node)) }
 {
     if all_alive(state, state.cluster().mandatory(node)) {
-        come_up(state, node, notices)
+        come_up(state, node, notices, marked)
     } else {
         end(state, node, notices)
     }
@@ -107,9 +148,3 @@ fn want_if_lost(state: &mut State, app: App)
         Standing::Quiet | Standing::Wanted(_) | Standing::Running(_) => {}
     }
 }
-
-ghost use Rattle.std.specs.Prelude.{◌<◌};
-ghost use Rattle.rh_parts.specs.ClusterView.{node_count, app_count};
-ghost use Rattle.rh_state.specs.StateView.{standing_of};
-ghost use Rattle.rh_state.specs.declared.parts.Timer.TheVariants.{Sync};
-ghost use Rattle.rh_step.specs.Ticks.{wanted_if_lost};

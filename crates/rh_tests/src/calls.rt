@@ -2,7 +2,7 @@
 
 use rh_cluster::{Cluster, read_cluster};
 use rh_step::{Event, Pick};
-use rh_trail::{Sim, simulated};
+use rh_trail::Sim;
 use std::alloc::Global;
 use std::process::Abort;
 
@@ -25,7 +25,6 @@ fn a_copy_of_a_cluster_is_the_same(rt: HostRuntime) {
 #[test]
 fn a_simulation_tells_what_it_was_opened_with(rt: HostRuntime) {
     let cluster = cluster_of(&rt, rt.alloc(), "{node, a@x, []}. {node, b@x, []}.");
-    assert!(rt; simulated(&cluster));
     let sim = Sim::open(rt.alloc(), cluster, Pick::Last)
         .ok()
         .expect(&rt, "memory");

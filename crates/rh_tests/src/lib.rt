@@ -8,6 +8,8 @@ mod clusters;
 #[cfg(test)]
 mod devices;
 #[cfg(test)]
+mod placing;
+#[cfg(test)]
 mod rehearsals;
 #[cfg(test)]
 mod states;

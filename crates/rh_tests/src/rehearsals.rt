@@ -80,7 +80,6 @@ fn said(ended: &Result<(), RunFault>) -> &'static str {
         Err(RunFault::Cluster(_)) => "cluster",
         Err(RunFault::BadLine(7)) => "bad line 7",
         Err(RunFault::BadLine(_)) => "bad line",
-        Err(RunFault::Later) => "later",
         Err(RunFault::Read) => "read",
         Err(RunFault::Write) => "write",
         Err(RunFault::OutOfMemory) => "memory",

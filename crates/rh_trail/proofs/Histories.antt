@@ -3,14 +3,14 @@ use Rattle.std.proofs.Common.{◌≡◌, ℕ, zero, suc, ◌+◌, ◌<◌, ◌�
 use Rattle.std.proofs.lemmas.List.{length-take-le, get_or_append_left, get_or-take, get_or_push, take_all, take-append-le, take-take, length_push}
 use Rattle.std.proofs.lemmas.List.Sums.{fold_push}
 use Rattle.std.proofs.lemmas.Bool.{cases_lt}
-use Rattle.rh_parts.specs.ClusterView.{ClusterView}
-use Rattle.rh_step.specs.declared.event.Event.{Event}
-use Rattle.rh_step.specs.declared.event.Pick.{Pick}
+use Rattle.rh_parts.specs.ClusterView.{ClusterView, IsWithin}
+use Rattle.rh_change.specs.declared.event.Event.{Event}
+use Rattle.rh_place.specs.declared.choosing.Pick.{Pick}
 use Rattle.rh_state.specs.First.{first}
 use Rattle.rh_state.specs.StateView.{StateView}
 use Rattle.rh_state.specs.Words.{Words, read}
 use Rattle.rh_step.specs.Validity.{IsValid}
-use Rattle.rh_step.proofs.ValidEvents.{first_valid}
+use Rattle.rh_step.proofs.FirstStates.{first_valid}
 use Rattle.rh_trail.specs.Runs.{step, after}
 use Rattle.rh_trail.specs.History.{IsHistory}
 
@@ -39,17 +39,17 @@ module _ (c : ClusterView) (pick : Pick) (trail : List Event) (cursor : ℕ) (e 
   ]
 
 -- the first state alone
-pub opened_valid : (c : ClusterView) (pick : Pick) (k : ℕ) → IsValid (after c pick (take k []))
-opened_valid c pick zero = first_valid c
-opened_valid c pick (suc k) = first_valid c
+pub opened_valid : (c : ClusterView) (pick : Pick) → IsWithin c → (k : ℕ) → IsValid (after c pick (take k []))
+opened_valid c pick within zero = first_valid c within
+opened_valid c pick within (suc k) = first_valid c within
 
-pub history_opens : (c : ClusterView) (pick : Pick) (trail : List Event) (states : List Words) (s : Words) → trail ≡ [] → states ≡ s ∷ [] → read s ≡ first c → IsHistory c pick trail states 0
-history_opens c pick trail states s none one is = subst (λ (es : List Event). IsHistory c pick es states 0) (sym none) (subst (λ (ss : List Words). IsHistory c pick [] ss 0) (sym one) (record {
+pub history_opens : (c : ClusterView) (pick : Pick) (trail : List Event) (states : List Words) (s : Words) → IsWithin c → trail ≡ [] → states ≡ s ∷ [] → read s ≡ first c → IsHistory c pick trail states 0
+history_opens c pick trail states s fits none one is = subst (λ (es : List Event). IsHistory c pick es states 0) (sym none) (subst (λ (ss : List Words). IsHistory c pick [] ss 0) (sym one) (record {
   count = omega arith;
   within = omega arith;
   limited = omega arith;
   each = λ k d bound. only k d bound;
-  valid = λ k bound. opened_valid c pick k;
+  valid = λ k bound. opened_valid c pick fits k;
 }))
   where
     only : (k : ℕ) (d : Words) → k ≤ 0 → read (get_or (s ∷ []) k d) ≡ after c pick (take k [])

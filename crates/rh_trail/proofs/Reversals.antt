@@ -3,8 +3,8 @@ use Rattle.std.proofs.Common.{◌≡◌, ℕ, ◌+◌, ◌-◌, ◌<◌, ◌≤�
 use Rattle.std.proofs.lemmas.Bool.Decides.{nat_tests}
 use Rattle.std.proofs.lemmas.List.{length-take-le, take_all, take_at, length_push}
 use Rattle.std.proofs.lemmas.List.Sums.{fold_push}
-use Rattle.rh_step.specs.declared.event.Event.{Event}
-use Rattle.rh_step.specs.declared.event.Notice.{Notice}
+use Rattle.rh_change.specs.declared.event.Event.{Event}
+use Rattle.rh_settle.specs.declared.notice.Notice.{Notice}
 use Rattle.rh_step.specs.declared.refusal.Refusal.{Refusal}
 use Rattle.rh_step.specs.declared.refusal.Refusal.TheVariants.{TrailFull}
 use Rattle.rh_trail.specs.declared.call.Call.{Call}
@@ -13,8 +13,7 @@ use Rattle.rh_trail.specs.declared.call.Reply.{Reply}
 use Rattle.rh_trail.specs.declared.call.Reply.TheVariants as reply
 use Rattle.rh_state.specs.First.{first}
 use Rattle.rh_step.specs.Refusals.{refused}
-use Rattle.rh_step.specs.Course.{Course, course}
-use Rattle.rh_step.specs.Outcomes.{next}
+use Rattle.rh_step.specs.Outcomes.{Outcome, outcome, next}
 use Rattle.rh_step.specs.Allowed.{Allowed}
 use Rattle.rh_trail.specs.Runs.{step, after}
 use Rattle.rh_trail.specs.SimView.{SimView, state_of}
@@ -22,7 +21,7 @@ use Rattle.rh_trail.specs.Lone.{Served, answered, served, stepped, with_event, o
 use Rattle.rh_trail.specs.Laws.{is_refusal, next_sim, Accepts, IsReversible, CallsAreReversible}
 use Rattle.rh_step.specs.Validity.{IsValid}
 use Rattle.rh_step.proofs.Outcomes.{next_allowed}
-use Rattle.rh_step.proofs.ValidEvents.{next_valid}
+use Rattle.rh_step.proofs.Validity.{next_valid}
 use Rattle.rh_trail.proofs.Histories.{opened_valid, each_state, state_last}
 
 -- the cursor stands in the trail, and the trail keeps its limit
@@ -163,12 +162,12 @@ moved_forth s is = by (s.cursor == length s.trail) is
     by false h = refl
 
 module _ (s : SimView) (sound : IsSound s) (e : Event) (ns : List Notice) (is : Accepts s e ns) where
-  is_allowed : Allowed (state_of s) e (course (state_of (next_sim s (call.Step e))) ns)
+  is_allowed : Allowed (state_of s) e (outcome (state_of (next_sim s (call.Step e))) ns)
   unfolding step
   is_allowed =
       let a = accepted s e ns is in
       let state_is : state_of (next_sim s (call.Step e)) ≡ (next (state_of s) e s.pick).state = ap state_of a.sim ∙ state_of-with_event s e sound.within in
-      subst (λ (o : Course). Allowed (state_of s) e o) (λ i. course (sym state_is i) (sym a.told i)) (next_allowed (state_of s) e s.pick a.fine)
+      subst (λ (o : Outcome). Allowed (state_of s) e o) (λ i. outcome (sym state_is i) (sym a.told i)) (next_allowed (state_of s) e s.pick (state_valid s sound) a.fine)
 
   is_undone_to : state_of (next_sim (next_sim s (call.Step e)) call.Undo) ≡ state_of s
   is_undone_to =
@@ -231,4 +230,4 @@ reversible s sound = record {
 }
 
 pub calls_reversible : CallsAreReversible
-calls_reversible c pick calls = reversible (sim_after (opened c pick) calls) (calls_sound (opened c pick) calls (record { within = omega arith; limited = omega arith; valid = λ k none. opened_valid c pick k }))
+calls_reversible c pick calls fits = reversible (sim_after (opened c pick) calls) (calls_sound (opened c pick) calls (record { within = omega arith; limited = omega arith; valid = λ k none. opened_valid c pick fits k }))

@@ -1,8 +1,8 @@
 -- The states that a simulation keeps (ours).
 use Rattle.std.specs.Prelude.{◌≡◌, ◌≤◌, ◌+◌, ℕ, List, length, take, get_or}
 use Rattle.rh_parts.specs.ClusterView.{ClusterView}
-use Rattle.rh_step.specs.declared.event.Event.{Event}
-use Rattle.rh_step.specs.declared.event.Pick.{Pick}
+use Rattle.rh_change.specs.declared.event.Event.{Event}
+use Rattle.rh_place.specs.declared.choosing.Pick.{Pick}
 use Rattle.rh_state.specs.Words.{Words, read}
 use Rattle.rh_step.specs.Validity.{IsValid}
 use Rattle.rh_trail.specs.Runs.{after}

@@ -1,15 +1,15 @@
 -- What holds of a simulation after any list of calls (ours).
 use Rattle.std.specs.Prelude.{◌≡◌, ◌≤◌, List, length, Bool, true, false}
-use Rattle.rh_parts.specs.ClusterView.{ClusterView}
-use Rattle.rh_step.specs.declared.event.Event.{Event}
-use Rattle.rh_step.specs.declared.event.Notice.{Notice}
-use Rattle.rh_step.specs.declared.event.Pick.{Pick}
+use Rattle.rh_parts.specs.ClusterView.{ClusterView, IsWithin}
+use Rattle.rh_change.specs.declared.event.Event.{Event}
+use Rattle.rh_settle.specs.declared.notice.Notice.{Notice}
+use Rattle.rh_place.specs.declared.choosing.Pick.{Pick}
 use Rattle.rh_trail.specs.declared.call.Call.{Call}
 use Rattle.rh_trail.specs.declared.call.Call.TheVariants as call
 use Rattle.rh_trail.specs.declared.call.Reply.{Reply}
 use Rattle.rh_trail.specs.declared.call.Reply.TheVariants as reply
 use Rattle.rh_state.specs.First.{first}
-use Rattle.rh_step.specs.Course.{course}
+use Rattle.rh_step.specs.Outcomes.{outcome}
 use Rattle.rh_step.specs.Allowed.{Allowed}
 use Rattle.rh_step.specs.Validity.{IsValid}
 use Rattle.rh_trail.specs.Runs.{after}
@@ -42,7 +42,7 @@ pub record IsReversible (s : SimView) : Type 0 where
   pub valid : IsValid (state_of s)
   -- each accepted step is one that the rules allow
   pub allowed : (e : Event) (notices : List Notice) → Accepts s e notices
-      → Allowed (state_of s) e (course (state_of (next_sim s (call.Step e))) notices)
+      → Allowed (state_of s) e (outcome (state_of (next_sim s (call.Step e))) notices)
   -- undoing it restores the whole earlier state, and redoing it the whole later simulation
   pub undone : (e : Event) (notices : List Notice) → Accepts s e notices
       → state_of (next_sim (next_sim s (call.Step e)) call.Undo) ≡ state_of s
@@ -57,6 +57,6 @@ pub record IsReversible (s : SimView) : Type 0 where
   pub all_undone : state_of (next_sim s call.UndoAll) ≡ first s.cluster
   pub all_redone : state_of (next_sim s call.RedoAll) ≡ after s.cluster s.pick s.trail
 
--- after any list of calls
+-- after any list of calls to a simulation of a cluster that is read from a file
 abbrev pub CallsAreReversible : Type 0
-CallsAreReversible = (c : ClusterView) (pick : Pick) (calls : List Call) → IsReversible (sim_after (opened c pick) calls)
+CallsAreReversible = (c : ClusterView) (pick : Pick) (calls : List Call) → IsWithin c → IsReversible (sim_after (opened c pick) calls)

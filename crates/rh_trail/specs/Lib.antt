@@ -1,4 +1,3 @@
-pub mod Simulated
 pub mod Runs
 pub mod SimView
 pub mod History

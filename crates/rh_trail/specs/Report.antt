@@ -1,39 +1,101 @@
 -- The report of a state, as text (ours).
-use Rattle.std.specs.Prelude.{ℕ, List, [], ◌++◌, codes, slice_get, unwrap_or}
+use Rattle.std.specs.Prelude.{ℕ, List, [], ◌++◌, Bool, codes, slice_get, unwrap_or, Some, None, if◌then◌else◌}
 use Rattle.std.specs.List.{flat_map}
 use Rattle.std.specs.Fmt.{decimal}
 use Rattle.rh_parts.specs.ClusterView.{ClusterView, name_of}
 use Rattle.rh_parts.specs.declared.node.Node.{Node}
 use Rattle.rh_parts.specs.declared.node.App.{App}
+use Rattle.rh_parts.specs.declared.parts.Restart.{Restart}
+use Rattle.rh_parts.specs.declared.parts.Restart.TheVariants.{Permanent, Transient, Temporary}
 use Rattle.rh_state.specs.declared.parts.Mode.{Mode}
 use Rattle.rh_state.specs.declared.parts.Mode.TheVariants.{Down, Waiting, Up}
+use Rattle.rh_state.specs.declared.parts.Kind.{Kind}
+use Rattle.rh_state.specs.declared.parts.Kind.TheVariants as kind
+use Rattle.rh_state.specs.declared.parts.Standing.{Standing}
+use Rattle.rh_state.specs.declared.parts.Standing.TheVariants as standing
 use Rattle.rh_state.specs.declared.parts.Timer.{Timer}
-use Rattle.rh_state.specs.declared.parts.Timer.TheVariants.{Sync, Failover}
-use Rattle.rh_state.specs.Numbers.{nodes_of}
-use Rattle.rh_state.specs.StateView.{StateView, mode_of, incarnation_of}
+use Rattle.rh_state.specs.declared.parts.Timer.TheVariants as timer
+use Rattle.rh_state.specs.Numbers.{nodes_of, apps_of}
+use Rattle.rh_state.specs.StateView.{StateView, mode_of, incarnation_of, running_at, waiting_at, restart_of, kind_of, is_allowed, standing_of}
+use Rattle.rh_settle.specs.Moves.{is_local}
 
 -- the name of an application, or nothing for a number that no application has
 abbrev pub app_name_of : ClusterView → App → List ℕ
 app_name_of c a = unwrap_or (slice_get c.app_names a.0) []
 
+-- ---- the parts of a state in words
+
+-- whether a node runs
 abbrev pub mode_words : Mode → List ℕ
 mode_words Down = codes "down"
 mode_words Waiting = codes "waiting"
 mode_words Up = codes "up"
 
-unfoldable pub node_line : StateView → Node → List ℕ
-node_line s n = codes "node " ++ name_of s.cluster n ++ codes " " ++ mode_words (mode_of s n) ++ codes " " ++ decimal (incarnation_of s n) ++ codes "\n"
+-- the restart type of an application (application(3), `start/2`)
+abbrev pub restart_words : Restart → List ℕ
+restart_words Permanent = codes "permanent"
+restart_words Transient = codes "transient"
+restart_words Temporary = codes "temporary"
 
+-- how an application was started, with the node that it came from (application(3), the start type of `start/2`)
+abbrev pub kind_words : ClusterView → Kind → List ℕ
+kind_words c kind.Normal = codes "normal"
+kind_words c (kind.Failover m) = codes "failover " ++ name_of c m
+kind_words c (kind.Takeover m) = codes "takeover " ++ name_of c m
+
+-- where a distributed application stands, with the node where it runs or with which it was lost
+abbrev pub standing_words : ClusterView → Standing → List ℕ
+standing_words c standing.Quiet = codes "quiet"
+standing_words c (standing.Wanted None) = codes "wanted"
+standing_words c (standing.Wanted (Some m)) = codes "wanted " ++ name_of c m
+standing_words c (standing.Running n) = codes "running " ++ name_of c n
+standing_words c (standing.Lost n) = codes "lost " ++ name_of c n
+
+-- what a timer is for
 abbrev pub timer_words : ClusterView → Timer → List ℕ
-timer_words c (Sync n) = codes "sync " ++ name_of c n
-timer_words c (Failover a) = codes "failover " ++ app_name_of c a
+timer_words c (timer.Sync n) = codes "sync " ++ name_of c n
+timer_words c (timer.Failover a) = codes "failover " ++ app_name_of c a
 
-unfoldable pub timer_line : ClusterView → ℕ × Timer → List ℕ
-timer_line c entry = codes "timer " ++ timer_words c entry.1 ++ codes " " ++ decimal entry.0 ++ codes "\n"
+-- ---- the lines
 
 abbrev pub time_line : StateView → List ℕ
 time_line s = codes "now " ++ decimal s.time ++ codes "\n"
 
--- the time, a line for each node in node order, and a line for each timer in firing order
+unfoldable pub node_line : StateView → Node → List ℕ
+node_line s n = codes "node " ++ name_of s.cluster n ++ codes " " ++ mode_words (mode_of s n) ++ codes " " ++ decimal (incarnation_of s n) ++ codes "\n"
+
+-- an application that runs at a node
+unfoldable pub running_line : StateView → Node → App → List ℕ
+running_line s n a = codes "  running " ++ app_name_of s.cluster a ++ codes " " ++ restart_words (restart_of s n a) ++ codes " " ++ kind_words s.cluster (kind_of s n a) ++ codes "\n"
+
+-- one that waits there
+unfoldable pub waiting_line : StateView → Node → App → List ℕ
+waiting_line s n a = codes "  waiting " ++ app_name_of s.cluster a ++ codes " " ++ restart_words (restart_of s n a) ++ codes "\n"
+
+-- one that may not run there
+unfoldable pub forbidden_line : ClusterView → App → List ℕ
+forbidden_line c a = codes "  forbidden " ++ app_name_of c a ++ codes "\n"
+
+unfoldable pub line_if_forbidden : StateView → Node → App → List ℕ
+line_if_forbidden s n a = if is_allowed s n a then [] else forbidden_line s.cluster a
+
+-- a distributed application; nothing for a local one
+unfoldable pub app_line : StateView → App → List ℕ
+app_line s a = if is_local s.cluster a then [] else codes "app " ++ app_name_of s.cluster a ++ codes " " ++ standing_words s.cluster (standing_of s a) ++ codes "\n"
+
+unfoldable pub timer_line : ClusterView → ℕ × Timer → List ℕ
+timer_line c entry = codes "timer " ++ timer_words c entry.1 ++ codes " " ++ decimal entry.0 ++ codes "\n"
+
+-- ---- the whole
+
+-- a node's line, and then what runs there, what waits there and what may not run there
+unfoldable pub node_lines : StateView → Node → List ℕ
+node_lines s n = node_line s n ++ flat_map (running_line s n) (running_at s n) ++ flat_map (waiting_line s n) (waiting_at s n) ++ flat_map (line_if_forbidden s n) (apps_of s.cluster)
+
+-- the lines of all distributed applications, in their order
+abbrev pub app_lines : StateView → List ℕ
+app_lines s = flat_map (app_line s) (apps_of s.cluster)
+
+-- the time, the nodes in their order, the distributed applications in theirs, and the timers in firing order
 abbrev pub report_text : StateView → List ℕ
-report_text s = time_line s ++ flat_map (node_line s) (nodes_of s.cluster) ++ flat_map (timer_line s.cluster) s.timers
+report_text s = time_line s ++ flat_map (node_lines s) (nodes_of s.cluster) ++ app_lines s ++ flat_map (timer_line s.cluster) s.timers

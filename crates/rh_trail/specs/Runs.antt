@@ -1,8 +1,8 @@
 -- The state after a list of events (ours).
 use Rattle.std.specs.Prelude.{List, fold}
 use Rattle.rh_parts.specs.ClusterView.{ClusterView}
-use Rattle.rh_step.specs.declared.event.Event.{Event}
-use Rattle.rh_step.specs.declared.event.Pick.{Pick}
+use Rattle.rh_change.specs.declared.event.Event.{Event}
+use Rattle.rh_place.specs.declared.choosing.Pick.{Pick}
 use Rattle.rh_state.specs.First.{first}
 use Rattle.rh_state.specs.StateView.{StateView}
 use Rattle.rh_step.specs.Outcomes.{next}

@@ -1,8 +1,8 @@
 -- What callers see of a simulation: the trail of its accepted events, and a cursor in it (ours).
 use Rattle.std.specs.Prelude.{ℕ, List, take}
 use Rattle.rh_parts.specs.ClusterView.{ClusterView}
-use Rattle.rh_step.specs.declared.event.Event.{Event}
-use Rattle.rh_step.specs.declared.event.Pick.{Pick}
+use Rattle.rh_change.specs.declared.event.Event.{Event}
+use Rattle.rh_place.specs.declared.choosing.Pick.{Pick}
 use Rattle.rh_state.specs.StateView.{StateView}
 use Rattle.rh_trail.specs.Runs.{after}
 

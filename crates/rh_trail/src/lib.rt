@@ -6,12 +6,10 @@
 
 mod call;
 mod laws;
-mod scope;
 mod sim;
 mod text;
 
 pub use call::{Bytes, Call, Reply};
 pub use laws::calls_are_reversible;
-pub use scope::simulated;
 pub use sim::{AtEnd, AtStart, Sim};
 pub use text::report;

@@ -1,7 +1,6 @@
 //! A simulation: the trail of the accepted events, with a state after each, and a cursor in it.
 
-ghost use Rattle.std.specs.Prelude.{◌≡◌, ◌≤◌, length, IfOk, true};
-ghost use Rattle.rh_trail.specs.Simulated.{is_simulated};
+ghost use Rattle.std.specs.Prelude.{◌≡◌, ◌≤◌, length, IfOk};
 ghost use Rattle.rh_state.specs.Words.{read};
 
 mod moves;
@@ -51,11 +50,10 @@ impl Sim {
     pub const TRAIL_LIMIT: usize = 65_535;
 
     /// A simulation in the first state, with an empty trail. The cluster is dropped if memory is wanting.
-    /// Asks that the cluster can be simulated.
     pub fn open(alloc: Global, cluster: Cluster, pick: Pick) -> Result<Sim, OutOfMemory>
-        requires { is_simulated cluster ≡ true }
         ensures { IfOk result (λ sim. sim.seen ≡ opened cluster pick) }
     {
+        cluster.is_within();
         let first = first_state(alloc, &cluster)?;
         let mut states = Vec::new(alloc);
         states.push(first)?;

@@ -1,6 +1,6 @@
 //! The readers of a state.
 
-ghost use Rattle.std.specs.Prelude.{◌≡◌, ◌<◌, ◌≤◌, IfSome};
+ghost use Rattle.std.specs.Prelude.{◌≡◌, ◌<◌, ◌≤◌, IfSome, IfOk, All};
 ghost use Rattle.rh_parts.specs.ClusterView.{node_count, app_count};
 ghost use Rattle.rh_state.specs.Limits.{time_limit, incarnation_limit};
 ghost use Rattle.rh_state.specs.StateView.{mode_of, incarnation_of, running_at, waiting_at, running_count, place_of, next_in_list, restart_of, kind_of, is_allowed, standing_of};
@@ -11,6 +11,8 @@ ghost use Rattle.std.specs.Prelude.{slice_get};
 use crate::parts::{Kind, Mode, Place, Standing};
 use crate::state::State;
 use rh_parts::{App, Cluster, Node, Restart};
+use rh_terms::OutOfMemory;
+use std::alloc::Global;
 
 impl State {
     /// The cluster.
@@ -99,6 +101,26 @@ impl State {
         } else {
             self.waiting[index].behind(app)
         }
+    }
+
+    /// The applications that run at a node, in their order.
+    #[tactic(auto, unfolding(crate::specs::Words::read))]
+    pub fn running(&self, alloc: Global, node: Node) -> Result<Vec<App>, OutOfMemory>
+        requires { node.0 < node_count (read self.now).cluster }
+        ensures apps { IfOk result (λ apps. apps.items ≡ running_at (read self.now) node) }
+        ensures numbers { IfOk result (λ apps. All (IsAppOf (read self.now).cluster) apps.items) }
+    {
+        self.running[node.0 as usize].to_vec(alloc)
+    }
+
+    /// The applications that wait at a node, in their order.
+    #[tactic(auto, unfolding(crate::specs::Words::read))]
+    pub fn waiting(&self, alloc: Global, node: Node) -> Result<Vec<App>, OutOfMemory>
+        requires { node.0 < node_count (read self.now).cluster }
+        ensures apps { IfOk result (λ apps. apps.items ≡ waiting_at (read self.now) node) }
+        ensures numbers { IfOk result (λ apps. All (IsAppOf (read self.now).cluster) apps.items) }
+    {
+        self.waiting[node.0 as usize].to_vec(alloc)
     }
 
     /// How many applications run at a node.

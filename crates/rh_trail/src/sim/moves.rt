@@ -155,6 +155,6 @@ fn next_of(
 {
     let mut after = state.copy(alloc)?;
     let mut notices = Vec::new(alloc);
-    perform(&mut after, event, pick, &mut notices)?;
+    perform(alloc, &mut after, event, pick, &mut notices)?;
     Ok((after, notices))
 }

@@ -1,4 +1,4 @@
-use Rattle.std.proofs.Common.{◌≡◌, ◌∙◌, sym, ap}
+use Rattle.std.proofs.Common.{◌∙◌, sym, ap}
 use Rattle.rh_app.specs.Commands.{begins_with}
 use Rattle.rh_app.proofs.Numerals.{read_number, read_nothing, read_plus}
 use Rattle.rh_app.proofs.script.milliseconds.Goals as goal

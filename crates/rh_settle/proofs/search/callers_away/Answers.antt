@@ -1,5 +1,4 @@
-use Rattle.std.proofs.Common.{List, ◌≡◌, ℕ, ◌<◌, ◌≤◌, sym, ap, ◌∙◌, arith, Bool, false, true, length, ◌&&◌, nat_lt, refl}
-use Rattle.std.proofs.lemmas.Bool.Decides.{nat_tests}
+use Rattle.std.proofs.Common.{List, ◌≡◌, ◌≤◌, sym, ap, ◌∙◌, arith, Bool, false, true, length, ◌&&◌, nat_lt, refl}
 use Rattle.rh_parts.specs.declared.node.Node.{Node}
 use Rattle.rh_parts.specs.declared.node.App.{App}
 use Rattle.rh_parts.specs.ClusterView.{ClusterView, node_count, group_of}
@@ -10,6 +9,7 @@ use Rattle.rh_place.proofs.Lists.{cases}
 use Rattle.rh_settle.specs.declared.notice.Pair.{Pair}
 use Rattle.rh_settle.specs.Course.{is_fresh}
 use Rattle.rh_settle.specs.Moves.{comes_before, calls_away}
+use Rattle.rh_settle.proofs.Entries.{is_below, is_above}
 use Rattle.rh_settle.proofs.NextMoves.{operational_within}
 use Rattle.rh_settle.proofs.search.callers_away.Goals as goal
 
@@ -24,12 +24,6 @@ unfolding calls_away
 beyond s marked a m n sized past = cases (is_operational s a n)
     (λ t. let w = operational_within s a n sized t in absurd (omega arith))
     (λ f. ap (λ b. comes_before (group_of s.cluster a n) (group_of s.cluster a m) && (is_fresh marked n a && b)) f ∙ and_false _ _)
-
-is_below : (n m : ℕ) → nat_lt n m ≡ true → n < m
-is_below n m h = grind (arith, nat_tests)
-
-is_above : (n m : ℕ) → nat_lt n m ≡ false → m ≤ n
-is_above n m h = grind (arith, nat_tests)
 
 pub returns : goal.returns
 returns c = λ n. cases (nat_lt n.0 c.nodes.number)

@@ -17,7 +17,7 @@ moves-preserved c =
       same = same s told marked pick m c.shape.ensures c.in-Some.ensures _ _ c.in_ok-make_move.ensures.course ∙ c.moves.invariant.same;
       cluster = same_cluster s told marked pick m c.shape.ensures c.in-Some.ensures _ _ c.in_ok-make_move.ensures.course ∙ c.moves.invariant.cluster;
       runs = runs_still s told marked pick m c.shape.ensures c.in-Some.ensures _ _ c.in_ok-make_move.ensures.course c.moves.invariant.runs;
-      once = once_still s told marked pick m c.shape.ensures c.in-Some.ensures _ _ c.in_ok-make_move.ensures.course c.moves.invariant.once;
+      once = once_still s told marked pick m c.shape.ensures c.in-Some.ensures _ _ c.in_ok-make_move.ensures.course c.moves.invariant.runs c.moves.invariant.once;
     }
 
 pub moves-smaller : goal.moves-smaller

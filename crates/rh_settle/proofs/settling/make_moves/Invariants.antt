@@ -3,7 +3,7 @@ use Rattle.rh_state.specs.Words.{read}
 use Rattle.rh_settle.specs.Course.{course}
 use Rattle.rh_settle.specs.Settling.{all_moved}
 use Rattle.rh_settle.specs.Validity.{RunsWhereItStands, OnceAtEachNode}
-use Rattle.rh_settle.proofs.Falls.{points}
+use Rattle.rh_settle.proofs.Points.{points}
 use Rattle.rh_settle.proofs.settling.make_moves.Given as goal
 
 abbrev pub invariant-moves : goal.invariant-moves

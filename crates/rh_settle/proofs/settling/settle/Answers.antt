@@ -3,7 +3,7 @@ use Rattle.std.proofs.lemmas.Result.{on_ok_weaker}
 use Rattle.rh_state.specs.Words.{read}
 use Rattle.rh_settle.specs.Course.{course}
 use Rattle.rh_settle.specs.Settling.{Settles, waits_told}
-use Rattle.rh_settle.proofs.Falls.{sized_of}
+use Rattle.rh_settle.proofs.Sized.{sized_of}
 use Rattle.rh_settle.proofs.SettlingLaws.{settles_by_pick, few_moves}
 use Rattle.rh_settle.proofs.settling.settle.Goals as goal
 

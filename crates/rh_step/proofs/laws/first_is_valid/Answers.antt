@@ -1,4 +1,4 @@
-use Rattle.rh_step.proofs.ValidEvents.{first_valid}
+use Rattle.rh_step.proofs.FirstStates.{first_valid}
 use Rattle.rh_step.proofs.laws.first_is_valid.Goals as goal
 
 pub returns : goal.returns

@@ -1,4 +1,4 @@
-use Rattle.rh_step.proofs.ValidEvents.{next_valid}
+use Rattle.rh_step.proofs.Validity.{next_valid}
 use Rattle.rh_step.proofs.laws.next_is_valid.Goals as goal
 
 pub returns : goal.returns

@@ -1,5 +1,5 @@
-use Rattle.rh_step.proofs.StayUp.{up_stays}
+use Rattle.rh_step.proofs.StayUp.{up_until_ended}
 use Rattle.rh_step.proofs.laws.up_until_ended.Goals as goal
 
 pub returns : goal.returns
-returns c = λ s e pick n fine up. up_stays s e pick n fine up
+returns c = up_until_ended

@@ -6,7 +6,7 @@ use Rattle.std.proofs.lemmas.List.FromFn.{map-range_with_len_more}
 use Rattle.rh_parts.specs.ClusterView.{numbered}
 use Rattle.rh_parts.specs.declared.node.Node.{Node}
 use Rattle.rh_state.specs.Words.{read}
-use Rattle.rh_trail.specs.Report.{node_line}
+use Rattle.rh_trail.specs.Report.{node_lines}
 use Rattle.rh_trail.proofs.text.push_nodes.Goals as goal
 
 pub loop-number-preserved : goal.loop-number-preserved
@@ -14,7 +14,7 @@ loop-number-preserved c =
     let s = read c.args.state.now in
     let i = c.loop-number.number in
     let head = string_bytes c.args.text.now in
-    c.in_ok-push_node_line.ensures
-    ∙ ap (λ (t : List ℕ). t ++ node_line s (numbered i)) c.loop-number.invariant
-    ∙ flat_map_more (node_line s) head (map numbered (range_with_len 0 i)) (numbered i)
-    ∙ ap (λ (ns : List Node). head ++ flat_map (node_line s) ns) (sym (map-range_with_len_more numbered 0 i i (omega arith)))
+    c.in_ok-push_node_lines.ensures
+    ∙ ap (λ (t : List ℕ). t ++ node_lines s (numbered i)) c.loop-number.invariant
+    ∙ flat_map_more (node_lines s) head (map numbered (range_with_len 0 i)) (numbered i)
+    ∙ ap (λ (ns : List Node). head ++ flat_map (node_lines s) ns) (sym (map-range_with_len_more numbered 0 i i (omega arith)))

@@ -1,6 +1,6 @@
 use Rattle.std.proofs.Common.{◌≡◌, ◌+◌, ◌<◌, [], ◌∷◌, ◌++◌, List, take, if◌then◌else◌, subst, ap, sym, ◌∙◌}
 use Rattle.std.specs.Result.{is_ok}
-use Rattle.rh_step.specs.declared.event.Event.{Event}
+use Rattle.rh_change.specs.declared.event.Event.{Event}
 use Rattle.rh_state.specs.Words.{Words, read}
 use Rattle.rh_trail.specs.SimView.{Held, state_of}
 use Rattle.rh_trail.specs.Runs.{step}

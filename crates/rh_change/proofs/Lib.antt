@@ -1,0 +1,24 @@
+mod Alive
+pub mod Emptying
+pub mod Configuring
+pub mod Losing
+pub mod Moving
+pub mod Anywhere
+pub mod TimersToldApart
+pub mod TimersArmed
+pub mod Tables
+pub mod SoundMarks
+pub mod Marks
+pub mod SoundComingUp
+pub mod SoundBooting
+pub mod Marked
+pub mod NoneReady
+pub mod BootTurns
+pub mod SoundEndingFits
+pub mod SoundEndingLists
+pub mod SoundEnding
+pub mod SoundByHand
+pub mod SoundByHandTakeover
+pub mod Fields
+pub mod Notices
+pub mod TimersFall

@@ -1,0 +1,6 @@
+pub mod Readiness
+pub mod Marking
+pub mod ComingUp
+pub mod Ending
+pub mod ByHand
+pub mod Changes

@@ -1,0 +1,5 @@
+use Rattle.rh_settle.proofs.NextFirsts.{next_are_first}
+use Rattle.rh_settle.proofs.laws.next_are_first.Goals as goal
+
+pub returns : goal.returns
+returns c = next_are_first

@@ -1,0 +1,70 @@
+-- What holds of the states that a cluster reaches, and at each moment on the way to them (ours).
+use Rattle.std.specs.Prelude.{◌≡◌, ◌≤◌, ◌&&◌, [], Bool, true, false, All, AllPairs, length, is_some}
+use Rattle.std.specs.List.Sorted.{IsNonDecreasingBy}
+use Rattle.rh_parts.specs.ClusterView.{IsWithin, node_count, app_count, sync_wait_of, is_listed_at}
+use Rattle.rh_parts.specs.declared.node.Node.{Node}
+use Rattle.rh_parts.specs.declared.node.App.{App}
+use Rattle.rh_parts.specs.declared.parts.SyncWait.{SyncWait}
+use Rattle.rh_parts.specs.declared.parts.SyncWait.TheVariants.{Unset, After, Forever}
+use Rattle.rh_state.specs.declared.parts.Standing.{Standing}
+use Rattle.rh_state.specs.declared.parts.Standing.TheVariants.{Quiet, Wanted, Running, Lost}
+use Rattle.rh_state.specs.declared.parts.Timer.TheVariants.{Sync, Failover}
+use Rattle.rh_state.specs.First.{configured}
+use Rattle.rh_state.specs.Shape.{IsNodeOf, IsAppOf}
+use Rattle.rh_state.specs.Tables.{row}
+use Rattle.rh_state.specs.Timers.{same_timer}
+use Rattle.rh_state.specs.StateView.{StateView, mode_of, is_up, is_waiting, running_at, waiting_at, runs_at, is_started, standing_of, due_of}
+use Rattle.rh_settle.specs.Moves.{is_local}
+use Rattle.rh_settle.specs.Validity.{RunsWhereItStands, OnceAtEachNode}
+
+-- the lists have the size of the cluster, and what is started is an application of it
+pub record IsSized (s : StateView) : Type 0 where
+  pub modes : length s.modes ≡ node_count s.cluster
+  pub running : length s.running ≡ node_count s.cluster
+  pub waiting : length s.waiting ≡ node_count s.cluster
+  pub allowed : length s.allowed ≡ node_count s.cluster
+  pub standings : length s.standings ≡ app_count s.cluster
+  pub apps : (n : Node) (a : App) → is_started s n a ≡ true → IsAppOf s.cluster a
+
+-- at a node that isn't up nothing is started, and its permissions are as configured
+pub record IdleUnlessUp (s : StateView) : Type 0 where
+  pub running : (n : Node) → is_up (mode_of s n) ≡ false → running_at s n ≡ []
+  pub waiting : (n : Node) → is_up (mode_of s n) ≡ false → waiting_at s n ≡ []
+  pub permissions : (n : Node) → IsNodeOf s.cluster n → is_up (mode_of s n) ≡ false → row s.allowed n.0 ≡ configured s.cluster n
+
+-- an application is started only where it may be, and a distributed one runs only where it stands as running; a local
+-- one is always quiet
+pub record StandsWhereItRuns (s : StateView) : Type 0 where
+  pub listed : (n : Node) (a : App) → is_started s n a ≡ true → is_listed_at s.cluster a n ≡ true
+  pub stands : (n : Node) (a : App) → is_local s.cluster a ≡ false → runs_at s n a ≡ true → standing_of s a ≡ Running n
+  pub local : (a : App) → is_local s.cluster a ≡ true → standing_of s a ≡ Quiet
+
+-- a wait that ends by itself
+abbrev pub is_timed : SyncWait → Bool
+is_timed Unset = false
+is_timed (After ms) = true
+is_timed Forever = false
+
+abbrev pub is_lost : Standing → Bool
+is_lost Quiet = false
+is_lost (Wanted from) = false
+is_lost (Running n) = false
+is_lost (Lost n) = true
+
+pub record TimersFit (s : StateView) : Type 0 where
+  -- the timers are exactly one for each waiting node whose wait ends by itself, and one for each lost application
+  pub sync : (n : Node) → is_some (due_of s (Sync n)) ≡ (is_waiting (mode_of s n) && is_timed (sync_wait_of s.cluster n))
+  pub failover : (a : App) → is_some (due_of s (Failover a)) ≡ is_lost (standing_of s a)
+  pub once : AllPairs (λ entry later. same_timer entry.1 later.1 ≡ false) s.timers
+  -- they are in firing order, and none is due before now
+  pub order : IsNonDecreasingBy (λ entry. entry.0) s.timers
+  pub due : All (λ entry. s.time ≤ entry.0) s.timers
+
+pub record IsSound (s : StateView) : Type 0 where
+  pub within : IsWithin s.cluster
+  pub sized : IsSized s
+  pub once : OnceAtEachNode s
+  pub idle : IdleUnlessUp s
+  pub standing : StandsWhereItRuns s
+  pub runs : RunsWhereItStands s
+  pub timers : TimersFit s

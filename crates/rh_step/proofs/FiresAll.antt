@@ -1,0 +1,31 @@
+-- The timers that are due fire one after the other, as they may.
+use Rattle.std.proofs.Common.{◌≡◌, ℕ, zero, suc, ◌≤◌, Some, sym, ap, subst, arith}
+use Rattle.rh_state.specs.declared.parts.Timer.{Timer}
+use Rattle.rh_state.specs.StateView.{earliest}
+use Rattle.rh_place.specs.declared.choosing.Pick.{Pick}
+use Rattle.rh_settle.specs.Course.{Course}
+use Rattle.rh_settle.specs.Soundness.{IsSound}
+use Rattle.rh_step.specs.Ticks.{due_by, effect, taken_off, fired, fired_by, all_fired}
+use Rattle.rh_step.specs.Allowed.{ComesOf, Fires, none_due, one_due}
+use Rattle.rh_step.proofs.Comes.{comes_of}
+use Rattle.rh_step.proofs.TakenOff.{sound_effect}
+use Rattle.rh_step.proofs.Fuel.{timer_count, goes, by_found, nothing_due, due_is_first, fired_fewer, sound_fired}
+
+fired_comes : (pick : Pick) (limit : ℕ) (o : Course) (entry : ℕ × Timer) → IsSound o.state → due_by limit (earliest o.state) ≡ Some entry
+    → ComesOf (effect (taken_off o entry) entry.1) (fired pick o entry)
+unfolding fired
+fired_comes pick limit o entry sound is = comes_of pick (effect (taken_off o entry) entry.1) (sound_effect o entry sound (due_is_first limit o.state entry is))
+
+fires_by : (pick : Pick) (k limit : ℕ) (o : Course) → IsSound o.state → timer_count o ≤ k → Fires limit o (fired_by pick k limit o)
+unfolding fired_by
+fires_by pick zero limit o sound few = none_due o (nothing_due limit o.state.timers few)
+fires_by pick (suc k) limit o sound few = by_found (due_by limit (earliest o.state))
+    (λ none. subst (λ (p : Course). Fires limit o p) (sym (ap (goes pick k limit o) none)) (none_due o none))
+    (λ entry is. let fewer = fired_fewer pick limit o entry sound is in
+    subst (λ (p : Course). Fires limit o p) (sym (ap (goes pick k limit o) is))
+    (one_due entry o (fired pick o entry) (fired_by pick k limit (fired pick o entry)) is (fired_comes pick limit o entry sound is)
+    (fires_by pick k limit (fired pick o entry) (sound_fired pick limit o entry sound is) (omega (arith, few, fewer)))))
+
+pub all_fire : (pick : Pick) (limit : ℕ) (o : Course) → IsSound o.state → Fires limit o (all_fired pick limit o)
+unfolding all_fired
+all_fire pick limit o sound = fires_by pick (timer_count o) limit o sound (omega arith)

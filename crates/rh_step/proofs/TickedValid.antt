@@ -1,0 +1,57 @@
+-- A state that a tick leads to is valid where the one before is.
+use Rattle.std.proofs.Common.{◌≡◌, ◌+◌, ℕ, [], Some, refl, ◌∙◌}
+use Rattle.rh_state.specs.declared.parts.Timer.{Timer}
+use Rattle.rh_state.specs.StateView.{StateView, earliest}
+use Rattle.rh_state.specs.Setters.{with_time}
+use Rattle.rh_place.specs.declared.choosing.Pick.{Pick}
+use Rattle.rh_settle.specs.Course.{Course, course}
+use Rattle.rh_settle.specs.Settling.{settled}
+use Rattle.rh_settle.specs.Soundness.{IsSound}
+use Rattle.rh_change.specs.ComingUp.{ready_come_up}
+use Rattle.rh_step.specs.Ticks.{due_by, effect, taken_off, fired, all_fired, ticked}
+use Rattle.rh_step.specs.Validity.{IsValid}
+use Rattle.rh_settle.proofs.Still.{settled_sound, settled_still, still_unmarked}
+use Rattle.rh_settle.proofs.Unchanged.{settled_cluster, settled_modes}
+use Rattle.rh_change.proofs.SoundComingUp.{sound_ready_come_up}
+use Rattle.rh_change.proofs.NoneReady.{none_ready}
+use Rattle.rh_step.proofs.TakenOff.{sound_at, sound_effect}
+use Rattle.rh_step.proofs.Fuel.{timer_count, by_firing, due_is_first}
+use Rattle.rh_step.proofs.FiredSound.{all_later}
+use Rattle.rh_step.proofs.AnyTime.{ready_alike, moves_alike}
+
+-- where ready nodes come up and applications settle, a sound state becomes a valid one
+pub comes_valid : (pick : Pick) (o : Course) → IsSound o.state → IsValid (settled pick (ready_come_up o)).state
+comes_valid pick o sound =
+    let risen = sound_ready_come_up o sound in
+    record {
+      sound = settled_sound pick (ready_come_up o) risen;
+      settled = λ n. ready_alike (ready_come_up o).state (settled pick (ready_come_up o)).state n (settled_cluster pick (ready_come_up o)) (settled_modes pick (ready_come_up o)) ∙ none_ready o n sound.sized.modes;
+      still = still_unmarked (settled pick (ready_come_up o)).state (ready_come_up o).marked (settled_still pick (ready_come_up o) risen.sized);
+    }
+
+-- so behind a firing
+fired_valid : (pick : Pick) (limit : ℕ) (o : Course) (entry : ℕ × Timer) → IsValid o.state → due_by limit (earliest o.state) ≡ Some entry → IsValid (fired pick o entry).state
+unfolding fired
+fired_valid pick limit o entry valid is = comes_valid pick (effect (taken_off o entry) entry.1) (sound_effect o entry valid.sound (due_is_first limit o.state entry is))
+
+pub all_fired_valid : (pick : Pick) (limit : ℕ) (o : Course) → IsValid o.state → IsValid (all_fired pick limit o).state
+unfolding all_fired
+all_fired_valid pick limit o valid = by_firing (λ p. IsValid p.state) pick limit (λ p entry h is. fired_valid pick limit p entry h is) (timer_count o) o valid
+
+-- time that passes to where no timer is due before it changes nothing else
+valid_at : (s : StateView) (time : ℕ) → IsValid s → IsSound (with_time s time) → IsValid (with_time s time)
+valid_at s time valid sound = record {
+  sound = sound;
+  settled = λ n. ready_alike s (with_time s time) n refl refl ∙ valid.settled n;
+  still = moves_alike s time [] ∙ valid.still;
+}
+
+pub ticked_valid_from : (pick : Pick) (o : Course) (ms : ℕ) → IsValid o.state → IsValid (ticked pick o ms).state
+unfolding ticked
+ticked_valid_from pick o ms valid =
+    let before = all_fired_valid pick (o.state.time + ms) o valid in
+    valid_at (all_fired pick (o.state.time + ms) o).state (o.state.time + ms) before
+    (sound_at (all_fired pick (o.state.time + ms) o).state (o.state.time + ms) before.sound (all_later pick (o.state.time + ms) o valid.sound))
+
+pub ticked_valid : (pick : Pick) (s : StateView) (ms : ℕ) → IsValid s → IsValid (ticked pick (course s [] []) ms).state
+ticked_valid pick s ms valid = ticked_valid_from pick (course s [] []) ms valid

@@ -1,0 +1,41 @@
+//! The lines of the distributed applications.
+
+ghost use Rattle.std.specs.Prelude.{◌≡◌, ◌++◌, ◌<◌, OnOk};
+ghost use Rattle.std.specs.List.{flat_map};
+ghost use Rattle.std.specs.String.{string_bytes};
+ghost use Rattle.rh_parts.specs.ClusterView.{app_count};
+ghost use Rattle.rh_state.specs.Words.{read};
+ghost use Rattle.rh_trail.specs.Report.{app_line, app_lines};
+
+use crate::text::words::push_standing;
+use rh_parts::App;
+use rh_state::State;
+use rh_terms::OutOfMemory;
+
+// Adds the line of each distributed application.
+#[tactic(auto, unfolding(rh_state::specs::Numbers::apps_of))]
+pub(crate) fn push_apps(text: &mut String, state: &State) -> Result<(), OutOfMemory>
+    ensures { OnOk result (string_bytes text.new ≡ string_bytes text.old ++ app_lines (read state.now)) }
+{
+    let count = state.cluster().app_count();
+    for number in 0..count {
+        push_app_line(text, state, App(number as u8))?;
+    }
+    Ok(())
+}
+
+// Adds the line of an application, if it is distributed.
+#[tactic(auto, unfolding(crate::specs::Report::app_line))]
+fn push_app_line(text: &mut String, state: &State, app: App) -> Result<(), OutOfMemory>
+    requires { app.0 < app_count (read state.now).cluster }
+    ensures { OnOk result (string_bytes text.new ≡ string_bytes text.old ++ app_line (read state.now) app) }
+{
+    let cluster = state.cluster();
+    if cluster.spread(app).is_some() {
+        let name = cluster.app_name(app);
+        write!(text, "app {name} ")?;
+        push_standing(text, cluster, state.standing(app))?;
+        writeln!(text)?;
+    }
+    Ok(())
+}

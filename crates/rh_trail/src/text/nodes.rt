@@ -1,0 +1,160 @@
+//! The lines of a node.
+
+ghost use Rattle.std.specs.Prelude.{◌≡◌, ◌++◌, ◌<◌, OnOk};
+ghost use Rattle.std.specs.List.{flat_map};
+ghost use Rattle.std.specs.String.{string_bytes};
+ghost use Rattle.rh_parts.specs.ClusterView.{node_count, app_count};
+ghost use Rattle.rh_state.specs.Numbers.{apps_of};
+ghost use Rattle.rh_state.specs.StateView.{running_at, waiting_at};
+ghost use Rattle.rh_state.specs.Words.{read};
+ghost use Rattle.rh_trail.specs.Report.{node_line, running_line, waiting_line, forbidden_line, line_if_forbidden, node_lines};
+
+use crate::text::words::{mode_word, push_kind, restart_word};
+use rh_parts::{App, Cluster, Node};
+use rh_state::State;
+use rh_terms::OutOfMemory;
+use std::alloc::Global;
+
+// Adds the lines of a node.
+#[tactic(auto, unfolding(crate::specs::Report::node_lines))]
+pub(crate) fn push_node_lines(
+    text: &mut String,
+    alloc: Global,
+    state: &State,
+    node: Node,
+) -> Result<(), OutOfMemory>
+    requires { node.0 < node_count (read state.now).cluster }
+    ensures { OnOk result (string_bytes text.new ≡ string_bytes text.old ++ node_lines (read state.now) node) }
+{
+    push_node_line(text, state, node)?;
+    push_running(text, alloc, state, node)?;
+    push_waiting(text, alloc, state, node)?;
+    push_forbidden(text, state, node)
+}
+
+// Adds the line of a node alone.
+#[tactic(auto, unfolding(crate::specs::Report::node_line))]
+fn push_node_line(text: &mut String, state: &State, node: Node) -> Result<(), OutOfMemory>
+    requires { node.0 < node_count (read state.now).cluster }
+    ensures { OnOk result (string_bytes text.new ≡ string_bytes text.old ++ node_line (read state.now) node) }
+{
+    let name = state.cluster().node_name(node);
+    let mode = mode_word(state.mode(node));
+    let incarnation = state.incarnation(node);
+    writeln!(text, "node {name} {mode} {incarnation}")?;
+    Ok(())
+}
+
+// Adds a line for each application that runs at a node.
+fn push_running(
+    text: &mut String,
+    alloc: Global,
+    state: &State,
+    node: Node,
+) -> Result<(), OutOfMemory>
+    requires { node.0 < node_count (read state.now).cluster }
+    ensures { OnOk result (string_bytes text.new ≡ string_bytes text.old ++ flat_map (running_line (read state.now) node) (running_at (read state.now) node)) }
+{
+    let apps = state.running(alloc, node)?;
+    for app in apps.as_slice() {
+        push_running_line(text, state, node, *app)?;
+    }
+    Ok(())
+}
+
+// Adds the line of an application that runs.
+#[tactic(auto, unfolding(crate::specs::Report::running_line))]
+fn push_running_line(
+    text: &mut String,
+    state: &State,
+    node: Node,
+    app: App,
+) -> Result<(), OutOfMemory>
+    requires node { node.0 < node_count (read state.now).cluster }
+    requires app { app.0 < app_count (read state.now).cluster }
+    ensures { OnOk result (string_bytes text.new ≡ string_bytes text.old ++ running_line (read state.now) node app) }
+{
+    let name = state.cluster().app_name(app);
+    let restart = restart_word(state.restart_of(node, app));
+    write!(text, "  running {name} {restart} ")?;
+    push_kind(text, state.cluster(), state.kind_of(node, app))?;
+    writeln!(text)?;
+    Ok(())
+}
+
+// Adds a line for each application that waits at a node.
+fn push_waiting(
+    text: &mut String,
+    alloc: Global,
+    state: &State,
+    node: Node,
+) -> Result<(), OutOfMemory>
+    requires { node.0 < node_count (read state.now).cluster }
+    ensures { OnOk result (string_bytes text.new ≡ string_bytes text.old ++ flat_map (waiting_line (read state.now) node) (waiting_at (read state.now) node)) }
+{
+    let apps = state.waiting(alloc, node)?;
+    for app in apps.as_slice() {
+        push_waiting_line(text, state, node, *app)?;
+    }
+    Ok(())
+}
+
+// Adds the line of an application that waits.
+#[tactic(auto, unfolding(crate::specs::Report::waiting_line))]
+fn push_waiting_line(
+    text: &mut String,
+    state: &State,
+    node: Node,
+    app: App,
+) -> Result<(), OutOfMemory>
+    requires node { node.0 < node_count (read state.now).cluster }
+    requires app { app.0 < app_count (read state.now).cluster }
+    ensures { OnOk result (string_bytes text.new ≡ string_bytes text.old ++ waiting_line (read state.now) node app) }
+{
+    let name = state.cluster().app_name(app);
+    let restart = restart_word(state.restart_of(node, app));
+    writeln!(text, "  waiting {name} {restart}")?;
+    Ok(())
+}
+
+// Adds a line for each application that may not run at a node.
+#[tactic(auto, unfolding(rh_state::specs::Numbers::apps_of))]
+fn push_forbidden(text: &mut String, state: &State, node: Node) -> Result<(), OutOfMemory>
+    requires { node.0 < node_count (read state.now).cluster }
+    ensures { OnOk result (string_bytes text.new ≡ string_bytes text.old ++ flat_map (line_if_forbidden (read state.now) node) (apps_of (read state.now).cluster)) }
+{
+    let count = state.cluster().app_count();
+    for number in 0..count {
+        push_line_if_forbidden(text, state, node, App(number as u8))?;
+    }
+    Ok(())
+}
+
+// Adds the line of an application, if it may not run at a node.
+#[tactic(auto, unfolding(crate::specs::Report::line_if_forbidden))]
+fn push_line_if_forbidden(
+    text: &mut String,
+    state: &State,
+    node: Node,
+    app: App,
+) -> Result<(), OutOfMemory>
+    requires node { node.0 < node_count (read state.now).cluster }
+    requires app { app.0 < app_count (read state.now).cluster }
+    ensures { OnOk result (string_bytes text.new ≡ string_bytes text.old ++ line_if_forbidden (read state.now) node app) }
+{
+    if state.allowed(node, app) {
+        return Ok(());
+    }
+    push_forbidden_line(text, state.cluster(), app)
+}
+
+// Adds the line of an application that may not run.
+#[tactic(auto, unfolding(crate::specs::Report::forbidden_line))]
+fn push_forbidden_line(text: &mut String, cluster: &Cluster, app: App) -> Result<(), OutOfMemory>
+    requires { app.0 < app_count cluster.now }
+    ensures { OnOk result (string_bytes text.new ≡ string_bytes text.old ++ forbidden_line cluster.now app) }
+{
+    let name = cluster.app_name(app);
+    writeln!(text, "  forbidden {name}")?;
+    Ok(())
+}
