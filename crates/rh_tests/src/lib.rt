@@ -6,6 +6,8 @@ mod calls;
 #[cfg(test)]
 mod clusters;
 #[cfg(test)]
+mod copies;
+#[cfg(test)]
 mod devices;
 #[cfg(test)]
 mod placing;
