@@ -60,11 +60,54 @@ def examples(program):
     for path in sorted(os.path.join(where, name) for where, _, names in os.walk(folder) for name in names):
         name = os.path.relpath(path, folder)
         want = os.path.join(HERE, "examples", name)
+        if name == "two-operators.txt":
+            # Chance decides how its sessions take turns.
+            yield f"examples/{name}", history_fault(program, read(path))
+            continue
         if not os.path.exists(want + ".out"):
             yield f"examples/{name}", "no text is owed for it in tests/examples"
             continue
         done = run(program, read(want + ".args").decode().split(), input=read(path))
         yield f"examples/{name}", fault_of(done, int(read(want + ".status")), read(want + ".out"))
+
+
+def history_fault(program, source):
+    """What is wrong with a run of sessions, or None: the log has each session's commands, all and in their order, and its
+    answers are those that `run` gives to the same commands in the order of the log."""
+    done = run(program, ["sessions"], input=source)
+    wrong = fault_of(done, 0, None)
+    if wrong is not None:
+        return wrong
+    cluster, script = source.split(b"\n===\n", 1)
+    owed = [line.split(b" ", 1) for line in script.splitlines() if line.split() and not line.startswith(b"#")]
+    lines = done.stdout.splitlines(keepends=True)
+    entries = [line.rstrip(b"\n").split(b" ", 2)[1:] for line in lines if line.startswith(b"entry ")]
+    for session in sorted({session for session, _ in owed} | {session for session, _ in entries}):
+        if [entry for entry in entries if entry[0] == session] != [entry for entry in owed if entry[0] == session]:
+            return f"the log hasn't the commands of session {session.decode()} in their order"
+    calls = b"".join(command + b"\n" for _, command in entries)
+    alone = run(program, ["run"], input=cluster + b"\n===\n" + calls + b"show\n")
+    answers = b"".join(b"ok\n" if line == b"final\n" else line for line in lines if not line.startswith(b"entry "))
+    return fault_of(alone, 0, answers)
+
+
+def several_sessions(program):
+    """Two and eight sessions at once: whatever the turns, the log is one caller's."""
+    commands = [b"boot a@x", b"undo", b"crash a@x", b"boot b@x", b"redo", b"show", b"undo_all", b"redo_all", b"tick 5",
+                b"crash b@x", b"boot nobody"]
+    for count in (2, 8):
+        script = b"".join(b"%d %s\n" % (turn % count + 1, commands[turn * 7 % len(commands)]) for turn in range(40 * count))
+        # A name that no node has is shown as a question mark, so it is left out here.
+        script = b"".join(line for line in script.splitlines(keepends=True) if b"nobody" not in line)
+        wrong = None
+        for _ in range(10):
+            wrong = wrong or history_fault(program, TWO_NODES + b"\n===\n" + script)
+        yield f"{count} sessions at once", wrong
+    undone = b"entry 1 undo\nrefused at_start\n" * 65_535 + b"final\nnow 0\nnode a@x down 0\nnode b@x down 0\n"
+    done = run(program, ["sessions"], input=TWO_NODES + b"\n===\n" + b"1 undo\n" * 65_535)
+    yield "65,535 commands of a session", fault_of(done, 0, undone)
+    done = run(program, ["sessions"], input=TWO_NODES + b"\n===\n" + b"1 undo\n" * 65_536)
+    yield "65,536 commands of a session", fault_of(done, 3, b"bad line 65536\n")
 
 
 def command_lines(program):
@@ -74,6 +117,7 @@ def command_lines(program):
             (["run", "--help"], [b"--pick", b"boot N", b"crash N", b"tick D", b"start N A T", b"stop N A", b"permit N A B",
                                  b"takeover N A T", b"exit N A R", b"undo", b"redo", b"undo_all", b"redo_all", b"show"]),
             (["check", "--help"], [b"{node, Name, SysConfig}", b"{application, Name, Keys}", b"cluster refused"]),
+            (["sessions", "--help"], [b"--pick", b"entry S COMMAND", b"final", b"1 boot a@x"]),
             (["--version"], [b"rehearse 0.1.0"])]:
         done = run(program, words, input=b"")
         missing = [text for text in texts if text not in done.stderr]
@@ -127,32 +171,37 @@ def failing_devices(program):
     yield "input from a folder", fault_of(done, 4, b"")
 
 
-# Refuses the allocation of the number in FAIL_ALLOCATION, counted from 1, and tells the file COUNT_FILE how many there were.
+# Refuses the allocation of the number in FAIL_ALLOCATION, counted from 1, and keeps in the file COUNT_FILE how many there
+# were: a program with threads ends without running what would be run at its end.
 REFUSING = r"""
 #define _GNU_SOURCE
 #include <dlfcn.h>
-#include <stdio.h>
+#include <fcntl.h>
 #include <stdlib.h>
-static long refused = -1, count = 0;
+#include <sys/mman.h>
+#include <unistd.h>
+static long refused = -1, before_begin = 0;
+static long *count = &before_begin;
 __attribute__((constructor)) static void begin(void) {
   const char *text = getenv("FAIL_ALLOCATION");
-  if (text) refused = atol(text);
-}
-__attribute__((destructor)) static void end(void) {
   const char *path = getenv("COUNT_FILE");
-  long all = count;
-  FILE *file = path ? fopen(path, "w") : NULL;
-  if (file) { fprintf(file, "%ld", all); fclose(file); }
+  int file = path ? open(path, O_RDWR | O_CREAT | O_TRUNC, 0600) : -1;
+  if (text) refused = atol(text);
+  if (file >= 0 && ftruncate(file, sizeof *count) == 0) {
+    long *kept = mmap(NULL, sizeof *count, PROT_READ | PROT_WRITE, MAP_SHARED, file, 0);
+    if (kept != MAP_FAILED) { *kept = *count; count = kept; }
+  }
+  if (file >= 0) close(file);
 }
 void *malloc(size_t size) {
   static void *(*inner)(size_t);
   if (!inner) inner = dlsym(RTLD_NEXT, "malloc");
-  return ++count == refused ? NULL : inner(size);
+  return __sync_add_and_fetch(count, 1) == refused ? NULL : inner(size);
 }
 void *realloc(void *p, size_t size) {
   static void *(*inner)(void *, size_t);
   if (!inner) inner = dlsym(RTLD_NEXT, "realloc");
-  return ++count == refused ? NULL : inner(p, size);
+  return __sync_add_and_fetch(count, 1) == refused ? NULL : inner(p, size);
 }
 """
 
@@ -165,7 +214,7 @@ def refusals(program, library, counted, words, source, want):
             **os.environ, "LD_PRELOAD": library, "FAIL_ALLOCATION": str(number), "COUNT_FILE": counted})
 
     wrong = fault_of(refusing(0), 0, want)
-    count = int(read(counted))
+    count = int.from_bytes(read(counted), sys.byteorder)
     missed = 0
     for number in range(1, count + 1):
         done = refusing(number)
@@ -183,6 +232,7 @@ def refusals(program, library, counted, words, source, want):
 def refused_memory(program):
     """Each allocation of whole runs refused in turn: the whole text, or status 5 and a front of it."""
     row = os.path.join(HERE, "rows", "bare-nodes", "two-bare-nodes")
+    session = os.path.join(HERE, "rows", "sessions", "one-session-all-calls")
     cluster = os.path.join(TOP, "examples", "three-nodes.txt")
     told = [os.path.join("examples", name) for name in (
         "waiting-nodes.txt", "local-applications.txt", "failover-and-takeover.txt")]
@@ -196,6 +246,7 @@ def refused_memory(program):
             return
         for words, source, want in [
                 (["run"], read(row + ".in"), read(row + ".out")),
+                (["sessions"], read(session + ".in"), read(session + ".out")),
                 *((["run"], read(os.path.join(TOP, name)), read(os.path.join(HERE, name + ".out"))) for name in told),
                 (["check"], read(cluster), b"ok 3 nodes 1 applications\n")]:
             count, wrong = refusals(program, library, counted, words, source, want)
@@ -207,7 +258,7 @@ def main():
         sys.exit(__doc__)
     program = os.path.abspath(sys.argv[1])
     passed = failed = 0
-    for tests in (rows, examples, command_lines, large_inputs, long_chains, failing_devices, refused_memory):
+    for tests in (rows, examples, command_lines, large_inputs, long_chains, several_sessions, failing_devices, refused_memory):
         for name, wrong in tests(program):
             if wrong is None:
                 passed += 1

@@ -25,11 +25,13 @@ The input is a cluster file, a line `===`, and a script:
   show
 
 `rehearse run --help` lists the commands of a script, `rehearse check --help`
-says what a cluster file holds.
+says what a cluster file holds, and `rehearse sessions --help` how several
+operators share one cluster.
 
 Exit status: 0 done, 1 the command line was refused (or help was asked for),
 2 the cluster file was refused, 3 a line of the script is no command,
-4 the input can't be read or the output can't be written, 5 out of memory.";
+4 the input can't be read or the output can't be written, 5 out of memory,
+6 the sessions made no one history.";
 
 static RUN_ABOUT: &str =
     "Reads a cluster file and a script from standard input, and answers each command";
@@ -101,11 +103,46 @@ Example:
 
   rehearse check < examples/three-nodes.txt";
 
+static SESSIONS_ABOUT: &str =
+    "Reads a cluster file and a script of several sessions, which share the cluster, and tells what they did";
+
+static SESSIONS_AFTER_HELP: &str = "\
+The input is that of `rehearse run`, but each command stands behind the number
+of its session, one digit from 1 to 8:
+
+  {node, a@x, []}.
+  {node, b@x, []}.
+  ===
+  1 boot a@x
+  2 boot b@x
+  1 crash a@x
+  2 undo
+
+Each session is a thread of its own, and makes its commands in their order; how
+the sessions take turns, chance decides. There is one cluster and one trail, so
+an undo takes back the last step, whoever made it. When all have ended, the log
+is told: for each command, in the order in which they were served,
+
+  entry S COMMAND
+
+and its answer as in `rehearse run`, and at last `final` and the state as `show`
+tells it. The log is one that a single operator could have had who makes these
+commands in this order: the program proves this of its own answers.
+
+All lines are read first. A line that is no command, or the 65,536th command,
+is told alone: `bad line K`; lines count from 1 behind `===`.
+
+Example:
+
+  rehearse sessions < examples/two-operators.txt";
+
 /// A program of the command line.
 #[derive(Clone, Copy)]
 pub enum Program {
     /// The answers to a script.
     Run(Pick),
+    /// The log of several sessions.
+    Sessions(Pick),
     /// Whether a cluster file is one.
     Check,
 }
@@ -143,10 +180,12 @@ fn program_of(alloc: Global, words: &[String]) -> Result<Program, Error> {
         .after_help(AFTER_HELP)
         .subcommand_required(true)
         .subcommand(run_command(alloc)?)?
-        .subcommand(check_command(alloc))?;
+        .subcommand(check_command(alloc))?
+        .subcommand(sessions_command(alloc)?)?;
     let matches = command.try_get_matches_from(words)?;
     match matches.subcommand() {
         Some(("check", _)) => Ok(Program::Check),
+        Some(("sessions", matches)) => Ok(Program::Sessions(pick_of(matches.get_str("pick")))),
         Some((_, matches)) => Ok(Program::Run(pick_of(matches.get_str("pick")))),
         None => Ok(Program::Run(Pick::First)),
     }
@@ -160,18 +199,31 @@ fn pick_of(word: Option<&str>) -> Pick {
     }
 }
 
-// The subcommand `run`.
-fn run_command<'a>(alloc: Global) -> Result<Command<'a>, Error> {
-    let pick = Arg::new(alloc, "pick")
+// The choice at a tie, as an argument.
+fn pick_argument<'a>(alloc: Global) -> Arg<'a> {
+    Arg::new(alloc, "pick")
         .long("pick")
         .action(ArgAction::Set)
         .value_parser(ValueParser::Names(PICKS.as_slice()))
         .default_value("first")
-        .help("At a tie, takes the node that is written first or last in its group");
+        .help("At a tie, takes the node that is written first or last in its group")
+}
+
+// The subcommand `run`.
+fn run_command<'a>(alloc: Global) -> Result<Command<'a>, Error> {
     let command = Command::new(alloc, "run")
         .about(RUN_ABOUT)
         .after_help(RUN_AFTER_HELP)
-        .arg(pick)?;
+        .arg(pick_argument(alloc))?;
+    Ok(command)
+}
+
+// The subcommand `sessions`.
+fn sessions_command<'a>(alloc: Global) -> Result<Command<'a>, Error> {
+    let command = Command::new(alloc, "sessions")
+        .about(SESSIONS_ABOUT)
+        .after_help(SESSIONS_AFTER_HELP)
+        .arg(pick_argument(alloc))?;
     Ok(command)
 }
 

@@ -4,9 +4,13 @@
 mod command_line;
 
 use command_line::{Asked, Program, asked_of};
-use rh_app::{RunFault, Watched, run, run_check};
+use rh_app::{RunFault, Watched, run, run_check, run_sessions};
+use std::alloc::Global;
 use std::io::{BufWriter, Write};
 use std::process::ExitCode;
+use std::rt::Runtime;
+use std::sync::Wait;
+use std::thread::Threads;
 use std::{env, io};
 
 // The exit status for how a program ended.
@@ -17,11 +21,12 @@ fn status_of(ended: &Result<(), RunFault>) -> u8 {
         Err(RunFault::BadLine(_)) => 3,
         Err(RunFault::Read | RunFault::Write) => 4,
         Err(RunFault::OutOfMemory) => 5,
+        Err(RunFault::Room) => 6,
     }
 }
 
 // Runs a program over standard input and output. What was written is flushed, however it ended.
-fn rehearse(rt: &HostRuntime, program: Program) -> u8 {
+fn rehearse<T: Runtime<A = Global> + Threads + Wait + Sync>(rt: &T, program: Program) -> u8 {
     let Ok(output) = BufWriter::new(rt.alloc(), io::writer(rt)) else {
         return 5;
     };
@@ -29,6 +34,7 @@ fn rehearse(rt: &HostRuntime, program: Program) -> u8 {
     let mut writer = Watched::new(output);
     let ended = match program {
         Program::Run(pick) => run(rt.alloc(), &mut reader, &mut writer, pick),
+        Program::Sessions(pick) => run_sessions(rt, rt.alloc(), &mut reader, &mut writer, pick),
         Program::Check => run_check(rt.alloc(), &mut reader, &mut writer),
     };
     match writer.flush() {
@@ -55,7 +61,7 @@ fn words_of(rt: &HostRuntime) -> Result<Vec<String>, u8> {
 }
 
 // Does what the words ask, and gives the exit status.
-fn answer(rt: &HostRuntime, words: &[String]) -> u8 {
+fn answer<T: Runtime<A = Global> + Threads + Wait + Sync>(rt: &T, words: &[String]) -> u8 {
     match asked_of(rt.alloc(), words) {
         Asked::For(program) => rehearse(rt, program),
         Asked::Refused(error) => {

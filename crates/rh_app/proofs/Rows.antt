@@ -1,167 +1,29 @@
 -- Worked rows: the definitions of the texts compute to what an operator sees.
-use Rattle.std.proofs.Common.{◌≡◌, true, false, [], ◌∷◌, Some, codes, refl}
+use Rattle.std.proofs.Common.{◌≡◌, [], ◌∷◌, Some, codes, refl}
 use Rattle.std.specs.Fmt.{digits}
 use Rattle.std.specs.Str.{is_utf8, chars}
 use lib.Utf8.{encode}
-use Rattle.rh_parts.specs.ClusterView.{ClusterView, numbered, app_numbered}
-use Rattle.rh_parts.specs.declared.parts.Dep.TheVariants.{Listed, Platform}
-use Rattle.rh_parts.specs.declared.parts.Restart.TheVariants.{Permanent, Transient, Temporary}
-use Rattle.rh_state.specs.declared.parts.Kind.TheVariants as kind
+use Rattle.rh_parts.specs.ClusterView.{ClusterView}
 use Rattle.rh_state.specs.Numbers.{nodes_of, apps_of}
 use Rattle.rh_state.specs.First.{configured}
 use Rattle.rh_place.specs.declared.choosing.Pick.TheVariants.{First}
-use Rattle.rh_settle.specs.declared.notice.Notice.TheVariants.{Started, Stopped, Waits}
 use Rattle.rh_settle.specs.Settling.{moved_by, all_moved}
-use Rattle.rh_change.specs.declared.event.Event.TheVariants.{Boot, Tick, Start, Stop, Permit, Takeover, Exit}
 use Rattle.rh_change.specs.Readiness.{all_alive, is_ready}
 use Rattle.rh_change.specs.Marking.{mark_all}
 use Rattle.rh_change.specs.ComingUp.{come_up, come_up_if_ready, ready_come_up}
 use Rattle.rh_change.specs.Changes.{booted}
-use Rattle.rh_step.specs.declared.refusal.Refusal.TheVariants.{DependencyNotStarted}
 use Rattle.rh_step.specs.Refusals.{refused}
 use Rattle.rh_step.specs.Outcomes.{followed, next}
-use Rattle.rh_trail.specs.declared.call.Call.TheVariants.{Step}
-use Rattle.rh_trail.specs.declared.call.Reply.TheVariants.{Refused}
 use Rattle.rh_trail.specs.Runs.{step}
-use Rattle.rh_app.specs.declared.script.Line.TheVariants.{Nothing, Asks, Bad}
-use Rattle.rh_app.specs.Lines.{content, cluster_text, script_lines}
-use Rattle.rh_app.specs.Commands.{milliseconds, line_of}
-use Rattle.rh_app.specs.Answers.{notice_line, answer_text, fault_text, bad_text}
+use Rattle.rh_script.specs.Lines.{content, script_lines}
+use Rattle.rh_script.specs.Commands.{line_of}
+use Rattle.rh_script.specs.Answers.{notice_line, answer_text, bad_text}
 use Rattle.rh_app.specs.RunText.{script_text, bad_line, lines_asked}
 use Rattle.rh_app.specs.CheckText.{count_text}
 use Rattle.rh_trail.specs.Lone.{opened}
-use Rattle.rh_sections.specs.declared.fault.ClusterFault.TheVariants.{Mismatch, Term}
-use Rattle.rh_terms.specs.declared.fault.TermFault.TheVariants.{Syntax}
 
 abbrev one_node : ClusterView
 one_node = record { node_names = codes "a" ∷ []; app_names = []; platform_names = []; nodes = []; apps = [] }
-
-abbrev one_app : ClusterView
-one_app = record { node_names = codes "a" ∷ codes "b" ∷ []; app_names = codes "w" ∷ []; platform_names = codes "kernel" ∷ []; nodes = []; apps = [] }
-
-boot_row : line_of one_node (codes "  boot   a ") ≡ Asks (Step (Boot (numbered 0)))
-unfolding line_of is_utf8 chars encode
-boot_row = refl
-
-unknown_name_row : line_of one_node (codes "boot b") ≡ Asks (Step (Boot (numbered 255)))
-unfolding line_of is_utf8 chars encode
-unknown_name_row = refl
-
-tick_row : line_of one_node (codes "tick 18446744073709551615") ≡ Asks (Step (Tick 18446744073709551615))
-unfolding line_of milliseconds is_utf8 chars encode
-tick_row = refl
-
-tick_beyond_row : line_of one_node (codes "tick 18446744073709551616") ≡ Bad
-unfolding line_of milliseconds is_utf8 chars encode
-tick_beyond_row = refl
-
-tick_with_plus_row : line_of one_node (codes "tick +5") ≡ Bad
-unfolding line_of milliseconds is_utf8 chars encode
-tick_with_plus_row = refl
-
-tick_with_minus_row : line_of one_node (codes "tick -1") ≡ Bad
-unfolding line_of milliseconds is_utf8 chars encode
-tick_with_minus_row = refl
-
-tick_with_zeros_row : line_of one_node (codes "tick 007") ≡ Asks (Step (Tick 7))
-unfolding line_of milliseconds is_utf8 chars encode
-tick_with_zeros_row = refl
-
-start_row : line_of one_app (codes "start b w transient") ≡ Asks (Step (Start (numbered 1) (app_numbered 0) Transient))
-unfolding line_of is_utf8 chars encode
-start_row = refl
-
-stop_row : line_of one_app (codes "stop b w") ≡ Asks (Step (Stop (numbered 1) (app_numbered 0)))
-unfolding line_of is_utf8 chars encode
-stop_row = refl
-
-permit_row : line_of one_app (codes "permit b w true") ≡ Asks (Step (Permit (numbered 1) (app_numbered 0) true))
-unfolding line_of is_utf8 chars encode
-permit_row = refl
-
-forbid_row : line_of one_app (codes "permit b w false") ≡ Asks (Step (Permit (numbered 1) (app_numbered 0) false))
-unfolding line_of is_utf8 chars encode
-forbid_row = refl
-
-takeover_row : line_of one_app (codes "takeover b w temporary") ≡ Asks (Step (Takeover (numbered 1) (app_numbered 0) Temporary))
-unfolding line_of is_utf8 chars encode
-takeover_row = refl
-
-exit_row : line_of one_app (codes "exit b w normal") ≡ Asks (Step (Exit (numbered 1) (app_numbered 0) true))
-unfolding line_of is_utf8 chars encode
-exit_row = refl
-
-abnormal_exit_row : line_of one_app (codes "exit b w abnormal") ≡ Asks (Step (Exit (numbered 1) (app_numbered 0) false))
-unfolding line_of is_utf8 chars encode
-abnormal_exit_row = refl
-
-unknown_app_row : line_of one_app (codes "start w b permanent") ≡ Asks (Step (Start (numbered 255) (app_numbered 255) Permanent))
-unfolding line_of is_utf8 chars encode
-unknown_app_row = refl
-
-start_without_type_row : line_of one_app (codes "start b w") ≡ Bad
-unfolding line_of is_utf8 chars encode
-start_without_type_row = refl
-
-unknown_type_row : line_of one_app (codes "start b w permanently") ≡ Bad
-unfolding line_of is_utf8 chars encode
-unknown_type_row = refl
-
-neither_true_nor_false_row : line_of one_app (codes "permit b w yes") ≡ Bad
-unfolding line_of is_utf8 chars encode
-neither_true_nor_false_row = refl
-
-stop_with_option_row : line_of one_app (codes "stop b w normal") ≡ Bad
-unfolding line_of is_utf8 chars encode
-stop_with_option_row = refl
-
-failover_row : notice_line one_app (Started (app_numbered 0) (numbered 1) (kind.Failover (numbered 0)) (Some (numbered 0))) ≡ codes "started w b failover a\n"
-unfolding notice_line
-failover_row = refl
-
-normal_start_row : notice_line one_app (Started (app_numbered 0) (numbered 1) kind.Normal (Some (numbered 0))) ≡ codes "started w b normal\n"
-unfolding notice_line
-normal_start_row = refl
-
-stopped_row : notice_line one_app (Stopped (app_numbered 0) (numbered 1)) ≡ codes "stopped w b\n"
-unfolding notice_line
-stopped_row = refl
-
-waits_row : notice_line one_app (Waits (app_numbered 0) (numbered 0)) ≡ codes "waits w a\n"
-unfolding notice_line
-waits_row = refl
-
-missing_application_row : answer_text one_app (Refused (DependencyNotStarted (Listed (app_numbered 0)))) ≡ codes "refused S17 dependency_not_started w\n"
-unfolding answer_text
-missing_application_row = refl
-
-missing_platform_row : answer_text one_app (Refused (DependencyNotStarted (Platform 0))) ≡ codes "refused S17 dependency_not_started kernel\n"
-unfolding answer_text
-missing_platform_row = refl
-
-blank_row : line_of one_node (codes "   ") ≡ Nothing
-unfolding line_of is_utf8 chars encode
-blank_row = refl
-
-comment_row : line_of one_node (codes "# boot a") ≡ Nothing
-unfolding line_of is_utf8 chars encode
-comment_row = refl
-
-blank_before_comment_row : line_of one_node (codes " # boot a") ≡ Bad
-unfolding line_of is_utf8 chars encode
-blank_before_comment_row = refl
-
-too_many_words_row : line_of one_node (codes "boot a a") ≡ Bad
-unfolding line_of is_utf8 chars encode
-too_many_words_row = refl
-
-cut_row : cluster_text (codes "a\n===\nb\n") ≡ codes "a\n"
-unfolding content
-cut_row = refl
-
-carriage_return_row : script_lines (codes "a\r\n===\r\nundo\r\nredo\r") ≡ codes "undo" ∷ codes "redo\r" ∷ []
-unfolding content
-carriage_return_row = refl
 
 script_row : script_text one_node (opened one_node First) 1 (lines_asked one_node (script_lines (codes "===\nboot a\nundo\nflip a\nshow\n"))) ≡ codes "ok\nup a\nok\nbad line 3\n"
 unfolding content line_of answer_text notice_line bad_text nodes_of apps_of configured moved_by all_moved all_alive is_ready mark_all come_up come_up_if_ready ready_come_up booted followed refused next step digits is_utf8 chars encode
@@ -174,11 +36,3 @@ bad_line_row = refl
 count_row : count_text one_node ≡ codes "ok 1 nodes 0 applications\n"
 unfolding count_text digits
 count_row = refl
-
-fault_row : fault_text (Mismatch (codes "n2@lab")) ≡ codes "cluster refused C8 mismatch n2@lab\n"
-unfolding fault_text
-fault_row = refl
-
-line_row : fault_text (Term (Syntax 12)) ≡ codes "cluster refused C1 T1 syntax line 12\n"
-unfolding fault_text digits
-line_row = refl

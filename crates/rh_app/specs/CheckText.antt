@@ -6,8 +6,8 @@ use Rattle.rh_cluster.specs.ClusterOf.{cluster_of}
 use Rattle.rh_sections.specs.declared.fault.ClusterFault.{ClusterFault}
 use Rattle.rh_app.specs.declared.fault.RunFault.{RunFault}
 use Rattle.rh_app.specs.declared.fault.RunFault.TheVariants as end
-use Rattle.rh_app.specs.Lines.{cluster_text}
-use Rattle.rh_app.specs.Answers.{fault_text}
+use Rattle.rh_script.specs.Lines.{cluster_text}
+use Rattle.rh_script.specs.Answers.{fault_text}
 
 unfoldable pub count_text : ClusterView → List ℕ
 count_text c = codes "ok " ++ decimal (node_count c) ++ codes " nodes " ++ decimal (app_count c) ++ codes " applications\n"

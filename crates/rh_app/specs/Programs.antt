@@ -22,3 +22,5 @@ ProgramGives (Err end.Read) bytes text fault old new reader_failed writer_failed
 -- a front of the text was written
 ProgramGives (Err end.Write) bytes text fault old new reader_failed writer_failed = (writer_failed ≡ true) × AppendsFront old new text
 ProgramGives (Err end.OutOfMemory) bytes text fault old new reader_failed writer_failed = AppendsFront old new text
+-- no run of one caller ends so
+ProgramGives (Err end.Room) bytes text fault old new reader_failed writer_failed = ⊥

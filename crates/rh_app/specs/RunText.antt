@@ -9,13 +9,13 @@ use Rattle.rh_place.specs.declared.choosing.Pick.{Pick}
 use Rattle.rh_trail.specs.declared.call.Call.{Call}
 use Rattle.rh_trail.specs.SimView.{SimView}
 use Rattle.rh_trail.specs.Lone.{opened, replies}
-use Rattle.rh_app.specs.declared.script.Line.{Line}
-use Rattle.rh_app.specs.declared.script.Line.TheVariants.{Nothing, Asks, Bad}
+use Rattle.rh_script.specs.declared.script.Line.{Line}
+use Rattle.rh_script.specs.declared.script.Line.TheVariants.{Nothing, Asks, Bad}
 use Rattle.rh_app.specs.declared.fault.RunFault.{RunFault}
 use Rattle.rh_app.specs.declared.fault.RunFault.TheVariants as end
-use Rattle.rh_app.specs.Lines.{cluster_text, script_lines}
-use Rattle.rh_app.specs.Commands.{line_of}
-use Rattle.rh_app.specs.Answers.{answer_text, fault_text, bad_text}
+use Rattle.rh_script.specs.Lines.{cluster_text, script_lines}
+use Rattle.rh_script.specs.Commands.{line_of}
+use Rattle.rh_script.specs.Answers.{answer_text, fault_text, bad_text}
 use Rattle.rh_app.specs.Devices.{AppendsFront}
 
 -- the commands up to the first bad line
@@ -71,6 +71,7 @@ Wrote (Err (end.BadLine k)) text fault old new failed = (fault ≡ Some (end.Bad
 Wrote (Err end.Read) text fault old new failed = ⊥
 Wrote (Err end.Write) text fault old new failed = AppendsFront old new text × (failed ≡ true)
 Wrote (Err end.OutOfMemory) text fault old new failed = AppendsFront old new text
+Wrote (Err end.Room) text fault old new failed = ⊥
 
 -- a piece was written whole, or a front of it
 abbrev pub Broke : Result (Unit {0}) RunFault → List ℕ → Option (List ℕ) → Option (List ℕ) → Bool → Type 0
@@ -80,6 +81,7 @@ Broke (Err (end.BadLine k)) text old new failed = ⊥
 Broke (Err end.Read) text old new failed = ⊥
 Broke (Err end.Write) text old new failed = AppendsFront old new text × (failed ≡ true)
 Broke (Err end.OutOfMemory) text old new failed = AppendsFront old new text
+Broke (Err end.Room) text old new failed = ⊥
 
 -- one line was answered, and the other lines are left; or the run ends there
 abbrev pub Turns : Result (Unit {0}) RunFault → ClusterView → SimView → SimView → ℕ → Line → List Line → Option (List ℕ) → Option (List ℕ) → Bool → Type 0

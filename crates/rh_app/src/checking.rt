@@ -8,10 +8,10 @@ ghost use Rattle.rh_app.specs.RunText.{Wrote, Broke};
 
 use crate::device::{read_input, write_text};
 use crate::fault::RunFault;
-use crate::lines::cut;
 use crate::running::write_fault;
 use crate::watched::Watched;
 use rh_cluster::{Cluster, ClusterFault, read_cluster};
+use rh_script::cut;
 use rh_terms::OutOfMemory;
 use std::alloc::Global;
 use std::io::{Read, Write};

@@ -25,6 +25,9 @@ pub enum RunFault {
     /// A growth was refused: the front of the text was written.
     #[error("out of memory")]
     OutOfMemory,
+    /// The sessions' threads made no one history of their commands. Nothing was written.
+    #[error("the sessions made no one history")]
+    Room,
 }
 
 impl From<OutOfMemory> for RunFault {

@@ -1,17 +1,16 @@
 //! The programs: from the bytes that are read to the bytes that are written.
 //!
 //! [`run`] reads a cluster file, a line `===` and a script, and answers the commands of the script. [`run_check`] reads the
-//! cluster file alone, and says whether it is one.
+//! cluster file alone, and says whether it is one. [`run_sessions`] has several sessions share one cluster, each in a thread
+//! of its own.
 #![tactic(auto)]
 
-mod answers;
 mod checking;
 mod device;
 mod fault;
 mod laws;
-mod lines;
 mod running;
-mod script;
+mod sessions;
 mod watched;
 
 pub use checking::run_check;
@@ -19,4 +18,5 @@ pub use fault::RunFault;
 pub use laws::rehearsals_are_reversible;
 pub use rh_trail::report;
 pub use running::run;
+pub use sessions::run_sessions;
 pub use watched::Watched;

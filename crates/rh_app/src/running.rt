@@ -4,20 +4,18 @@ ghost use Rattle.std.specs.Prelude.{List, ◌≡◌, ◌≢◌, ◌<◌, ◌≤�
 ghost use Rattle.std.specs.Io.KnownBytes.{Appends, Keeps};
 ghost use Rattle.rh_trail.specs.Lone.{opened, served};
 ghost use Rattle.rh_app.specs.Devices.{input_limit, AppendsFront};
-ghost use Rattle.rh_app.specs.Lines.{raw_lines, content};
-ghost use Rattle.rh_app.specs.declared.script.Line.{Line};
-ghost use Rattle.rh_app.specs.Commands.{line_of};
-ghost use Rattle.rh_app.specs.Answers.{answer_text, fault_text, bad_text};
+ghost use Rattle.rh_script.specs.Lines.{raw_lines, content};
+ghost use Rattle.rh_script.specs.declared.script.Line.{Line};
+ghost use Rattle.rh_script.specs.Commands.{line_of};
+ghost use Rattle.rh_script.specs.Answers.{answer_text, fault_text, bad_text};
 ghost use Rattle.rh_app.specs.RunText.{script_text, bad_line, script_end, lines_asked, run_text, run_end, Wrote, Broke, Turns};
 ghost use Rattle.rh_app.specs.Programs.{ProgramGives};
 
-use crate::answers::{answer_text, bad_text, fault_text};
 use crate::device::{read_input, write_text};
 use crate::fault::RunFault;
-use crate::lines::{content, cut, split_line};
-use crate::script::{Line, line_of};
 use crate::watched::Watched;
 use rh_cluster::{Cluster, ClusterFault, read_cluster};
+use rh_script::{Line, answer_text, bad_text, content, cut, fault_text, line_of, split_line};
 use rh_step::Pick;
 use rh_terms::OutOfMemory;
 use rh_trail::{Call, Reply, Sim};
@@ -155,7 +153,7 @@ fn answer_line<W: Write>(
 }
 
 // Writes that a line is no command.
-fn answer_bad<W: Write>(alloc: Global, number: u64, writer: &mut Watched<W>) -> RunFault
+pub fn answer_bad<W: Write>(alloc: Global, number: u64, writer: &mut Watched<W>) -> RunFault
     requires { writer.old.failed ≡ false }
     ensures { Wrote (Err result) (bad_text number) (Some (RunFault.BadLine number)) (W.contents writer.old.inner) (W.contents writer.new.inner) writer.new.failed }
 {

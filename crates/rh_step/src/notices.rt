@@ -1,8 +1,10 @@
 //! The notices of a step.
 
-ghost use Rattle.std.specs.Prelude.{◌≡◌};
+ghost use Rattle.std.specs.Prelude.{◌≡◌, ◌↔◌, IsTrue, IfOk};
 
 use rh_settle::Notice;
+use rh_terms::OutOfMemory;
+use std::alloc::Global;
 use std::marker::Model;
 
 /// The notices of a step, in order.
@@ -33,5 +35,28 @@ impl Notices {
         ensures { result.now ≡ self.now }
     {
         self.items.as_slice()
+    }
+
+    /// An equal list.
+    pub fn copy(&self, alloc: Global) -> Result<Notices, OutOfMemory>
+        ensures { IfOk result (λ copy. copy ≡ self.now) }
+    {
+        let items = Vec::from_slice(alloc, self.as_slice())?;
+        Ok(Notices { items })
+    }
+
+    /// Whether the two are equal.
+    pub fn same(&self, other: &Notices) -> bool
+        ensures { IsTrue result ↔ (self.now ≡ other.now) }
+    {
+        if self.items.len() != other.items.len() {
+            return false;
+        }
+        for index in 0..self.items.len() {
+            if self.items[index] != other.items[index] {
+                return false;
+            }
+        }
+        true
     }
 }

@@ -1,6 +1,6 @@
 //! Why a step may be refused.
 
-ghost use Rattle.std.specs.Prelude.{◌≡◌, ◌∷◌, Bool, List, None, not};
+ghost use Rattle.std.specs.Prelude.{◌≡◌, ◌∷◌, ◌↔◌, Bool, IsTrue, List, None, not};
 ghost use Rattle.std.specs.Option.{option_or};
 ghost use Rattle.rh_parts.specs.ClusterView.{is_listed_at};
 ghost use Rattle.rh_state.specs.Shape.{IsNodeOf, IsAppOf};
@@ -58,6 +58,15 @@ pub enum Refusal {
     TrailFull,
     /// Memory was refused.
     OutOfMemory,
+}
+
+impl Refusal {
+    /// Whether memory was refused. Any other refusal is one of the state or of the trail.
+    pub fn is_memory(&self) -> bool
+        ensures { IsTrue result ↔ (self.now ≡ Refusal.OutOfMemory) }
+    {
+        *self == Refusal::OutOfMemory
+    }
 }
 
 impl fmt::Display for Refusal {

@@ -2,7 +2,6 @@
 use Rattle.std.proofs.Common.{◌≡◌, ℕ, ◌+◌, ◌-◌, ◌<◌, ◌≤◌, ◌==◌, List, [], ◌∷◌, ◌++◌, length, take, Option, Some, None, Bool, true, false, cond, refl, sym, ap, subst, ◌∙◌, arith}
 use Rattle.std.proofs.lemmas.Bool.Decides.{nat_tests}
 use Rattle.std.proofs.lemmas.List.{length-take-le, take_all, take_at, length_push}
-use Rattle.std.proofs.lemmas.List.Sums.{fold_push}
 use Rattle.rh_change.specs.declared.event.Event.{Event}
 use Rattle.rh_settle.specs.declared.notice.Notice.{Notice}
 use Rattle.rh_step.specs.declared.refusal.Refusal.{Refusal}
@@ -11,7 +10,6 @@ use Rattle.rh_trail.specs.declared.call.Call.{Call}
 use Rattle.rh_trail.specs.declared.call.Call.TheVariants as call
 use Rattle.rh_trail.specs.declared.call.Reply.{Reply}
 use Rattle.rh_trail.specs.declared.call.Reply.TheVariants as reply
-use Rattle.rh_state.specs.First.{first}
 use Rattle.rh_step.specs.Refusals.{refused}
 use Rattle.rh_step.specs.Outcomes.{Outcome, outcome, next}
 use Rattle.rh_step.specs.Allowed.{Allowed}
@@ -214,7 +212,7 @@ call_kept s call.UndoAll h = absurd (cc h)
 call_kept s call.RedoAll h = absurd (cc h)
 call_kept s call.Look h = refl
 
-reversible : (s : SimView) → IsSound s → IsReversible s
+pub reversible : (s : SimView) → IsSound s → IsReversible s
 reversible s sound = record {
   within = sound.within;
   limited = sound.limited;

@@ -1,5 +1,5 @@
 -- The report of a state, as text (ours).
-use Rattle.std.specs.Prelude.{ℕ, List, [], ◌++◌, Bool, codes, slice_get, unwrap_or, Some, None, if◌then◌else◌}
+use Rattle.std.specs.Prelude.{ℕ, List, [], ◌++◌, codes, slice_get, unwrap_or, Some, None, if◌then◌else◌}
 use Rattle.std.specs.List.{flat_map}
 use Rattle.std.specs.Fmt.{decimal}
 use Rattle.rh_parts.specs.ClusterView.{ClusterView, name_of}

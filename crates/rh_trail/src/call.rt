@@ -1,8 +1,10 @@
 //! A caller's calls, and the replies to them.
 
-ghost use Rattle.std.specs.Prelude.{◌≡◌};
+ghost use Rattle.std.specs.Prelude.{◌≡◌, ◌↔◌, IsTrue, IfOk};
 
 use rh_step::{Event, Notices, Refusal};
+use rh_terms::OutOfMemory;
+use std::alloc::Global;
 use std::marker::Model;
 
 /// Some bytes.
@@ -32,6 +34,21 @@ impl Bytes {
         ensures { result.now ≡ self.now }
     {
         self.items.as_slice()
+    }
+
+    /// Equal bytes.
+    pub fn copy(&self, alloc: Global) -> Result<Bytes, OutOfMemory>
+        ensures { IfOk result (λ copy. copy ≡ self.now) }
+    {
+        let items = Vec::from_slice(alloc, self.as_slice())?;
+        Ok(Bytes { items })
+    }
+
+    /// Whether the two are equal.
+    pub fn same(&self, other: &Bytes) -> bool
+        ensures { IsTrue result ↔ (self.now ≡ other.now) }
+    {
+        self.as_slice() == other.as_slice()
     }
 }
 
@@ -75,4 +92,58 @@ pub enum Reply {
         trail: usize,
         text: Bytes,
     },
+}
+
+impl Reply {
+    /// An equal reply.
+    pub fn copy(&self, alloc: Global) -> Result<Reply, OutOfMemory>
+        ensures { IfOk result (λ copy. copy ≡ self.now) }
+    {
+        Ok(match self {
+            Reply::Done(notices) => Reply::Done(notices.copy(alloc)?),
+            Reply::Refused(refusal) => Reply::Refused(*refusal),
+            Reply::Undone => Reply::Undone,
+            Reply::Redone => Reply::Redone,
+            Reply::AtStart => Reply::AtStart,
+            Reply::AtEnd => Reply::AtEnd,
+            Reply::Moved(count) => Reply::Moved(*count),
+            Reply::Seen {
+                cursor,
+                trail,
+                text,
+            } => Reply::Seen {
+                cursor: *cursor,
+                trail: *trail,
+                text: text.copy(alloc)?,
+            },
+        })
+    }
+
+    /// Whether the two are equal.
+    pub fn same(&self, other: &Reply) -> bool
+        ensures { IsTrue result ↔ (self.now ≡ other.now) }
+    {
+        match (self, other) {
+            (Reply::Done(one), Reply::Done(two)) => one.same(two),
+            (Reply::Refused(one), Reply::Refused(two)) => *one == *two,
+            (Reply::Undone, Reply::Undone)
+            | (Reply::Redone, Reply::Redone)
+            | (Reply::AtStart, Reply::AtStart)
+            | (Reply::AtEnd, Reply::AtEnd) => true,
+            (Reply::Moved(one), Reply::Moved(two)) => *one == *two,
+            (
+                Reply::Seen {
+                    cursor: cursor_1,
+                    trail: trail_1,
+                    text: text_1,
+                },
+                Reply::Seen {
+                    cursor: cursor_2,
+                    trail: trail_2,
+                    text: text_2,
+                },
+            ) => *cursor_1 == *cursor_2 && *trail_1 == *trail_2 && text_1.same(text_2),
+            _ => false,
+        }
+    }
 }

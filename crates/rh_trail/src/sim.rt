@@ -44,6 +44,7 @@ impl Model for Sim {
 impl Sim {
     ghost use Rattle.rh_trail.specs.SimView.{state_of};
     ghost use Rattle.rh_trail.specs.Lone.{opened, trail_limit};
+    ghost use Rattle.rh_trail.specs.Laws.{IsReversible};
     ghost use Rattle.rh_step.specs.Validity.{IsValid};
 
     /// The greatest number of events in a trail.
@@ -64,6 +65,31 @@ impl Sim {
             states,
             cursor: 0,
         })
+    }
+
+    /// An equal simulation, with an equal trail and equal states.
+    pub fn copy(&self, alloc: Global) -> Result<Sim, OutOfMemory>
+        ensures { IfOk result (λ copy. copy ≡ self.now) }
+    {
+        let states = copies_of(alloc, self.states.as_slice())?;
+        let trail = Vec::from_slice(alloc, self.trail.as_slice())?;
+        // The cluster comes last: there is most to drop of it.
+        let cluster = self.cluster.copy(alloc)?;
+        Ok(Sim {
+            cluster,
+            pick: self.pick,
+            trail,
+            states,
+            cursor: self.cursor,
+        })
+    }
+
+    /// A law: in each simulation an accepted step is one that the rules allow; undoing it restores the whole earlier state,
+    /// and redoing it the later; a refused call changes nothing; undoing all gives the first state, redoing all the last.
+    pub fn is_reversible(&self)
+        ensures { IsReversible self.now.seen }
+    {
+        let _ = &self.cluster;
     }
 
     /// The cluster.
@@ -103,4 +129,15 @@ impl Sim {
     {
         self.trail.as_slice()
     }
+}
+
+// An equal list of states.
+fn copies_of(alloc: Global, states: &[State]) -> Result<Vec<State>, OutOfMemory>
+    ensures { IfOk result (λ copies. copies.items ≡ states.now) }
+{
+    let mut copies = Vec::new(alloc);
+    for state in states {
+        copies.push(state.copy(alloc)?)?;
+    }
+    Ok(copies)
 }

@@ -1,6 +1,7 @@
 //! The calls that move a simulation: steps, undo and redo.
 
-ghost use Rattle.std.specs.Prelude.{◌≡◌, ◌≢◌, ◌<◌, Err, IfOk, IfErr, OnOk, OnErr, None};
+ghost use Rattle.std.specs.Prelude.{◌≡◌, ◌≢◌, ◌<◌, ◌≤◌, List, replicate, Err, IfOk, IfErr, OnOk, OnErr, None};
+ghost use Rattle.rh_settle.specs.declared.notice.Notice.{Notice};
 ghost use Rattle.rh_state.specs.Words.{read};
 ghost use Rattle.rh_step.specs.Refusals.{refused};
 ghost use Rattle.rh_step.specs.Outcomes.{next};
@@ -30,6 +31,49 @@ impl Sim {
         // Want of memory is the last reason.
         ensures last { result ≡ Err Refusal.OutOfMemory → (refused (state_of self.old.seen) event ≡ None) × (self.old.seen.cursor < trail_limit) }
     {
+        let (state, notices) = self.next(alloc, event)?;
+        match self.keep(event, state) {
+            Err(OutOfMemory) => Err(Refusal::OutOfMemory),
+            Ok(()) => Ok(notices),
+        }
+    }
+
+    /// Makes an event as [`Sim::step`] does, and gives its notices in as many equal lists as `count` says, 1 to 3. All of
+    /// them are made before the trail changes.
+    pub fn step_copies(
+        &mut self,
+        alloc: Global,
+        event: Event,
+        count: usize,
+    ) -> Result<Vec<Notices>, Refusal>
+        requires { (1 ≤ count) × (count ≤ 3) }
+        ensures done { IfOk result (λ copies. (notices : List Notice) × (copies.items ≡ replicate count notices) × (served self.old.seen (call.Step event) ≡ answered (reply.Done notices) self.new.seen)) }
+        ensures refused { IfErr result (λ refusal. refusal ≢ Refusal.OutOfMemory → served self.old.seen (call.Step event) ≡ answered (reply.Refused refusal) self.new.seen) }
+        ensures kept { OnErr result (self.new ≡ self.old) }
+
+        // Want of memory is the last reason.
+        ensures last { result ≡ Err Refusal.OutOfMemory → (refused (state_of self.old.seen) event ≡ None) × (self.old.seen.cursor < trail_limit) }
+    {
+        let (after, notices) = self.next(alloc, event)?;
+        match copies_of(alloc, notices, count) {
+            Err(OutOfMemory) => Err(Refusal::OutOfMemory),
+            Ok(copies) => match self.keep(event, after) {
+                Err(OutOfMemory) => Err(Refusal::OutOfMemory),
+                Ok(()) => Ok(copies),
+            },
+        }
+    }
+
+    // The state after an event, with its notices, or why the event is refused. Nothing is kept yet.
+    fn next(&self, alloc: Global, event: Event) -> Result<(State, Vec<Notice>), Refusal>
+        ensures state { IfOk result (λ r. read r.0 ≡ step self.now.seen.pick (state_of self.now.seen) event) }
+        ensures valid { IfOk result (λ r. IsValid (read r.0)) }
+        ensures done { IfOk result (λ r. served self.now.seen (call.Step event) ≡ answered (reply.Done r.1.items) (with_event self.now.seen event)) }
+        ensures room { OnOk result (self.now.seen.cursor < trail_limit) }
+        ensures fine { OnOk result (refused (state_of self.now.seen) event ≡ None) }
+        ensures refused { IfErr result (λ refusal. refusal ≢ Refusal.OutOfMemory → served self.now.seen (call.Step event) ≡ answered (reply.Refused refusal) self.now.seen) }
+        ensures last { result ≡ Err Refusal.OutOfMemory → (refused (state_of self.now.seen) event ≡ None) × (self.now.seen.cursor < trail_limit) }
+    {
         if let Some(refusal) = refusal_of(self.state(), &event) {
             return Err(refusal);
         }
@@ -38,10 +82,7 @@ impl Sim {
         }
         match next_of(alloc, self.state(), &event, self.pick) {
             Err(OutOfMemory) => Err(Refusal::OutOfMemory),
-            Ok((state, notices)) => match self.keep(event, state) {
-                Err(OutOfMemory) => Err(Refusal::OutOfMemory),
-                Ok(()) => Ok(notices),
-            },
+            Ok(next) => Ok(next),
         }
     }
 
@@ -128,16 +169,34 @@ impl Sim {
             },
             Call::UndoAll => Ok(Reply::Moved(self.undo_all())),
             Call::RedoAll => Ok(Reply::Moved(self.redo_all())),
-            Call::Look => {
-                let text = report(alloc, self.state())?;
-                Ok(Reply::Seen {
-                    cursor: self.cursor(),
-                    trail: self.trail().len(),
-                    text: Bytes::of(text),
-                })
-            }
+            Call::Look => self.look(alloc),
         }
     }
+
+    /// Looks at the simulation, which changes nothing: the reply has the cursor, the length of the trail, and the report of
+    /// the state.
+    pub fn look(&self, alloc: Global) -> Result<Reply, OutOfMemory>
+        ensures { IfOk result (λ reply. served self.now.seen call.Look ≡ answered reply self.now.seen) }
+    {
+        let text = report(alloc, self.state())?;
+        Ok(Reply::Seen {
+            cursor: self.cursor(),
+            trail: self.trail().len(),
+            text: Bytes::of(text),
+        })
+    }
+}
+
+// These notices in so many equal lists.
+fn copies_of(alloc: Global, notices: Vec<Notice>, count: usize) -> Result<Vec<Notices>, OutOfMemory>
+    ensures { IfOk result (λ copies. copies.items ≡ replicate count notices.items) }
+{
+    let notices = Notices::of(notices);
+    let mut copies = Vec::new(alloc);
+    for _ in 0..count {
+        copies.push(notices.copy(alloc)?)?;
+    }
+    Ok(copies)
 }
 
 // The state after an event that isn't refused, with its notices.

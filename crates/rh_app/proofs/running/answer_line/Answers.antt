@@ -1,5 +1,5 @@
 use Rattle.std.proofs.Common.{◌∙◌, sym, ap, subst}
-use Rattle.rh_app.specs.Commands.{line_of}
+use Rattle.rh_script.specs.Commands.{line_of}
 use Rattle.rh_app.specs.RunText.{Turns}
 use Rattle.rh_app.proofs.Turns.{turn_of_call}
 use Rattle.rh_app.proofs.running.answer_line.Goals as goal

@@ -1,6 +1,6 @@
 use Rattle.std.proofs.Common.{List, ℕ, map, ap, arith}
-use Rattle.rh_app.specs.Lines.{raw_lines, content}
-use Rattle.rh_app.specs.Commands.{line_of}
+use Rattle.rh_script.specs.Lines.{raw_lines, content}
+use Rattle.rh_script.specs.Commands.{line_of}
 use Rattle.rh_app.specs.RunText.{lines_asked}
 use Rattle.rh_app.proofs.Turns.{fails_here, text_goes_on, bad_goes_on}
 use Rattle.rh_app.proofs.running.answer_lines.Goals as goal

@@ -1,0 +1,131 @@
+//! The program `sessions`: several sessions share one cluster, each in a thread of its own.
+
+ghost use Rattle.std.specs.Prelude.{List, ◌≡◌, ◌++◌, false, map, All, OnOk, IfOk, IfErr, IfSome, None};
+ghost use Rattle.std.specs.List.{flat_map};
+ghost use Rattle.std.specs.String.{string_bytes};
+ghost use Rattle.rh_state.specs.Words.{read};
+ghost use Rattle.rh_trail.specs.SimView.{state_of};
+ghost use Rattle.rh_trail.specs.Lone.{opened};
+ghost use Rattle.rh_room.specs.Legal.{IsSession};
+ghost use Rattle.rh_script.specs.Lines.{raw_lines, content};
+ghost use Rattle.rh_app.specs.Histories.{session_lines_asked, commands_of, bad_session_line, IsHistory, history_text, last_state};
+ghost use Rattle.rh_app.specs.Sessions.{ScriptMayGive, MayGive, SessionsGive, WroteOne};
+
+mod commands;
+mod history;
+mod threads;
+
+use crate::device::read_input;
+use crate::fault::RunFault;
+use crate::running::{answer_bad, write_fault};
+use crate::sessions::commands::{Script, commands_in};
+use crate::sessions::history::write_history;
+use crate::sessions::threads::history_of;
+use crate::watched::Watched;
+use rh_cluster::{Cluster, read_cluster};
+use rh_script::{Command, cut};
+use rh_step::Pick;
+use rh_terms::OutOfMemory;
+use std::alloc::Global;
+use std::io::{Read, Write};
+use std::sync::Wait;
+use std::thread::Threads;
+
+/// Reads all of the input, a cluster file, a line `===` and a script whose lines name their sessions, has each session make
+/// its commands in a thread of its own, and then writes the log of all commands with their answers, and the last state.
+///
+/// The log is a history that a single caller could have had, in which each session's commands stand, all and in their
+/// order. Which one it is, the threads decide. The input has at most 16,777,216 bytes. Neither device is flushed.
+///
+/// # Errors
+/// `Cluster` and `BadLine` (a line that is no command, or the 65,536th command) are told alone. `Read` comes where the
+/// reader has failed or the input is too long: nothing was written. `Write` comes where the writer has failed, and
+/// `OutOfMemory` where a growth was refused: a front of the text was written. `Room`: nothing was written.
+pub fn run_sessions<T: Threads + Wait + Sync, R: Read, W: Write>(
+    rt: &T,
+    alloc: Global,
+    reader: &mut Watched<R>,
+    writer: &mut Watched<W>,
+    pick: Pick,
+) -> Result<(), RunFault>
+    requires reader { reader.old.failed ≡ false }
+    requires writer { writer.old.failed ≡ false }
+    ensures { IfSome (R.remaining reader.old.inner) (λ bytes. SessionsGive result bytes pick
+        (W.contents writer.old.inner) (W.contents writer.new.inner) reader.new.failed writer.new.failed) }
+{
+    match read_input(alloc, reader) {
+        Err(fault) => Err(fault),
+        Ok(input) => share_input(rt, alloc, input.as_slice(), writer, pick),
+    }
+}
+
+// Writes a history of the commands of an input.
+#[tactic(auto, unfolding(crate::specs::Sessions::MayGive))]
+fn share_input<T: Threads + Wait + Sync, W: Write>(
+    rt: &T,
+    alloc: Global,
+    input: &[u8],
+    writer: &mut Watched<W>,
+    pick: Pick,
+) -> Result<(), RunFault>
+    requires { writer.old.failed ≡ false }
+    ensures { WroteOne (MayGive input.now pick) result (W.contents writer.old.inner) (W.contents writer.new.inner) writer.new.failed }
+{
+    let (text, script) = cut(input);
+    match read_cluster(alloc, text) {
+        Err(fault) => {
+            if fault.is_memory() {
+                return Err(RunFault::OutOfMemory);
+            }
+            match write_fault(alloc, &fault, writer) {
+                Err(broken) => Err(broken),
+                Ok(()) => Err(RunFault::Cluster(fault)),
+            }
+        }
+        Ok(cluster) => share_script(rt, alloc, &cluster, script, writer, pick),
+    }
+}
+
+// Writes a history of the commands of a script.
+fn share_script<T: Threads + Wait + Sync, W: Write>(
+    rt: &T,
+    alloc: Global,
+    cluster: &Cluster,
+    script: &[u8],
+    writer: &mut Watched<W>,
+    pick: Pick,
+) -> Result<(), RunFault>
+    requires { writer.old.failed ≡ false }
+    ensures { WroteOne (ScriptMayGive cluster.now pick
+        (commands_of (session_lines_asked cluster.now (map content (raw_lines script.now))))
+        (bad_session_line 1 0 (session_lines_asked cluster.now (map content (raw_lines script.now)))))
+        result (W.contents writer.old.inner) (W.contents writer.new.inner) writer.new.failed }
+{
+    match commands_in(alloc, cluster, script) {
+        Err(OutOfMemory) => Err(RunFault::OutOfMemory),
+        Ok(Script::BadLine(number)) => Err(answer_bad(alloc, number, writer)),
+        Ok(Script::Commands(commands)) => {
+            share_commands(rt, alloc, cluster, commands.as_slice(), writer, pick)
+        }
+    }
+}
+
+// Writes a history of commands.
+fn share_commands<T: Threads + Wait + Sync, W: Write>(
+    rt: &T,
+    alloc: Global,
+    cluster: &Cluster,
+    commands: &[Command],
+    writer: &mut Watched<W>,
+    pick: Pick,
+) -> Result<(), RunFault>
+    requires writer { writer.old.failed ≡ false }
+    requires sessions { All (λ c. IsSession 8 c.session) commands.now }
+    ensures { WroteOne (ScriptMayGive cluster.now pick commands.now None)
+        result (W.contents writer.old.inner) (W.contents writer.new.inner) writer.new.failed }
+{
+    match history_of(rt, alloc, cluster, commands, pick) {
+        Err(fault) => Err(fault),
+        Ok(closed) => write_history(alloc, cluster, &closed, writer),
+    }
+}

@@ -1,0 +1,5 @@
+pub mod Rooms
+pub mod Orders
+pub mod Shares
+pub mod Differences
+pub mod Crossing

@@ -1,0 +1,44 @@
+-- When a room serves a pass, and what it answers (ours).
+use Rattle.std.specs.Prelude.{◌≡◌, ◌<◌, ℕ, ◌-◌, List, length, Option, Some, None, slice_get}
+use Rattle.rh_trail.specs.declared.call.Call.{Call}
+use Rattle.rh_trail.specs.Lone.{served}
+use Rattle.rh_room.specs.declared.parts.Receipt.{Receipt}
+use Rattle.rh_room.specs.declared.parts.RoomFault.{RoomFault}
+use Rattle.rh_room.specs.declared.parts.RoomFault.TheVariants.{SessionCount, WrongRoom, LogFull, OutOfMemory}
+use Rattle.rh_room.specs.Legal.{PassView, RoomView, IsSession, entry, receipt, log_limit}
+
+-- the last receipt, if there is one
+abbrev pub last_of : List Receipt → Option Receipt
+last_of receipts = slice_get receipts (length receipts - 1)
+
+-- its place, and 0 without receipts
+abbrev pub place_of : Option Receipt → ℕ
+place_of None = 0
+place_of (Some r) = r.place
+
+-- the log has the entry that this receipt is of
+abbrev pub IsLogged : RoomView → ℕ → Option Receipt → Type 0
+IsLogged room session None = Unit {0}
+IsLogged room session (Some r) = slice_get room.log r.place ≡ Some (entry session r.call r.reply)
+
+-- the pass is one of this room's: of a session that it has, and its log has what the pass was told last
+abbrev pub IsPassOf : RoomView → PassView → Type 0
+IsPassOf room pass = IsSession room.sessions pass.session × IsLogged room pass.session (last_of pass.receipts)
+
+-- the receipt for a call, with the reply that a single caller is given here
+abbrev pub receipt_of : RoomView → Call → Receipt
+receipt_of room call = receipt (length room.log) call (served room.sim.seen call).reply
+
+-- why a room doesn't serve a pass: the first reason that applies
+abbrev pub WhyNot : RoomView → PassView → RoomFault → Type 0
+WhyNot room pass SessionCount = ⊥
+WhyNot room pass (WrongRoom place) = (IsPassOf room pass → ⊥) × (place ≡ place_of (last_of pass.receipts))
+WhyNot room pass LogFull = IsPassOf room pass × (length room.log ≡ log_limit)
+WhyNot room pass OutOfMemory = IsPassOf room pass × (length room.log < log_limit)
+
+-- why none is opened
+abbrev pub WhyNotOpened : ℕ → RoomFault → Type 0
+WhyNotOpened sessions SessionCount = IsSession 8 sessions → ⊥
+WhyNotOpened sessions (WrongRoom place) = ⊥
+WhyNotOpened sessions LogFull = ⊥
+WhyNotOpened sessions OutOfMemory = IsSession 8 sessions

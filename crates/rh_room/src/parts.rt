@@ -1,0 +1,88 @@
+//! Entries of a log, and the passes of sessions.
+
+ghost use Rattle.std.specs.Prelude.{◌≡◌, []};
+ghost use Rattle.rh_room.specs.Legal.{InOrder, new_pass};
+
+use rh_trail::{Call, Reply};
+use std::alloc::Global;
+use std::marker::Model;
+
+/// An entry of a log: a call, with its session and the reply to it.
+#[derive(Drop)]
+pub struct Entry {
+    /// The number of the session, counted from 1.
+    pub session: u8,
+    /// The call.
+    pub call: Call,
+    /// The reply.
+    pub reply: Reply,
+}
+
+/// What a session is told of a call: its place in the log, and the reply to it.
+#[derive(Drop)]
+pub struct Receipt {
+    /// The place in the log, counted from 0.
+    pub place: usize,
+    /// The call.
+    pub call: Call,
+    /// The reply.
+    pub reply: Reply,
+}
+
+/// A session's right to call, which keeps the receipts of its calls.
+#[derive(Drop)]
+pub struct Pass {
+    pub(crate) session: u8,
+    pub(crate) receipts: Vec<Receipt>,
+}
+
+impl Model for Pass {
+    ghost use Rattle.rh_room.specs.Legal.{PassView, InOrder};
+
+    ghost Value = { PassView };
+
+    ghost view = { λ p. record { session = p.session; receipts = p.receipts.items } };
+
+    ghost invariant = { λ p. InOrder p.receipts.items };
+}
+
+impl Pass {
+    // A pass without receipts.
+    pub(crate) fn new(alloc: Global, session: u8) -> Pass
+        ensures { result ≡ new_pass session }
+    {
+        Pass {
+            session,
+            receipts: Vec::new(alloc),
+        }
+    }
+
+    /// The number of the session, counted from 1.
+    pub fn session(&self) -> u8
+        ensures { result ≡ self.now.session }
+    {
+        self.session
+    }
+
+    /// The receipts, in the order of the calls: each is of a later place than those before it.
+    pub fn receipts(&self) -> &[Receipt]
+        ensures receipts { result.now ≡ self.now.receipts }
+        ensures order { InOrder result.now }
+    {
+        self.receipts.as_slice()
+    }
+}
+
+/// Why a room doesn't open, or doesn't serve.
+#[derive(Clone, Copy, Debug, PartialEq, Eq)]
+pub enum RoomFault {
+    /// A room has 1 to 8 sessions.
+    SessionCount,
+    /// The pass is of another room: of a session that this one hasn't, or at the place of its last receipt (0 without
+    /// receipts) the log has another entry, or none.
+    WrongRoom { place: usize },
+    /// The log holds 65,535 entries, the most that it can.
+    LogFull,
+    /// Memory was refused.
+    OutOfMemory,
+}

@@ -1,0 +1,137 @@
+//! The reply to a call, once for the log, once for the pass and once for the caller.
+
+ghost use Rattle.std.specs.Prelude.{◌≡◌, IfOk, OnErr};
+ghost use Rattle.rh_trail.specs.declared.call.Call.TheVariants as call;
+ghost use Rattle.rh_trail.specs.declared.call.Reply.TheVariants as reply;
+ghost use Rattle.rh_trail.specs.Lone.{served, answered};
+
+use rh_step::{Event, Refusal};
+use rh_terms::OutOfMemory;
+use rh_trail::{Call, Reply, Sim};
+use std::alloc::Global;
+
+/// The same reply three times.
+#[derive(Drop)]
+pub struct Replies {
+    pub logged: Reply,
+    pub kept: Reply,
+    pub told: Reply,
+}
+
+/// Makes a call of a simulation, and gives the reply three times. Want of memory changes nothing.
+pub fn replies_to(alloc: Global, sim: &mut Sim, call: Call) -> Result<Replies, OutOfMemory>
+    ensures logged { IfOk result (λ r. served sim.old.seen call ≡ answered r.logged sim.new.seen) }
+    ensures kept { IfOk result (λ r. r.kept ≡ r.logged) }
+    ensures told { IfOk result (λ r. r.told ≡ r.logged) }
+    ensures same { OnErr result (sim.new ≡ sim.old) }
+{
+    match call {
+        Call::Step(event) => step(alloc, sim, event),
+        Call::Undo => Ok(undo(sim)),
+        Call::Redo => Ok(redo(sim)),
+        Call::UndoAll => Ok(moved(sim.undo_all())),
+        Call::RedoAll => Ok(moved(sim.redo_all())),
+        Call::Look => look(alloc, sim),
+    }
+}
+
+// Makes an event.
+fn step(alloc: Global, sim: &mut Sim, event: Event) -> Result<Replies, OutOfMemory>
+    ensures logged { IfOk result (λ r. served sim.old.seen (call.Step event) ≡ answered r.logged sim.new.seen) }
+    ensures kept { IfOk result (λ r. r.kept ≡ r.logged) }
+    ensures told { IfOk result (λ r. r.told ≡ r.logged) }
+    ensures same { OnErr result (sim.new ≡ sim.old) }
+{
+    match sim.step_copies(alloc, event, 3) {
+        Ok(mut copies) => {
+            let logged = Reply::Done(copies.pop().unwrap());
+            let kept = Reply::Done(copies.pop().unwrap());
+            let told = Reply::Done(copies.pop().unwrap());
+            Ok(Replies { logged, kept, told })
+        }
+        Err(refusal) => {
+            if refusal.is_memory() {
+                return Err(OutOfMemory);
+            }
+            Ok(refused(refusal))
+        }
+    }
+}
+
+// A refusal three times.
+fn refused(refusal: Refusal) -> Replies
+    ensures logged { result.logged ≡ reply.Refused refusal }
+    ensures kept { result.kept ≡ result.logged }
+    ensures told { result.told ≡ result.logged }
+{
+    Replies {
+        logged: Reply::Refused(refusal),
+        kept: Reply::Refused(refusal),
+        told: Reply::Refused(refusal),
+    }
+}
+
+// Takes the last step back.
+fn undo(sim: &mut Sim) -> Replies
+    ensures logged { served sim.old.seen call.Undo ≡ answered result.logged sim.new.seen }
+    ensures kept { result.kept ≡ result.logged }
+    ensures told { result.told ≡ result.logged }
+{
+    match sim.undo() {
+        Ok(_) => Replies {
+            logged: Reply::Undone,
+            kept: Reply::Undone,
+            told: Reply::Undone,
+        },
+        Err(_) => Replies {
+            logged: Reply::AtStart,
+            kept: Reply::AtStart,
+            told: Reply::AtStart,
+        },
+    }
+}
+
+// Makes the next step again.
+fn redo(sim: &mut Sim) -> Replies
+    ensures logged { served sim.old.seen call.Redo ≡ answered result.logged sim.new.seen }
+    ensures kept { result.kept ≡ result.logged }
+    ensures told { result.told ≡ result.logged }
+{
+    match sim.redo() {
+        Ok(_) => Replies {
+            logged: Reply::Redone,
+            kept: Reply::Redone,
+            told: Reply::Redone,
+        },
+        Err(_) => Replies {
+            logged: Reply::AtEnd,
+            kept: Reply::AtEnd,
+            told: Reply::AtEnd,
+        },
+    }
+}
+
+// A number of steps three times.
+fn moved(count: u32) -> Replies
+    ensures logged { result.logged ≡ reply.Moved count }
+    ensures kept { result.kept ≡ result.logged }
+    ensures told { result.told ≡ result.logged }
+{
+    Replies {
+        logged: Reply::Moved(count),
+        kept: Reply::Moved(count),
+        told: Reply::Moved(count),
+    }
+}
+
+// Looks at the simulation.
+fn look(alloc: Global, sim: &Sim) -> Result<Replies, OutOfMemory>
+    ensures logged { IfOk result (λ r. served sim.now.seen call.Look ≡ answered r.logged sim.now.seen) }
+    ensures kept { IfOk result (λ r. r.kept ≡ r.logged) }
+    ensures told { IfOk result (λ r. r.told ≡ r.logged) }
+{
+    let logged = sim.look(alloc)?;
+    let kept = logged.copy(alloc)?;
+    let told = logged.copy(alloc)?;
+    Ok(Replies { logged, kept, told })
+}

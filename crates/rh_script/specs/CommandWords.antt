@@ -1,0 +1,46 @@
+-- A call as the command that asks it (ours).
+use Rattle.std.specs.Prelude.{ℕ, List, ◌++◌, Bool, codes, slice_get, unwrap_or, if◌then◌else◌}
+use Rattle.std.specs.Fmt.{decimal}
+use Rattle.rh_parts.specs.ClusterView.{ClusterView}
+use Rattle.rh_parts.specs.declared.node.Node.{Node}
+use Rattle.rh_parts.specs.declared.node.App.{App}
+use Rattle.rh_change.specs.declared.event.Event.{Event}
+use Rattle.rh_change.specs.declared.event.Event.TheVariants.{Boot, Crash, Tick, Start, Stop, Permit, Takeover, Exit}
+use Rattle.rh_trail.specs.declared.call.Call.{Call}
+use Rattle.rh_trail.specs.declared.call.Call.TheVariants as call
+use Rattle.rh_trail.specs.Report.{restart_words}
+
+-- a name, or a question mark for a number that nothing has
+abbrev pub node_word : ClusterView → Node → List ℕ
+node_word c n = unwrap_or (slice_get c.node_names n.0) (codes "?")
+
+abbrev pub app_word : ClusterView → App → List ℕ
+app_word c a = unwrap_or (slice_get c.app_names a.0) (codes "?")
+
+-- a node, and an application
+abbrev pub place_words : ClusterView → Node → App → List ℕ
+place_words c n a = node_word c n ++ codes " " ++ app_word c a
+
+abbrev pub truth_word : Bool → List ℕ
+truth_word allow = if allow then codes "true" else codes "false"
+
+abbrev pub reason_word : Bool → List ℕ
+reason_word normal = if normal then codes "normal" else codes "abnormal"
+
+unfoldable pub event_words : ClusterView → Event → List ℕ
+event_words c (Boot n) = codes "boot " ++ node_word c n
+event_words c (Crash n) = codes "crash " ++ node_word c n
+event_words c (Tick ms) = codes "tick " ++ decimal ms
+event_words c (Start n a restart) = codes "start " ++ place_words c n a ++ codes " " ++ restart_words restart
+event_words c (Stop n a) = codes "stop " ++ place_words c n a
+event_words c (Permit n a allow) = codes "permit " ++ place_words c n a ++ codes " " ++ truth_word allow
+event_words c (Takeover n a restart) = codes "takeover " ++ place_words c n a ++ codes " " ++ restart_words restart
+event_words c (Exit n a normal) = codes "exit " ++ place_words c n a ++ codes " " ++ reason_word normal
+
+unfoldable pub command_words : ClusterView → Call → List ℕ
+command_words c (call.Step e) = event_words c e
+command_words c call.Undo = codes "undo"
+command_words c call.Redo = codes "redo"
+command_words c call.UndoAll = codes "undo_all"
+command_words c call.RedoAll = codes "redo_all"
+command_words c call.Look = codes "show"

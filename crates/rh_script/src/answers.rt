@@ -1,0 +1,203 @@
+//! The texts of answers.
+
+ghost use Rattle.std.specs.Prelude.{◌≡◌, ◌++◌, is_some, OnOk, IfOk};
+ghost use Rattle.std.specs.List.{flat_map};
+ghost use Rattle.std.specs.String.{string_bytes};
+ghost use Rattle.rh_parts.specs.ClusterView.{name_of, dep_name};
+ghost use Rattle.rh_trail.specs.Report.{app_name_of, kind_words};
+ghost use Rattle.rh_script.specs.Answers.{dep_words, pair_words, reason_words, refusal_line, notice_line, answer_text, fault_text, bad_text};
+
+use rh_cluster::{App, Cluster, ClusterFault, Dep, Node};
+use rh_state::Kind;
+use rh_step::{Notice, Refusal};
+use rh_terms::OutOfMemory;
+use rh_trail::Reply;
+use std::alloc::Global;
+
+// The name of a node, or nothing for a number that no node has.
+fn name_of<'a>(cluster: &'a Cluster, node: Node) -> &'a str
+    ensures { result.now ≡ name_of cluster.now node }
+{
+    if (node.0 as usize) < cluster.node_count() {
+        cluster.node_name(node)
+    } else {
+        ""
+    }
+}
+
+// The name of an application, or nothing for a number that no application has.
+fn app_name_of<'a>(cluster: &'a Cluster, app: App) -> &'a str
+    ensures { result.now ≡ app_name_of cluster.now app }
+{
+    if (app.0 as usize) < cluster.app_count() {
+        cluster.app_name(app)
+    } else {
+        ""
+    }
+}
+
+// Is the dependency one of the cluster's?
+fn has_dep(cluster: &Cluster, dep: Dep) -> bool
+    ensures { result ≡ is_some (dep_name cluster.now dep) }
+{
+    match dep {
+        Dep::Listed(app) => (app.0 as usize) < cluster.app_count(),
+        Dep::Platform(number) => (number as usize) < cluster.platform_count(),
+    }
+}
+
+// The name of a dependency, or nothing for one that isn't of this cluster.
+fn dep_words<'a>(cluster: &'a Cluster, dep: Dep) -> &'a str
+    ensures { result.now ≡ dep_words cluster.now dep }
+{
+    if has_dep(cluster, dep) {
+        cluster.dep_name(dep)
+    } else {
+        ""
+    }
+}
+
+// Adds how an application was started.
+fn push_kind(text: &mut String, cluster: &Cluster, kind: Kind) -> Result<(), OutOfMemory>
+    ensures { OnOk result (string_bytes text.new ≡ string_bytes text.old ++ kind_words cluster.now kind) }
+{
+    match kind {
+        Kind::Normal => text.push_str("normal")?,
+        Kind::Failover(from) => {
+            let name = name_of(cluster, from);
+            write!(text, "failover {name}")?;
+        }
+        Kind::Takeover(from) => {
+            let name = name_of(cluster, from);
+            write!(text, "takeover {name}")?;
+        }
+    }
+    Ok(())
+}
+
+// Adds an application and a node.
+fn push_pair(text: &mut String, cluster: &Cluster, app: App, node: Node) -> Result<(), OutOfMemory>
+    ensures { OnOk result (string_bytes text.new ≡ string_bytes text.old ++ pair_words cluster.now app node) }
+{
+    let app = app_name_of(cluster, app);
+    let node = name_of(cluster, node);
+    write!(text, "{app} {node}")?;
+    Ok(())
+}
+
+// Adds the line of a notice.
+#[tactic(auto, unfolding(crate::specs::Answers::notice_line))]
+fn push_notice(text: &mut String, cluster: &Cluster, notice: &Notice) -> Result<(), OutOfMemory>
+    ensures { OnOk result (string_bytes text.new ≡ string_bytes text.old ++ notice_line cluster.now notice.now) }
+{
+    match *notice {
+        Notice::Up { node } => {
+            let name = name_of(cluster, node);
+            writeln!(text, "up {name}")?;
+        }
+        Notice::Ended { node } => {
+            let name = name_of(cluster, node);
+            writeln!(text, "ended {name}")?;
+        }
+        Notice::Started {
+            app,
+            node,
+            kind,
+            ..
+        } => {
+            text.push_str("started ")?;
+            push_pair(text, cluster, app, node)?;
+            text.push_str(" ")?;
+            push_kind(text, cluster, kind)?;
+            text.push_str("\n")?;
+        }
+        Notice::Stopped { app, node } => {
+            text.push_str("stopped ")?;
+            push_pair(text, cluster, app, node)?;
+            text.push_str("\n")?;
+        }
+        Notice::Waits { app, node } => {
+            text.push_str("waits ")?;
+            push_pair(text, cluster, app, node)?;
+            text.push_str("\n")?;
+        }
+    }
+    Ok(())
+}
+
+// Adds the lines of notices.
+fn push_notices(text: &mut String, cluster: &Cluster, notices: &[Notice]) -> Result<(), OutOfMemory>
+    ensures { OnOk result (string_bytes text.new ≡ string_bytes text.old ++ flat_map (notice_line cluster.now) notices.now) }
+{
+    for notice in notices {
+        push_notice(text, cluster, notice)?;
+    }
+    Ok(())
+}
+
+// Adds the name of the dependency that isn't started, where one is told.
+fn push_reason(text: &mut String, cluster: &Cluster, refusal: Refusal) -> Result<(), OutOfMemory>
+    ensures { OnOk result (string_bytes text.new ≡ string_bytes text.old ++ reason_words cluster.now refusal) }
+{
+    if let Refusal::DependencyNotStarted { dep } = refusal {
+        let name = dep_words(cluster, dep);
+        write!(text, " {name}")?;
+    }
+    Ok(())
+}
+
+// Adds the line of a refusal.
+fn push_refusal(text: &mut String, cluster: &Cluster, refusal: Refusal) -> Result<(), OutOfMemory>
+    ensures { OnOk result (string_bytes text.new ≡ string_bytes text.old ++ refusal_line cluster.now refusal) }
+{
+    write!(text, "refused {refusal}")?;
+    push_reason(text, cluster, refusal)?;
+    text.push_str("\n")?;
+    Ok(())
+}
+
+/// The text of a reply.
+#[tactic(auto, unfolding(crate::specs::Answers::answer_text))]
+pub fn answer_text(alloc: Global, cluster: &Cluster, reply: &Reply) -> Result<Vec<u8>, OutOfMemory>
+    ensures { IfOk result (λ text. text.items ≡ answer_text cluster.now reply.now) }
+{
+    let mut text = String::new(alloc);
+    match reply {
+        Reply::Done(notices) => {
+            text.push_str("ok\n")?;
+            push_notices(&mut text, cluster, notices.as_slice())?;
+        }
+        Reply::Refused(refusal) => {
+            push_refusal(&mut text, cluster, *refusal)?;
+        }
+        Reply::Undone | Reply::Redone => text.push_str("ok\n")?,
+        Reply::AtStart => text.push_str("refused at_start\n")?,
+        Reply::AtEnd => text.push_str("refused at_end\n")?,
+        Reply::Moved(count) => {
+            let count = *count;
+            writeln!(text, "ok {count}")?;
+        }
+        Reply::Seen { text: report, .. } => {
+            let mut bytes = Vec::from_slice(alloc, b"ok\n".as_slice())?;
+            bytes.extend_from_slice(report.as_slice())?;
+            return Ok(bytes);
+        }
+    }
+    Ok(text.into_bytes())
+}
+
+/// The text of a cluster's fault.
+#[tactic(auto, unfolding(crate::specs::Answers::fault_text))]
+pub fn fault_text(alloc: Global, fault: &ClusterFault) -> Result<String, OutOfMemory>
+    ensures { IfOk result (λ text. string_bytes text ≡ fault_text fault.now) }
+{
+    Ok(format!(in alloc; "cluster refused {fault}\n")?)
+}
+
+/// The text of a line that is no command.
+#[tactic(auto, unfolding(crate::specs::Answers::bad_text))]
+pub fn bad_text(alloc: Global, number: u64) -> Result<String, OutOfMemory>
+    ensures { IfOk result (λ text. string_bytes text ≡ bad_text number) }
+{
+    Ok(format!(in alloc; "bad line {number}\n")?)
+}

@@ -1,0 +1,17 @@
+//! The texts of rehearsals: the lines of a script, what they ask, and what is answered.
+//!
+//! [`cut`] parts an input at its line `===`, [`line_of`] says what a line of a script asks, and [`session_line_of`] what one
+//! asks that names its session. [`answer_text`] is the text of a reply, and [`command_text`] that of a call.
+#![tactic(auto)]
+
+mod answers;
+mod command_words;
+mod lines;
+mod script;
+mod session_lines;
+
+pub use answers::{answer_text, bad_text, fault_text};
+pub use command_words::command_text;
+pub use lines::{content, cut, split_line};
+pub use script::{Line, line_of};
+pub use session_lines::{Command, SessionLine, session_line_of};

@@ -1,0 +1,80 @@
+//! What the lines of a script ask that name their sessions.
+
+ghost use Rattle.std.specs.Prelude.{◌≡◌, IfOk, map};
+ghost use Rattle.rh_script.specs.SessionLines.{session_named, asked_by, session_command, session_line_of};
+
+use crate::script::{Line, begins_with, command_of, text_of, words_of};
+use rh_cluster::Cluster;
+use rh_terms::OutOfMemory;
+use rh_trail::Call;
+use std::alloc::Global;
+
+/// A call, and the session that makes it.
+#[derive(Clone, Copy, Debug, PartialEq, Eq)]
+pub struct Command {
+    /// The number of the session, 1 to 8.
+    pub session: u8,
+    /// The call.
+    pub call: Call,
+}
+
+/// What a line of a script asks that names its session.
+#[derive(Clone, Copy, Debug, PartialEq, Eq)]
+pub enum SessionLine {
+    /// It asks nothing.
+    Nothing,
+    /// It is a command of a session.
+    Asks(Command),
+    /// It is no command.
+    Bad,
+}
+
+// The session that a word names: one digit, 1 to 8.
+fn session_named(word: &str) -> Option<u8>
+    ensures { result ≡ session_named word.now }
+{
+    match word.as_bytes() {
+        [digit] if *digit >= b'1' && *digit <= b'8' => Some(*digit - b'0'),
+        _ => None,
+    }
+}
+
+// A command of a session, where both are there.
+fn asked_by(session: Option<u8>, line: Line) -> SessionLine
+    ensures { result ≡ asked_by session line }
+{
+    match (session, line) {
+        (Some(session), Line::Asks(call)) => SessionLine::Asks(Command { session, call }),
+        _ => SessionLine::Bad,
+    }
+}
+
+// The command that the words make.
+fn session_command(cluster: &Cluster, words: &[&str]) -> SessionLine
+    ensures { result ≡ session_command cluster.now (map (λ word. word.now) words.now) }
+{
+    match words {
+        [] => SessionLine::Nothing,
+        [word, words @ ..] => asked_by(session_named(word), command_of(cluster, words)),
+    }
+}
+
+/// What a line asks: its first word is the session, one digit 1 to 8, and behind it stands a command.
+#[tactic(auto, unfolding(crate::specs::SessionLines::session_line_of))]
+pub fn session_line_of(
+    alloc: Global,
+    cluster: &Cluster,
+    line: &[u8],
+) -> Result<SessionLine, OutOfMemory>
+    ensures { IfOk result (λ asked. asked ≡ session_line_of cluster.now line.now) }
+{
+    // A comment.
+    if begins_with(b'#', line) {
+        return Ok(SessionLine::Nothing);
+    }
+    let Some(text) = text_of(line) else {
+        return Ok(SessionLine::Bad);
+    };
+    let words = words_of(alloc, text)?;
+    Ok(session_command(cluster, words.as_slice()))
+}
