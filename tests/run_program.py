@@ -12,6 +12,8 @@ import subprocess
 import sys
 import tempfile
 
+from term_faults import term_faults
+
 HERE = os.path.dirname(os.path.abspath(__file__))
 TOP = os.path.dirname(HERE)
 TWO_NODES = b"{node, a@x, []}. {node, b@x, []}."
@@ -258,7 +260,7 @@ def main():
         sys.exit(__doc__)
     program = os.path.abspath(sys.argv[1])
     passed = failed = 0
-    for tests in (rows, examples, command_lines, large_inputs, long_chains, several_sessions, failing_devices, refused_memory):
+    for tests in (rows, examples, term_faults, command_lines, large_inputs, long_chains, several_sessions, failing_devices, refused_memory):
         for name, wrong in tests(program):
             if wrong is None:
                 passed += 1
