@@ -5,7 +5,8 @@ In README.md and docs/*.md each link leads somewhere, also within a page. Each c
 begins with `$ ` (up to the line EOF where it has a <<), is run from the top of the repository with the program in place of
 ./rehearse: it prints what stands below it, where a line `...` stands for any lines, writes nothing to standard error, and
 has the exit status 0 (a document shows another one by `; echo "status $?"`). Each block ```erlang is a cluster file that
-`check` accepts. Each command in a help text runs. Each text that the program can print stands in docs/ANSWERS.md.
+`check` accepts. Each command in a help text runs. Each text that the program can print stands in docs/ANSWERS.md. Each
+definition that docs/RULES.md names stands where it says.
 
 run_program.py counts these tests too. The last line is 'N passed, M failed'.
 """
@@ -190,7 +191,23 @@ def help_links(program):
         yield f"{' '.join(words)}: files", f"there is no {missing}" if missing else None
 
 
-TESTS = (links, answers_told, shown_examples, help_examples, help_links)
+def definitions_named(program):
+    """Each definition that the page of rules names stands in the file that it names there."""
+    text = text_of("docs/RULES.md")
+    files = dict(re.findall(r"(?m)^\[([^\]]+)\]: \.\./(\S+)$", text))
+    wrong, names = [], []
+    for part in re.findall(r"(?s)tated by\s(.*?)\*(?:\n|$| )", text):
+        for name, file in re.findall(r"`([^`]+)`|\[([^\]]+)\]", part):
+            if name:
+                names.append(name)
+            else:
+                there = text_of(files[file])
+                wrong += [f"{one} isn't in {file}" for one in names if not re.search(rf"\b{one}\b", there)]
+                names = []
+    yield "docs/RULES.md names definitions where they stand", "; ".join(wrong) or None
+
+
+TESTS = (links, answers_told, definitions_named, shown_examples, help_examples, help_links)
 
 
 def main():
