@@ -137,9 +137,10 @@ def large_inputs(program):
     filled = TWO_NODES + b" " * (INPUT_LIMIT - len(TWO_NODES))
     yield "16,777,216 bytes", fault_of(run(program, ["run"], input=filled), 0, b"")
     yield "16,777,217 bytes", fault_of(run(program, ["run"], input=filled + b" "), 4, b"")
-    turns = b"boot a@x\ncrash a@x\n" * 9_999
-    answers = b"ok\nup a@x\nok\nended a@x\n" * 9_999
-    done = run(program, ["run"], input=TWO_NODES + b"\n===\n" + turns + b"boot a@x\n")
+    turns = b"boot a@x\ncrash a@x\n" * 9_998 + b"boot a@x\nboot a@x\ncrash a@x\nboot a@x\n"
+    # At its last start it is alive, which is the first reason to refuse another.
+    answers = b"ok\nup a@x\nok\nended a@x\n" * 9_998 + b"ok\nup a@x\nrefused S3 already_alive\nok\nended a@x\n"
+    done = run(program, ["run"], input=TWO_NODES + b"\n===\n" + turns)
     yield "a node starts 9,999 times", fault_of(done, 0, answers + b"refused S4 incarnation_limit\n")
     nodes = [b"n%d" % number for number in range(4)]
     text = b" ".join(b"{node, %s, []}." % node for node in nodes)
