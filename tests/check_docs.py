@@ -6,7 +6,7 @@ begins with `$ ` (up to the line EOF where it has a <<), is run from the top of 
 ./rehearse: it prints what stands below it, where a line `...` stands for any lines, writes nothing to standard error, and
 has the exit status 0 (a document shows another one by `; echo "status $?"`). Each block ```erlang is a cluster file that
 `check` accepts. Each command in a help text runs. Each text that the program can print stands in docs/ANSWERS.md. Each
-definition that docs/RULES.md names stands where it says.
+definition that docs/RULES.md names stands where it says. Each construct that docs/CLUSTER_FILES.md calls refused is.
 
 run_program.py counts these tests too. The last line is 'N passed, M failed'.
 """
@@ -207,7 +207,22 @@ def definitions_named(program):
     yield "docs/RULES.md names definitions where they stand", "; ".join(wrong) or None
 
 
-TESTS = (links, answers_told, definitions_named, shown_examples, help_examples, help_links)
+def constructs_refused(program):
+    """Each construct that the page of cluster files calls refused is refused, where it stands in a skipped section."""
+    table = text_of("docs/CLUSTER_FILES.md").split("| Construct | Example | Answer |\n|---|---|---|\n")[1].split("\n\n")[0]
+    for row in table.splitlines():
+        name, examples, code = [cell.strip() for cell in re.split(r"(?<!\\)\|", row)[1:4]]
+        place = "%s" if "SysConfig" in examples else "{skipped, [%s]}"
+        wrong = []
+        for example in re.findall(r"`([^`]+)`", examples):
+            text = "{node, a, [%s]}." % (place % example.replace("\\|", "|"))
+            done = subprocess.run([program, "check"], input=text.encode(), capture_output=True, timeout=300)
+            if code.split()[0].encode() not in done.stdout.split():
+                wrong.append(f"{example}: {done.stdout}")
+        yield f"refused: {name}", "; ".join(wrong) or None
+
+
+TESTS = (links, answers_told, definitions_named, constructs_refused, shown_examples, help_examples, help_links)
 
 
 def main():
