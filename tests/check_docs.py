@@ -5,8 +5,9 @@ In README.md and docs/*.md each link leads somewhere, also within a page. Each c
 begins with `$ ` (up to the line EOF where it has a <<), is run from the top of the repository with the program in place of
 ./rehearse: it prints what stands below it, where a line `...` stands for any lines, writes nothing to standard error, and
 has the exit status 0 (a document shows another one by `; echo "status $?"`). Each block ```erlang is a cluster file that
-`check` accepts. Each command in a help text runs. Each text that the program can print stands in docs/ANSWERS.md. Each
-definition that docs/RULES.md names stands where it says. Each construct that docs/CLUSTER_FILES.md calls refused is.
+`check` accepts. Each command in a help text runs, and docs/help has these texts. Each text that the program can print
+stands in docs/ANSWERS.md. Each definition that docs/RULES.md names stands where it says. Each construct that
+docs/CLUSTER_FILES.md calls refused is.
 
 run_program.py counts these tests too. The last line is 'N passed, M failed'.
 """
@@ -222,7 +223,15 @@ def constructs_refused(program):
         yield f"refused: {name}", "; ".join(wrong) or None
 
 
-TESTS = (links, answers_told, definitions_named, constructs_refused, shown_examples, help_examples, help_links)
+def help_files(program):
+    """What ./rehearse shows before the program is built is what the program says."""
+    for name, words in [("rehearse", ["--help"]), ("version", ["--version"])] + [(w[0], w) for w in HELPS[1:]]:
+        done = subprocess.run([program] + words, stdin=subprocess.DEVNULL, capture_output=True, timeout=300)
+        is_same = done.stderr.decode() == text_of(f"docs/help/{name}.txt")
+        yield f"docs/help/{name}.txt", None if is_same else f"it isn't what the program says to {' '.join(words)}"
+
+
+TESTS = (links, answers_told, definitions_named, constructs_refused, shown_examples, help_examples, help_links, help_files)
 
 
 def main():

@@ -6,12 +6,14 @@ standard output that is owed) and NAME.status (the exit status) of the folders i
 repository has its NAME.args, NAME.out and NAME.status in tests/examples. Then come inputs that are too large for
 files, devices and memory that fail, and the documents (check_docs.py). The last line is 'N passed, M failed'.
 """
-import check_docs
 import difflib
 import os
 import subprocess
 import sys
 import tempfile
+
+import check_docs
+from term_faults import term_faults
 
 HERE = os.path.dirname(os.path.abspath(__file__))
 TOP = os.path.dirname(HERE)
@@ -268,8 +270,8 @@ def main():
         sys.exit(__doc__)
     program = os.path.abspath(sys.argv[1])
     passed = failed = 0
-    for tests in (rows, examples, command_lines, large_inputs, long_chains, several_sessions, failing_devices, refused_memory,
-                  *check_docs.TESTS):
+    for tests in (rows, examples, term_faults, command_lines, large_inputs, long_chains, several_sessions, failing_devices,
+                  refused_memory, *check_docs.TESTS):
         for name, wrong in tests(program):
             if wrong is None:
                 passed += 1

@@ -12,6 +12,3 @@ pub use choosing::{Pick, best, candidates, choose};
 pub use node_set::NodeSet;
 pub use operating::{deps_run, missing_dep, operational};
 pub use starting::start_kind;
-
-#[cfg(test)]
-mod tests;

@@ -27,6 +27,3 @@ pub use laws::{bounds_are_never_met, one_reading};
 pub use reading::read_terms;
 pub use term::{Term, Terms};
 pub use text::Str;
-
-#[cfg(test)]
-mod tests;

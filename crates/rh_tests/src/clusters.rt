@@ -1,9 +1,11 @@
 //! What the readers of a cluster answer for files that were read.
 
-use crate::calls::cluster_of;
+use crate::support::{ONE_NODE, TWO_NODES, cluster_of};
 use rh_cluster::{App, Cluster, Dep, Node, Restart, SyncWait};
+use std::alloc::Global;
 use std::process::Abort;
 
+// Three nodes, of which each says something else.
 static THREE_NODES: &str = "\
 {node, cp1@cave, [{kernel, [
   {distributed, [{myapp, 5000, [cp1@cave, {cp2@cave, cp3@cave}]}]},
@@ -56,20 +58,43 @@ fn has_app_parts(rt: &impl Abort, cluster: &Cluster) {
     assert!(rt; module == "myapp_app");
 }
 
+fn has_all_parts(rt: &impl Abort, cluster: &Cluster) {
+    has_names(rt, cluster);
+    has_node_parts(rt, cluster);
+    has_app_parts(rt, cluster);
+}
+
 #[test]
 fn a_cluster_answers_what_was_read(rt: HostRuntime) {
     let cluster = cluster_of(&rt, rt.alloc(), THREE_NODES);
-    has_names(&rt, &cluster);
-    has_node_parts(&rt, &cluster);
-    has_app_parts(&rt, &cluster);
+    has_all_parts(&rt, &cluster);
+}
+
+// Does a copy answer the same?
+fn is_copied(rt: &impl Abort, alloc: Global, cluster: &Cluster) {
+    let copy = cluster.copy(alloc).ok().expect(rt, "memory");
+    has_all_parts(rt, &copy);
+    assert!(rt; copy.same(cluster) && cluster.same(&copy));
 }
 
 #[test]
 fn a_copy_answers_the_same(rt: HostRuntime) {
     let cluster = cluster_of(&rt, rt.alloc(), THREE_NODES);
-    let copy = cluster.copy(rt.alloc()).ok().expect(&rt, "memory");
-    has_names(&rt, &copy);
-    has_node_parts(&rt, &copy);
-    has_app_parts(&rt, &copy);
-    assert!(rt; copy.same(&cluster));
+    is_copied(&rt, rt.alloc(), &cluster);
+}
+
+// Are the clusters of the two texts the same?
+fn are_same(rt: &impl Abort, alloc: Global, one: &str, other: &str) -> bool {
+    let one = cluster_of(rt, alloc, one);
+    one.same(&cluster_of(rt, alloc, other))
+}
+
+#[test]
+fn the_order_of_nodes_counts(rt: HostRuntime) {
+    let alloc = rt.alloc();
+    let this = "{node, a@x, []}. {node, b@x, []}.";
+    let that = "{node, b@x, []}. {node, a@x, []}.";
+    assert!(rt; are_same(&rt, alloc, this, this) && !are_same(&rt, alloc, this, that));
+    assert!(rt; are_same(&rt, alloc, ONE_NODE, ONE_NODE));
+    assert!(rt; !are_same(&rt, alloc, ONE_NODE, TWO_NODES));
 }

@@ -1,17 +1,28 @@
-//! Tests that cross crates: whole runs over devices that work and devices that fail, and calls that the program doesn't make.
+//! Tests of calls that the program doesn't make, and of what only a failing device or a second thread shows. Each test owns what it
+//! needs in as few lines as can be, and hands it by reference to functions that ask and compare.
 #![tactic(auto)]
 
 #[cfg(test)]
-mod calls;
-#[cfg(test)]
 mod clusters;
-#[cfg(test)]
-mod copies;
 #[cfg(test)]
 mod devices;
 #[cfg(test)]
-mod placing;
+mod places;
 #[cfg(test)]
 mod rehearsals;
 #[cfg(test)]
+mod rooms;
+#[cfg(test)]
+mod sims;
+#[cfg(test)]
 mod states;
+#[cfg(test)]
+mod support;
+#[cfg(test)]
+mod told;
+#[cfg(test)]
+mod trees;
+#[cfg(test)]
+mod turns;
+#[cfg(test)]
+mod wheels;

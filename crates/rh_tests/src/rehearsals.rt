@@ -1,10 +1,11 @@
-//! Whole runs over memory, with devices that work and devices that fail.
+//! Whole runs over memory, with devices that give or take a little at a time, and devices that fail.
 
 use crate::devices::{Failure, Sink, Source};
 use rh_app::{RunFault, Watched, run};
 use rh_step::Pick;
 use std::alloc::Global;
 use std::io::{Read, Write};
+use std::process::Abort;
 use std::test::Fail;
 
 // Two bare nodes: boot, crash, undo, show, redo, undo all, undo, redo all.
@@ -37,48 +38,11 @@ refused at_start
 ok 2
 ";
 
-// One bare node: a refused step leaves what can be made again.
-static ONE_NODE: &str = "\
-{node, a, []}.
-===
-undo
-boot a
-undo
-crash a
-redo
-boot b
-flip a
-";
-
-static ONE_NODE_TEXT: &str = "\
-refused at_start
-ok
-up a
-ok
-refused S5 not_alive
-ok
-refused S1 unknown_node
-bad line 7
-";
-
-// How a run of an input ended.
-fn ended_with(
-    alloc: Global,
-    source: Source<'_>,
-    sink: &mut Sink,
-    pick: Pick,
-) -> Result<(), RunFault> {
-    let mut reader = Watched::new(source);
-    let mut writer = Watched::new(sink);
-    run(alloc, &mut reader, &mut writer, pick)
-}
-
-// The end in short, for comparison.
-fn said(ended: &Result<(), RunFault>) -> &'static str {
+// How a run ended, in a word.
+fn said(ended: Result<(), RunFault>) -> &'static str {
     match ended {
         Ok(()) => "done",
         Err(RunFault::Cluster(_)) => "cluster",
-        Err(RunFault::BadLine(7)) => "bad line 7",
         Err(RunFault::BadLine(_)) => "bad line",
         Err(RunFault::Read) => "read",
         Err(RunFault::Write) => "write",
@@ -87,77 +51,60 @@ fn said(ended: &Result<(), RunFault>) -> &'static str {
     }
 }
 
-#[test]
-fn a_run_ends_as_its_input_asks(rt: HostRuntime) {
-    for (input, end, text) in [
-        ("", "cluster", "cluster refused C2 no_nodes\n"),
-        (ONE_NODE, "bad line 7", ONE_NODE_TEXT),
-        (TWO_NODES, "done", TWO_NODES_TEXT),
-    ] {
-        let mut sink = Sink::new(rt.alloc());
-        let source = Source::of(input.as_bytes());
-        let ended = ended_with(rt.alloc(), source, &mut sink, Pick::First);
-        assert!(rt; said(&ended) == end);
-        assert_eq!(rt; sink.bytes.as_slice(), text.as_bytes());
-    }
+// How a run over these devices ends.
+fn end_of(alloc: Global, source: Source<'_>, sink: &mut Sink) -> &'static str {
+    let mut reader = Watched::new(source);
+    let mut writer = Watched::new(sink);
+    said(run(alloc, &mut reader, &mut writer, Pick::First))
+}
+
+// Does a run over this reader end so, with this text?
+fn is_end(rt: &impl Abort, alloc: Global, source: Source<'_>, end: &str, text: &str) -> bool {
+    let mut sink = Sink::new(alloc);
+    let ended = end_of(alloc, source, &mut sink);
+    assert!(rt; ended == "read" || ended == "done");
+    ended == end && sink.bytes.as_slice() == text.as_bytes()
 }
 
 #[test]
 fn reads_one_byte_a_call(rt: HostRuntime) {
-    let mut sink = Sink::new(rt.alloc());
-    let ended = ended_with(
-        rt.alloc(),
-        Source::slow(TWO_NODES.as_bytes()),
-        &mut sink,
-        Pick::First,
-    );
-    assert!(rt; ended.is_ok());
-    assert_eq!(rt; sink.bytes.as_slice(), TWO_NODES_TEXT.as_bytes());
+    let source = Source::slow(TWO_NODES.as_bytes());
+    assert!(rt; is_end(&rt, rt.alloc(), source, "done", TWO_NODES_TEXT));
 }
 
-// The last call of the reader is the one that tells the end.
+// The last call of the reader is the one that tells the end; it isn't called again behind that.
 #[test]
 fn writes_nothing_after_a_failed_read(rt: HostRuntime) {
     let calls = TWO_NODES.len() as u32 + 1;
     for call in 0..calls {
-        let mut sink = Sink::new(rt.alloc());
         let source = Source::failing(TWO_NODES.as_bytes(), call);
-        let ended = ended_with(rt.alloc(), source, &mut sink, Pick::First);
-        assert!(rt; matches!(ended, Err(RunFault::Read)), "call {call}");
-        assert!(rt; sink.bytes.is_empty(), "call {call}");
+        assert!(rt; is_end(&rt, rt.alloc(), source, "read", ""), "call {call}");
     }
-    let mut sink = Sink::new(rt.alloc());
     let source = Source::failing(TWO_NODES.as_bytes(), calls);
-    let ended = ended_with(rt.alloc(), source, &mut sink, Pick::First);
-    assert!(rt;
-        ended.is_ok(),
-        "the reader isn't called again behind the end"
-    );
-    assert_eq!(rt; sink.bytes.as_slice(), TWO_NODES_TEXT.as_bytes());
+    assert!(rt; is_end(&rt, rt.alloc(), source, "done", TWO_NODES_TEXT));
 }
 
+// Does a run whose writer fails at this call end as it must? Did it fail?
+fn leaves_a_front(rt: &impl Abort, alloc: Global, call: u32, failure: Failure) -> bool {
+    let mut sink = Sink::failing(alloc, call, failure);
+    let ended = end_of(alloc, Source::of(TWO_NODES.as_bytes()), &mut sink);
+    let text = TWO_NODES_TEXT.as_bytes();
+    let has_failed = sink.bytes.len() < text.len();
+    assert!(rt; text.starts_with(sink.bytes.as_slice()), "call {call}");
+    assert!(rt; ended == (if has_failed { "write" } else { "done" }), "call {call}");
+    has_failed
+}
+
+// At most three bytes go with each call, so there are at least 28 calls that can fail.
 #[test]
 fn leaves_a_front_after_a_failed_write(rt: HostRuntime) {
     for failure in [Failure::Error, Failure::Full] {
         let mut failed: u32 = 0;
         for call in 0..200 {
-            let mut sink = Sink::failing(rt.alloc(), call, failure);
-            let source = Source::of(TWO_NODES.as_bytes());
-            let ended = ended_with(rt.alloc(), source, &mut sink, Pick::First);
-            assert!(rt;
-                TWO_NODES_TEXT.as_bytes().starts_with(sink.bytes.as_slice()),
-                "call {call}"
-            );
-            match ended {
-                Ok(()) => assert_eq!(rt; sink.bytes.as_slice(), TWO_NODES_TEXT.as_bytes()),
-                Err(fault) => {
-                    assert!(rt; matches!(fault, RunFault::Write), "call {call}");
-                    assert!(rt; sink.bytes.len() < TWO_NODES_TEXT.len(), "call {call}");
-                    failed = failed.saturating_add(1);
-                }
+            if leaves_a_front(&rt, rt.alloc(), call, failure) {
+                failed = failed.saturating_add(1);
             }
         }
-        // At most three bytes go with each call, so there are at least 28 calls that can fail.
         assert!(rt; failed >= 28, "{failure:?}");
     }
 }

@@ -1,6 +1,7 @@
 //! The calls of a state that take memory, with ample memory.
 
-use crate::calls::cluster_of;
+use crate::support::{ONE_NODE, cluster_of};
+use rh_app::report;
 use rh_cluster::{App, Node};
 use rh_state::{State, Timer, first_state};
 use std::alloc::Global;
@@ -31,21 +32,40 @@ fn has_timer(rt: &impl Abort, alloc: Global, state: &State) {
     assert!(rt; timers.as_slice() == [(36, Timer::Failover(App(0)))].as_slice());
 }
 
-// The first state of the cluster, which drops the cluster that was read.
-fn begun(rt: &impl Abort, alloc: Global) -> State {
-    let cluster = cluster_of(rt, alloc, TWO_NODES);
+// The first state of a cluster, which drops the cluster that was read.
+fn begun(rt: &impl Abort, alloc: Global, text: &str) -> State {
+    let cluster = cluster_of(rt, alloc, text);
     first_state(alloc, &cluster).ok().expect(rt, "memory")
 }
 
-fn copied(rt: &impl Abort, alloc: Global, state: &State) {
+// Has a copy the timer too?
+fn is_copied(rt: &impl Abort, alloc: Global, state: &State) {
     let copy = state.copy(alloc).ok().expect(rt, "memory");
     has_timer(rt, alloc, &copy);
 }
 
 #[test]
 fn a_state_its_copy_and_its_timers(rt: HostRuntime) {
-    let mut state = begun(&rt, rt.alloc());
+    let mut state = begun(&rt, rt.alloc(), TWO_NODES);
     has_permissions(&rt, &state);
     arm(&rt, &mut state);
-    copied(&rt, rt.alloc(), &state);
+    is_copied(&rt, rt.alloc(), &state);
+}
+
+fn is_reported(rt: &impl Abort, alloc: Global, state: &State) {
+    let bytes = report(alloc, state).ok().expect(rt, "memory");
+    assert!(rt; bytes.as_slice() == b"now 0\nnode one@lab down 0\n".as_slice());
+}
+
+fn reports_in_copy(rt: &impl Abort, alloc: Global, state: &State) {
+    let copy = state.copy(alloc).ok().expect(rt, "memory");
+    is_reported(rt, alloc, &copy);
+}
+
+#[test]
+fn the_first_state_and_its_copy_report_the_same(rt: HostRuntime) {
+    let state = begun(&rt, rt.alloc(), ONE_NODE);
+    is_reported(&rt, rt.alloc(), &state);
+    reports_in_copy(&rt, rt.alloc(), &state);
+    assert!(rt; state.earliest().is_none());
 }

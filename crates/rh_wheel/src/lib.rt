@@ -9,6 +9,3 @@
 mod wheel;
 
 pub use wheel::Wheel;
-
-#[cfg(test)]
-mod tests;

@@ -1,6 +1,6 @@
-//! Each call with ample memory.
+//! Timers in firing order.
 
-use crate::Wheel;
+use rh_wheel::Wheel;
 use std::test::Fail;
 
 #[test]

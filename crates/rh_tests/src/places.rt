@@ -1,12 +1,10 @@
 //! Where applications can run, asked of states that rehearsals reach.
 
-use crate::calls::cluster_of;
+use crate::support::{make_all, sim_on};
 use rh_cluster::{App, Node};
 use rh_place::{NodeSet, best, candidates, choose, deps_run, missing_dep, operational, start_kind};
-use rh_state::Kind;
+use rh_state::{Kind, State};
 use rh_step::{Event, Pick};
-use rh_trail::Sim;
-use std::alloc::Global;
 use std::process::Abort;
 
 // The three nodes of the OTP Design Principles, without waits.
@@ -27,22 +25,13 @@ static TWO_NODES: &str = "\
 {application, svc, [{start_phases, [{go, []}]}, {applications, [kernel]}]}.
 ";
 
-// A simulation behind these events.
-fn sim_after(rt: &impl Abort, alloc: Global, text: &str, events: &[Event]) -> Sim {
-    let mut sim = Sim::open(alloc, cluster_of(rt, alloc, text), Pick::First)
-        .ok()
-        .expect(rt, "memory");
-    for event in events {
-        sim.step(alloc, *event).ok().expect(rt, "an accepted step");
-    }
-    sim
-}
-
 static ALL_BOOT: [Event; 3] = [
     Event::Boot { node: Node(0) },
     Event::Boot { node: Node(1) },
     Event::Boot { node: Node(2) },
 ];
+
+static FIRST_ENDS: [Event; 1] = [Event::Crash { node: Node(0) }];
 
 // The nodes of a set, of three, each as one digit.
 fn digits(set: NodeSet) -> u32 {
@@ -52,24 +41,26 @@ fn digits(set: NodeSet) -> u32 {
     first + second + third
 }
 
-#[test]
-fn the_first_group_has_the_candidates(rt: HostRuntime) {
-    let sim = sim_after(&rt, rt.alloc(), THREE_NODES, ALL_BOOT.as_slice());
-    let state = sim.state();
-    assert!(rt; state.cluster().node_count() == 3);
-    assert!(rt; state.cluster().app_count() == 1);
+// All three are up: the first group has the candidates.
+fn first_group_has_them(rt: &impl Abort, state: &State) {
+    assert!(rt; state.cluster().node_count() == 3 && state.cluster().app_count() == 1);
     assert!(rt; operational(state, App(0), Node(1)));
     assert!(rt; digits(candidates(state, App(0))) == 100);
     assert!(rt; choose(state, App(0), Pick::Last) == Some(Node(0)));
 }
 
-#[test]
-fn a_tuple_has_several_candidates(rt: HostRuntime) {
-    let mut sim = sim_after(&rt, rt.alloc(), THREE_NODES, ALL_BOOT.as_slice());
-    assert!(rt; sim.step(rt.alloc(), Event::Crash { node: Node(0) }).is_ok());
-    let state = sim.state();
-    assert!(rt; state.cluster().node_count() == 3);
-    assert!(rt; state.cluster().app_count() == 1);
+// Of a set, the node of the first group that meets it is best.
+fn best_of_a_set(rt: &impl Abort, state: &State) {
+    assert!(rt; state.cluster().node_count() == 3 && state.cluster().app_count() == 1);
+    let set = NodeSet::empty().with(Node(0)).with(Node(2));
+    assert!(rt; best(state, App(0), set, Pick::First) == Some(Node(0)));
+    assert!(rt; best(state, App(0), NodeSet::empty(), Pick::First).is_none());
+    assert!(rt; start_kind(state, App(0), Some(Node(0)), Node(1)) == Kind::Normal);
+}
+
+// The first node has ended: the two of the tuple are candidates.
+fn tuple_has_them(rt: &impl Abort, state: &State) {
+    assert!(rt; state.cluster().node_count() == 3 && state.cluster().app_count() == 1);
     assert!(rt; !operational(state, App(0), Node(0)));
     assert!(rt; digits(candidates(state, App(0))) == 11);
     assert!(rt; choose(state, App(0), Pick::First) == Some(Node(1)));
@@ -77,27 +68,36 @@ fn a_tuple_has_several_candidates(rt: HostRuntime) {
 }
 
 #[test]
-fn the_best_of_a_set(rt: HostRuntime) {
-    let sim = sim_after(&rt, rt.alloc(), THREE_NODES, ALL_BOOT.as_slice());
-    let state = sim.state();
-    assert!(rt; state.cluster().node_count() == 3);
-    assert!(rt; state.cluster().app_count() == 1);
-    let set = NodeSet::empty().with(Node(0)).with(Node(2));
-    assert!(rt; !set.is_empty());
-    assert!(rt; best(state, App(0), set, Pick::First) == Some(Node(0)));
-    assert!(rt; best(state, App(0), NodeSet::empty(), Pick::First).is_none());
-    assert!(rt; start_kind(state, App(0), Some(Node(0)), Node(1)) == Kind::Normal);
+fn candidates_of_three_nodes(rt: HostRuntime) {
+    let mut sim = sim_on(&rt, rt.alloc(), THREE_NODES);
+    make_all(&rt, rt.alloc(), &mut sim, ALL_BOOT.as_slice());
+    first_group_has_them(&rt, sim.state());
+    best_of_a_set(&rt, sim.state());
+    make_all(&rt, rt.alloc(), &mut sim, FIRST_ENDS.as_slice());
+    tuple_has_them(&rt, sim.state());
+}
+
+fn kinds(rt: &impl Abort, state: &State) {
+    assert!(rt; state.cluster().node_count() == 2 && state.cluster().app_count() == 1);
+    assert!(rt; start_kind(state, App(0), Some(Node(0)), Node(1)) == Kind::Failover(Node(0)));
+    assert!(rt; start_kind(state, App(0), Some(Node(0)), Node(0)) == Kind::Normal);
+    assert!(rt; start_kind(state, App(0), None, Node(0)) == Kind::Normal);
+    assert!(rt; deps_run(state, Node(0), App(0)) && missing_dep(state, Node(0), App(0)).is_none());
 }
 
 #[test]
 fn start_phases_make_a_failover(rt: HostRuntime) {
-    let sim = sim_after(&rt, rt.alloc(), TWO_NODES, [].as_slice());
-    let state = sim.state();
-    assert!(rt; state.cluster().node_count() == 2);
-    assert!(rt; state.cluster().app_count() == 1);
-    assert!(rt; start_kind(state, App(0), Some(Node(0)), Node(1)) == Kind::Failover(Node(0)));
-    assert!(rt; start_kind(state, App(0), Some(Node(0)), Node(0)) == Kind::Normal);
-    assert!(rt; start_kind(state, App(0), None, Node(0)) == Kind::Normal);
-    assert!(rt; deps_run(state, Node(0), App(0)));
-    assert!(rt; missing_dep(state, Node(0), App(0)).is_none());
+    let sim = sim_on(&rt, rt.alloc(), TWO_NODES);
+    kinds(&rt, sim.state());
+}
+
+#[test]
+fn sets_of_nodes(rt: HostRuntime) {
+    let none = NodeSet::empty();
+    assert!(rt; none.is_empty() && !none.has(Node(0)));
+    let ends = none.with(Node(63)).with(Node(0)).with(Node(63));
+    assert!(rt; !ends.is_empty());
+    for (node, is_there) in [(0, true), (1, false), (62, false), (63, true), (64, false), (255, false)] {
+        assert!(rt; ends.has(Node(node)) == is_there, "node {node}");
+    }
 }

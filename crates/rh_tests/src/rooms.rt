@@ -1,0 +1,214 @@
+//! Rooms: what sessions are told in turn, passes that aren't the room's, limits, and rooms that don't close.
+
+use crate::support::{CAVE, ONE_NODE, TWO_NODES, cluster_of};
+use crate::told::{Open, closed, opened, tell_calls, tell_kept, tell_served};
+use rh_cluster::Node;
+use rh_room::{CloseReason, Pass, Room, RoomFault, close, open_room};
+use rh_step::{Event, Pick};
+use rh_trail::{Call, Reply, Sim, report};
+use std::alloc::Global;
+use std::process::Abort;
+
+// The first node boots.
+static BOOT: Event = Event::Boot { node: Node(0) };
+
+/// Which session makes which call, of two.
+pub fn schedule() -> [(u8, Call); 5] {
+    [
+        (1, Call::Step(BOOT)),
+        (2, Call::Look),
+        (2, Call::Undo),
+        (1, Call::UndoAll),
+        (1, Call::RedoAll),
+    ]
+}
+
+// What the second session sees: the first node waits for the two others.
+static SEEN: &str = "\
+now 0
+node cp1@cave waiting 1
+node cp2@cave down 0
+node cp3@cave down 0
+app myapp quiet
+timer sync cp1@cave 5000
+";
+
+/// What each session keeps, the first one's first; the report that was seen has 113 bytes.
+pub static KEPT: &str = "\
+0 1 done 0
+3 1 moved 0
+4 1 moved 1
+1 2 seen 1 1 113
+2 2 undone
+";
+
+/// The log behind these calls.
+pub static LOG: &str = "\
+1 done 0
+2 seen 1 1 113
+2 undone
+1 moved 0
+1 moved 1
+";
+
+static TOLD: &str = "\
+0 1 done 0
+1 2 seen 1 1 113
+2 2 undone
+3 1 moved 0
+4 1 moved 1
+";
+
+// Is this what a look at the simulation shows?
+fn is_seen(rt: &impl Abort, alloc: Global, sim: &Sim) -> bool {
+    let shown = report(alloc, sim.state()).ok().expect(rt, "memory");
+    shown.as_slice() == SEEN.as_bytes()
+}
+
+// Does the room show it, and a copy of its simulation?
+fn shows(rt: &impl Abort, alloc: Global, room: &Room) {
+    let fork = room.fork(alloc).ok().expect(rt, "memory");
+    assert!(rt; is_seen(rt, alloc, &fork) && is_seen(rt, alloc, room.sim()));
+    assert!(rt; room.log().len() == 5 && room.sessions() == 2);
+}
+
+/// Do the passes keep what they were told?
+pub fn are_kept(rt: &impl Abort, alloc: Global, passes: &[Pass]) {
+    let mut text = String::new(alloc);
+    for pass in passes {
+        assert!(rt; tell_kept(&mut text, pass).is_ok());
+    }
+    assert_eq!(rt; text.as_str(), KEPT);
+}
+
+fn one_after_the_other(rt: &impl Abort, alloc: Global, open: &mut Open) {
+    let mut text = String::new(alloc);
+    let calls = schedule();
+    tell_calls(rt, &mut text, alloc, open, calls.as_slice());
+    assert_eq!(rt; text.as_str(), TOLD);
+    are_kept(rt, alloc, open.passes.as_slice());
+    shows(rt, alloc, &open.room);
+}
+
+#[test]
+fn two_sessions_in_turn(rt: HostRuntime) {
+    let mut open = opened(&rt, rt.alloc(), CAVE, 2);
+    one_after_the_other(&rt, rt.alloc(), &mut open);
+    let text = closed(&rt, rt.alloc(), open, CAVE, Pick::First);
+    assert_eq!(rt; text.as_str(), LOG);
+}
+
+// What a pass of one room is told in another.
+fn told_abroad(rt: &impl Abort, alloc: Global, open: &mut Open, other: &mut Open, place: usize) {
+    let mut text = String::new(alloc);
+    let pass = other.passes.get_mut(place).expect(rt, "a pass");
+    let told = tell_served(&mut text, alloc, &mut open.room, pass, Call::Look);
+    assert!(rt; told.is_ok());
+    assert_eq!(rt; text.as_str(), "WrongRoom { place: 0 }\n");
+}
+
+// The first session of each room calls there.
+fn calls_at_home(rt: &impl Abort, alloc: Global, open: &mut Open, call: Call, want: &str) {
+    let mut text = String::new(alloc);
+    tell_calls(rt, &mut text, alloc, open, [(1, call)].as_slice());
+    assert_eq!(rt; text.as_str(), want);
+}
+
+// What a pass was told in another room isn't what this one has, and a room of one has no second session.
+#[test]
+fn a_pass_of_another_room_is_refused(rt: HostRuntime) {
+    let mut open = opened(&rt, rt.alloc(), CAVE, 2);
+    let mut other = opened(&rt, rt.alloc(), CAVE, 1);
+    calls_at_home(&rt, rt.alloc(), &mut open, Call::Step(BOOT), "0 1 done 0\n");
+    calls_at_home(&rt, rt.alloc(), &mut other, Call::Undo, "0 1 at start\n");
+    told_abroad(&rt, rt.alloc(), &mut open, &mut other, 0);
+    told_abroad(&rt, rt.alloc(), &mut other, &mut open, 1);
+    assert!(rt; open.room.log().len() == 1 && other.room.log().len() == 1);
+}
+
+fn is_no_room(rt: &impl Abort, alloc: Global, sessions: u8) {
+    let cluster = cluster_of(rt, alloc, ONE_NODE);
+    let fault = open_room(alloc, cluster, Pick::First, sessions).err();
+    assert!(rt; fault == Some(RoomFault::SessionCount));
+}
+
+#[test]
+fn a_room_has_1_to_8_sessions(rt: HostRuntime) {
+    is_no_room(&rt, rt.alloc(), 0);
+    is_no_room(&rt, rt.alloc(), 9);
+    let open = opened(&rt, rt.alloc(), ONE_NODE, 8);
+    assert!(rt; open.room.sessions() == 8 && open.passes.len() == 8);
+    assert!(rt; open.passes[7].session() == 8 && open.passes[7].receipts().is_empty());
+}
+
+fn fill(rt: &impl Abort, alloc: Global, room: &mut Room, pass: &mut Pass) {
+    for _ in 0..Room::LOG_LIMIT {
+        let receipt = room.serve(alloc, pass, Call::Undo).ok().expect(rt, "a receipt");
+        assert!(rt; receipt.reply.same(&Reply::AtStart) && receipt.call == Call::Undo);
+    }
+    let fault = room.serve(alloc, pass, Call::Undo).err();
+    assert!(rt; fault == Some(RoomFault::LogFull));
+    assert!(rt; room.log().len() == 65_535 && pass.receipts().len() == 65_535);
+}
+
+#[test]
+fn a_log_has_65535_entries(rt: HostRuntime) {
+    let mut open = opened(&rt, rt.alloc(), ONE_NODE, 1);
+    let pass = open.passes.get_mut(0).expect(&rt, "a pass");
+    fill(&rt, rt.alloc(), &mut open.room, pass);
+}
+
+// A room that lacks the pass of its second session is handed back whole, and closes when that one is there, in any order.
+#[test]
+fn a_pass_is_missing(rt: HostRuntime) {
+    let mut open = opened(&rt, rt.alloc(), ONE_NODE, 2);
+    let cluster = cluster_of(&rt, rt.alloc(), ONE_NODE);
+    let second = open.passes.pop().expect(&rt, "two passes");
+    let Open { room, passes } = open;
+    let fault = close(room, passes, &cluster, Pick::First).err().expect(&rt, "a fault");
+    assert!(rt; fault.why == CloseReason::MissingPass);
+    let mut passes = fault.passes;
+    assert!(rt; passes.insert(0, second).is_ok());
+    let open = Open { room: fault.room, passes };
+    let text = closed(&rt, rt.alloc(), open, ONE_NODE, Pick::First);
+    assert!(rt; text.is_empty());
+}
+
+// The second pass goes, and that of another room's first session comes in its place.
+fn take_from(rt: &impl Abort, open: &mut Open, other: &mut Open) {
+    let foreign = other.passes.pop().expect(rt, "a pass");
+    assert!(rt; open.passes.pop().is_some() && open.passes.push(foreign).is_ok());
+}
+
+#[test]
+fn a_session_has_two_passes(rt: HostRuntime) {
+    let mut open = opened(&rt, rt.alloc(), ONE_NODE, 2);
+    let mut other = opened(&rt, rt.alloc(), ONE_NODE, 1);
+    take_from(&rt, &mut open, &mut other);
+    let text = closed(&rt, rt.alloc(), open, ONE_NODE, Pick::First);
+    assert_eq!(rt; text.as_str(), "MissingPass\n");
+}
+
+#[test]
+fn a_pass_was_told_less(rt: HostRuntime) {
+    let mut open = opened(&rt, rt.alloc(), ONE_NODE, 1);
+    let mut other = opened(&rt, rt.alloc(), ONE_NODE, 1);
+    calls_at_home(&rt, rt.alloc(), &mut open, Call::Undo, "0 1 at start\n");
+    take_from(&rt, &mut open, &mut other);
+    let text = closed(&rt, rt.alloc(), open, ONE_NODE, Pick::First);
+    assert_eq!(rt; text.as_str(), "Disagree { session: 1, place: 0 }\n");
+}
+
+#[test]
+fn the_room_stands_on_another_cluster(rt: HostRuntime) {
+    let open = opened(&rt, rt.alloc(), ONE_NODE, 1);
+    let text = closed(&rt, rt.alloc(), open, TWO_NODES, Pick::First);
+    assert_eq!(rt; text.as_str(), "OtherBase\n");
+}
+
+#[test]
+fn the_room_has_another_pick(rt: HostRuntime) {
+    let open = opened(&rt, rt.alloc(), ONE_NODE, 1);
+    let text = closed(&rt, rt.alloc(), open, ONE_NODE, Pick::Last);
+    assert_eq!(rt; text.as_str(), "OtherBase\n");
+}

@@ -1,0 +1,83 @@
+//! Simulations by themselves: what one was opened with, copies, and steps in several equal lists.
+
+use crate::support::{ONE_NODE, make_all, sim_on};
+use rh_cluster::Node;
+use rh_step::{Event, Notices, Pick, Refusal};
+use rh_trail::{Call, Reply, Sim, report};
+use std::alloc::Global;
+use std::process::Abort;
+
+// The node boots.
+static BOOT: [Event; 1] = [Event::Boot { node: Node(0) }];
+
+fn is_new(rt: &impl Abort, alloc: Global, sim: &Sim) {
+    assert!(rt; sim.pick() == Pick::First && sim.cluster().node_count() == 1);
+    assert!(rt; sim.trail().is_empty() && sim.cursor() == 0);
+    let text = report(alloc, sim.state()).ok().expect(rt, "memory");
+    assert!(rt; text.as_slice() == b"now 0\nnode one@lab down 0\n".as_slice());
+}
+
+#[test]
+fn a_simulation_tells_what_it_was_opened_with(rt: HostRuntime) {
+    let sim = sim_on(&rt, rt.alloc(), ONE_NODE);
+    is_new(&rt, rt.alloc(), &sim);
+}
+
+// Are these two equal lists of so many notices?
+fn are_equal(rt: &impl Abort, alloc: Global, lists: &[Notices], count: usize) -> bool {
+    match lists {
+        [first, second] => {
+            let copy = first.copy(alloc).ok().expect(rt, "memory");
+            first.same(second) && copy.same(first) && first.as_slice().len() == count
+        }
+        _ => false,
+    }
+}
+
+fn steps_in_two_lists(rt: &impl Abort, alloc: Global, sim: &mut Sim) {
+    let [boot] = BOOT;
+    let lists = sim.step_copies(alloc, boot, 2).ok().expect(rt, "a step");
+    assert!(rt; are_equal(rt, alloc, lists.as_slice(), 4));
+}
+
+fn is_refused(rt: &impl Abort, alloc: Global, sim: &mut Sim) {
+    let [boot] = BOOT;
+    let refusal = sim.step_copies(alloc, boot, 3).err().expect(rt, "refused");
+    assert!(rt; refusal == Refusal::AlreadyAlive && !refusal.is_memory());
+    assert!(rt; Refusal::OutOfMemory.is_memory() && sim.cursor() == 1);
+}
+
+#[test]
+fn a_step_answers_in_equal_lists(rt: HostRuntime) {
+    let mut sim = sim_on(&rt, rt.alloc(), ONE_NODE);
+    steps_in_two_lists(&rt, rt.alloc(), &mut sim);
+    is_refused(&rt, rt.alloc(), &mut sim);
+}
+
+// What a look at the simulation shows.
+fn seen(rt: &impl Abort, alloc: Global, sim: &Sim) -> Reply {
+    sim.look(alloc).ok().expect(rt, "memory")
+}
+
+// Do looks at the two show the same?
+fn look_same(rt: &impl Abort, alloc: Global, one: &Sim, other: &Sim) -> bool {
+    let shown = seen(rt, alloc, one);
+    let copy = shown.copy(alloc).ok().expect(rt, "memory");
+    copy.same(&seen(rt, alloc, other))
+}
+
+fn goes_its_own_way(rt: &impl Abort, alloc: Global, sim: &Sim, copy: &mut Sim) {
+    assert!(rt; look_same(rt, alloc, sim, copy));
+    let undone = copy.answer(alloc, Call::Undo).ok().expect(rt, "memory");
+    assert!(rt; undone.same(&Reply::Undone) && sim.cursor() == 1);
+    assert!(rt; !look_same(rt, alloc, sim, copy));
+    assert!(rt; copy.redo().is_ok() && look_same(rt, alloc, sim, copy));
+}
+
+#[test]
+fn a_copy_of_a_simulation_goes_its_own_way(rt: HostRuntime) {
+    let mut sim = sim_on(&rt, rt.alloc(), ONE_NODE);
+    make_all(&rt, rt.alloc(), &mut sim, BOOT.as_slice());
+    let mut copy = sim.copy(rt.alloc()).ok().expect(&rt, "memory");
+    goes_its_own_way(&rt, rt.alloc(), &sim, &mut copy);
+}

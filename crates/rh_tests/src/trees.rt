@@ -1,0 +1,106 @@
+//! Terms: what is read of each construct, copies, and terms made by hand.
+
+use rh_terms::{Str, Term, Terms, read_terms};
+use std::alloc::{AllocError, Global};
+use std::process::Abort;
+
+// The term as Erlang writes it, but an atom without quotes and a text as it stands.
+#[cycle(showing)]
+fn show_term(out: &mut String, term: &Term) -> Result<(), AllocError> {
+    match term {
+        Term::Atom(name) => out.push_str(name.as_str()),
+        Term::Int(n) => write!(out, "{n}"),
+        Term::Text(text) => write!(out, "\"{}\"", text.as_str()),
+        Term::List(terms) => {
+            out.push_str("[")?;
+            show_terms(out, terms)?;
+            out.push_str("]")
+        }
+        Term::Tuple(terms) => {
+            out.push_str("{")?;
+            show_terms(out, terms)?;
+            out.push_str("}")
+        }
+    }
+}
+
+// The terms, a comma behind each.
+#[cycle(showing)]
+fn show_terms(out: &mut String, terms: &Terms) -> Result<(), AllocError> {
+    for term in terms.as_slice() {
+        show_term(out, term)?;
+        out.push_str(",")?;
+    }
+    Ok(())
+}
+
+// Are the terms shown so?
+fn are_shown(rt: &impl Abort, alloc: Global, terms: &Terms, want: &str) {
+    let mut out = String::new(alloc);
+    show_terms(&mut out, terms).expect(rt, "memory");
+    assert_eq!(rt; out.as_str(), want);
+}
+
+fn terms_of(rt: &impl Abort, alloc: Global, text: &str) -> Terms {
+    read_terms(alloc, text.as_bytes()).ok().expect(rt, "terms")
+}
+
+#[test]
+fn every_construct(rt: HostRuntime) {
+    let terms = terms_of(
+        &rt,
+        rt.alloc(),
+        "% all\n{app_1@x, 'q \\\\\\'\\\"\\n\\t\\r\\s\u{e9}\n', -07, []}.\n\"\". [ {} , [\"t\"],and ] .",
+    );
+    let want = "{app_1@x,q \\'\"\n\t\r \u{e9}\n,-7,[],},\"\",[{},[\"t\",],and,],";
+    are_shown(&rt, rt.alloc(), &terms, want);
+}
+
+#[test]
+fn a_copy_is_equal(rt: HostRuntime) {
+    let terms = terms_of(&rt, rt.alloc(), "[primary]. {'a b', \"c\", [-1]}.");
+    let copy = terms.copy(rt.alloc()).ok().expect(&rt, "memory");
+    are_shown(&rt, rt.alloc(), &copy, "[primary,],{a b,\"c\",[-1,],},");
+    assert!(rt; copy.same(&terms));
+}
+
+// Is the text's list of terms the same as this one, seen from both sides?
+fn is_same(rt: &impl Abort, alloc: Global, one: &Terms, text: &str) -> bool {
+    let other = terms_of(rt, alloc, text);
+    let answer = one.same(&other);
+    assert!(rt; other.same(one) == answer);
+    answer
+}
+
+#[test]
+fn equal_terms_are_the_same(rt: HostRuntime) {
+    let one = terms_of(&rt, rt.alloc(), "{'a', [1, \"t\"]}.");
+    assert!(rt; is_same(&rt, rt.alloc(), &one, "% again\n{a,[1,\"t\"]}."));
+    for text in [
+        "[a, [1, \"t\"]].",
+        "{a, [1, t]}.",
+        "{a, [1, \"t\", \"t\"]}.",
+        "{a, [1]}.",
+        "{a, [2, \"t\"]}.",
+        "{b, [1, \"t\"]}.",
+        "{a, [1, \"t\"]}. a.",
+        "",
+    ] {
+        assert!(rt; !is_same(&rt, rt.alloc(), &one, text), "{text}");
+    }
+}
+
+#[test]
+fn made_by_hand(rt: HostRuntime) {
+    let text = String::from_str(rt.alloc(), "svc").ok().expect(&rt, "memory");
+    let mut items = Vec::new(rt.alloc());
+    let name = Str::of(text);
+    let copy = name.copy(rt.alloc()).ok().expect(&rt, "memory");
+    assert!(rt; name.same(&copy));
+    assert!(rt; items.push(Term::Atom(name)).is_ok());
+    let terms = Terms::of(items);
+    are_shown(&rt, rt.alloc(), &terms, "svc,");
+    let first = terms.as_slice().first().expect(&rt, "a term");
+    let term = first.copy(rt.alloc()).ok().expect(&rt, "memory");
+    assert!(rt; term.same(first));
+}
