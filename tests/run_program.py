@@ -4,7 +4,7 @@
 The worked rows are the files NAME.in (standard input), NAME.args (the words of the command line), NAME.out (the
 standard output that is owed) and NAME.status (the exit status) of the folders in tests/rows. Each example of the
 repository has its NAME.args, NAME.out and NAME.status in tests/examples. Then come inputs that are too large for
-files, and devices and memory that fail. The last line is 'N passed, M failed'.
+files, devices and memory that fail, and the documents (check_docs.py). The last line is 'N passed, M failed'.
 """
 import difflib
 import os
@@ -12,6 +12,7 @@ import subprocess
 import sys
 import tempfile
 
+import check_docs
 from term_faults import term_faults
 
 HERE = os.path.dirname(os.path.abspath(__file__))
@@ -115,24 +116,33 @@ def several_sessions(program):
 def command_lines(program):
     """What a newcomer reads: help and version go to standard error, with status 1."""
     for words, texts in [
-            (["--help"], [b"rehearse", b"run", b"Exit status"]),
+            (["--help"], [b"rehearse", b"run", b"Exit status", b"docs/ANSWERS.md", b"docs/LIVE_OTP.md", b"<< 'EOF'"]),
             (["run", "--help"], [b"--pick", b"boot N", b"crash N", b"tick D", b"start N A T", b"stop N A", b"permit N A B",
-                                 b"takeover N A T", b"exit N A R", b"undo", b"redo", b"undo_all", b"redo_all", b"show"]),
-            (["check", "--help"], [b"{node, Name, SysConfig}", b"{application, Name, Keys}", b"cluster refused"]),
-            (["sessions", "--help"], [b"--pick", b"entry S COMMAND", b"final", b"1 boot a@x"]),
+                                 b"takeover N A T", b"exit N A R", b"undo", b"redo", b"undo_all", b"redo_all", b"show",
+                                 b"1 to 10^12", b"milliseconds", b"app A quiet", b"app A wanted", b"app A running N",
+                                 b"app A lost N", b"from 1 behind `===`", b"docs/ANSWERS.md", b"docs/SCRIPTS.md"]),
+            (["check", "--help"], [b"{node, Name, SysConfig}", b"{application, Name, Keys}", b"cluster refused", b"distributed",
+                                   b"sync_nodes_timeout", b"permissions", b"boot", b"platform", b"0 to 10^12 milliseconds",
+                                   b"docs/CLUSTER_FILES.md"]),
+            (["sessions", "--help"], [b"--pick", b"entry S COMMAND", b"final", b"1 boot a@x", b"docs/ANSWERS.md"]),
             (["--version"], [b"rehearse 0.1.0"])]:
         done = run(program, words, input=b"")
         missing = [text for text in texts if text not in done.stderr]
         yield " ".join(words), fault_of(done, 1, b"") or (f"standard error lacks {missing}" if missing else None)
+    # What refuses a word that isn't UTF-8 is clap: its text has the usage.
+    done = run(program, [b"run", b"\xff"], input=b"")
+    is_refused = done.stderr.startswith(b"error: ") and b"Usage: rehearse" in done.stderr
+    yield "a word that isn't UTF-8", fault_of(done, 1, b"") or (None if is_refused else f"standard error: {done.stderr}")
 
 
 def large_inputs(program):
     filled = TWO_NODES + b" " * (INPUT_LIMIT - len(TWO_NODES))
     yield "16,777,216 bytes", fault_of(run(program, ["run"], input=filled), 0, b"")
     yield "16,777,217 bytes", fault_of(run(program, ["run"], input=filled + b" "), 4, b"")
-    turns = b"boot a@x\ncrash a@x\n" * 9_999
-    answers = b"ok\nup a@x\nok\nended a@x\n" * 9_999
-    done = run(program, ["run"], input=TWO_NODES + b"\n===\n" + turns + b"boot a@x\n")
+    turns = b"boot a@x\ncrash a@x\n" * 9_998 + b"boot a@x\nboot a@x\ncrash a@x\nboot a@x\n"
+    # At its last start it is alive, which is the first reason to refuse another.
+    answers = b"ok\nup a@x\nok\nended a@x\n" * 9_998 + b"ok\nup a@x\nrefused S3 already_alive\nok\nended a@x\n"
+    done = run(program, ["run"], input=TWO_NODES + b"\n===\n" + turns)
     yield "a node starts 9,999 times", fault_of(done, 0, answers + b"refused S4 incarnation_limit\n")
     nodes = [b"n%d" % number for number in range(4)]
     text = b" ".join(b"{node, %s, []}." % node for node in nodes)
@@ -260,7 +270,8 @@ def main():
         sys.exit(__doc__)
     program = os.path.abspath(sys.argv[1])
     passed = failed = 0
-    for tests in (rows, examples, term_faults, command_lines, large_inputs, long_chains, several_sessions, failing_devices, refused_memory):
+    for tests in (rows, examples, term_faults, command_lines, large_inputs, long_chains, several_sessions, failing_devices,
+                  refused_memory, *check_docs.TESTS):
         for name, wrong in tests(program):
             if wrong is None:
                 passed += 1

@@ -10,31 +10,34 @@ use std::alloc::Global;
 static PICKS: [&str; 2] = ["first", "last"];
 
 static ABOUT: &str =
-    "Rehearses maintenance and failures of a cluster of Erlang nodes, forwards and backwards";
+    "Rehearses maintenance and failures of an Erlang cluster, forwards and backwards";
 
 static AFTER_HELP: &str = "\
-The input is a cluster file, a line `===`, and a script:
+Standard input is a cluster file, a line `===`, and a script. From the top of
+the repository this rehearses a crash, and takes it back:
 
-  {node, a@x, []}.
-  {application, web, []}.
-  ===
-  boot a@x
-  start a@x web permanent
-  crash a@x
-  undo
-  show
+./rehearse run << 'EOF'
+{node, a@x, []}.
+{application, web, []}.
+===
+boot a@x
+start a@x web permanent
+crash a@x
+undo
+show
+EOF
 
 `rehearse run --help` lists the commands of a script, `rehearse check --help`
 says what a cluster file holds, and `rehearse sessions --help` how several
-operators share one cluster.
+operators share one cluster. Each line that is printed is explained in
+docs/ANSWERS.md; what a live OTP does otherwise is in docs/LIVE_OTP.md.
 
 Exit status: 0 done, 1 the command line was refused (or help was asked for),
 2 the cluster file was refused, 3 a line of the script is no command,
 4 the input can't be read or the output can't be written, 5 out of memory,
-6 the sessions made no one history.";
+6 the sessions made no one history. A refused command leaves 0.";
 
-static RUN_ABOUT: &str =
-    "Reads a cluster file and a script from standard input, and answers each command";
+static RUN_ABOUT: &str = "Reads a cluster file and a script, and answers each command";
 
 static RUN_AFTER_HELP: &str = "\
 A cluster file has a term for each node, as `{node, a@x, []}.`, and for each
@@ -55,9 +58,11 @@ behind it is a command, is blank, or begins with `#`:
   redo_all        makes all steps again             redo_all
   show            shows the state of the cluster    show
 
-B is true or false, R normal or abnormal. T says what the exit of A does to its
-node: permanent ends it, transient ends it where the exit is abnormal,
-temporary lets it go on.
+N and A are names of the cluster file, without quotes. D is 1 to 10^12, and the
+clock goes up to 10^12 milliseconds; it moves by `tick` alone. B is true or
+false, R normal or abnormal. T says what the exit of A does to its node:
+permanent ends it, transient ends it where the exit is abnormal, temporary lets
+it go on. `crash` stands for an orderly stop of the node too.
 
 A step is answered by `ok` and by what follows from it, one line each:
 
@@ -72,17 +77,27 @@ A step is answered by `ok` and by what follows from it, one line each:
 or by `refused` and the reason; a refused step changes nothing. `undo_all` and
 `redo_all` tell the number of steps. `show` tells the time in milliseconds, each
 node with its mode (down, waiting, up), how often it was started, and what runs,
-waits and is forbidden there, where each distributed application stands (quiet,
-wanted, running, lost), and each timer that is set with the time when it is due.
+waits and is forbidden there, each timer that is set with the time when it is
+due, and where each distributed application stands:
 
-The first line that is no command ends the rehearsal with `bad line K`; lines
-count from 1 behind `===`.
+  app A quiet      it is to run nowhere: not started, stopped, or ended
+  app A wanted     it is to run, and no node can run it now; `wanted N` where it
+                   was lost with N
+  app A running N  it runs at N
+  app A lost N     it ran at N, which ended; its failover timer is set
 
-Example:
+The first line that is no command ends the rehearsal with `bad line K`. K counts
+lines from 1 behind `===`, with blank lines and comments.
 
-  rehearse run < examples/failover-and-takeover.txt";
+docs/ANSWERS.md explains each line, docs/SCRIPTS.md what each command needs,
+docs/RULES.md what follows from it.
 
-static CHECK_ABOUT: &str = "Reads a cluster file from standard input, and says whether it is one";
+Examples:
+
+  ./rehearse run < examples/repaired-node.txt
+  ./rehearse run --pick last < examples/failover-and-takeover.txt";
+
+static CHECK_ABOUT: &str = "Reads a cluster file alone, and says whether it is one";
 
 static CHECK_AFTER_HELP: &str = "\
 A cluster file is a list of terms, each followed by a dot:
@@ -90,33 +105,49 @@ A cluster file is a list of terms, each followed by a dot:
   {node, Name, SysConfig}.      a node, with the list of its sys.config file
   {application, Name, Keys}.    an application, with the list of its .app file
 
-Of the section `kernel` the parameters distributed, permissions,
-sync_nodes_mandatory, sync_nodes_optional and sync_nodes_timeout are read; of a
-section `rehearse`, which is this program's own, `{boot, [{App, Type}]}` and
-`{platform, [Name]}`; of the keys applications, mod and start_phases. All else
-is skipped. A line `===` ends the file; a script behind it is ignored.
+Of the section `kernel` of SysConfig are read:
+
+  distributed           [{App, Nodes}] or [{App, Timeout, Nodes}]; in Nodes a
+                        tuple of names ranks its nodes alike
+  sync_nodes_mandatory  [Node]
+  sync_nodes_optional   [Node]
+  sync_nodes_timeout    Timeout, infinity or undefined
+  permissions           [{App, true}] or [{App, false}]
+
+and of the section `rehearse`, which is this program's own:
+
+  boot                  [{App, Type}]: what the boot script starts, in order;
+                        Type is permanent, transient or temporary
+  platform              [Name]: what runs at the node and isn't rehearsed
+
+Timeout is 0 to 10^12 milliseconds. Of the keys applications, mod and
+start_phases are read. All else is skipped; but floats, maps, binaries and the
+like are refused in skipped parts too. A line `===` ends the file; a script
+behind it is ignored. At most 32 nodes and 64 applications.
 
 The answer is `ok K nodes K applications`, or `cluster refused` and the first
-fault with its code, as `C5 unknown_name` or `C1 T1 syntax line 3`.
+fault with its code, as `C5 unknown_name` or `C1 T1 syntax line 3`: see
+docs/ANSWERS.md. docs/CLUSTER_FILES.md has the format.
 
 Example:
 
-  rehearse check < examples/three-nodes.txt";
+  ./rehearse check < examples/three-nodes.txt";
 
-static SESSIONS_ABOUT: &str =
-    "Reads a cluster file and a script of several sessions, which share the cluster, and tells what they did";
+static SESSIONS_ABOUT: &str = "As run, for several sessions that share one cluster";
 
 static SESSIONS_AFTER_HELP: &str = "\
-The input is that of `rehearse run`, but each command stands behind the number
-of its session, one digit from 1 to 8:
+The input is that of `rehearse run` on standard input, but each command stands
+behind the number of its session, one digit from 1 to 8:
 
-  {node, a@x, []}.
-  {node, b@x, []}.
-  ===
-  1 boot a@x
-  2 boot b@x
-  1 crash a@x
-  2 undo
+./rehearse sessions << 'EOF'
+{node, a@x, []}.
+{node, b@x, []}.
+===
+1 boot a@x
+2 boot b@x
+1 crash a@x
+2 undo
+EOF
 
 Each session is a thread of its own, and makes its commands in their order; how
 the sessions take turns, chance decides. There is one cluster and one trail, so
@@ -127,14 +158,17 @@ is told: for each command, in the order in which they were served,
 
 and its answer as in `rehearse run`, and at last `final` and the state as `show`
 tells it. The log is one that a single operator could have had who makes these
-commands in this order: the program proves this of its own answers.
+commands in this order: the program compares what each session was told with
+it, and ends with status 6 where they differ.
 
 All lines are read first. A line that is no command, or the 65,536th command,
-is told alone: `bad line K`; lines count from 1 behind `===`.
+is told alone: `bad line K`. K counts lines from 1 behind `===`, with blank
+lines and comments. docs/ANSWERS.md explains each line.
 
-Example:
+Examples:
 
-  rehearse sessions < examples/two-operators.txt";
+  ./rehearse sessions < examples/two-operators.txt
+  ./rehearse sessions < examples/one-operator.txt";
 
 /// A program of the command line.
 #[derive(Clone, Copy)]
@@ -162,18 +196,51 @@ pub enum Asked {
 pub fn asked_of(alloc: Global, words: &[String]) -> Asked {
     match program_of(alloc, words) {
         Ok(program) => Asked::For(program),
-        Err(error) => {
-            if error.kind() == ErrorKind::OutOfMemory {
-                Asked::OutOfMemory
-            } else {
-                Asked::Refused(error)
-            }
-        }
+        Err(error) => refused_by(error),
     }
+}
+
+/// A command line with a word that isn't UTF-8 is refused, in the form of `clap`'s other refusals.
+pub fn not_utf8(alloc: Global) -> Asked {
+    match not_utf8_error(alloc) {
+        Ok(error) => refused_by(error),
+        Err(error) => refused_by(error),
+    }
+}
+
+// The command line is refused with this error, or memory was.
+fn refused_by(error: Error) -> Asked {
+    if error.kind() == ErrorKind::OutOfMemory {
+        Asked::OutOfMemory
+    } else {
+        Asked::Refused(error)
+    }
+}
+
+// The error for a word that isn't UTF-8.
+fn not_utf8_error(alloc: Global) -> Result<Error, Error> {
+    let mut command = whole_command(alloc)?;
+    let error = command.error(
+        ErrorKind::InvalidValue,
+        "a word of the command line isn't UTF-8",
+    )?;
+    Ok(error)
 }
 
 // The program that the words name.
 fn program_of(alloc: Global, words: &[String]) -> Result<Program, Error> {
+    let command = whole_command(alloc)?;
+    let matches = command.try_get_matches_from(words)?;
+    match matches.subcommand() {
+        Some(("check", _)) => Ok(Program::Check),
+        Some(("sessions", matches)) => Ok(Program::Sessions(pick_of(matches.get_str("pick")))),
+        Some((_, matches)) => Ok(Program::Run(pick_of(matches.get_str("pick")))),
+        None => Ok(Program::Run(Pick::First)),
+    }
+}
+
+// The command line with its subcommands.
+fn whole_command<'a>(alloc: Global) -> Result<Command<'a>, Error> {
     let command = Command::new(alloc, "rehearse")
         .version("0.1.0")
         .about(ABOUT)
@@ -182,13 +249,7 @@ fn program_of(alloc: Global, words: &[String]) -> Result<Program, Error> {
         .subcommand(run_command(alloc)?)?
         .subcommand(check_command(alloc))?
         .subcommand(sessions_command(alloc)?)?;
-    let matches = command.try_get_matches_from(words)?;
-    match matches.subcommand() {
-        Some(("check", _)) => Ok(Program::Check),
-        Some(("sessions", matches)) => Ok(Program::Sessions(pick_of(matches.get_str("pick")))),
-        Some((_, matches)) => Ok(Program::Run(pick_of(matches.get_str("pick")))),
-        None => Ok(Program::Run(Pick::First)),
-    }
+    Ok(command)
 }
 
 // The choice at a tie.

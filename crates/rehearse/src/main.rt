@@ -3,7 +3,7 @@
 
 mod command_line;
 
-use command_line::{Asked, Program, asked_of};
+use command_line::{Asked, Program, asked_of, not_utf8};
 use rh_app::{RunFault, Watched, run, run_check, run_sessions};
 use std::alloc::Global;
 use std::io::{BufWriter, Write};
@@ -43,26 +43,25 @@ fn rehearse<T: Runtime<A = Global> + Threads + Wait + Sync>(rt: &T, program: Pro
     }
 }
 
-// The words of the command line, or the exit status where there are none.
-fn words_of(rt: &HostRuntime) -> Result<Vec<String>, u8> {
+// The words of the command line, or what it asks where there are none.
+fn words_of(rt: &HostRuntime) -> Result<Vec<String>, Asked> {
     match env::args(rt) {
         Ok(arguments) => match arguments.collect(rt.alloc()) {
             Ok(words) => Ok(words),
-            Err(_) => Err(5),
+            Err(_) => Err(Asked::OutOfMemory),
         },
         Err(error) => {
             if error.kind() == io::ErrorKind::OutOfMemory {
-                return Err(5);
+                return Err(Asked::OutOfMemory);
             }
-            let _ = eprintln!(rt; "error: a word of the command line isn't UTF-8");
-            Err(1)
+            Err(not_utf8(rt.alloc()))
         }
     }
 }
 
-// Does what the words ask, and gives the exit status.
-fn answer<T: Runtime<A = Global> + Threads + Wait + Sync>(rt: &T, words: &[String]) -> u8 {
-    match asked_of(rt.alloc(), words) {
+// Does what was asked, and gives the exit status.
+fn answer<T: Runtime<A = Global> + Threads + Wait + Sync>(rt: &T, asked: Asked) -> u8 {
+    match asked {
         Asked::For(program) => rehearse(rt, program),
         Asked::Refused(error) => {
             let _ = eprint!(rt; "{error}");
@@ -74,7 +73,7 @@ fn answer<T: Runtime<A = Global> + Threads + Wait + Sync>(rt: &T, words: &[Strin
 
 fn main(rt: HostRuntime) -> ExitCode {
     match words_of(&rt) {
-        Ok(words) => ExitCode::from(answer(&rt, words.as_slice())),
-        Err(status) => ExitCode::from(status),
+        Ok(words) => ExitCode::from(answer(&rt, asked_of(rt.alloc(), words.as_slice()))),
+        Err(asked) => ExitCode::from(answer(&rt, asked)),
     }
 }

@@ -1,0 +1,252 @@
+#!/usr/bin/env python3
+"""Checks the documents against the repository and the built program: check_docs.py PROGRAM
+
+In README.md and docs/*.md each link leads somewhere, also within a page. Each command of a block ```console, a line that
+begins with `$ ` (up to the line EOF where it has a <<), is run from the top of the repository with the program in place of
+./rehearse: it prints what stands below it, where a line `...` stands for any lines, writes nothing to standard error, and
+has the exit status 0 (a document shows another one by `; echo "status $?"`). Each block ```erlang is a cluster file that
+`check` accepts. Each command in a help text runs, and docs/help has these texts. Each text that the program can print
+stands in docs/ANSWERS.md. Each definition that docs/RULES.md names stands where it says. Each construct that
+docs/CLUSTER_FILES.md calls refused is.
+
+run_program.py counts these tests too. The last line is 'N passed, M failed'.
+"""
+import glob
+import os
+import re
+import shlex
+import subprocess
+import sys
+
+TOP = os.path.dirname(os.path.dirname(os.path.abspath(__file__)))
+ANSWERS = "docs/ANSWERS.md"
+# The definitions of what the program prints.
+PRINTED = ["rh_trail/specs/Report", "rh_script/specs/Answers", "rh_app/specs/CheckText", "rh_app/specs/Histories",
+           "rh_step/specs/Refusals", "rh_sections/specs/FaultWords", "rh_terms/specs/FaultWords"]
+# Written beside these documents: it may not be there yet.
+TO_COME = {"docs/WRONG_BODIES.md"}
+HELPS = [["--help"], ["run", "--help"], ["check", "--help"], ["sessions", "--help"]]
+
+
+def text_of(name):
+    with open(os.path.join(TOP, name), encoding="utf-8") as file:
+        return file.read()
+
+
+def documents():
+    return ["README.md"] + sorted(os.path.relpath(path, TOP) for path in glob.glob(os.path.join(TOP, "docs", "*.md")))
+
+
+def blocks(text):
+    """The fenced blocks of a document: the line of each, its language and its lines."""
+    found, language = [], None
+    for number, line in enumerate(text.splitlines(), 1):
+        if line.startswith("```"):
+            if language is None:
+                language, begin, lines = line[3:], number, []
+            else:
+                found.append((begin, language, lines))
+                language = None
+        elif language is not None:
+            lines.append(line)
+    return found
+
+
+def prose(text):
+    """A document without its fenced blocks and code in lines."""
+    return re.sub(r"`[^`\n]*`", "``", re.sub(r"(?ms)^```.*?^```$", "", text))
+
+
+def anchors(text):
+    """The anchors of a document's headings."""
+    heads = re.findall(r"(?m)^#+ (.*)$", re.sub(r"(?ms)^```.*?^```$", "", text))
+    shown = [re.sub(r"\[([^\]]*)\]\([^)]*\)", r"\1", head).lower() for head in heads]
+    return {re.sub(r"[^\w\- ]", "", head).replace(" ", "-") for head in shown}
+
+
+def targets(text):
+    """Where the links of a document lead, and the short links that have no target."""
+    plain = prose(text)
+    named = dict(re.findall(r"(?m)^\[([^\]]+)\]: (\S+)$", plain))
+    body = re.sub(r"(?m)^\[[^\]]+\]: \S+$", "", plain)
+    short = {name for name in re.findall(r"\[([^\]\[]+)\](?![(:\[])", body) if name not in named}
+    return re.findall(r"\]\(([^)\s]+)\)", plain) + list(named.values()), short
+
+
+def link_fault(document, target):
+    """What is wrong with a link, or None."""
+    path, _, anchor = target.partition("#")
+    name = os.path.normpath(os.path.join(os.path.dirname(document), path)) if path else document
+    if "://" in target or name in TO_COME or os.path.isdir(os.path.join(TOP, name)):
+        return None
+    if not os.path.exists(os.path.join(TOP, name)):
+        return f"{target}: there is no {name}"
+    if anchor and anchor not in anchors(text_of(name)):
+        return f"{target}: {name} has no such heading"
+    return None
+
+
+def links(program):
+    """Each link leads somewhere, and so does each name of a file in backquotes."""
+    for document in documents():
+        text = text_of(document)
+        found, short = targets(text)
+        named = re.findall(r"`((?:docs|examples|tests)/[\w./-]+)`", text)
+        wrong = [f"[{name}] has no target" for name in sorted(short)]
+        wrong += [fault for fault in (link_fault(document, target) for target in found) if fault]
+        wrong += [f"there is no {name}" for name in named if not os.path.exists(os.path.join(TOP, name))]
+        yield f"links of {document}", "; ".join(wrong) or None
+
+
+def commands(lines):
+    """The commands of a block, each with the lines below it."""
+    found, is_open = [], False
+    for line in lines:
+        if is_open:
+            found[-1][0] += "\n" + line
+            is_open = line != "EOF"
+        elif line.startswith("$ "):
+            found.append([line[2:], []])
+            is_open = "<<" in line
+        elif found:
+            found[-1][1].append(line)
+    return found
+
+
+def shell(program, command):
+    """Runs a command as an operator would who stands at the top of the repository."""
+    line = command.replace("./rehearse", shlex.quote(os.path.abspath(program)))
+    return subprocess.run(["bash", "-c", line], cwd=TOP, stdin=subprocess.DEVNULL, capture_output=True, timeout=300)
+
+
+def shown_fault(done, lines):
+    """What is wrong with a command that should have printed these lines, or None."""
+    pattern = "".join(r"(?:[^\n]*\n)*?" if line == "..." else re.escape(line) + "\n" for line in lines)
+    printed = done.stdout.decode("utf-8", "replace")
+    if done.returncode != 0 or done.stderr:
+        return f"status {done.returncode}, standard error: {done.stderr[:200]}"
+    if re.fullmatch(pattern, printed) is None:
+        return "it prints\n" + printed[:2000]
+    return None
+
+
+def shown_examples(program):
+    """Each example of a document prints what the document shows."""
+    for document in documents():
+        for number, language, lines in blocks(text_of(document)):
+            name = f"{document} line {number}"
+            if language == "console":
+                for command, owed in commands(lines):
+                    yield f"{name}: {command.splitlines()[0]}", shown_fault(shell(program, command), owed)
+            elif language == "erlang":
+                text = "\n".join(lines).encode()
+                done = subprocess.run([program, "check"], input=text, capture_output=True, timeout=300)
+                yield f"{name}: a cluster file", None if done.returncode == 0 else f"{done.stdout}{done.stderr}"
+
+
+def help_examples(program):
+    """Each command in a help text runs when it is pasted, and no line is longer than a terminal's."""
+    for words in HELPS:
+        text = subprocess.run([program] + words, stdin=subprocess.DEVNULL, capture_output=True, timeout=300).stderr.decode()
+        # The line of an option with its values is put together by clap.
+        long = [line for line in text.splitlines() if len(line) > 80 and "[default:" not in line]
+        yield f"{' '.join(words)}: width", f"more than 80 columns: {long}" if long else None
+        pasted = re.findall(r"(?ms)^ *(\./rehearse [^\n]*<< 'EOF'\n.*?^EOF$)", text)
+        pasted += [line for line in re.findall(r"(?m)^ *(\./rehearse .*)$", text) if "<<" not in line]
+        yield f"{' '.join(words)}: examples", None if pasted else "there is none"
+        for command in pasted:
+            done = shell(program, command)
+            is_done = done.returncode == 0 and done.stdout and not done.stderr
+            yield f"{' '.join(words)}: {command.splitlines()[0]}", None if is_done else f"{done}"
+
+
+def printed_texts():
+    """The codes of the sources, and the words of the definitions of what is printed."""
+    texts = set()
+    for path in glob.glob(os.path.join(TOP, "crates", "*", "src", "**", "*.rt"), recursive=True):
+        texts |= set(re.findall(r'"([SCTPV][0-9]+ [a-z_]+[a-z0-9])', text_of(path)))
+    for name in PRINTED:
+        found = re.findall(r'codes "([^"]*)"', text_of(f"crates/{name}.antt"))
+        texts |= {text.replace("\\n", "").strip() for text in found}
+    return sorted(text for text in texts if re.search(r"[A-Za-z]", text))
+
+
+def answers_told(program):
+    """Each text that the program can print stands in the page of answers, and no other code does."""
+    page = text_of(ANSWERS)
+    spans = " ".join(re.findall(r"`([^`\n]*)`", page))
+    owed = printed_texts()
+    missing = [text for text in owed if not re.search(r"(?<!\w)" + re.escape(text) + r"(?!\w)", spans)]
+    yield f"{ANSWERS} has each text that is printed", f"it lacks {missing}" if missing else None
+    codes = {text.split()[0] for text in owed if re.match(r"[SCTPV]\d", text)}
+    strange = sorted(set(re.findall(r"\b[SCTPV][0-9]+\b", page)) - codes)
+    yield f"{ANSWERS} has no other codes", f"nothing prints {strange}" if strange else None
+
+
+def help_links(program):
+    """Each file that a help text names is there."""
+    for words in HELPS:
+        text = subprocess.run([program] + words, stdin=subprocess.DEVNULL, capture_output=True, timeout=300).stderr.decode()
+        names = re.findall(r"(?:docs|examples|tests)/[\w./-]*\w", text)
+        missing = [name for name in names if not os.path.exists(os.path.join(TOP, name))]
+        yield f"{' '.join(words)}: files", f"there is no {missing}" if missing else None
+
+
+def definitions_named(program):
+    """Each definition that the page of rules names stands in the file that it names there."""
+    text = text_of("docs/RULES.md")
+    files = dict(re.findall(r"(?m)^\[([^\]]+)\]: \.\./(\S+)$", text))
+    wrong, names = [], []
+    for part in re.findall(r"(?s)tated by\s(.*?)\*(?:\n|$| )", text):
+        for name, file in re.findall(r"`([^`]+)`|\[([^\]]+)\]", part):
+            if name:
+                names.append(name)
+            else:
+                there = text_of(files[file])
+                wrong += [f"{one} isn't in {file}" for one in names if not re.search(rf"\b{one}\b", there)]
+                names = []
+    yield "docs/RULES.md names definitions where they stand", "; ".join(wrong) or None
+
+
+def constructs_refused(program):
+    """Each construct that the page of cluster files calls refused is refused, where it stands in a skipped section."""
+    table = text_of("docs/CLUSTER_FILES.md").split("| Construct | Example | Answer |\n|---|---|---|\n")[1].split("\n\n")[0]
+    for row in table.splitlines():
+        name, examples, code = [cell.strip() for cell in re.split(r"(?<!\\)\|", row)[1:4]]
+        place = "%s" if "SysConfig" in examples else "{skipped, [%s]}"
+        wrong = []
+        for example in re.findall(r"`([^`]+)`", examples):
+            text = "{node, a, [%s]}." % (place % example.replace("\\|", "|"))
+            done = subprocess.run([program, "check"], input=text.encode(), capture_output=True, timeout=300)
+            if code.split()[0].encode() not in done.stdout.split():
+                wrong.append(f"{example}: {done.stdout}")
+        yield f"refused: {name}", "; ".join(wrong) or None
+
+
+def help_files(program):
+    """What ./rehearse shows before the program is built is what the program says."""
+    for name, words in [("rehearse", ["--help"]), ("version", ["--version"])] + [(w[0], w) for w in HELPS[1:]]:
+        done = subprocess.run([program] + words, stdin=subprocess.DEVNULL, capture_output=True, timeout=300)
+        is_same = done.stderr.decode() == text_of(f"docs/help/{name}.txt")
+        yield f"docs/help/{name}.txt", None if is_same else f"it isn't what the program says to {' '.join(words)}"
+
+
+TESTS = (links, answers_told, definitions_named, constructs_refused, shown_examples, help_examples, help_links, help_files)
+
+
+def main():
+    if len(sys.argv) != 2:
+        sys.exit(__doc__)
+    passed = failed = 0
+    for tests in TESTS:
+        for name, wrong in tests(os.path.abspath(sys.argv[1])):
+            passed += wrong is None
+            failed += wrong is not None
+            if wrong is not None:
+                print(f"FAILED {name}: {wrong}")
+    print(f"{passed} passed, {failed} failed")
+    sys.exit(1 if failed else 0)
+
+
+if __name__ == "__main__":
+    main()
