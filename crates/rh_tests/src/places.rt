@@ -97,7 +97,14 @@ fn sets_of_nodes(rt: HostRuntime) {
     assert!(rt; none.is_empty() && !none.has(Node(0)));
     let ends = none.with(Node(63)).with(Node(0)).with(Node(63));
     assert!(rt; !ends.is_empty());
-    for (node, is_there) in [(0, true), (1, false), (62, false), (63, true), (64, false), (255, false)] {
+    for (node, is_there) in [
+        (0, true),
+        (1, false),
+        (62, false),
+        (63, true),
+        (64, false),
+        (255, false),
+    ] {
         assert!(rt; ends.has(Node(node)) == is_there, "node {node}");
     }
 }

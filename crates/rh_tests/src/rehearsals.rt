@@ -4,7 +4,7 @@ use crate::devices::{Failure, Sink, Source};
 use rh_app::{RunFault, Watched, run};
 use rh_step::Pick;
 use std::alloc::Global;
-use std::io::{Read, Write};
+use std::io::Write;
 use std::process::Abort;
 use std::test::Fail;
 
@@ -91,7 +91,10 @@ fn leaves_a_front(rt: &impl Abort, alloc: Global, call: u32, failure: Failure) -
     let text = TWO_NODES_TEXT.as_bytes();
     let has_failed = sink.bytes.len() < text.len();
     assert!(rt; text.starts_with(sink.bytes.as_slice()), "call {call}");
-    assert!(rt; ended == (if has_failed { "write" } else { "done" }), "call {call}");
+    assert!(rt;
+        ended == (if has_failed { "write" } else { "done" }),
+        "call {call}"
+    );
     has_failed
 }
 
@@ -109,34 +112,11 @@ fn leaves_a_front_after_a_failed_write(rt: HostRuntime) {
     }
 }
 
+// No clause can say that a flush of the wrapper is one of the device.
 #[test]
-fn a_writer_tells_whether_it_failed(rt: HostRuntime) -> Result<(), Fail> {
-    let mut sink = Sink::failing(rt.alloc(), 2, Failure::Full);
-    let mut writer = Watched::new(&mut sink);
-    assert!(rt; !writer.failed());
-    assert_eq!(rt; writer.write(b"abc")?, 3);
-    assert_eq!(rt; writer.write(b"")?, 0);
-    assert!(rt; !writer.failed(), "none of no bytes is no failure");
-    assert_eq!(rt; writer.write(b"de")?, 0);
-    assert!(rt; writer.failed(), "none of two bytes is one");
-    assert_eq!(rt; writer.write(b"fg")?, 2);
-    assert!(rt; writer.failed(), "a failure stays");
-    writer.flush()?;
-    assert_eq!(rt; sink.flushes, 1, "a flush is the inner one");
-    assert_eq!(rt; sink.bytes.as_slice(), b"abcfg".as_slice());
-    Ok(())
-}
-
-#[test]
-fn a_reader_tells_whether_it_failed(rt: HostRuntime) -> Result<(), Fail> {
-    let mut reader = Watched::new(Source::failing(b"ab", 1));
-    let mut buffer = [0u8; 4];
-    assert_eq!(rt; reader.read(&mut buffer)?, 1);
-    assert!(rt; !reader.failed());
-    assert!(rt; reader.read(&mut buffer).is_err());
-    assert!(rt; reader.failed());
-    assert_eq!(rt; reader.read(&mut buffer)?, 1);
-    assert_eq!(rt; buffer[0], b'b');
-    assert!(rt; reader.failed(), "a failure stays");
+fn a_flush_is_the_inner_one(rt: HostRuntime) -> Result<(), Fail> {
+    let mut sink = Sink::new(rt.alloc());
+    Watched::new(&mut sink).flush()?;
+    assert!(rt; sink.flushes == 1);
     Ok(())
 }

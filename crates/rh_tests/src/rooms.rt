@@ -143,7 +143,10 @@ fn a_room_has_1_to_8_sessions(rt: HostRuntime) {
 
 fn fill(rt: &impl Abort, alloc: Global, room: &mut Room, pass: &mut Pass) {
     for _ in 0..Room::LOG_LIMIT {
-        let receipt = room.serve(alloc, pass, Call::Undo).ok().expect(rt, "a receipt");
+        let receipt = room
+            .serve(alloc, pass, Call::Undo)
+            .ok()
+            .expect(rt, "a receipt");
         assert!(rt; receipt.reply.same(&Reply::AtStart) && receipt.call == Call::Undo);
     }
     let fault = room.serve(alloc, pass, Call::Undo).err();
@@ -165,11 +168,16 @@ fn a_pass_is_missing(rt: HostRuntime) {
     let cluster = cluster_of(&rt, rt.alloc(), ONE_NODE);
     let second = open.passes.pop().expect(&rt, "two passes");
     let Open { room, passes } = open;
-    let fault = close(room, passes, &cluster, Pick::First).err().expect(&rt, "a fault");
+    let fault = close(room, passes, &cluster, Pick::First)
+        .err()
+        .expect(&rt, "a fault");
     assert!(rt; fault.why == CloseReason::MissingPass);
     let mut passes = fault.passes;
     assert!(rt; passes.insert(0, second).is_ok());
-    let open = Open { room: fault.room, passes };
+    let open = Open {
+        room: fault.room,
+        passes,
+    };
     let text = closed(&rt, rt.alloc(), open, ONE_NODE, Pick::First);
     assert!(rt; text.is_empty());
 }

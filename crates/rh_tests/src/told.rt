@@ -33,9 +33,11 @@ fn tell_reply(text: &mut String, reply: &Reply) -> Result<(), AllocError> {
         Reply::AtStart => text.push_str("at start\n"),
         Reply::AtEnd => text.push_str("at end\n"),
         Reply::Moved(count) => writeln!(text, "moved {count}"),
-        Reply::Seen { cursor, trail, text: report } => {
-            writeln!(text, "seen {cursor} {trail} {}", report.as_slice().len())
-        }
+        Reply::Seen {
+            cursor,
+            trail,
+            text: report,
+        } => { writeln!(text, "seen {cursor} {trail} {}", report.as_slice().len()) }
     }
 }
 

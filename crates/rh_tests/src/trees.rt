@@ -90,17 +90,25 @@ fn equal_terms_are_the_same(rt: HostRuntime) {
     }
 }
 
+// A term of this name, made by hand.
+fn named(rt: &impl Abort, alloc: Global, name: &str) -> Term {
+    let text = Str::of(String::from_str(alloc, name).ok().expect(rt, "memory"));
+    let copy = text.copy(alloc).ok().expect(rt, "memory");
+    assert!(rt; text.same(&copy));
+    Term::Atom(copy)
+}
+
+fn is_shown(rt: &impl Abort, alloc: Global, terms: &Terms) {
+    let first = terms.as_slice().first().expect(rt, "a term");
+    let copy = first.copy(alloc).ok().expect(rt, "memory");
+    assert!(rt; copy.same(first));
+    are_shown(rt, alloc, terms, "svc,");
+}
+
 #[test]
 fn made_by_hand(rt: HostRuntime) {
-    let text = String::from_str(rt.alloc(), "svc").ok().expect(&rt, "memory");
     let mut items = Vec::new(rt.alloc());
-    let name = Str::of(text);
-    let copy = name.copy(rt.alloc()).ok().expect(&rt, "memory");
-    assert!(rt; name.same(&copy));
-    assert!(rt; items.push(Term::Atom(name)).is_ok());
+    assert!(rt; items.push(named(&rt, rt.alloc(), "svc")).is_ok());
     let terms = Terms::of(items);
-    are_shown(&rt, rt.alloc(), &terms, "svc,");
-    let first = terms.as_slice().first().expect(&rt, "a term");
-    let term = first.copy(rt.alloc()).ok().expect(&rt, "memory");
-    assert!(rt; term.same(first));
+    is_shown(&rt, rt.alloc(), &terms);
 }
