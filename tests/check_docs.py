@@ -23,8 +23,6 @@ ANSWERS = "docs/ANSWERS.md"
 # The definitions of what the program prints.
 PRINTED = ["rh_trail/specs/Report", "rh_script/specs/Answers", "rh_app/specs/CheckText", "rh_app/specs/Histories",
            "rh_step/specs/Refusals", "rh_sections/specs/FaultWords", "rh_terms/specs/FaultWords"]
-# Written beside these documents: it may not be there yet.
-TO_COME = {"docs/WRONG_BODIES.md"}
 HELPS = [["--help"], ["run", "--help"], ["check", "--help"], ["sessions", "--help"]]
 
 
@@ -77,7 +75,7 @@ def link_fault(document, target):
     """What is wrong with a link, or None."""
     path, _, anchor = target.partition("#")
     name = os.path.normpath(os.path.join(os.path.dirname(document), path)) if path else document
-    if "://" in target or name in TO_COME or os.path.isdir(os.path.join(TOP, name)):
+    if "://" in target or os.path.isdir(os.path.join(TOP, name)):
         return None
     if not os.path.exists(os.path.join(TOP, name)):
         return f"{target}: there is no {name}"

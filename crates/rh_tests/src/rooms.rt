@@ -3,7 +3,7 @@
 use crate::support::{CAVE, ONE_NODE, TWO_NODES, cluster_of};
 use crate::told::{Open, closed, opened, tell_calls, tell_kept, tell_served};
 use rh_cluster::Node;
-use rh_room::{CloseReason, Pass, Room, RoomFault, close, open_room};
+use rh_room::{Pass, Room, RoomFault, open_room};
 use rh_step::{Event, Pick};
 use rh_trail::{Call, Reply, Sim, report};
 use std::alloc::Global;
@@ -98,32 +98,30 @@ fn two_sessions_in_turn(rt: HostRuntime) {
     assert_eq!(rt; text.as_str(), LOG);
 }
 
-// What a pass of one room is told in another.
-fn told_abroad(rt: &impl Abort, alloc: Global, open: &mut Open, other: &mut Open, place: usize) {
-    let mut text = String::new(alloc);
-    let pass = other.passes.get_mut(place).expect(rt, "a pass");
-    let told = tell_served(&mut text, alloc, &mut open.room, pass, Call::Look);
-    assert!(rt; told.is_ok());
-    assert_eq!(rt; text.as_str(), "WrongRoom { place: 0 }\n");
-}
-
-// The first session of each room calls there.
+// The first session of a room calls there.
 fn calls_at_home(rt: &impl Abort, alloc: Global, open: &mut Open, call: Call, want: &str) {
     let mut text = String::new(alloc);
     tell_calls(rt, &mut text, alloc, open, [(1, call)].as_slice());
     assert_eq!(rt; text.as_str(), want);
 }
 
-// What a pass was told in another room isn't what this one has, and a room of one has no second session.
+// The first session of another room calls in this one.
+fn calls_abroad(rt: &impl Abort, alloc: Global, open: &mut Open, other: &mut Open) {
+    let mut text = String::new(alloc);
+    let pass = other.passes.get_mut(0).expect(rt, "a pass");
+    let told = tell_served(&mut text, alloc, &mut open.room, pass, Call::Look);
+    assert!(rt; told.is_ok() && open.room.log().len() == 1);
+    assert_eq!(rt; text.as_str(), "WrongRoom { place: 0 }\n");
+}
+
+// What a pass was told in another room isn't what this one has.
 #[test]
 fn a_pass_of_another_room_is_refused(rt: HostRuntime) {
     let mut open = opened(&rt, rt.alloc(), CAVE, 2);
-    let mut other = opened(&rt, rt.alloc(), CAVE, 1);
     calls_at_home(&rt, rt.alloc(), &mut open, Call::Step(BOOT), "0 1 done 0\n");
+    let mut other = opened(&rt, rt.alloc(), CAVE, 1);
     calls_at_home(&rt, rt.alloc(), &mut other, Call::Undo, "0 1 at start\n");
-    told_abroad(&rt, rt.alloc(), &mut open, &mut other, 0);
-    told_abroad(&rt, rt.alloc(), &mut other, &mut open, 1);
-    assert!(rt; open.room.log().len() == 1 && other.room.log().len() == 1);
+    calls_abroad(&rt, rt.alloc(), &mut open, &mut other);
 }
 
 fn is_no_room(rt: &impl Abort, alloc: Global, sessions: u8) {
@@ -161,25 +159,12 @@ fn a_log_has_65535_entries(rt: HostRuntime) {
     fill(&rt, rt.alloc(), &mut open.room, pass);
 }
 
-// A room that lacks the pass of its second session is handed back whole, and closes when that one is there, in any order.
 #[test]
 fn a_pass_is_missing(rt: HostRuntime) {
     let mut open = opened(&rt, rt.alloc(), ONE_NODE, 2);
-    let cluster = cluster_of(&rt, rt.alloc(), ONE_NODE);
-    let second = open.passes.pop().expect(&rt, "two passes");
-    let Open { room, passes } = open;
-    let fault = close(room, passes, &cluster, Pick::First)
-        .err()
-        .expect(&rt, "a fault");
-    assert!(rt; fault.why == CloseReason::MissingPass);
-    let mut passes = fault.passes;
-    assert!(rt; passes.insert(0, second).is_ok());
-    let open = Open {
-        room: fault.room,
-        passes,
-    };
+    assert!(rt; open.passes.pop().is_some());
     let text = closed(&rt, rt.alloc(), open, ONE_NODE, Pick::First);
-    assert!(rt; text.is_empty());
+    assert_eq!(rt; text.as_str(), "MissingPass\n");
 }
 
 // The second pass goes, and that of another room's first session comes in its place.
