@@ -20,6 +20,8 @@ use std::io::{Read, Write};
 ///
 /// A script behind a line `===` is ignored. The input has at most 16,777,216 bytes. Neither device is flushed.
 ///
+/// The contract speaks of the bytes of a reader that tells them; of one that doesn't, as standard input, it says nothing.
+///
 /// # Errors
 /// `Cluster` is the end of the text that was written. `Read` comes where the reader has failed or the input is too
 /// long: nothing was written. `Write` comes where the writer has failed, and `OutOfMemory` where a growth was refused:

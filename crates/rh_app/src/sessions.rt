@@ -37,6 +37,8 @@ use std::thread::Threads;
 /// The log is a history that a single caller could have had, in which each session's commands stand, all and in their
 /// order. Which one it is, the threads decide. The input has at most 16,777,216 bytes. Neither device is flushed.
 ///
+/// The contract speaks of the bytes of a reader that tells them; of one that doesn't, as standard input, it says nothing.
+///
 /// # Errors
 /// `Cluster` and `BadLine` (a line that is no command, or the 65,536th command) are told alone. `Read` comes where the
 /// reader has failed or the input is too long: nothing was written. `Write` comes where the writer has failed, and

@@ -121,7 +121,7 @@ is_listed_at c a n = is_none (spread_of c a) || is_some (group_of c a n)
 
 -- The lists of a cluster fit together: there are parts for each name, as many tests as what they are of, and each number
 -- is that of a node, of an application or of a platform name of the cluster. What a node boots, it boots once, and may
--- start; and each timeout is within its limit.
+-- start; and each timeout of `distributed` is within its limit.
 pub record IsWithin (c : ClusterView) : Type 0 where
   pub nodes : length c.nodes ≡ node_count c
   pub apps : length c.apps ≡ app_count c

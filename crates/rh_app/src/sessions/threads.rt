@@ -1,7 +1,8 @@
 //! The sessions' threads.
 //!
-//! What a thread did, no contract can say. So the room is closed behind them, which compares what each session was told with
-//! the log, and the log is compared with the commands: what is answered then is a history of them, whatever the threads did.
+//! What a thread did to the room behind its lock, no contract says. So the room is closed behind them, which compares what each
+//! session was told with the log, and the log is compared with the commands: what is answered then is a history of them,
+//! whatever the threads did.
 
 ghost use Rattle.std.specs.Prelude.{◌≡◌, ◌≤◌, ◌⊎◌, ◌↔◌, ℕ, map, All, IsTrue, IfOk, IfErr};
 ghost use Rattle.rh_trail.specs.Lone.{opened, sim_after};
