@@ -4,7 +4,7 @@ use Rattle.std.proofs.lemmas.Bool.{cases_lt}
 use Rattle.std.proofs.lemmas.Bool.Decides.{nat_tests}
 use Rattle.std.proofs.lemmas.List.Elements.{All-head, All-tail, All-weaker, All-map}
 use Rattle.rh_trail.specs.SimView.{SimView}
-use Rattle.rh_room.specs.declared.parts.Entry.{Entry}
+use Rattle.rh_room.specs.declared.pass.Entry.{Entry}
 use Rattle.rh_room.specs.Legal.{IsRoom, IsSession}
 use Rattle.rh_script.specs.declared.session_lines.Command.{Command}
 use Rattle.rh_app.specs.Histories.{asked, by_session}

@@ -3,15 +3,15 @@ use Rattle.std.proofs.Common.{◌≡◌, [], ◌∷◌, Some, codes, refl}
 use Rattle.std.specs.Fmt.{digits}
 use Rattle.std.specs.Str.{is_utf8, chars}
 use lib.Utf8.{encode}
-use Rattle.rh_parts.specs.ClusterView.{ClusterView}
+use Rattle.rh_model.specs.ClusterView.{ClusterView}
 use Rattle.rh_state.specs.Numbers.{nodes_of, apps_of}
 use Rattle.rh_state.specs.First.{configured}
 use Rattle.rh_place.specs.declared.choosing.Pick.TheVariants.{First}
 use Rattle.rh_settle.specs.Settling.{moved_by, all_moved}
-use Rattle.rh_change.specs.Readiness.{all_alive, is_ready}
-use Rattle.rh_change.specs.Marking.{mark_all}
-use Rattle.rh_change.specs.ComingUp.{come_up, come_up_if_ready, ready_come_up}
-use Rattle.rh_change.specs.Changes.{booted}
+use Rattle.rh_events.specs.Readiness.{all_alive, is_ready}
+use Rattle.rh_events.specs.Marking.{mark_all}
+use Rattle.rh_events.specs.ComingUp.{come_up, come_up_if_ready, ready_come_up}
+use Rattle.rh_events.specs.Changes.{booted}
 use Rattle.rh_step.specs.Refusals.{refused}
 use Rattle.rh_step.specs.Outcomes.{followed, next}
 use Rattle.rh_trail.specs.Runs.{step}

@@ -3,7 +3,7 @@ use Rattle.std.proofs.Common.{◌≡◌, ◌≤◌, ◌-◌, ◌&&◌, ℕ, List
 use Rattle.std.proofs.lemmas.Bool.Decides.{nat_tests}
 use Rattle.std.proofs.lemmas.List.Elements.{All-nil, All-cons, All-append, All-head, All-tail}
 use Rattle.std.specs.Str.{is_utf8}
-use Rattle.rh_parts.specs.ClusterView.{ClusterView}
+use Rattle.rh_model.specs.ClusterView.{ClusterView}
 use Rattle.rh_room.specs.Legal.{IsSession}
 use Rattle.rh_script.specs.Commands.{words_of, begins_with, command_of}
 use Rattle.rh_script.specs.SessionLines.{command, session_named, asked_by, session_command, session_line_of}

@@ -1,7 +1,7 @@
 -- What a check writes for the bytes that it reads, and how it ends (ours).
 use Rattle.std.specs.Prelude.{ℕ, List, ◌++◌, codes, Option, Some, None, Result, Ok, Err}
 use Rattle.std.specs.Fmt.{decimal}
-use Rattle.rh_parts.specs.ClusterView.{ClusterView, node_count, app_count}
+use Rattle.rh_model.specs.ClusterView.{ClusterView, node_count, app_count}
 use Rattle.rh_cluster.specs.ClusterOf.{cluster_of}
 use Rattle.rh_sections.specs.declared.fault.ClusterFault.{ClusterFault}
 use Rattle.rh_app.specs.declared.fault.RunFault.{RunFault}

@@ -2,13 +2,13 @@
 use Rattle.std.specs.Prelude.{◌≡◌, ℕ, ◌+◌, List, [], ◌∷◌, ◌++◌, length, map, filter, fold, Bool, true, false, ◌==◌, nat_lt, if◌then◌else◌, Option, Some, None, codes}
 use Rattle.std.specs.List.{flat_map}
 use Rattle.std.specs.Fmt.{decimal}
-use Rattle.rh_parts.specs.ClusterView.{ClusterView}
+use Rattle.rh_model.specs.ClusterView.{ClusterView}
 use Rattle.rh_place.specs.declared.choosing.Pick.{Pick}
 use Rattle.rh_state.specs.StateView.{StateView}
 use Rattle.rh_trail.specs.Lone.{opened, sim_after}
 use Rattle.rh_trail.specs.SimView.{state_of}
 use Rattle.rh_trail.specs.Report.{report_text}
-use Rattle.rh_room.specs.declared.parts.Entry.{Entry}
+use Rattle.rh_room.specs.declared.pass.Entry.{Entry}
 use Rattle.rh_room.specs.Legal.{IsLegal, calls, log_limit}
 use Rattle.rh_script.specs.declared.session_lines.Command.{Command}
 use Rattle.rh_script.specs.declared.session_lines.SessionLine.{SessionLine}

@@ -2,7 +2,7 @@
 use Rattle.std.specs.Prelude.{◌≡◌, ℕ, ◌+◌, List, [], ◌∷◌, ◌++◌, map, Bool, true, false, Option, Some, None, Result, Ok, Err}
 use Rattle.std.specs.List.{flat_map}
 use Rattle.std.specs.Io.KnownBytes.{Appends}
-use Rattle.rh_parts.specs.ClusterView.{ClusterView}
+use Rattle.rh_model.specs.ClusterView.{ClusterView}
 use Rattle.rh_cluster.specs.ClusterOf.{cluster_of}
 use Rattle.rh_sections.specs.declared.fault.ClusterFault.{ClusterFault}
 use Rattle.rh_place.specs.declared.choosing.Pick.{Pick}

@@ -2,11 +2,11 @@
 -- commands it is, the threads decide.
 use Rattle.std.specs.Prelude.{◌≡◌, ℕ, List, Bool, Option, Some, None, Result, Ok, Err}
 use Rattle.std.specs.Io.KnownBytes.{Keeps}
-use Rattle.rh_parts.specs.ClusterView.{ClusterView}
+use Rattle.rh_model.specs.ClusterView.{ClusterView}
 use Rattle.rh_cluster.specs.ClusterOf.{cluster_of}
 use Rattle.rh_sections.specs.declared.fault.ClusterFault.{ClusterFault}
 use Rattle.rh_place.specs.declared.choosing.Pick.{Pick}
-use Rattle.rh_room.specs.declared.parts.Entry.{Entry}
+use Rattle.rh_room.specs.declared.pass.Entry.{Entry}
 use Rattle.rh_script.specs.declared.session_lines.Command.{Command}
 use Rattle.rh_script.specs.Lines.{cluster_text, script_lines}
 use Rattle.rh_script.specs.Answers.{fault_text, bad_text}

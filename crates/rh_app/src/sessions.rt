@@ -3,7 +3,7 @@
 ghost use Rattle.std.specs.Prelude.{List, ◌≡◌, ◌++◌, false, map, All, OnOk, IfOk, IfErr, IfSome, None};
 ghost use Rattle.std.specs.List.{flat_map};
 ghost use Rattle.std.specs.String.{string_bytes};
-ghost use Rattle.rh_state.specs.Words.{read};
+ghost use Rattle.rh_state.specs.Stored.{read};
 ghost use Rattle.rh_trail.specs.SimView.{state_of};
 ghost use Rattle.rh_trail.specs.Lone.{opened};
 ghost use Rattle.rh_room.specs.Legal.{IsSession};

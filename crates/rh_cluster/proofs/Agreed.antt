@@ -6,10 +6,10 @@ use Rattle.std.specs.Prelude.{flat_map}
 use Rattle.rh_sections.specs.declared.fault.ClusterFault.{ClusterFault}
 use Rattle.rh_sections.specs.Faults.{first}
 use Rattle.rh_sections.proofs.InTurn.{first-append}
-use Rattle.rh_parts.specs.declared.node.Node.{Node}
+use Rattle.rh_model.specs.declared.node.Node.{Node}
 use Rattle.rh_cluster.specs.declared.shares.Share.{Share}
 use Rattle.rh_cluster.specs.Agreement.{same_group, same_groups, is_involved, first_involved_in, first_involved, mismatch_faults, mismatches, mismatches_with, numbers_below}
-use Rattle.rh_parts.specs.ClusterView.{NodeView}
+use Rattle.rh_model.specs.ClusterView.{NodeView}
 
 and_false : (b c : Bool) → false ≡ c → false ≡ (b && c)
 and_false true c h = h

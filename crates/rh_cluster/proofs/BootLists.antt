@@ -8,19 +8,19 @@ use Rattle.std.proofs.lemmas.List.Elements.{All-nil}
 use Rattle.std.proofs.lemmas.List.Quantifiers.{position-Some}
 use Rattle.std.proofs.lemmas.Option.{same_Some}
 use Rattle.rh_terms.specs.Tree.{Tree}
-use Rattle.rh_parts.specs.declared.node.App.{App}
-use Rattle.rh_parts.specs.declared.parts.Restart.{Restart}
-use Rattle.rh_parts.specs.ClusterView.{app_numbered}
-use Rattle.rh_parts.specs.Names.{KnownNames, is_among}
+use Rattle.rh_model.specs.declared.node.App.{App}
+use Rattle.rh_model.specs.declared.settings.Restart.{Restart}
+use Rattle.rh_model.specs.ClusterView.{app_numbered}
+use Rattle.rh_model.specs.Names.{NamesView, is_among}
 use Rattle.rh_sections.specs.Shapes.{as_atom, as_pair, as_tuple, as_node, as_app, pair_in, ◌>>=◌}
 use Rattle.rh_sections.specs.Faults.{in_turn, list_faults}
-use Rattle.rh_sections.specs.Parts.{app_in, first_atom, atom_faults, name_faults, app_name_faults, pair_faults_by, boot_faults, as_restart, entry_faults, rehearse_keys, rehearse_faults, section_keys, section_faults, parts_faults, parts_faults_by, parts_pass}
-use Rattle.rh_sections.proofs.Words.{not_repeated}
+use Rattle.rh_sections.specs.Sections.{app_in, first_atom, atom_faults, name_faults, app_name_faults, pair_faults_by, boot_faults, as_restart, entry_faults, rehearse_keys, rehearse_faults, section_keys, section_faults, parts_faults, parts_faults_by, parts_pass}
+use Rattle.rh_sections.proofs.Unrepeated.{not_repeated}
 use Rattle.rh_cluster.specs.Headers.{nodes_in}
 use Rattle.rh_cluster.specs.Values.{app_named, boot_entry, elements, elements_under, rehearse_of}
 use Rattle.rh_cluster.proofs.NoFaults.{none_left, none_right, list_none, under_none, All-cons_option, each_once}
 
-module _ (names : KnownNames) where
+module _ (names : NamesView) where
   -- ---- one entry
 
   new_name : (earlier : List (List ℕ)) (o : Option (List ℕ)) (m : List ℕ) → atom_faults (is_among names.apps) earlier o ≡ [] → o ≡ Some m → is_among earlier m ≡ false

@@ -7,7 +7,7 @@ use Rattle.rh_terms.specs.declared.fault.TermFault.{TermFault}
 use Rattle.rh_terms.specs.declared.fault.TermFault.TheVariants as terms
 use Rattle.rh_sections.specs.declared.fault.ClusterFault.{ClusterFault}
 use Rattle.rh_sections.specs.declared.fault.ClusterFault.TheVariants as fault
-use Rattle.rh_parts.specs.ClusterView.{ClusterView}
+use Rattle.rh_model.specs.ClusterView.{ClusterView}
 use Rattle.rh_sections.specs.Faults.{Finds, Gives, first, unless}
 use Rattle.rh_cluster.specs.ClusterOf.{faults_in, cluster_view, cluster_in, cluster_of}
 use Rattle.rh_sections.proofs.Trees.{list_of_trees-trees_from}

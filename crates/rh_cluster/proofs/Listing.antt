@@ -1,4 +1,4 @@
--- Where no pass finds a fault, each application that a node boots is local, or its list has the node.
+-- Where no stage finds a fault, each application that a node boots is local, or its list has the node.
 use Rattle.std.proofs.Common.{◌≡◌, ◌≢◌, ◌<◌, ◌≤◌, ◌||◌, ◌+◌, ℕ, suc, Bool, true, false, not, cond, List, [], ◌∷◌, map, length, get_or, Option, Some, None, is_some, is_none, option_map, option_and_then, unwrap_or, slice_get, position, nat_lt, refl, sym, ap, ◌∙◌, subst, arith}
 use Rattle.std.specs.Prelude.{All, AllPairs}
 use Rattle.std.specs.List.{list_any, filter_map, cons_option, position_or_len}
@@ -11,13 +11,13 @@ use Rattle.std.proofs.lemmas.List.Elements.{All-nil, All-weaker}
 use Rattle.std.proofs.lemmas.List.Sums.{position_or_len_is}
 use Rattle.std.proofs.lemmas.Option.{same_Some, slice_get-map, slice_get_within, slice_get_past, get_or_from_slice_get}
 use Rattle.rh_terms.specs.Tree.{Tree}
-use Rattle.rh_parts.specs.declared.node.Node.{Node}
-use Rattle.rh_parts.specs.declared.node.App.{App}
-use Rattle.rh_parts.specs.declared.parts.Restart.{Restart}
-use Rattle.rh_parts.specs.declared.parts.Spread.{Spread}
-use Rattle.rh_parts.specs.ClusterView.{NodeView, AppView, app_numbered, is_in, is_listed_at}
-use Rattle.rh_parts.specs.Names.{is_among}
-use Rattle.rh_parts.proofs.Texts.{position-map}
+use Rattle.rh_model.specs.declared.node.Node.{Node}
+use Rattle.rh_model.specs.declared.node.App.{App}
+use Rattle.rh_model.specs.declared.settings.Restart.{Restart}
+use Rattle.rh_model.specs.declared.settings.Spread.{Spread}
+use Rattle.rh_model.specs.ClusterView.{NodeView, AppView, app_numbered, is_in, is_listed_at}
+use Rattle.rh_model.specs.Names.{is_among}
+use Rattle.rh_model.proofs.Texts.{position-map}
 use Rattle.rh_sections.specs.declared.fault.ClusterFault.TheVariants as fault
 use Rattle.rh_sections.specs.Shapes.{as_node, as_app, ◌>>=◌}
 use Rattle.rh_cluster.specs.declared.shares.Share.{Share}

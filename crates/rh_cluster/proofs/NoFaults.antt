@@ -1,4 +1,4 @@
--- What follows where a pass finds no fault.
+-- What follows where a stage finds no fault.
 use Rattle.std.proofs.Common.{◌≡◌, ◌≢◌, ◌<◌, ◌||◌, ◌&&◌, ℕ, Bool, true, false, cond, List, [], ◌∷◌, ◌++◌, map, get_or, flat_map, Option, Some, None, unwrap_or, option_map, slice_get, refl, sym, ap, ◌∙◌, subst, arith}
 use Rattle.std.specs.Prelude.{All, AllPairs, zero, suc}
 use Rattle.std.specs.List.{list_any, filter_map, cons_option}
@@ -15,8 +15,8 @@ use Rattle.rh_sections.specs.declared.fault.ClusterFault.{ClusterFault}
 use Rattle.rh_sections.specs.declared.fault.ClusterFault.TheVariants as fault
 use Rattle.rh_sections.specs.Shapes.{as_list, ◌>>=◌}
 use Rattle.rh_sections.specs.Faults.{when, in_turn, in_turn_if_list, list_faults}
-use Rattle.rh_sections.specs.Parts.{has_key, entry_faults, entry_faults_by}
-use Rattle.rh_parts.specs.Names.{is_among}
+use Rattle.rh_sections.specs.Sections.{has_key, entry_faults, entry_faults_by}
+use Rattle.rh_model.specs.Names.{is_among}
 use Rattle.rh_cluster.specs.Agreement.{numbers_below}
 use Rattle.rh_cluster.specs.Values.{elements, elements_if, elements_under, list_or_none, value_if, value_under}
 

@@ -4,7 +4,7 @@ use Rattle.std.specs.Prelude.{Result}
 use Rattle.rh_terms.specs.Tree.{Tree, Trees, list_of_trees}
 use Rattle.rh_terms.specs.Grammar.{terms_of}
 use Rattle.rh_terms.specs.declared.fault.TermFault.{TermFault}
-use Rattle.rh_parts.specs.ClusterView.{ClusterView, IsWithin}
+use Rattle.rh_model.specs.ClusterView.{ClusterView, IsWithin}
 use Rattle.rh_sections.specs.declared.fault.ClusterFault.{ClusterFault}
 use Rattle.rh_sections.specs.Faults.{unless}
 use Rattle.rh_cluster.specs.Headers.{headers_pass}

@@ -6,17 +6,17 @@ use Rattle.std.specs.Str.{is_utf8, chars}
 use lib.Utf8.{encode}
 use Rattle.rh_terms.specs.declared.fault.TermFault.TheVariants as terms
 use Rattle.rh_terms.specs.Bytes.{past}
-use Rattle.rh_terms.specs.Words.{digits_at, integer_at, name_at, quoted, quoted_atom_at}
+use Rattle.rh_terms.specs.Tokens.{digits_at, integer_at, name_at, quoted, quoted_atom_at}
 use Rattle.rh_terms.specs.Grammar.{terms_of, dotted, dot_at, inside, terms_up_to, some_terms, next_at, term_by, word_at}
-use Rattle.rh_parts.specs.declared.parts.Dep.TheVariants.{Listed, Platform}
-use Rattle.rh_parts.specs.declared.parts.Restart.TheVariants.{Temporary}
-use Rattle.rh_parts.specs.declared.parts.SyncWait.TheVariants.{Unset}
-use Rattle.rh_parts.specs.ClusterView.{ClusterView, AppView, app_numbered, deps_of}
+use Rattle.rh_model.specs.declared.settings.Dep.TheVariants.{Listed, Platform}
+use Rattle.rh_model.specs.declared.settings.Restart.TheVariants.{Temporary}
+use Rattle.rh_model.specs.declared.settings.SyncWait.TheVariants.{Unset}
+use Rattle.rh_model.specs.ClusterView.{ClusterView, AppView, app_numbered, deps_of}
 use Rattle.rh_sections.specs.declared.fault.ClusterFault.TheVariants as fault
 use Rattle.rh_sections.specs.NameRule.{is_name}
 use Rattle.rh_sections.specs.Shapes.{as_atom, as_list, as_tuple, as_int, as_pair, as_triple, as_entry, as_headed, as_time}
 use Rattle.rh_sections.specs.Faults.{list_faults}
-use Rattle.rh_sections.specs.Parts.{has_key, entry_faults, word_faults, name_faults, node_name_faults, app_in, app_name_faults, members, desc_faults, as_share, share_faults, as_sync_wait, kernel_faults, as_restart, boot_faults, rehearse_faults, section_faults, dep_faults, key_faults, parts_faults, parts_pass}
+use Rattle.rh_sections.specs.Sections.{has_key, entry_faults, word_faults, name_faults, node_name_faults, app_in, app_name_faults, members, desc_faults, as_share, share_faults, as_sync_wait, kernel_faults, as_restart, boot_faults, rehearse_faults, section_faults, dep_faults, key_faults, parts_faults, parts_pass}
 use Rattle.rh_cluster.specs.Headers.{node_names, app_names, new_name_faults, header_faults, headers_pass}
 use Rattle.rh_cluster.specs.Values.{elements, value_if, elements_under, platform_in_entry, platform_in_section, platform_in_term, with_name, with_first_name, with_platforms, platforms_in, node_named, app_named, boot_entry, forbids, permissions_in, platforms_of, node_view, dep_named, group_in, share_of, shares_in, app_view}
 use Rattle.rh_cluster.specs.Agreement.{same_group, same_share, same_shares, is_involved, first_involved, agreed_shares, agree, mismatch_faults, mismatches, boot_entry_faults, boot_list_faults, agreement_pass}

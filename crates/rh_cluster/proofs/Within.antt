@@ -9,17 +9,17 @@ use Rattle.std.proofs.lemmas.List.Elements.{All-nil, All-cons, All-head, All-tai
 use Rattle.std.proofs.lemmas.List.Quantifiers.{position-Some}
 use Rattle.std.proofs.lemmas.Option.{slice_get-map, slice_get-get_or, same_Some}
 use Rattle.rh_terms.specs.Tree.{Tree}
-use Rattle.rh_parts.specs.declared.node.Node.{Node}
-use Rattle.rh_parts.specs.declared.node.App.{App}
-use Rattle.rh_parts.specs.declared.parts.Dep.{Dep}
-use Rattle.rh_parts.specs.declared.parts.Dep.TheVariants.{Listed, Platform}
-use Rattle.rh_parts.specs.declared.parts.Restart.{Restart}
-use Rattle.rh_parts.specs.declared.parts.Spread.{Spread}
-use Rattle.rh_parts.specs.ClusterView.{NodeView, AppView, IsWithin, numbered, app_numbered, dep_name}
-use Rattle.rh_parts.specs.Names.{KnownNames, is_among}
-use Rattle.rh_parts.specs.Limits.{timeout_limit}
+use Rattle.rh_model.specs.declared.node.Node.{Node}
+use Rattle.rh_model.specs.declared.node.App.{App}
+use Rattle.rh_model.specs.declared.settings.Dep.{Dep}
+use Rattle.rh_model.specs.declared.settings.Dep.TheVariants.{Listed, Platform}
+use Rattle.rh_model.specs.declared.settings.Restart.{Restart}
+use Rattle.rh_model.specs.declared.settings.Spread.{Spread}
+use Rattle.rh_model.specs.ClusterView.{NodeView, AppView, IsWithin, numbered, app_numbered, dep_name}
+use Rattle.rh_model.specs.Names.{NamesView, is_among}
+use Rattle.rh_model.specs.Limits.{timeout_limit}
 use Rattle.rh_sections.specs.Shapes.{as_atom, as_pair, atoms, ◌>>=◌}
-use Rattle.rh_sections.specs.Parts.{as_share, as_restart, members, parts_pass}
+use Rattle.rh_sections.specs.Sections.{as_share, as_restart, members, parts_pass}
 use Rattle.rh_cluster.specs.declared.shares.Share.{Share}
 use Rattle.rh_cluster.specs.Headers.{every_platform, nodes_in, apps_in, headers_pass}
 use Rattle.rh_cluster.specs.Values.{node_named, app_named, boot_entry, dep_named, dep_by, elements, elements_under, kernel_of, rehearse_of, node_view, app_view, group_in, share_of, shares_in, spread_for, spread_named, permissions_in, platforms_of, forbids, time_or_zero, platforms_in}
@@ -63,13 +63,13 @@ in_mapped f g P each xs i = subst (λ o. All P (unwrap_or (option_map g o) [])) 
 
 -- ---- names
 
-node_within : (names : KnownNames) (t : Tree) (n : Node) → node_named names t ≡ Some n → n.0 < length names.nodes
+node_within : (names : NamesView) (t : Tree) (n : Node) → node_named names t ≡ Some n → n.0 < length names.nodes
 unfolding node_named
 node_within names t n h =
     at_value (as_atom t) (λ name. option_map numbered (position (bytes_eq name) names.nodes)) (λ m. m.0 < length names.nodes)
     (λ name m _ k. at_position (bytes_eq name) names.nodes numbered (λ m. m.0 < length names.nodes) (λ i inside. inside) (position (bytes_eq name) names.nodes) refl m k) n h
 
-app_within : (names : KnownNames) (t : Tree) (a : App) → app_named names t ≡ Some a → a.0 < length names.apps
+app_within : (names : NamesView) (t : Tree) (a : App) → app_named names t ≡ Some a → a.0 < length names.apps
 unfolding app_named
 app_within names t a h =
     at_value (as_atom t) (λ name. option_map app_numbered (position (bytes_eq name) names.apps)) (λ b. b.0 < length names.apps)
@@ -77,7 +77,7 @@ app_within names t a h =
 
 -- ---- what applications depend on
 
-module _ (names : KnownNames) (P : Dep → Type 0) (each_app : (i : ℕ) → i < length names.apps → P (Listed (app_numbered i))) (each_platform : (i : ℕ) → i < length names.platforms → P (Platform i)) where
+module _ (names : NamesView) (P : Dep → Type 0) (each_app : (i : ℕ) → i < length names.apps → P (Listed (app_numbered i))) (each_platform : (i : ℕ) → i < length names.platforms → P (Platform i)) where
   dep_by_within : (name : List ℕ) (a : Option ℕ) → position (bytes_eq name) names.apps ≡ a → (p : Option ℕ) → position (bytes_eq name) names.platforms ≡ p → (d : Dep) → dep_by a p ≡ Some d → P d
   dep_by_within name (Some a) e p f d h = subst P (same_Some (Listed (app_numbered a)) d h) (each_app a (position-Some (bytes_eq name) names.apps a [] e).0)
   dep_by_within name None e (Some p) f d h = subst P (same_Some (Platform p) d h) (each_platform p (position-Some (bytes_eq name) names.platforms p [] f).0)
@@ -95,7 +95,7 @@ some_inside xs i inside = ap is_some (slice_get-get_or xs i [] inside)
 
 -- ---- entries
 
-boot_within : (names : KnownNames) (t : Tree) (e : App × Restart) → boot_entry names t ≡ Some e → e.0.0 < length names.apps
+boot_within : (names : NamesView) (t : Tree) (e : App × Restart) → boot_entry names t ≡ Some e → e.0.0 < length names.apps
 unfolding boot_entry
 boot_within names t e h =
     at_value (as_pair t) (λ p. app_named names p.0 >>= λ app. as_restart p.1 >>= λ restart. Some (app, restart)) (λ (e : App × Restart). e.0.0 < length names.apps)
@@ -103,49 +103,49 @@ boot_within names t e h =
     (λ app e named k. at_value (as_restart p.1) (λ restart. Some (app, restart)) (λ (e : App × Restart). e.0.0 < length names.apps)
     (λ restart e _ k. subst (λ (e : App × Restart). e.0.0 < length names.apps) (same_Some (app, restart) e k) (app_within names p.0 app named)) e k) e k) e h
 
-abbrev AreNodes : KnownNames → List Node → Type 0
+abbrev AreNodes : NamesView → List Node → Type 0
 AreNodes names ns = All (λ (n : Node). n.0 < length names.nodes) ns
 
-nodes_within : (names : KnownNames) (ts : List Tree) → AreNodes names (filter_map (node_named names) ts)
+nodes_within : (names : NamesView) (ts : List Tree) → AreNodes names (filter_map (node_named names) ts)
 nodes_within names ts = All-filter_map (λ (n : Node). n.0 < length names.nodes) (node_named names) (node_within names) ts
 
-abbrev AreGroups : KnownNames → List (List Node) → Type 0
+abbrev AreGroups : NamesView → List (List Node) → Type 0
 AreGroups names gs = All (AreNodes names) gs
 
-groups_within : (names : KnownNames) (ts : List Tree) → AreGroups names (map (group_in names) ts)
+groups_within : (names : NamesView) (ts : List Tree) → AreGroups names (map (group_in names) ts)
 unfolding group_in
 groups_within names [] = All-nil (AreNodes names)
 groups_within names (t ∷ ts) = All-cons (AreNodes names) (group_in names t) (map (group_in names) ts) (nodes_within names (members t)) (groups_within names ts)
 
 -- the nodes of a spread are among the names, and its timeout is within the limit
-abbrev IsSpread : KnownNames → Spread → Type 0
+abbrev IsSpread : NamesView → Spread → Type 0
 IsSpread names s = AreGroups names s.groups × (s.timeout ≤ timeout_limit)
 
-abbrev IsShare : KnownNames → Share → Type 0
+abbrev IsShare : NamesView → Share → Type 0
 IsShare names s = IsSpread names s.spread
 
-abbrev share_made : KnownNames → (Tree × Option Tree × Tree) → App → Share
+abbrev share_made : NamesView → (Tree × Option Tree × Tree) → App → Share
 share_made names p app = record { app = app; spread = record { timeout = time_or_zero p.1; groups = map (group_in names) (elements p.2) } }
 
-share_within : (names : KnownNames) (t : Tree) (s : Share) → share_of names t ≡ Some s → IsShare names s
+share_within : (names : NamesView) (t : Tree) (s : Share) → share_of names t ≡ Some s → IsShare names s
 unfolding share_of
 share_within names t s h =
     at_value (as_share t) (λ p. app_named names p.0 >>= λ app. Some (share_made names p app)) (IsShare names)
     (λ p s _ k. at_value (app_named names p.0) (λ app. Some (share_made names p app)) (IsShare names)
     (λ app s _ k. subst (IsShare names) (same_Some (share_made names p app) s k) (groups_within names (elements p.2), time_within p.1)) s k) s h
 
-shares_in_within : (names : KnownNames) (config : Tree) → All (IsShare names) (shares_in names config)
+shares_in_within : (names : NamesView) (config : Tree) → All (IsShare names) (shares_in names config)
 unfolding shares_in
 shares_in_within names config = All-filter_map (IsShare names) (share_of names) (share_within names) (elements_under (codes "distributed") (kernel_of config))
 
-shares_at_within : (names : KnownNames) (ns : List (List ℕ × Tree)) (i : ℕ) → All (IsShare names) (unwrap_or (slice_get (map (λ (n : List ℕ × Tree). shares_in names n.1) ns) i) [])
+shares_at_within : (names : NamesView) (ns : List (List ℕ × Tree)) (i : ℕ) → All (IsShare names) (unwrap_or (slice_get (map (λ (n : List ℕ × Tree). shares_in names n.1) ns) i) [])
 shares_at_within names ns i = subst (λ o. All (IsShare names) (unwrap_or o [])) (sym (slice_get-map (λ (n : List ℕ × Tree). shares_in names n.1) ns i)) (by (slice_get ns i))
   where
     by : (o : Option (List ℕ × Tree)) → All (IsShare names) (unwrap_or (option_map (λ (n : List ℕ × Tree). shares_in names n.1) o) [])
     by None = All-nil (IsShare names)
     by (Some n) = shares_in_within names n.1
 
-agreed_within : (names : KnownNames) (ts : List Tree) → All (IsShare names) (agreed_shares (all_shares names ts))
+agreed_within : (names : NamesView) (ts : List Tree) → All (IsShare names) (agreed_shares (all_shares names ts))
 unfolding agreed_shares all_shares
 agreed_within names ts = by (first_involved (all_shares names ts))
   where
@@ -157,23 +157,23 @@ one_of : (b : Bool) (x : Spread) (o : Option Spread) (s : Spread) (Q : Spread �
 one_of true x o s Q here rest h = subst Q (same_Some x s h) here
 one_of false x o s Q here rest h = rest h
 
-spread_for_within : (names : KnownNames) (shares : List Share) → All (IsShare names) shares → (a : App) (s : Spread) → spread_for shares a ≡ Some s → IsSpread names s
+spread_for_within : (names : NamesView) (shares : List Share) → All (IsShare names) shares → (a : App) (s : Spread) → spread_for shares a ≡ Some s → IsSpread names s
 spread_for_within names [] all a s h = cc
 spread_for_within names (x ∷ xs) all a s h =
     one_of (x.app.0 == a.0) x.spread (spread_for xs a) s (IsSpread names) (All-head (IsShare names) x xs all)
     (spread_for_within names xs (All-tail (IsShare names) x xs all) a s) h
 
-spread_within : (names : KnownNames) (shares : List Share) → All (IsShare names) shares → (name : List ℕ) (s : Spread) → spread_named names shares name ≡ Some s → IsSpread names s
+spread_within : (names : NamesView) (shares : List Share) → All (IsShare names) shares → (name : List ℕ) (s : Spread) → spread_named names shares name ≡ Some s → IsSpread names s
 spread_within names shares all name s h =
     at_value (option_map app_numbered (position (bytes_eq name) names.apps)) (spread_for shares) (IsSpread names) (λ a s _ k. spread_for_within names shares all a s k) s h
 
 -- ---- the cluster
 
-length-permissions : (names : KnownNames) (entries : List Tree) → length (permissions_in names entries) ≡ length names.apps
+length-permissions : (names : NamesView) (entries : List Tree) → length (permissions_in names entries) ≡ length names.apps
 unfolding permissions_in
 length-permissions names entries = length-map names.apps (λ name. not (list_any (forbids name) entries))
 
-length-platforms : (names : KnownNames) (items : List Tree) → length (platforms_of names items) ≡ length names.platforms
+length-platforms : (names : NamesView) (items : List Tree) → length (platforms_of names items) ≡ length names.platforms
 unfolding platforms_of
 length-platforms names items = length-map names.platforms (λ name. is_among every_platform name || is_among (atoms items) name)
 
@@ -230,7 +230,7 @@ module _ (ts : List Tree) where
       at_place (IsInOrder (names_of ts)) node_at (λ (v : NodeView). v.boot) (AllPairs (λ (e later : App × Restart). e.0.0 ≢ later.0.0)) (λ i j d l k. absurd (omega arith))
       (boot_once_in (names_of ts)) (nodes_in ts) (in_order (names_of ts) (platforms_in ts).known ts none) n
 
-  -- terms in which no pass finds a fault
+  -- terms in which no stage finds a fault
   pub view_is_within : headers_pass ts ≡ [] → faults_behind_headers ts ≡ [] → IsWithin (cluster_view ts)
   unfolding cluster_view names_of node_views app_views faults_behind_headers
   view_is_within headers behind = record {

@@ -1,17 +1,17 @@
--- The fourth pass: what the nodes must agree on (kernel(6), `distributed` and `sync_nodes_timeout`).
+-- The fourth stage: what the nodes must agree on (kernel(6), `distributed` and `sync_nodes_timeout`).
 use Rattle.std.specs.Prelude.{ℕ, List, [], ◌∷◌, ◌++◌, length, flat_map, Bool, true, false, not, ◌&&◌, ◌||◌, ◌==◌, slice_get, Option, Some, None, unwrap_or, if◌then◌else◌}
 use Rattle.std.specs.List.{list_any, list_all, range_with_len}
 use Rattle.std.specs.Option.{option_map}
 use Rattle.rh_sections.specs.declared.fault.ClusterFault.{ClusterFault}
 use Rattle.rh_sections.specs.declared.fault.ClusterFault.TheVariants as fault
-use Rattle.rh_parts.specs.declared.node.Node.{Node}
-use Rattle.rh_parts.specs.declared.node.App.{App}
-use Rattle.rh_parts.specs.declared.parts.Restart.{Restart}
-use Rattle.rh_parts.specs.declared.parts.Spread.{Spread}
-use Rattle.rh_parts.specs.declared.parts.SyncWait.{SyncWait}
-use Rattle.rh_parts.specs.declared.parts.SyncWait.TheVariants.{Unset, After, Forever}
+use Rattle.rh_model.specs.declared.node.Node.{Node}
+use Rattle.rh_model.specs.declared.node.App.{App}
+use Rattle.rh_model.specs.declared.settings.Restart.{Restart}
+use Rattle.rh_model.specs.declared.settings.Spread.{Spread}
+use Rattle.rh_model.specs.declared.settings.SyncWait.{SyncWait}
+use Rattle.rh_model.specs.declared.settings.SyncWait.TheVariants.{Unset, After, Forever}
 use Rattle.rh_cluster.specs.declared.shares.Share.{Share}
-use Rattle.rh_parts.specs.ClusterView.{NodeView, numbered, is_in}
+use Rattle.rh_model.specs.ClusterView.{NodeView, numbered, is_in}
 use Rattle.rh_sections.specs.Faults.{when}
 use Rattle.rh_cluster.specs.Values.{spread_for}
 
@@ -117,6 +117,6 @@ boot_entry_faults shares n app = when (is_elsewhere n (spread_for shares app)) f
 unfoldable pub boot_list_faults : List Share → List NodeView → ℕ → List ClusterFault
 boot_list_faults shares nodes n = flat_map (λ (e : App × Restart). boot_entry_faults shares n e.0) (boot_at nodes n)
 
--- The fourth pass: the involved nodes agree; then, by node, each boot entry is listed.
+-- The fourth stage: the involved nodes agree; then, by node, each boot entry is listed.
 unfoldable pub agreement_pass : List (List ℕ) → List NodeView → List (List Share) → List ClusterFault
 agreement_pass names nodes all = mismatches names nodes all ++ flat_map (boot_list_faults (agreed_shares all) nodes) (numbers_below (length nodes))

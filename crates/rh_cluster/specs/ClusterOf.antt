@@ -6,36 +6,36 @@ use Rattle.rh_terms.specs.declared.fault.TermFault.{TermFault}
 use Rattle.rh_sections.specs.declared.fault.ClusterFault.{ClusterFault}
 use Rattle.rh_sections.specs.declared.fault.ClusterFault.TheVariants as fault
 use Rattle.rh_cluster.specs.declared.shares.Share.{Share}
-use Rattle.rh_parts.specs.ClusterView.{ClusterView, NodeView, AppView}
+use Rattle.rh_model.specs.ClusterView.{ClusterView, NodeView, AppView}
 use Rattle.rh_sections.specs.Faults.{unless}
-use Rattle.rh_parts.specs.Names.{KnownNames}
+use Rattle.rh_model.specs.Names.{NamesView}
 use Rattle.rh_cluster.specs.Headers.{nodes_in, apps_in, node_names, app_names, headers_pass}
-use Rattle.rh_sections.specs.Parts.{parts_pass}
+use Rattle.rh_sections.specs.Sections.{parts_pass}
 use Rattle.rh_cluster.specs.Values.{platforms_in, node_view, shares_in, app_view}
 use Rattle.rh_cluster.specs.Agreement.{agreed_shares, agreement_pass}
 
 -- the names of these terms
-unfoldable pub names_of : List Tree → KnownNames
+unfoldable pub names_of : List Tree → NamesView
 names_of ts = record { nodes = node_names ts; apps = app_names ts; platforms = (platforms_in ts).first }
 
 -- what the terms say of each node
-unfoldable pub node_views : KnownNames → List Tree → List NodeView
+unfoldable pub node_views : NamesView → List Tree → List NodeView
 node_views names ts = map (λ (n : List ℕ × Tree). node_view names n.1) (nodes_in ts)
 
 -- the `distributed` of each node
-unfoldable pub all_shares : KnownNames → List Tree → List (List Share)
+unfoldable pub all_shares : NamesView → List Tree → List (List Share)
 all_shares names ts = map (λ (n : List ℕ × Tree). shares_in names n.1) (nodes_in ts)
 
 -- what they say of each application
-unfoldable pub app_views : KnownNames → List Share → List Tree → List AppView
+unfoldable pub app_views : NamesView → List Share → List Tree → List AppView
 app_views names shares ts = map (λ (a : List ℕ × Tree). app_view names shares a.0 a.1) (apps_in ts)
 
--- the faults of the third and the fourth pass
+-- the faults of the third and the fourth stage
 unfoldable pub faults_behind_headers : List Tree → List ClusterFault
 faults_behind_headers ts =
     parts_pass (names_of ts) (platforms_in ts).known ts ++ agreement_pass (names_of ts).nodes (node_views (names_of ts) ts) (all_shares (names_of ts) ts)
 
--- the faults of the second, the third and the fourth pass, in this order
+-- the faults of the second, the third and the fourth stage, in this order
 unfoldable pub faults_in : List Tree → List ClusterFault
 faults_in ts = headers_pass ts ++ faults_behind_headers ts
 
@@ -53,6 +53,6 @@ abbrev pub cluster_in : Result Trees TermFault → Result ClusterView ClusterFau
 cluster_in (Ok ts) = unless (faults_in (list_of_trees ts)) (cluster_view (list_of_trees ts))
 cluster_in (Err f) = Err (fault.Term f)
 
--- The first pass reads the terms. Then the first fault of the passes over the terms counts, and else this is the cluster.
+-- The first stage reads the terms. Then the first fault of the stages over the terms counts, and else this is the cluster.
 unfoldable pub cluster_of : List ℕ → Result ClusterView ClusterFault
 cluster_of bytes = cluster_in (terms_of bytes)

@@ -1,9 +1,9 @@
--- The second pass: the shape and the name of each term.
+-- The second stage: the shape and the name of each term.
 use Rattle.std.specs.Prelude.{ℕ, List, [], ◌∷◌, ◌++◌, length, map, filter_map, Bool, false, not, ◌||◌, ◌==◌, nat_le, Option, Some, None, codes}
 use Rattle.rh_terms.specs.Tree.{Tree}
 use Rattle.rh_sections.specs.declared.fault.ClusterFault.{ClusterFault}
 use Rattle.rh_sections.specs.declared.fault.ClusterFault.TheVariants as fault
-use Rattle.rh_parts.specs.Names.{is_among}
+use Rattle.rh_model.specs.Names.{is_among}
 use Rattle.rh_sections.specs.NameRule.{is_name}
 use Rattle.rh_sections.specs.Shapes.{as_node, as_app}
 use Rattle.rh_sections.specs.Faults.{when, in_turn}
@@ -39,6 +39,6 @@ header_faults_by nodes apps None None = fault.BadValue ∷ []
 unfoldable pub header_faults : List (List ℕ) → List (List ℕ) → Tree → List ClusterFault
 header_faults nodes apps t = header_faults_by nodes apps (as_node t) (as_app t)
 
--- The second pass: each term in order; at last, whether there is a node.
+-- The second stage: each term in order; at last, whether there is a node.
 unfoldable pub headers_pass : List Tree → List ClusterFault
 headers_pass ts = in_turn (λ earlier t. header_faults (node_names earlier) (app_names earlier) t) [] ts ++ when (length (node_names ts) == 0) fault.NoNodes

@@ -3,7 +3,7 @@ pub mod Values
 pub mod Agreement
 pub mod ClusterOf
 pub mod Laws
-pub use Rattle.rh_parts.specs.ClusterView
-pub use Rattle.rh_parts.specs.TermWords
+pub use Rattle.rh_model.specs.ClusterView
+pub use Rattle.rh_model.specs.TermSymbols
 pub use Rattle.rh_sections.specs.Faults
-pub use Rattle.rh_sections.specs.FaultWords
+pub use Rattle.rh_sections.specs.FaultTexts

@@ -4,22 +4,22 @@ use Rattle.std.specs.List.{list_any, list_all}
 use Rattle.std.specs.Option.{option_map, option_or}
 use Rattle.std.specs.Str.{bytes_eq}
 use Rattle.rh_terms.specs.Tree.{Tree}
-use Rattle.rh_parts.specs.declared.node.Node.{Node}
-use Rattle.rh_parts.specs.declared.node.App.{App}
-use Rattle.rh_parts.specs.declared.parts.Dep.{Dep}
-use Rattle.rh_parts.specs.declared.parts.Dep.TheVariants.{Listed, Platform}
-use Rattle.rh_parts.specs.declared.parts.Restart.{Restart}
-use Rattle.rh_parts.specs.declared.parts.SyncWait.{SyncWait}
-use Rattle.rh_parts.specs.declared.parts.SyncWait.TheVariants.{Unset}
-use Rattle.rh_parts.specs.declared.parts.Spread.{Spread}
-use Rattle.rh_parts.specs.declared.platforms.Platforms.{Platforms}
+use Rattle.rh_model.specs.declared.node.Node.{Node}
+use Rattle.rh_model.specs.declared.node.App.{App}
+use Rattle.rh_model.specs.declared.settings.Dep.{Dep}
+use Rattle.rh_model.specs.declared.settings.Dep.TheVariants.{Listed, Platform}
+use Rattle.rh_model.specs.declared.settings.Restart.{Restart}
+use Rattle.rh_model.specs.declared.settings.SyncWait.{SyncWait}
+use Rattle.rh_model.specs.declared.settings.SyncWait.TheVariants.{Unset}
+use Rattle.rh_model.specs.declared.settings.Spread.{Spread}
+use Rattle.rh_model.specs.declared.platforms.Platforms.{Platforms}
 use Rattle.rh_cluster.specs.declared.shares.Share.{Share}
 use Rattle.rh_sections.specs.Shapes.{as_atom, as_list, as_pair, as_entry, as_node, as_time, atoms, ◌>>=◌}
-use Rattle.rh_parts.specs.Names.{is_among, KnownNames}
+use Rattle.rh_model.specs.Names.{is_among, NamesView}
 use Rattle.rh_cluster.specs.Headers.{every_platform}
-use Rattle.rh_parts.specs.ClusterView.{NodeView, AppView, numbered, app_numbered}
-use Rattle.rh_parts.specs.TermWords.{TermWord, words_of}
-use Rattle.rh_sections.specs.Parts.{as_sync_wait, as_truth, as_restart, as_share, members, atom_is}
+use Rattle.rh_model.specs.ClusterView.{NodeView, AppView, numbered, app_numbered}
+use Rattle.rh_model.specs.TermSymbols.{TermSymbol, symbols_of}
+use Rattle.rh_sections.specs.Sections.{as_sync_wait, as_truth, as_restart, as_share, members, atom_is}
 
 -- ---- entries
 
@@ -93,11 +93,11 @@ platforms_in ts = fold with_platforms (record { first = every_platform; known = 
 -- ---- names
 
 -- the node of this name
-unfoldable pub node_named : KnownNames → Tree → Option Node
+unfoldable pub node_named : NamesView → Tree → Option Node
 node_named names t = as_atom t >>= λ name. option_map numbered (position (bytes_eq name) names.nodes)
 
 -- the application of this name
-unfoldable pub app_named : KnownNames → Tree → Option App
+unfoldable pub app_named : NamesView → Tree → Option App
 app_named names t = as_atom t >>= λ name. option_map app_numbered (position (bytes_eq name) names.apps)
 
 -- ---- a node
@@ -112,7 +112,7 @@ abbrev pub wait_in : Option Tree → SyncWait
 wait_in None = Unset
 wait_in (Some t) = unwrap_or (as_sync_wait t) Unset
 
-unfoldable pub boot_entry : KnownNames → Tree → Option (App × Restart)
+unfoldable pub boot_entry : NamesView → Tree → Option (App × Restart)
 boot_entry names t = as_pair t >>= λ e. app_named names e.0 >>= λ app. as_restart e.1 >>= λ restart. Some (app, restart)
 
 abbrev pub is_false : Option Bool → Bool
@@ -128,15 +128,15 @@ unfoldable pub forbids : List ℕ → Tree → Bool
 forbids name t = forbids_by name (as_pair t)
 
 -- for each application, whether it is permitted: it is, unless it is forbidden
-unfoldable pub permissions_in : KnownNames → List Tree → List Bool
+unfoldable pub permissions_in : NamesView → List Tree → List Bool
 permissions_in names entries = map (λ name. not (list_any (forbids name) entries)) names.apps
 
 -- for each platform name, whether the node has it
-unfoldable pub platforms_of : KnownNames → List Tree → List Bool
+unfoldable pub platforms_of : NamesView → List Tree → List Bool
 platforms_of names items = map (λ name. is_among every_platform name || is_among (atoms items) name) names.platforms
 
 -- what a SysConfig says of its node
-unfoldable pub node_view : KnownNames → Tree → NodeView
+unfoldable pub node_view : NamesView → Tree → NodeView
 node_view names config = record {
   mandatory = filter_map (node_named names) (elements_under (codes "sync_nodes_mandatory") (kernel_of config));
   optional = filter_map (node_named names) (elements_under (codes "sync_nodes_optional") (kernel_of config));
@@ -154,7 +154,7 @@ dep_by None (Some p) = Some (Platform p)
 dep_by None None = None
 
 -- what this name stands for in `applications`
-unfoldable pub dep_named : KnownNames → Tree → Option Dep
+unfoldable pub dep_named : NamesView → Tree → Option Dep
 dep_named names t = as_atom t >>= λ name. dep_by (position (bytes_eq name) names.apps) (position (bytes_eq name) names.platforms)
 
 -- the module and the argument of {Module, StartArg}
@@ -163,8 +163,8 @@ start_in None = None
 start_in (Some t) = as_entry t
 
 -- the argument in prefix notation
-abbrev pub start_view : Option (List ℕ × Tree) → Option (List ℕ × List TermWord)
-start_view o = option_map (λ (s : List ℕ × Tree). (s.0, words_of s.1)) o
+abbrev pub start_view : Option (List ℕ × Tree) → Option (List ℕ × List TermSymbol)
+start_view o = option_map (λ (s : List ℕ × Tree). (s.0, symbols_of s.1)) o
 
 abbrev pub is_list_there : Option Tree → Bool
 is_list_there None = false
@@ -177,16 +177,16 @@ time_or_zero None = 0
 time_or_zero (Some t) = unwrap_or (as_time t) 0
 
 -- the nodes of a group
-unfoldable pub group_in : KnownNames → Tree → List Node
+unfoldable pub group_in : NamesView → Tree → List Node
 group_in names t = filter_map (node_named names) (members t)
 
 -- an entry of `distributed`
-unfoldable pub share_of : KnownNames → Tree → Option Share
+unfoldable pub share_of : NamesView → Tree → Option Share
 share_of names t = as_share t >>= λ s. app_named names s.0 >>= λ app.
     Some (record { app = app; spread = record { timeout = time_or_zero s.1; groups = map (group_in names) (elements s.2) } })
 
 -- the entries of a node's `distributed`
-unfoldable pub shares_in : KnownNames → Tree → List Share
+unfoldable pub shares_in : NamesView → Tree → List Share
 shares_in names config = filter_map (share_of names) (elements_under (codes "distributed") (kernel_of config))
 
 -- the entry of an application
@@ -195,11 +195,11 @@ spread_for [] a = None
 spread_for (s ∷ shares) a = if s.app.0 == a.0 then Some s.spread else spread_for shares a
 
 -- the application of this name, as the nodes that take part in distribution know it
-abbrev pub spread_named : KnownNames → List Share → List ℕ → Option Spread
+abbrev pub spread_named : NamesView → List Share → List ℕ → Option Spread
 spread_named names shares name = option_map app_numbered (position (bytes_eq name) names.apps) >>= spread_for shares
 
 -- what Keys say of their application
-unfoldable pub app_view : KnownNames → List Share → List ℕ → Tree → AppView
+unfoldable pub app_view : NamesView → List Share → List ℕ → Tree → AppView
 app_view names shares name keys = record {
   deps = filter_map (dep_named names) (elements_under (codes "applications") (elements keys));
   start_arg = start_view (start_in (value_under (codes "mod") (elements keys)));

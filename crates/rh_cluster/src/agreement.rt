@@ -1,15 +1,15 @@
-//! The fourth pass: what the nodes must agree on.
+//! The fourth stage: what the nodes must agree on.
 
 ghost use Rattle.std.specs.Prelude.{◌≡◌, ◌<◌, ◌≤◌, map, flat_map, length, slice_get, Some, IfOk};
 ghost use Rattle.std.specs.List.{list_any, list_all};
 ghost use Rattle.std.specs.Option.{option_map};
-ghost use Rattle.rh_parts.specs.ClusterView.{is_in, numbered};
+ghost use Rattle.rh_model.specs.ClusterView.{is_in, numbered};
 ghost use Rattle.rh_sections.specs.Faults.{Finds};
 ghost use Rattle.rh_cluster.specs.Values.{spread_for};
 ghost use Rattle.rh_cluster.specs.Agreement.{same_group, same_groups, same_share, same_shares, same_wait, shares_at, wait_at, lists_node, names_node, is_involved, first_involved, agreed_shares, agree, mismatch_faults, mismatches, boot_entry_faults, boot_list_faults, boot_at, agreement_pass, numbers_below};
 
 use crate::shares::{Share, Shares};
-use rh_parts::{App, Group, NameSet, Node, NodeParts, Restart, Spread, SyncWait, is_in};
+use rh_model::{App, Group, NameSet, Node, NodeSettings, Restart, Spread, SyncWait, is_in};
 use rh_sections::ClusterFault;
 use rh_terms::{OutOfMemory, Str};
 use std::alloc::Global;
@@ -139,20 +139,20 @@ fn shares_at(all: &[Shares], node: usize) -> &[Share]
     }
 }
 
-fn wait_at(nodes: &[NodeParts], node: usize) -> SyncWait
+fn wait_at(nodes: &[NodeSettings], node: usize) -> SyncWait
     ensures { result ≡ wait_at nodes.now node }
 {
     match nodes.get(node) {
-        Some(parts) => parts.sync_wait(),
+        Some(settings) => settings.sync_wait(),
         None => SyncWait::Unset,
     }
 }
 
-fn boot_at(nodes: &[NodeParts], node: usize) -> &[(App, Restart)]
+fn boot_at(nodes: &[NodeSettings], node: usize) -> &[(App, Restart)]
     ensures { result.now ≡ boot_at nodes.now node }
 {
     match nodes.get(node) {
-        Some(parts) => parts.boot(),
+        Some(settings) => settings.boot(),
         None => &[],
     }
 }
@@ -203,7 +203,7 @@ pub fn spread_for(shares: &[Share], app: App) -> Option<&Spread>
 }
 
 #[tactic(auto, unfolding(crate::specs::Agreement::agree))]
-fn agree(nodes: &[NodeParts], all: &[Shares], this: usize, that: usize) -> bool
+fn agree(nodes: &[NodeSettings], all: &[Shares], this: usize, that: usize) -> bool
     ensures { result ≡ agree nodes.now all.now this that }
 {
     same_wait(wait_at(nodes, this), wait_at(nodes, that))
@@ -221,7 +221,7 @@ fn copy_of(alloc: Global, name: &str) -> Result<Str, OutOfMemory>
 fn check_mismatch(
     alloc: Global,
     names: &NameSet,
-    nodes: &[NodeParts],
+    nodes: &[NodeSettings],
     all: &[Shares],
     first: usize,
     node: usize,
@@ -241,7 +241,7 @@ fn check_mismatch(
 fn check_mismatches(
     alloc: Global,
     names: &NameSet,
-    nodes: &[NodeParts],
+    nodes: &[NodeSettings],
     all: &[Shares],
 ) -> Result<(), ClusterFault>
     requires named { length names.now ≡ length all.now }
@@ -276,7 +276,7 @@ fn check_boot_entry(shares: &[Share], node: usize, app: App) -> Result<(), Clust
 }
 
 #[tactic(auto, unfolding(crate::specs::Agreement::boot_list_faults))]
-fn check_boot_list(shares: &[Share], nodes: &[NodeParts], node: usize) -> Result<(), ClusterFault>
+fn check_boot_list(shares: &[Share], nodes: &[NodeSettings], node: usize) -> Result<(), ClusterFault>
     requires { node < 256 }
     ensures { Finds result (boot_list_faults shares.now nodes.now node) }
 {
@@ -287,7 +287,7 @@ fn check_boot_list(shares: &[Share], nodes: &[NodeParts], node: usize) -> Result
     Ok(())
 }
 
-fn check_boot_lists(shares: &[Share], nodes: &[NodeParts]) -> Result<(), ClusterFault>
+fn check_boot_lists(shares: &[Share], nodes: &[NodeSettings]) -> Result<(), ClusterFault>
     requires { length nodes.now ≤ 32 }
     ensures { Finds result (flat_map (boot_list_faults shares.now nodes.now) (numbers_below (length nodes.now))) }
 {
@@ -302,7 +302,7 @@ fn check_boot_lists(shares: &[Share], nodes: &[NodeParts]) -> Result<(), Cluster
 pub fn check_agreement(
     alloc: Global,
     names: &NameSet,
-    nodes: &[NodeParts],
+    nodes: &[NodeSettings],
     all: &[Shares],
 ) -> Result<(), ClusterFault>
     requires named { length names.now ≡ length all.now }

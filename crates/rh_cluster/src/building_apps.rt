@@ -8,7 +8,7 @@ ghost use Rattle.rh_cluster.specs.Values.{dep_named, start_in, is_list_there, sp
 use crate::agreement::spread_for;
 use crate::shares::Share;
 use crate::values::{elements, elements_under, value_under};
-use rh_parts::{App, AppParts, Dep, Names, Spread, copy_of_spread, copy_of_start};
+use rh_model::{App, AppSettings, Dep, Names, Spread, copy_of_spread, copy_of_start};
 use rh_sections::shapes;
 use rh_terms::{OutOfMemory, Term};
 use std::alloc::Global;
@@ -60,21 +60,21 @@ fn spread_named<'a>(names: &Names, shares: &'a [Share], name: &str) -> Option<&'
     spread_for(shares, names.app_of(name)?)
 }
 
-/// The parts of the application of this name and these keys.
+/// The settings of the application of this name and these keys.
 #[tactic(auto, unfolding(crate::specs::Values::app_view))]
-pub fn app_parts(
+pub fn app_settings(
     alloc: Global,
     names: &Names,
     shares: &[Share],
     name: &str,
     keys: &Term,
-) -> Result<AppParts, OutOfMemory>
-    ensures { IfOk result (λ parts. parts ≡ app_view names.now shares.now name.now (tree_of keys.now)) }
+) -> Result<AppSettings, OutOfMemory>
+    ensures { IfOk result (λ settings. settings ≡ app_view names.now shares.now name.now (tree_of keys.now)) }
 {
     let keys = elements(keys);
     let deps = deps_named(alloc, names, elements_under("applications", keys))?;
     let start = copy_of_start(alloc, start_in(value_under("mod", keys)))?;
     let phases = is_list_there(value_under("start_phases", keys));
     let spread = copy_of_spread(alloc, spread_named(names, shares, name))?;
-    Ok(AppParts::of(deps, start, phases, spread))
+    Ok(AppSettings::of(deps, start, phases, spread))
 }

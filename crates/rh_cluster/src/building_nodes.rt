@@ -5,16 +5,16 @@ ghost use Rattle.std.specs.List.{list_any};
 ghost use Rattle.std.specs.Option.{option_map};
 ghost use Rattle.rh_terms.specs.Tree.{tree_of};
 ghost use Rattle.std.specs.Str.{bytes_eq};
-ghost use Rattle.rh_parts.specs.Limits.{IsWithinLimit};
-ghost use Rattle.rh_parts.specs.Names.{is_among};
+ghost use Rattle.rh_model.specs.Limits.{IsWithinLimit};
+ghost use Rattle.rh_model.specs.Names.{is_among};
 ghost use Rattle.rh_cluster.specs.Headers.{every_platform};
 ghost use Rattle.rh_sections.specs.Shapes.{as_atom, atoms};
-ghost use Rattle.rh_sections.specs.Parts.{as_truth, atom_is};
+ghost use Rattle.rh_sections.specs.Sections.{as_truth, atom_is};
 ghost use Rattle.rh_cluster.specs.Values.{node_named, boot_entry, is_false, forbids, permissions_in, platforms_of, wait_in, node_view};
 
 use crate::headers::is_platform_everywhere;
 use crate::values::{app_named, elements, elements_under, node_named, value_under};
-use rh_parts::{App, Names, Node, NodeParts, Restart, SyncWait};
+use rh_model::{App, Names, Node, NodeSettings, Restart, SyncWait};
 use rh_sections::{repeats_atom, restart, shapes, sync_wait, truth};
 use rh_terms::{OutOfMemory, Term};
 use std::alloc::Global;
@@ -149,10 +149,10 @@ fn platforms_of(alloc: Global, names: &Names, terms: &[Term]) -> Result<Vec<bool
     Ok(platforms)
 }
 
-/// The parts of the node of this configuration.
+/// The settings of the node of this configuration.
 #[tactic(auto, unfolding(crate::specs::Values::node_view))]
-pub fn node_parts(alloc: Global, names: &Names, config: &Term) -> Result<NodeParts, OutOfMemory>
-    ensures { IfOk result (λ parts. parts ≡ node_view names.now (tree_of config.now)) }
+pub fn node_settings(alloc: Global, names: &Names, config: &Term) -> Result<NodeSettings, OutOfMemory>
+    ensures { IfOk result (λ settings. settings ≡ node_view names.now (tree_of config.now)) }
 {
     let sections = elements(config);
     let kernel = elements_under("kernel", sections);
@@ -163,5 +163,5 @@ pub fn node_parts(alloc: Global, names: &Names, config: &Term) -> Result<NodePar
     let boot = boot_entries(alloc, names, elements_under("boot", rehearse))?;
     let permissions = permissions_in(alloc, names, elements_under("permissions", kernel))?;
     let platforms = platforms_of(alloc, names, elements_under("platform", rehearse))?;
-    Ok(NodeParts::of(mandatory, optional, sync_wait, boot, permissions, platforms))
+    Ok(NodeSettings::of(mandatory, optional, sync_wait, boot, permissions, platforms))
 }

@@ -8,7 +8,7 @@ ghost use Rattle.rh_cluster.specs.Values.{time_or_zero, group_in, elements, shar
 use crate::building_nodes::nodes_named;
 use crate::shares::{Share, Shares};
 use crate::values::{app_named, elements, elements_under};
-use rh_parts::{Group, Groups, Names, Spread};
+use rh_model::{Group, Groups, Names, Spread};
 use rh_sections::{members, shapes, share};
 use rh_terms::{OutOfMemory, Term};
 use std::alloc::Global;

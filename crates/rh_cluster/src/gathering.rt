@@ -8,7 +8,7 @@ ghost use Rattle.rh_sections.specs.Shapes.{as_atom, atoms};
 ghost use Rattle.rh_cluster.specs.Values.{with_name, with_first_name, with_platforms, platform_in_entry, platform_in_section, platform_in_term, platforms_in, elements};
 
 use crate::values::{elements, value_if};
-use rh_parts::{NameSet, Platforms};
+use rh_model::{NameSet, Platforms};
 use rh_sections::shapes;
 use rh_terms::{OutOfMemory, Term};
 use std::alloc::Global;

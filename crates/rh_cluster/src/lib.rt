@@ -15,5 +15,5 @@ mod values;
 
 pub use laws::clusters_are_within;
 pub use reading::read_cluster;
-pub use rh_parts::{App, Cluster, Dep, Group, Groups, Node, Restart, Spread, SyncWait};
+pub use rh_model::{App, Cluster, Dep, Group, Groups, Node, Restart, Spread, SyncWait};
 pub use rh_sections::ClusterFault;

@@ -1,6 +1,6 @@
 //! The entries of `distributed`.
 
-use rh_parts::{App, Spread};
+use rh_model::{App, Spread};
 use std::marker::Model;
 
 /// An entry of a node's `distributed`: an application, and where it may run.

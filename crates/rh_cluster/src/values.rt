@@ -3,10 +3,10 @@
 ghost use Rattle.std.specs.Prelude.{◌≡◌, map};
 ghost use Rattle.std.specs.Option.{option_map};
 ghost use Rattle.rh_terms.specs.Tree.{tree_of};
-ghost use Rattle.rh_parts.specs.Names.{KnownNames};
+ghost use Rattle.rh_model.specs.Names.{NamesView};
 ghost use Rattle.rh_cluster.specs.Values.{elements, value_if, value_under, elements_under, node_named, app_named};
 
-use rh_parts::{App, Names, Node};
+use rh_model::{App, Names, Node};
 use rh_sections::shapes;
 use rh_terms::Term;
 

@@ -5,7 +5,7 @@ use Rattle.std.specs.Int.RustNames.{bit_or}
 use Rattle.std.proofs.lemmas.Bool.Decides.{nat_tests, eqb_tells}
 use Rattle.std.proofs.lemmas.Nat.{one_shl, pow_pos, or_lt}
 use Rattle.std.proofs.lemmas.Nat.Bits.{and_pow, bit_at-lt, bit_at-zero, bit_at_above, bit_at_set_same, bit_at_set_other, same_from_bits}
-use Rattle.rh_parts.specs.declared.node.Node.{Node}
+use Rattle.rh_model.specs.declared.node.Node.{Node}
 use Rattle.rh_state.specs.Numbers.{same_node}
 use Rattle.rh_place.specs.Sets.{NodeBits, has}
 

@@ -4,10 +4,10 @@ use Rattle.std.specs.List.{filter, list_any, position}
 use Rattle.std.specs.Option.{option_map, option_and_then}
 use Rattle.std.proofs.lemmas.Bool.{eq-eqb}
 use Rattle.std.proofs.lemmas.Bool.Decides.{nat_tests, eqb_tells}
-use Rattle.rh_parts.specs.declared.node.Node.{Node}
-use Rattle.rh_parts.specs.declared.node.App.{App}
-use Rattle.rh_parts.specs.declared.parts.Spread.{Spread}
-use Rattle.rh_parts.specs.ClusterView.{is_in, group_of, spread_of}
+use Rattle.rh_model.specs.declared.node.Node.{Node}
+use Rattle.rh_model.specs.declared.node.App.{App}
+use Rattle.rh_model.specs.declared.settings.Spread.{Spread}
+use Rattle.rh_model.specs.ClusterView.{is_in, group_of, spread_of}
 use Rattle.rh_state.specs.StateView.{StateView, running_count}
 use Rattle.rh_place.specs.Placing.{best}
 use Rattle.rh_place.specs.declared.choosing.Pick.{Pick}

@@ -1,12 +1,12 @@
 -- Three nodes n1, n2 and n3, and an application with the groups n1 and {n2, n3}, computed from the definitions.
 use Rattle.std.proofs.Common.{◌≡◌, Bool, true, false, Some, None, [], ◌∷◌, refl}
-use Rattle.rh_parts.specs.ClusterView.{ClusterView, NodeView, AppView, is_in}
-use Rattle.rh_parts.specs.declared.node.Node.{Node}
-use Rattle.rh_parts.specs.declared.node.App.{App}
-use Rattle.rh_parts.specs.declared.parts.Dep.TheVariants.{Listed, Platform}
-use Rattle.rh_parts.specs.declared.parts.SyncWait.TheVariants.{Unset}
-use Rattle.rh_state.specs.declared.parts.Kind.TheVariants.{Normal, Failover}
-use Rattle.rh_state.specs.declared.parts.Mode.TheVariants.{Down, Up}
+use Rattle.rh_model.specs.ClusterView.{ClusterView, NodeView, AppView, is_in}
+use Rattle.rh_model.specs.declared.node.Node.{Node}
+use Rattle.rh_model.specs.declared.node.App.{App}
+use Rattle.rh_model.specs.declared.settings.Dep.TheVariants.{Listed, Platform}
+use Rattle.rh_model.specs.declared.settings.SyncWait.TheVariants.{Unset}
+use Rattle.rh_state.specs.declared.status.Kind.TheVariants.{Normal, Failover}
+use Rattle.rh_state.specs.declared.status.Mode.TheVariants.{Down, Up}
 use Rattle.rh_state.specs.First.{first}
 use Rattle.rh_state.specs.StateView.{StateView}
 use Rattle.rh_place.specs.declared.choosing.Pick.TheVariants.{First, Last}

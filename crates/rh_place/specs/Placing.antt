@@ -2,12 +2,12 @@
 use Rattle.std.specs.Prelude.{◌&&◌, not, List, [], find, Bool, Option, unwrap_or}
 use Rattle.std.specs.List.{filter, list_all}
 use Rattle.std.specs.Option.{option_map}
-use Rattle.rh_parts.specs.ClusterView.{ClusterView, is_platform, deps_of, spread_of}
-use Rattle.rh_parts.specs.declared.node.Node.{Node}
-use Rattle.rh_parts.specs.declared.node.App.{App}
-use Rattle.rh_parts.specs.declared.parts.Dep.{Dep}
-use Rattle.rh_parts.specs.declared.parts.Dep.TheVariants.{Listed, Platform}
-use Rattle.rh_parts.specs.declared.parts.Spread.{Spread}
+use Rattle.rh_model.specs.ClusterView.{ClusterView, is_platform, deps_of, spread_of}
+use Rattle.rh_model.specs.declared.node.Node.{Node}
+use Rattle.rh_model.specs.declared.node.App.{App}
+use Rattle.rh_model.specs.declared.settings.Dep.{Dep}
+use Rattle.rh_model.specs.declared.settings.Dep.TheVariants.{Listed, Platform}
+use Rattle.rh_model.specs.declared.settings.Spread.{Spread}
 use Rattle.rh_state.specs.StateView.{StateView, mode_of, is_up, is_started, is_allowed, runs_at, running_count}
 use Rattle.rh_place.specs.Picks.{first_given, lightest}
 

@@ -1,7 +1,7 @@
 -- Sets of nodes (ours).
 use Rattle.std.specs.Prelude.{ℕ, Bool, ◌==◌}
 use Rattle.std.specs.Int.{bit_at}
-use Rattle.rh_parts.specs.declared.node.Node.{Node}
+use Rattle.rh_model.specs.declared.node.Node.{Node}
 
 -- what is kept of a set: bit n is 1 where node n is in it
 pub record NodeBits : Type 0 where

@@ -1,10 +1,10 @@
 -- How an application starts (application(3), start/2).
 use Rattle.std.specs.Prelude.{◌&&◌, not, Option, Some, None, if◌then◌else◌}
-use Rattle.rh_parts.specs.ClusterView.{has_phases}
-use Rattle.rh_parts.specs.declared.node.Node.{Node}
-use Rattle.rh_parts.specs.declared.node.App.{App}
-use Rattle.rh_state.specs.declared.parts.Kind.{Kind}
-use Rattle.rh_state.specs.declared.parts.Kind.TheVariants.{Normal, Failover}
+use Rattle.rh_model.specs.ClusterView.{has_phases}
+use Rattle.rh_model.specs.declared.node.Node.{Node}
+use Rattle.rh_model.specs.declared.node.App.{App}
+use Rattle.rh_state.specs.declared.status.Kind.{Kind}
+use Rattle.rh_state.specs.declared.status.Kind.TheVariants.{Normal, Failover}
 use Rattle.rh_state.specs.Numbers.{same_node}
 use Rattle.rh_state.specs.StateView.{StateView}
 

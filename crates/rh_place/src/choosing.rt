@@ -3,18 +3,18 @@
 ghost use Rattle.std.specs.Prelude.{◌≡◌, ◌<◌, ◌↔◌, ◌&&◌, ◌==◌, true, [], ◌∷◌, ◌++◌, All, Some, position, IsNone, IfSome, map};
 ghost use Rattle.std.specs.List.{filter, list_any};
 ghost use Rattle.std.specs.Option.{option_to_list};
-ghost use Rattle.rh_parts.specs.declared.node.Node.{Node};
-ghost use Rattle.rh_parts.specs.ClusterView.{app_count, is_in, group_of};
+ghost use Rattle.rh_model.specs.declared.node.Node.{Node};
+ghost use Rattle.rh_model.specs.ClusterView.{app_count, is_in, group_of};
 ghost use Rattle.rh_state.specs.StateView.{running_count};
 ghost use Rattle.rh_state.specs.Shape.{IsNodeOf};
-ghost use Rattle.rh_state.specs.Words.{read};
+ghost use Rattle.rh_state.specs.Stored.{read};
 ghost use Rattle.rh_place.specs.Sets.{has};
 ghost use Rattle.rh_place.specs.Picks.{first_given, least, picked};
 ghost use Rattle.rh_place.specs.Placing.{is_operational, groups_of, best, candidates};
 
 use crate::node_set::NodeSet;
 use crate::operating::operational;
-use rh_parts::{App, Group, Node};
+use rh_model::{App, Group, Node};
 use rh_state::State;
 
 /// Which of several equally good nodes is taken (ours: the manual leaves it open).

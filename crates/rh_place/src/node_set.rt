@@ -1,11 +1,11 @@
 //! Sets of nodes.
 
 ghost use Rattle.std.specs.Prelude.{◌≡◌, ◌<◌, ◌↔◌, ◌||◌, false, IsTrue};
-ghost use Rattle.rh_parts.specs.declared.node.Node.{Node};
+ghost use Rattle.rh_model.specs.declared.node.Node.{Node};
 ghost use Rattle.rh_state.specs.Numbers.{same_node};
 ghost use Rattle.rh_place.specs.Sets.{has};
 
-use rh_parts::Node;
+use rh_model::Node;
 use std::marker::Model;
 
 /// A set of nodes, in one machine word.

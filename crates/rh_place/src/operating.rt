@@ -1,11 +1,11 @@
 //! What an application needs in order to run at a node.
 
 ghost use Rattle.std.specs.Prelude.{◌≡◌, ◌<◌, IsSome};
-ghost use Rattle.rh_parts.specs.ClusterView.{node_count, app_count, dep_name};
-ghost use Rattle.rh_state.specs.Words.{read};
+ghost use Rattle.rh_model.specs.ClusterView.{node_count, app_count, dep_name};
+ghost use Rattle.rh_state.specs.Stored.{read};
 ghost use Rattle.rh_place.specs.Placing.{dep_runs, deps_run, missing_dep, is_operational};
 
-use rh_parts::{App, Dep, Node};
+use rh_model::{App, Dep, Node};
 use rh_state::{Mode, Place, State};
 
 // Does what an application depends on run at a node?

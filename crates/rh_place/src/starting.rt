@@ -1,11 +1,11 @@
 //! How an application starts.
 
 ghost use Rattle.std.specs.Prelude.{◌≡◌, ◌<◌};
-ghost use Rattle.rh_parts.specs.ClusterView.{app_count};
-ghost use Rattle.rh_state.specs.Words.{read};
+ghost use Rattle.rh_model.specs.ClusterView.{app_count};
+ghost use Rattle.rh_state.specs.Stored.{read};
 ghost use Rattle.rh_place.specs.Starting.{start_kind};
 
-use rh_parts::{App, Node};
+use rh_model::{App, Node};
 use rh_state::{Kind, State};
 
 /// How an application starts at the second node after it was lost with the first, if with one (application(3),

@@ -3,30 +3,30 @@ use denote.Param.Send.{IsSend, sendable}
 use Rattle.std.proofs.Crossing.{crosses}
 use Rattle.rh_terms.proofs.term.Term.TheLaws.TheKnot as terms
 use Rattle.rh_terms.proofs.text.Str.TheSendSync as text
-use Rattle.rh_parts.proofs.parts.Dep.TheSendSync as dep
-use Rattle.rh_parts.proofs.parts.Restart.TheSendSync as restart
-use Rattle.rh_parts.proofs.parts.Spread.TheSendSync as spread
-use Rattle.rh_parts.proofs.known.Names.TheSendSync as names
-use Rattle.rh_parts.proofs.node_parts.NodeParts.TheSendSync as node_parts
-use Rattle.rh_parts.specs.contracts.app_parts.AppParts as AppParts
-use Rattle.rh_parts.specs.contracts.cluster.Cluster as Cluster
+use Rattle.rh_model.proofs.settings.Dep.TheSendSync as dep
+use Rattle.rh_model.proofs.settings.Restart.TheSendSync as restart
+use Rattle.rh_model.proofs.settings.Spread.TheSendSync as spread
+use Rattle.rh_model.proofs.names.Names.TheSendSync as names
+use Rattle.rh_model.proofs.node_settings.NodeSettings.TheSendSync as node_settings
+use Rattle.rh_model.specs.contracts.app_settings.AppSettings as AppSettings
+use Rattle.rh_model.specs.contracts.cluster.Cluster as Cluster
 use Rattle.rh_state.proofs.apps.AppList.TheSendSync as app_list
-use Rattle.rh_state.proofs.parts.Kind.TheSendSync as kind
-use Rattle.rh_state.proofs.parts.Mode.TheSendSync as mode
-use Rattle.rh_state.proofs.parts.Standing.TheSendSync as standing
+use Rattle.rh_state.proofs.status.Kind.TheSendSync as kind
+use Rattle.rh_state.proofs.status.Mode.TheSendSync as mode
+use Rattle.rh_state.proofs.status.Standing.TheSendSync as standing
 use Rattle.rh_state.proofs.table.Row.TheSendSync as table
 use Rattle.rh_state.specs.contracts.state.State as State
 use Rattle.rh_wheel.proofs.wheel.Wheel.TheSendSync as wheel
-use Rattle.rh_change.proofs.event.Event.TheSendSync as event
+use Rattle.rh_events.proofs.event.Event.TheSendSync as event
 use Rattle.rh_trail.specs.contracts.sim.Sim as Sim
-use Rattle.rh_room.proofs.parts.Entry.TheSendSync as entry
+use Rattle.rh_room.proofs.pass.Entry.TheSendSync as entry
 use Rattle.rh_room.specs.contracts.room.Room as Room
 
-app_parts_send : IsSend AppParts.the_row
+app_parts_send : IsSend AppSettings.the_row
 app_parts_send = search (dep.the_send, spread.the_send, text.the_send, crosses, terms.crosses, sendable) depth 60 fits 20000
 
 cluster_send : IsSend Cluster.the_row
-cluster_send = search (app_parts_send, names.the_send, node_parts.the_send, crosses, sendable) depth 60 fits 20000
+cluster_send = search (app_parts_send, names.the_send, node_settings.the_send, crosses, sendable) depth 60 fits 20000
 
 state_send : IsSend State.the_row
 state_send = search (cluster_send, app_list.the_send, kind.the_send, mode.the_send, standing.the_send, restart.the_send, table.the_send, wheel.the_send, crosses, sendable) depth 60 fits 20000

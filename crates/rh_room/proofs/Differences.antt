@@ -7,8 +7,8 @@ use Rattle.std.proofs.lemmas.Bool.Decides.{nat_tests}
 use Rattle.std.proofs.lemmas.List.{append_cancel_left, take_all, take_more, length-drop, get_or-drop, get_or_default}
 use Rattle.std.proofs.lemmas.List.Elements.{All-nil, All-cons, All-head, All-tail, filter-append}
 use Rattle.std.proofs.Math.Seq.{drop-cons}
-use Rattle.rh_room.specs.declared.parts.Entry.{Entry}
-use Rattle.rh_room.specs.declared.parts.Receipt.{Receipt}
+use Rattle.rh_room.specs.declared.pass.Entry.{Entry}
+use Rattle.rh_room.specs.declared.pass.Receipt.{Receipt}
 use Rattle.rh_room.specs.Legal.{InOrder, of_from, of_session, receipt}
 use Rattle.rh_room.specs.Closing.{at_place, IsFirstDifference}
 use Rattle.rh_room.proofs.Shares.{AreFrom, from_earlier, of_from-from, of_session-split, of_session-more}

@@ -2,7 +2,7 @@
 use Rattle.std.proofs.Common.{◌≡◌, ℕ, ◌<◌, ◌==◌, List, [], ◌∷◌, ◌++◌, length, Option, Some, None, Bool, true, false, cond, refl, sym, ap, ◌∙◌, arith}
 use Rattle.std.proofs.lemmas.List.{length_push, map-append}
 use Rattle.std.proofs.lemmas.List.Elements.{All-push}
-use Rattle.rh_change.specs.declared.event.Event.{Event}
+use Rattle.rh_events.specs.declared.event.Event.{Event}
 use Rattle.rh_step.specs.declared.refusal.Refusal.{Refusal}
 use Rattle.rh_step.specs.Refusals.{refused}
 use Rattle.rh_trail.specs.declared.call.Call.{Call}
@@ -10,7 +10,7 @@ use Rattle.rh_trail.specs.declared.call.Call.TheVariants as call
 use Rattle.rh_trail.specs.declared.call.Reply.{Reply}
 use Rattle.rh_trail.specs.SimView.{SimView, state_of}
 use Rattle.rh_trail.specs.Lone.{Served, answered, served, stepped, opened, replies, sim_after}
-use Rattle.rh_room.specs.declared.parts.Entry.{Entry}
+use Rattle.rh_room.specs.declared.pass.Entry.{Entry}
 use Rattle.rh_room.specs.Legal.{IsRoom, IsSession, calls, entry}
 
 -- the new simulation of the cluster and the pick of another

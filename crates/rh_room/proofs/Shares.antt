@@ -2,8 +2,8 @@
 use Rattle.std.proofs.Common.{◌≡◌, ℕ, ◌+◌, ◌<◌, ◌≤◌, ◌==◌, List, [], ◌∷◌, ◌++◌, length, take, drop, cond, Bool, true, false, All, get_or, refl, sym, ap, ◌∙◌, take-append-drop, arith}
 use Rattle.std.proofs.lemmas.List.{take_more, length-take-le}
 use Rattle.std.proofs.lemmas.List.Elements.{All-nil, All-cons, All-weaker}
-use Rattle.rh_room.specs.declared.parts.Entry.{Entry}
-use Rattle.rh_room.specs.declared.parts.Receipt.{Receipt}
+use Rattle.rh_room.specs.declared.pass.Entry.{Entry}
+use Rattle.rh_room.specs.declared.pass.Receipt.{Receipt}
 use Rattle.rh_room.specs.Legal.{of_from, of_session, receipt}
 
 cond-append : (b : Bool) (r : Receipt) (rs ss : List Receipt) → cond b (r ∷ (rs ++ ss)) (rs ++ ss) ≡ cond b (r ∷ rs) rs ++ ss

@@ -1,10 +1,10 @@
 -- When a room closes (ours).
 use Rattle.std.specs.Prelude.{◌≡◌, ◌≢◌, ◌<◌, ℕ, List, All, count_by, ◌==◌, Contains}
 use Rattle.std.specs.List.{filter}
-use Rattle.rh_parts.specs.ClusterView.{ClusterView}
+use Rattle.rh_model.specs.ClusterView.{ClusterView}
 use Rattle.rh_place.specs.declared.choosing.Pick.{Pick}
-use Rattle.rh_room.specs.declared.parts.Entry.{Entry}
-use Rattle.rh_room.specs.declared.parts.Receipt.{Receipt}
+use Rattle.rh_room.specs.declared.pass.Entry.{Entry}
+use Rattle.rh_room.specs.declared.pass.Receipt.{Receipt}
 use Rattle.rh_room.specs.declared.closing.CloseReason.{CloseReason}
 use Rattle.rh_room.specs.declared.closing.CloseReason.TheVariants.{MissingPass, Disagree, OtherBase}
 use Rattle.rh_room.specs.Legal.{PassView, RoomView, IsSession, of_session}

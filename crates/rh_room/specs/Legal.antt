@@ -4,8 +4,8 @@ use Rattle.rh_trail.specs.declared.call.Call.{Call}
 use Rattle.rh_trail.specs.declared.call.Reply.{Reply}
 use Rattle.rh_trail.specs.SimView.{SimView, Held}
 use Rattle.rh_trail.specs.Lone.{opened, replies, sim_after}
-use Rattle.rh_room.specs.declared.parts.Entry.{Entry}
-use Rattle.rh_room.specs.declared.parts.Receipt.{Receipt}
+use Rattle.rh_room.specs.declared.pass.Entry.{Entry}
+use Rattle.rh_room.specs.declared.pass.Receipt.{Receipt}
 
 -- what callers see of a room
 pub record RoomView : Type 0 where

@@ -2,9 +2,9 @@
 use Rattle.std.specs.Prelude.{◌≡◌, ◌<◌, ℕ, ◌-◌, List, length, Option, Some, None, slice_get}
 use Rattle.rh_trail.specs.declared.call.Call.{Call}
 use Rattle.rh_trail.specs.Lone.{served}
-use Rattle.rh_room.specs.declared.parts.Receipt.{Receipt}
-use Rattle.rh_room.specs.declared.parts.RoomFault.{RoomFault}
-use Rattle.rh_room.specs.declared.parts.RoomFault.TheVariants.{SessionCount, WrongRoom, LogFull, OutOfMemory}
+use Rattle.rh_room.specs.declared.pass.Receipt.{Receipt}
+use Rattle.rh_room.specs.declared.pass.RoomFault.{RoomFault}
+use Rattle.rh_room.specs.declared.pass.RoomFault.TheVariants.{SessionCount, WrongRoom, LogFull, OutOfMemory}
 use Rattle.rh_room.specs.Legal.{PassView, RoomView, IsSession, entry, receipt, log_limit}
 
 -- the last receipt, if there is one

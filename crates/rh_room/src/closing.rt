@@ -6,9 +6,9 @@ ghost use Rattle.rh_trail.specs.Laws.{IsReversible};
 ghost use Rattle.rh_room.specs.Legal.{IsRoom, IsSession, InOrder, of_session, receipt};
 ghost use Rattle.rh_room.specs.Closing.{AreAll, Agrees, IsOn, IsFirstDifference, IsDisagreement, WhyOpen};
 
-use crate::parts::{Entry, Pass, Receipt};
+use crate::pass::{Entry, Pass, Receipt};
 use crate::room::Room;
-use rh_parts::Cluster;
+use rh_model::Cluster;
 use rh_step::Pick;
 use rh_trail::Sim;
 

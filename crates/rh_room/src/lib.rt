@@ -7,11 +7,11 @@
 
 mod closing;
 mod opening;
-mod parts;
+mod pass;
 mod replies;
 mod room;
 
 pub use closing::{CloseFault, CloseReason, Closed, close};
 pub use opening::open_room;
-pub use parts::{Entry, Pass, Receipt, RoomFault};
+pub use pass::{Entry, Pass, Receipt, RoomFault};
 pub use room::{Room, Shared};

@@ -6,9 +6,9 @@ ghost use Rattle.rh_trail.specs.Lone.{opened};
 ghost use Rattle.rh_room.specs.Legal.{IsSession, new_pass};
 ghost use Rattle.rh_room.specs.Serving.{WhyNotOpened};
 
-use crate::parts::{Pass, RoomFault};
+use crate::pass::{Pass, RoomFault};
 use crate::room::Room;
-use rh_parts::Cluster;
+use rh_model::Cluster;
 use rh_step::Pick;
 use rh_terms::OutOfMemory;
 use rh_trail::Sim;

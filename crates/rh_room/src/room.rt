@@ -7,7 +7,7 @@ ghost use Rattle.rh_trail.specs.Laws.{IsReversible};
 ghost use Rattle.rh_room.specs.Legal.{IsSession, IsRoom, entry, log_limit};
 ghost use Rattle.rh_room.specs.Serving.{last_of, place_of, IsPassOf, receipt_of, WhyNot};
 
-use crate::parts::{Entry, Pass, Receipt, RoomFault};
+use crate::pass::{Entry, Pass, Receipt, RoomFault};
 use crate::replies::{Replies, replies_to};
 use rh_terms::OutOfMemory;
 use rh_trail::{Call, Sim};

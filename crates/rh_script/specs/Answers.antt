@@ -2,11 +2,11 @@
 use Rattle.std.specs.Prelude.{ℕ, List, [], ◌++◌, codes, unwrap_or}
 use Rattle.std.specs.List.{flat_map}
 use Rattle.std.specs.Fmt.{decimal}
-use Rattle.rh_parts.specs.ClusterView.{ClusterView, name_of, dep_name}
-use Rattle.rh_parts.specs.declared.node.Node.{Node}
-use Rattle.rh_parts.specs.declared.node.App.{App}
-use Rattle.rh_parts.specs.declared.parts.Dep.{Dep}
-use Rattle.rh_sections.specs.FaultWords.{fault_words}
+use Rattle.rh_model.specs.ClusterView.{ClusterView, name_of, dep_name}
+use Rattle.rh_model.specs.declared.node.Node.{Node}
+use Rattle.rh_model.specs.declared.node.App.{App}
+use Rattle.rh_model.specs.declared.settings.Dep.{Dep}
+use Rattle.rh_sections.specs.FaultTexts.{cluster_fault_text}
 use Rattle.rh_sections.specs.declared.fault.ClusterFault.{ClusterFault}
 use Rattle.rh_settle.specs.declared.notice.Notice.{Notice}
 use Rattle.rh_settle.specs.declared.notice.Notice.TheVariants.{Up, Ended, Started, Stopped, Waits}
@@ -51,7 +51,7 @@ answer_text c (reply.Moved count) = codes "ok " ++ decimal count ++ codes "\n"
 answer_text c (reply.Seen cursor trail text) = codes "ok\n" ++ text
 
 unfoldable pub fault_text : ClusterFault → List ℕ
-fault_text f = codes "cluster refused " ++ fault_words f ++ codes "\n"
+fault_text f = codes "cluster refused " ++ cluster_fault_text f ++ codes "\n"
 
 unfoldable pub bad_text : ℕ → List ℕ
 bad_text k = codes "bad line " ++ decimal k ++ codes "\n"

@@ -1,11 +1,11 @@
 -- A call as the command that asks it (ours).
 use Rattle.std.specs.Prelude.{ℕ, List, ◌++◌, Bool, codes, slice_get, unwrap_or, if◌then◌else◌}
 use Rattle.std.specs.Fmt.{decimal}
-use Rattle.rh_parts.specs.ClusterView.{ClusterView}
-use Rattle.rh_parts.specs.declared.node.Node.{Node}
-use Rattle.rh_parts.specs.declared.node.App.{App}
-use Rattle.rh_change.specs.declared.event.Event.{Event}
-use Rattle.rh_change.specs.declared.event.Event.TheVariants.{Boot, Crash, Tick, Start, Stop, Permit, Takeover, Exit}
+use Rattle.rh_model.specs.ClusterView.{ClusterView}
+use Rattle.rh_model.specs.declared.node.Node.{Node}
+use Rattle.rh_model.specs.declared.node.App.{App}
+use Rattle.rh_events.specs.declared.event.Event.{Event}
+use Rattle.rh_events.specs.declared.event.Event.TheVariants.{Boot, Crash, Tick, Start, Stop, Permit, Takeover, Exit}
 use Rattle.rh_trail.specs.declared.call.Call.{Call}
 use Rattle.rh_trail.specs.declared.call.Call.TheVariants as call
 use Rattle.rh_trail.specs.Report.{restart_words}

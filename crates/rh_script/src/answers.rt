@@ -3,7 +3,7 @@
 ghost use Rattle.std.specs.Prelude.{◌≡◌, ◌++◌, is_some, OnOk, IfOk};
 ghost use Rattle.std.specs.List.{flat_map};
 ghost use Rattle.std.specs.String.{string_bytes};
-ghost use Rattle.rh_parts.specs.ClusterView.{name_of, dep_name};
+ghost use Rattle.rh_model.specs.ClusterView.{name_of, dep_name};
 ghost use Rattle.rh_trail.specs.Report.{app_name_of, kind_words};
 ghost use Rattle.rh_script.specs.Answers.{dep_words, pair_words, reason_words, refusal_line, notice_line, answer_text, fault_text, bad_text};
 

@@ -1,4 +1,4 @@
 pub mod MemberNames
 pub mod InTurn
 pub mod Trees
-pub mod Words
+pub mod Unrepeated

@@ -12,8 +12,8 @@ use Rattle.rh_terms.specs.Tree.{Tree, tree_of}
 use Rattle.rh_sections.specs.declared.fault.ClusterFault.{ClusterFault}
 use Rattle.rh_sections.specs.Faults.{in_turn, first}
 use Rattle.rh_sections.specs.Shapes.{as_atom, as_list, atoms}
-use Rattle.rh_parts.specs.Names.{is_among, KnownNames}
-use Rattle.rh_sections.specs.Parts.{members, node_name_faults, desc_faults, desc_faults_by}
+use Rattle.rh_model.specs.Names.{is_among, NamesView}
+use Rattle.rh_sections.specs.Sections.{members, node_name_faults, desc_faults, desc_faults_by}
 use Rattle.rh_sections.proofs.InTurn.{in_turn-append, first-append, first-none, trees_more, trees_all}
 
 -- a name is among the names of two lists if it is among those of one
@@ -52,7 +52,7 @@ module _ (f : List Tree → Tree → List ClusterFault) (gs : List Term) (i : �
       ∙ first-none _ _ x none (first-append (in_turn f front (members (tree_of g))) _ x here)
 
 -- a list of groups that isn't empty
-pub desc_fails : (names : KnownNames) (v : Tree) (gs : List Term) (i : ℕ) (x : ClusterFault) → i < length gs → Some (map tree_of gs) ≡ as_list v
+pub desc_fails : (names : NamesView) (v : Tree) (gs : List Term) (i : ℕ) (x : ClusterFault) → i < length gs → Some (map tree_of gs) ≡ as_list v
     → first (in_turn (node_name_faults names) [] (flat_map members (map tree_of gs))) ≡ Some x → first (desc_faults names v) ≡ Some x
 unfolding desc_faults
 desc_fails names v [] i x inside list here = absurd (omega arith)

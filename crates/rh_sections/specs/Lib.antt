@@ -1,6 +1,6 @@
 pub mod Shapes
 pub mod Faults
 pub mod NameRule
-pub mod Parts
+pub mod Sections
 pub mod TermMemory
-pub mod FaultWords
+pub mod FaultTexts

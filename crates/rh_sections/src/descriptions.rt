@@ -1,20 +1,20 @@
-//! The third pass: where a distributed application may run, as a list of groups.
+//! The third stage: where a distributed application may run, as a list of groups.
 
 ghost use Rattle.std.specs.Prelude.{◌≡◌, [], ◌++◌, map, flat_map};
 ghost use Rattle.rh_terms.specs.Tree.{tree_of};
 ghost use Rattle.rh_sections.specs.Faults.{Finds, in_turn};
-ghost use Rattle.rh_parts.specs.Names.{is_among};
+ghost use Rattle.rh_model.specs.Names.{is_among};
 ghost use Rattle.rh_sections.specs.Shapes.{atoms};
-ghost use Rattle.rh_sections.specs.Parts.{node_name_faults, members, desc_faults};
+ghost use Rattle.rh_sections.specs.Sections.{node_name_faults, members, desc_faults};
 
 use crate::entries::{check_word, repeats_atom};
 use crate::fault::ClusterFault;
 use crate::shapes;
-use rh_parts::Names;
+use rh_model::Names;
 use rh_terms::Term;
 
 /// The names of a group: the parts of a tuple, or the term itself.
-#[tactic(auto, unfolding(crate::specs::Parts::members))]
+#[tactic(auto, unfolding(crate::specs::Sections::members))]
 pub fn members(term: &Term) -> &[Term]
     ensures { map tree_of result.now ≡ members (tree_of term.now) }
 {
@@ -51,7 +51,7 @@ fn is_named_before(name: &str, before: &[Term], earlier: &[Term]) -> bool
 }
 
 // Tests a name of a group, behind the groups before and the names before it in its own.
-#[tactic(auto, unfolding(crate::specs::Parts::node_name_faults, crate::specs::Parts::name_faults))]
+#[tactic(auto, unfolding(crate::specs::Sections::node_name_faults, crate::specs::Sections::name_faults))]
 fn check_member(
     names: &Names,
     before: &[Term],
@@ -84,7 +84,7 @@ fn check_group(names: &Names, before: &[Term], group: &Term) -> Result<(), Clust
 }
 
 /// Tests a list of groups.
-#[tactic(auto, unfolding(crate::specs::Parts::desc_faults))]
+#[tactic(auto, unfolding(crate::specs::Sections::desc_faults))]
 pub fn check_description(names: &Names, value: &Term) -> Result<(), ClusterFault>
     ensures { Finds result (desc_faults names.now (tree_of value.now)) }
 {

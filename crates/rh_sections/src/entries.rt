@@ -5,18 +5,18 @@ ghost use Rattle.std.specs.List.{list_any};
 ghost use Rattle.std.specs.Option.{option_map};
 ghost use Rattle.rh_terms.specs.Tree.{tree_of};
 ghost use Rattle.rh_sections.specs.Faults.{Finds};
-ghost use Rattle.rh_parts.specs.Names.{is_among};
+ghost use Rattle.rh_model.specs.Names.{is_among};
 ghost use Rattle.rh_sections.specs.Shapes.{atoms};
-ghost use Rattle.rh_sections.specs.Parts.{has_key, word_faults, node_name_faults, app_name_faults, app_in, first_atom};
+ghost use Rattle.rh_sections.specs.Sections.{has_key, word_faults, node_name_faults, app_name_faults, app_in, first_atom};
 
 use crate::fault::ClusterFault;
 use crate::name_rule::is_name;
 use crate::shapes;
-use rh_parts::Names;
+use rh_model::Names;
 use rh_terms::Term;
 
 // Is it an entry of this key?
-#[tactic(auto, unfolding(crate::specs::Parts::has_key))]
+#[tactic(auto, unfolding(crate::specs::Sections::has_key))]
 fn has_key(key: &str, term: &Term) -> bool
     ensures { result ≡ has_key key.now (tree_of term.now) }
 {
@@ -53,7 +53,7 @@ pub fn repeats_atom(name: &str, earlier: &[Term]) -> bool
 }
 
 /// The application that a tuple begins with.
-#[tactic(auto, unfolding(crate::specs::Parts::app_in))]
+#[tactic(auto, unfolding(crate::specs::Sections::app_in))]
 pub fn app_in(term: &Term) -> Option<&str>
     ensures { option_map (λ name. name.now) result ≡ app_in (tree_of term.now) }
 {
@@ -78,7 +78,7 @@ fn repeats_app(name: &str, earlier: &[Term]) -> bool
 }
 
 /// Tests the name that stands in a value.
-#[tactic(auto, unfolding(crate::specs::Parts::word_faults))]
+#[tactic(auto, unfolding(crate::specs::Sections::word_faults))]
 pub fn check_word(name: &str, is_known: bool, is_repeated: bool) -> Result<(), ClusterFault>
     ensures { Finds result (word_faults name.now is_known is_repeated) }
 {
@@ -95,7 +95,7 @@ pub fn check_word(name: &str, is_known: bool, is_repeated: bool) -> Result<(), C
 }
 
 /// Tests a node's name in a list of them.
-#[tactic(auto, unfolding(crate::specs::Parts::node_name_faults, crate::specs::Parts::name_faults))]
+#[tactic(auto, unfolding(crate::specs::Sections::node_name_faults, crate::specs::Sections::name_faults))]
 pub fn check_node_name(names: &Names, earlier: &[Term], term: &Term) -> Result<(), ClusterFault>
     ensures { Finds result (node_name_faults names.now (map tree_of earlier.now) (tree_of term.now)) }
 {
@@ -106,7 +106,7 @@ pub fn check_node_name(names: &Names, earlier: &[Term], term: &Term) -> Result<(
 }
 
 /// Tests the name of an application at the front of an entry, behind earlier entries.
-#[tactic(auto, unfolding(crate::specs::Parts::app_name_faults, crate::specs::Parts::name_faults))]
+#[tactic(auto, unfolding(crate::specs::Sections::app_name_faults, crate::specs::Sections::name_faults))]
 pub fn check_app_name(names: &Names, earlier: &[Term], term: &Term) -> Result<(), ClusterFault>
     ensures { Finds result (app_name_faults names.now (map tree_of earlier.now) (tree_of term.now)) }
 {

@@ -6,7 +6,7 @@ ghost use Rattle.rh_sections.specs.declared.fault.ClusterFault.TheVariants as cl
 use rh_terms::{OutOfMemory, Str, TermFault};
 use std::alloc::{AllocError, AllocFailed};
 
-/// Why a text is no cluster: the first fault of the first of four passes that has one. The passes look
+/// Why a text is no cluster: the first fault of the first of four stages that has one. The stages look
 /// at the terms of the text; at the shape and name of each term; at the parts of each term; at what
 /// the nodes must agree on.
 #[derive(Debug, Drop)]
@@ -44,7 +44,7 @@ pub enum ClusterFault {
 impl ClusterFault {
     ghost use Rattle.std.specs.Prelude.{◌≢◌, false};
     ghost use Rattle.rh_terms.specs.declared.fault.TermFault.TheVariants as terms;
-    ghost use Rattle.rh_sections.specs.FaultWords.{is_memory};
+    ghost use Rattle.rh_sections.specs.FaultTexts.{is_memory};
 
     /// Whether a growth was refused. Any other fault is one of the text.
     pub fn is_memory(&self) -> bool

@@ -1,18 +1,18 @@
-//! The third pass: the kernel's parameters.
+//! The third stage: the kernel's parameters.
 
 ghost use Rattle.std.specs.Prelude.{◌≡◌, [], map, IfSome};
 ghost use Rattle.std.specs.Option.{option_map};
 ghost use Rattle.rh_terms.specs.Tree.{tree_of};
 ghost use Rattle.rh_sections.specs.Faults.{Finds, in_turn, list_faults};
-ghost use Rattle.rh_parts.specs.Limits.{IsWithinLimit};
-ghost use Rattle.rh_parts.specs.Names.{is_among};
-ghost use Rattle.rh_sections.specs.Parts.{node_name_faults, as_share, time_faults, share_faults, as_truth, permission_faults, as_sync_wait, kernel_keys, kernel_faults, entry_faults};
+ghost use Rattle.rh_model.specs.Limits.{IsWithinLimit};
+ghost use Rattle.rh_model.specs.Names.{is_among};
+ghost use Rattle.rh_sections.specs.Sections.{node_name_faults, as_share, time_faults, share_faults, as_truth, permission_faults, as_sync_wait, kernel_keys, kernel_faults, entry_faults};
 
 use crate::descriptions::check_description;
 use crate::entries::{check_app_name, check_node_name, repeats_key};
 use crate::fault::ClusterFault;
 use crate::shapes;
-use rh_parts::{Names, SyncWait};
+use rh_model::{Names, SyncWait};
 use rh_terms::Term;
 
 /// Tests a list of node names.
@@ -30,7 +30,7 @@ fn check_node_names(names: &Names, value: &Term) -> Result<(), ClusterFault>
 }
 
 /// The parts of an entry of `distributed`: its application, its timeout and its groups.
-#[tactic(auto, unfolding(crate::specs::Parts::as_share))]
+#[tactic(auto, unfolding(crate::specs::Sections::as_share))]
 pub fn share(term: &Term) -> Option<(&Term, Option<&Term>, &Term)>
     ensures { option_map (λ s. (tree_of s.0.now, option_map (λ t. tree_of t.now) s.1, tree_of s.2.now)) result ≡ as_share (tree_of term.now) }
 {
@@ -42,7 +42,7 @@ pub fn share(term: &Term) -> Option<(&Term, Option<&Term>, &Term)>
 }
 
 /// Is it a truth value?
-#[tactic(auto, unfolding(crate::specs::Parts::as_truth))]
+#[tactic(auto, unfolding(crate::specs::Sections::as_truth))]
 pub fn truth(term: &Term) -> Option<bool>
     ensures { result ≡ as_truth (tree_of term.now) }
 {
@@ -57,7 +57,7 @@ pub fn truth(term: &Term) -> Option<bool>
 }
 
 /// How long a node waits.
-#[tactic(auto, unfolding(crate::specs::Parts::as_sync_wait))]
+#[tactic(auto, unfolding(crate::specs::Sections::as_sync_wait))]
 pub fn sync_wait(term: &Term) -> Option<SyncWait>
     ensures wait { result ≡ as_sync_wait (tree_of term.now) }
     ensures limit { IfSome result (λ wait. IsWithinLimit wait) }
@@ -78,7 +78,7 @@ pub fn sync_wait(term: &Term) -> Option<SyncWait>
 }
 
 // Tests an entry of `permissions`.
-#[tactic(auto, unfolding(crate::specs::Parts::permission_faults))]
+#[tactic(auto, unfolding(crate::specs::Sections::permission_faults))]
 fn check_permission(names: &Names, earlier: &[Term], term: &Term) -> Result<(), ClusterFault>
     ensures { Finds result (permission_faults names.now (map tree_of earlier.now) (tree_of term.now)) }
 {
@@ -105,7 +105,7 @@ fn check_permissions(names: &Names, value: &Term) -> Result<(), ClusterFault>
     Ok(())
 }
 
-#[tactic(auto, unfolding(crate::specs::Parts::share_faults))]
+#[tactic(auto, unfolding(crate::specs::Sections::share_faults))]
 fn check_share(names: &Names, earlier: &[Term], term: &Term) -> Result<(), ClusterFault>
     ensures { Finds result (share_faults names.now (map tree_of earlier.now) (tree_of term.now)) }
 {
@@ -154,7 +154,7 @@ fn is_kernel_key(key: &str) -> bool
 }
 
 // Tests the value of a parameter.
-#[tactic(auto, unfolding(crate::specs::Parts::kernel_faults))]
+#[tactic(auto, unfolding(crate::specs::Sections::kernel_faults))]
 fn check_kernel_value(names: &Names, key: &str, value: &Term) -> Result<(), ClusterFault>
     ensures { Finds result (kernel_faults names.now key.now (tree_of value.now)) }
 {
@@ -175,7 +175,7 @@ fn check_kernel_value(names: &Names, key: &str, value: &Term) -> Result<(), Clus
 }
 
 // Tests an entry of the section, behind earlier entries.
-#[tactic(auto, unfolding(crate::specs::Parts::entry_faults))]
+#[tactic(auto, unfolding(crate::specs::Sections::entry_faults))]
 fn check_parameter(names: &Names, earlier: &[Term], term: &Term) -> Result<(), ClusterFault>
     ensures { Finds result (entry_faults (is_among kernel_keys) (kernel_faults names.now) (map tree_of earlier.now) (tree_of term.now)) }
 {

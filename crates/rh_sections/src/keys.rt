@@ -1,22 +1,22 @@
-//! The third pass: the keys of an application.
+//! The third stage: the keys of an application.
 
 ghost use Rattle.std.specs.Prelude.{◌≡◌, [], ◌∷◌, ◌++◌, map, is_some, OnOk};
 ghost use Rattle.std.specs.List.{list_all};
 ghost use Rattle.rh_terms.specs.Tree.{tree_of};
 ghost use Rattle.rh_sections.specs.Faults.{Finds, in_turn, list_faults};
-ghost use Rattle.rh_parts.specs.Names.{is_among};
+ghost use Rattle.rh_model.specs.Names.{is_among};
 ghost use Rattle.rh_sections.specs.Shapes.{atoms, as_entry};
-ghost use Rattle.rh_sections.specs.Parts.{dep_faults, is_start, are_phases, app_keys, key_faults, entry_faults};
+ghost use Rattle.rh_sections.specs.Sections.{dep_faults, is_start, are_phases, app_keys, key_faults, entry_faults};
 
 use crate::entries::{check_word, repeats_key};
 use crate::fault::ClusterFault;
 use crate::shapes;
-use rh_parts::{NameSet, Names};
+use rh_model::{NameSet, Names};
 use rh_terms::Term;
 use std::alloc::Global;
 
 // Tests a name of `applications`, and adds it to the earlier ones.
-#[tactic(auto, unfolding(crate::specs::Parts::dep_faults, crate::specs::Parts::name_faults))]
+#[tactic(auto, unfolding(crate::specs::Sections::dep_faults, crate::specs::Sections::name_faults))]
 fn check_dep(
     alloc: Global,
     names: &Names,
@@ -62,7 +62,7 @@ fn check_deps(
 }
 
 // Is it `{Module, StartArg}` or the empty list?
-#[tactic(auto, unfolding(crate::specs::Parts::is_start))]
+#[tactic(auto, unfolding(crate::specs::Sections::is_start))]
 fn is_start(value: &Term) -> bool
     ensures { result ≡ is_start (tree_of value.now) }
 {
@@ -87,7 +87,7 @@ fn are_entries(terms: &[Term]) -> bool
 }
 
 // Is it `undefined` or a list of entries?
-#[tactic(auto, unfolding(crate::specs::Parts::are_phases))]
+#[tactic(auto, unfolding(crate::specs::Sections::are_phases))]
 fn are_phases(value: &Term) -> bool
     ensures { result ≡ are_phases (tree_of value.now) }
 {
@@ -110,7 +110,7 @@ fn is_app_key(key: &str) -> bool
 }
 
 // Tests the value of a key.
-#[tactic(auto, unfolding(crate::specs::Parts::key_faults))]
+#[tactic(auto, unfolding(crate::specs::Sections::key_faults))]
 fn check_key_value(
     alloc: Global,
     names: &Names,
@@ -141,7 +141,7 @@ fn check_key_value(
 }
 
 // Tests a key, behind earlier ones.
-#[tactic(auto, unfolding(crate::specs::Parts::entry_faults))]
+#[tactic(auto, unfolding(crate::specs::Sections::entry_faults))]
 fn check_key(
     alloc: Global,
     names: &Names,

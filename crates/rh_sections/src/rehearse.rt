@@ -1,19 +1,19 @@
-//! The third pass: the parameters of `rehearse`.
+//! The third stage: the parameters of `rehearse`.
 
 ghost use Rattle.std.specs.Prelude.{◌≡◌, [], map};
 ghost use Rattle.rh_terms.specs.Tree.{tree_of};
 ghost use Rattle.rh_sections.specs.Faults.{Finds, in_turn, list_faults};
-ghost use Rattle.rh_parts.specs.Names.{is_among};
-ghost use Rattle.rh_sections.specs.Parts.{as_restart, boot_faults, platform_faults, rehearse_keys, rehearse_faults, entry_faults};
+ghost use Rattle.rh_model.specs.Names.{is_among};
+ghost use Rattle.rh_sections.specs.Sections.{as_restart, boot_faults, platform_faults, rehearse_keys, rehearse_faults, entry_faults};
 
 use crate::entries::{check_app_name, check_word, repeats_atom, repeats_key};
 use crate::fault::ClusterFault;
 use crate::shapes;
-use rh_parts::{Names, Restart};
+use rh_model::{Names, Restart};
 use rh_terms::Term;
 
 /// The restart type that a word names.
-#[tactic(auto, unfolding(crate::specs::Parts::as_restart))]
+#[tactic(auto, unfolding(crate::specs::Sections::as_restart))]
 pub fn restart(term: &Term) -> Option<Restart>
     ensures { result ≡ as_restart (tree_of term.now) }
 {
@@ -30,7 +30,7 @@ pub fn restart(term: &Term) -> Option<Restart>
 }
 
 // Tests an entry of `boot`.
-#[tactic(auto, unfolding(crate::specs::Parts::boot_faults))]
+#[tactic(auto, unfolding(crate::specs::Sections::boot_faults))]
 fn check_boot_entry(names: &Names, earlier: &[Term], term: &Term) -> Result<(), ClusterFault>
     ensures { Finds result (boot_faults names.now (map tree_of earlier.now) (tree_of term.now)) }
 {
@@ -59,7 +59,7 @@ fn check_boot(names: &Names, value: &Term) -> Result<(), ClusterFault>
 }
 
 // Tests a platform name.
-#[tactic(auto, unfolding(crate::specs::Parts::platform_faults, crate::specs::Parts::name_faults))]
+#[tactic(auto, unfolding(crate::specs::Sections::platform_faults, crate::specs::Sections::name_faults))]
 fn check_platform_name(names: &Names, earlier: &[Term], term: &Term) -> Result<(), ClusterFault>
     ensures { Finds result (platform_faults names.now (map tree_of earlier.now) (tree_of term.now)) }
 {
@@ -98,7 +98,7 @@ fn is_rehearse_key(key: &str) -> bool
 }
 
 // Tests the value of a parameter.
-#[tactic(auto, unfolding(crate::specs::Parts::rehearse_faults))]
+#[tactic(auto, unfolding(crate::specs::Sections::rehearse_faults))]
 fn check_rehearse_value(names: &Names, key: &str, value: &Term) -> Result<(), ClusterFault>
     ensures { Finds result (rehearse_faults names.now key.now (tree_of value.now)) }
 {
@@ -112,7 +112,7 @@ fn check_rehearse_value(names: &Names, key: &str, value: &Term) -> Result<(), Cl
 }
 
 // Tests an entry of the section, behind earlier entries.
-#[tactic(auto, unfolding(crate::specs::Parts::entry_faults))]
+#[tactic(auto, unfolding(crate::specs::Sections::entry_faults))]
 fn check_parameter(names: &Names, earlier: &[Term], term: &Term) -> Result<(), ClusterFault>
     ensures { Finds result (entry_faults (is_among rehearse_keys) (rehearse_faults names.now) (map tree_of earlier.now) (tree_of term.now)) }
 {

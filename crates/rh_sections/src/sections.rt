@@ -1,10 +1,10 @@
-//! The third pass: the sections of a node, and each term.
+//! The third stage: the sections of a node, and each term.
 
 ghost use Rattle.std.specs.Prelude.{◌≡◌, [], map};
 ghost use Rattle.rh_terms.specs.Tree.{tree_of};
 ghost use Rattle.rh_sections.specs.Faults.{Finds, in_turn, list_faults};
-ghost use Rattle.rh_parts.specs.Names.{is_among};
-ghost use Rattle.rh_sections.specs.Parts.{section_keys, section_faults, entry_faults, parts_faults, parts_pass};
+ghost use Rattle.rh_model.specs.Names.{is_among};
+ghost use Rattle.rh_sections.specs.Sections.{section_keys, section_faults, entry_faults, parts_faults, parts_pass};
 
 use crate::entries::repeats_key;
 use crate::fault::ClusterFault;
@@ -12,12 +12,12 @@ use crate::kernel::check_kernel;
 use crate::keys::check_keys;
 use crate::rehearse::check_rehearse;
 use crate::shapes;
-use rh_parts::{NameSet, Names};
+use rh_model::{NameSet, Names};
 use rh_terms::Term;
 use std::alloc::Global;
 
 // Tests what a section holds.
-#[tactic(auto, unfolding(crate::specs::Parts::section_faults))]
+#[tactic(auto, unfolding(crate::specs::Sections::section_faults))]
 fn check_section_value(names: &Names, key: &str, value: &Term) -> Result<(), ClusterFault>
     ensures { Finds result (section_faults names.now key.now (tree_of value.now)) }
 {
@@ -40,7 +40,7 @@ fn is_section_key(key: &str) -> bool
 }
 
 // Tests a section, behind earlier ones.
-#[tactic(auto, unfolding(crate::specs::Parts::entry_faults))]
+#[tactic(auto, unfolding(crate::specs::Sections::entry_faults))]
 fn check_section(names: &Names, earlier: &[Term], term: &Term) -> Result<(), ClusterFault>
     ensures { Finds result (entry_faults (is_among section_keys) (section_faults names.now) (map tree_of earlier.now) (tree_of term.now)) }
 {
@@ -68,7 +68,7 @@ fn check_sections(names: &Names, value: &Term) -> Result<(), ClusterFault>
 }
 
 // Tests the parts of a term.
-#[tactic(auto, unfolding(crate::specs::Parts::parts_faults))]
+#[tactic(auto, unfolding(crate::specs::Sections::parts_faults))]
 fn check_term(
     alloc: Global,
     names: &Names,
@@ -87,7 +87,7 @@ fn check_term(
 }
 
 /// Tests the parts of each term.
-#[tactic(auto, unfolding(crate::specs::Parts::parts_pass))]
+#[tactic(auto, unfolding(crate::specs::Sections::parts_pass))]
 pub fn check_parts(
     alloc: Global,
     names: &Names,

@@ -6,9 +6,9 @@ use std::fmt;
 /// A fault is shown as its code and its name, with what it names.
 impl fmt::Display for ClusterFault {
     ghost use Rattle.std.specs.Prelude.{Some};
-    ghost use Rattle.rh_sections.specs.FaultWords.{fault_words};
+    ghost use Rattle.rh_sections.specs.FaultTexts.{cluster_fault_text};
 
-    ghost output = { λ fault. Some (fault_words fault) };
+    ghost output = { λ fault. Some (cluster_fault_text fault) };
 
     fn fmt<W: fmt::Write>(&self, f: &mut fmt::Formatter<W>) -> fmt::Result {
         match self {

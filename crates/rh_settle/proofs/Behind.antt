@@ -1,6 +1,6 @@
 -- Earlier notices don't matter: behind them settling is the same.
 use Rattle.std.proofs.Common.{◌≡◌, ℕ, ◌*◌, zero, suc, Bool, true, false, cond, List, [], ◌∷◌, ◌++◌, fold, Option, Some, None, refl, ap, ◌∙◌, append_assoc}
-use Rattle.rh_state.specs.declared.parts.Kind.TheVariants as kind
+use Rattle.rh_state.specs.declared.status.Kind.TheVariants as kind
 use Rattle.rh_state.specs.StateView.{waits_at}
 use Rattle.rh_place.specs.declared.choosing.Pick.{Pick}
 use Rattle.rh_place.specs.Picks.{picked}

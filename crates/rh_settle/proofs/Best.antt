@@ -3,10 +3,10 @@ use Rattle.std.proofs.Common.{◌≡◌, ◌≤◌, ◌||◌, unwrap_or, ℕ, Bo
 use Rattle.std.specs.List.{position}
 use Rattle.std.specs.Option.{option_map, option_and_then}
 use Rattle.std.proofs.lemmas.Bool.Decides.{nat_tests}
-use Rattle.rh_parts.specs.declared.node.Node.{Node}
-use Rattle.rh_parts.specs.declared.node.App.{App}
-use Rattle.rh_parts.specs.declared.parts.Spread.{Spread}
-use Rattle.rh_parts.specs.ClusterView.{ClusterView, is_in, group_of, spread_of, numbered}
+use Rattle.rh_model.specs.declared.node.Node.{Node}
+use Rattle.rh_model.specs.declared.node.App.{App}
+use Rattle.rh_model.specs.declared.settings.Spread.{Spread}
+use Rattle.rh_model.specs.ClusterView.{ClusterView, is_in, group_of, spread_of, numbered}
 use Rattle.rh_state.specs.StateView.{StateView, running_count}
 use Rattle.rh_place.specs.Picks.{least, lightest}
 use Rattle.rh_place.specs.Placing.{best, groups_of}

@@ -1,10 +1,10 @@
 -- Each move leaves fewer pairs that could still start: the points of a state fall.
 use Rattle.std.proofs.Common.{◌≡◌, ℕ, ◌<◌, ◌≤◌, Bool, true, false, cond, length, Option, refl, sym, ap, ◌∙◌, arith, subst, unwrap_or, slice_get, slice_set}
-use Rattle.rh_parts.specs.declared.node.Node.{Node}
-use Rattle.rh_parts.specs.declared.node.App.{App}
-use Rattle.rh_parts.specs.ClusterView.{ClusterView, node_count, app_count, app_numbered, group_of}
-use Rattle.rh_state.specs.declared.parts.Standing.{Standing}
-use Rattle.rh_state.specs.declared.parts.Standing.TheVariants.{Quiet, Wanted, Running, Lost}
+use Rattle.rh_model.specs.declared.node.Node.{Node}
+use Rattle.rh_model.specs.declared.node.App.{App}
+use Rattle.rh_model.specs.ClusterView.{ClusterView, node_count, app_count, app_numbered, group_of}
+use Rattle.rh_state.specs.declared.status.Standing.{Standing}
+use Rattle.rh_state.specs.declared.status.Standing.TheVariants.{Quiet, Wanted, Running, Lost}
 use Rattle.rh_state.specs.Numbers.{same_app}
 use Rattle.rh_state.specs.StateView.{StateView, waits_at, standing_of, is_started}
 use Rattle.rh_place.proofs.Lists.{cases}

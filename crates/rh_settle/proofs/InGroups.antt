@@ -3,8 +3,8 @@ use Rattle.std.proofs.Common.{◌≡◌, ◌+◌, ◌||◌, ℕ, suc, Bool, true
 use Rattle.std.specs.List.{filter, list_any, position, position_or_len}
 use Rattle.std.specs.Option.{option_map}
 use Rattle.std.proofs.lemmas.Bool.Decides.{nat_tests}
-use Rattle.rh_parts.specs.declared.node.Node.{Node}
-use Rattle.rh_parts.specs.ClusterView.{is_in, numbered}
+use Rattle.rh_model.specs.declared.node.Node.{Node}
+use Rattle.rh_model.specs.ClusterView.{is_in, numbered}
 use Rattle.rh_place.specs.Picks.{or_else, first_given}
 use Rattle.rh_place.proofs.Lists.{cases, any_filter, none_filter}
 use Rattle.rh_settle.specs.Moves.{comes_before}

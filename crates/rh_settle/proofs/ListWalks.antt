@@ -1,7 +1,7 @@
 -- A walk over a list of applications, from each to the one behind it.
 use Rattle.std.proofs.Common.{◌≡◌, ◌≢◌, ◌<◌, ◌||◌, ℕ, suc, true, false, cond, Option, Some, None, List, [], ◌∷◌, length, slice_get, All, AllPairs, IfSome, refl, sym, ap, ◌∙◌, arith, subst}
-use Rattle.rh_parts.specs.declared.node.App.{App}
-use Rattle.rh_parts.specs.ClusterView.{app_numbered}
+use Rattle.rh_model.specs.declared.node.App.{App}
+use Rattle.rh_model.specs.ClusterView.{app_numbered}
 use Rattle.rh_state.specs.Numbers.{same_app}
 use Rattle.rh_state.specs.Lists.{has_app, next_app}
 use Rattle.rh_place.proofs.Lists.{cases}

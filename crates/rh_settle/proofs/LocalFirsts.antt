@@ -3,9 +3,9 @@ use Rattle.std.proofs.Common.{◌≡◌, ℕ, ◌<◌, inl, suc, Bool, true, fal
 use Rattle.std.specs.List.{position}
 use Rattle.std.specs.Option.{option_map}
 use Rattle.std.proofs.lemmas.Bool.Decides.{nat_tests}
-use Rattle.rh_parts.specs.declared.node.Node.{Node}
-use Rattle.rh_parts.specs.declared.node.App.{App}
-use Rattle.rh_parts.specs.ClusterView.{numbered, app_numbered}
+use Rattle.rh_model.specs.declared.node.Node.{Node}
+use Rattle.rh_model.specs.declared.node.App.{App}
+use Rattle.rh_model.specs.ClusterView.{numbered, app_numbered}
 use Rattle.rh_state.specs.Numbers.{same_app}
 use Rattle.rh_state.specs.Lists.{has_app}
 use Rattle.rh_state.specs.StateView.{StateView, waiting_at}

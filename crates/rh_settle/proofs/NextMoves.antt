@@ -3,12 +3,12 @@ use Rattle.std.proofs.Common.{◌≡◌, ℕ, ◌<◌, Bool, true, false, ◌&&�
 use Rattle.std.specs.List.{Contains, position}
 use Rattle.std.specs.Option.{option_and_then}
 use Rattle.std.proofs.lemmas.Option.{slice_get_past}
-use Rattle.rh_parts.specs.declared.node.Node.{Node}
-use Rattle.rh_parts.specs.declared.node.App.{App}
-use Rattle.rh_parts.specs.declared.parts.Spread.{Spread}
-use Rattle.rh_parts.specs.ClusterView.{ClusterView, node_count, spread_of, group_of, is_in}
-use Rattle.rh_state.specs.declared.parts.Mode.{Mode}
-use Rattle.rh_state.specs.declared.parts.Mode.TheVariants.{Down}
+use Rattle.rh_model.specs.declared.node.Node.{Node}
+use Rattle.rh_model.specs.declared.node.App.{App}
+use Rattle.rh_model.specs.declared.settings.Spread.{Spread}
+use Rattle.rh_model.specs.ClusterView.{ClusterView, node_count, spread_of, group_of, is_in}
+use Rattle.rh_state.specs.declared.status.Mode.{Mode}
+use Rattle.rh_state.specs.declared.status.Mode.TheVariants.{Down}
 use Rattle.rh_state.specs.StateView.{StateView, mode_of, is_up, runs_at, is_started, is_allowed}
 use Rattle.rh_place.specs.Placing.{is_operational, deps_run}
 use Rattle.rh_place.proofs.Lists.{cases}

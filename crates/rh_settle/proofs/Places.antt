@@ -1,14 +1,14 @@
 -- What a list of applications has, and in which list of its node a pair stands, after it leaves one and enters another.
 use Rattle.std.proofs.Common.{◌≡◌, ◌≢◌, ◌<◌, ℕ, zero, suc, Bool, true, false, cond, not, ◌||◌, List, [], ◌∷◌, ◌++◌, length, refl, ap, ◌∙◌, arith, nat_eq, unwrap_or, slice_get, slice_set}
 use Rattle.std.proofs.lemmas.Bool.Decides.{nat_tests}
-use Rattle.rh_parts.specs.declared.node.Node.{Node}
-use Rattle.rh_parts.specs.declared.node.App.{App}
+use Rattle.rh_model.specs.declared.node.Node.{Node}
+use Rattle.rh_model.specs.declared.node.App.{App}
 use Rattle.rh_state.specs.Numbers.{same_app}
-use Rattle.rh_parts.specs.ClusterView.{node_count}
+use Rattle.rh_model.specs.ClusterView.{node_count}
 use Rattle.rh_state.specs.Shape.{IsShaped}
 use Rattle.rh_state.specs.Tables.{row}
 use Rattle.rh_state.specs.Lists.{has_app, without_app}
-use Rattle.rh_state.specs.declared.parts.Place.TheVariants.{Off, InRunning, InWaiting}
+use Rattle.rh_state.specs.declared.status.Place.TheVariants.{Off, InRunning, InWaiting}
 use Rattle.rh_state.specs.StateView.{StateView, runs_at, waits_at, is_started, place_of}
 use Rattle.rh_state.specs.Setters.{unlisted}
 use Rattle.rh_place.proofs.Lists.{cases}

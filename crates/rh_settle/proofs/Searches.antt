@@ -10,9 +10,9 @@ use Rattle.rh_place.specs.Picks.{or_else, first_given, picked}
 use Rattle.rh_place.proofs.Lists.{picked_none}
 use Rattle.std.proofs.lemmas.List.{at_drop_more, at_drop_all}
 use Rattle.rh_state.specs.Numbers.{nodes_of, apps_of}
-use Rattle.rh_parts.specs.declared.node.Node.{Node}
-use Rattle.rh_parts.specs.declared.node.App.{App}
-use Rattle.rh_parts.specs.ClusterView.{ClusterView, node_count, app_count, numbered, app_numbered}
+use Rattle.rh_model.specs.declared.node.Node.{Node}
+use Rattle.rh_model.specs.declared.node.App.{App}
+use Rattle.rh_model.specs.ClusterView.{ClusterView, node_count, app_count, numbered, app_numbered}
 
 pub none_of_none : {A : Type 0} (pick : Pick) → None ≡ picked {A = A} pick []
 none_of_none First = refl

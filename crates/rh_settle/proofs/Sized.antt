@@ -1,11 +1,11 @@
 -- Each move keeps the size of the lists, and starts nothing but applications of the cluster.
 use Rattle.std.proofs.Common.{◌≡◌, ℕ, ◌<◌, zero, suc, true, ◌||◌, List, [], ◌∷◌, sym, ap, ◌∙◌, arith, All}
 use Rattle.std.proofs.lemmas.List.{length-set}
-use Rattle.rh_parts.specs.declared.node.Node.{Node}
-use Rattle.rh_parts.specs.declared.node.App.{App}
-use Rattle.rh_parts.specs.ClusterView.{ClusterView, app_count}
-use Rattle.rh_state.specs.declared.parts.Kind.TheVariants.{Normal}
-use Rattle.rh_state.specs.declared.parts.Standing.TheVariants.{Running}
+use Rattle.rh_model.specs.declared.node.Node.{Node}
+use Rattle.rh_model.specs.declared.node.App.{App}
+use Rattle.rh_model.specs.ClusterView.{ClusterView, app_count}
+use Rattle.rh_state.specs.declared.status.Kind.TheVariants.{Normal}
+use Rattle.rh_state.specs.declared.status.Standing.TheVariants.{Running}
 use Rattle.rh_state.specs.Numbers.{same_app}
 use Rattle.rh_state.specs.Shape.{IsShaped, IsAppOf}
 use Rattle.rh_state.specs.Tables.{row}

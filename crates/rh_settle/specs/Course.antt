@@ -1,8 +1,8 @@
 -- A state on its way through an event, with the notices so far and the pairs that were marked so far (ours).
 use Rattle.std.specs.Prelude.{List, [], ◌∷◌, ◌++◌, Bool, ◌&&◌, ◌==◌}
 use Rattle.std.specs.List.{list_any}
-use Rattle.rh_parts.specs.declared.node.Node.{Node}
-use Rattle.rh_parts.specs.declared.node.App.{App}
+use Rattle.rh_model.specs.declared.node.Node.{Node}
+use Rattle.rh_model.specs.declared.node.App.{App}
 use Rattle.rh_state.specs.StateView.{StateView}
 use Rattle.rh_settle.specs.declared.notice.Notice.{Notice}
 use Rattle.rh_settle.specs.declared.notice.Pair.{Pair}

@@ -1,10 +1,10 @@
 -- Which moves are enabled in a state, and which of them go before others (Distributed Applications; app(4); ours for the
 -- order).
 use Rattle.std.specs.Prelude.{◌≡◌, ◌≤◌, ◌&&◌, ◌||◌, ◌==◌, Bool, true, false, List, position, nat_lt, IsSome}
-use Rattle.rh_parts.specs.ClusterView.{group_of}
-use Rattle.rh_parts.specs.declared.node.Node.{Node}
-use Rattle.rh_parts.specs.declared.node.App.{App}
-use Rattle.rh_state.specs.declared.parts.Standing.TheVariants.{Wanted, Running}
+use Rattle.rh_model.specs.ClusterView.{group_of}
+use Rattle.rh_model.specs.declared.node.Node.{Node}
+use Rattle.rh_model.specs.declared.node.App.{App}
+use Rattle.rh_state.specs.declared.status.Standing.TheVariants.{Wanted, Running}
 use Rattle.rh_state.specs.Numbers.{same_app}
 use Rattle.rh_state.specs.Shape.{IsNodeOf, IsAppOf}
 use Rattle.rh_state.specs.StateView.{StateView, waiting_at, waits_at, running_count, is_allowed, standing_of}

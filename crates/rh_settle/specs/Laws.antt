@@ -1,9 +1,9 @@
 -- Laws of settling, in the field's words (Distributed Applications; application(3); ours).
 use Rattle.std.specs.Prelude.{◌≡◌, ◌≤◌, ◌*◌, ◌⊎◌, ◌↔◌, length, List, [], Option, true, false, Contains, IsSome}
-use Rattle.rh_parts.specs.ClusterView.{group_of}
-use Rattle.rh_parts.specs.declared.node.Node.{Node}
-use Rattle.rh_parts.specs.declared.node.App.{App}
-use Rattle.rh_state.specs.declared.parts.Standing.TheVariants.{Wanted}
+use Rattle.rh_model.specs.ClusterView.{group_of}
+use Rattle.rh_model.specs.declared.node.Node.{Node}
+use Rattle.rh_model.specs.declared.node.App.{App}
+use Rattle.rh_state.specs.declared.status.Standing.TheVariants.{Wanted}
 use Rattle.rh_state.specs.Shape.{IsNodeOf, IsAppOf}
 use Rattle.rh_state.specs.StateView.{StateView, runs_at, waits_at, is_allowed, standing_of}
 use Rattle.rh_place.specs.declared.choosing.Pick.{Pick}

@@ -1,13 +1,13 @@
 -- The moves of applications that follow of themselves: which come next, and what each does (Distributed Applications;
 -- application(3); ours for their order).
 use Rattle.std.specs.Prelude.{ℕ, ◌&&◌, List, [], ◌∷◌, map, Bool, true, false, Option, Some, None, nat_lt, if◌then◌else◌, is_none}
-use Rattle.rh_parts.specs.ClusterView.{ClusterView, spread_of, group_of}
-use Rattle.rh_parts.specs.declared.node.Node.{Node}
-use Rattle.rh_parts.specs.declared.node.App.{App}
-use Rattle.rh_state.specs.declared.parts.Kind.{Kind}
-use Rattle.rh_state.specs.declared.parts.Kind.TheVariants as kind
-use Rattle.rh_state.specs.declared.parts.Standing.{Standing}
-use Rattle.rh_state.specs.declared.parts.Standing.TheVariants.{Quiet, Wanted, Running, Lost}
+use Rattle.rh_model.specs.ClusterView.{ClusterView, spread_of, group_of}
+use Rattle.rh_model.specs.declared.node.Node.{Node}
+use Rattle.rh_model.specs.declared.node.App.{App}
+use Rattle.rh_state.specs.declared.status.Kind.{Kind}
+use Rattle.rh_state.specs.declared.status.Kind.TheVariants as kind
+use Rattle.rh_state.specs.declared.status.Standing.{Standing}
+use Rattle.rh_state.specs.declared.status.Standing.TheVariants.{Quiet, Wanted, Running, Lost}
 use Rattle.rh_state.specs.Numbers.{nodes_of, apps_of, same_node}
 use Rattle.rh_state.specs.StateView.{StateView, waiting_at, is_allowed, standing_of}
 use Rattle.rh_state.specs.Setters.{with_running, with_waiting, with_kind, with_standing, unlisted}

@@ -1,6 +1,6 @@
 -- Settling: next moves until there is none, and then the pairs that wait (Distributed Applications; ours).
 use Rattle.std.specs.Prelude.{ℕ, ◌*◌, ◌≡◌, zero, suc, List, [], ◌∷◌, fold, Contains, Option, Some, None, if◌then◌else◌}
-use Rattle.rh_parts.specs.ClusterView.{ClusterView, node_count, app_count}
+use Rattle.rh_model.specs.ClusterView.{ClusterView, node_count, app_count}
 use Rattle.rh_state.specs.StateView.{waits_at}
 use Rattle.rh_place.specs.declared.choosing.Pick.{Pick}
 use Rattle.rh_place.specs.Picks.{picked}

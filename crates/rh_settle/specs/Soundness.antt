@@ -1,14 +1,14 @@
 -- What holds of the states that a cluster reaches, and at each moment on the way to them (ours).
 use Rattle.std.specs.Prelude.{◌≡◌, ◌≤◌, ◌&&◌, [], Bool, true, false, All, AllPairs, length, is_some}
 use Rattle.std.specs.List.Sorted.{IsNonDecreasingBy}
-use Rattle.rh_parts.specs.ClusterView.{IsWithin, node_count, app_count, sync_wait_of, is_listed_at}
-use Rattle.rh_parts.specs.declared.node.Node.{Node}
-use Rattle.rh_parts.specs.declared.node.App.{App}
-use Rattle.rh_parts.specs.declared.parts.SyncWait.{SyncWait}
-use Rattle.rh_parts.specs.declared.parts.SyncWait.TheVariants.{Unset, After, Forever}
-use Rattle.rh_state.specs.declared.parts.Standing.{Standing}
-use Rattle.rh_state.specs.declared.parts.Standing.TheVariants.{Quiet, Wanted, Running, Lost}
-use Rattle.rh_state.specs.declared.parts.Timer.TheVariants.{Sync, Failover}
+use Rattle.rh_model.specs.ClusterView.{IsWithin, node_count, app_count, sync_wait_of, is_listed_at}
+use Rattle.rh_model.specs.declared.node.Node.{Node}
+use Rattle.rh_model.specs.declared.node.App.{App}
+use Rattle.rh_model.specs.declared.settings.SyncWait.{SyncWait}
+use Rattle.rh_model.specs.declared.settings.SyncWait.TheVariants.{Unset, After, Forever}
+use Rattle.rh_state.specs.declared.status.Standing.{Standing}
+use Rattle.rh_state.specs.declared.status.Standing.TheVariants.{Quiet, Wanted, Running, Lost}
+use Rattle.rh_state.specs.declared.status.Timer.TheVariants.{Sync, Failover}
 use Rattle.rh_state.specs.First.{configured}
 use Rattle.rh_state.specs.Shape.{IsNodeOf, IsAppOf}
 use Rattle.rh_state.specs.Tables.{row}

@@ -1,9 +1,9 @@
 -- What holds of the states that settling starts from, and of those that it leads to (ours).
 use Rattle.std.specs.Prelude.{◌≡◌, ◌≢◌, true, false, AllPairs, IfSome}
-use Rattle.rh_parts.specs.declared.node.Node.{Node}
-use Rattle.rh_parts.specs.declared.node.App.{App}
-use Rattle.rh_state.specs.declared.parts.Standing.TheVariants.{Running}
-use Rattle.rh_state.specs.declared.parts.Place.TheVariants.{Off}
+use Rattle.rh_model.specs.declared.node.Node.{Node}
+use Rattle.rh_model.specs.declared.node.App.{App}
+use Rattle.rh_state.specs.declared.status.Standing.TheVariants.{Running}
+use Rattle.rh_state.specs.declared.status.Place.TheVariants.{Off}
 use Rattle.rh_state.specs.Shape.{IsNodeOf, IsAppOf}
 use Rattle.rh_state.specs.StateView.{StateView, running_at, waiting_at, runs_at, waits_at, place_of, standing_of}
 use Rattle.rh_settle.specs.declared.notice.Move.{Move}

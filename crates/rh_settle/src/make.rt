@@ -1,9 +1,9 @@
 //! What a move does.
 
 ghost use Rattle.std.specs.Prelude.{◌≡◌, ◌≢◌, ◌<◌, List, OnOk, OnErr};
-ghost use Rattle.rh_parts.specs.ClusterView.{node_count, app_count};
+ghost use Rattle.rh_model.specs.ClusterView.{node_count, app_count};
 ghost use Rattle.rh_state.specs.Shape.{IsKindOf};
-ghost use Rattle.rh_state.specs.Words.{read};
+ghost use Rattle.rh_state.specs.Stored.{read};
 ghost use Rattle.rh_settle.specs.declared.notice.Pair.{Pair};
 ghost use Rattle.rh_settle.specs.declared.notice.Move.TheVariants.{Local, Placement, Takeover};
 ghost use Rattle.rh_settle.specs.Course.{course};
@@ -11,7 +11,7 @@ ghost use Rattle.rh_settle.specs.Moves.{with_started, with_stopped, lost_elsewhe
 ghost use Rattle.rh_settle.specs.Validity.{IsStartedPair, CanBeMade};
 
 use crate::notice::{Move, Notice};
-use rh_parts::{App, Node};
+use rh_model::{App, Node};
 use rh_place::start_kind;
 use rh_state::{Kind, Standing, State};
 use rh_terms::OutOfMemory;

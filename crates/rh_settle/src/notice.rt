@@ -1,6 +1,6 @@
 //! What follows from an event.
 
-use rh_parts::{App, Node};
+use rh_model::{App, Node};
 use rh_state::Kind;
 
 /// What follows from an event.

@@ -1,10 +1,10 @@
 //! Which move comes next.
 
 ghost use Rattle.std.specs.Prelude.{◌≡◌, ◌<◌};
-ghost use Rattle.rh_parts.specs.ClusterView.{node_count, app_count};
-ghost use Rattle.rh_parts.specs.declared.node.Node.{Node};
+ghost use Rattle.rh_model.specs.ClusterView.{node_count, app_count};
+ghost use Rattle.rh_model.specs.declared.node.Node.{Node};
 ghost use Rattle.rh_state.specs.Numbers.{nodes_of, apps_of};
-ghost use Rattle.rh_state.specs.Words.{read};
+ghost use Rattle.rh_state.specs.Stored.{read};
 ghost use Rattle.rh_place.specs.declared.choosing.Pick.{Pick};
 ghost use Rattle.rh_place.specs.Picks.{first_given, picked};
 ghost use Rattle.rh_place.specs.Sets.{has};
@@ -13,7 +13,7 @@ ghost use Rattle.rh_settle.specs.Moves.{is_local, can_start, local_moves, placem
 ghost use Rattle.rh_settle.specs.Validity.{OnceAtEachNode};
 
 use crate::notice::{Move, Pair};
-use rh_parts::{App, Cluster, Node};
+use rh_model::{App, Cluster, Node};
 use rh_place::{NodeSet, Pick, best, choose, deps_run, operational};
 use rh_state::{Standing, State};
 

@@ -1,10 +1,10 @@
 //! Moves until none is left.
 
 ghost use Rattle.std.specs.Prelude.{◌≡◌, ◌≤◌, ◌*◌, [], length, All, OnOk};
-ghost use Rattle.rh_parts.specs.declared.node.Node.{Node};
+ghost use Rattle.rh_model.specs.declared.node.Node.{Node};
 ghost use Rattle.rh_state.specs.Shape.{IsNodeOf};
 ghost use Rattle.rh_state.specs.StateView.{waits_at};
-ghost use Rattle.rh_state.specs.Words.{read};
+ghost use Rattle.rh_state.specs.Stored.{read};
 ghost use Rattle.rh_settle.specs.declared.notice.Pair.{Pair};
 ghost use Rattle.rh_settle.specs.Course.{Course, course};
 ghost use Rattle.rh_settle.specs.Moves.{next_moves};

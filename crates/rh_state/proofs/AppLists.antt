@@ -7,7 +7,7 @@ use Rattle.std.proofs.lemmas.List.Elements.{All-push}
 use Rattle.std.proofs.lemmas.List.Quantifiers.{all_pairs_push}
 use Rattle.std.proofs.lemmas.Map.Steps.{length-le_from_distinct_below}
 use Rattle.std.proofs.lemmas.Option.{slice_get_past}
-use Rattle.rh_parts.specs.declared.node.App.{App}
+use Rattle.rh_model.specs.declared.node.App.{App}
 use Rattle.rh_state.specs.Lists.{has_app, next_app}
 use Rattle.rh_state.specs.Numbers.{same_app}
 

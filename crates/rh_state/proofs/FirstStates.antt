@@ -4,13 +4,13 @@ use Rattle.std.specs.List.{range_with_len}
 use Rattle.std.proofs.lemmas.List.{length-map, length-replicate, map_push}
 use Rattle.std.proofs.lemmas.List.Elements.{All-replicate, All-map}
 use Rattle.std.proofs.lemmas.List.FromFn.{length-range_with_len, map-range_with_len_more}
-use Rattle.rh_parts.specs.ClusterView.{ClusterView, node_count, app_count}
-use Rattle.rh_parts.specs.declared.node.App.{App}
-use Rattle.rh_parts.specs.declared.node.Node.{Node}
+use Rattle.rh_model.specs.ClusterView.{ClusterView, node_count, app_count}
+use Rattle.rh_model.specs.declared.node.App.{App}
+use Rattle.rh_model.specs.declared.node.Node.{Node}
 use Rattle.rh_state.specs.Limits.{incarnation_limit}
 use Rattle.rh_state.specs.Numbers.{nodes_of, apps_of}
 use Rattle.rh_state.specs.First.{first, configured}
-use Rattle.rh_state.specs.declared.parts.Kind.{Kind}
+use Rattle.rh_state.specs.declared.status.Kind.{Kind}
 use Rattle.rh_state.specs.Shape.{IsShaped, IsAppOf, IsKindOf, IsStandingOf}
 
 -- one number more

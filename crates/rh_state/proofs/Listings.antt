@@ -4,7 +4,7 @@ use Rattle.std.proofs.Math.ListN.{set}
 use Rattle.std.proofs.lemmas.List.{length-set, get_or_read}
 use Rattle.std.proofs.lemmas.List.Elements.{All-set}
 use Rattle.std.proofs.lemmas.Option.{unwrap_or-slice_get}
-use Rattle.rh_parts.specs.declared.node.App.{App}
+use Rattle.rh_model.specs.declared.node.App.{App}
 use Rattle.rh_state.specs.Shape.{IsShaped, IsAppOf}
 use Rattle.rh_state.specs.StateView.{StateView}
 use Rattle.rh_state.specs.Tables.{row}

@@ -1,12 +1,12 @@
 -- States computed from the definitions.
 use Rattle.std.proofs.Common.{◌≡◌, ℕ, Bool, true, false, Some, None, List, [], ◌∷◌, refl}
-use Rattle.rh_parts.specs.ClusterView.{ClusterView, NodeView, AppView, numbered, app_numbered}
-use Rattle.rh_parts.specs.declared.node.App.{App}
-use Rattle.rh_parts.specs.declared.parts.SyncWait.TheVariants.{Unset}
-use Rattle.rh_state.specs.declared.parts.Mode.TheVariants.{Down, Up}
-use Rattle.rh_state.specs.declared.parts.Kind.TheVariants as kind
-use Rattle.rh_state.specs.declared.parts.Place.TheVariants.{Off, InRunning, InWaiting}
-use Rattle.rh_state.specs.declared.parts.Timer.TheVariants.{Sync, Failover}
+use Rattle.rh_model.specs.ClusterView.{ClusterView, NodeView, AppView, numbered, app_numbered}
+use Rattle.rh_model.specs.declared.node.App.{App}
+use Rattle.rh_model.specs.declared.settings.SyncWait.TheVariants.{Unset}
+use Rattle.rh_state.specs.declared.status.Mode.TheVariants.{Down, Up}
+use Rattle.rh_state.specs.declared.status.Kind.TheVariants as kind
+use Rattle.rh_state.specs.declared.status.Place.TheVariants.{Off, InRunning, InWaiting}
+use Rattle.rh_state.specs.declared.status.Timer.TheVariants.{Sync, Failover}
 use Rattle.rh_state.specs.First.{first, configured}
 use Rattle.rh_state.specs.Numbers.{nodes_of, apps_of}
 use Rattle.rh_state.specs.Setters.{with_mode, with_incarnation, with_kind, with_running, with_waiting, with_timer, without_due, unlisted}

@@ -5,12 +5,12 @@ use Rattle.std.proofs.lemmas.Bool.{cases_lt, eq-eqb, lt-ltb, le-ltb}
 use Rattle.std.proofs.lemmas.Bool.Decides.{eqb_tells}
 use Rattle.std.proofs.lemmas.List.{map_more}
 use Rattle.std.proofs.lemmas.Option.{slice_get-map, slice_get_within, get_or_from_slice_get}
-use Rattle.rh_parts.specs.ClusterView.{ClusterView, node_count}
+use Rattle.rh_model.specs.ClusterView.{ClusterView, node_count}
 use Rattle.rh_wheel.specs.Firing.{behind, without, due_in}
-use Rattle.rh_wheel.specs.Words as wheel
-use Rattle.rh_state.specs.declared.parts.Timer.{Timer}
+use Rattle.rh_wheel.specs.Stored as wheel
+use Rattle.rh_state.specs.declared.status.Timer.{Timer}
 use Rattle.rh_state.specs.Timers.{same_timer, without_timer, due_among, timer_numbered}
-use Rattle.rh_state.specs.Words.{timers_of}
+use Rattle.rh_state.specs.Stored.{timers_of}
 
 -- what an entry of a wheel means
 abbrev pub meant : ClusterView → ℕ × ℕ → ℕ × Timer
@@ -66,21 +66,21 @@ behind_meant c new (e ∷ es) = by (nat_le e.0 new.0) (behind_meant c new es)
     by false h = refl
 
 -- when a timer is due
-pub due_numbered : (c : ClusterView) (w : wheel.Words) (k : ℕ) (t : Timer) → timer_numbered c k ≡ t → due_in k (wheel.listed w) ≡ due_among t (timers_of c w)
+pub due_numbered : (c : ClusterView) (w : wheel.Stored) (k : ℕ) (t : Timer) → timer_numbered c k ≡ t → due_in k (wheel.listed w) ≡ due_among t (timers_of c w)
 unfolding timers_of
 due_numbered c w k t e = rw (← e) (sym (due_meant c k (wheel.listed w)))
 
 -- a wheel with one timer more, and with one less
-pub behind_numbered : (c : ClusterView) (w v : wheel.Words) (due k : ℕ) (t : Timer) → timer_numbered c k ≡ t → wheel.listed v ≡ behind (due, k) (wheel.listed w) → timers_of c v ≡ behind (due, t) (timers_of c w)
+pub behind_numbered : (c : ClusterView) (w v : wheel.Stored) (due k : ℕ) (t : Timer) → timer_numbered c k ≡ t → wheel.listed v ≡ behind (due, k) (wheel.listed w) → timers_of c v ≡ behind (due, t) (timers_of c w)
 unfolding timers_of
 behind_numbered c w v due k t e h = rw (← e, h) (sym (behind_meant c (due, k) (wheel.listed w)))
 
-pub without_numbered : (c : ClusterView) (w v : wheel.Words) (k : ℕ) (t : Timer) → timer_numbered c k ≡ t → wheel.listed v ≡ without k (wheel.listed w) → timers_of c v ≡ without_timer t (timers_of c w)
+pub without_numbered : (c : ClusterView) (w v : wheel.Stored) (k : ℕ) (t : Timer) → timer_numbered c k ≡ t → wheel.listed v ≡ without k (wheel.listed w) → timers_of c v ≡ without_timer t (timers_of c w)
 unfolding timers_of
 without_numbered c w v k t e h = rw (← e, h) (sym (without_meant c k (wheel.listed w)))
 
 -- the timer that fires first
-pub first_numbered : (c : ClusterView) (w : wheel.Words) → slice_get (timers_of c w) 0 ≡ option_map (meant c) (slice_get (wheel.listed w) 0)
+pub first_numbered : (c : ClusterView) (w : wheel.Stored) → slice_get (timers_of c w) 0 ≡ option_map (meant c) (slice_get (wheel.listed w) 0)
 unfolding timers_of
 first_numbered c w = slice_get-map (meant c) (wheel.listed w) 0
 

@@ -1,11 +1,11 @@
 -- The state before any event (ours).
 use Rattle.std.specs.Prelude.{[], List, Bool, map, replicate}
-use Rattle.rh_parts.specs.ClusterView.{ClusterView, node_count, app_count, is_permitted}
-use Rattle.rh_parts.specs.declared.node.Node.{Node}
-use Rattle.rh_parts.specs.declared.parts.Restart.TheVariants.{Temporary}
-use Rattle.rh_state.specs.declared.parts.Mode.TheVariants.{Down}
-use Rattle.rh_state.specs.declared.parts.Kind.TheVariants.{Normal}
-use Rattle.rh_state.specs.declared.parts.Standing.TheVariants.{Quiet}
+use Rattle.rh_model.specs.ClusterView.{ClusterView, node_count, app_count, is_permitted}
+use Rattle.rh_model.specs.declared.node.Node.{Node}
+use Rattle.rh_model.specs.declared.settings.Restart.TheVariants.{Temporary}
+use Rattle.rh_state.specs.declared.status.Mode.TheVariants.{Down}
+use Rattle.rh_state.specs.declared.status.Kind.TheVariants.{Normal}
+use Rattle.rh_state.specs.declared.status.Standing.TheVariants.{Quiet}
 use Rattle.rh_state.specs.Numbers.{nodes_of, apps_of}
 use Rattle.rh_state.specs.StateView.{StateView}
 

@@ -7,4 +7,4 @@ pub mod StateView
 pub mod Setters
 pub mod First
 pub mod Shape
-pub mod Words
+pub mod Stored

@@ -1,7 +1,7 @@
 -- Lists of applications, as a node has one of those that run and one of those that wait (ours).
 use Rattle.std.specs.Prelude.{List, [], ◌∷◌, Bool, not, Option, None, if◌then◌else◌, slice_get}
 use Rattle.std.specs.List.{filter, list_any}
-use Rattle.rh_parts.specs.declared.node.App.{App}
+use Rattle.rh_model.specs.declared.node.App.{App}
 use Rattle.rh_state.specs.Numbers.{same_app}
 
 abbrev pub has_app : List App → App → Bool

@@ -1,9 +1,9 @@
 -- The nodes and applications of a cluster, by their numbers (ours).
 use Rattle.std.specs.Prelude.{List, map, Bool, ◌==◌}
 use Rattle.std.specs.List.{range_with_len}
-use Rattle.rh_parts.specs.ClusterView.{ClusterView, node_count, app_count, numbered, app_numbered}
-use Rattle.rh_parts.specs.declared.node.Node.{Node}
-use Rattle.rh_parts.specs.declared.node.App.{App}
+use Rattle.rh_model.specs.ClusterView.{ClusterView, node_count, app_count, numbered, app_numbered}
+use Rattle.rh_model.specs.declared.node.Node.{Node}
+use Rattle.rh_model.specs.declared.node.App.{App}
 
 -- the nodes of a cluster, in the order of their terms
 unfoldable pub nodes_of : ClusterView → List Node

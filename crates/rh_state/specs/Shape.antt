@@ -1,14 +1,14 @@
 -- What holds of every state that is kept: each number is one of the cluster's, and each list and table has its size (ours).
 use Rattle.std.specs.Prelude.{◌≡◌, ◌<◌, ◌≤◌, List, length, All, Some, None}
-use Rattle.rh_parts.specs.ClusterView.{ClusterView, node_count, app_count}
-use Rattle.rh_parts.specs.declared.node.Node.{Node}
-use Rattle.rh_parts.specs.declared.node.App.{App}
-use Rattle.rh_state.specs.declared.parts.Kind.{Kind}
-use Rattle.rh_state.specs.declared.parts.Kind.TheVariants as kind
-use Rattle.rh_state.specs.declared.parts.Standing.{Standing}
-use Rattle.rh_state.specs.declared.parts.Standing.TheVariants as standing
-use Rattle.rh_state.specs.declared.parts.Timer.{Timer}
-use Rattle.rh_state.specs.declared.parts.Timer.TheVariants.{Sync, Failover}
+use Rattle.rh_model.specs.ClusterView.{ClusterView, node_count, app_count}
+use Rattle.rh_model.specs.declared.node.Node.{Node}
+use Rattle.rh_model.specs.declared.node.App.{App}
+use Rattle.rh_state.specs.declared.status.Kind.{Kind}
+use Rattle.rh_state.specs.declared.status.Kind.TheVariants as kind
+use Rattle.rh_state.specs.declared.status.Standing.{Standing}
+use Rattle.rh_state.specs.declared.status.Standing.TheVariants as standing
+use Rattle.rh_state.specs.declared.status.Timer.{Timer}
+use Rattle.rh_state.specs.declared.status.Timer.TheVariants.{Sync, Failover}
 use Rattle.rh_state.specs.Limits.{time_limit, incarnation_limit}
 use Rattle.rh_state.specs.StateView.{StateView}
 

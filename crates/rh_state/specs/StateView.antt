@@ -1,19 +1,19 @@
 -- What a state means, as plain lists (Distributed Applications; ours).
 use Rattle.std.specs.Prelude.{ℕ, List, Bool, true, false, ◌||◌, length, slice_get, slice_index, unwrap_or, Option, if◌then◌else◌}
-use Rattle.rh_parts.specs.ClusterView.{ClusterView}
-use Rattle.rh_parts.specs.declared.node.Node.{Node}
-use Rattle.rh_parts.specs.declared.node.App.{App}
-use Rattle.rh_parts.specs.declared.parts.Restart.{Restart}
-use Rattle.rh_parts.specs.declared.parts.Restart.TheVariants.{Temporary}
-use Rattle.rh_state.specs.declared.parts.Mode.{Mode}
-use Rattle.rh_state.specs.declared.parts.Mode.TheVariants as mode
-use Rattle.rh_state.specs.declared.parts.Kind.{Kind}
-use Rattle.rh_state.specs.declared.parts.Kind.TheVariants.{Normal}
-use Rattle.rh_state.specs.declared.parts.Standing.{Standing}
-use Rattle.rh_state.specs.declared.parts.Standing.TheVariants.{Quiet}
-use Rattle.rh_state.specs.declared.parts.Place.{Place}
-use Rattle.rh_state.specs.declared.parts.Place.TheVariants.{Off, InRunning, InWaiting}
-use Rattle.rh_state.specs.declared.parts.Timer.{Timer}
+use Rattle.rh_model.specs.ClusterView.{ClusterView}
+use Rattle.rh_model.specs.declared.node.Node.{Node}
+use Rattle.rh_model.specs.declared.node.App.{App}
+use Rattle.rh_model.specs.declared.settings.Restart.{Restart}
+use Rattle.rh_model.specs.declared.settings.Restart.TheVariants.{Temporary}
+use Rattle.rh_state.specs.declared.status.Mode.{Mode}
+use Rattle.rh_state.specs.declared.status.Mode.TheVariants as mode
+use Rattle.rh_state.specs.declared.status.Kind.{Kind}
+use Rattle.rh_state.specs.declared.status.Kind.TheVariants.{Normal}
+use Rattle.rh_state.specs.declared.status.Standing.{Standing}
+use Rattle.rh_state.specs.declared.status.Standing.TheVariants.{Quiet}
+use Rattle.rh_state.specs.declared.status.Place.{Place}
+use Rattle.rh_state.specs.declared.status.Place.TheVariants.{Off, InRunning, InWaiting}
+use Rattle.rh_state.specs.declared.status.Timer.{Timer}
 use Rattle.rh_state.specs.Tables.{row, cell}
 use Rattle.rh_state.specs.Lists.{has_app, next_app}
 use Rattle.rh_state.specs.Timers.{due_among}

@@ -4,7 +4,7 @@ ghost use Rattle.std.specs.Prelude.{◌≡◌, ◌<◌, ◌++◌, ◌∷◌, [],
 ghost use Rattle.rh_state.specs.Numbers.{same_app};
 ghost use Rattle.rh_state.specs.Lists.{has_app, without_app, next_app};
 
-use rh_parts::App;
+use rh_model::App;
 use rh_terms::OutOfMemory;
 use std::alloc::Global;
 use std::marker::Model;
@@ -17,7 +17,7 @@ pub struct AppList {
 
 impl Model for AppList {
     ghost use Rattle.std.specs.Prelude.{◌≢◌, ◌<◌, ◌≤◌, List, All, AllPairs, vec_capacity};
-    ghost use Rattle.rh_parts.specs.declared.node.App.{App};
+    ghost use Rattle.rh_model.specs.declared.node.App.{App};
 
     ghost Value = { List App };
 

@@ -5,9 +5,9 @@
 #![tactic(auto)]
 
 mod apps;
-mod parts;
+mod status;
 mod state;
 mod table;
 
-pub use parts::{Kind, Mode, Place, Standing, Timer};
+pub use status::{Kind, Mode, Place, Standing, Timer};
 pub use state::{State, first_state};

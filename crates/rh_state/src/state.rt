@@ -1,20 +1,20 @@
 //! The state of a cluster.
 
 ghost use Rattle.std.specs.Prelude.{◌≡◌, ◌<◌, IfOk, map};
-ghost use Rattle.rh_parts.specs.ClusterView.{node_count};
+ghost use Rattle.rh_model.specs.ClusterView.{node_count};
 ghost use Rattle.rh_state.specs.Numbers.{nodes_of};
 ghost use Rattle.rh_state.specs.First.{first, configured};
 ghost use Rattle.rh_state.specs.Shape.{IsShaped};
-ghost use Rattle.rh_state.specs.Words.{read};
+ghost use Rattle.rh_state.specs.Stored.{read};
 
 mod reading;
 mod setting;
 mod timers;
 
 use crate::apps::{AppList, copies_of as copies_of_lists, empty_lists};
-use crate::parts::{Kind, Mode, Standing};
+use crate::status::{Kind, Mode, Standing};
 use crate::table::{Row, copies_of as copies_of_rows, rows_of};
-use rh_parts::{App, Cluster, Node, Restart};
+use rh_model::{App, Cluster, Node, Restart};
 use rh_terms::OutOfMemory;
 use rh_wheel::Wheel;
 use std::alloc::Global;
@@ -42,12 +42,12 @@ pub struct State {
 
 impl Model for State {
     ghost use Rattle.std.specs.Prelude.{◌≡◌, ◌+◌, []};
-    ghost use Rattle.rh_parts.specs.ClusterView.{node_count, app_count};
-    ghost use Rattle.rh_wheel.specs.Words.{timer_count};
+    ghost use Rattle.rh_model.specs.ClusterView.{node_count, app_count};
+    ghost use Rattle.rh_wheel.specs.Stored.{timer_count};
     ghost use Rattle.rh_state.specs.Shape.{IsShaped};
-    ghost use Rattle.rh_state.specs.Words.{Words, read};
+    ghost use Rattle.rh_state.specs.Stored.{Stored, read};
 
-    ghost Value = { Words };
+    ghost Value = { Stored };
 
     ghost view = { λ s. record { cluster = s.cluster; time = s.time; modes = s.modes.items; incarnations = s.incarnations.items; running = s.running.items; waiting = s.waiting.items; restarts = s.restarts.items; kinds = s.kinds.items; allowed = s.allowed.items; standings = s.standings.items; wheel = s.wheel } };
 
@@ -62,7 +62,7 @@ impl State {
     pub const INCARNATION_LIMIT: u16 = 9_999;
 
     /// A state has a place for each node and each application of its cluster, and names no others.
-    #[tactic(auto, unfolding(crate::specs::Words::read))]
+    #[tactic(auto, unfolding(crate::specs::Stored::read))]
     pub fn shape(&self)
         ensures { IsShaped (read self.now) }
     {
@@ -134,7 +134,7 @@ impl State {
 
 /// The state before any event: the time is 0, all nodes are down, nothing is started, and the permissions are those of the
 /// cluster file. It keeps a copy of the cluster.
-#[tactic(auto, unfolding(crate::specs::Words::read, crate::specs::Words::timers_of))]
+#[tactic(auto, unfolding(crate::specs::Stored::read, crate::specs::Stored::timers_of))]
 pub fn first_state(alloc: Global, cluster: &Cluster) -> Result<State, OutOfMemory>
     ensures { IfOk result (λ state. read state ≡ first cluster.now) }
 {

@@ -1,20 +1,20 @@
 -- What it says of a state that an event isn't refused.
 use Rattle.std.proofs.Common.{◌≡◌, ◌≢◌, ◌<◌, ◌≤◌, ◌+◌, ◌==◌, ℕ, Bool, true, false, cond, not, nat_lt, List, [], ◌∷◌, Option, Some, None, refl, sym, ap, ◌∙◌, arith}
 use Rattle.std.proofs.lemmas.Bool.Decides.{nat_tests}
-use Rattle.rh_parts.specs.ClusterView.{is_listed_at}
-use Rattle.rh_parts.specs.declared.node.Node.{Node}
-use Rattle.rh_parts.specs.declared.node.App.{App}
-use Rattle.rh_parts.specs.declared.parts.Dep.{Dep}
-use Rattle.rh_parts.specs.declared.parts.Restart.{Restart}
-use Rattle.rh_state.specs.declared.parts.Standing.{Standing}
-use Rattle.rh_state.specs.declared.parts.Standing.TheVariants.{Quiet, Wanted, Running, Lost}
+use Rattle.rh_model.specs.ClusterView.{is_listed_at}
+use Rattle.rh_model.specs.declared.node.Node.{Node}
+use Rattle.rh_model.specs.declared.node.App.{App}
+use Rattle.rh_model.specs.declared.settings.Dep.{Dep}
+use Rattle.rh_model.specs.declared.settings.Restart.{Restart}
+use Rattle.rh_state.specs.declared.status.Standing.{Standing}
+use Rattle.rh_state.specs.declared.status.Standing.TheVariants.{Quiet, Wanted, Running, Lost}
 use Rattle.rh_state.specs.Limits.{time_limit, incarnation_limit}
 use Rattle.rh_state.specs.Numbers.{same_node}
 use Rattle.rh_state.specs.Shape.{IsNodeOf, IsAppOf}
 use Rattle.rh_state.specs.StateView.{StateView, mode_of, incarnation_of, is_alive, is_up, is_started, is_allowed, runs_at, standing_of}
 use Rattle.rh_place.specs.Placing.{missing_dep}
 use Rattle.rh_settle.specs.Moves.{is_local}
-use Rattle.rh_change.specs.declared.event.Event.TheVariants.{Boot, Crash, Tick, Start, Stop, Permit, Takeover, Exit}
+use Rattle.rh_events.specs.declared.event.Event.TheVariants.{Boot, Crash, Tick, Start, Stop, Permit, Takeover, Exit}
 use Rattle.rh_step.specs.declared.refusal.Refusal.{Refusal}
 use Rattle.rh_step.specs.declared.refusal.Refusal.TheVariants.{NotListed, AlreadyStarted, NeverStarted, NotRunningHere}
 use Rattle.rh_step.specs.Refusals.{refused, tests, tests_by_hand, first_that_applies, dep_tests, stands_running, stands_running_at}

@@ -1,16 +1,16 @@
 -- Which nodes are ready, and which applications move, doesn't hang on the time.
 use Rattle.std.proofs.Common.{◌≡◌, ◌&&◌, ◌++◌, ℕ, Bool, List, [], ◌∷◌, map, slice_get, unwrap_or, if◌then◌else◌, refl, ap, ◌∙◌}
 use Rattle.std.specs.List.{list_all}
-use Rattle.rh_parts.specs.ClusterView.{mandatory_of, optional_of, sync_wait_of, deps_of, group_of}
-use Rattle.rh_parts.specs.declared.node.Node.{Node}
-use Rattle.rh_parts.specs.declared.node.App.{App}
-use Rattle.rh_parts.specs.declared.parts.Dep.{Dep}
-use Rattle.rh_parts.specs.declared.parts.Dep.TheVariants.{Listed, Platform}
-use Rattle.rh_parts.specs.declared.parts.SyncWait.{SyncWait}
-use Rattle.rh_parts.specs.declared.parts.SyncWait.TheVariants.{Unset, After, Forever}
-use Rattle.rh_state.specs.declared.parts.Mode.TheVariants.{Down}
-use Rattle.rh_state.specs.declared.parts.Standing.{Standing}
-use Rattle.rh_state.specs.declared.parts.Standing.TheVariants.{Quiet, Wanted, Running, Lost}
+use Rattle.rh_model.specs.ClusterView.{mandatory_of, optional_of, sync_wait_of, deps_of, group_of}
+use Rattle.rh_model.specs.declared.node.Node.{Node}
+use Rattle.rh_model.specs.declared.node.App.{App}
+use Rattle.rh_model.specs.declared.settings.Dep.{Dep}
+use Rattle.rh_model.specs.declared.settings.Dep.TheVariants.{Listed, Platform}
+use Rattle.rh_model.specs.declared.settings.SyncWait.{SyncWait}
+use Rattle.rh_model.specs.declared.settings.SyncWait.TheVariants.{Unset, After, Forever}
+use Rattle.rh_state.specs.declared.status.Mode.TheVariants.{Down}
+use Rattle.rh_state.specs.declared.status.Standing.{Standing}
+use Rattle.rh_state.specs.declared.status.Standing.TheVariants.{Quiet, Wanted, Running, Lost}
 use Rattle.rh_state.specs.Numbers.{nodes_of, apps_of}
 use Rattle.rh_state.specs.StateView.{StateView, mode_of, is_alive, is_up, is_waiting, is_started, is_allowed, waiting_at, standing_of}
 use Rattle.rh_state.specs.Setters.{with_time}
@@ -20,7 +20,7 @@ use Rattle.rh_settle.specs.declared.notice.Move.TheVariants.{Local, Placement, T
 use Rattle.rh_settle.specs.declared.notice.Pair.{Pair}
 use Rattle.rh_settle.specs.Course.{is_fresh}
 use Rattle.rh_settle.specs.Moves.{is_local, can_start, local_moves, placements_from, placements, comes_before, calls_away, takeovers_from, takeovers, next_moves}
-use Rattle.rh_change.specs.Readiness.{all_alive, has_others, is_ready}
+use Rattle.rh_events.specs.Readiness.{all_alive, has_others, is_ready}
 
 -- whether a node is ready hangs on the cluster and the modes alone
 others_alike : (s t : StateView) (n : Node) (wait : SyncWait) → t.cluster ≡ s.cluster → t.modes ≡ s.modes → has_others t n wait ≡ has_others s n wait

@@ -1,18 +1,18 @@
 -- What refuses an event by hand: the tests that all such events have, and then its own.
 use Rattle.std.proofs.Common.{◌≡◌, ◌||◌, Bool, true, false, cond, not, List, [], ◌∷◌, Option, Some, None, refl, sym, ap, ◌∙◌}
 use Rattle.std.specs.Option.{option_or}
-use Rattle.rh_parts.specs.ClusterView.{is_listed_at}
-use Rattle.rh_parts.specs.declared.node.Node.{Node}
-use Rattle.rh_parts.specs.declared.node.App.{App}
-use Rattle.rh_parts.specs.declared.parts.Restart.{Restart}
-use Rattle.rh_state.specs.declared.parts.Place.{Place}
-use Rattle.rh_state.specs.declared.parts.Place.TheVariants.{Off, InRunning, InWaiting}
-use Rattle.rh_state.specs.declared.parts.Standing.{Standing}
+use Rattle.rh_model.specs.ClusterView.{is_listed_at}
+use Rattle.rh_model.specs.declared.node.Node.{Node}
+use Rattle.rh_model.specs.declared.node.App.{App}
+use Rattle.rh_model.specs.declared.settings.Restart.{Restart}
+use Rattle.rh_state.specs.declared.status.Place.{Place}
+use Rattle.rh_state.specs.declared.status.Place.TheVariants.{Off, InRunning, InWaiting}
+use Rattle.rh_state.specs.declared.status.Standing.{Standing}
 use Rattle.rh_state.specs.StateView.{StateView, is_started, is_allowed, runs_at, waits_at, place_of, standing_of}
 use Rattle.rh_place.specs.Placing.{missing_dep}
 use Rattle.rh_settle.specs.Moves.{is_local}
-use Rattle.rh_change.specs.declared.event.Event.{Event}
-use Rattle.rh_change.specs.declared.event.Event.TheVariants.{Start, Stop, Permit, Takeover, Exit}
+use Rattle.rh_events.specs.declared.event.Event.{Event}
+use Rattle.rh_events.specs.declared.event.Event.TheVariants.{Start, Stop, Permit, Takeover, Exit}
 use Rattle.rh_step.specs.declared.refusal.Refusal.{Refusal}
 use Rattle.rh_step.specs.declared.refusal.Refusal.TheVariants.{NotDistributed, NotListed, AlreadyStarted, NeverStarted, NotRunning, RunsHere, NotRunningHere, NotPermitted}
 use Rattle.rh_step.specs.Refusals.{refused, tests, tests_by_hand, dep_tests, stands_running, stands_running_at, first_that_applies}

@@ -1,16 +1,16 @@
 -- Behind a change the ready nodes come up one after the other, and then the applications settle as they may.
 use Rattle.std.proofs.Common.{◌≡◌, Bool, true, false, cond, List, [], ◌∷◌, fold, refl}
-use Rattle.rh_parts.specs.declared.node.Node.{Node}
+use Rattle.rh_model.specs.declared.node.Node.{Node}
 use Rattle.rh_state.specs.Numbers.{nodes_of}
 use Rattle.rh_place.specs.declared.choosing.Pick.{Pick}
 use Rattle.rh_settle.specs.Course.{Course}
 use Rattle.rh_settle.specs.Settling.{settled}
 use Rattle.rh_settle.specs.Soundness.{IsSound}
-use Rattle.rh_change.specs.Readiness.{is_ready}
-use Rattle.rh_change.specs.ComingUp.{come_up, come_up_if_ready, ready_come_up}
+use Rattle.rh_events.specs.Readiness.{is_ready}
+use Rattle.rh_events.specs.ComingUp.{come_up, come_up_if_ready, ready_come_up}
 use Rattle.rh_step.specs.Allowed.{ComeUp, no_node, ready, not_ready, ComesOf}
 use Rattle.rh_settle.proofs.SettlingLaws.{settles_by_pick}
-use Rattle.rh_change.proofs.SoundComingUp.{sound_ready_come_up}
+use Rattle.rh_events.proofs.SoundComingUp.{sound_ready_come_up}
 
 -- the nodes of a list come up, each if it is ready
 pub each_comes_up : (ns : List Node) (o : Course) → ComeUp ns o (fold come_up_if_ready o ns)

@@ -1,14 +1,14 @@
 -- Behind all firings no timer is due any more, so that time may pass to its end; and nothing is left to do.
 use Rattle.std.proofs.Common.{◌≡◌, ◌≤◌, ℕ, zero, suc, List, [], ◌∷◌, slice_get, All, Some, None, refl, sym, ap, subst, inl, inr, arith}
 use Rattle.std.proofs.lemmas.Bool.Decides.{leb_tells}
-use Rattle.rh_state.specs.declared.parts.Timer.{Timer}
+use Rattle.rh_state.specs.declared.status.Timer.{Timer}
 use Rattle.rh_state.specs.StateView.{earliest}
 use Rattle.rh_state.specs.Setters.{with_time}
 use Rattle.rh_place.specs.declared.choosing.Pick.{Pick}
 use Rattle.rh_settle.specs.Course.{Course}
 use Rattle.rh_settle.specs.Soundness.{IsSound}
 use Rattle.rh_step.specs.Ticks.{due_by, fired, fired_by, all_fired}
-use Rattle.rh_change.proofs.TimersToldApart.{IsInOrder}
+use Rattle.rh_events.proofs.TimersToldApart.{IsInOrder}
 use Rattle.rh_step.proofs.TakenOff.{sound_at}
 use Rattle.rh_step.proofs.Fuel.{timer_count, goes, by_found, nothing_due, fired_fewer, sound_fired, sound_all_fired}
 

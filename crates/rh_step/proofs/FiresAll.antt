@@ -1,6 +1,6 @@
 -- The timers that are due fire one after the other, as they may.
 use Rattle.std.proofs.Common.{◌≡◌, ℕ, zero, suc, ◌≤◌, Some, sym, ap, subst, arith}
-use Rattle.rh_state.specs.declared.parts.Timer.{Timer}
+use Rattle.rh_state.specs.declared.status.Timer.{Timer}
 use Rattle.rh_state.specs.StateView.{earliest}
 use Rattle.rh_place.specs.declared.choosing.Pick.{Pick}
 use Rattle.rh_settle.specs.Course.{Course}

@@ -1,12 +1,12 @@
 -- One timer fires: what its effect asks, and what the loop over the due timers keeps.
 use Rattle.std.proofs.Common.{◌≡◌, ℕ, zero, suc, Bool, true, false, cond, List, [], length, Option, Some, None, IsNone, is_some, All, refl, sym, ap, ◌∙◌, subst}
-use Rattle.rh_parts.specs.ClusterView.{mandatory_of}
-use Rattle.rh_parts.specs.declared.node.Node.{Node}
-use Rattle.rh_parts.specs.declared.node.App.{App}
-use Rattle.rh_state.specs.declared.parts.Standing.{Standing}
-use Rattle.rh_state.specs.declared.parts.Standing.TheVariants.{Quiet, Wanted, Running, Lost}
-use Rattle.rh_state.specs.declared.parts.Timer.{Timer}
-use Rattle.rh_state.specs.declared.parts.Timer.TheVariants.{Sync, Failover}
+use Rattle.rh_model.specs.ClusterView.{mandatory_of}
+use Rattle.rh_model.specs.declared.node.Node.{Node}
+use Rattle.rh_model.specs.declared.node.App.{App}
+use Rattle.rh_state.specs.declared.status.Standing.{Standing}
+use Rattle.rh_state.specs.declared.status.Standing.TheVariants.{Quiet, Wanted, Running, Lost}
+use Rattle.rh_state.specs.declared.status.Timer.{Timer}
+use Rattle.rh_state.specs.declared.status.Timer.TheVariants.{Sync, Failover}
 use Rattle.rh_state.specs.Shape.{IsNodeOf, IsTimerOf}
 use Rattle.rh_state.specs.Setters.{with_time, without_due}
 use Rattle.rh_state.specs.StateView.{StateView, standing_of, due_of, earliest, running_at, waiting_at}
@@ -15,13 +15,13 @@ use Rattle.rh_settle.specs.declared.notice.Notice.{Notice}
 use Rattle.rh_settle.specs.declared.notice.Pair.{Pair}
 use Rattle.rh_settle.specs.Course.{Course, course}
 use Rattle.rh_settle.specs.Soundness.{IsSound}
-use Rattle.rh_change.specs.Readiness.{all_alive}
-use Rattle.rh_change.specs.ComingUp.{come_up}
-use Rattle.rh_change.specs.Ending.{ended}
-use Rattle.rh_change.proofs.Losing.{due_without_sync}
-use Rattle.rh_change.proofs.Marked.{marked_come_up}
-use Rattle.rh_change.proofs.SoundComingUp.{idle_waits, come_up_cluster}
-use Rattle.rh_change.proofs.Fields.{ended_cluster}
+use Rattle.rh_events.specs.Readiness.{all_alive}
+use Rattle.rh_events.specs.ComingUp.{come_up}
+use Rattle.rh_events.specs.Ending.{ended}
+use Rattle.rh_events.proofs.Losing.{due_without_sync}
+use Rattle.rh_events.proofs.Marked.{marked_come_up}
+use Rattle.rh_events.proofs.SoundComingUp.{idle_waits, come_up_cluster}
+use Rattle.rh_events.proofs.Fields.{ended_cluster}
 use Rattle.rh_step.specs.Outcomes.{outcome_of}
 use Rattle.rh_step.specs.Ticks.{due_by, effect, wanted_if_lost, fired, go_on, fired_by, all_fired}
 use Rattle.rh_step.proofs.Requirements.{unset_failover}

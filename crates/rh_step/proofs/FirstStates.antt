@@ -3,12 +3,12 @@ use Rattle.std.proofs.Common.{◌≡◌, ◌≢◌, ◌||◌, ℕ, zero, suc, Bo
 use Rattle.std.proofs.lemmas.Bool.{and_left}
 use Rattle.std.proofs.lemmas.List.{length-replicate, get_or-map}
 use Rattle.std.proofs.lemmas.Option.{unwrap_or-slice_get}
-use Rattle.rh_parts.specs.ClusterView.{ClusterView, IsWithin, node_count, app_count}
-use Rattle.rh_parts.specs.declared.node.Node.{Node}
-use Rattle.rh_parts.specs.declared.node.App.{App}
-use Rattle.rh_state.specs.declared.parts.Mode.TheVariants.{Down}
-use Rattle.rh_state.specs.declared.parts.Standing.{Standing}
-use Rattle.rh_state.specs.declared.parts.Standing.TheVariants.{Quiet, Running}
+use Rattle.rh_model.specs.ClusterView.{ClusterView, IsWithin, node_count, app_count}
+use Rattle.rh_model.specs.declared.node.Node.{Node}
+use Rattle.rh_model.specs.declared.node.App.{App}
+use Rattle.rh_state.specs.declared.status.Mode.TheVariants.{Down}
+use Rattle.rh_state.specs.declared.status.Standing.{Standing}
+use Rattle.rh_state.specs.declared.status.Standing.TheVariants.{Quiet, Running}
 use Rattle.rh_state.specs.First.{first, configured}
 use Rattle.rh_state.specs.Lists.{has_app}
 use Rattle.rh_state.specs.Numbers.{nodes_of, apps_of}
@@ -20,7 +20,7 @@ use Rattle.rh_place.specs.Picks.{or_else, first_given}
 use Rattle.rh_settle.proofs.Searches.{length_nodes, node_there}
 use Rattle.rh_settle.specs.Moves.{local_move, local_moves, placements, placements_from, takeovers, takeovers_from, next_moves}
 use Rattle.rh_settle.specs.Soundness.{IsSized, TimersFit, IsSound, is_lost}
-use Rattle.rh_change.specs.Readiness.{is_ready}
+use Rattle.rh_events.specs.Readiness.{is_ready}
 use Rattle.rh_step.specs.Validity.{IsValid}
 
 -- a list of one element over and over, read at that element

@@ -2,15 +2,15 @@
 use Rattle.std.proofs.Common.{◌≡◌, ℕ, zero, suc, ◌<◌, ◌≤◌, Bool, true, false, cond, not, List, [], ◌∷◌, length, Option, Some, None, refl, sym, ap, subst, ◌∙◌, arith, nat_le, nat_eq, slice_get}
 use Rattle.std.specs.List.{filter}
 use Rattle.std.proofs.lemmas.Bool.Decides.{nat_tests}
-use Rattle.rh_parts.specs.ClusterView.{mandatory_of, numbered}
-use Rattle.rh_parts.specs.declared.node.Node.{Node}
-use Rattle.rh_parts.specs.declared.node.App.{App}
-use Rattle.rh_state.specs.declared.parts.Mode.{Mode}
-use Rattle.rh_state.specs.declared.parts.Mode.TheVariants.{Down, Waiting, Up}
-use Rattle.rh_state.specs.declared.parts.Standing.{Standing}
-use Rattle.rh_state.specs.declared.parts.Standing.TheVariants.{Quiet, Wanted, Running, Lost}
-use Rattle.rh_state.specs.declared.parts.Timer.{Timer}
-use Rattle.rh_state.specs.declared.parts.Timer.TheVariants.{Sync, Failover}
+use Rattle.rh_model.specs.ClusterView.{mandatory_of, numbered}
+use Rattle.rh_model.specs.declared.node.Node.{Node}
+use Rattle.rh_model.specs.declared.node.App.{App}
+use Rattle.rh_state.specs.declared.status.Mode.{Mode}
+use Rattle.rh_state.specs.declared.status.Mode.TheVariants.{Down, Waiting, Up}
+use Rattle.rh_state.specs.declared.status.Standing.{Standing}
+use Rattle.rh_state.specs.declared.status.Standing.TheVariants.{Quiet, Wanted, Running, Lost}
+use Rattle.rh_state.specs.declared.status.Timer.{Timer}
+use Rattle.rh_state.specs.declared.status.Timer.TheVariants.{Sync, Failover}
 use Rattle.rh_state.specs.Lists.{has_app}
 use Rattle.rh_state.specs.Numbers.{same_node}
 use Rattle.rh_state.specs.Timers.{same_timer, without_timer}
@@ -19,15 +19,15 @@ use Rattle.rh_place.specs.declared.choosing.Pick.{Pick}
 use Rattle.rh_place.proofs.Lists.{cases}
 use Rattle.rh_settle.specs.Course.{Course}
 use Rattle.rh_settle.specs.Soundness.{IsSound}
-use Rattle.rh_change.specs.Readiness.{all_alive}
-use Rattle.rh_change.specs.ComingUp.{come_up, ready_come_up}
-use Rattle.rh_change.specs.Ending.{ended}
+use Rattle.rh_events.specs.Readiness.{all_alive}
+use Rattle.rh_events.specs.ComingUp.{come_up, ready_come_up}
+use Rattle.rh_events.specs.Ending.{ended}
 use Rattle.rh_step.specs.Ticks.{due_by, wanted_if_lost, effect, taken_off, fired, go_on, fired_by, all_fired}
-use Rattle.rh_change.proofs.TimersFall.{come_up_timers, ended_timers, ready_timers}
+use Rattle.rh_events.proofs.TimersFall.{come_up_timers, ended_timers, ready_timers}
 use Rattle.rh_settle.proofs.Unchanged.{settled_timers}
-use Rattle.rh_change.proofs.SoundComingUp.{sound_ready_come_up}
+use Rattle.rh_events.proofs.SoundComingUp.{sound_ready_come_up}
 use Rattle.rh_settle.proofs.Still.{settled_sound}
-use Rattle.rh_change.proofs.TimersToldApart.{same_self}
+use Rattle.rh_events.proofs.TimersToldApart.{same_self}
 use Rattle.rh_step.proofs.TakenOff.{waits_to_end, sound_effect}
 
 abbrev pub timer_count : Course → ℕ

@@ -1,21 +1,21 @@
 -- What boots and coming up do to the modes.
 use Rattle.std.proofs.Common.{◌≡◌, ◌+◌, List, [], ◌∷◌, fold, slice_set, refl, ◌∙◌}
-use Rattle.rh_parts.specs.ClusterView.{sync_wait_of, boot_of}
-use Rattle.rh_parts.specs.declared.node.Node.{Node}
-use Rattle.rh_parts.specs.declared.node.App.{App}
-use Rattle.rh_parts.specs.declared.parts.Restart.{Restart}
-use Rattle.rh_parts.specs.declared.parts.SyncWait.{SyncWait}
-use Rattle.rh_parts.specs.declared.parts.SyncWait.TheVariants.{Unset, After, Forever}
-use Rattle.rh_state.specs.declared.parts.Mode.TheVariants.{Waiting, Up}
-use Rattle.rh_state.specs.declared.parts.Timer.TheVariants.{Sync}
+use Rattle.rh_model.specs.ClusterView.{sync_wait_of, boot_of}
+use Rattle.rh_model.specs.declared.node.Node.{Node}
+use Rattle.rh_model.specs.declared.node.App.{App}
+use Rattle.rh_model.specs.declared.settings.Restart.{Restart}
+use Rattle.rh_model.specs.declared.settings.SyncWait.{SyncWait}
+use Rattle.rh_model.specs.declared.settings.SyncWait.TheVariants.{Unset, After, Forever}
+use Rattle.rh_state.specs.declared.status.Mode.TheVariants.{Waiting, Up}
+use Rattle.rh_state.specs.declared.status.Timer.TheVariants.{Sync}
 use Rattle.rh_state.specs.StateView.{StateView, incarnation_of}
 use Rattle.rh_state.specs.Setters.{with_mode, with_incarnation, without_due}
 use Rattle.rh_settle.specs.declared.notice.Notice.TheVariants as notice
 use Rattle.rh_settle.specs.Course.{Course, told, now_in}
-use Rattle.rh_change.specs.Marking.{mark, mark_booted, mark_all}
-use Rattle.rh_change.specs.ComingUp.{come_up}
-use Rattle.rh_change.specs.Changes.{with_sync_timer, booted}
-use Rattle.rh_change.proofs.Fields.{marked_same}
+use Rattle.rh_events.specs.Marking.{mark, mark_booted, mark_all}
+use Rattle.rh_events.specs.ComingUp.{come_up}
+use Rattle.rh_events.specs.Changes.{with_sync_timer, booted}
+use Rattle.rh_events.proofs.Fields.{marked_same}
 
 marks_modes : (n : Node) (boot : List (App × Restart)) (o : Course) → (fold (mark_booted n) o boot).state.modes ≡ o.state.modes
 marks_modes n [] o = refl

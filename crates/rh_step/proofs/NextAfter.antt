@@ -5,13 +5,13 @@ use Rattle.rh_place.specs.declared.choosing.Pick.{Pick}
 use Rattle.rh_settle.specs.declared.notice.Notice.{Notice}
 use Rattle.rh_settle.specs.Course.{Course, course}
 use Rattle.rh_settle.specs.Settling.{settled}
-use Rattle.rh_change.specs.declared.event.Event.{Event}
-use Rattle.rh_change.specs.declared.event.Event.TheVariants.{Boot, Crash, Tick, Start, Stop, Permit, Takeover, Exit}
-use Rattle.rh_change.specs.ComingUp.{ready_come_up}
-use Rattle.rh_change.specs.Changes.{change}
+use Rattle.rh_events.specs.declared.event.Event.{Event}
+use Rattle.rh_events.specs.declared.event.Event.TheVariants.{Boot, Crash, Tick, Start, Stop, Permit, Takeover, Exit}
+use Rattle.rh_events.specs.ComingUp.{ready_come_up}
+use Rattle.rh_events.specs.Changes.{change}
 use Rattle.rh_step.specs.Outcomes.{followed, next_from}
 use Rattle.rh_settle.proofs.Behind.{after_notices, settled_after}
-use Rattle.rh_change.proofs.Notices.{change_after, ready_come_up_after}
+use Rattle.rh_events.proofs.Notices.{change_after, ready_come_up_after}
 use Rattle.rh_step.proofs.TickLaws.{ticked_after}
 
 pub followed_after : (base : List Notice) (pick : Pick) (o : Course) (e : Event) → followed pick (after_notices base o) e ≡ after_notices base (followed pick o e)

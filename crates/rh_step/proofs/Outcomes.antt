@@ -4,9 +4,9 @@ use Rattle.rh_state.specs.StateView.{StateView}
 use Rattle.rh_place.specs.declared.choosing.Pick.{Pick}
 use Rattle.rh_settle.specs.Course.{course}
 use Rattle.rh_settle.specs.Soundness.{IsSound}
-use Rattle.rh_change.specs.declared.event.Event.{Event}
-use Rattle.rh_change.specs.declared.event.Event.TheVariants.{Boot, Crash, Tick, Start, Stop, Permit, Takeover, Exit}
-use Rattle.rh_change.specs.Changes.{change}
+use Rattle.rh_events.specs.declared.event.Event.{Event}
+use Rattle.rh_events.specs.declared.event.Event.TheVariants.{Boot, Crash, Tick, Start, Stop, Permit, Takeover, Exit}
+use Rattle.rh_events.specs.Changes.{change}
 use Rattle.rh_step.specs.Refusals.{refused}
 use Rattle.rh_step.specs.Ticks.{all_fired, ticked}
 use Rattle.rh_step.specs.Outcomes.{followed, outcome_of, next}

@@ -4,8 +4,8 @@ use Rattle.rh_state.specs.StateView.{StateView}
 use Rattle.rh_place.specs.declared.choosing.Pick.{Pick}
 use Rattle.rh_settle.specs.declared.notice.Notice.{Notice}
 use Rattle.rh_settle.specs.Course.{Course, course}
-use Rattle.rh_change.specs.declared.event.Event.{Event}
-use Rattle.rh_change.specs.declared.event.Event.TheVariants.{Boot, Crash, Tick, Start, Stop, Permit, Takeover, Exit}
+use Rattle.rh_events.specs.declared.event.Event.{Event}
+use Rattle.rh_events.specs.declared.event.Event.TheVariants.{Boot, Crash, Tick, Start, Stop, Permit, Takeover, Exit}
 use Rattle.rh_step.specs.Refusals.{refused}
 use Rattle.rh_step.specs.Outcomes.{Outcome, outcome, outcome_of, followed, next_from, next}
 use Rattle.rh_step.specs.Allowed.{Allowed}

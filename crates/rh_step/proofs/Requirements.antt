@@ -1,18 +1,18 @@
 -- What a change asks of a state, where the state is sound and the event isn't refused.
 use Rattle.std.proofs.Common.{◌≡◌, ◌≢◌, ◌||◌, Bool, true, false, cond, Option, Some, None, IsNone, is_some, refl, sym, ap, ◌∙◌, subst}
 use Rattle.std.proofs.lemmas.Bool.{and_left}
-use Rattle.rh_parts.specs.declared.node.Node.{Node}
-use Rattle.rh_parts.specs.declared.node.App.{App}
-use Rattle.rh_parts.specs.declared.parts.Restart.{Restart}
-use Rattle.rh_state.specs.declared.parts.Mode.{Mode}
-use Rattle.rh_state.specs.declared.parts.Mode.TheVariants.{Down, Waiting, Up}
-use Rattle.rh_state.specs.declared.parts.Place.TheVariants.{Off, InRunning, InWaiting}
-use Rattle.rh_state.specs.declared.parts.Standing.TheVariants.{Running}
-use Rattle.rh_state.specs.declared.parts.Timer.TheVariants.{Sync, Failover}
+use Rattle.rh_model.specs.declared.node.Node.{Node}
+use Rattle.rh_model.specs.declared.node.App.{App}
+use Rattle.rh_model.specs.declared.settings.Restart.{Restart}
+use Rattle.rh_state.specs.declared.status.Mode.{Mode}
+use Rattle.rh_state.specs.declared.status.Mode.TheVariants.{Down, Waiting, Up}
+use Rattle.rh_state.specs.declared.status.Place.TheVariants.{Off, InRunning, InWaiting}
+use Rattle.rh_state.specs.declared.status.Standing.TheVariants.{Running}
+use Rattle.rh_state.specs.declared.status.Timer.TheVariants.{Sync, Failover}
 use Rattle.rh_state.specs.StateView.{StateView, mode_of, is_alive, is_waiting, runs_at, waits_at, place_of, standing_of, due_of}
 use Rattle.rh_settle.proofs.Places.{started_on}
 use Rattle.rh_settle.specs.Soundness.{IsSound, is_lost}
-use Rattle.rh_change.specs.declared.event.Event.TheVariants.{Boot, Start, Stop, Takeover}
+use Rattle.rh_events.specs.declared.event.Event.TheVariants.{Boot, Start, Stop, Takeover}
 use Rattle.rh_step.specs.Refusals.{refused}
 use Rattle.rh_step.proofs.Accepted.{differs, same_standing, accepted_boot, accepted_start, accepted_stop, accepted_takeover}
 

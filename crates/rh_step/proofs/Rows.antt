@@ -1,14 +1,14 @@
 -- Worked rows of local applications: the definitions compute to what an operator expects.
 use Rattle.std.proofs.Common.{◌≡◌, List, Bool, true, false, [], ◌∷◌, Some, None, codes, refl}
-use Rattle.rh_parts.specs.ClusterView.{ClusterView, NodeView, AppView, numbered, app_numbered}
-use Rattle.rh_parts.specs.declared.node.Node.{Node}
-use Rattle.rh_parts.specs.declared.node.App.{App}
-use Rattle.rh_parts.specs.declared.parts.Dep.{Dep}
-use Rattle.rh_parts.specs.declared.parts.Dep.TheVariants.{Listed, Platform}
-use Rattle.rh_parts.specs.declared.parts.Restart.{Restart}
-use Rattle.rh_parts.specs.declared.parts.Restart.TheVariants.{Permanent, Temporary}
-use Rattle.rh_parts.specs.declared.parts.SyncWait.TheVariants.{Unset}
-use Rattle.rh_state.specs.declared.parts.Kind.TheVariants.{Normal}
+use Rattle.rh_model.specs.ClusterView.{ClusterView, NodeView, AppView, numbered, app_numbered}
+use Rattle.rh_model.specs.declared.node.Node.{Node}
+use Rattle.rh_model.specs.declared.node.App.{App}
+use Rattle.rh_model.specs.declared.settings.Dep.{Dep}
+use Rattle.rh_model.specs.declared.settings.Dep.TheVariants.{Listed, Platform}
+use Rattle.rh_model.specs.declared.settings.Restart.{Restart}
+use Rattle.rh_model.specs.declared.settings.Restart.TheVariants.{Permanent, Temporary}
+use Rattle.rh_model.specs.declared.settings.SyncWait.TheVariants.{Unset}
+use Rattle.rh_state.specs.declared.status.Kind.TheVariants.{Normal}
 use Rattle.rh_state.specs.Numbers.{nodes_of, apps_of}
 use Rattle.rh_state.specs.First.{first, configured}
 use Rattle.rh_state.specs.StateView.{StateView}
@@ -18,14 +18,14 @@ use Rattle.rh_settle.specs.declared.notice.Notice.{Notice}
 use Rattle.rh_settle.specs.declared.notice.Notice.TheVariants.{Up, Ended, Started, Stopped, Waits}
 use Rattle.rh_settle.specs.Moves.{can_start, local_moves, placements, calls_away, takeovers, next_moves}
 use Rattle.rh_settle.specs.Settling.{moved_by, all_moved}
-use Rattle.rh_change.specs.declared.event.Event.{Event}
-use Rattle.rh_change.specs.declared.event.Event.TheVariants.{Boot, Crash, Start, Stop, Permit}
-use Rattle.rh_change.specs.Readiness.{all_alive, is_ready}
-use Rattle.rh_change.specs.Marking.{with_mark, mark_all}
-use Rattle.rh_change.specs.ComingUp.{come_up, come_up_if_ready, ready_come_up}
-use Rattle.rh_change.specs.Ending.{cleared, lost_if_ran, all_lost, ended}
-use Rattle.rh_change.specs.ByHand.{stopped, is_started_anywhere, left_waiting, forbidden, permitted}
-use Rattle.rh_change.specs.Changes.{booted}
+use Rattle.rh_events.specs.declared.event.Event.{Event}
+use Rattle.rh_events.specs.declared.event.Event.TheVariants.{Boot, Crash, Start, Stop, Permit}
+use Rattle.rh_events.specs.Readiness.{all_alive, is_ready}
+use Rattle.rh_events.specs.Marking.{with_mark, mark_all}
+use Rattle.rh_events.specs.ComingUp.{come_up, come_up_if_ready, ready_come_up}
+use Rattle.rh_events.specs.Ending.{cleared, lost_if_ran, all_lost, ended}
+use Rattle.rh_events.specs.ByHand.{stopped, is_started_anywhere, left_waiting, forbidden, permitted}
+use Rattle.rh_events.specs.Changes.{booted}
 use Rattle.rh_step.specs.declared.refusal.Refusal.TheVariants.{NodeNotUp, AlreadyStarted, DependencyNotStarted}
 use Rattle.rh_step.specs.Refusals.{refused}
 use Rattle.rh_step.specs.Outcomes.{followed, next}

@@ -1,28 +1,28 @@
 -- Worked rows of distributed applications: the definitions compute to what an operator expects.
 use Rattle.std.proofs.Common.{◌≡◌, List, true, false, [], ◌∷◌, Some, None, codes, refl}
-use Rattle.rh_parts.specs.ClusterView.{ClusterView, NodeView, numbered, app_numbered}
-use Rattle.rh_parts.specs.declared.node.Node.{Node}
-use Rattle.rh_parts.specs.declared.node.App.{App}
-use Rattle.rh_parts.specs.declared.parts.Restart.{Restart}
-use Rattle.rh_parts.specs.declared.parts.Restart.TheVariants.{Permanent, Transient}
-use Rattle.rh_parts.specs.declared.parts.SyncWait.{SyncWait}
-use Rattle.rh_parts.specs.declared.parts.SyncWait.TheVariants.{Unset, After}
-use Rattle.rh_state.specs.declared.parts.Kind.TheVariants as kind
-use Rattle.rh_state.specs.declared.parts.Standing.TheVariants.{Quiet}
-use Rattle.rh_state.specs.declared.parts.Timer.TheVariants.{Sync, Failover}
+use Rattle.rh_model.specs.ClusterView.{ClusterView, NodeView, numbered, app_numbered}
+use Rattle.rh_model.specs.declared.node.Node.{Node}
+use Rattle.rh_model.specs.declared.node.App.{App}
+use Rattle.rh_model.specs.declared.settings.Restart.{Restart}
+use Rattle.rh_model.specs.declared.settings.Restart.TheVariants.{Permanent, Transient}
+use Rattle.rh_model.specs.declared.settings.SyncWait.{SyncWait}
+use Rattle.rh_model.specs.declared.settings.SyncWait.TheVariants.{Unset, After}
+use Rattle.rh_state.specs.declared.status.Kind.TheVariants as kind
+use Rattle.rh_state.specs.declared.status.Standing.TheVariants.{Quiet}
+use Rattle.rh_state.specs.declared.status.Timer.TheVariants.{Sync, Failover}
 use Rattle.rh_state.specs.Numbers.{nodes_of, apps_of}
 use Rattle.rh_state.specs.First.{first, configured}
 use Rattle.rh_place.specs.Placing.{missing_dep, deps_run, is_operational, best, candidates}
 use Rattle.rh_settle.specs.declared.notice.Notice.TheVariants.{Up, Ended, Started, Stopped, Waits}
 use Rattle.rh_settle.specs.Moves.{can_start, local_moves, placements, calls_away, takeovers, next_moves}
 use Rattle.rh_settle.specs.Settling.{moved_by, all_moved}
-use Rattle.rh_change.specs.declared.event.Event.TheVariants.{Boot, Crash, Tick, Stop, Takeover, Exit}
-use Rattle.rh_change.specs.Readiness.{all_alive, is_ready}
-use Rattle.rh_change.specs.Marking.{with_mark, mark_all}
-use Rattle.rh_change.specs.ComingUp.{come_up, come_up_if_ready, ready_come_up}
-use Rattle.rh_change.specs.Ending.{cleared, lost_if_ran, all_lost, ended}
-use Rattle.rh_change.specs.ByHand.{stopped, is_started_anywhere, left_waiting, taken_over, exited}
-use Rattle.rh_change.specs.Changes.{booted}
+use Rattle.rh_events.specs.declared.event.Event.TheVariants.{Boot, Crash, Tick, Stop, Takeover, Exit}
+use Rattle.rh_events.specs.Readiness.{all_alive, is_ready}
+use Rattle.rh_events.specs.Marking.{with_mark, mark_all}
+use Rattle.rh_events.specs.ComingUp.{come_up, come_up_if_ready, ready_come_up}
+use Rattle.rh_events.specs.Ending.{cleared, lost_if_ran, all_lost, ended}
+use Rattle.rh_events.specs.ByHand.{stopped, is_started_anywhere, left_waiting, taken_over, exited}
+use Rattle.rh_events.specs.Changes.{booted}
 use Rattle.rh_step.specs.Ticks.{fired, fired_by, all_fired, ticked}
 use Rattle.rh_step.specs.Outcomes.{followed, next}
 use Rattle.rh_step.proofs.Rows.{state_after, answers}

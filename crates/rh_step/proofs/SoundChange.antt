@@ -1,11 +1,11 @@
 -- An event that isn't refused keeps a sound state sound, and marks only nodes of the cluster.
 use Rattle.std.proofs.Common.{◌≡◌, ◌++◌, ◌||◌, ◌&&◌, Bool, true, false, cond, not, List, [], ◌∷◌, All, None, refl, sym, ◌∙◌, subst, arith, append-nil}
 use Rattle.std.proofs.lemmas.List.Elements.{All-cons, All-append}
-use Rattle.rh_parts.specs.declared.node.Node.{Node}
-use Rattle.rh_parts.specs.declared.node.App.{App}
-use Rattle.rh_parts.specs.declared.parts.Restart.{Restart}
-use Rattle.rh_state.specs.declared.parts.Standing.{Standing}
-use Rattle.rh_state.specs.declared.parts.Standing.TheVariants.{Quiet, Wanted, Running, Lost}
+use Rattle.rh_model.specs.declared.node.Node.{Node}
+use Rattle.rh_model.specs.declared.node.App.{App}
+use Rattle.rh_model.specs.declared.settings.Restart.{Restart}
+use Rattle.rh_state.specs.declared.status.Standing.{Standing}
+use Rattle.rh_state.specs.declared.status.Standing.TheVariants.{Quiet, Wanted, Running, Lost}
 use Rattle.rh_state.specs.Numbers.{same_node}
 use Rattle.rh_state.specs.Shape.{IsNodeOf}
 use Rattle.rh_state.specs.StateView.{StateView, is_allowed, runs_at, restart_of, standing_of}
@@ -13,19 +13,19 @@ use Rattle.rh_place.proofs.Lists.{cases}
 use Rattle.rh_settle.specs.declared.notice.Pair.{Pair}
 use Rattle.rh_settle.specs.Course.{Course, course}
 use Rattle.rh_settle.specs.Soundness.{IsSound}
-use Rattle.rh_change.specs.declared.event.Event.{Event}
-use Rattle.rh_change.specs.declared.event.Event.TheVariants.{Boot, Crash, Tick, Start, Stop, Permit, Takeover, Exit}
-use Rattle.rh_change.specs.Marking.{pair}
-use Rattle.rh_change.specs.Ending.{ended}
-use Rattle.rh_change.specs.ByHand.{stopped, left_waiting, forbidden, permitted, taken_from, taken_over, ends_node, exited}
-use Rattle.rh_change.specs.Changes.{change}
+use Rattle.rh_events.specs.declared.event.Event.{Event}
+use Rattle.rh_events.specs.declared.event.Event.TheVariants.{Boot, Crash, Tick, Start, Stop, Permit, Takeover, Exit}
+use Rattle.rh_events.specs.Marking.{pair}
+use Rattle.rh_events.specs.Ending.{ended}
+use Rattle.rh_events.specs.ByHand.{stopped, left_waiting, forbidden, permitted, taken_from, taken_over, ends_node, exited}
+use Rattle.rh_events.specs.Changes.{change}
 use Rattle.rh_step.specs.Refusals.{refused}
 use Rattle.rh_step.proofs.Accepted.{same_standing, accepted_boot, accepted_crash, accepted_start, accepted_stop, accepted_permit, accepted_takeover, accepted_exit}
-use Rattle.rh_change.proofs.SoundBooting.{sound_booted}
-use Rattle.rh_change.proofs.SoundMarks.{sound_mark}
-use Rattle.rh_change.proofs.SoundEnding.{sound_ended}
-use Rattle.rh_change.proofs.SoundByHand.{sound_stopped, sound_left_waiting, sound_permitted, sound_exited}
-use Rattle.rh_change.proofs.SoundByHandTakeover.{sound_taken_over}
+use Rattle.rh_events.proofs.SoundBooting.{sound_booted}
+use Rattle.rh_events.proofs.SoundMarks.{sound_mark}
+use Rattle.rh_events.proofs.SoundEnding.{sound_ended}
+use Rattle.rh_events.proofs.SoundByHand.{sound_stopped, sound_left_waiting, sound_permitted, sound_exited}
+use Rattle.rh_events.proofs.SoundByHandTakeover.{sound_taken_over}
 
 -- ---- earlier notices and marks are of no account to the state
 cond_state : (b : Bool) (p q r t : Course) → p.state ≡ r.state → q.state ≡ t.state → (cond b p q).state ≡ (cond b r t).state

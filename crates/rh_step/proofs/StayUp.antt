@@ -3,15 +3,15 @@ use Rattle.std.proofs.Common.{◌≡◌, ◌≢◌, ◌⊎◌, ℕ, ◌+◌, ◌
 use Rattle.std.proofs.lemmas.Option.{slice_get_past}
 use Rattle.std.proofs.lemmas.List.Elements.{Contains-append_left, Contains-append_right}
 use Rattle.std.proofs.lemmas.Bool.{cases_lt}
-use Rattle.rh_parts.specs.ClusterView.{mandatory_of}
-use Rattle.rh_parts.specs.declared.node.Node.{Node}
-use Rattle.rh_parts.specs.declared.node.App.{App}
-use Rattle.rh_state.specs.declared.parts.Mode.{Mode}
-use Rattle.rh_state.specs.declared.parts.Mode.TheVariants.{Down, Waiting, Up}
-use Rattle.rh_state.specs.declared.parts.Standing.{Standing}
-use Rattle.rh_state.specs.declared.parts.Standing.TheVariants.{Quiet, Wanted, Running, Lost}
-use Rattle.rh_state.specs.declared.parts.Timer.{Timer}
-use Rattle.rh_state.specs.declared.parts.Timer.TheVariants.{Sync, Failover}
+use Rattle.rh_model.specs.ClusterView.{mandatory_of}
+use Rattle.rh_model.specs.declared.node.Node.{Node}
+use Rattle.rh_model.specs.declared.node.App.{App}
+use Rattle.rh_state.specs.declared.status.Mode.{Mode}
+use Rattle.rh_state.specs.declared.status.Mode.TheVariants.{Down, Waiting, Up}
+use Rattle.rh_state.specs.declared.status.Standing.{Standing}
+use Rattle.rh_state.specs.declared.status.Standing.TheVariants.{Quiet, Wanted, Running, Lost}
+use Rattle.rh_state.specs.declared.status.Timer.{Timer}
+use Rattle.rh_state.specs.declared.status.Timer.TheVariants.{Sync, Failover}
 use Rattle.rh_state.specs.Limits.{incarnation_limit}
 use Rattle.rh_state.specs.Numbers.{nodes_of}
 use Rattle.rh_state.specs.StateView.{StateView, mode_of, incarnation_of, runs_at, restart_of, standing_of, is_alive, is_up}
@@ -21,21 +21,21 @@ use Rattle.rh_settle.specs.declared.notice.Notice.TheVariants as notice
 use Rattle.rh_settle.specs.Course.{Course, course}
 use Rattle.rh_settle.specs.Settling.{settled}
 use Rattle.rh_settle.proofs.Places.{at_set}
-use Rattle.rh_change.specs.declared.event.Event.{Event}
-use Rattle.rh_change.specs.declared.event.Event.TheVariants.{Boot, Crash, Tick, Start, Stop, Permit, Takeover, Exit}
-use Rattle.rh_change.specs.Readiness.{all_alive, is_ready}
-use Rattle.rh_change.specs.ComingUp.{come_up, come_up_if_ready, ready_come_up}
-use Rattle.rh_change.specs.Ending.{ended}
-use Rattle.rh_change.specs.ByHand.{stopped, left_waiting, ends_node, exited}
-use Rattle.rh_change.specs.Changes.{booted, change}
+use Rattle.rh_events.specs.declared.event.Event.{Event}
+use Rattle.rh_events.specs.declared.event.Event.TheVariants.{Boot, Crash, Tick, Start, Stop, Permit, Takeover, Exit}
+use Rattle.rh_events.specs.Readiness.{all_alive, is_ready}
+use Rattle.rh_events.specs.ComingUp.{come_up, come_up_if_ready, ready_come_up}
+use Rattle.rh_events.specs.Ending.{ended}
+use Rattle.rh_events.specs.ByHand.{stopped, left_waiting, ends_node, exited}
+use Rattle.rh_events.specs.Changes.{booted, change}
 use Rattle.rh_step.specs.declared.refusal.Refusal.TheVariants.{UnknownNode, AlreadyAlive, IncarnationLimit}
 use Rattle.rh_step.specs.Refusals.{refused, is_unknown}
 use Rattle.rh_step.specs.Ticks.{wanted_if_lost, effect, taken_off, fired, all_fired, ticked}
 use Rattle.rh_step.specs.Outcomes.{followed, next}
 use Rattle.rh_step.specs.Laws.{UpUntilEnded}
 use Rattle.rh_settle.proofs.Behind.{after_notices, settled_after}
-use Rattle.rh_change.proofs.Notices.{come_up_after, ended_after}
-use Rattle.rh_change.proofs.Fields.{ended_modes, marked_same, stopped_same, left_waiting_same, permitted_same, taken_over_same}
+use Rattle.rh_events.proofs.Notices.{come_up_after, ended_after}
+use Rattle.rh_events.proofs.Fields.{ended_modes, marked_same, stopped_same, left_waiting_same, permitted_same, taken_over_same}
 use Rattle.rh_settle.proofs.Unchanged.{settled_modes}
 use Rattle.rh_step.proofs.ModesKept.{come_up_modes, booted_modes}
 use Rattle.rh_step.proofs.Fuel.{timer_count, by_firing}

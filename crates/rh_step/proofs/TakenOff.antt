@@ -3,15 +3,15 @@ use Rattle.std.proofs.Common.{◌≡◌, ◌<◌, ◌≤◌, ℕ, zero, suc, Boo
 use Rattle.std.proofs.lemmas.Bool.{and_parts}
 use Rattle.std.proofs.lemmas.Bool.Decides.{eqb_tells}
 use Rattle.std.proofs.lemmas.List.{length-set}
-use Rattle.rh_parts.specs.ClusterView.{mandatory_of, boot_of, app_numbered}
-use Rattle.rh_parts.specs.declared.node.Node.{Node}
-use Rattle.rh_parts.specs.declared.node.App.{App}
-use Rattle.rh_state.specs.declared.parts.Mode.{Mode}
-use Rattle.rh_state.specs.declared.parts.Mode.TheVariants.{Down, Up}
-use Rattle.rh_state.specs.declared.parts.Standing.{Standing}
-use Rattle.rh_state.specs.declared.parts.Standing.TheVariants.{Quiet, Wanted, Running, Lost}
-use Rattle.rh_state.specs.declared.parts.Timer.{Timer}
-use Rattle.rh_state.specs.declared.parts.Timer.TheVariants.{Sync, Failover}
+use Rattle.rh_model.specs.ClusterView.{mandatory_of, boot_of, app_numbered}
+use Rattle.rh_model.specs.declared.node.Node.{Node}
+use Rattle.rh_model.specs.declared.node.App.{App}
+use Rattle.rh_state.specs.declared.status.Mode.{Mode}
+use Rattle.rh_state.specs.declared.status.Mode.TheVariants.{Down, Up}
+use Rattle.rh_state.specs.declared.status.Standing.{Standing}
+use Rattle.rh_state.specs.declared.status.Standing.TheVariants.{Quiet, Wanted, Running, Lost}
+use Rattle.rh_state.specs.declared.status.Timer.{Timer}
+use Rattle.rh_state.specs.declared.status.Timer.TheVariants.{Sync, Failover}
 use Rattle.rh_state.specs.Shape.{IsNodeOf}
 use Rattle.rh_state.specs.Timers.{same_timer, without_timer}
 use Rattle.rh_state.specs.StateView.{StateView, mode_of, standing_of, earliest, is_waiting}
@@ -21,14 +21,14 @@ use Rattle.rh_settle.specs.Course.{Course, course, told, now_in}
 use Rattle.rh_settle.specs.Soundness.{IsSound, TimersFit, is_lost}
 use Rattle.rh_settle.proofs.Every.{filter_yes}
 use Rattle.rh_settle.proofs.Places.{at_set_here, at_set_there, at_set}
-use Rattle.rh_change.specs.Readiness.{all_alive}
-use Rattle.rh_change.specs.Marking.{mark_all}
-use Rattle.rh_change.specs.ComingUp.{come_up}
-use Rattle.rh_change.specs.Ending.{cleared, emptied, with_configured, all_lost, ended}
+use Rattle.rh_events.specs.Readiness.{all_alive}
+use Rattle.rh_events.specs.Marking.{mark_all}
+use Rattle.rh_events.specs.ComingUp.{come_up}
+use Rattle.rh_events.specs.Ending.{cleared, emptied, with_configured, all_lost, ended}
 use Rattle.rh_step.specs.Ticks.{wanted_if_lost, effect, taken_off}
-use Rattle.rh_change.proofs.SoundComingUp.{sound_come_up}
-use Rattle.rh_change.proofs.SoundEnding.{sound_ended}
-use Rattle.rh_change.proofs.TimersToldApart.{is_set, same_self, set-cons, unset-without, set-without_other, once-without, order-without, All-without, least-first}
+use Rattle.rh_events.proofs.SoundComingUp.{sound_come_up}
+use Rattle.rh_events.proofs.SoundEnding.{sound_ended}
+use Rattle.rh_events.proofs.TimersToldApart.{is_set, same_self, set-cons, unset-without, set-without_other, once-without, order-without, All-without, least-first}
 
 -- time passes up to where no timer is due before it
 pub sound_at : (s : StateView) (due : ℕ) → IsSound s → All (λ entry. due ≤ entry.0) s.timers → IsSound (with_time s due)

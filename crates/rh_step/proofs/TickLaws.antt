@@ -1,9 +1,9 @@
 -- A tick in two parts, and a tick behind earlier notices.
 use Rattle.std.proofs.Common.{◌≡◌, ℕ, zero, suc, ◌+◌, ◌≤◌, ◌==◌, Bool, true, false, cond, List, [], ◌∷◌, ◌++◌, None, Some, nat_le, nat_lt, slice_get, refl, sym, ap, ◌∙◌, append-nil, arith}
 use Rattle.std.proofs.lemmas.Bool.Decides.{nat_tests}
-use Rattle.rh_parts.specs.ClusterView.{mandatory_of}
-use Rattle.rh_state.specs.declared.parts.Timer.{Timer}
-use Rattle.rh_state.specs.declared.parts.Timer.TheVariants.{Sync, Failover}
+use Rattle.rh_model.specs.ClusterView.{mandatory_of}
+use Rattle.rh_state.specs.declared.status.Timer.{Timer}
+use Rattle.rh_state.specs.declared.status.Timer.TheVariants.{Sync, Failover}
 use Rattle.rh_state.specs.Limits.{time_limit}
 use Rattle.rh_state.specs.StateView.{StateView, earliest}
 use Rattle.rh_state.specs.Setters.{with_time}
@@ -12,17 +12,17 @@ use Rattle.rh_settle.specs.declared.notice.Notice.{Notice}
 use Rattle.rh_settle.specs.Course.{Course, course, now_in}
 use Rattle.rh_settle.specs.Settling.{settled}
 use Rattle.rh_settle.specs.Soundness.{IsSound}
-use Rattle.rh_change.specs.declared.event.Event.TheVariants.{Tick}
-use Rattle.rh_change.specs.Readiness.{all_alive}
-use Rattle.rh_change.specs.ComingUp.{come_up, ready_come_up}
-use Rattle.rh_change.specs.Ending.{ended}
+use Rattle.rh_events.specs.declared.event.Event.TheVariants.{Tick}
+use Rattle.rh_events.specs.Readiness.{all_alive}
+use Rattle.rh_events.specs.ComingUp.{come_up, ready_come_up}
+use Rattle.rh_events.specs.Ending.{ended}
 use Rattle.rh_step.specs.declared.refusal.Refusal.TheVariants.{ZeroTick, TimeLimit}
 use Rattle.rh_step.specs.Refusals.{first_that_applies, refused}
 use Rattle.rh_step.specs.Ticks.{due_by, effect, taken_off, fired, fired_by, all_fired, ticked}
 use Rattle.rh_step.specs.Outcomes.{Outcome, outcome, outcome_of, next}
 use Rattle.rh_step.specs.Laws.{TicksAddUp}
 use Rattle.rh_settle.proofs.Behind.{after_notices, settled_after}
-use Rattle.rh_change.proofs.Notices.{come_up_after, ended_after, ready_come_up_after}
+use Rattle.rh_events.proofs.Notices.{come_up_after, ended_after, ready_come_up_after}
 use Rattle.rh_step.proofs.Fuel.{timer_count, goes, by_found, unrolled, all_fired_end, sound_fired}
 use Rattle.rh_step.proofs.FiredSound.{sound_before_end}
 

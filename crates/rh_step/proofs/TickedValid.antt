@@ -1,19 +1,19 @@
 -- A state that a tick leads to is valid where the one before is.
 use Rattle.std.proofs.Common.{◌≡◌, ◌+◌, ℕ, [], Some, refl, ◌∙◌}
-use Rattle.rh_state.specs.declared.parts.Timer.{Timer}
+use Rattle.rh_state.specs.declared.status.Timer.{Timer}
 use Rattle.rh_state.specs.StateView.{StateView, earliest}
 use Rattle.rh_state.specs.Setters.{with_time}
 use Rattle.rh_place.specs.declared.choosing.Pick.{Pick}
 use Rattle.rh_settle.specs.Course.{Course, course}
 use Rattle.rh_settle.specs.Settling.{settled}
 use Rattle.rh_settle.specs.Soundness.{IsSound}
-use Rattle.rh_change.specs.ComingUp.{ready_come_up}
+use Rattle.rh_events.specs.ComingUp.{ready_come_up}
 use Rattle.rh_step.specs.Ticks.{due_by, effect, taken_off, fired, all_fired, ticked}
 use Rattle.rh_step.specs.Validity.{IsValid}
 use Rattle.rh_settle.proofs.Still.{settled_sound, settled_still, still_unmarked}
 use Rattle.rh_settle.proofs.Unchanged.{settled_cluster, settled_modes}
-use Rattle.rh_change.proofs.SoundComingUp.{sound_ready_come_up}
-use Rattle.rh_change.proofs.NoneReady.{none_ready}
+use Rattle.rh_events.proofs.SoundComingUp.{sound_ready_come_up}
+use Rattle.rh_events.proofs.NoneReady.{none_ready}
 use Rattle.rh_step.proofs.TakenOff.{sound_at, sound_effect}
 use Rattle.rh_step.proofs.Fuel.{timer_count, by_firing, due_is_first}
 use Rattle.rh_step.proofs.FiredSound.{all_later}

@@ -3,15 +3,15 @@ use Rattle.std.proofs.Common.{◌≡◌, ◌≤◌, [], ◌∙◌, arith}
 use Rattle.rh_state.specs.StateView.{StateView}
 use Rattle.rh_place.specs.declared.choosing.Pick.{Pick}
 use Rattle.rh_settle.specs.Course.{Course, course}
-use Rattle.rh_change.specs.declared.event.Event.{Event}
-use Rattle.rh_change.specs.declared.event.Event.TheVariants.{Boot, Crash, Tick, Start, Stop, Permit, Takeover, Exit}
-use Rattle.rh_change.specs.ComingUp.{ready_come_up}
-use Rattle.rh_change.specs.Changes.{change}
+use Rattle.rh_events.specs.declared.event.Event.{Event}
+use Rattle.rh_events.specs.declared.event.Event.TheVariants.{Boot, Crash, Tick, Start, Stop, Permit, Takeover, Exit}
+use Rattle.rh_events.specs.ComingUp.{ready_come_up}
+use Rattle.rh_events.specs.Changes.{change}
 use Rattle.rh_step.specs.Ticks.{ticked}
 use Rattle.rh_step.specs.Outcomes.{followed, next}
 use Rattle.rh_step.specs.Laws.{TimeGoesOn}
-use Rattle.rh_change.proofs.Fields.{change_time}
-use Rattle.rh_change.proofs.SoundComingUp.{ready_come_up_time}
+use Rattle.rh_events.proofs.Fields.{change_time}
+use Rattle.rh_events.proofs.SoundComingUp.{ready_come_up_time}
 use Rattle.rh_settle.proofs.Unchanged.{settled_time}
 
 -- an event that is no tick takes no time

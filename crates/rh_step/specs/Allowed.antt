@@ -1,18 +1,18 @@
 -- The steps that the rules allow (Distributed Applications; application(3); kernel(6), distributed, sync_nodes).
 -- This is a relation: where the rules leave a choice, it has several outcomes, and `next` is one of them.
 use Rattle.std.specs.Prelude.{◌≡◌, ◌+◌, ℕ, List, [], ◌∷◌, true, false, Some, None}
-use Rattle.rh_parts.specs.declared.node.Node.{Node}
-use Rattle.rh_state.specs.declared.parts.Timer.{Timer}
+use Rattle.rh_model.specs.declared.node.Node.{Node}
+use Rattle.rh_state.specs.declared.status.Timer.{Timer}
 use Rattle.rh_state.specs.Numbers.{nodes_of}
 use Rattle.rh_state.specs.StateView.{StateView, earliest}
 use Rattle.rh_state.specs.Setters.{with_time}
 use Rattle.rh_settle.specs.Course.{Course, course}
 use Rattle.rh_settle.specs.Settling.{Settles}
-use Rattle.rh_change.specs.declared.event.Event.{Event}
-use Rattle.rh_change.specs.declared.event.Event.TheVariants.{Boot, Crash, Tick, Start, Stop, Permit, Takeover, Exit}
-use Rattle.rh_change.specs.Readiness.{is_ready}
-use Rattle.rh_change.specs.ComingUp.{come_up}
-use Rattle.rh_change.specs.Changes.{change}
+use Rattle.rh_events.specs.declared.event.Event.{Event}
+use Rattle.rh_events.specs.declared.event.Event.TheVariants.{Boot, Crash, Tick, Start, Stop, Permit, Takeover, Exit}
+use Rattle.rh_events.specs.Readiness.{is_ready}
+use Rattle.rh_events.specs.ComingUp.{come_up}
+use Rattle.rh_events.specs.Changes.{change}
 use Rattle.rh_step.specs.Refusals.{refused}
 use Rattle.rh_step.specs.Ticks.{due_by, taken_off, effect}
 use Rattle.rh_step.specs.Outcomes.{Outcome, outcome, outcome_of}

@@ -1,14 +1,14 @@
 -- Laws of steps, in the field's own words (ours).
 use Rattle.std.specs.Prelude.{◌≡◌, ◌≤◌, ◌+◌, ◌++◌, ◌⊎◌, ℕ, Contains, None}
-use Rattle.rh_parts.specs.ClusterView.{ClusterView, IsWithin}
-use Rattle.rh_parts.specs.declared.node.Node.{Node}
-use Rattle.rh_state.specs.declared.parts.Mode.TheVariants.{Up}
+use Rattle.rh_model.specs.ClusterView.{ClusterView, IsWithin}
+use Rattle.rh_model.specs.declared.node.Node.{Node}
+use Rattle.rh_state.specs.declared.status.Mode.TheVariants.{Up}
 use Rattle.rh_state.specs.First.{first}
 use Rattle.rh_state.specs.StateView.{StateView, mode_of}
 use Rattle.rh_place.specs.declared.choosing.Pick.{Pick}
 use Rattle.rh_settle.specs.declared.notice.Notice.TheVariants.{Ended}
-use Rattle.rh_change.specs.declared.event.Event.{Event}
-use Rattle.rh_change.specs.declared.event.Event.TheVariants.{Tick}
+use Rattle.rh_events.specs.declared.event.Event.{Event}
+use Rattle.rh_events.specs.declared.event.Event.TheVariants.{Tick}
 use Rattle.rh_step.specs.Refusals.{refused}
 use Rattle.rh_step.specs.Allowed.{Allowed}
 use Rattle.rh_step.specs.Outcomes.{next, outcome}

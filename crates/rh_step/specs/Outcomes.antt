@@ -5,10 +5,10 @@ use Rattle.rh_place.specs.declared.choosing.Pick.{Pick}
 use Rattle.rh_settle.specs.declared.notice.Notice.{Notice}
 use Rattle.rh_settle.specs.Course.{Course, course}
 use Rattle.rh_settle.specs.Settling.{settled}
-use Rattle.rh_change.specs.declared.event.Event.{Event}
-use Rattle.rh_change.specs.declared.event.Event.TheVariants.{Boot, Crash, Tick, Start, Stop, Permit, Takeover, Exit}
-use Rattle.rh_change.specs.ComingUp.{ready_come_up}
-use Rattle.rh_change.specs.Changes.{change}
+use Rattle.rh_events.specs.declared.event.Event.{Event}
+use Rattle.rh_events.specs.declared.event.Event.TheVariants.{Boot, Crash, Tick, Start, Stop, Permit, Takeover, Exit}
+use Rattle.rh_events.specs.ComingUp.{ready_come_up}
+use Rattle.rh_events.specs.Changes.{change}
 use Rattle.rh_step.specs.Ticks.{ticked}
 
 -- a state, and what was told on the way to it

@@ -1,18 +1,18 @@
 -- When a step is refused: of the tests of its event, in their order, the first that applies counts (ours).
 use Rattle.std.specs.Prelude.{ℕ, ◌+◌, List, [], ◌∷◌, Bool, true, false, not, nat_lt, ◌==◌, if◌then◌else◌, Option, Some, None, codes}
-use Rattle.rh_parts.specs.ClusterView.{node_count, app_count, is_listed_at}
-use Rattle.rh_parts.specs.declared.node.Node.{Node}
-use Rattle.rh_parts.specs.declared.node.App.{App}
-use Rattle.rh_parts.specs.declared.parts.Dep.{Dep}
-use Rattle.rh_state.specs.declared.parts.Standing.{Standing}
-use Rattle.rh_state.specs.declared.parts.Standing.TheVariants.{Quiet, Wanted, Running, Lost}
+use Rattle.rh_model.specs.ClusterView.{node_count, app_count, is_listed_at}
+use Rattle.rh_model.specs.declared.node.Node.{Node}
+use Rattle.rh_model.specs.declared.node.App.{App}
+use Rattle.rh_model.specs.declared.settings.Dep.{Dep}
+use Rattle.rh_state.specs.declared.status.Standing.{Standing}
+use Rattle.rh_state.specs.declared.status.Standing.TheVariants.{Quiet, Wanted, Running, Lost}
 use Rattle.rh_state.specs.Limits.{time_limit, incarnation_limit}
 use Rattle.rh_state.specs.Numbers.{same_node}
 use Rattle.rh_state.specs.StateView.{StateView, mode_of, incarnation_of, is_alive, is_up, is_started, is_allowed, runs_at, standing_of}
 use Rattle.rh_place.specs.Placing.{missing_dep}
 use Rattle.rh_settle.specs.Moves.{is_local}
-use Rattle.rh_change.specs.declared.event.Event.{Event}
-use Rattle.rh_change.specs.declared.event.Event.TheVariants.{Boot, Crash, Tick, Start, Stop, Permit, Takeover, Exit}
+use Rattle.rh_events.specs.declared.event.Event.{Event}
+use Rattle.rh_events.specs.declared.event.Event.TheVariants.{Boot, Crash, Tick, Start, Stop, Permit, Takeover, Exit}
 use Rattle.rh_step.specs.declared.refusal.Refusal.{Refusal}
 use Rattle.rh_step.specs.declared.refusal.Refusal.TheVariants.{UnknownNode, UnknownApp, AlreadyAlive, IncarnationLimit, NotAlive, ZeroTick, TimeLimit, NodeNotUp, NotDistributed, NotListed, AlreadyStarted, NeverStarted, NotRunning, RunsHere, NotRunningHere, NotPermitted, DependencyNotStarted, TrailFull, OutOfMemory}
 

@@ -1,20 +1,20 @@
 -- Time that passes: the timers that are due fire one after the other, each followed by the ready nodes coming up and the
 -- applications settling (kernel(6), sync_nodes_timeout, distributed; ours for the order of timers).
 use Rattle.std.specs.Prelude.{ℕ, ◌+◌, zero, suc, [], length, Option, Some, None, nat_le, if◌then◌else◌}
-use Rattle.rh_parts.specs.ClusterView.{mandatory_of}
-use Rattle.rh_parts.specs.declared.node.App.{App}
-use Rattle.rh_state.specs.declared.parts.Standing.{Standing}
-use Rattle.rh_state.specs.declared.parts.Standing.TheVariants.{Quiet, Wanted, Running, Lost}
-use Rattle.rh_state.specs.declared.parts.Timer.{Timer}
-use Rattle.rh_state.specs.declared.parts.Timer.TheVariants.{Sync, Failover}
+use Rattle.rh_model.specs.ClusterView.{mandatory_of}
+use Rattle.rh_model.specs.declared.node.App.{App}
+use Rattle.rh_state.specs.declared.status.Standing.{Standing}
+use Rattle.rh_state.specs.declared.status.Standing.TheVariants.{Quiet, Wanted, Running, Lost}
+use Rattle.rh_state.specs.declared.status.Timer.{Timer}
+use Rattle.rh_state.specs.declared.status.Timer.TheVariants.{Sync, Failover}
 use Rattle.rh_state.specs.StateView.{StateView, standing_of, earliest}
 use Rattle.rh_state.specs.Setters.{with_time, with_standing, without_due}
 use Rattle.rh_place.specs.declared.choosing.Pick.{Pick}
 use Rattle.rh_settle.specs.Course.{Course, course, now_in}
 use Rattle.rh_settle.specs.Settling.{settled}
-use Rattle.rh_change.specs.Readiness.{all_alive}
-use Rattle.rh_change.specs.ComingUp.{come_up, ready_come_up}
-use Rattle.rh_change.specs.Ending.{ended}
+use Rattle.rh_events.specs.Readiness.{all_alive}
+use Rattle.rh_events.specs.ComingUp.{come_up, ready_come_up}
+use Rattle.rh_events.specs.Ending.{ended}
 
 -- the timer that fires next, if it is due by the limit
 abbrev pub due_by : ℕ → Option (ℕ × Timer) → Option (ℕ × Timer)

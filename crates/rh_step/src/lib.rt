@@ -14,7 +14,7 @@ pub use laws::{
 };
 pub use notices::Notices;
 pub use refusal::{Refusal, refusal_of};
-pub use rh_change::Event;
+pub use rh_events::Event;
 pub use rh_place::Pick;
 pub use rh_settle::Notice;
 pub use step::perform;

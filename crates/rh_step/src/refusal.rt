@@ -2,17 +2,17 @@
 
 ghost use Rattle.std.specs.Prelude.{◌≡◌, ◌∷◌, ◌↔◌, Bool, IsTrue, List, None, not};
 ghost use Rattle.std.specs.Option.{option_or};
-ghost use Rattle.rh_parts.specs.ClusterView.{is_listed_at};
+ghost use Rattle.rh_model.specs.ClusterView.{is_listed_at};
 ghost use Rattle.rh_state.specs.Shape.{IsNodeOf, IsAppOf};
-ghost use Rattle.rh_state.specs.Words.{read};
+ghost use Rattle.rh_state.specs.Stored.{read};
 ghost use Rattle.rh_place.specs.Placing.{missing_dep};
-ghost use Rattle.rh_change.specs.declared.event.Event.TheVariants.{Boot, Crash, Tick, Start, Stop, Permit, Takeover, Exit};
+ghost use Rattle.rh_events.specs.declared.event.Event.TheVariants.{Boot, Crash, Tick, Start, Stop, Permit, Takeover, Exit};
 ghost use Rattle.rh_step.specs.declared.refusal.Refusal.{Refusal};
 ghost use Rattle.rh_step.specs.declared.refusal.Refusal.TheVariants.{NotRunning, RunsHere};
 ghost use Rattle.rh_step.specs.Refusals.{refused, tests_by_hand, first_that_applies, dep_tests, stands_running, stands_running_at};
 
-use rh_change::Event;
-use rh_parts::{App, Dep, Node, Restart};
+use rh_events::Event;
+use rh_model::{App, Dep, Node, Restart};
 use rh_place::missing_dep;
 use rh_state::{Mode, Place, Standing, State};
 use std::fmt;

@@ -2,22 +2,22 @@
 
 ghost use Rattle.std.specs.Prelude.{List, [], ◌≡◌, ◌++◌, All, OnOk, None};
 ghost use Rattle.rh_state.specs.Shape.{IsNodeOf};
-ghost use Rattle.rh_state.specs.Words.{read};
+ghost use Rattle.rh_state.specs.Stored.{read};
 ghost use Rattle.rh_settle.specs.declared.notice.Notice.{Notice};
 ghost use Rattle.rh_settle.specs.declared.notice.Pair.{Pair};
 ghost use Rattle.rh_settle.specs.Course.{course};
 ghost use Rattle.rh_settle.specs.Settling.{settled};
 ghost use Rattle.rh_settle.specs.Soundness.{IsSound};
-ghost use Rattle.rh_change.specs.declared.event.Event.TheVariants.{Tick};
-ghost use Rattle.rh_change.specs.ComingUp.{ready_come_up};
-ghost use Rattle.rh_change.specs.Changes.{change};
+ghost use Rattle.rh_events.specs.declared.event.Event.TheVariants.{Tick};
+ghost use Rattle.rh_events.specs.ComingUp.{ready_come_up};
+ghost use Rattle.rh_events.specs.Changes.{change};
 ghost use Rattle.rh_step.specs.Refusals.{refused};
 ghost use Rattle.rh_step.specs.Outcomes.{outcome, outcome_of, followed, next_from, next};
 ghost use Rattle.rh_step.specs.Allowed.{Allowed};
 ghost use Rattle.rh_step.specs.Validity.{IsValid};
 
 use crate::ticks::pass_time;
-use rh_change::{Event, boot, end, exit, let_ready_come_up, mark, permit, stop, take_over};
+use rh_events::{Event, boot, end, exit, let_ready_come_up, mark, permit, stop, take_over};
 use rh_place::Pick;
 use rh_settle::{Notice, Pair, settle};
 use rh_state::State;

@@ -1,23 +1,23 @@
 //! Time that passes.
 
 ghost use Rattle.std.specs.Prelude.{◌≡◌, ◌≤◌, ◌<◌, ◌+◌, [], Some, IfSome, IsNone, OnOk};
-ghost use Rattle.rh_parts.specs.ClusterView.{app_count};
-ghost use Rattle.rh_parts.specs.declared.node.Node.{Node};
-ghost use Rattle.rh_parts.specs.declared.node.App.{App};
+ghost use Rattle.rh_model.specs.ClusterView.{app_count};
+ghost use Rattle.rh_model.specs.declared.node.Node.{Node};
+ghost use Rattle.rh_model.specs.declared.node.App.{App};
 ghost use Rattle.rh_state.specs.Limits.{time_limit};
 ghost use Rattle.rh_state.specs.StateView.{earliest, standing_of, running_at, waiting_at, due_of};
 ghost use Rattle.rh_state.specs.Shape.{IsNodeOf, IsTimerOf};
-ghost use Rattle.rh_state.specs.Words.{read};
-ghost use Rattle.rh_state.specs.declared.parts.Standing.TheVariants.{Running};
-ghost use Rattle.rh_state.specs.declared.parts.Timer.TheVariants.{Sync, Failover};
+ghost use Rattle.rh_state.specs.Stored.{read};
+ghost use Rattle.rh_state.specs.declared.status.Standing.TheVariants.{Running};
+ghost use Rattle.rh_state.specs.declared.status.Timer.TheVariants.{Sync, Failover};
 ghost use Rattle.rh_settle.specs.Course.{course};
 ghost use Rattle.rh_settle.specs.Soundness.{IsSound};
 ghost use Rattle.rh_step.specs.Outcomes.{outcome, outcome_of};
 ghost use Rattle.rh_step.specs.Ticks.{due_by, wanted_if_lost, effect, fired, all_fired, ticked};
 
 use crate::step::follow;
-use rh_change::{all_alive, cancel_if_set, come_up, end};
-use rh_parts::{App, Node};
+use rh_events::{all_alive, cancel_if_set, come_up, end};
+use rh_model::{App, Node};
 use rh_place::Pick;
 use rh_settle::{Notice, Pair};
 use rh_state::{Standing, State, Timer};

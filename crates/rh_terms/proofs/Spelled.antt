@@ -15,7 +15,7 @@ use Rattle.std.proofs.lemmas.List.Folds.{length-prefix_len}
 use Rattle.std.proofs.lemmas.Bool.Decides.{nat_tests}
 use Rattle.rh_terms.specs.Bytes.{is_lower, is_name, is_digit}
 use Rattle.rh_terms.specs.Tree.{atom, int, text}
-use Rattle.rh_terms.specs.Words.{escape, quoted, with_byte, number, fits, signed, is_other_number, digits_at, integer_at, name_at, quoted_atom_at, text_at}
+use Rattle.rh_terms.specs.Tokens.{escape, quoted, with_byte, number, fits, signed, is_other_number, digits_at, integer_at, name_at, quoted_atom_at, text_at}
 use Rattle.rh_terms.specs.Spelling.{IsQuoted, InLine, IsBlank, Spells, IsInside, AreSeparated}
 
 -- the bytes before a rest

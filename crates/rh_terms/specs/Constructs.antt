@@ -2,7 +2,7 @@
 -- Bytes are written as numbers: 10 is LF, 34 `"`, 37 `%`, 39 `'`, 44 `,`, 45 `-`, 46 `.`, 91 `[`, 92 `\`, 93 `]`, 123 `{`, 124 `|`, 125 `}`.
 use Rattle.std.specs.Prelude.{◌≡◌, ◌+◌, ℕ, List, [], ◌∷◌, ◌++◌, true, ◌==◌, None, count_by}
 use Rattle.rh_terms.specs.Bytes.{is_digit, is_unsupported, begins}
-use Rattle.rh_terms.specs.Words.{escape, is_other_number}
+use Rattle.rh_terms.specs.Tokens.{escape, is_other_number}
 use Rattle.rh_terms.specs.Spelling.{IsBlank}
 
 -- One of them stands between what comes before a place and what comes from there on (ours).

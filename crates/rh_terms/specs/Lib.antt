@@ -2,9 +2,9 @@ pub mod Letters
 pub mod Bytes
 pub mod Tree
 pub mod Faults
-pub mod Words
+pub mod Tokens
 pub mod Grammar
 pub mod Spelling
 pub mod Constructs
 pub mod Nest
-pub mod FaultWords
+pub mod FaultTexts

@@ -20,7 +20,7 @@ mod reading;
 mod shown;
 mod term;
 mod text;
-mod words;
+mod tokens;
 
 pub use fault::{OutOfMemory, TermFault};
 pub use laws::{bounds_are_never_met, one_reading};

@@ -9,7 +9,7 @@ use crate::bytes::{begins_with, skip_blank};
 use crate::fault::{Fault, ReadError};
 use crate::marks::{dot_of, next_of};
 use crate::term::{Term, Terms};
-use crate::words::word_of;
+use crate::tokens::word_of;
 use std::alloc::Global;
 
 /// How many lists and tuples may stand inside each other.

@@ -6,9 +6,9 @@ use std::fmt;
 /// A fault is shown as its code and its name, with its line where it has one.
 impl fmt::Display for TermFault {
     ghost use Rattle.std.specs.Prelude.{Some};
-    ghost use Rattle.rh_terms.specs.FaultWords.{fault_words};
+    ghost use Rattle.rh_terms.specs.FaultTexts.{term_fault_text};
 
-    ghost output = { λ fault. Some (fault_words fault) };
+    ghost output = { λ fault. Some (term_fault_text fault) };
 
     fn fmt<W: fmt::Write>(&self, f: &mut fmt::Formatter<W>) -> fmt::Result {
         match self {

@@ -1,11 +1,11 @@
 -- What no event is refused for.
 use Rattle.std.proofs.Common.{◌≡◌, ◌&&◌, Bool, true, false, not, cond, List, [], ◌∷◌, Option, Some, None, IfSome, refl, subst}
 use Rattle.std.specs.List.{list_all}
-use Rattle.rh_parts.specs.declared.parts.Dep.{Dep}
+use Rattle.rh_model.specs.declared.settings.Dep.{Dep}
 use Rattle.rh_state.specs.StateView.{StateView}
 use Rattle.rh_place.specs.Placing.{missing_dep}
-use Rattle.rh_change.specs.declared.event.Event.{Event}
-use Rattle.rh_change.specs.declared.event.Event.TheVariants.{Boot, Crash, Tick, Start, Stop, Permit, Takeover, Exit}
+use Rattle.rh_events.specs.declared.event.Event.{Event}
+use Rattle.rh_events.specs.declared.event.Event.TheVariants.{Boot, Crash, Tick, Start, Stop, Permit, Takeover, Exit}
 use Rattle.rh_step.specs.declared.refusal.Refusal.{Refusal}
 use Rattle.rh_step.specs.declared.refusal.Refusal.TheVariants.{OutOfMemory}
 use Rattle.rh_step.specs.Refusals.{refused, tests, dep_tests, first_that_applies}

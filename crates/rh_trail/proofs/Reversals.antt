@@ -2,7 +2,7 @@
 use Rattle.std.proofs.Common.{◌≡◌, ℕ, ◌+◌, ◌-◌, ◌<◌, ◌≤◌, ◌==◌, List, [], ◌∷◌, ◌++◌, length, take, Option, Some, None, Bool, true, false, cond, refl, sym, ap, subst, ◌∙◌, arith}
 use Rattle.std.proofs.lemmas.Bool.Decides.{nat_tests}
 use Rattle.std.proofs.lemmas.List.{length-take-le, take_all, take_at, length_push}
-use Rattle.rh_change.specs.declared.event.Event.{Event}
+use Rattle.rh_events.specs.declared.event.Event.{Event}
 use Rattle.rh_settle.specs.declared.notice.Notice.{Notice}
 use Rattle.rh_step.specs.declared.refusal.Refusal.{Refusal}
 use Rattle.rh_step.specs.declared.refusal.Refusal.TheVariants.{TrailFull}

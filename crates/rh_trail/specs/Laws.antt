@@ -1,7 +1,7 @@
 -- What holds of a simulation after any list of calls (ours).
 use Rattle.std.specs.Prelude.{◌≡◌, ◌≤◌, List, length, Bool, true, false}
-use Rattle.rh_parts.specs.ClusterView.{ClusterView, IsWithin}
-use Rattle.rh_change.specs.declared.event.Event.{Event}
+use Rattle.rh_model.specs.ClusterView.{ClusterView, IsWithin}
+use Rattle.rh_events.specs.declared.event.Event.{Event}
 use Rattle.rh_settle.specs.declared.notice.Notice.{Notice}
 use Rattle.rh_place.specs.declared.choosing.Pick.{Pick}
 use Rattle.rh_trail.specs.declared.call.Call.{Call}

@@ -1,7 +1,7 @@
 -- The calls of one caller, with their replies (ours).
 use Rattle.std.specs.Prelude.{ℕ, ◌+◌, ◌-◌, List, [], ◌∷◌, ◌++◌, length, take, Option, Some, None, Result, Ok, Err, ◌==◌, if◌then◌else◌}
-use Rattle.rh_parts.specs.ClusterView.{ClusterView}
-use Rattle.rh_change.specs.declared.event.Event.{Event}
+use Rattle.rh_model.specs.ClusterView.{ClusterView}
+use Rattle.rh_events.specs.declared.event.Event.{Event}
 use Rattle.rh_place.specs.declared.choosing.Pick.{Pick}
 use Rattle.rh_step.specs.declared.refusal.Refusal.{Refusal}
 use Rattle.rh_step.specs.declared.refusal.Refusal.TheVariants.{TrailFull}

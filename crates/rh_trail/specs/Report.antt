@@ -2,19 +2,19 @@
 use Rattle.std.specs.Prelude.{ℕ, List, [], ◌++◌, codes, slice_get, unwrap_or, Some, None, if◌then◌else◌}
 use Rattle.std.specs.List.{flat_map}
 use Rattle.std.specs.Fmt.{decimal}
-use Rattle.rh_parts.specs.ClusterView.{ClusterView, name_of}
-use Rattle.rh_parts.specs.declared.node.Node.{Node}
-use Rattle.rh_parts.specs.declared.node.App.{App}
-use Rattle.rh_parts.specs.declared.parts.Restart.{Restart}
-use Rattle.rh_parts.specs.declared.parts.Restart.TheVariants.{Permanent, Transient, Temporary}
-use Rattle.rh_state.specs.declared.parts.Mode.{Mode}
-use Rattle.rh_state.specs.declared.parts.Mode.TheVariants.{Down, Waiting, Up}
-use Rattle.rh_state.specs.declared.parts.Kind.{Kind}
-use Rattle.rh_state.specs.declared.parts.Kind.TheVariants as kind
-use Rattle.rh_state.specs.declared.parts.Standing.{Standing}
-use Rattle.rh_state.specs.declared.parts.Standing.TheVariants as standing
-use Rattle.rh_state.specs.declared.parts.Timer.{Timer}
-use Rattle.rh_state.specs.declared.parts.Timer.TheVariants as timer
+use Rattle.rh_model.specs.ClusterView.{ClusterView, name_of}
+use Rattle.rh_model.specs.declared.node.Node.{Node}
+use Rattle.rh_model.specs.declared.node.App.{App}
+use Rattle.rh_model.specs.declared.settings.Restart.{Restart}
+use Rattle.rh_model.specs.declared.settings.Restart.TheVariants.{Permanent, Transient, Temporary}
+use Rattle.rh_state.specs.declared.status.Mode.{Mode}
+use Rattle.rh_state.specs.declared.status.Mode.TheVariants.{Down, Waiting, Up}
+use Rattle.rh_state.specs.declared.status.Kind.{Kind}
+use Rattle.rh_state.specs.declared.status.Kind.TheVariants as kind
+use Rattle.rh_state.specs.declared.status.Standing.{Standing}
+use Rattle.rh_state.specs.declared.status.Standing.TheVariants as standing
+use Rattle.rh_state.specs.declared.status.Timer.{Timer}
+use Rattle.rh_state.specs.declared.status.Timer.TheVariants as timer
 use Rattle.rh_state.specs.Numbers.{nodes_of, apps_of}
 use Rattle.rh_state.specs.StateView.{StateView, mode_of, incarnation_of, running_at, waiting_at, restart_of, kind_of, is_allowed, standing_of}
 use Rattle.rh_settle.specs.Moves.{is_local}

@@ -1,7 +1,7 @@
 -- The state after a list of events (ours).
 use Rattle.std.specs.Prelude.{List, fold}
-use Rattle.rh_parts.specs.ClusterView.{ClusterView}
-use Rattle.rh_change.specs.declared.event.Event.{Event}
+use Rattle.rh_model.specs.ClusterView.{ClusterView}
+use Rattle.rh_events.specs.declared.event.Event.{Event}
 use Rattle.rh_place.specs.declared.choosing.Pick.{Pick}
 use Rattle.rh_state.specs.First.{first}
 use Rattle.rh_state.specs.StateView.{StateView}

@@ -1,7 +1,7 @@
 -- What callers see of a simulation: the trail of its accepted events, and a cursor in it (ours).
 use Rattle.std.specs.Prelude.{ℕ, List, take}
-use Rattle.rh_parts.specs.ClusterView.{ClusterView}
-use Rattle.rh_change.specs.declared.event.Event.{Event}
+use Rattle.rh_model.specs.ClusterView.{ClusterView}
+use Rattle.rh_events.specs.declared.event.Event.{Event}
 use Rattle.rh_place.specs.declared.choosing.Pick.{Pick}
 use Rattle.rh_state.specs.StateView.{StateView}
 use Rattle.rh_trail.specs.Runs.{after}

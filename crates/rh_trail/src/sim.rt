@@ -1,11 +1,11 @@
 //! A simulation: the trail of the accepted events, with a state after each, and a cursor in it.
 
 ghost use Rattle.std.specs.Prelude.{◌≡◌, ◌≤◌, length, IfOk};
-ghost use Rattle.rh_state.specs.Words.{read};
+ghost use Rattle.rh_state.specs.Stored.{read};
 
 mod moves;
 
-use rh_parts::Cluster;
+use rh_model::Cluster;
 use rh_state::{State, first_state};
 use rh_step::{Event, Pick};
 use rh_terms::OutOfMemory;

@@ -5,8 +5,8 @@ ghost use Rattle.std.specs.List.{flat_map};
 ghost use Rattle.std.specs.String.{string_bytes};
 ghost use Rattle.rh_state.specs.Numbers.{nodes_of};
 ghost use Rattle.rh_state.specs.Shape.{IsTimerOf};
-ghost use Rattle.rh_state.specs.Words.{read};
-ghost use Rattle.rh_state.specs.declared.parts.Timer.{Timer};
+ghost use Rattle.rh_state.specs.Stored.{read};
+ghost use Rattle.rh_state.specs.declared.status.Timer.{Timer};
 ghost use Rattle.rh_trail.specs.Report.{node_lines, timer_line, report_text};
 
 mod apps;
@@ -15,7 +15,7 @@ mod words;
 
 use crate::text::apps::push_apps;
 use crate::text::nodes::push_node_lines;
-use rh_parts::{Cluster, Node};
+use rh_model::{Cluster, Node};
 use rh_state::{State, Timer};
 use rh_terms::OutOfMemory;
 use std::alloc::Global;

@@ -1,2 +1,2 @@
 pub mod Firing
-pub mod Words
+pub mod Stored

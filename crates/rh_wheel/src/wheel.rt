@@ -3,7 +3,7 @@
 ghost use Rattle.std.specs.Prelude.{◌≡◌, ◌≢◌, ◌<◌, ◌≤◌, ◌+◌, ◌↔◌, ℕ, [], ◌∷◌, ◌++◌, length, slice_get, insert, All, Contains, IsSome, IsNone, IfSome, IfOk};
 ghost use Rattle.std.specs.List.Sorted.{IsNonDecreasingBy};
 ghost use Rattle.rh_wheel.specs.Firing.{behind, without, due_in, due_at, timers_of, IsFiringOrder};
-ghost use Rattle.rh_wheel.specs.Words.{listed, timer_count};
+ghost use Rattle.rh_wheel.specs.Stored.{listed, timer_count};
 
 use std::alloc::{AllocError, Global};
 use std::marker::Model;
@@ -21,9 +21,9 @@ pub struct Wheel {
 impl Model for Wheel {
     ghost use Rattle.std.specs.Prelude.{◌≤◌, vec_capacity};
     ghost use Rattle.rh_wheel.specs.Firing.{IsFiringOrder};
-    ghost use Rattle.rh_wheel.specs.Words.{Words};
+    ghost use Rattle.rh_wheel.specs.Stored.{Stored};
 
-    ghost Value = { Words };
+    ghost Value = { Stored };
 
     ghost view = { λ wheel. record { timers = wheel.timers; entries = wheel.entries.items } };
 
@@ -32,7 +32,7 @@ impl Model for Wheel {
 
 impl Wheel {
     /// Timers numbered from 0 to `timers - 1`, none of them armed. The error says that memory was refused.
-    #[tactic(auto, unfolding(crate::specs::Words::listed, crate::specs::Words::timer_count))]
+    #[tactic(auto, unfolding(crate::specs::Stored::listed, crate::specs::Stored::timer_count))]
     pub fn new(alloc: Global, timers: u32) -> Result<Wheel, AllocError>
         ensures count { IfOk result (λ wheel. timer_count wheel ≡ timers) }
         ensures unarmed { IfOk result (λ wheel. listed wheel ≡ []) }
@@ -56,7 +56,7 @@ impl Wheel {
     }
 
     /// How many timers there are, armed or not.
-    #[tactic(auto, unfolding(crate::specs::Words::timer_count))]
+    #[tactic(auto, unfolding(crate::specs::Stored::timer_count))]
     pub fn timer_count(&self) -> u32
         ensures { result ≡ timer_count self.now }
     {
@@ -64,7 +64,7 @@ impl Wheel {
     }
 
     /// How many timers are armed: at most all.
-    #[tactic(auto, unfolding(crate::specs::Words::listed, crate::specs::Words::timer_count))]
+    #[tactic(auto, unfolding(crate::specs::Stored::listed, crate::specs::Stored::timer_count))]
     pub fn armed_count(&self) -> usize
         ensures count { result ≡ length (listed self.now) }
         ensures at_most { result ≤ timer_count self.now }
@@ -74,7 +74,7 @@ impl Wheel {
 
     /// Arms a timer that isn't armed, with a due time in milliseconds. It fires behind all that aren't due later, and
     /// before all that are.
-    #[tactic(auto, unfolding(crate::specs::Words::listed, crate::specs::Words::timer_count))]
+    #[tactic(auto, unfolding(crate::specs::Stored::listed, crate::specs::Stored::timer_count))]
     pub fn arm(&mut self, timer: u32, due: u64)
         requires numbered { timer < timer_count self.old }
         requires unarmed { IsNone (due_in timer (listed self.old)) }
@@ -93,7 +93,7 @@ impl Wheel {
     }
 
     /// Cancels a timer that is armed.
-    #[tactic(auto, unfolding(crate::specs::Words::listed, crate::specs::Words::timer_count))]
+    #[tactic(auto, unfolding(crate::specs::Stored::listed, crate::specs::Stored::timer_count))]
     pub fn cancel(&mut self, timer: u32)
         requires { IsSome (due_in timer (listed self.old)) }
         ensures list { listed self.new ≡ without timer (listed self.old) }
@@ -108,7 +108,7 @@ impl Wheel {
     }
 
     /// The due time and the number of the timer that fires first; `None` exactly if no timer is armed.
-    #[tactic(auto, unfolding(crate::specs::Words::listed, crate::specs::Words::timer_count))]
+    #[tactic(auto, unfolding(crate::specs::Stored::listed, crate::specs::Stored::timer_count))]
     pub fn earliest(&self) -> Option<(u64, u32)>
         ensures first { result ≡ slice_get (listed self.now) 0 }
         ensures none { IsNone result ↔ (listed self.now ≡ []) }
@@ -124,7 +124,7 @@ impl Wheel {
 
     /// The due time and the number of the timer at a place of the firing order, the first of which is 0; `None` from
     /// [`Wheel::armed_count`] on.
-    #[tactic(auto, unfolding(crate::specs::Words::listed, crate::specs::Words::timer_count))]
+    #[tactic(auto, unfolding(crate::specs::Stored::listed, crate::specs::Stored::timer_count))]
     pub fn entry(&self, place: usize) -> Option<(u64, u32)>
         ensures entry { result ≡ slice_get (listed self.now) place }
         ensures none { IsNone result ↔ (length (listed self.now) ≤ place) }
@@ -135,7 +135,7 @@ impl Wheel {
     }
 
     /// When a timer is due, in milliseconds; `None` exactly if it isn't armed, as is a number that no timer has.
-    #[tactic(auto, unfolding(crate::specs::Words::listed, crate::specs::Words::timer_count))]
+    #[tactic(auto, unfolding(crate::specs::Stored::listed, crate::specs::Stored::timer_count))]
     pub fn due_of(&self, timer: u32) -> Option<u64>
         ensures due { result ≡ due_in timer (listed self.now) }
         ensures armed { IsSome result ↔ Contains (timers_of (listed self.now)) timer }

@@ -2,7 +2,7 @@
 
 ghost use Rattle.std.specs.Prelude.{◌≡◌, ◌++◌, false, IfOk, codes};
 ghost use Rattle.std.specs.List.{flat_map};
-ghost use Rattle.rh_state.specs.Words.{read};
+ghost use Rattle.rh_state.specs.Stored.{read};
 ghost use Rattle.rh_trail.specs.Report.{report_text};
 ghost use Rattle.rh_trail.specs.SimView.{state_of};
 ghost use Rattle.rh_app.specs.Histories.{entry_text, history_text};

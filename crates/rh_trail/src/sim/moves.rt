@@ -2,7 +2,7 @@
 
 ghost use Rattle.std.specs.Prelude.{◌≡◌, ◌≢◌, ◌<◌, ◌≤◌, List, replicate, Err, IfOk, IfErr, OnOk, OnErr, None};
 ghost use Rattle.rh_settle.specs.declared.notice.Notice.{Notice};
-ghost use Rattle.rh_state.specs.Words.{read};
+ghost use Rattle.rh_state.specs.Stored.{read};
 ghost use Rattle.rh_step.specs.Refusals.{refused};
 ghost use Rattle.rh_step.specs.Outcomes.{next};
 ghost use Rattle.rh_step.specs.Validity.{IsValid};

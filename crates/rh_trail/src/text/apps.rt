@@ -3,12 +3,12 @@
 ghost use Rattle.std.specs.Prelude.{◌≡◌, ◌++◌, ◌<◌, OnOk};
 ghost use Rattle.std.specs.List.{flat_map};
 ghost use Rattle.std.specs.String.{string_bytes};
-ghost use Rattle.rh_parts.specs.ClusterView.{app_count};
-ghost use Rattle.rh_state.specs.Words.{read};
+ghost use Rattle.rh_model.specs.ClusterView.{app_count};
+ghost use Rattle.rh_state.specs.Stored.{read};
 ghost use Rattle.rh_trail.specs.Report.{app_line, app_lines};
 
 use crate::text::words::push_standing;
-use rh_parts::App;
+use rh_model::App;
 use rh_state::State;
 use rh_terms::OutOfMemory;
 

@@ -3,14 +3,14 @@
 ghost use Rattle.std.specs.Prelude.{◌≡◌, ◌++◌, ◌<◌, OnOk};
 ghost use Rattle.std.specs.List.{flat_map};
 ghost use Rattle.std.specs.String.{string_bytes};
-ghost use Rattle.rh_parts.specs.ClusterView.{node_count, app_count};
+ghost use Rattle.rh_model.specs.ClusterView.{node_count, app_count};
 ghost use Rattle.rh_state.specs.Numbers.{apps_of};
 ghost use Rattle.rh_state.specs.StateView.{running_at, waiting_at};
-ghost use Rattle.rh_state.specs.Words.{read};
+ghost use Rattle.rh_state.specs.Stored.{read};
 ghost use Rattle.rh_trail.specs.Report.{node_line, running_line, waiting_line, forbidden_line, line_if_forbidden, node_lines};
 
 use crate::text::words::{mode_word, push_kind, restart_word};
-use rh_parts::{App, Cluster, Node};
+use rh_model::{App, Cluster, Node};
 use rh_state::State;
 use rh_terms::OutOfMemory;
 use std::alloc::Global;

@@ -5,7 +5,7 @@ ghost use Rattle.std.specs.String.{string_bytes};
 ghost use Rattle.rh_state.specs.Shape.{IsKindOf, IsStandingOf};
 ghost use Rattle.rh_trail.specs.Report.{mode_words, restart_words, kind_words, standing_words};
 
-use rh_parts::{Cluster, Restart};
+use rh_model::{Cluster, Restart};
 use rh_state::{Kind, Mode, Standing};
 use rh_terms::OutOfMemory;
 

@@ -1,6 +1,6 @@
 use Rattle.std.proofs.Common.{◌≡◌, ◌++◌, ℕ, List, codes, ap, sym, ◌∙◌, append_assoc}
 use Rattle.std.specs.Fmt.{decimal}
-use Rattle.rh_parts.specs.ClusterView.{node_count, app_count}
+use Rattle.rh_model.specs.ClusterView.{node_count, app_count}
 use Rattle.rh_app.specs.CheckText.{count_text}
 use Rattle.rh_app.proofs.checking.count_text.Goals as goal
 

@@ -1,8 +1,8 @@
 use Rattle.std.proofs.Common.{◌≡◌, drop}
 use Rattle.std.specs.Prelude.{flat_map}
 use Rattle.rh_cluster.specs.Agreement.{boot_entry_faults}
-use Rattle.rh_parts.specs.declared.node.App.{App}
-use Rattle.rh_parts.specs.declared.parts.Restart.{Restart}
+use Rattle.rh_model.specs.declared.node.App.{App}
+use Rattle.rh_model.specs.declared.settings.Restart.{Restart}
 use Rattle.rh_cluster.proofs.agreement.check_boot_list.Given as goal
 
 abbrev pub invariant-loop-entry : goal.invariant-loop-entry

@@ -1,6 +1,6 @@
 use Rattle.std.proofs.Common.{◌≡◌, drop}
 use Rattle.std.specs.List.{list_any}
-use Rattle.rh_parts.specs.ClusterView.{is_in}
+use Rattle.rh_model.specs.ClusterView.{is_in}
 use Rattle.rh_cluster.proofs.agreement.lists_node.Given as goal
 
 abbrev pub invariant-loop-group : goal.invariant-loop-group

@@ -1,8 +1,8 @@
 use Rattle.std.proofs.Common.{◌≡◌, ◌∙◌, length, map, sym, ap, subst}
 use Rattle.std.proofs.lemmas.Result.{err_from_is_err_and}
 use Rattle.rh_terms.specs.Tree.{tree_of}
-use Rattle.rh_parts.specs.ClusterView.{IsWithin}
-use Rattle.rh_parts.specs.Names.{KnownNames}
+use Rattle.rh_model.specs.ClusterView.{IsWithin}
+use Rattle.rh_model.specs.Names.{NamesView}
 use Rattle.rh_cluster.specs.Agreement.{agreed_shares}
 use Rattle.rh_cluster.specs.ClusterOf.{names_of, all_shares, faults_in, cluster_view}
 use Rattle.rh_cluster.proofs.Counts.{length-node_views, length-app_views}
@@ -19,12 +19,12 @@ returns-in_err-nodes-clause-faults c =
 pub of-requires-clause-nodes : goal.of-requires-clause-nodes
 of-requires-clause-nodes c =
     let ts = map tree_of c.args.terms.now in
-    ap length c.in_ok-nodes.ensures.nodes ∙ length-node_views (names_of ts) ts ∙ sym (ap (λ (n : KnownNames). length n.nodes) c.in_ok-names.ensures.names)
+    ap length c.in_ok-nodes.ensures.nodes ∙ length-node_views (names_of ts) ts ∙ sym (ap (λ (n : NamesView). length n.nodes) c.in_ok-names.ensures.names)
 
 pub of-requires-clause-apps : goal.of-requires-clause-apps
 of-requires-clause-apps c =
     let ts = map tree_of c.args.terms.now in
-    ap length c.in_ok-nodes.ensures.apps ∙ length-app_views (names_of ts) (agreed_shares (all_shares (names_of ts) ts)) ts ∙ sym (ap (λ (n : KnownNames). length n.apps) c.in_ok-names.ensures.names)
+    ap length c.in_ok-nodes.ensures.apps ∙ length-app_views (names_of ts) (agreed_shares (all_shares (names_of ts) ts)) ts ∙ sym (ap (λ (n : NamesView). length n.apps) c.in_ok-names.ensures.names)
 
 pub returns-clause-cluster : goal.returns-clause-cluster
 unfolding cluster_view names_of

@@ -1,5 +1,5 @@
 use Rattle.std.proofs.Common.{◌≡◌, ◌∙◌}
-use Rattle.rh_state.specs.Words.{read}
+use Rattle.rh_state.specs.Stored.{read}
 use Rattle.rh_place.specs.Picks.{picked}
 use Rattle.rh_place.specs.Placing.{best, candidates, is_operational}
 use Rattle.rh_place.proofs.Nowhere.{none_chosen}

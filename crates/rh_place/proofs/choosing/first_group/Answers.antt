@@ -1,8 +1,8 @@
 use Rattle.std.proofs.Common.{◌≡◌, sym, ap, ◌∙◌, [], unwrap_or, Option}
 use Rattle.std.specs.List.{filter}
 use Rattle.std.specs.Option.{option_map}
-use Rattle.rh_parts.specs.declared.parts.Spread.{Spread}
-use Rattle.rh_parts.specs.ClusterView.{ClusterView}
+use Rattle.rh_model.specs.declared.settings.Spread.{Spread}
+use Rattle.rh_model.specs.ClusterView.{ClusterView}
 use Rattle.rh_place.specs.Sets.{has}
 use Rattle.rh_place.specs.Picks.{first_given}
 use Rattle.rh_place.specs.Placing.{groups_of}

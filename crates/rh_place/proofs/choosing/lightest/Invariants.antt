@@ -1,9 +1,9 @@
 use Rattle.std.proofs.Common.{◌≡◌, ◌==◌, take}
 use Rattle.std.specs.List.{filter}
-use Rattle.rh_parts.specs.declared.node.Node.{Node}
-use Rattle.rh_parts.specs.ClusterView.{is_in}
+use Rattle.rh_model.specs.declared.node.Node.{Node}
+use Rattle.rh_model.specs.ClusterView.{is_in}
 use Rattle.rh_state.specs.StateView.{running_count}
-use Rattle.rh_state.specs.Words.{read}
+use Rattle.rh_state.specs.Stored.{read}
 use Rattle.rh_place.specs.Sets.{has}
 use Rattle.rh_place.proofs.choosing.lightest.Given as goal
 

@@ -2,10 +2,10 @@ use Rattle.std.proofs.Common.{◌==◌, ◌++◌, ◌∷◌, [], sym, ap, ◌∙
 use Rattle.std.specs.List.{filter}
 use Rattle.std.specs.Option.{option_to_list}
 use Rattle.std.proofs.lemmas.List.Elements.{All-filter, All-take}
-use Rattle.rh_parts.specs.declared.node.Node.{Node}
+use Rattle.rh_model.specs.declared.node.Node.{Node}
 use Rattle.rh_state.specs.StateView.{running_count}
 use Rattle.rh_state.specs.Shape.{IsNodeOf}
-use Rattle.rh_state.specs.Words.{read}
+use Rattle.rh_state.specs.Stored.{read}
 use Rattle.rh_place.specs.Sets.{has}
 use Rattle.rh_place.specs.Picks.{picked}
 use Rattle.rh_place.proofs.Lists.{both_more, picked_push, picked_All}

@@ -1,8 +1,8 @@
 use Rattle.std.proofs.Common.{◌≡◌, ◌==◌, take}
 use Rattle.std.specs.List.{filter}
-use Rattle.rh_parts.specs.declared.node.Node.{Node}
+use Rattle.rh_model.specs.declared.node.Node.{Node}
 use Rattle.rh_state.specs.StateView.{running_count}
-use Rattle.rh_state.specs.Words.{read}
+use Rattle.rh_state.specs.Stored.{read}
 use Rattle.rh_place.specs.Sets.{has}
 use Rattle.rh_place.specs.Picks.{picked}
 use Rattle.rh_place.proofs.choosing.one_of_lightest.Given as goal

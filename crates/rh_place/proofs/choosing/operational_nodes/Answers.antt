@@ -1,12 +1,12 @@
 use Rattle.std.proofs.Common.{◌≡◌, ℕ, ◌<◌, ◌≤◌, sym, ap, ◌∙◌, arith, false, true, length, unwrap_or, ◌&&◌, nat_lt}
 use Rattle.std.proofs.lemmas.Option.{slice_get_past}
 use Rattle.std.proofs.lemmas.Bool.Decides.{nat_tests}
-use Rattle.rh_parts.specs.declared.node.Node.{Node}
-use Rattle.rh_parts.specs.declared.node.App.{App}
-use Rattle.rh_parts.specs.ClusterView.{ClusterView, node_count}
-use Rattle.rh_state.specs.declared.parts.Mode.TheVariants.{Down}
+use Rattle.rh_model.specs.declared.node.Node.{Node}
+use Rattle.rh_model.specs.declared.node.App.{App}
+use Rattle.rh_model.specs.ClusterView.{ClusterView, node_count}
+use Rattle.rh_state.specs.declared.status.Mode.TheVariants.{Down}
 use Rattle.rh_state.specs.StateView.{StateView, is_up, is_started, is_allowed}
-use Rattle.rh_state.specs.Words.{read}
+use Rattle.rh_state.specs.Stored.{read}
 use Rattle.rh_place.specs.Placing.{is_operational, deps_run}
 use Rattle.rh_place.proofs.Lists.{cases}
 use Rattle.rh_place.proofs.choosing.operational_nodes.Goals as goal

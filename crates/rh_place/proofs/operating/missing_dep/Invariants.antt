@@ -1,6 +1,6 @@
 use Rattle.std.proofs.Common.{◌≡◌, drop, find, not}
-use Rattle.rh_parts.specs.declared.parts.Dep.{Dep}
-use Rattle.rh_state.specs.Words.{read}
+use Rattle.rh_model.specs.declared.settings.Dep.{Dep}
+use Rattle.rh_state.specs.Stored.{read}
 use Rattle.rh_place.specs.Placing.{dep_runs}
 use Rattle.rh_place.proofs.operating.missing_dep.Given as goal
 

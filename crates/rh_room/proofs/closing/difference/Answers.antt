@@ -1,8 +1,8 @@
 use Rattle.std.proofs.Common.{◌≡◌, ◌==◌, ◌∙◌, ◌+◌, List, not, sym, subst, ap, refl, true, slice_index_or, arith}
 use Rattle.std.specs.Bool.{beq}
 use Rattle.std.proofs.lemmas.List.{get_or_read}
-use Rattle.rh_room.specs.declared.parts.Entry.{Entry}
-use Rattle.rh_room.specs.declared.parts.Receipt.{Receipt}
+use Rattle.rh_room.specs.declared.pass.Entry.{Entry}
+use Rattle.rh_room.specs.declared.pass.Receipt.{Receipt}
 use Rattle.rh_room.specs.Legal.{of_session}
 use Rattle.rh_room.specs.Closing.{IsFirstDifference}
 use Rattle.rh_room.proofs.Differences.{HasMet, told_otherwise, told_wrongly, goes_on, passes_over, told_too_much, alike, is_session, isnt_session}

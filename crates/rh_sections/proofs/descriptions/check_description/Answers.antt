@@ -1,5 +1,5 @@
 use Rattle.std.proofs.lemmas.Result.{err_from_is_err_and}
-use Rattle.rh_sections.specs.Parts.{node_name_faults}
+use Rattle.rh_sections.specs.Sections.{node_name_faults}
 use Rattle.rh_sections.proofs.MemberNames.{group_passes, group_fails, desc_fails}
 use Rattle.rh_sections.proofs.descriptions.check_description.Goals as goal
 

@@ -2,8 +2,8 @@ use Rattle.std.proofs.Common.{◌≡◌, map, drop}
 use Rattle.std.specs.Prelude.{flat_map}
 use Rattle.rh_terms.specs.Tree.{tree_of}
 use Rattle.rh_sections.specs.Shapes.{atoms}
-use Rattle.rh_parts.specs.Names.{is_among}
-use Rattle.rh_sections.specs.Parts.{members}
+use Rattle.rh_model.specs.Names.{is_among}
+use Rattle.rh_sections.specs.Sections.{members}
 use Rattle.rh_sections.proofs.descriptions.repeats_member.Given as goal
 
 abbrev pub invariant-loop-group : goal.invariant-loop-group

@@ -1,7 +1,7 @@
 use Rattle.std.proofs.Common.{◌≡◌, map, drop, filter_map}
 use Rattle.rh_terms.specs.Tree.{tree_of}
-use Rattle.rh_parts.specs.Names.{is_among}
-use Rattle.rh_sections.specs.Parts.{app_in}
+use Rattle.rh_model.specs.Names.{is_among}
+use Rattle.rh_sections.specs.Sections.{app_in}
 use Rattle.rh_sections.proofs.entries.repeats_app.Given as goal
 
 abbrev pub invariant-loop-term : goal.invariant-loop-term

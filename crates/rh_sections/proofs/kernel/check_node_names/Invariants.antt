@@ -1,7 +1,7 @@
 use Rattle.std.proofs.Common.{◌≡◌, [], map, take}
 use Rattle.rh_terms.specs.Tree.{tree_of}
 use Rattle.rh_sections.specs.Faults.{in_turn}
-use Rattle.rh_sections.specs.Parts.{node_name_faults}
+use Rattle.rh_sections.specs.Sections.{node_name_faults}
 use Rattle.rh_sections.proofs.kernel.check_node_names.Given as goal
 
 abbrev pub invariant-loop-index : goal.invariant-loop-index

@@ -1,5 +1,5 @@
 use Rattle.std.proofs.lemmas.Result.{err_from_is_err_and}
-use Rattle.rh_sections.specs.Parts.{permission_faults}
+use Rattle.rh_sections.specs.Sections.{permission_faults}
 use Rattle.rh_sections.proofs.InTurn.{passes, list_fails}
 use Rattle.rh_sections.proofs.kernel.check_permissions.Goals as goal
 

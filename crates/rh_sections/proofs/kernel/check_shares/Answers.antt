@@ -1,5 +1,5 @@
 use Rattle.std.proofs.lemmas.Result.{err_from_is_err_and}
-use Rattle.rh_sections.specs.Parts.{share_faults}
+use Rattle.rh_sections.specs.Sections.{share_faults}
 use Rattle.rh_sections.proofs.InTurn.{passes, list_fails}
 use Rattle.rh_sections.proofs.kernel.check_shares.Goals as goal
 

@@ -1,5 +1,5 @@
 use Rattle.std.proofs.Common.{sym, ◌∙◌}
-use Rattle.rh_sections.proofs.Words.{not_repeated}
+use Rattle.rh_sections.proofs.Unrepeated.{not_repeated}
 use Rattle.rh_sections.proofs.keys.check_dep.Goals as goal
 
 pub add-requires : goal.add-requires

@@ -4,7 +4,7 @@ use Rattle.std.proofs.lemmas.Result.{err_from_is_err_and}
 use Rattle.rh_terms.specs.Tree.{Tree, tree_of}
 use Rattle.rh_sections.specs.declared.fault.ClusterFault.{ClusterFault}
 use Rattle.rh_sections.specs.Shapes.{as_atom, atoms}
-use Rattle.rh_sections.specs.Parts.{dep_faults}
+use Rattle.rh_sections.specs.Sections.{dep_faults}
 use Rattle.rh_sections.proofs.InTurn.{passes, list_fails, trees_more}
 use Rattle.rh_sections.proofs.keys.check_deps.Goals as goal
 

@@ -2,7 +2,7 @@ use Rattle.std.proofs.Common.{◌≡◌, [], map, take}
 use Rattle.rh_terms.specs.Tree.{tree_of}
 use Rattle.rh_sections.specs.Faults.{in_turn}
 use Rattle.rh_sections.specs.Shapes.{atoms}
-use Rattle.rh_sections.specs.Parts.{dep_faults}
+use Rattle.rh_sections.specs.Sections.{dep_faults}
 use Rattle.rh_sections.proofs.keys.check_deps.Given as goal
 
 abbrev pub invariant-loop-term : goal.invariant-loop-term

@@ -1,6 +1,6 @@
 use Rattle.std.proofs.lemmas.Result.{err_from_is_err_and}
-use Rattle.rh_parts.specs.Names.{is_among}
-use Rattle.rh_sections.specs.Parts.{entry_faults, app_keys, key_faults}
+use Rattle.rh_model.specs.Names.{is_among}
+use Rattle.rh_sections.specs.Sections.{entry_faults, app_keys, key_faults}
 use Rattle.rh_sections.proofs.InTurn.{passes, list_fails}
 use Rattle.rh_sections.proofs.keys.check_keys.Goals as goal
 

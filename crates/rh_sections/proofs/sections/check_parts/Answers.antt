@@ -1,5 +1,5 @@
 use Rattle.std.proofs.lemmas.Result.{err_from_is_err_and}
-use Rattle.rh_sections.specs.Parts.{parts_faults, parts_pass}
+use Rattle.rh_sections.specs.Sections.{parts_faults, parts_pass}
 use Rattle.rh_sections.proofs.InTurn.{passes, fails}
 use Rattle.rh_sections.proofs.sections.check_parts.Goals as goal
 

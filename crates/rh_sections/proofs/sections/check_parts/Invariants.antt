@@ -1,7 +1,7 @@
 use Rattle.std.proofs.Common.{◌≡◌, [], map, take}
 use Rattle.rh_terms.specs.Tree.{tree_of}
 use Rattle.rh_sections.specs.Faults.{in_turn}
-use Rattle.rh_sections.specs.Parts.{parts_faults}
+use Rattle.rh_sections.specs.Sections.{parts_faults}
 use Rattle.rh_sections.proofs.sections.check_parts.Given as goal
 
 abbrev pub invariant-loop-term : goal.invariant-loop-term

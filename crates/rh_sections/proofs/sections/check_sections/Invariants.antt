@@ -1,8 +1,8 @@
 use Rattle.std.proofs.Common.{◌≡◌, [], map, take}
 use Rattle.rh_terms.specs.Tree.{tree_of}
 use Rattle.rh_sections.specs.Faults.{in_turn}
-use Rattle.rh_parts.specs.Names.{is_among}
-use Rattle.rh_sections.specs.Parts.{entry_faults, section_keys, section_faults}
+use Rattle.rh_model.specs.Names.{is_among}
+use Rattle.rh_sections.specs.Sections.{entry_faults, section_keys, section_faults}
 use Rattle.rh_sections.proofs.sections.check_sections.Given as goal
 
 abbrev pub invariant-loop-index : goal.invariant-loop-index

@@ -1,6 +1,6 @@
 use Rattle.std.proofs.Common.{ap, ◌∙◌}
 use Rattle.rh_state.specs.StateView.{place_of}
-use Rattle.rh_state.specs.Words.{read}
+use Rattle.rh_state.specs.Stored.{read}
 use Rattle.rh_settle.proofs.Places.{off_unlisted_shaped}
 use Rattle.rh_settle.proofs.make.start_at.Goals as goal
 

@@ -1,9 +1,9 @@
 use Rattle.std.proofs.Common.{List, ◌≡◌, ◌≤◌, sym, ap, ◌∙◌, arith, Bool, false, true, length, ◌&&◌, nat_lt, refl}
-use Rattle.rh_parts.specs.declared.node.Node.{Node}
-use Rattle.rh_parts.specs.declared.node.App.{App}
-use Rattle.rh_parts.specs.ClusterView.{ClusterView, node_count, group_of}
+use Rattle.rh_model.specs.declared.node.Node.{Node}
+use Rattle.rh_model.specs.declared.node.App.{App}
+use Rattle.rh_model.specs.ClusterView.{ClusterView, node_count, group_of}
 use Rattle.rh_state.specs.StateView.{StateView}
-use Rattle.rh_state.specs.Words.{read}
+use Rattle.rh_state.specs.Stored.{read}
 use Rattle.rh_place.specs.Placing.{is_operational}
 use Rattle.rh_place.proofs.Lists.{cases}
 use Rattle.rh_settle.specs.declared.notice.Pair.{Pair}

@@ -1,6 +1,6 @@
 use Rattle.std.proofs.Common.{◌≡◌, ◌<◌, ◌≤◌, false}
-use Rattle.rh_parts.specs.declared.node.Node.{Node}
-use Rattle.rh_state.specs.Words.{read}
+use Rattle.rh_model.specs.declared.node.Node.{Node}
+use Rattle.rh_state.specs.Stored.{read}
 use Rattle.rh_place.specs.Sets.{has}
 use Rattle.rh_settle.specs.Moves.{calls_away}
 use Rattle.rh_settle.proofs.search.callers_away.Given as goal

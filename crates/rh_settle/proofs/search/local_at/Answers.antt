@@ -1,9 +1,9 @@
 use Rattle.std.proofs.Common.{◌≡◌, ◌<◌, ℕ, sym, ap, ◌∙◌, cond, true, false, List, [], ◌∷◌, Some, IfSome, length, refl, subst, arith}
-use Rattle.rh_parts.specs.declared.node.Node.{Node}
-use Rattle.rh_parts.specs.declared.node.App.{App}
+use Rattle.rh_model.specs.declared.node.Node.{Node}
+use Rattle.rh_model.specs.declared.node.App.{App}
 use Rattle.rh_state.specs.Lists.{has_app, next_app}
 use Rattle.rh_state.specs.StateView.{StateView, waiting_at, running_at, next_in_list}
-use Rattle.rh_state.specs.Words.{read}
+use Rattle.rh_state.specs.Stored.{read}
 use Rattle.rh_place.specs.declared.choosing.Pick.{Pick}
 use Rattle.rh_place.specs.declared.choosing.Pick.TheVariants.{First, Last}
 use Rattle.rh_place.specs.Picks.{picked, first_given}

@@ -2,7 +2,7 @@ use Rattle.std.proofs.Common.{◌≡◌, true, length, IfSome}
 use Rattle.rh_state.specs.Lists.{has_app}
 use Rattle.rh_state.specs.Shape.{IsAppOf}
 use Rattle.rh_state.specs.StateView.{waiting_at}
-use Rattle.rh_state.specs.Words.{read}
+use Rattle.rh_state.specs.Stored.{read}
 use Rattle.rh_place.specs.Picks.{first_given}
 use Rattle.rh_settle.specs.Moves.{local_move}
 use Rattle.rh_settle.proofs.ListWalks.{left_of}

@@ -1,9 +1,9 @@
 use Rattle.std.proofs.Common.{ap, ◌∙◌, arith}
-use Rattle.rh_parts.specs.ClusterView.{ClusterView, node_count}
+use Rattle.rh_model.specs.ClusterView.{ClusterView, node_count}
 use Rattle.rh_place.specs.declared.choosing.Pick.TheVariants.{First}
 use Rattle.rh_settle.specs.Moves.{local_moves}
 use Rattle.rh_settle.proofs.Searches.{found_node, later_node, no_node_left}
-use Rattle.rh_state.specs.Words.{read}
+use Rattle.rh_state.specs.Stored.{read}
 use Rattle.rh_settle.proofs.search.next_local.Goals as goal
 
 pub returns-in-Some : goal.returns-in-Some

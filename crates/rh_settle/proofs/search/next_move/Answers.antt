@@ -4,7 +4,7 @@ use Rattle.rh_place.specs.Picks.{first_given, or_else}
 use Rattle.rh_settle.specs.declared.notice.Move.{Move}
 use Rattle.rh_settle.specs.Moves.{local_moves, placements, takeovers, next_moves}
 use Rattle.rh_settle.proofs.Searches.{either_some, either_none}
-use Rattle.rh_state.specs.Words.{read}
+use Rattle.rh_state.specs.Stored.{read}
 use Rattle.rh_settle.proofs.search.next_move.Goals as goal
 
 pub returns-in-Some-next_placement : goal.returns-in-Some-next_placement

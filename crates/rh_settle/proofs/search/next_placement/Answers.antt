@@ -1,8 +1,8 @@
 use Rattle.std.proofs.Common.{ap, ◌∙◌, arith}
-use Rattle.rh_parts.specs.ClusterView.{ClusterView, app_count}
+use Rattle.rh_model.specs.ClusterView.{ClusterView, app_count}
 use Rattle.rh_settle.specs.Moves.{placements}
 use Rattle.rh_settle.proofs.Searches.{found_app, later_app, no_app_left}
-use Rattle.rh_state.specs.Words.{read}
+use Rattle.rh_state.specs.Stored.{read}
 use Rattle.rh_settle.proofs.search.next_placement.Goals as goal
 
 pub returns-in-Some : goal.returns-in-Some

@@ -2,7 +2,7 @@ use Rattle.std.proofs.Common.{◌≡◌, drop}
 use Rattle.rh_state.specs.Numbers.{apps_of}
 use Rattle.rh_place.specs.Picks.{first_given}
 use Rattle.rh_settle.specs.Moves.{takeovers}
-use Rattle.rh_state.specs.Words.{read}
+use Rattle.rh_state.specs.Stored.{read}
 use Rattle.rh_settle.proofs.search.next_takeover.Given as goal
 
 abbrev pub invariant-apps : goal.invariant-apps

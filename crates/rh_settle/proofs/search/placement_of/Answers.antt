@@ -1,9 +1,9 @@
 use Rattle.std.proofs.Common.{◌≡◌, ap, sym, ◌∙◌, Option, None, refl}
 use Rattle.std.specs.Option.{option_map}
-use Rattle.rh_parts.specs.declared.node.App.{App}
-use Rattle.rh_parts.specs.declared.node.Node.{Node}
-use Rattle.rh_state.specs.declared.parts.Standing.{Standing}
-use Rattle.rh_state.specs.declared.parts.Standing.TheVariants.{Quiet, Wanted, Running, Lost}
+use Rattle.rh_model.specs.declared.node.App.{App}
+use Rattle.rh_model.specs.declared.node.Node.{Node}
+use Rattle.rh_state.specs.declared.status.Standing.{Standing}
+use Rattle.rh_state.specs.declared.status.Standing.TheVariants.{Quiet, Wanted, Running, Lost}
 use Rattle.rh_state.specs.StateView.{StateView}
 use Rattle.rh_place.specs.declared.choosing.Pick.{Pick}
 use Rattle.rh_place.specs.Picks.{picked}
@@ -11,7 +11,7 @@ use Rattle.rh_place.specs.Placing.{candidates}
 use Rattle.rh_settle.specs.declared.notice.Move.TheVariants.{Placement}
 use Rattle.rh_settle.specs.Moves.{placements, placements_from}
 use Rattle.rh_settle.proofs.Searches.{picked_map, none_of_none}
-use Rattle.rh_state.specs.Words.{read}
+use Rattle.rh_state.specs.Stored.{read}
 use Rattle.rh_settle.proofs.search.placement_of.Goals as goal
 
 otherwise : (pick : Pick) (s : StateView) (a : App) (st : Standing) → ((from : Option Node) → st ≡ Wanted from → ⊥) → None ≡ picked pick (placements_from s a st)

@@ -1,9 +1,9 @@
 use Rattle.std.proofs.Common.{◌≡◌, ap, sym, ◌∙◌, List, None, refl}
 use Rattle.std.specs.Option.{option_map}
-use Rattle.rh_parts.specs.declared.node.App.{App}
-use Rattle.rh_parts.specs.declared.node.Node.{Node}
-use Rattle.rh_state.specs.declared.parts.Standing.{Standing}
-use Rattle.rh_state.specs.declared.parts.Standing.TheVariants.{Quiet, Wanted, Running, Lost}
+use Rattle.rh_model.specs.declared.node.App.{App}
+use Rattle.rh_model.specs.declared.node.Node.{Node}
+use Rattle.rh_state.specs.declared.status.Standing.{Standing}
+use Rattle.rh_state.specs.declared.status.Standing.TheVariants.{Quiet, Wanted, Running, Lost}
 use Rattle.rh_state.specs.StateView.{StateView}
 use Rattle.rh_place.specs.declared.choosing.Pick.{Pick}
 use Rattle.rh_place.specs.Picks.{picked}
@@ -12,7 +12,7 @@ use Rattle.rh_settle.specs.declared.notice.Move.TheVariants.{Takeover}
 use Rattle.rh_settle.specs.declared.notice.Pair.{Pair}
 use Rattle.rh_settle.specs.Moves.{takeovers, takeovers_from, calls_away}
 use Rattle.rh_settle.proofs.Searches.{picked_map, none_of_none}
-use Rattle.rh_state.specs.Words.{read}
+use Rattle.rh_state.specs.Stored.{read}
 use Rattle.rh_settle.proofs.search.takeover_of.Goals as goal
 
 otherwise : (pick : Pick) (s : StateView) (marked : List Pair) (a : App) (st : Standing) → ((m : Node) → st ≡ Running m → ⊥) → None ≡ picked pick (takeovers_from s marked a st)

@@ -1,5 +1,5 @@
 use Rattle.std.proofs.Common.{sym, ◌∙◌}
-use Rattle.rh_state.specs.Words.{read}
+use Rattle.rh_state.specs.Stored.{read}
 use Rattle.rh_settle.proofs.Making.{makeable, smaller, same, same_cluster, runs_still, once_still, none_left}
 use Rattle.rh_settle.proofs.settling.make_moves.Goals as goal
 

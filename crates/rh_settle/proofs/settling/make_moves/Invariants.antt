@@ -1,5 +1,5 @@
 use Rattle.std.proofs.Common.{◌≡◌}
-use Rattle.rh_state.specs.Words.{read}
+use Rattle.rh_state.specs.Stored.{read}
 use Rattle.rh_settle.specs.Course.{course}
 use Rattle.rh_settle.specs.Settling.{all_moved}
 use Rattle.rh_settle.specs.Validity.{RunsWhereItStands, OnceAtEachNode}

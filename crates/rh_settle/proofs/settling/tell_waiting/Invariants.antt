@@ -1,5 +1,5 @@
 use Rattle.std.proofs.Common.{◌≡◌, take, fold}
-use Rattle.rh_state.specs.Words.{read}
+use Rattle.rh_state.specs.Stored.{read}
 use Rattle.rh_settle.specs.Course.{course}
 use Rattle.rh_settle.specs.Settling.{tell_waiting}
 use Rattle.rh_settle.proofs.settling.tell_waiting.Given as goal

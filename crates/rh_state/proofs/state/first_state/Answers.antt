@@ -1,6 +1,6 @@
 use Rattle.std.proofs.Common.{rules, ◌≡◌, replicate, arith}
-use Rattle.rh_state.specs.declared.parts.Mode.TheVariants.{Down}
-use Rattle.rh_state.specs.declared.parts.Standing.TheVariants.{Quiet}
+use Rattle.rh_state.specs.declared.status.Mode.TheVariants.{Down}
+use Rattle.rh_state.specs.declared.status.Standing.TheVariants.{Quiet}
 use Rattle.rh_state.proofs.FirstStates.{IsShaped-first}
 use Rattle.rh_state.proofs.state.first_state.Goals as goal
 

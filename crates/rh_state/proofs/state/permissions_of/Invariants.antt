@@ -1,6 +1,6 @@
 use Rattle.std.proofs.Common.{◌≡◌, map}
 use Rattle.std.specs.List.{range_with_len}
-use Rattle.rh_parts.specs.ClusterView.{numbered}
+use Rattle.rh_model.specs.ClusterView.{numbered}
 use Rattle.rh_state.specs.First.{configured}
 use Rattle.rh_state.proofs.state.permissions_of.Given as goal
 

@@ -1,5 +1,5 @@
 use Rattle.std.proofs.Common.{sym, ap, ◌∙◌, cond, not, Bool, Some, None, inl, inr}
-use Rattle.rh_state.specs.Words.{read}
+use Rattle.rh_state.specs.Stored.{read}
 use Rattle.rh_step.specs.declared.refusal.Refusal.TheVariants.{NotRunningHere}
 use Rattle.rh_step.proofs.ByHand.{exit_some, exit_none, runs_there, doesnt_run}
 use Rattle.rh_step.proofs.refusal.exit_refusal.Goals as goal

@@ -1,4 +1,4 @@
-use Rattle.rh_state.specs.Words.{read}
+use Rattle.rh_state.specs.Stored.{read}
 use Rattle.rh_step.proofs.ByHand.{permit_all}
 use Rattle.rh_step.proofs.refusal.permit_refusal.Goals as goal
 

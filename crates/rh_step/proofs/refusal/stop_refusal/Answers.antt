@@ -1,5 +1,5 @@
 use Rattle.std.proofs.Common.{sym, ap, ◌∙◌, cond, not, Bool, Some, None, inl, inr}
-use Rattle.rh_state.specs.Words.{read}
+use Rattle.rh_state.specs.Stored.{read}
 use Rattle.rh_step.specs.declared.refusal.Refusal.TheVariants.{NeverStarted}
 use Rattle.rh_step.proofs.ByHand.{stop_some, stop_none, off_unstarted, on_started}
 use Rattle.rh_step.proofs.refusal.stop_refusal.Goals as goal

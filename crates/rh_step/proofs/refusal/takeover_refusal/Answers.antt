@@ -1,7 +1,7 @@
 use Rattle.std.proofs.Common.{◌≡◌, true, false, Option, Some, None, is_some, is_none, sym, ap, ◌∙◌}
-use Rattle.rh_parts.specs.ClusterView.{ClusterView, spread_of}
+use Rattle.rh_model.specs.ClusterView.{ClusterView, spread_of}
 use Rattle.std.specs.Option.{option_map}
-use Rattle.rh_state.specs.Words.{read}
+use Rattle.rh_state.specs.Stored.{read}
 use Rattle.rh_step.proofs.ByHand.{takeover_some, takeover_stands}
 use Rattle.rh_step.proofs.refusal.takeover_refusal.Goals as goal
 

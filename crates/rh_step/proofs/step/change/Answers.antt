@@ -1,8 +1,8 @@
 use Rattle.std.proofs.Common.{sym, ap, ◌∙◌}
 use Rattle.std.proofs.lemmas.Result.{on_ok_weaker}
-use Rattle.rh_state.specs.Words.{read}
+use Rattle.rh_state.specs.Stored.{read}
 use Rattle.rh_settle.specs.Course.{course}
-use Rattle.rh_change.specs.Changes.{change}
+use Rattle.rh_events.specs.Changes.{change}
 use Rattle.rh_step.specs.Refusals.{refused}
 use Rattle.rh_step.proofs.Accepted.{accepted_boot, accepted_crash, accepted_start, accepted_stop, accepted_permit, accepted_takeover, accepted_exit}
 use Rattle.rh_step.proofs.Requirements.{unset_sync, unset_failover, off_to_start, on_to_stop, runs_elsewhere}

@@ -1,12 +1,12 @@
 use Rattle.std.proofs.Common.{List, All, sym, ap, ◌∙◌, subst}
 use Rattle.rh_state.specs.Shape.{IsNodeOf}
-use Rattle.rh_state.specs.Words.{read}
-use Rattle.rh_parts.specs.ClusterView.{ClusterView}
+use Rattle.rh_state.specs.Stored.{read}
+use Rattle.rh_model.specs.ClusterView.{ClusterView}
 use Rattle.rh_settle.specs.declared.notice.Pair.{Pair}
 use Rattle.rh_settle.specs.Course.{Course, course}
 use Rattle.rh_settle.specs.Validity.{RunsWhereItStands, OnceAtEachNode}
-use Rattle.rh_change.proofs.SoundComingUp.{sound_ready_come_up, ready_come_up_cluster}
-use Rattle.rh_change.proofs.Marked.{marked_ready_come_up}
+use Rattle.rh_events.proofs.SoundComingUp.{sound_ready_come_up, ready_come_up_cluster}
+use Rattle.rh_events.proofs.Marked.{marked_ready_come_up}
 use Rattle.rh_step.proofs.step.follow.Goals as goal
 
 pub settle-requires-clause-marked : goal.settle-requires-clause-marked

@@ -1,15 +1,15 @@
 use Rattle.std.proofs.Common.{List, All, sym, ap, ◌∙◌, subst}
 use Rattle.std.proofs.lemmas.Result.{on_ok_weaker}
-use Rattle.rh_parts.specs.ClusterView.{ClusterView}
+use Rattle.rh_model.specs.ClusterView.{ClusterView}
 use Rattle.rh_state.specs.Shape.{IsNodeOf}
-use Rattle.rh_state.specs.Words.{read}
+use Rattle.rh_state.specs.Stored.{read}
 use Rattle.rh_settle.specs.declared.notice.Pair.{Pair}
 use Rattle.rh_settle.specs.Course.{Course, course}
 use Rattle.rh_settle.specs.Settling.{settled}
 use Rattle.rh_settle.specs.Soundness.{IsSound}
-use Rattle.rh_change.specs.Changes.{change}
-use Rattle.rh_change.specs.ComingUp.{ready_come_up}
-use Rattle.rh_change.proofs.Fields.{change_cluster}
+use Rattle.rh_events.specs.Changes.{change}
+use Rattle.rh_events.specs.ComingUp.{ready_come_up}
+use Rattle.rh_events.proofs.Fields.{change_cluster}
 use Rattle.rh_step.specs.Outcomes.{outcome_of, followed}
 use Rattle.rh_step.proofs.SoundChange.{sound_changed, marked_changed, none_marked}
 use Rattle.rh_step.proofs.step.happen.Goals as goal

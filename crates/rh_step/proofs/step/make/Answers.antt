@@ -1,5 +1,5 @@
 use Rattle.std.proofs.Common.{sym, ap, ◌∙◌}
-use Rattle.rh_state.specs.Words.{read}
+use Rattle.rh_state.specs.Stored.{read}
 use Rattle.rh_step.specs.Refusals.{refused}
 use Rattle.rh_step.proofs.Accepted.{accepted_tick}
 use Rattle.rh_step.proofs.step.make.Goals as goal

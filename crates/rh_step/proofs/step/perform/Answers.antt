@@ -1,5 +1,5 @@
 use Rattle.std.proofs.lemmas.Result.{on_ok_weaker}
-use Rattle.rh_state.specs.Words.{read}
+use Rattle.rh_state.specs.Stored.{read}
 use Rattle.rh_step.proofs.Performing.{performed_state, performed_notices, performed_allowed, performed_valid}
 use Rattle.rh_step.proofs.step.perform.Goals as goal
 

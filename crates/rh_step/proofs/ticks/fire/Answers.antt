@@ -1,13 +1,13 @@
 use Rattle.std.proofs.Common.{◌≡◌, [], List, All, sym, ap, ◌∙◌, subst}
-use Rattle.rh_parts.specs.ClusterView.{ClusterView}
-use Rattle.rh_parts.specs.declared.node.Node.{Node}
-use Rattle.rh_parts.specs.declared.node.App.{App}
-use Rattle.rh_state.specs.declared.parts.Standing.TheVariants.{Running}
-use Rattle.rh_state.specs.declared.parts.Timer.TheVariants.{Sync, Failover}
+use Rattle.rh_model.specs.ClusterView.{ClusterView}
+use Rattle.rh_model.specs.declared.node.Node.{Node}
+use Rattle.rh_model.specs.declared.node.App.{App}
+use Rattle.rh_state.specs.declared.status.Standing.TheVariants.{Running}
+use Rattle.rh_state.specs.declared.status.Timer.TheVariants.{Sync, Failover}
 use Rattle.rh_state.specs.Shape.{IsNodeOf, IsTimerOf}
 use Rattle.rh_state.specs.StateView.{StateView, standing_of, due_of, running_at, waiting_at}
 use Rattle.rh_state.specs.Setters.{with_time}
-use Rattle.rh_state.specs.Words.{read}
+use Rattle.rh_state.specs.Stored.{read}
 use Rattle.rh_settle.specs.declared.notice.Pair.{Pair}
 use Rattle.rh_settle.specs.Course.{Course, course}
 use Rattle.rh_settle.specs.Soundness.{IsSound}

@@ -1,6 +1,6 @@
 use Rattle.std.proofs.Common.{◌≡◌, ◌<◌, [], length, None, ap, sym, subst, ◌∙◌}
 use Rattle.rh_state.specs.StateView.{StateView, earliest}
-use Rattle.rh_state.specs.Words.{read}
+use Rattle.rh_state.specs.Stored.{read}
 use Rattle.rh_settle.specs.Course.{course}
 use Rattle.rh_settle.specs.Soundness.{IsSound}
 use Rattle.rh_step.specs.Outcomes.{Outcome, outcome_of}

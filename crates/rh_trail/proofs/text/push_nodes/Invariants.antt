@@ -1,8 +1,8 @@
 use Rattle.std.proofs.Common.{◌≡◌, ◌++◌, map}
 use Rattle.std.specs.List.{flat_map, range_with_len}
 use Rattle.std.specs.String.{string_bytes}
-use Rattle.rh_parts.specs.ClusterView.{numbered}
-use Rattle.rh_state.specs.Words.{read}
+use Rattle.rh_model.specs.ClusterView.{numbered}
+use Rattle.rh_state.specs.Stored.{read}
 use Rattle.rh_trail.specs.Report.{node_lines}
 use Rattle.rh_trail.proofs.text.push_nodes.Given as goal
 

@@ -1,7 +1,7 @@
 use Rattle.std.proofs.Common.{◌≡◌, ◌<◌, ◌∙◌, ◌++◌, ◌∷◌, [], List, length, if◌then◌else◌, sym, ap, subst}
 use Rattle.std.specs.Result.{is_ok}
-use Rattle.rh_room.specs.declared.parts.Entry.{Entry}
-use Rattle.rh_room.specs.declared.parts.Receipt.{Receipt}
+use Rattle.rh_room.specs.declared.pass.Entry.{Entry}
+use Rattle.rh_room.specs.declared.pass.Receipt.{Receipt}
 use Rattle.rh_room.specs.Legal.{IsRoom, IsSession, RoomView, PassView, InOrder, entry, receipt}
 use Rattle.rh_room.specs.Serving.{IsPassOf}
 use Rattle.rh_room.proofs.Rooms.{room_goes_on}

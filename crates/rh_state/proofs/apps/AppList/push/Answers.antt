@@ -1,6 +1,6 @@
 use Rattle.std.proofs.Common.{◌≡◌, ◌<◌, ◌++◌, ◌∷◌, [], false, arith}
 use Rattle.std.proofs.lemmas.List.Elements.{All-push}
-use Rattle.rh_parts.specs.declared.node.App.{App}
+use Rattle.rh_model.specs.declared.node.App.{App}
 use Rattle.rh_state.specs.Lists.{has_app}
 use Rattle.rh_state.proofs.AppLists.{AreOnce-push, length-lt_numbers}
 use Rattle.rh_state.proofs.apps.AppList.push.Goals as goal

@@ -2,7 +2,7 @@ use Rattle.std.proofs.Common.{rules, arith, ◌≡◌, ◌≢◌, ◌<◌, not}
 use Rattle.std.proofs.lemmas.Fn.{filter_same}
 use Rattle.std.proofs.lemmas.List.Elements.{All-filter}
 use Rattle.std.proofs.lemmas.List.Kept.{AllPairs-filter}
-use Rattle.rh_parts.specs.declared.node.App.{App}
+use Rattle.rh_model.specs.declared.node.App.{App}
 use Rattle.rh_state.specs.Lists.{without_app}
 use Rattle.rh_state.specs.Numbers.{same_app}
 use Rattle.rh_state.proofs.apps.AppList.remove.Goals as goal

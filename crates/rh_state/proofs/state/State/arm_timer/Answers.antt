@@ -1,6 +1,6 @@
 use Rattle.std.proofs.Common.{◌≡◌, IsNone}
 use Rattle.rh_state.specs.Timers.{timer_numbered, due_among}
-use Rattle.rh_state.specs.Words.{read, timers_of}
+use Rattle.rh_state.specs.Stored.{read, timers_of}
 use Rattle.rh_state.proofs.TimerNumbers.{due_numbered, behind_numbered}
 use Rattle.rh_state.proofs.state.State.arm_timer.Goals as goal
 

@@ -1,6 +1,6 @@
 use Rattle.std.proofs.Common.{◌≡◌, ◌∙◌}
 use Rattle.rh_state.specs.Timers.{timer_numbered}
-use Rattle.rh_state.specs.Words.{read}
+use Rattle.rh_state.specs.Stored.{read}
 use Rattle.rh_state.proofs.TimerNumbers.{due_numbered}
 use Rattle.rh_state.proofs.state.State.due_of.Goals as goal
 

@@ -1,7 +1,7 @@
 use Rattle.std.proofs.Common.{◌≡◌, ap}
 use Rattle.std.specs.Option.{option_map}
 use Rattle.rh_state.specs.Timers.{timer_numbered}
-use Rattle.rh_state.specs.Words.{read}
+use Rattle.rh_state.specs.Stored.{read}
 use Rattle.rh_state.proofs.TimerNumbers.{first_numbered, meant}
 use Rattle.rh_state.proofs.state.State.earliest.Goals as goal
 

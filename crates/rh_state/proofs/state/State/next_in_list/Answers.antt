@@ -1,7 +1,7 @@
 use Rattle.std.proofs.Common.{◌≡◌, ◌<◌, false, length, sym, ◌∙◌, arith}
 use Rattle.rh_state.specs.Lists.{has_app}
 use Rattle.rh_state.specs.Shape.{IsAppOf}
-use Rattle.rh_state.specs.Words.{read}
+use Rattle.rh_state.specs.Stored.{read}
 use Rattle.rh_state.proofs.AppLists.{IfSome-next_app}
 use Rattle.rh_state.proofs.Listings.{row_read, All-row}
 use Rattle.rh_state.proofs.state.State.next_in_list.Goals as goal

@@ -1,10 +1,10 @@
 use Rattle.std.proofs.Common.{◌≡◌, ◌≤◌, ℕ, List, length, map, sym, ap, refl, ◌∙◌, arith}
 use Rattle.std.proofs.lemmas.List.{take_all}
 use Rattle.std.proofs.lemmas.List.Elements.{All-push}
-use Rattle.rh_wheel.specs.Words.{listed}
-use Rattle.rh_state.specs.declared.parts.Timer.{Timer}
+use Rattle.rh_wheel.specs.Stored.{listed}
+use Rattle.rh_state.specs.declared.status.Timer.{Timer}
 use Rattle.rh_state.specs.Shape.{IsTimerOf}
-use Rattle.rh_state.specs.Words.{Words, read, timers_of}
+use Rattle.rh_state.specs.Stored.{Stored, read, timers_of}
 use Rattle.rh_state.proofs.TimerNumbers.{meant, meant_more}
 use Rattle.rh_state.proofs.state.State.timers.Goals as goal
 use Rattle.rh_state.proofs.state.State.timers.Goals.{in-Some+in_ok-push, in_default}
@@ -12,7 +12,7 @@ use Rattle.rh_state.proofs.state.State.timers.Goals.{in-Some+in_ok-push, in_defa
 pub loop-place-preserved : goal.loop-place-preserved
 loop-place-preserved c = elim c.match-entry.branch [
   | in-Some+in_ok-push w ↦ (
-      let same : c.self.inside.wheel ≡ c.args.self.now.wheel = ap (λ (s : Words). s.wheel) c.self.view_is in
+      let same : c.self.inside.wheel ≡ c.args.self.now.wheel = ap (λ (s : Stored). s.wheel) c.self.view_is in
       let entry = rw same at (sym w.in-Some.ensures.entry) in
       let more = meant_more c.args.self.now.cluster (listed c.args.self.now.wheel) c.loop-place.place w.in-Some.due w.in-Some.number entry in
       let pushed = rw (w.timer_of.ensures.timer, c.loop-place.invariant.meant) at w.in_ok-push.ensures.items in
@@ -28,7 +28,7 @@ loop-place-preserved c = elim c.match-entry.branch [
 pub returns-clause-timers : goal.returns-clause-timers
 unfolding read timers_of
 returns-clause-timers c =
-    let same : c.self.inside.wheel ≡ c.args.self.now.wheel = ap (λ (s : Words). s.wheel) c.self.view_is in
+    let same : c.self.inside.wheel ≡ c.args.self.now.wheel = ap (λ (s : Stored). s.wheel) c.self.view_is in
     let count = rw same at c.armed_count-place-end.ensures.count in
     let all : length (listed c.args.self.now.wheel) ≤ c.loop-place.place = omega (arith, count, c.loop-place-test.false) in
     c.loop-place.invariant.meant ∙ ap (λ (entries : List (ℕ × ℕ)). map (meant c.args.self.now.cluster) entries) (take_all c.loop-place.place (listed c.args.self.now.wheel) all)

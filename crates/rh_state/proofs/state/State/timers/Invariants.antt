@@ -1,6 +1,6 @@
 use Rattle.std.proofs.Common.{◌≡◌, All, map, take, ℕ}
-use Rattle.rh_wheel.specs.Words.{listed}
-use Rattle.rh_state.specs.declared.parts.Timer.{Timer}
+use Rattle.rh_wheel.specs.Stored.{listed}
+use Rattle.rh_state.specs.declared.status.Timer.{Timer}
 use Rattle.rh_state.specs.Shape.{IsTimerOf}
 use Rattle.rh_state.proofs.TimerNumbers.{meant}
 use Rattle.rh_state.proofs.state.State.timers.Given as goal

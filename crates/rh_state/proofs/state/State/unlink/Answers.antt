@@ -1,9 +1,9 @@
 use Rattle.std.proofs.Common.{◌<◌, not, length, All, arith}
 use Rattle.std.proofs.lemmas.List.Elements.{All-filter}
-use Rattle.rh_parts.specs.declared.node.App.{App}
+use Rattle.rh_model.specs.declared.node.App.{App}
 use Rattle.rh_state.specs.Numbers.{same_app}
 use Rattle.rh_state.specs.Shape.{IsAppOf}
-use Rattle.rh_state.specs.Words.{read}
+use Rattle.rh_state.specs.Stored.{read}
 use Rattle.rh_state.proofs.Listings.{row_read, All-row, IsShaped-running, IsShaped-waiting}
 use Rattle.rh_state.proofs.state.State.unlink.Goals as goal
 

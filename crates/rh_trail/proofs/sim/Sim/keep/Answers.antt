@@ -1,7 +1,7 @@
 use Rattle.std.proofs.Common.{◌≡◌, ◌+◌, ◌<◌, [], ◌∷◌, ◌++◌, List, take, if◌then◌else◌, subst, ap, sym, ◌∙◌}
 use Rattle.std.specs.Result.{is_ok}
-use Rattle.rh_change.specs.declared.event.Event.{Event}
-use Rattle.rh_state.specs.Words.{Words, read}
+use Rattle.rh_events.specs.declared.event.Event.{Event}
+use Rattle.rh_state.specs.Stored.{Stored, read}
 use Rattle.rh_trail.specs.SimView.{Held, state_of}
 use Rattle.rh_trail.specs.Runs.{step}
 use Rattle.rh_trail.proofs.Histories.{history_goes_on}
@@ -17,7 +17,7 @@ invariant_of-self-2 c =
     let states_is : c.push-2.new.self.items ≡ take (s.cursor + 1) s.states.items ++ c.args.state ∷ [] =
     c.push-2.ensures.items
     ∙ (λ i. if is_ok (c.unwrap-2.ensures i) then c.truncate-2.new.self.items ++ c.args.state ∷ [] else c.truncate-2.new.self.items)
-    ∙ ap (λ (ss : List Words). ss ++ c.args.state ∷ []) (c.truncate-2.ensures.items ∙ ap (take (s.cursor + 1)) c.in_ok-reserve-2.ensures.items) in
+    ∙ ap (λ (ss : List Stored). ss ++ c.args.state ∷ []) (c.truncate-2.ensures.items ∙ ap (take (s.cursor + 1)) c.in_ok-reserve-2.ensures.items) in
     rw (trail_is, states_is)
     (history_goes_on s.cluster s.pick s.trail.items s.states.items s.cursor c.args.event c.args.state c.self.invariant
     (subst (λ (v : Held). v.seen.cursor < 65535) (sym c.self.view_is) c.requires.room)

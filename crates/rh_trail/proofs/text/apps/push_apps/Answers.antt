@@ -3,9 +3,9 @@ use Rattle.std.specs.List.{flat_map, range_with_len}
 use Rattle.std.specs.String.{string_bytes}
 use Rattle.std.proofs.lemmas.List.{flat_map_more}
 use Rattle.std.proofs.lemmas.List.FromFn.{map-range_with_len_more}
-use Rattle.rh_parts.specs.ClusterView.{app_numbered}
-use Rattle.rh_parts.specs.declared.node.App.{App}
-use Rattle.rh_state.specs.Words.{read}
+use Rattle.rh_model.specs.ClusterView.{app_numbered}
+use Rattle.rh_model.specs.declared.node.App.{App}
+use Rattle.rh_state.specs.Stored.{read}
 use Rattle.rh_trail.specs.Report.{app_line}
 use Rattle.rh_trail.proofs.text.apps.push_apps.Goals as goal
 

@@ -1,8 +1,8 @@
 use Rattle.std.proofs.Common.{◌≡◌, ◌++◌, map}
 use Rattle.std.specs.List.{flat_map, range_with_len}
 use Rattle.std.specs.String.{string_bytes}
-use Rattle.rh_parts.specs.ClusterView.{app_numbered}
-use Rattle.rh_state.specs.Words.{read}
+use Rattle.rh_model.specs.ClusterView.{app_numbered}
+use Rattle.rh_state.specs.Stored.{read}
 use Rattle.rh_trail.specs.Report.{line_if_forbidden}
 use Rattle.rh_trail.proofs.text.nodes.push_forbidden.Given as goal
 

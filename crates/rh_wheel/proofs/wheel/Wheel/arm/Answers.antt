@@ -1,6 +1,6 @@
 use Rattle.std.proofs.Common.{arith, ◌≡◌, ◌<◌, ◌∙◌, ℕ, List, length, IsOk, IsNone, ap}
 use Rattle.rh_wheel.specs.Firing.{behind, due_in}
-use Rattle.rh_wheel.specs.Words.{listed, timer_count}
+use Rattle.rh_wheel.specs.Stored.{listed, timer_count}
 use Rattle.rh_wheel.proofs.Arming.{IsFiringOrder-behind, due_in-behind_same, due_in-behind_other, without-behind, due_at-behind}
 use Rattle.rh_wheel.proofs.Room.{length-lt_timers}
 use Rattle.rh_wheel.proofs.wheel.Wheel.arm.Goals as goal

@@ -1,5 +1,5 @@
 use Rattle.std.proofs.Common.{arith}
-use Rattle.rh_wheel.specs.Words.{timer_count}
+use Rattle.rh_wheel.specs.Stored.{timer_count}
 use Rattle.rh_wheel.proofs.Room.{length-le_timers}
 use Rattle.rh_wheel.proofs.wheel.Wheel.armed_count.Goals as goal
 

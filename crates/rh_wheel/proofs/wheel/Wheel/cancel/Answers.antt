@@ -1,7 +1,7 @@
 use Rattle.std.proofs.Common.{rules, arith, ◌≡◌, ◌==◌, not, IsSome}
 use Rattle.std.proofs.lemmas.Fn.{filter_same}
 use Rattle.rh_wheel.specs.Firing.{without, due_in}
-use Rattle.rh_wheel.specs.Words.{listed}
+use Rattle.rh_wheel.specs.Stored.{listed}
 use Rattle.rh_wheel.proofs.Cancelling.{IsFiringOrder-without, unarmed-without, due_in-without_other, length-without}
 use Rattle.rh_wheel.proofs.wheel.Wheel.cancel.Goals as goal
 

@@ -4,7 +4,7 @@ use Rattle.std.specs.Option.{option_map}
 use Rattle.std.proofs.lemmas.Iterator.{YieldsList-from_slice}
 use Rattle.std.proofs.lemmas.Iterator.Search.{find_from_yields_List}
 use Rattle.rh_wheel.specs.Firing.{due_in}
-use Rattle.rh_wheel.specs.Words.{listed, timer_count}
+use Rattle.rh_wheel.specs.Stored.{listed, timer_count}
 use Rattle.rh_wheel.proofs.Finding.{Contains-from_armed, armed_from_Contains, Contains-due_in, numbered_from_armed}
 use Rattle.rh_wheel.proofs.wheel.Wheel.due_of.Goals as goal
 

@@ -1,7 +1,7 @@
 use Rattle.std.proofs.Common.{arith, ◌≡◌, slice_get}
 use Rattle.std.proofs.lemmas.Grind.{common_steps}
 use Rattle.std.proofs.lemmas.Option.{gets}
-use Rattle.rh_wheel.specs.Words.{listed}
+use Rattle.rh_wheel.specs.Stored.{listed}
 use Rattle.rh_wheel.proofs.Finding.{due_in-slice_get}
 use Rattle.rh_wheel.proofs.wheel.Wheel.entry.Goals as goal
 

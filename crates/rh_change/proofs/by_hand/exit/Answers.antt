@@ -1,6 +1,0 @@
-use Rattle.rh_state.specs.Words.{read}
-use Rattle.rh_change.proofs.Losing.{unset_running}
-use Rattle.rh_change.proofs.by_hand.exit.Goals as goal
-
-pub end-requires-clause-unset : goal.end-requires-clause-unset
-end-requires-clause-unset c = unset_running (read c.args.state.now) c.args.node c.requires.sound.timers

@@ -1,0 +1,11 @@
+use Rattle.std.proofs.Common.{ap, ◌∙◌}
+use Rattle.rh_state.specs.StateView.{place_of}
+use Rattle.rh_state.specs.Setters.{unlisted}
+use Rattle.rh_state.specs.Stored.{read}
+use Rattle.rh_settle.proofs.Places.{off_unlisted_shaped}
+use Rattle.rh_events.proofs.by_hand.forbid.Goals as goal
+
+pub push_waiting-requires-clause-off : goal.push_waiting-requires-clause-off
+push_waiting-requires-clause-off c =
+    ap (λ s. place_of s c.args.node c.args.app) (c.unlink.ensures ∙ ap (λ s. unlisted s c.args.node c.args.app) c.set_allowed.ensures)
+    ∙ off_unlisted_shaped (read c.args.state.now) c.args.node c.args.app c.shape.ensures c.requires.node

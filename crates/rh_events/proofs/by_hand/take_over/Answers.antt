@@ -1,0 +1,18 @@
+use Rattle.std.proofs.Common.{sym, ap, ◌∙◌}
+use Rattle.std.proofs.lemmas.Result.{on_ok_weaker}
+use Rattle.rh_state.specs.Stored.{read}
+use Rattle.rh_settle.specs.declared.notice.Move.TheVariants.{Takeover}
+use Rattle.rh_settle.specs.Course.{course}
+use Rattle.rh_settle.specs.Moves.{moved}
+use Rattle.rh_events.specs.ByHand.{taken_over, taken_from}
+use Rattle.rh_events.proofs.by_hand.take_over.Goals as goal
+
+pub returns-in-Running : goal.returns-in-Running
+unfolding taken_over
+returns-in-Running c =
+    let s = read c.args.state.now in
+    on_ok_weaker c.move_by_hand.result
+    (λ h marked. h marked
+    ∙ ap (λ t. moved (course t c.args.notices.now.items marked) (Takeover c.args.app c.in-Running.from c.args.node)) c.set_restart.ensures
+    ∙ ap (taken_from (course s c.args.notices.now.items marked) c.args.node c.args.app c.args.restart) (sym c.in-Running.is ∙ c.standing.ensures.standing))
+    c.move_by_hand.ensures

@@ -1,0 +1,13 @@
+use Rattle.std.proofs.Common.{◌≡◌}
+use Rattle.rh_state.specs.Stored.{read}
+use Rattle.rh_settle.specs.Course.{course}
+use Rattle.rh_settle.specs.Soundness.{IsSound}
+use Rattle.rh_events.proofs.SoundComingUp.{come_up_below}
+use Rattle.rh_events.proofs.coming_up.let_ready_come_up.Given as goal
+
+abbrev pub invariant-nodes : goal.invariant-nodes
+invariant-nodes l = record {
+  same : course (read l.state) l.notices.items l.marked.items ≡ come_up_below (course (read l.fn.state) l.fn.notices.items l.fn.marked.items) l.number;
+  cluster : (read l.state).cluster ≡ (read l.fn.state).cluster;
+  sound : IsSound (read l.state);
+}

@@ -1,0 +1,23 @@
+use Rattle.std.proofs.Common.{◌<◌, sym, ap, ◌∙◌, subst}
+use Rattle.rh_state.specs.StateView.{StateView}
+use Rattle.rh_state.specs.Stored.{read}
+use Rattle.rh_events.specs.Ending.{emptied}
+use Rattle.rh_events.proofs.Emptying.{how_many, one_less, emptied_unlisted, empty_already, started_some, none_of_default}
+use Rattle.rh_events.proofs.ending.empty.Goals as goal
+
+pub started-smaller : goal.started-smaller
+started-smaller c =
+    let s = read c.started.state in
+    subst (λ (t : StateView). how_many t c.args.node < how_many s c.args.node) (sym c.unlink.ensures)
+    (one_less s c.args.node c.in-Some.app (started_some s c.args.node c.first_started.result c.in-Some.app c.first_started.ensures.started c.in-Some.is))
+
+pub started-preserved : goal.started-preserved
+started-preserved c = record {
+  emptied = ap (λ s. emptied s c.args.node) c.unlink.ensures ∙ emptied_unlisted (read c.started.state) c.args.node c.in-Some.app ∙ c.started.invariant.emptied;
+  cluster = ap (λ (s : StateView). s.cluster) c.unlink.ensures ∙ c.started.invariant.cluster;
+}
+
+pub returns : goal.returns
+returns c =
+    let none = c.first_started.ensures.none.0 (none_of_default c.first_started.result c.in_default.not-Some) in
+    sym (empty_already (read c.started.state) c.args.node none.0 none.1) ∙ c.started.invariant.emptied

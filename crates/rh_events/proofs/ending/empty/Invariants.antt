@@ -1,0 +1,14 @@
+use Rattle.std.proofs.Common.{◌≡◌}
+use Rattle.rh_state.specs.Stored.{read}
+use Rattle.rh_events.specs.Ending.{emptied}
+use Rattle.rh_events.proofs.Emptying.{how_many}
+use Rattle.rh_events.proofs.ending.empty.Given as goal
+
+abbrev pub invariant-started : goal.invariant-started
+invariant-started l = record {
+  emptied : emptied (read l.state) l.node ≡ emptied (read l.fn.state) l.node;
+  cluster : (read l.state).cluster ≡ (read l.fn.state).cluster;
+}
+
+abbrev pub decreases-started : goal.decreases-started
+decreases-started l = how_many (read l.state) l.node

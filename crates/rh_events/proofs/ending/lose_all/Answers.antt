@@ -1,0 +1,18 @@
+use Rattle.std.proofs.Common.{◌+◌, sym, ap, ◌∙◌, subst}
+use Rattle.rh_model.specs.ClusterView.{app_numbered}
+use Rattle.rh_state.specs.StateView.{StateView}
+use Rattle.rh_state.specs.Stored.{read}
+use Rattle.rh_events.specs.Ending.{lost_if_ran}
+use Rattle.rh_events.proofs.Losing.{UnsetFrom, lost_more, lost_cluster, unset_later}
+use Rattle.rh_events.proofs.ending.lose_all.Goals as goal
+
+pub apps-preserved : goal.apps-preserved
+apps-preserved c =
+    let s = read c.apps.state in
+    let n = c.args.node in
+    let i = c.apps.number in
+    record {
+      lost = c.lose_if_ran.ensures ∙ ap (λ t. lost_if_ran n t (app_numbered i)) c.apps.invariant.lost ∙ sym (lost_more (read c.args.state.now) n i);
+      cluster = ap (λ (t : StateView). t.cluster) c.lose_if_ran.ensures ∙ lost_cluster s n (app_numbered i) ∙ c.apps.invariant.cluster;
+      unset = subst (λ t. UnsetFrom t n (i + 1)) (sym c.lose_if_ran.ensures) (unset_later s n i c.apps.invariant.unset);
+    }

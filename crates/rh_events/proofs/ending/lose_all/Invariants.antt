@@ -1,0 +1,11 @@
+use Rattle.std.proofs.Common.{◌≡◌}
+use Rattle.rh_state.specs.Stored.{read}
+use Rattle.rh_events.proofs.Losing.{lost_below, UnsetFrom}
+use Rattle.rh_events.proofs.ending.lose_all.Given as goal
+
+abbrev pub invariant-apps : goal.invariant-apps
+invariant-apps l = record {
+  lost : read l.state ≡ lost_below (read l.fn.state) l.node l.number;
+  cluster : (read l.state).cluster ≡ (read l.fn.state).cluster;
+  unset : UnsetFrom (read l.state) l.node l.number;
+}

@@ -1,0 +1,66 @@
+-- What an operator changes by hand (application(3), stop/1, permit/2, takeover/2; ours for standings).
+use Rattle.std.specs.Prelude.{◌&&◌, not, Bool, true, false, None, if◌then◌else◌}
+use Rattle.std.specs.List.{list_any}
+use Rattle.rh_model.specs.declared.node.Node.{Node}
+use Rattle.rh_model.specs.declared.node.App.{App}
+use Rattle.rh_model.specs.declared.settings.Restart.{Restart}
+use Rattle.rh_model.specs.declared.settings.Restart.TheVariants.{Permanent, Transient, Temporary}
+use Rattle.rh_state.specs.declared.status.Standing.{Standing}
+use Rattle.rh_state.specs.declared.status.Standing.TheVariants.{Quiet, Wanted, Running, Lost}
+use Rattle.rh_state.specs.declared.status.Timer.TheVariants.{Failover}
+use Rattle.rh_state.specs.Numbers.{nodes_of}
+use Rattle.rh_state.specs.StateView.{StateView, runs_at, is_started, is_allowed, restart_of, standing_of}
+use Rattle.rh_state.specs.Setters.{with_allowed, with_restart, with_standing, without_due, unlisted}
+use Rattle.rh_settle.specs.declared.notice.Move.TheVariants as move
+use Rattle.rh_settle.specs.declared.notice.Notice.TheVariants as notice
+use Rattle.rh_settle.specs.Course.{Course, told, now_in}
+use Rattle.rh_settle.specs.Moves.{with_stopped, moved}
+use Rattle.rh_events.specs.Marking.{with_distributed_standing}
+use Rattle.rh_events.specs.Ending.{ended}
+
+-- an application that runs at a node stops there, and is to run nowhere
+unfoldable pub stopped : Course → Node → App → Course
+stopped o n a = told (now_in o (with_distributed_standing (unlisted o.state n a) a Quiet)) (notice.Stopped a n)
+
+unfoldable pub is_started_anywhere : StateView → App → Bool
+is_started_anywhere s a = list_any (λ n. is_started s n a) (nodes_of s.cluster)
+
+-- an application that is to run, but is started nowhere, is quiet
+abbrev pub quiet_if_nowhere : StateView → App → Standing → StateView
+quiet_if_nowhere s a Quiet = s
+quiet_if_nowhere s a (Wanted from) = if is_started_anywhere s a then s else with_standing s a Quiet
+quiet_if_nowhere s a (Running m) = s
+quiet_if_nowhere s a (Lost m) = if is_started_anywhere s a then s else without_due (with_standing s a Quiet) (Failover a)
+
+-- one that waits at a node leaves it
+unfoldable pub left_waiting : Course → Node → App → Course
+left_waiting o n a = now_in o (quiet_if_nowhere (unlisted o.state n a) a (standing_of o.state a))
+
+-- one that runs at a node and no longer may waits there, and is wanted
+unfoldable pub forbidden : Course → Node → App → Course
+forbidden o n a =
+    told (now_in o (with_distributed_standing (with_stopped (with_allowed o.state n a false) n a) a (Wanted None))) (notice.Stopped a n)
+
+unfoldable pub permitted : Course → Node → App → Bool → Course
+permitted o n a allow =
+    if not allow && (is_allowed o.state n a && runs_at o.state n a) then forbidden o n a
+    else now_in o (with_allowed o.state n a allow)
+
+-- one that runs elsewhere is taken over, and has the given restart type
+abbrev pub taken_from : Course → Node → App → Restart → Standing → Course
+taken_from o n a r Quiet = o
+taken_from o n a r (Wanted from) = o
+taken_from o n a r (Running m) = moved (now_in o (with_restart o.state n a r)) (move.Takeover a m n)
+taken_from o n a r (Lost m) = o
+
+unfoldable pub taken_over : Course → Node → App → Restart → Course
+taken_over o n a r = taken_from o n a r (standing_of o.state a)
+
+-- whether a node ends with an application that ends there (application(3), restart types)
+abbrev pub ends_node : Restart → Bool → Bool
+ends_node Permanent normal = true
+ends_node Transient normal = not normal
+ends_node Temporary normal = false
+
+unfoldable pub exited : Course → Node → App → Bool → Course
+exited o n a normal = if ends_node (restart_of o.state n a) normal then ended o n else stopped o n a

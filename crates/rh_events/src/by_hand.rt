@@ -1,0 +1,257 @@
+//! What an operator changes by hand.
+
+ghost use Rattle.std.specs.Prelude.{◌≡◌, ◌≢◌, true, List, OnOk};
+ghost use Rattle.rh_model.specs.declared.node.Node.{Node};
+ghost use Rattle.rh_state.specs.Shape.{IsNodeOf, IsAppOf};
+ghost use Rattle.rh_state.specs.StateView.{place_of, runs_at, is_started, standing_of};
+ghost use Rattle.rh_state.specs.Setters.{unlisted};
+ghost use Rattle.rh_state.specs.Stored.{read};
+ghost use Rattle.rh_state.specs.declared.status.Place.TheVariants.{Off, InRunning, InWaiting};
+ghost use Rattle.rh_state.specs.declared.status.Standing.TheVariants.{Running};
+ghost use Rattle.rh_settle.specs.declared.notice.Move.TheVariants.{Takeover};
+ghost use Rattle.rh_settle.specs.declared.notice.Pair.{Pair};
+ghost use Rattle.rh_settle.specs.Course.{course};
+ghost use Rattle.rh_settle.specs.Moves.{moved};
+ghost use Rattle.rh_settle.specs.Soundness.{IsSound};
+ghost use Rattle.rh_settle.specs.Validity.{RunsWhereItStands};
+ghost use Rattle.rh_events.specs.ByHand.{stopped, is_started_anywhere, quiet_if_nowhere, left_waiting, forbidden, permitted, taken_over, ends_node, exited};
+ghost use Rattle.rh_events.specs.Changes.{change};
+ghost use Rattle.rh_events.specs.declared.event.Event.TheVariants.{Stop};
+
+use crate::ending::end;
+use crate::marking::set_distributed_standing;
+use crate::readiness::cancel_if_set;
+use rh_model::{App, Node, Restart};
+use rh_settle::{Move, Notice, make_move};
+use rh_state::{Place, Standing, State, Timer};
+use rh_terms::OutOfMemory;
+
+// An application that runs at a node stops there.
+#[tactic(auto, unfolding(crate::specs::ByHand::stopped))]
+fn stop_running(
+    state: &mut State,
+    node: Node,
+    app: App,
+    notices: &mut Vec<Notice>,
+) -> Result<(), OutOfMemory>
+    requires node { IsNodeOf (read state.old).cluster node }
+    requires app { IsAppOf (read state.old).cluster app }
+    requires started { place_of (read state.old) node app ≢ Off }
+    ensures { OnOk result ((marked : List Pair) → course (read state.new) notices.new.items marked ≡ stopped (course (read state.old) notices.old.items marked) node app) }
+{
+    notices.push(Notice::Stopped { app, node })?;
+    state.unlink(node, app);
+    set_distributed_standing(state, app, Standing::Quiet);
+    Ok(())
+}
+
+// Is an application started at a node?
+fn is_started_at(state: &State, node: Node, app: App) -> bool
+    requires { IsNodeOf (read state.now).cluster node }
+    ensures { result ≡ is_started (read state.now) node app }
+{
+    match state.place_of(node, app) {
+        Place::InRunning | Place::InWaiting => true,
+        Place::Off => false,
+    }
+}
+
+// Is an application started at some node?
+#[tactic(auto, unfolding(crate::specs::ByHand::is_started_anywhere, rh_state::specs::Numbers::nodes_of))]
+fn is_started_anywhere(state: &State, app: App) -> bool
+    ensures { result ≡ is_started_anywhere (read state.now) app }
+{
+    let count = state.cluster().node_count();
+    'nodes: for number in 0..count {
+        if is_started_at(state, Node(number as u8), app) {
+            return true;
+        }
+    }
+    false
+}
+
+// An application that is to run, but is started nowhere, is quiet.
+fn quieten_if_nowhere(state: &mut State, app: App)
+    requires { IsAppOf (read state.old).cluster app }
+    ensures { read state.new ≡ quiet_if_nowhere (read state.old) app (standing_of (read state.old) app) }
+{
+    match state.standing(app) {
+        Standing::Wanted(_) | Standing::Lost(_) => {}
+        Standing::Quiet | Standing::Running(_) => return,
+    }
+    if is_started_anywhere(state, app) {
+        return;
+    }
+    if let Standing::Lost(_) = state.standing(app) {
+        state.set_standing(app, Standing::Quiet);
+        cancel_if_set(state, Timer::Failover(app));
+    } else {
+        state.set_standing(app, Standing::Quiet);
+    }
+}
+
+// An application that waits at a node is stopped there.
+#[tactic(auto, unfolding(crate::specs::ByHand::left_waiting))]
+fn leave_waiting(state: &mut State, node: Node, app: App)
+    requires node { IsNodeOf (read state.old).cluster node }
+    requires app { IsAppOf (read state.old).cluster app }
+    requires started { place_of (read state.old) node app ≢ Off }
+    ensures { read state.new ≡ quiet_if_nowhere (unlisted (read state.old) node app) app (standing_of (read state.old) app) }
+{
+    state.unlink(node, app);
+    quieten_if_nowhere(state, app);
+}
+
+/// An application that is started at a node is stopped there (application(3), `stop/1`).
+#[tactic(auto, unfolding(crate::specs::ByHand::left_waiting))]
+pub fn stop(
+    state: &mut State,
+    node: Node,
+    app: App,
+    notices: &mut Vec<Notice>,
+) -> Result<(), OutOfMemory>
+    requires node { IsNodeOf (read state.old).cluster node }
+    requires app { IsAppOf (read state.old).cluster app }
+    requires started { place_of (read state.old) node app ≢ Off }
+    ensures { OnOk result ((marked : List Pair) → course (read state.new) notices.new.items marked ≡ change (course (read state.old) notices.old.items marked) (Stop node app)) }
+{
+    if state.place_of(node, app) == Place::InRunning {
+        return stop_running(state, node, app, notices);
+    }
+    leave_waiting(state, node, app);
+    Ok(())
+}
+
+// An application that runs at a node may do so no longer: it stops there, waits, and is wanted.
+#[tactic(auto, unfolding(crate::specs::ByHand::forbidden))]
+fn forbid(
+    state: &mut State,
+    node: Node,
+    app: App,
+    notices: &mut Vec<Notice>,
+) -> Result<(), OutOfMemory>
+    requires node { IsNodeOf (read state.old).cluster node }
+    requires app { IsAppOf (read state.old).cluster app }
+    requires started { place_of (read state.old) node app ≢ Off }
+    ensures { OnOk result ((marked : List Pair) → course (read state.new) notices.new.items marked ≡ forbidden (course (read state.old) notices.old.items marked) node app) }
+{
+    state.shape();
+    notices.push(Notice::Stopped { app, node })?;
+    state.set_allowed(node, app, false);
+    state.unlink(node, app);
+    state.push_waiting(node, app);
+    set_distributed_standing(state, app, Standing::Wanted(None));
+    Ok(())
+}
+
+/// An application may run at a node from now on, or may not (application(3), `permit/2`).
+#[tactic(auto, unfolding(crate::specs::ByHand::permitted))]
+pub fn permit(
+    state: &mut State,
+    node: Node,
+    app: App,
+    allow: bool,
+    notices: &mut Vec<Notice>,
+) -> Result<(), OutOfMemory>
+    requires node { IsNodeOf (read state.old).cluster node }
+    requires app { IsAppOf (read state.old).cluster app }
+    ensures { OnOk result ((marked : List Pair) → course (read state.new) notices.new.items marked ≡ permitted (course (read state.old) notices.old.items marked) node app allow) }
+{
+    if !allow && state.allowed(node, app) && state.place_of(node, app) == Place::InRunning {
+        return forbid(state, node, app, notices);
+    }
+    state.set_allowed(node, app, allow);
+    Ok(())
+}
+
+// An application that isn't started at a node is started there, and waits.
+fn start_if_off(state: &mut State, node: Node, app: App)
+    requires node { IsNodeOf (read state.old).cluster node }
+    requires app { IsAppOf (read state.old).cluster app }
+    ensures cluster { (read state.new).cluster ≡ (read state.old).cluster }
+    ensures running { (read state.new).running ≡ (read state.old).running }
+    ensures started { place_of (read state.new) node app ≢ Off }
+    ensures others { unlisted (read state.new) node app ≡ unlisted (read state.old) node app }
+{
+    state.shape();
+    if state.place_of(node, app) == Place::Off {
+        state.push_waiting(node, app);
+    }
+}
+
+// An application that runs at a node moves to another.
+fn move_by_hand(
+    state: &mut State,
+    app: App,
+    from: Node,
+    node: Node,
+    notices: &mut Vec<Notice>,
+) -> Result<(), OutOfMemory>
+    requires node { IsNodeOf (read state.old).cluster node }
+    requires app { IsAppOf (read state.old).cluster app }
+    requires from { IsNodeOf (read state.old).cluster from }
+    requires other { from.0 ≢ node.0 }
+    requires runs { runs_at (read state.old) from app ≡ true }
+    ensures { OnOk result ((marked : List Pair) → course (read state.new) notices.new.items marked ≡ moved (course (read state.old) notices.old.items marked) (Takeover app from node)) }
+{
+    start_if_off(state, node, app);
+    make_move(state, Move::Takeover { app, from, node }, notices)
+}
+
+/// A distributed application that runs elsewhere moves to a node, and has the given restart type there (application(3),
+/// `takeover/2`).
+#[tactic(auto, unfolding(crate::specs::ByHand::taken_over))]
+pub fn take_over(
+    state: &mut State,
+    node: Node,
+    app: App,
+    restart: Restart,
+    notices: &mut Vec<Notice>,
+) -> Result<(), OutOfMemory>
+    requires node { IsNodeOf (read state.old).cluster node }
+    requires app { IsAppOf (read state.old).cluster app }
+    requires elsewhere { (m : Node) → standing_of (read state.old) app ≡ Running m → m.0 ≢ node.0 }
+    requires runs { RunsWhereItStands (read state.old) }
+    ensures { OnOk result ((marked : List Pair) → course (read state.new) notices.new.items marked ≡ taken_over (course (read state.old) notices.old.items marked) node app restart) }
+{
+    match state.standing(app) {
+        Standing::Running(from) => {
+            state.set_restart(node, app, restart);
+            move_by_hand(state, app, from, node, notices)
+        }
+        Standing::Quiet | Standing::Wanted(_) | Standing::Lost(_) => Ok(()),
+    }
+}
+
+// Does a node end when an application of this restart type ends there, for a normal reason or another one (application(3))?
+fn ends_node(restart: Restart, normal: bool) -> bool
+    ensures { result ≡ ends_node restart normal }
+{
+    match restart {
+        Restart::Permanent => true,
+        Restart::Transient => !normal,
+        Restart::Temporary => false,
+    }
+}
+
+/// An application that runs at a node ends there, for a normal reason or another one (application(3), restart types).
+#[tactic(auto, unfolding(crate::specs::ByHand::exited))]
+pub fn exit(
+    state: &mut State,
+    node: Node,
+    app: App,
+    normal: bool,
+    notices: &mut Vec<Notice>,
+) -> Result<(), OutOfMemory>
+    requires node { IsNodeOf (read state.old).cluster node }
+    requires app { IsAppOf (read state.old).cluster app }
+    requires runs { runs_at (read state.old) node app ≡ true }
+    requires sound { IsSound (read state.old) }
+    ensures { OnOk result ((marked : List Pair) → course (read state.new) notices.new.items marked ≡ exited (course (read state.old) notices.old.items marked) node app normal) }
+{
+    if ends_node(state.restart_of(node, app), normal) {
+        end(state, node, notices)
+    } else {
+        stop_running(state, node, app, notices)
+    }
+}

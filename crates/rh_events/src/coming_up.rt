@@ -1,0 +1,70 @@
+//! How ready nodes come up.
+
+ghost use Rattle.std.specs.Prelude.{◌≡◌, [], OnOk};
+ghost use Rattle.rh_state.specs.Shape.{IsNodeOf};
+ghost use Rattle.rh_state.specs.StateView.{running_at, waiting_at};
+ghost use Rattle.rh_state.specs.Stored.{read};
+ghost use Rattle.rh_settle.specs.Course.{course};
+ghost use Rattle.rh_settle.specs.Soundness.{IsSound};
+ghost use Rattle.rh_events.specs.ComingUp.{come_up, come_up_if_ready, ready_come_up};
+
+use crate::marking::mark_booted;
+use crate::readiness::{cancel_if_set, is_ready};
+use rh_model::Node;
+use rh_settle::{Notice, Pair};
+use rh_state::{Mode, State, Timer};
+use rh_terms::OutOfMemory;
+
+/// A node at which nothing is started comes up, and what it boots is started.
+#[tactic(auto, unfolding(crate::specs::ComingUp::come_up))]
+pub fn come_up(
+    state: &mut State,
+    node: Node,
+    notices: &mut Vec<Notice>,
+    marked: &mut Vec<Pair>,
+) -> Result<(), OutOfMemory>
+    requires node { IsNodeOf (read state.old).cluster node }
+    requires running { running_at (read state.old) node ≡ [] }
+    requires waiting { waiting_at (read state.old) node ≡ [] }
+    ensures { OnOk result (course (read state.new) notices.new.items marked.new.items ≡ come_up (course (read state.old) notices.old.items marked.old.items) node) }
+{
+    notices.push(Notice::Up { node })?;
+    cancel_if_set(state, Timer::Sync(node));
+    state.set_mode(node, Mode::Up);
+    mark_booted(state, node, marked)
+}
+
+// The node comes up if it is ready.
+#[tactic(auto, unfolding(crate::specs::ComingUp::come_up_if_ready))]
+fn let_come_up_if_ready(
+    state: &mut State,
+    node: Node,
+    notices: &mut Vec<Notice>,
+    marked: &mut Vec<Pair>,
+) -> Result<(), OutOfMemory>
+    requires node { IsNodeOf (read state.old).cluster node }
+    requires sound { IsSound (read state.old) }
+    ensures { OnOk result (course (read state.new) notices.new.items marked.new.items ≡ come_up_if_ready (course (read state.old) notices.old.items marked.old.items) node) }
+{
+    if is_ready(state, node) {
+        come_up(state, node, notices, marked)?;
+    }
+    Ok(())
+}
+
+/// The ready nodes come up, in node order.
+#[tactic(auto, unfolding(crate::specs::ComingUp::ready_come_up, rh_state::specs::Numbers::nodes_of))]
+pub fn let_ready_come_up(
+    state: &mut State,
+    notices: &mut Vec<Notice>,
+    marked: &mut Vec<Pair>,
+) -> Result<(), OutOfMemory>
+    requires { IsSound (read state.old) }
+    ensures { OnOk result (course (read state.new) notices.new.items marked.new.items ≡ ready_come_up (course (read state.old) notices.old.items marked.old.items)) }
+{
+    let count = state.cluster().node_count();
+    'nodes: for number in 0..count {
+        let_come_up_if_ready(state, Node(number as u8), notices, marked)?;
+    }
+    Ok(())
+}

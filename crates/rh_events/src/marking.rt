@@ -1,0 +1,83 @@
+//! How an application is started at a node: it waits there until it may run.
+
+ghost use Rattle.std.specs.Prelude.{◌≡◌, [], List, OnOk};
+ghost use Rattle.rh_model.specs.ClusterView.{boot_of};
+ghost use Rattle.rh_state.specs.Shape.{IsNodeOf, IsAppOf, IsStandingOf};
+ghost use Rattle.rh_state.specs.StateView.{place_of, running_at, waiting_at, standing_of};
+ghost use Rattle.rh_state.specs.Stored.{read};
+ghost use Rattle.rh_state.specs.declared.status.Place.TheVariants.{Off};
+ghost use Rattle.rh_settle.specs.declared.notice.Notice.{Notice};
+ghost use Rattle.rh_settle.specs.Course.{course};
+ghost use Rattle.rh_events.specs.Marking.{with_distributed_standing, wanted_by_mark, with_mark, mark, mark_all};
+
+use crate::readiness::cancel_if_set;
+use rh_model::{App, Node, Restart};
+use rh_settle::Pair;
+use rh_state::{Standing, State, Timer};
+use rh_terms::OutOfMemory;
+
+/// A distributed application has the given standing from now on; a local one is always quiet.
+pub fn set_distributed_standing(state: &mut State, app: App, standing: Standing)
+    requires app { IsAppOf (read state.old).cluster app }
+    requires standing { IsStandingOf (read state.old).cluster standing }
+    ensures { read state.new ≡ with_distributed_standing (read state.old) app standing }
+{
+    if state.cluster().spread(app).is_some() {
+        state.set_standing(app, standing);
+    }
+}
+
+// An application that is started at a node is wanted, if it was quiet or was lost at this very node.
+fn want_by_mark(state: &mut State, node: Node, app: App)
+    requires node { IsNodeOf (read state.old).cluster node }
+    requires app { IsAppOf (read state.old).cluster app }
+    ensures { read state.new ≡ wanted_by_mark (read state.old) node app (standing_of (read state.old) app) }
+{
+    match state.standing(app) {
+        Standing::Quiet => set_distributed_standing(state, app, Standing::Wanted(None)),
+        Standing::Lost(lost) if lost.0 == node.0 => {
+            state.set_standing(app, Standing::Wanted(Some(node)));
+            cancel_if_set(state, Timer::Failover(app));
+        }
+        Standing::Lost(_) | Standing::Wanted(_) | Standing::Running(_) => {}
+    }
+}
+
+/// An application that isn't started at a node is started there (application(3), `start/2`): it waits behind all others, with
+/// its restart type.
+#[tactic(auto, unfolding(crate::specs::Marking::with_mark))]
+pub fn mark(
+    state: &mut State,
+    node: Node,
+    app: App,
+    restart: Restart,
+    marked: &mut Vec<Pair>,
+) -> Result<(), OutOfMemory>
+    requires node { IsNodeOf (read state.old).cluster node }
+    requires app { IsAppOf (read state.old).cluster app }
+    requires off { place_of (read state.old) node app ≡ Off }
+    ensures { OnOk result ((notices : List Notice) → course (read state.new) notices marked.new.items ≡ mark (course (read state.old) notices marked.old.items) node app restart) }
+{
+    marked.push(Pair { node, app })?;
+    state.push_waiting(node, app);
+    state.set_restart(node, app, restart);
+    want_by_mark(state, node, app);
+    Ok(())
+}
+
+/// What a node boots is started there, in order.
+#[tactic(auto, unfolding(crate::specs::Marking::mark_all))]
+pub fn mark_booted(state: &mut State, node: Node, marked: &mut Vec<Pair>) -> Result<(), OutOfMemory>
+    requires node { IsNodeOf (read state.old).cluster node }
+    requires running { running_at (read state.old) node ≡ [] }
+    requires waiting { waiting_at (read state.old) node ≡ [] }
+    ensures { OnOk result ((notices : List Notice) → course (read state.new) notices marked.new.items ≡ mark_all (course (read state.old) notices marked.old.items) node (boot_of (read state.old).cluster node)) }
+{
+    state.cluster().is_within();
+    let count = state.cluster().boot(node).len();
+    'booted: for place in 0..count {
+        let (app, restart) = state.cluster().boot(node)[place];
+        mark(state, node, app, restart, marked)?;
+    }
+    Ok(())
+}

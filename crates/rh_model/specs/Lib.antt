@@ -1,0 +1,4 @@
+pub mod TermSymbols
+pub mod ClusterView
+pub mod Limits
+pub mod Names

@@ -1,0 +1,318 @@
+//! The cluster, with its readers.
+
+use crate::app_settings::AppSettings;
+use crate::groups::{Group, is_in};
+use crate::names::Names;
+use crate::node::{App, Node};
+use crate::node_settings::NodeSettings;
+use crate::settings::{Dep, Restart, Spread, SyncWait};
+use rh_terms::{OutOfMemory, Term};
+use std::alloc::Global;
+use std::marker::Model;
+
+/// A cluster of nodes and applications, in the order of the file that it was read from.
+#[derive(Drop)]
+pub struct Cluster {
+    names: Names,
+    nodes: Vec<NodeSettings>,
+    apps: Vec<AppSettings>,
+}
+
+impl Model for Cluster {
+    ghost use Rattle.std.specs.Prelude.{◌≡◌, length};
+    ghost use Rattle.rh_model.specs.ClusterView.{ClusterView, IsWithin};
+
+    ghost Value = { ClusterView };
+
+    ghost view = { λ c. record { node_names = c.names.nodes; app_names = c.names.apps; platform_names = c.names.platforms; nodes = c.nodes.items; apps = c.apps.items } };
+
+    ghost invariant = { λ c. (length c.nodes.items ≡ length c.names.nodes) × (length c.apps.items ≡ length c.names.apps) × IsWithin (record { node_names = c.names.nodes; app_names = c.names.apps; platform_names = c.names.platforms; nodes = c.nodes.items; apps = c.apps.items }) };
+}
+
+impl Cluster {
+    ghost use Rattle.std.specs.Prelude.{◌≡◌, ◌↔◌, ◌<◌, ◌≤◌, length, IfOk, IsTrue, IsSome, Some, slice_get, map};
+    ghost use Rattle.std.specs.Option.{option_map};
+    ghost use Rattle.rh_terms.specs.Tree.{tree_of};
+    ghost use Rattle.rh_model.specs.TermSymbols.{symbols_of};
+    ghost use Rattle.rh_model.specs.ClusterView.{node_count, app_count, node_of, app_of, dep_name, mandatory_of, optional_of, sync_wait_of, boot_of, is_permitted, is_platform, deps_of, start_arg_of, has_phases, spread_of, group_of, IsWithin};
+    ghost use Rattle.rh_model.specs.Limits.{IsWithinLimit};
+
+    /// The cluster of these names, with the settings of each node and of each application in the order of
+    /// their names.
+    pub fn of(names: Names, nodes: Vec<NodeSettings>, apps: Vec<AppSettings>) -> Cluster
+        requires nodes { length nodes.items ≡ length names.nodes }
+        requires apps { length apps.items ≡ length names.apps }
+        requires within { IsWithin (record { node_names = names.nodes; app_names = names.apps; platform_names = names.platforms; nodes = nodes.items; apps = apps.items }) }
+        ensures { result ≡ record { node_names = names.nodes; app_names = names.apps; platform_names = names.platforms; nodes = nodes.items; apps = apps.items } }
+    {
+        Cluster { names, nodes, apps }
+    }
+
+    /// The lists of each cluster fit together, and each number in them is one of the cluster's; a node boots no
+    /// application twice, and none that doesn't list it; timeouts are within their limit. (It does nothing: its
+    /// contract is what it is for.)
+    pub fn is_within(&self)
+        ensures { IsWithin self.now }
+    {
+        let _names = &self.names;
+    }
+
+    // The settings of a node.
+    fn parts_of(&self, node: Node) -> &NodeSettings
+        requires { node.0 < node_count self.now }
+        ensures { slice_get self.now.nodes node.0 ≡ Some result.now }
+    {
+        &self.nodes[node.0 as usize]
+    }
+
+    // The settings of an application.
+    fn keys_of(&self, app: App) -> &AppSettings
+        requires { app.0 < app_count self.now }
+        ensures { slice_get self.now.apps app.0 ≡ Some result.now }
+    {
+        &self.apps[app.0 as usize]
+    }
+
+    /// The number of nodes, 32 at most.
+    pub fn node_count(&self) -> usize
+        ensures count { result ≡ node_count self.now }
+        ensures limit { result ≤ 32 }
+    {
+        self.names.nodes().len()
+    }
+
+    /// The number of applications, 64 at most.
+    pub fn app_count(&self) -> usize
+        ensures count { result ≡ app_count self.now }
+        ensures limit { result ≤ 64 }
+    {
+        self.names.apps().len()
+    }
+
+    /// The number of platform names.
+    pub fn platform_count(&self) -> usize
+        ensures { result ≡ length self.now.platform_names }
+    {
+        self.names.platforms().len()
+    }
+
+    /// The name of a node.
+    pub fn node_name(&self, node: Node) -> &str
+        requires { node.0 < node_count self.now }
+        ensures { slice_get self.now.node_names node.0 ≡ Some result.now }
+    {
+        self.names.nodes().get(node.0 as usize)
+    }
+
+    /// The name of an application.
+    pub fn app_name(&self, app: App) -> &str
+        requires { app.0 < app_count self.now }
+        ensures { slice_get self.now.app_names app.0 ≡ Some result.now }
+    {
+        self.names.apps().get(app.0 as usize)
+    }
+
+    /// The node of this name.
+    pub fn node_of(&self, name: &str) -> Option<Node>
+        ensures { result ≡ node_of self.now name.now }
+    {
+        self.names.node_of(name)
+    }
+
+    /// The application of this name.
+    pub fn app_of(&self, name: &str) -> Option<App>
+        ensures { result ≡ app_of self.now name.now }
+    {
+        self.names.app_of(name)
+    }
+
+    /// The nodes without which this one ends when it starts (kernel(6), `sync_nodes_mandatory`).
+    pub fn mandatory(&self, node: Node) -> &[Node]
+        requires { node.0 < node_count self.now }
+        ensures { result.now ≡ mandatory_of self.now node }
+    {
+        self.parts_of(node).mandatory()
+    }
+
+    /// The other nodes that this one waits for when it starts (kernel(6), `sync_nodes_optional`).
+    pub fn optional(&self, node: Node) -> &[Node]
+        requires { node.0 < node_count self.now }
+        ensures { result.now ≡ optional_of self.now node }
+    {
+        self.parts_of(node).optional()
+    }
+
+    /// How long it waits for them (kernel(6), `sync_nodes_timeout`).
+    pub fn sync_wait(&self, node: Node) -> SyncWait
+        requires { node.0 < node_count self.now }
+        ensures wait { result ≡ sync_wait_of self.now node }
+        ensures limit { IsWithinLimit result }
+    {
+        self.parts_of(node).sync_wait()
+    }
+
+    /// The applications that the node starts, in order, each with its restart type.
+    pub fn boot(&self, node: Node) -> &[(App, Restart)]
+        requires { node.0 < node_count self.now }
+        ensures { result.now ≡ boot_of self.now node }
+    {
+        self.parts_of(node).boot()
+    }
+
+    /// May the application run on the node, as configured (kernel(6), `permissions`)?
+    pub fn permitted(&self, node: Node, app: App) -> bool
+        requires node { node.0 < node_count self.now }
+        requires app { app.0 < app_count self.now }
+        ensures { result ≡ is_permitted self.now node app }
+    {
+        match self.parts_of(node).permissions().get(app.0 as usize) {
+            Some(permitted) => *permitted,
+            None => false,
+        }
+    }
+
+    /// Has the node the platform name of this number?
+    pub fn is_platform(&self, node: Node, platform: u16) -> bool
+        requires node { node.0 < node_count self.now }
+        requires platform { platform < length self.now.platform_names }
+        ensures { result ≡ is_platform self.now node platform }
+    {
+        match self.parts_of(node).platforms().get(platform as usize) {
+            Some(has) => *has,
+            None => false,
+        }
+    }
+
+    /// What the application must find started, in order (app(4), `applications`).
+    pub fn deps(&self, app: App) -> &[Dep]
+        requires { app.0 < app_count self.now }
+        ensures { result.now ≡ deps_of self.now app }
+    {
+        self.keys_of(app).deps()
+    }
+
+    /// The module and the start argument of the application (app(4), `mod`).
+    pub fn start_arg(&self, app: App) -> Option<(&str, &Term)>
+        requires { app.0 < app_count self.now }
+        ensures { option_map (λ s. (s.0.now, symbols_of (tree_of s.1.now))) result ≡ start_arg_of self.now app }
+    {
+        self.keys_of(app).start_arg()
+    }
+
+    /// Are the application's start phases defined (app(4), `start_phases`)?
+    pub fn phases(&self, app: App) -> bool
+        requires { app.0 < app_count self.now }
+        ensures { result ≡ has_phases self.now app }
+    {
+        self.keys_of(app).phases()
+    }
+
+    /// Where the application may run, if it is distributed (kernel(6), `distributed`).
+    pub fn spread(&self, app: App) -> Option<&Spread>
+        requires { app.0 < app_count self.now }
+        ensures { option_map (λ s. s.now) result ≡ spread_of self.now app }
+    {
+        self.keys_of(app).spread()
+    }
+
+    /// The place, from 0, of the first group of the application's list that has the node.
+    pub fn group_of(&self, app: App, node: Node) -> Option<usize>
+        requires { app.0 < app_count self.now }
+        ensures { result ≡ group_of self.now app node }
+    {
+        match self.spread(app) {
+            Some(spread) => place_of(node, spread.groups.as_slice()),
+            None => None,
+        }
+    }
+
+    /// The name of what an application depends on.
+    pub fn dep_name(&self, dep: Dep) -> &str
+        requires { IsSome (dep_name self.now dep) }
+        ensures { dep_name self.now dep ≡ Some result.now }
+    {
+        match dep {
+            Dep::Listed(app) => self.app_name(app),
+            Dep::Platform(number) => self.names.platforms().get(number as usize),
+        }
+    }
+
+    /// An equal cluster in memory of its own.
+    pub fn copy(&self, alloc: Global) -> Result<Cluster, OutOfMemory>
+        ensures { IfOk result (λ copy. copy ≡ self.now) }
+    {
+        let names = self.names.copy()?;
+        let nodes = copies_of_nodes(alloc, self.nodes.as_slice())?;
+        let apps = copies_of_apps(alloc, self.apps.as_slice())?;
+        Ok(Cluster { names, nodes, apps })
+    }
+
+    /// Are the clusters equal, so that all readers answer alike?
+    pub fn same(&self, other: &Cluster) -> bool
+        ensures { IsTrue result ↔ (self.now ≡ other.now) }
+    {
+        self.names.same(&other.names)
+            && same_nodes(self.nodes.as_slice(), other.nodes.as_slice())
+            && same_apps(self.apps.as_slice(), other.apps.as_slice())
+    }
+}
+
+ghost use Rattle.std.specs.Prelude.{◌≡◌, ◌↔◌, IfOk, IsTrue, position};
+ghost use Rattle.rh_model.specs.ClusterView.{is_in};
+
+// The place of the first group that has the node.
+fn place_of(node: Node, groups: &[Group]) -> Option<usize>
+    ensures { result ≡ position (is_in node) groups.now }
+{
+    groups
+        .iter()
+        .position(|group| is_in(node, group.as_slice()))
+}
+
+fn copies_of_nodes(alloc: Global, nodes: &[NodeSettings]) -> Result<Vec<NodeSettings>, OutOfMemory>
+    ensures { IfOk result (λ copies. copies.items ≡ nodes.now) }
+{
+    let mut copies = Vec::new(alloc);
+    for settings in nodes {
+        copies.push(settings.copy(alloc)?)?;
+    }
+    Ok(copies)
+}
+
+fn copies_of_apps(alloc: Global, apps: &[AppSettings]) -> Result<Vec<AppSettings>, OutOfMemory>
+    ensures { IfOk result (λ copies. copies.items ≡ apps.now) }
+{
+    let mut copies = Vec::new(alloc);
+    for settings in apps {
+        copies.push(settings.copy(alloc)?)?;
+    }
+    Ok(copies)
+}
+
+fn same_nodes(these: &[NodeSettings], those: &[NodeSettings]) -> bool
+    ensures { IsTrue result ↔ (these.now ≡ those.now) }
+{
+    if these.len() != those.len() {
+        return false;
+    }
+    for index in 0..these.len() {
+        if !these[index].same(&those[index]) {
+            return false;
+        }
+    }
+    true
+}
+
+fn same_apps(these: &[AppSettings], those: &[AppSettings]) -> bool
+    ensures { IsTrue result ↔ (these.now ≡ those.now) }
+{
+    if these.len() != those.len() {
+        return false;
+    }
+    for index in 0..these.len() {
+        if !these[index].same(&those[index]) {
+            return false;
+        }
+    }
+    true
+}

@@ -1,5 +1,0 @@
-use Rattle.std.proofs.Common.{◌≡◌, take}
-use Rattle.rh_parts.proofs.cluster.copies_of_apps.Given as goal
-
-abbrev pub invariant-loop-parts : goal.invariant-loop-parts
-invariant-loop-parts l = l.copies.items ≡ take l.parts-index l.apps

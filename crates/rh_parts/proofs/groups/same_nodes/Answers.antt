@@ -1,6 +1,0 @@
-use Rattle.std.proofs.lemmas.Slice.Eq.{slice_eq-Decides}
-use Rattle.rh_parts.proofs.Alike.{node_decides}
-use Rattle.rh_parts.proofs.groups.same_nodes.Goals as goal
-
-pub returns : goal.returns
-returns c = slice_eq-Decides node_decides _ _ _ c.eq.ensures

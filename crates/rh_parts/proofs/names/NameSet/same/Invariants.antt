@@ -1,8 +1,0 @@
-use Rattle.std.proofs.Common.{◌≡◌, take, length}
-use Rattle.rh_parts.proofs.names.NameSet.same.Given as goal
-
-abbrev pub invariant-loop-index : goal.invariant-loop-index
-invariant-loop-index l = record {
-  same : take l.index l.self ≡ take l.index l.other;
-  lengths : length l.self ≡ length l.other;
-}

@@ -1,4 +1,0 @@
-pub mod TermWords
-pub mod ClusterView
-pub mod Limits
-pub mod Names
