@@ -12,7 +12,7 @@ use crate::running::write_fault;
 use crate::watched::Watched;
 use rh_cluster::{Cluster, ClusterFault, read_cluster};
 use rh_script::cut;
-use rh_terms::OutOfMemory;
+use rh_base::OutOfMemory;
 use std::alloc::Global;
 use std::io::{Read, Write};
 

@@ -4,7 +4,7 @@ ghost use Rattle.std.specs.Prelude.{◌≡◌};
 ghost use Rattle.rh_app.specs.declared.fault.RunFault.TheVariants as run;
 
 use rh_cluster::ClusterFault;
-use rh_terms::OutOfMemory;
+use rh_base::OutOfMemory;
 use thiserror::Error;
 
 /// Why a program ended early.

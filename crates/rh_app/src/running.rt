@@ -17,7 +17,7 @@ use crate::watched::Watched;
 use rh_cluster::{Cluster, ClusterFault, read_cluster};
 use rh_script::{Line, answer_text, bad_text, content, cut, fault_text, line_of, split_line};
 use rh_step::Pick;
-use rh_terms::OutOfMemory;
+use rh_base::OutOfMemory;
 use rh_trail::{Call, Reply, Sim};
 use std::alloc::Global;
 use std::io::{Read, Write};

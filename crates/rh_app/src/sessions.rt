@@ -25,7 +25,7 @@ use crate::watched::Watched;
 use rh_cluster::{Cluster, read_cluster};
 use rh_script::{Command, cut};
 use rh_step::Pick;
-use rh_terms::OutOfMemory;
+use rh_base::OutOfMemory;
 use std::alloc::Global;
 use std::io::{Read, Write};
 use std::sync::Wait;

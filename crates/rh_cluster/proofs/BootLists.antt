@@ -7,7 +7,7 @@ use Rattle.std.proofs.lemmas.Slice.Eq.{bytes_eq-Decides}
 use Rattle.std.proofs.lemmas.List.Elements.{All-nil}
 use Rattle.std.proofs.lemmas.List.Quantifiers.{position-Some}
 use Rattle.std.proofs.lemmas.Option.{same_Some}
-use Rattle.rh_terms.specs.Tree.{Tree}
+use Rattle.rh_base.specs.Tree.{Tree}
 use Rattle.rh_model.specs.declared.node.App.{App}
 use Rattle.rh_model.specs.declared.settings.Restart.{Restart}
 use Rattle.rh_model.specs.ClusterView.{app_numbered}

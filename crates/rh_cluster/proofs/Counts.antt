@@ -1,7 +1,7 @@
 -- There is a part for each name.
 use Rattle.std.proofs.Common.{◌≡◌, ℕ, List, length, sym, ◌∙◌}
 use Rattle.std.proofs.lemmas.List.{length-map}
-use Rattle.rh_terms.specs.Tree.{Tree}
+use Rattle.rh_base.specs.Tree.{Tree}
 use Rattle.rh_cluster.specs.declared.shares.Share.{Share}
 use Rattle.rh_model.specs.Names.{NamesView}
 use Rattle.rh_cluster.specs.Headers.{nodes_in, apps_in, node_names, app_names}

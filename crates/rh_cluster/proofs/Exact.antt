@@ -1,7 +1,7 @@
 -- From the faults and the value of a list of terms to what the definition says of the text.
 use Rattle.std.proofs.Common.{◌≡◌, ◌≢◌, ℕ, List, [], ◌∷◌, Result, Ok, Err, Some, refl, sym, ap, ◌∙◌}
 use Rattle.std.specs.Prelude.{IfOk}
-use Rattle.rh_terms.specs.Tree.{Tree, trees_from}
+use Rattle.rh_base.specs.Tree.{Tree, trees_from}
 use Rattle.rh_terms.specs.Grammar.{terms_of, FaultIs}
 use Rattle.rh_terms.specs.declared.fault.TermFault.{TermFault}
 use Rattle.rh_terms.specs.declared.fault.TermFault.TheVariants as terms

@@ -6,7 +6,7 @@ use Rattle.std.specs.Str.{bytes_eq}
 use Rattle.std.proofs.lemmas.Slice.Eq.{bytes_eq-Decides}
 use Rattle.std.proofs.lemmas.List.{map-append}
 use Rattle.std.proofs.lemmas.List.Elements.{filter_map-append}
-use Rattle.rh_terms.specs.Tree.{Tree}
+use Rattle.rh_base.specs.Tree.{Tree}
 use Rattle.rh_sections.specs.Shapes.{as_node, as_app, as_headed, as_triple, as_atom, ◌>>=◌}
 use Rattle.rh_cluster.specs.Headers.{node_names, app_names}
 

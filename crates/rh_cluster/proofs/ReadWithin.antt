@@ -1,7 +1,7 @@
 -- The cluster of a text is one whose lists fit together.
 use Rattle.std.proofs.Common.{◌≡◌, List, [], ◌∷◌, Ok, Err, refl, sym, subst}
 use Rattle.std.specs.Prelude.{Result}
-use Rattle.rh_terms.specs.Tree.{Tree, Trees, list_of_trees}
+use Rattle.rh_base.specs.Tree.{Tree, Trees, list_of_trees}
 use Rattle.rh_terms.specs.Grammar.{terms_of}
 use Rattle.rh_terms.specs.declared.fault.TermFault.{TermFault}
 use Rattle.rh_model.specs.ClusterView.{ClusterView, IsWithin}

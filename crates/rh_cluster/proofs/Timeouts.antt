@@ -2,7 +2,7 @@
 use Rattle.std.proofs.Common.{◌≡◌, ◌≤◌, ℕ, ℤ, pos, negsuc, true, Option, Some, None, nat_le, unwrap_or, refl, subst, arith}
 use Rattle.std.proofs.lemmas.Bool.Decides.{nat_tests}
 use Rattle.std.proofs.lemmas.Option.{cond_some}
-use Rattle.rh_terms.specs.Tree.{Tree}
+use Rattle.rh_base.specs.Tree.{Tree}
 use Rattle.rh_model.specs.Limits.{timeout_limit}
 use Rattle.rh_sections.specs.Shapes.{as_int, as_time, if_within, ◌>>=◌}
 use Rattle.rh_cluster.specs.Values.{time_or_zero}

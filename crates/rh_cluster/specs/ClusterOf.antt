@@ -1,6 +1,6 @@
 -- The cluster that a text describes, or its first fault.
 use Rattle.std.specs.Prelude.{ℕ, List, ◌++◌, map, Result, Ok, Err}
-use Rattle.rh_terms.specs.Tree.{Tree, Trees, list_of_trees}
+use Rattle.rh_base.specs.Tree.{Tree, Trees, list_of_trees}
 use Rattle.rh_terms.specs.Grammar.{terms_of}
 use Rattle.rh_terms.specs.declared.fault.TermFault.{TermFault}
 use Rattle.rh_sections.specs.declared.fault.ClusterFault.{ClusterFault}

@@ -1,6 +1,6 @@
 -- The second stage: the shape and the name of each term.
 use Rattle.std.specs.Prelude.{ℕ, List, [], ◌∷◌, ◌++◌, length, map, filter_map, Bool, false, not, ◌||◌, ◌==◌, nat_le, Option, Some, None, codes}
-use Rattle.rh_terms.specs.Tree.{Tree}
+use Rattle.rh_base.specs.Tree.{Tree}
 use Rattle.rh_sections.specs.declared.fault.ClusterFault.{ClusterFault}
 use Rattle.rh_sections.specs.declared.fault.ClusterFault.TheVariants as fault
 use Rattle.rh_model.specs.Names.{is_among}

@@ -11,7 +11,7 @@ ghost use Rattle.rh_cluster.specs.Agreement.{same_group, same_groups, same_share
 use crate::shares::{Share, Shares};
 use rh_model::{App, Group, NameSet, Node, NodeSettings, Restart, Spread, SyncWait, is_in};
 use rh_sections::ClusterFault;
-use rh_terms::{OutOfMemory, Str};
+use rh_base::{OutOfMemory, Str};
 use std::alloc::Global;
 
 // Are all of these nodes in the other group?

@@ -2,7 +2,7 @@
 
 ghost use Rattle.std.specs.Prelude.{◌≡◌, map, filter_map, IfOk};
 ghost use Rattle.std.specs.Option.{option_map};
-ghost use Rattle.rh_terms.specs.Tree.{tree_of};
+ghost use Rattle.rh_base.specs.Tree.{tree_of};
 ghost use Rattle.rh_cluster.specs.Values.{dep_named, start_in, is_list_there, spread_named, app_view};
 
 use crate::agreement::spread_for;
@@ -10,7 +10,7 @@ use crate::shares::Share;
 use crate::values::{elements, elements_under, value_under};
 use rh_model::{App, AppSettings, Dep, Names, Spread, copy_of_spread, copy_of_start};
 use rh_sections::shapes;
-use rh_terms::{OutOfMemory, Term};
+use rh_base::{OutOfMemory, Term};
 use std::alloc::Global;
 
 #[tactic(auto, unfolding(crate::specs::Values::dep_named))]

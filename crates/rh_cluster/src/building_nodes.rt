@@ -3,7 +3,7 @@
 ghost use Rattle.std.specs.Prelude.{◌≡◌, ◌||◌, not, map, filter_map, IfOk};
 ghost use Rattle.std.specs.List.{list_any};
 ghost use Rattle.std.specs.Option.{option_map};
-ghost use Rattle.rh_terms.specs.Tree.{tree_of};
+ghost use Rattle.rh_base.specs.Tree.{tree_of};
 ghost use Rattle.std.specs.Str.{bytes_eq};
 ghost use Rattle.rh_model.specs.Limits.{IsWithinLimit};
 ghost use Rattle.rh_model.specs.Names.{is_among};
@@ -16,7 +16,7 @@ use crate::headers::is_platform_everywhere;
 use crate::values::{app_named, elements, elements_under, node_named, value_under};
 use rh_model::{App, Names, Node, NodeSettings, Restart, SyncWait};
 use rh_sections::{repeats_atom, restart, shapes, sync_wait, truth};
-use rh_terms::{OutOfMemory, Term};
+use rh_base::{OutOfMemory, Term};
 use std::alloc::Global;
 
 /// The nodes of these names.

@@ -2,7 +2,7 @@
 
 ghost use Rattle.std.specs.Prelude.{◌≡◌, ◌==◌, map, filter_map, IfOk, IfSome};
 ghost use Rattle.std.specs.Option.{option_map};
-ghost use Rattle.rh_terms.specs.Tree.{tree_of};
+ghost use Rattle.rh_base.specs.Tree.{tree_of};
 ghost use Rattle.rh_cluster.specs.Values.{time_or_zero, group_in, elements, share_of, shares_in};
 
 use crate::building_nodes::nodes_named;
@@ -10,7 +10,7 @@ use crate::shares::{Share, Shares};
 use crate::values::{app_named, elements, elements_under};
 use rh_model::{Group, Groups, Names, Spread};
 use rh_sections::{members, shapes, share};
-use rh_terms::{OutOfMemory, Term};
+use rh_base::{OutOfMemory, Term};
 use std::alloc::Global;
 
 fn time_or_zero(value: Option<&Term>) -> u64

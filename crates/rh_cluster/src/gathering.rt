@@ -2,7 +2,7 @@
 
 ghost use Rattle.std.specs.Prelude.{◌≡◌, ◌≤◌, ◌∷◌, [], map, flat_map, fold, length, is_some, OnOk, IfOk};
 ghost use Rattle.std.specs.List.{list_all};
-ghost use Rattle.rh_terms.specs.Tree.{tree_of};
+ghost use Rattle.rh_base.specs.Tree.{tree_of};
 ghost use Rattle.rh_cluster.specs.Headers.{every_platform};
 ghost use Rattle.rh_sections.specs.Shapes.{as_atom, atoms};
 ghost use Rattle.rh_cluster.specs.Values.{with_name, with_first_name, with_platforms, platform_in_entry, platform_in_section, platform_in_term, platforms_in, elements};
@@ -10,7 +10,7 @@ ghost use Rattle.rh_cluster.specs.Values.{with_name, with_first_name, with_platf
 use crate::values::{elements, value_if};
 use rh_model::{NameSet, Platforms};
 use rh_sections::shapes;
-use rh_terms::{OutOfMemory, Term};
+use rh_base::{OutOfMemory, Term};
 use std::alloc::Global;
 
 // Adds a name, unless it is there.

@@ -1,14 +1,14 @@
 //! The second stage: the shape and the name of each term.
 
 ghost use Rattle.std.specs.Prelude.{◌≡◌, ◌<◌, ◌≤◌, ℕ, [], ◌∷◌, ◌++◌, map, length, IfOk, OnOk};
-ghost use Rattle.rh_terms.specs.Tree.{tree_of};
+ghost use Rattle.rh_base.specs.Tree.{tree_of};
 ghost use Rattle.rh_sections.specs.Faults.{Finds};
 ghost use Rattle.rh_model.specs.Names.{is_among};
 ghost use Rattle.rh_cluster.specs.Headers.{every_platform, new_name_faults, header_faults, headers_pass, node_names, app_names};
 
 use rh_model::NameSet;
 use rh_sections::{ClusterFault, is_name, shapes};
-use rh_terms::Term;
+use rh_base::Term;
 use std::alloc::Global;
 
 /// Is it a platform name of every node?

@@ -2,13 +2,13 @@
 
 ghost use Rattle.std.specs.Prelude.{◌≡◌, map};
 ghost use Rattle.std.specs.Option.{option_map};
-ghost use Rattle.rh_terms.specs.Tree.{tree_of};
+ghost use Rattle.rh_base.specs.Tree.{tree_of};
 ghost use Rattle.rh_model.specs.Names.{NamesView};
 ghost use Rattle.rh_cluster.specs.Values.{elements, value_if, value_under, elements_under, node_named, app_named};
 
 use rh_model::{App, Names, Node};
 use rh_sections::shapes;
-use rh_terms::Term;
+use rh_base::Term;
 
 /// The elements of a list; another term has none.
 #[tactic(auto, unfolding(crate::specs::Values::elements))]

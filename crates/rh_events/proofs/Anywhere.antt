@@ -3,7 +3,7 @@ use Rattle.std.proofs.Common.{◌≡◌, ◌<◌, ◌≤◌, ◌+◌, ◌||◌, 
 use Rattle.std.specs.List.{list_any, range_with_len}
 use Rattle.std.proofs.lemmas.Bool.Decides.{nat_tests}
 use Rattle.std.proofs.lemmas.List.FromFn.{map-range_with_len_more}
-use Rattle.rh_place.proofs.Lists.{any_push, cases}
+use Rattle.rh_base.proofs.Lists.{any_push, cases}
 use Rattle.rh_settle.proofs.Places.{or_left, or_right}
 
 -- one that passes is found

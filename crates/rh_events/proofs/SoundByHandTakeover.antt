@@ -17,7 +17,7 @@ use Rattle.rh_settle.specs.Course.{Course}
 use Rattle.rh_settle.specs.Moves.{is_local, with_stopped, moved_state}
 use Rattle.rh_settle.specs.declared.notice.Move.TheVariants.{Takeover}
 use Rattle.rh_settle.specs.Soundness.{IsSound, is_lost}
-use Rattle.rh_place.proofs.Lists.{cases}
+use Rattle.rh_base.proofs.Lists.{cases}
 use Rattle.rh_settle.proofs.Places.{or_left}
 use Rattle.rh_events.specs.ByHand.{taken_from, taken_over}
 use Rattle.rh_settle.proofs.Entries.{same_number, other_number, both, row_there, taken, put, has, taken_has, taken_not, taken_keeps, there, put_has, put_keeps, put_gives}

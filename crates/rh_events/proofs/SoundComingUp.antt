@@ -17,7 +17,7 @@ use Rattle.rh_state.specs.Shape.{IsNodeOf}
 use Rattle.rh_state.specs.StateView.{StateView, mode_of, is_up, is_waiting, running_at, waiting_at, runs_at, waits_at, is_started, due_of}
 use Rattle.rh_state.specs.Lists.{has_app}
 use Rattle.rh_state.specs.Setters.{with_mode, without_due}
-use Rattle.rh_place.proofs.Lists.{cases}
+use Rattle.rh_base.proofs.Lists.{cases}
 use Rattle.rh_settle.specs.declared.notice.Notice.TheVariants as notice
 use Rattle.rh_settle.specs.Course.{Course, told, now_in}
 use Rattle.rh_settle.specs.Soundness.{TimersFit, IsSound, is_timed}

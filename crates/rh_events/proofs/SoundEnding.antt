@@ -21,7 +21,7 @@ use Rattle.rh_state.specs.Setters.{with_standing, with_timer}
 use Rattle.rh_settle.specs.Course.{Course}
 use Rattle.rh_settle.specs.Moves.{is_local}
 use Rattle.rh_settle.specs.Soundness.{TimersFit, IsSound, is_lost}
-use Rattle.rh_place.proofs.Lists.{cases}
+use Rattle.rh_base.proofs.Lists.{cases}
 use Rattle.rh_settle.proofs.Places.{at_set, at_set_here, at_set_there, or_left, or_right}
 use Rattle.rh_events.specs.Ending.{timeout_of, cleared, lost_at, lost_from, lost_if_ran, all_lost, ended}
 use Rattle.rh_settle.proofs.Kept.{same_running}

@@ -15,7 +15,7 @@ use Rattle.rh_state.specs.StateView.{StateView, mode_of, is_up, running_at, runs
 use Rattle.rh_state.specs.Setters.{with_running, with_waiting, with_allowed, unlisted}
 use Rattle.rh_settle.specs.Soundness.{IsSized, IdleUnlessUp, IsSound}
 use Rattle.rh_settle.specs.Validity.{OnceAtEachNode}
-use Rattle.rh_place.proofs.Lists.{cases}
+use Rattle.rh_base.proofs.Lists.{cases}
 use Rattle.rh_settle.proofs.Places.{at_set_there, or_left, or_right}
 use Rattle.rh_settle.proofs.Entries.{same_number, is_false, both, taken_has, put_has, once_taken, once_put, either}
 use Rattle.rh_events.proofs.Tables.{not_empty, at_pair, taken_empty}

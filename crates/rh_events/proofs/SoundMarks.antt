@@ -12,7 +12,7 @@ use Rattle.rh_state.specs.Numbers.{same_node, same_app}
 use Rattle.rh_state.specs.Shape.{IsNodeOf, IsAppOf}
 use Rattle.rh_state.specs.StateView.{StateView, mode_of, is_up, waiting_at, runs_at, waits_at, is_started, standing_of, due_of}
 use Rattle.rh_state.specs.Setters.{with_restart, with_standing, with_waiting, without_due}
-use Rattle.rh_place.proofs.Lists.{cases}
+use Rattle.rh_base.proofs.Lists.{cases}
 use Rattle.rh_settle.specs.Moves.{is_local}
 use Rattle.rh_settle.specs.Soundness.{IsSized, IdleUnlessUp, StandsWhereItRuns, TimersFit, IsSound, is_lost}
 use Rattle.rh_settle.proofs.Places.{at_set_here, at_set_there, or_left, or_right}

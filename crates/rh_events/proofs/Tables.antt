@@ -8,7 +8,7 @@ use Rattle.rh_state.specs.Tables.{row}
 use Rattle.rh_state.specs.Lists.{has_app, without_app}
 use Rattle.rh_state.specs.StateView.{StateView, runs_at, waits_at}
 use Rattle.rh_state.specs.Setters.{with_waiting}
-use Rattle.rh_place.proofs.Lists.{cases}
+use Rattle.rh_base.proofs.Lists.{cases}
 use Rattle.rh_settle.specs.Validity.{OnceAtEachNode}
 use Rattle.rh_settle.proofs.Places.{at_set}
 use Rattle.rh_settle.proofs.Entries.{same_number, taken, has, put_has, once_put}

@@ -24,7 +24,7 @@ use crate::readiness::cancel_if_set;
 use rh_model::{App, Node, Restart};
 use rh_settle::{Move, Notice, make_move};
 use rh_state::{Place, Standing, State, Timer};
-use rh_terms::OutOfMemory;
+use rh_base::OutOfMemory;
 
 // An application that runs at a node stops there.
 #[tactic(auto, unfolding(crate::specs::ByHand::stopped))]

@@ -13,7 +13,7 @@ use crate::readiness::{cancel_if_set, is_ready};
 use rh_model::Node;
 use rh_settle::{Notice, Pair};
 use rh_state::{Mode, State, Timer};
-use rh_terms::OutOfMemory;
+use rh_base::OutOfMemory;
 
 /// A node at which nothing is started comes up, and what it boots is started.
 #[tactic(auto, unfolding(crate::specs::ComingUp::come_up))]

@@ -16,7 +16,7 @@ use crate::readiness::cancel_if_set;
 use rh_model::{App, Cluster, Node};
 use rh_settle::Notice;
 use rh_state::{Mode, Standing, State, Timer};
-use rh_terms::OutOfMemory;
+use rh_base::OutOfMemory;
 
 // An application that is started at a node, if there is one.
 fn first_started(state: &State, node: Node) -> Option<App>

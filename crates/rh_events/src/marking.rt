@@ -14,7 +14,7 @@ use crate::readiness::cancel_if_set;
 use rh_model::{App, Node, Restart};
 use rh_settle::Pair;
 use rh_state::{Standing, State, Timer};
-use rh_terms::OutOfMemory;
+use rh_base::OutOfMemory;
 
 /// A distributed application has the given standing from now on; a local one is always quiet.
 pub fn set_distributed_standing(state: &mut State, app: App, standing: Standing)

@@ -1,6 +1,6 @@
 -- The words of a term tell which term it is.
 use Rattle.std.proofs.Common.{◌≡◌, List, [], ◌++◌, length, sym, ap, ◌∙◌, append_assoc, arith}
-use Rattle.rh_terms.specs.Tree.{Tree, Trees, atom, int, text, list, tuple, none, more, list_of_trees}
+use Rattle.rh_base.specs.Tree.{Tree, Trees, atom, int, text, list, tuple, none, more, list_of_trees}
 use Rattle.rh_model.specs.TermSymbols.{TermSymbol, symbols_of, symbols_of_all}
 
 -- whatever follows them, equal words are of equal terms, and so are those of as many terms

@@ -1,6 +1,6 @@
 -- A term in prefix notation: a list or a tuple is told by how many terms stand in it, and these follow.
 use Rattle.std.specs.Prelude.{ℕ, ℤ, List, [], ◌∷◌, ◌++◌, length}
-use Rattle.rh_terms.specs.Tree.{Tree, Trees, atom, int, text, list, tuple, none, more, list_of_trees}
+use Rattle.rh_base.specs.Tree.{Tree, Trees, atom, int, text, list, tuple, none, more, list_of_trees}
 
 pub data TermSymbol : Type 0 where
   an_atom : List ℕ → TermSymbol

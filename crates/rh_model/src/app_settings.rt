@@ -2,7 +2,7 @@
 
 use crate::name_set::same_text;
 use crate::settings::{Dep, Spread};
-use rh_terms::{OutOfMemory, Str, Term};
+use rh_base::{OutOfMemory, Str, Term};
 use std::alloc::Global;
 use std::marker::Model;
 
@@ -27,7 +27,7 @@ pub struct AppSettings {
 /// Contracts see `AppSettings` as what a file says of the application, the start argument by its symbols.
 impl Model for AppSettings {
     ghost use Rattle.std.specs.Option.{option_map};
-    ghost use Rattle.rh_terms.specs.Tree.{tree_of};
+    ghost use Rattle.rh_base.specs.Tree.{tree_of};
     ghost use Rattle.rh_model.specs.ClusterView.{AppView};
     ghost use Rattle.rh_model.specs.TermSymbols.{symbols_of};
 
@@ -39,7 +39,7 @@ impl Model for AppSettings {
 impl AppSettings {
     ghost use Rattle.std.specs.Prelude.{◌≡◌, ◌↔◌, IfOk, IsTrue};
     ghost use Rattle.std.specs.Option.{option_map};
-    ghost use Rattle.rh_terms.specs.Tree.{tree_of};
+    ghost use Rattle.rh_base.specs.Tree.{tree_of};
     ghost use Rattle.rh_model.specs.TermSymbols.{symbols_of};
 
     /// The settings of an application.
@@ -113,7 +113,7 @@ impl AppSettings {
 
 ghost use Rattle.std.specs.Prelude.{◌≡◌, ◌↔◌, IfOk, IsTrue, List, ℕ};
 ghost use Rattle.std.specs.Option.{option_map};
-ghost use Rattle.rh_terms.specs.Tree.{Tree, tree_of};
+ghost use Rattle.rh_base.specs.Tree.{Tree, tree_of};
 ghost use Rattle.rh_model.specs.TermSymbols.{TermSymbol, symbols_of};
 
 /// A copy of a start argument, with its module.

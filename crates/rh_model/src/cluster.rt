@@ -6,7 +6,7 @@ use crate::names::Names;
 use crate::node::{App, Node};
 use crate::node_settings::NodeSettings;
 use crate::settings::{Dep, Restart, Spread, SyncWait};
-use rh_terms::{OutOfMemory, Term};
+use rh_base::{OutOfMemory, Term};
 use std::alloc::Global;
 use std::marker::Model;
 
@@ -32,7 +32,7 @@ impl Model for Cluster {
 impl Cluster {
     ghost use Rattle.std.specs.Prelude.{◌≡◌, ◌↔◌, ◌<◌, ◌≤◌, length, IfOk, IsTrue, IsSome, Some, slice_get, map};
     ghost use Rattle.std.specs.Option.{option_map};
-    ghost use Rattle.rh_terms.specs.Tree.{tree_of};
+    ghost use Rattle.rh_base.specs.Tree.{tree_of};
     ghost use Rattle.rh_model.specs.TermSymbols.{symbols_of};
     ghost use Rattle.rh_model.specs.ClusterView.{node_count, app_count, node_of, app_of, dep_name, mandatory_of, optional_of, sync_wait_of, boot_of, is_permitted, is_platform, deps_of, start_arg_of, has_phases, spread_of, group_of, IsWithin};
     ghost use Rattle.rh_model.specs.Limits.{IsWithinLimit};

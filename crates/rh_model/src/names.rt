@@ -8,7 +8,7 @@ ghost use Rattle.rh_model.specs.Names.{is_among};
 
 use crate::name_set::NameSet;
 use crate::node::{App, Node};
-use rh_terms::OutOfMemory;
+use rh_base::OutOfMemory;
 use std::marker::Model;
 
 /// The names of the nodes, of the applications and of the platforms.

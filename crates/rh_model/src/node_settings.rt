@@ -3,7 +3,7 @@
 use crate::groups::same_nodes;
 use crate::node::{App, Node};
 use crate::settings::{Restart, SyncWait};
-use rh_terms::OutOfMemory;
+use rh_base::OutOfMemory;
 use std::alloc::Global;
 use std::marker::Model;
 

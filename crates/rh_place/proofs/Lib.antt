@@ -1,4 +1,4 @@
 pub mod Bits
-pub mod Lists
+pub mod Picks
 pub mod Nowhere
 mod Rows

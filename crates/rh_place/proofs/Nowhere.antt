@@ -11,8 +11,10 @@ use Rattle.rh_model.specs.ClusterView.{is_in, group_of, spread_of}
 use Rattle.rh_state.specs.StateView.{StateView, running_count}
 use Rattle.rh_place.specs.Placing.{best}
 use Rattle.rh_place.specs.declared.choosing.Pick.{Pick}
-use Rattle.rh_place.specs.Picks.{or_else, first_given, lightest, picked}
-use Rattle.rh_place.proofs.Lists.{cases, any_filter, none_filter, place_any, nothing_given, picked_none}
+use Rattle.rh_base.specs.Lists.{or_else, first_given, lightest}
+use Rattle.rh_place.specs.Picks.{picked}
+use Rattle.rh_base.proofs.Lists.{cases, any_filter, none_filter, place_any, nothing_given}
+use Rattle.rh_place.proofs.Picks.{picked_none}
 
 filter_no : {A : Type 0} (p : A → Bool) (x : A) (xs : List A) → p x ≡ false → filter p (x ∷ xs) ≡ filter p xs
 filter_no p x xs h = ap (λ b. cond b (x ∷ filter p xs) (filter p xs)) h

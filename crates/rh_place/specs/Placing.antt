@@ -9,7 +9,7 @@ use Rattle.rh_model.specs.declared.settings.Dep.{Dep}
 use Rattle.rh_model.specs.declared.settings.Dep.TheVariants.{Listed, Platform}
 use Rattle.rh_model.specs.declared.settings.Spread.{Spread}
 use Rattle.rh_state.specs.StateView.{StateView, mode_of, is_up, is_started, is_allowed, runs_at, running_count}
-use Rattle.rh_place.specs.Picks.{first_given, lightest}
+use Rattle.rh_base.specs.Lists.{first_given, lightest}
 
 -- a dependency runs at a node that has it as a platform name, or runs it (app(4), applications)
 abbrev pub dep_runs : StateView → Node → Dep → Bool

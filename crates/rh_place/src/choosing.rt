@@ -9,7 +9,8 @@ ghost use Rattle.rh_state.specs.StateView.{running_count};
 ghost use Rattle.rh_state.specs.Shape.{IsNodeOf};
 ghost use Rattle.rh_state.specs.Stored.{read};
 ghost use Rattle.rh_place.specs.Sets.{has};
-ghost use Rattle.rh_place.specs.Picks.{first_given, least, picked};
+ghost use Rattle.rh_base.specs.Lists.{first_given, least};
+ghost use Rattle.rh_place.specs.Picks.{picked};
 ghost use Rattle.rh_place.specs.Placing.{is_operational, groups_of, best, candidates};
 
 use crate::node_set::NodeSet;

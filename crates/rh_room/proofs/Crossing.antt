@@ -1,8 +1,8 @@
 -- A room may be handed from thread to thread, and so may what it is made of.
 use denote.Param.Send.{IsSend, sendable}
 use Rattle.std.proofs.Crossing.{crosses}
-use Rattle.rh_terms.proofs.term.Term.TheLaws.TheKnot as terms
-use Rattle.rh_terms.proofs.text.Str.TheSendSync as text
+use Rattle.rh_base.proofs.term.Term.TheLaws.TheKnot as terms
+use Rattle.rh_base.proofs.text.Str.TheSendSync as text
 use Rattle.rh_model.proofs.settings.Dep.TheSendSync as dep
 use Rattle.rh_model.proofs.settings.Restart.TheSendSync as restart
 use Rattle.rh_model.proofs.settings.Spread.TheSendSync as spread

@@ -6,7 +6,7 @@ ghost use Rattle.rh_trail.specs.declared.call.Reply.TheVariants as reply;
 ghost use Rattle.rh_trail.specs.Lone.{served, answered};
 
 use rh_step::{Event, Refusal};
-use rh_terms::OutOfMemory;
+use rh_base::OutOfMemory;
 use rh_trail::{Call, Reply, Sim};
 use std::alloc::Global;
 

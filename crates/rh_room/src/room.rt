@@ -9,7 +9,7 @@ ghost use Rattle.rh_room.specs.Serving.{last_of, place_of, IsPassOf, receipt_of,
 
 use crate::pass::{Entry, Pass, Receipt, RoomFault};
 use crate::replies::{Replies, replies_to};
-use rh_terms::OutOfMemory;
+use rh_base::OutOfMemory;
 use rh_trail::{Call, Sim};
 use std::alloc::Global;
 use std::marker::Model;

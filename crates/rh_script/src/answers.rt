@@ -10,7 +10,7 @@ ghost use Rattle.rh_script.specs.Answers.{dep_words, pair_words, reason_words, r
 use rh_cluster::{App, Cluster, ClusterFault, Dep, Node};
 use rh_state::Kind;
 use rh_step::{Notice, Refusal};
-use rh_terms::OutOfMemory;
+use rh_base::OutOfMemory;
 use rh_trail::Reply;
 use std::alloc::Global;
 

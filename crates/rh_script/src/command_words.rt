@@ -7,7 +7,7 @@ ghost use Rattle.rh_script.specs.CommandWords.{node_word, app_word, place_words,
 
 use rh_cluster::{App, Cluster, Node, Restart};
 use rh_step::Event;
-use rh_terms::OutOfMemory;
+use rh_base::OutOfMemory;
 use rh_trail::Call;
 use std::alloc::Global;
 

@@ -8,7 +8,7 @@ ghost use Rattle.rh_script.specs.Commands.{words_of, named, named_app, begins_wi
 
 use rh_cluster::{App, Cluster, Node, Restart};
 use rh_step::Event;
-use rh_terms::OutOfMemory;
+use rh_base::OutOfMemory;
 use rh_trail::Call;
 use std::alloc::{AllocError, Global};
 

@@ -5,7 +5,7 @@ ghost use Rattle.rh_script.specs.SessionLines.{session_named, asked_by, session_
 
 use crate::script::{Line, begins_with, command_of, text_of, words_of};
 use rh_cluster::Cluster;
-use rh_terms::OutOfMemory;
+use rh_base::OutOfMemory;
 use rh_trail::Call;
 use std::alloc::Global;
 

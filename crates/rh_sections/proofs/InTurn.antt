@@ -1,8 +1,8 @@
 -- One more term of a list whose terms are tested in turn.
 use Rattle.std.proofs.Common.{◌≡◌, ℕ, ◌+◌, ◌<◌, List, [], ◌∷◌, ◌++◌, length, map, take, drop, get_or, Some, sym, ap, ◌∙◌, append_assoc, append-nil}
 use Rattle.std.proofs.lemmas.List.{take_more, drop_more, map-append, take-append-drop}
-use Rattle.rh_terms.specs.declared.term.Term.{Term}
-use Rattle.rh_terms.specs.Tree.{Tree, tree_of}
+use Rattle.rh_base.specs.declared.term.Term.{Term}
+use Rattle.rh_base.specs.Tree.{Tree, tree_of}
 use Rattle.rh_sections.specs.declared.fault.ClusterFault.{ClusterFault}
 use Rattle.rh_sections.specs.Faults.{in_turn, in_turn_if_list, list_faults, first}
 use Rattle.rh_sections.specs.Shapes.{as_list}

@@ -7,8 +7,8 @@ use Rattle.std.proofs.lemmas.List.{drop_more}
 use Rattle.std.proofs.lemmas.List.Concat.{flat_map-append}
 use Rattle.std.proofs.lemmas.List.Elements.{filter_map-append}
 use Rattle.std.proofs.lemmas.List.Folds.{list_any-append}
-use Rattle.rh_terms.specs.declared.term.Term.{Term}
-use Rattle.rh_terms.specs.Tree.{Tree, tree_of}
+use Rattle.rh_base.specs.declared.term.Term.{Term}
+use Rattle.rh_base.specs.Tree.{Tree, tree_of}
 use Rattle.rh_sections.specs.declared.fault.ClusterFault.{ClusterFault}
 use Rattle.rh_sections.specs.Faults.{in_turn, first}
 use Rattle.rh_sections.specs.Shapes.{as_atom, as_list, atoms}

@@ -1,6 +1,6 @@
 -- Terms and their trees.
 use Rattle.std.proofs.Common.{◌≡◌, List, [], ◌∷◌, refl, ap}
-use Rattle.rh_terms.specs.Tree.{Tree, trees_from, list_of_trees}
+use Rattle.rh_base.specs.Tree.{Tree, trees_from, list_of_trees}
 
 pub list_of_trees-trees_from : (ts : List Tree) → list_of_trees (trees_from ts) ≡ ts
 list_of_trees-trees_from [] = refl

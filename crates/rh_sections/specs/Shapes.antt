@@ -1,7 +1,7 @@
 -- What a term is seen as, where it has a certain shape.
 use Rattle.std.specs.Prelude.{ℕ, pos, ℤ, List, [], ◌∷◌, Option, Some, None, nat_le, codes, filter_map, if◌then◌else◌}
 use Rattle.std.specs.Str.{bytes_eq}
-use Rattle.rh_terms.specs.Tree.{Tree, atom, int, list, tuple, list_of_trees}
+use Rattle.rh_base.specs.Tree.{Tree, atom, int, list, tuple, list_of_trees}
 
 infixl 10 ◌>>=◌
 abbrev pub ◌>>=◌ : {A B : Type 0} → Option A → (A → Option B) → Option B

@@ -1,7 +1,7 @@
 //! The third stage: where a distributed application may run, as a list of groups.
 
 ghost use Rattle.std.specs.Prelude.{◌≡◌, [], ◌++◌, map, flat_map};
-ghost use Rattle.rh_terms.specs.Tree.{tree_of};
+ghost use Rattle.rh_base.specs.Tree.{tree_of};
 ghost use Rattle.rh_sections.specs.Faults.{Finds, in_turn};
 ghost use Rattle.rh_model.specs.Names.{is_among};
 ghost use Rattle.rh_sections.specs.Shapes.{atoms};
@@ -11,7 +11,7 @@ use crate::entries::{check_word, repeats_atom};
 use crate::fault::ClusterFault;
 use crate::shapes;
 use rh_model::Names;
-use rh_terms::Term;
+use rh_base::Term;
 
 /// The names of a group: the parts of a tuple, or the term itself.
 #[tactic(auto, unfolding(crate::specs::Sections::members))]

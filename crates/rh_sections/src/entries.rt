@@ -3,7 +3,7 @@
 ghost use Rattle.std.specs.Prelude.{◌≡◌, map, filter_map};
 ghost use Rattle.std.specs.List.{list_any};
 ghost use Rattle.std.specs.Option.{option_map};
-ghost use Rattle.rh_terms.specs.Tree.{tree_of};
+ghost use Rattle.rh_base.specs.Tree.{tree_of};
 ghost use Rattle.rh_sections.specs.Faults.{Finds};
 ghost use Rattle.rh_model.specs.Names.{is_among};
 ghost use Rattle.rh_sections.specs.Shapes.{atoms};
@@ -13,7 +13,7 @@ use crate::fault::ClusterFault;
 use crate::name_rule::is_name;
 use crate::shapes;
 use rh_model::Names;
-use rh_terms::Term;
+use rh_base::Term;
 
 // Is it an entry of this key?
 #[tactic(auto, unfolding(crate::specs::Sections::has_key))]

@@ -3,7 +3,8 @@
 ghost use Rattle.std.specs.Prelude.{◌≡◌};
 ghost use Rattle.rh_sections.specs.declared.fault.ClusterFault.TheVariants as cluster;
 
-use rh_terms::{OutOfMemory, Str, TermFault};
+use rh_base::{OutOfMemory, Str};
+use rh_terms::TermFault;
 use std::alloc::{AllocError, AllocFailed};
 
 /// Why a text is no cluster: the first fault of the first of four stages that has one. The stages look

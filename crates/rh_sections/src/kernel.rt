@@ -2,7 +2,7 @@
 
 ghost use Rattle.std.specs.Prelude.{◌≡◌, [], map, IfSome};
 ghost use Rattle.std.specs.Option.{option_map};
-ghost use Rattle.rh_terms.specs.Tree.{tree_of};
+ghost use Rattle.rh_base.specs.Tree.{tree_of};
 ghost use Rattle.rh_sections.specs.Faults.{Finds, in_turn, list_faults};
 ghost use Rattle.rh_model.specs.Limits.{IsWithinLimit};
 ghost use Rattle.rh_model.specs.Names.{is_among};
@@ -13,7 +13,7 @@ use crate::entries::{check_app_name, check_node_name, repeats_key};
 use crate::fault::ClusterFault;
 use crate::shapes;
 use rh_model::{Names, SyncWait};
-use rh_terms::Term;
+use rh_base::Term;
 
 /// Tests a list of node names.
 #[tactic(auto, unfolding(crate::specs::Faults::list_faults))]

@@ -2,7 +2,7 @@
 
 ghost use Rattle.std.specs.Prelude.{◌≡◌, [], ◌∷◌, ◌++◌, map, is_some, OnOk};
 ghost use Rattle.std.specs.List.{list_all};
-ghost use Rattle.rh_terms.specs.Tree.{tree_of};
+ghost use Rattle.rh_base.specs.Tree.{tree_of};
 ghost use Rattle.rh_sections.specs.Faults.{Finds, in_turn, list_faults};
 ghost use Rattle.rh_model.specs.Names.{is_among};
 ghost use Rattle.rh_sections.specs.Shapes.{atoms, as_entry};
@@ -12,7 +12,7 @@ use crate::entries::{check_word, repeats_key};
 use crate::fault::ClusterFault;
 use crate::shapes;
 use rh_model::{NameSet, Names};
-use rh_terms::Term;
+use rh_base::Term;
 use std::alloc::Global;
 
 // Tests a name of `applications`, and adds it to the earlier ones.

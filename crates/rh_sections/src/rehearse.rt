@@ -1,7 +1,7 @@
 //! The third stage: the parameters of `rehearse`.
 
 ghost use Rattle.std.specs.Prelude.{◌≡◌, [], map};
-ghost use Rattle.rh_terms.specs.Tree.{tree_of};
+ghost use Rattle.rh_base.specs.Tree.{tree_of};
 ghost use Rattle.rh_sections.specs.Faults.{Finds, in_turn, list_faults};
 ghost use Rattle.rh_model.specs.Names.{is_among};
 ghost use Rattle.rh_sections.specs.Sections.{as_restart, boot_faults, platform_faults, rehearse_keys, rehearse_faults, entry_faults};
@@ -10,7 +10,7 @@ use crate::entries::{check_app_name, check_word, repeats_atom, repeats_key};
 use crate::fault::ClusterFault;
 use crate::shapes;
 use rh_model::{Names, Restart};
-use rh_terms::Term;
+use rh_base::Term;
 
 /// The restart type that a word names.
 #[tactic(auto, unfolding(crate::specs::Sections::as_restart))]

@@ -1,7 +1,7 @@
 //! The third stage: the sections of a node, and each term.
 
 ghost use Rattle.std.specs.Prelude.{◌≡◌, [], map};
-ghost use Rattle.rh_terms.specs.Tree.{tree_of};
+ghost use Rattle.rh_base.specs.Tree.{tree_of};
 ghost use Rattle.rh_sections.specs.Faults.{Finds, in_turn, list_faults};
 ghost use Rattle.rh_model.specs.Names.{is_among};
 ghost use Rattle.rh_sections.specs.Sections.{section_keys, section_faults, entry_faults, parts_faults, parts_pass};
@@ -13,7 +13,7 @@ use crate::keys::check_keys;
 use crate::rehearse::check_rehearse;
 use crate::shapes;
 use rh_model::{NameSet, Names};
-use rh_terms::Term;
+use rh_base::Term;
 use std::alloc::Global;
 
 // Tests what a section holds.

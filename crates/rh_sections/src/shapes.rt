@@ -2,11 +2,11 @@
 
 ghost use Rattle.std.specs.Prelude.{◌≡◌, ◌≤◌, map, IfSome};
 ghost use Rattle.std.specs.Option.{option_map};
-ghost use Rattle.rh_terms.specs.Tree.{tree_of};
+ghost use Rattle.rh_base.specs.Tree.{tree_of};
 ghost use Rattle.rh_model.specs.Limits.{timeout_limit};
 ghost use Rattle.rh_sections.specs.Shapes.{as_atom, as_list, as_tuple, as_int, as_pair, as_triple, as_entry, as_headed, as_node, as_app, as_time};
 
-use rh_terms::Term;
+use rh_base::Term;
 
 /// The name that an atom is.
 #[tactic(auto, unfolding(crate::specs::Shapes::as_atom))]

@@ -8,7 +8,7 @@ use Rattle.rh_state.specs.Numbers.{same_app}
 use Rattle.rh_state.specs.Tables.{row}
 use Rattle.rh_state.specs.Lists.{has_app, without_app}
 use Rattle.rh_state.proofs.AppLists.{AreOnce-push}
-use Rattle.rh_place.proofs.Lists.{cases}
+use Rattle.rh_base.proofs.Lists.{cases}
 use Rattle.rh_settle.proofs.Places.{at_set, at_set_here, at_set_there, without_has, without_not, without_keeps, append_has, append_keeps, append_gives}
 
 pub same_number : (i j : ℕ) → nat_eq i j ≡ true → i ≡ j

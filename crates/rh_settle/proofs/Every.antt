@@ -1,7 +1,7 @@
 -- What holds of each element of a list.
 use Rattle.std.proofs.Common.{◌≡◌, Bool, true, false, cond, List, [], ◌∷◌, sym, ap, subst}
 use Rattle.std.specs.List.{filter}
-use Rattle.rh_place.proofs.Lists.{cases}
+use Rattle.rh_base.proofs.Lists.{cases}
 
 pub filter_no : {A : Type 0} (p : A → Bool) (x : A) (xs : List A) → p x ≡ false → filter p (x ∷ xs) ≡ filter p xs
 filter_no p x xs h = ap (λ b. cond b (x ∷ filter p xs) (filter p xs)) h

@@ -10,7 +10,7 @@ use Rattle.rh_state.specs.StateView.{StateView, runs_at, waits_at, is_allowed, s
 use Rattle.rh_place.specs.declared.choosing.Pick.TheVariants.{First}
 use Rattle.rh_place.specs.Picks.{picked}
 use Rattle.rh_place.specs.Placing.{is_operational, best, deps_run}
-use Rattle.rh_place.proofs.Lists.{cases}
+use Rattle.rh_base.proofs.Lists.{cases}
 use Rattle.rh_place.proofs.Nowhere.{none_chosen}
 use Rattle.rh_settle.specs.declared.notice.Move.TheVariants.{Local, Placement, Takeover}
 use Rattle.rh_settle.specs.declared.notice.Pair.{Pair}

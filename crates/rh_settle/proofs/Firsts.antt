@@ -1,8 +1,8 @@
 -- The moves of a set before which no other of it goes, and how a search for the first that is given finds them.
 use Rattle.std.proofs.Common.{◌≡◌, ℕ, ◌+◌, ◌<◌, ◌≤◌, ◌⊎◌, inl, inr, zero, suc, Bool, true, false, List, [], ◌∷◌, map, length, get_or, nat_eq, refl, sym, ap, ◌∙◌, arith, subst}
 use Rattle.std.specs.List.{Contains, range_with_len}
-use Rattle.rh_place.specs.Picks.{or_else, first_given}
-use Rattle.rh_place.proofs.Lists.{cases}
+use Rattle.rh_base.specs.Lists.{or_else, first_given}
+use Rattle.rh_base.proofs.Lists.{cases}
 use Rattle.rh_settle.specs.declared.notice.Move.{Move}
 use Rattle.rh_settle.proofs.Every.{Every}
 use Rattle.rh_settle.proofs.Entries.{both, same_number, other_number}

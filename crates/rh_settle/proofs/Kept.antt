@@ -14,7 +14,7 @@ use Rattle.rh_state.specs.Lists.{without_app}
 use Rattle.rh_state.specs.Shape.{IsShaped, IsNodeOf, IsStandingOf}
 use Rattle.rh_state.specs.StateView.{StateView, runs_at, waits_at, standing_of}
 use Rattle.rh_state.specs.Setters.{unlisted, with_running, with_waiting}
-use Rattle.rh_place.proofs.Lists.{cases}
+use Rattle.rh_base.proofs.Lists.{cases}
 use Rattle.rh_settle.specs.declared.notice.Move.{Move}
 use Rattle.rh_settle.specs.declared.notice.Move.TheVariants.{Local, Placement, Takeover}
 use Rattle.rh_settle.specs.Moves.{comes_before, with_started, with_stopped, moved_state}

@@ -4,8 +4,8 @@ use Rattle.rh_model.specs.declared.node.App.{App}
 use Rattle.rh_model.specs.ClusterView.{app_numbered}
 use Rattle.rh_state.specs.Numbers.{same_app}
 use Rattle.rh_state.specs.Lists.{has_app, next_app}
-use Rattle.rh_place.proofs.Lists.{cases}
-use Rattle.rh_place.specs.Picks.{or_else, first_given}
+use Rattle.rh_base.proofs.Lists.{cases}
+use Rattle.rh_base.specs.Lists.{or_else, first_given}
 use Rattle.rh_settle.proofs.Entries.{both, same_number}
 use Rattle.rh_settle.proofs.Searches.{same_some}
 use Rattle.rh_settle.proofs.Places.{same_refl, or_left, or_right}

@@ -9,8 +9,8 @@ use Rattle.rh_model.specs.ClusterView.{numbered, app_numbered}
 use Rattle.rh_state.specs.Numbers.{same_app}
 use Rattle.rh_state.specs.Lists.{has_app}
 use Rattle.rh_state.specs.StateView.{StateView, waiting_at}
-use Rattle.rh_place.specs.Picks.{or_else, first_given}
-use Rattle.rh_place.proofs.Lists.{cases}
+use Rattle.rh_base.specs.Lists.{or_else, first_given}
+use Rattle.rh_base.proofs.Lists.{cases}
 use Rattle.rh_settle.specs.declared.notice.Move.{Move}
 use Rattle.rh_settle.specs.declared.notice.Move.TheVariants.{Local}
 use Rattle.rh_settle.specs.Moves.{comes_before, can_start, local_move, local_moves}

@@ -8,7 +8,7 @@ use Rattle.rh_state.specs.declared.status.Standing.{Standing}
 use Rattle.rh_state.specs.declared.status.Standing.TheVariants.{Quiet, Wanted, Running, Lost}
 use Rattle.rh_state.specs.Numbers.{nodes_of, apps_of}
 use Rattle.rh_state.specs.StateView.{StateView, is_allowed, standing_of}
-use Rattle.rh_place.specs.Picks.{or_else, first_given}
+use Rattle.rh_base.specs.Lists.{or_else, first_given}
 use Rattle.rh_place.specs.Placing.{deps_run, is_operational, best, candidates}
 use Rattle.rh_settle.specs.declared.notice.Move.{Move}
 use Rattle.rh_settle.specs.declared.notice.Move.TheVariants.{Local, Placement, Takeover}

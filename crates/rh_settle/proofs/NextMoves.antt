@@ -11,7 +11,7 @@ use Rattle.rh_state.specs.declared.status.Mode.{Mode}
 use Rattle.rh_state.specs.declared.status.Mode.TheVariants.{Down}
 use Rattle.rh_state.specs.StateView.{StateView, mode_of, is_up, runs_at, is_started, is_allowed}
 use Rattle.rh_place.specs.Placing.{is_operational, deps_run}
-use Rattle.rh_place.proofs.Lists.{cases}
+use Rattle.rh_base.proofs.Lists.{cases}
 use Rattle.rh_settle.specs.declared.notice.Move.{Move}
 use Rattle.rh_settle.specs.declared.notice.Move.TheVariants.{Local, Placement, Takeover}
 use Rattle.rh_settle.specs.declared.notice.Pair.{Pair}

@@ -11,7 +11,7 @@ use Rattle.rh_state.specs.Lists.{has_app, without_app}
 use Rattle.rh_state.specs.declared.status.Place.TheVariants.{Off, InRunning, InWaiting}
 use Rattle.rh_state.specs.StateView.{StateView, runs_at, waits_at, is_started, place_of}
 use Rattle.rh_state.specs.Setters.{unlisted}
-use Rattle.rh_place.proofs.Lists.{cases}
+use Rattle.rh_base.proofs.Lists.{cases}
 use Rattle.rh_settle.proofs.Every.{filter_no, filter_yes}
 
 -- what a list holds after a write

@@ -11,7 +11,7 @@ use Rattle.rh_state.specs.Shape.{IsShaped, IsAppOf}
 use Rattle.rh_state.specs.Tables.{row}
 use Rattle.rh_state.specs.Lists.{has_app}
 use Rattle.rh_state.specs.StateView.{StateView, runs_at, is_started}
-use Rattle.rh_place.proofs.Lists.{cases}
+use Rattle.rh_base.proofs.Lists.{cases}
 use Rattle.rh_settle.specs.declared.notice.Move.{Move}
 use Rattle.rh_settle.specs.declared.notice.Move.TheVariants.{Local, Placement, Takeover}
 use Rattle.rh_settle.specs.Moves.{with_started, with_stopped, moved_state}

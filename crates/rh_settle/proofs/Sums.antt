@@ -1,7 +1,7 @@
 -- Sums over the numbers below another.
 use Rattle.std.proofs.Common.{◌≡◌, ℕ, ◌+◌, ◌*◌, ◌<◌, ◌≤◌, zero, suc, arith, false, nat_eq, subst}
 use Rattle.std.proofs.lemmas.Bool.Decides.{nat_tests}
-use Rattle.rh_place.proofs.Lists.{cases}
+use Rattle.rh_base.proofs.Lists.{cases}
 use Rattle.rh_settle.proofs.Entries.{same_number}
 
 abbrev pub sum_to : (ℕ → ℕ) → ℕ → ℕ

@@ -11,7 +11,7 @@ use Rattle.rh_state.specs.declared.status.Standing.TheVariants.{Quiet, Wanted, R
 use Rattle.rh_state.specs.Numbers.{nodes_of, apps_of, same_node}
 use Rattle.rh_state.specs.StateView.{StateView, waiting_at, is_allowed, standing_of}
 use Rattle.rh_state.specs.Setters.{with_running, with_waiting, with_kind, with_standing, unlisted}
-use Rattle.rh_place.specs.Picks.{or_else, first_given}
+use Rattle.rh_base.specs.Lists.{or_else, first_given}
 use Rattle.rh_place.specs.Placing.{deps_run, is_operational, best, candidates}
 use Rattle.rh_place.specs.Starting.{start_kind}
 use Rattle.rh_settle.specs.declared.notice.Move.{Move}

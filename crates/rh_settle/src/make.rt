@@ -14,7 +14,7 @@ use crate::notice::{Move, Notice};
 use rh_model::{App, Node};
 use rh_place::start_kind;
 use rh_state::{Kind, Standing, State};
-use rh_terms::OutOfMemory;
+use rh_base::OutOfMemory;
 
 // A pair that is started runs from now on.
 fn start_at(state: &mut State, node: Node, app: App, kind: Kind)

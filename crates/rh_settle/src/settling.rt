@@ -16,7 +16,7 @@ use crate::notice::{Notice, Pair};
 use crate::search::next_move;
 use rh_place::Pick;
 use rh_state::{Place, State};
-use rh_terms::OutOfMemory;
+use rh_base::OutOfMemory;
 
 // Makes next moves until there is none.
 fn make_moves(

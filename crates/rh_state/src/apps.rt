@@ -5,7 +5,7 @@ ghost use Rattle.rh_state.specs.Numbers.{same_app};
 ghost use Rattle.rh_state.specs.Lists.{has_app, without_app, next_app};
 
 use rh_model::App;
-use rh_terms::OutOfMemory;
+use rh_base::OutOfMemory;
 use std::alloc::Global;
 use std::marker::Model;
 

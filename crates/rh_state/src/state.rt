@@ -15,7 +15,7 @@ use crate::apps::{AppList, copies_of as copies_of_lists, empty_lists};
 use crate::status::{Kind, Mode, Standing};
 use crate::table::{Row, copies_of as copies_of_rows, rows_of};
 use rh_model::{App, Cluster, Node, Restart};
-use rh_terms::OutOfMemory;
+use rh_base::OutOfMemory;
 use rh_wheel::Wheel;
 use std::alloc::Global;
 use std::marker::Model;

@@ -14,7 +14,7 @@ use Rattle.rh_state.specs.declared.status.Standing.TheVariants.{Quiet, Wanted, R
 use Rattle.rh_state.specs.Numbers.{nodes_of, apps_of}
 use Rattle.rh_state.specs.StateView.{StateView, mode_of, is_alive, is_up, is_waiting, is_started, is_allowed, waiting_at, standing_of}
 use Rattle.rh_state.specs.Setters.{with_time}
-use Rattle.rh_place.specs.Picks.{or_else, first_given}
+use Rattle.rh_base.specs.Lists.{or_else, first_given}
 use Rattle.rh_place.specs.Placing.{dep_runs, deps_run, is_operational, best, candidates}
 use Rattle.rh_settle.specs.declared.notice.Move.TheVariants.{Local, Placement, Takeover}
 use Rattle.rh_settle.specs.declared.notice.Pair.{Pair}

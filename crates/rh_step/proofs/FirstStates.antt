@@ -16,7 +16,7 @@ use Rattle.rh_state.specs.Shape.{IsNodeOf}
 use Rattle.rh_state.specs.StateView.{mode_of, is_waiting, running_at, waiting_at, runs_at, waits_at, is_started, standing_of}
 use Rattle.rh_state.specs.Tables.{row}
 use Rattle.rh_state.proofs.FirstStates.{IsShaped-first}
-use Rattle.rh_place.specs.Picks.{or_else, first_given}
+use Rattle.rh_base.specs.Lists.{or_else, first_given}
 use Rattle.rh_settle.proofs.Searches.{length_nodes, node_there}
 use Rattle.rh_settle.specs.Moves.{local_move, local_moves, placements, placements_from, takeovers, takeovers_from, next_moves}
 use Rattle.rh_settle.specs.Soundness.{IsSized, TimersFit, IsSound, is_lost}

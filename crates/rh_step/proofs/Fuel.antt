@@ -16,7 +16,7 @@ use Rattle.rh_state.specs.Numbers.{same_node}
 use Rattle.rh_state.specs.Timers.{same_timer, without_timer}
 use Rattle.rh_state.specs.StateView.{StateView, mode_of, is_waiting, is_up, runs_at, standing_of, earliest}
 use Rattle.rh_place.specs.declared.choosing.Pick.{Pick}
-use Rattle.rh_place.proofs.Lists.{cases}
+use Rattle.rh_base.proofs.Lists.{cases}
 use Rattle.rh_settle.specs.Course.{Course}
 use Rattle.rh_settle.specs.Soundness.{IsSound}
 use Rattle.rh_events.specs.Readiness.{all_alive}

@@ -9,7 +9,7 @@ use Rattle.rh_state.specs.declared.status.Standing.TheVariants.{Quiet, Wanted, R
 use Rattle.rh_state.specs.Numbers.{same_node}
 use Rattle.rh_state.specs.Shape.{IsNodeOf}
 use Rattle.rh_state.specs.StateView.{StateView, is_allowed, runs_at, restart_of, standing_of}
-use Rattle.rh_place.proofs.Lists.{cases}
+use Rattle.rh_base.proofs.Lists.{cases}
 use Rattle.rh_settle.specs.declared.notice.Pair.{Pair}
 use Rattle.rh_settle.specs.Course.{Course, course}
 use Rattle.rh_settle.specs.Soundness.{IsSound}

@@ -21,7 +21,7 @@ use rh_events::{Event, boot, end, exit, let_ready_come_up, mark, permit, stop, t
 use rh_place::Pick;
 use rh_settle::{Notice, Pair, settle};
 use rh_state::State;
-use rh_terms::OutOfMemory;
+use rh_base::OutOfMemory;
 use std::alloc::Global;
 
 /// Makes an event that isn't refused, and adds what follows from it behind the earlier notices. Each tie goes to the pick.

@@ -21,7 +21,7 @@ use rh_model::{App, Node};
 use rh_place::Pick;
 use rh_settle::{Notice, Pair};
 use rh_state::{Standing, State, Timer};
-use rh_terms::OutOfMemory;
+use rh_base::OutOfMemory;
 use std::alloc::Global;
 
 /// So many milliseconds pass.

@@ -10,7 +10,7 @@ use Rattle.std.proofs.lemmas.Bool.{eqb-true}
 use Rattle.std.proofs.lemmas.Bool.Decides.{nat_tests}
 use Rattle.rh_terms.specs.Bytes.{past, past_blank, begins, is_lower, is_white, is_name, is_digit}
 use Rattle.rh_terms.specs.Tokens.{escape, quoted}
-use Rattle.rh_terms.specs.Tree.{Tree}
+use Rattle.rh_base.specs.Tree.{Tree}
 use Rattle.rh_terms.specs.Grammar.{term_at, next_at, dot_at}
 use Rattle.rh_terms.specs.Spelling.{IsQuoted, Spells}
 use Rattle.rh_terms.proofs.Spelled.{quoted_is, Quoted, term_spelled, next_more, next_last, begins_is}

@@ -3,7 +3,7 @@ use Rattle.std.proofs.Common.{◌≡◌, ◌<◌, ◌≤◌, ℕ, zero, suc, Lis
 use Rattle.rh_terms.specs.declared.fault.Fault.{Fault}
 use Rattle.rh_terms.specs.Bytes.{past_blank}
 use Rattle.rh_terms.specs.Faults.{◌>>=◌, Read, under, stuck}
-use Rattle.rh_terms.specs.Tree.{Tree, Trees, none, more}
+use Rattle.rh_base.specs.Tree.{Tree, Trees, none, more}
 use Rattle.rh_terms.specs.Grammar.{word_at, term_by, next_at, some_terms, term_at, dot_at, dotted}
 use Rattle.rh_terms.proofs.Spelled.{term_spelled}
 use Rattle.rh_terms.proofs.Whole.{dot_is}

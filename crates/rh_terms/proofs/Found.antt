@@ -14,7 +14,7 @@ use Rattle.rh_terms.specs.declared.fault.TermFault.TheVariants as faults
 use Rattle.rh_terms.specs.Bytes.{past, past_blank, begins, is_white, is_lower, is_digit, is_end, is_unsupported}
 use Rattle.rh_terms.specs.Faults.{◌>>=◌, Read, under, stuck}
 use Rattle.rh_terms.specs.Tokens.{escape, quoted, with_byte, number, fits, signed, is_other_number, digits_at, integer_at, name_at, quoted_atom_at, text_at}
-use Rattle.rh_terms.specs.Tree.{Tree, Trees, atom, int, text, list, tuple, none, more}
+use Rattle.rh_base.specs.Tree.{Tree, Trees, atom, int, text, list, tuple, none, more}
 use Rattle.rh_terms.specs.Grammar.{word_at, term_by, next_at, some_terms, terms_up_to, inside, term_at, dot_at, dotted, terms_from, line_at, told, terms_of}
 use Rattle.rh_terms.specs.Constructs.{IsConstruct, HasConstruct}
 use Rattle.rh_terms.proofs.Cut.{and_is}

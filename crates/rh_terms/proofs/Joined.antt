@@ -1,9 +1,9 @@
 -- What was read before, and what is still read.
 use Rattle.std.proofs.Common.{◌≡◌, ℕ, List, [], ◌∷◌, ◌++◌, Result, Ok, Err, refl, sym, ap}
 use Rattle.rh_terms.specs.declared.fault.Fault.{Fault}
-use Rattle.rh_terms.specs.declared.term.Term.{Term}
+use Rattle.rh_base.specs.declared.term.Term.{Term}
 use Rattle.rh_terms.specs.Faults.{◌>>=◌, Read, under}
-use Rattle.rh_terms.specs.Tree.{Tree, Trees, none, more, trees_of, tree_of}
+use Rattle.rh_base.specs.Tree.{Tree, Trees, none, more, trees_of, tree_of}
 use Rattle.rh_terms.specs.Nest.{join, with_trees, after_trees}
 
 -- what was read, behind these bytes

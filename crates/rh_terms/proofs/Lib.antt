@@ -3,7 +3,6 @@ pub mod Joined
 pub mod Told
 pub mod Spelled
 pub mod Whole
-pub mod Trees
 pub mod Cut
 pub mod Read
 pub mod Found

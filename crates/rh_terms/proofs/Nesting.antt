@@ -5,13 +5,13 @@ use Rattle.rh_terms.specs.declared.fault.Fault.{Fault}
 use Rattle.rh_terms.specs.declared.fault.Fault.TheVariants.{TooDeep}
 use Rattle.rh_terms.specs.declared.fault.ReadError.{ReadError}
 use Rattle.rh_terms.specs.declared.fault.ReadError.TheVariants as errors
-use Rattle.rh_terms.specs.declared.term.Term.{Term}
+use Rattle.rh_base.specs.declared.term.Term.{Term}
 use Rattle.rh_terms.specs.declared.nest.Shape.{Shape}
 use Rattle.rh_terms.specs.declared.nest.Shape.TheVariants as shapes
 use Rattle.rh_terms.specs.declared.nest.Bracket.{Bracket}
 use Rattle.rh_terms.specs.Bytes.{past_blank, begins}
 use Rattle.rh_terms.specs.Faults.{◌>>=◌, Read, under, Fails, stuck}
-use Rattle.rh_terms.specs.Tree.{Tree, Trees, none, more, trees_of, tree_of}
+use Rattle.rh_base.specs.Tree.{Tree, Trees, none, more, trees_of, tree_of}
 use Rattle.rh_terms.specs.Grammar.{word_at, term_by, next_at, some_terms, terms_up_to, inside, term_at, dot_at, dotted, terms_from}
 use Rattle.rh_terms.specs.Nest.{opening, closing, tree_in, join, with_trees, after_trees, elements, in_bracket, climb, ended, going}
 use Rattle.rh_terms.proofs.Joined.{join-none, trees-push, with-trees-none, with-trees-more, after-trees-more}

@@ -7,14 +7,14 @@ use Rattle.rh_terms.specs.declared.fault.Fault.{Fault}
 use Rattle.rh_terms.specs.declared.fault.Fault.TheVariants.{Unsupported, IntRange}
 use Rattle.rh_terms.specs.Bytes.{past, past_blank, begins, is_white}
 use Rattle.rh_terms.specs.Faults.{◌>>=◌, Read, under, stuck}
-use Rattle.rh_terms.specs.Tree.{Tree, Trees, none, more, list, tuple}
+use Rattle.rh_base.specs.Tree.{Tree, Trees, none, more, list, tuple}
 use Rattle.rh_terms.specs.Grammar.{word_at, term_by, next_at, some_terms, terms_up_to, inside, term_at}
 use Rattle.std.specs.List.{prefix_len}
 use Rattle.std.proofs.lemmas.List.{take-append-drop}
 use Rattle.std.proofs.lemmas.List.Folds.{length-prefix_len}
 use Rattle.std.proofs.lemmas.Bool.Decides.{nat_tests}
 use Rattle.rh_terms.specs.Bytes.{is_lower, is_name, is_digit}
-use Rattle.rh_terms.specs.Tree.{atom, int, text}
+use Rattle.rh_base.specs.Tree.{atom, int, text}
 use Rattle.rh_terms.specs.Tokens.{escape, quoted, with_byte, number, fits, signed, is_other_number, digits_at, integer_at, name_at, quoted_atom_at, text_at}
 use Rattle.rh_terms.specs.Spelling.{IsQuoted, InLine, IsBlank, Spells, IsInside, AreSeparated}
 

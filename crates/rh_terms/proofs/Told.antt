@@ -8,7 +8,7 @@ use Rattle.rh_terms.specs.declared.fault.ReadError.{ReadError}
 use Rattle.rh_terms.specs.declared.fault.ReadError.TheVariants as errors
 use Rattle.rh_terms.specs.declared.fault.TermFault.{TermFault}
 use Rattle.rh_terms.specs.declared.fault.TermFault.TheVariants as faults
-use Rattle.rh_terms.specs.declared.term.Terms.{Terms}
+use Rattle.rh_base.specs.declared.term.Terms.{Terms}
 use Rattle.rh_terms.specs.Constructs.{HasConstruct}
 use Rattle.rh_terms.specs.Spelling.{AreDotted}
 use Rattle.rh_terms.proofs.Read.{dotted_read}
@@ -16,7 +16,7 @@ use Rattle.rh_terms.proofs.Enough.{dotted_enough, blank_length}
 use Rattle.rh_terms.proofs.Found.{unsupported_is_there}
 use Rattle.rh_terms.specs.Bytes.{past_blank}
 use Rattle.rh_terms.specs.Faults.{Fails}
-use Rattle.rh_terms.specs.Tree.{Trees}
+use Rattle.rh_base.specs.Tree.{Trees}
 use Rattle.rh_terms.specs.Grammar.{dotted, terms_from, terms_of, fault_in, fault_told, FaultIs}
 
 pub told_terms : (bytes : List ℕ) (ts : Trees) → is_utf8 bytes ≡ true → terms_from (past_blank bytes) ≡ Ok ts → terms_of bytes ≡ Ok ts

@@ -5,7 +5,7 @@ use Rattle.std.proofs.lemmas.Bool.{eqb-true}
 use Rattle.rh_terms.specs.declared.fault.Fault.{Fault}
 use Rattle.rh_terms.specs.Bytes.{past, past_blank, begins, is_white, is_end}
 use Rattle.rh_terms.specs.Faults.{◌>>=◌, stuck}
-use Rattle.rh_terms.specs.Tree.{Trees, none, more}
+use Rattle.rh_base.specs.Tree.{Trees, none, more}
 use Rattle.rh_terms.specs.Grammar.{term_at, dot_at, dotted}
 use Rattle.std.proofs.lemmas.List.{append-nil}
 use Rattle.rh_terms.specs.Spelling.{InLine, IsBlank, AreDotted}

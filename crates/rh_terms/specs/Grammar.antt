@@ -11,8 +11,8 @@ use Rattle.rh_terms.specs.declared.fault.TermFault.TheVariants as faults
 use Rattle.rh_terms.specs.Bytes.{is_lower, is_digit, is_end, begins, past_blank}
 use Rattle.rh_terms.specs.Faults.{◌>>=◌, Read, under, stuck}
 use Rattle.rh_terms.specs.Tokens.{name_at, quoted_atom_at, text_at, integer_at}
-use Rattle.rh_terms.specs.Tree.{Tree, Trees, list, tuple, none, more, trees_of, items_of}
-use Rattle.rh_terms.specs.declared.term.Terms.{Terms}
+use Rattle.rh_base.specs.Tree.{Tree, Trees, list, tuple, none, more, trees_of, items_of}
+use Rattle.rh_base.specs.declared.term.Terms.{Terms}
 
 -- A term that is no list and no tuple, as its first byte tells (Reference Manual, Data Types).
 unfoldable pub word_at : List ℕ → Read Tree

@@ -1,6 +1,4 @@
-pub mod Letters
 pub mod Bytes
-pub mod Tree
 pub mod Faults
 pub mod Tokens
 pub mod Grammar

@@ -1,14 +1,14 @@
 -- What the definition gives for a text of which a part was read, while some lists and tuples are still open (ours).
 use Rattle.std.specs.Prelude.{ℕ, ◌-◌, List, [], ◌∷◌, length, Result, Ok, if◌then◌else◌}
 use Rattle.rh_terms.specs.declared.fault.Fault.{Fault}
-use Rattle.rh_terms.specs.declared.term.Term.{Term}
+use Rattle.rh_base.specs.declared.term.Term.{Term}
 use Rattle.rh_terms.specs.declared.nest.Shape.{Shape}
 use Rattle.rh_terms.specs.declared.nest.Shape.TheVariants as shapes
 use Rattle.rh_terms.specs.declared.nest.Bracket.{Bracket}
 use Rattle.rh_terms.specs.declared.nest.Nest.{Nest}
 use Rattle.rh_terms.specs.Bytes.{past_blank}
 use Rattle.rh_terms.specs.Faults.{◌>>=◌, Read, under}
-use Rattle.rh_terms.specs.Tree.{Tree, Trees, list, tuple, none, more, trees_of}
+use Rattle.rh_base.specs.Tree.{Tree, Trees, list, tuple, none, more, trees_of}
 use Rattle.rh_terms.specs.Grammar.{next_at, some_terms, term_at, dot_at, terms_from}
 
 -- the byte that opens a list or a tuple

@@ -4,7 +4,7 @@ use Rattle.std.specs.Prelude.{◌≡◌, ◌<◌, ℕ, suc, List, [], ◌∷◌,
 use Rattle.std.specs.List.{list_all}
 use Rattle.rh_terms.specs.Bytes.{is_white, is_digit, is_lower, is_name, is_end, begins}
 use Rattle.rh_terms.specs.Tokens.{escape, number, fits, signed}
-use Rattle.rh_terms.specs.Tree.{Tree, Trees, atom, int, text, list, tuple, none, more}
+use Rattle.rh_base.specs.Tree.{Tree, Trees, atom, int, text, list, tuple, none, more}
 
 -- bytes within a line
 abbrev pub InLine : List ℕ → Type 0

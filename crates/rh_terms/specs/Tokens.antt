@@ -6,7 +6,7 @@ use lib.IntN.{neg_ℤ}
 use Rattle.rh_terms.specs.declared.fault.Fault.TheVariants.{Syntax, Unsupported, IntRange}
 use Rattle.rh_terms.specs.Bytes.{is_name, is_digit, begins, past_blank}
 use Rattle.rh_terms.specs.Faults.{◌>>=◌, Read, stuck}
-use Rattle.rh_terms.specs.Tree.{Tree, atom, int, text}
+use Rattle.rh_base.specs.Tree.{Tree, atom, int, text}
 
 -- What a `\` and the byte behind it stand for (Reference Manual, Data Types, Escape Sequences; the others are left out, which is ours).
 abbrev pub escape : ℕ → Option ℕ

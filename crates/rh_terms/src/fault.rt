@@ -1,28 +1,9 @@
-ghost use Rattle.std.specs.Prelude.{◌≡◌, ⊤};
+ghost use Rattle.std.specs.Prelude.{◌≡◌};
 ghost use Rattle.rh_terms.specs.declared.fault.ReadError.TheVariants.{Memory};
 ghost use Rattle.rh_terms.specs.declared.fault.TermFault.TheVariants as faults;
 
+use rh_base::OutOfMemory;
 use std::alloc::{AllocError, AllocFailed};
-
-/// A growth was refused. Nothing has changed.
-#[derive(Clone, Copy, Debug, PartialEq, Eq)]
-pub struct OutOfMemory;
-
-impl From<AllocError> for OutOfMemory {
-    ghost from_gives = { λ _ _. ⊤ };
-
-    fn from(_error: AllocError) -> OutOfMemory {
-        OutOfMemory
-    }
-}
-
-impl<T: Drop> From<AllocFailed<T>> for OutOfMemory {
-    ghost from_gives = { λ _ _. ⊤ };
-
-    fn from(_error: AllocFailed<T>) -> OutOfMemory {
-        OutOfMemory
-    }
-}
 
 /// Why a text is no list of terms: its first fault from left to right. Lines count from 1.
 #[derive(Clone, Copy, Debug, PartialEq, Eq)]

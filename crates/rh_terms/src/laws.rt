@@ -1,7 +1,7 @@
 ghost use Rattle.std.specs.Prelude.{◌≡◌, ◌≤◌, List, ℕ, length};
 ghost use Rattle.rh_terms.specs.Grammar.{dotted, some_terms, term_at};
 ghost use Rattle.rh_terms.specs.Spelling.{AreDotted};
-ghost use Rattle.rh_terms.specs.Tree.{Trees};
+ghost use Rattle.rh_base.specs.Tree.{Trees};
 
 /// The law that no text has two readings.
 pub fn one_reading()

@@ -18,12 +18,8 @@ mod marks;
 mod nest;
 mod reading;
 mod shown;
-mod term;
-mod text;
 mod tokens;
 
-pub use fault::{OutOfMemory, TermFault};
+pub use fault::TermFault;
 pub use laws::{bounds_are_never_met, one_reading};
 pub use reading::read_terms;
-pub use term::{Term, Terms};
-pub use text::Str;

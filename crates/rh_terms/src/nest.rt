@@ -3,12 +3,12 @@ ghost use Rattle.std.specs.Str.{IsUtf8};
 ghost use Rattle.rh_terms.specs.Faults.{Fails, Gives};
 ghost use Rattle.rh_terms.specs.Grammar.{term_at};
 ghost use Rattle.rh_terms.specs.Nest.{opening, closing, tree_in, ended_in, going_in};
-ghost use Rattle.rh_terms.specs.Tree.{tree_of, trees_of};
+ghost use Rattle.rh_base.specs.Tree.{tree_of, trees_of};
 
 use crate::bytes::{begins_with, skip_blank};
 use crate::fault::{Fault, ReadError};
 use crate::marks::{dot_of, next_of};
-use crate::term::{Term, Terms};
+use rh_base::{Term, Terms};
 use crate::tokens::word_of;
 use std::alloc::Global;
 

@@ -4,12 +4,12 @@ ghost use Rattle.rh_terms.specs.Constructs.{HasConstruct};
 ghost use Rattle.rh_terms.specs.Faults.{Gives};
 ghost use Rattle.rh_terms.specs.Grammar.{terms_from, line_at, terms_of, Tells, fault_told};
 ghost use Rattle.rh_terms.specs.Spelling.{AreDotted};
-ghost use Rattle.rh_terms.specs.Tree.{Trees, trees_of, items_of};
+ghost use Rattle.rh_base.specs.Tree.{Trees, trees_of, items_of};
 
 use crate::bytes::skip_blank;
 use crate::fault::{Fault, ReadError, TermFault};
 use crate::nest::Nest;
-use crate::term::{Term, Terms};
+use rh_base::{Term, Terms};
 use std::alloc::Global;
 
 /// The terms from the first one on.

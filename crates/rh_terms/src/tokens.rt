@@ -5,12 +5,12 @@ ghost use Rattle.rh_terms.specs.Bytes.{is_digit, is_name};
 ghost use Rattle.rh_terms.specs.Faults.{Gives};
 ghost use Rattle.rh_terms.specs.Tokens.{escape, is_plain, quoted, number, digits_at, integer_at, name_at, quoted_atom_at, text_at, is_other_number, signed, fits, IsAtMost};
 ghost use Rattle.rh_terms.specs.Grammar.{word_at};
-ghost use Rattle.rh_terms.specs.Tree.{tree_of};
+ghost use Rattle.rh_base.specs.Tree.{tree_of};
 
 use crate::bytes::{begins_with, is_digit_byte, is_lower_byte, is_name_byte, skip_blank, stuck_at};
 use crate::fault::{Fault, ReadError};
-use crate::term::Term;
-use crate::text::{Str, text_of_bytes, text_of_vec};
+use rh_base::Term;
+use rh_base::{Str, text_of_bytes, text_of_vec};
 use std::alloc::Global;
 
 fn escaped(b: u8) -> Option<u8>

@@ -1,6 +1,7 @@
 //! Terms: what is read of each construct, copies, and terms made by hand.
 
-use rh_terms::{Str, Term, Terms, read_terms};
+use rh_base::{Str, Term, Terms};
+use rh_terms::read_terms;
 use std::alloc::{AllocError, Global};
 use std::process::Abort;
 

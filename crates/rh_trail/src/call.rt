@@ -3,7 +3,7 @@
 ghost use Rattle.std.specs.Prelude.{◌≡◌, ◌↔◌, IsTrue, IfOk};
 
 use rh_step::{Event, Notices, Refusal};
-use rh_terms::OutOfMemory;
+use rh_base::OutOfMemory;
 use std::alloc::Global;
 use std::marker::Model;
 

@@ -8,7 +8,7 @@ mod moves;
 use rh_model::Cluster;
 use rh_state::{State, first_state};
 use rh_step::{Event, Pick};
-use rh_terms::OutOfMemory;
+use rh_base::OutOfMemory;
 use std::alloc::Global;
 use std::marker::Model;
 

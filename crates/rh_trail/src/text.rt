@@ -17,7 +17,7 @@ use crate::text::apps::push_apps;
 use crate::text::nodes::push_node_lines;
 use rh_model::{Cluster, Node};
 use rh_state::{State, Timer};
-use rh_terms::OutOfMemory;
+use rh_base::OutOfMemory;
 use std::alloc::Global;
 
 /// The report: a line with the time in milliseconds; for each node in node order its line, and below it what runs there,

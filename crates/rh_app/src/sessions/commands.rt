@@ -8,7 +8,7 @@ ghost use Rattle.rh_app.specs.Scripts.{IsScriptOf, AreNumbered};
 use rh_cluster::Cluster;
 use rh_room::Room;
 use rh_script::{Command, SessionLine, content, session_line_of, split_line};
-use rh_terms::OutOfMemory;
+use rh_base::OutOfMemory;
 use std::alloc::Global;
 
 /// The commands of a script.

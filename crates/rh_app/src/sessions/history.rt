@@ -15,7 +15,7 @@ use rh_cluster::Cluster;
 use rh_room::{Closed, Entry};
 use rh_script::{answer_text, command_text};
 use rh_state::State;
-use rh_terms::OutOfMemory;
+use rh_base::OutOfMemory;
 use rh_trail::report;
 use std::alloc::Global;
 use std::io::Write;

@@ -14,7 +14,7 @@ use rh_cluster::Cluster;
 use rh_room::{Closed, Entry, Pass, Room, RoomFault, Shared, close, open_room};
 use rh_script::Command;
 use rh_step::Pick;
-use rh_terms::OutOfMemory;
+use rh_base::OutOfMemory;
 use std::alloc::Global;
 use std::sync::{Mutex, Wait};
 use std::thread;

@@ -11,7 +11,7 @@ ghost use Rattle.std.specs.Prelude.{slice_get};
 use crate::status::{Kind, Mode, Place, Standing};
 use crate::state::State;
 use rh_model::{App, Cluster, Node, Restart};
-use rh_terms::OutOfMemory;
+use rh_base::OutOfMemory;
 use std::alloc::Global;
 
 impl State {

@@ -11,7 +11,7 @@ ghost use Rattle.rh_state.specs.Stored.{read};
 use crate::status::Timer;
 use crate::state::State;
 use rh_model::{App, Node};
-use rh_terms::OutOfMemory;
+use rh_base::OutOfMemory;
 use std::alloc::Global;
 
 impl State {

@@ -17,7 +17,7 @@ use crate::sim::{AtEnd, AtStart, Sim};
 use crate::text::report;
 use rh_state::State;
 use rh_step::{Event, Notice, Notices, Pick, Refusal, perform, refusal_of};
-use rh_terms::OutOfMemory;
+use rh_base::OutOfMemory;
 use std::alloc::Global;
 
 impl Sim {

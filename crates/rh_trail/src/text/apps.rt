@@ -10,7 +10,7 @@ ghost use Rattle.rh_trail.specs.Report.{app_line, app_lines};
 use crate::text::words::push_standing;
 use rh_model::App;
 use rh_state::State;
-use rh_terms::OutOfMemory;
+use rh_base::OutOfMemory;
 
 // Adds the line of each distributed application.
 #[tactic(auto, unfolding(rh_state::specs::Numbers::apps_of))]

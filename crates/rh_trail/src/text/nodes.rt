@@ -12,7 +12,7 @@ ghost use Rattle.rh_trail.specs.Report.{node_line, running_line, waiting_line, f
 use crate::text::words::{mode_word, push_kind, restart_word};
 use rh_model::{App, Cluster, Node};
 use rh_state::State;
-use rh_terms::OutOfMemory;
+use rh_base::OutOfMemory;
 use std::alloc::Global;
 
 // Adds the lines of a node.

@@ -7,7 +7,7 @@ ghost use Rattle.rh_trail.specs.Report.{mode_words, restart_words, kind_words, s
 
 use rh_model::{Cluster, Restart};
 use rh_state::{Kind, Mode, Standing};
-use rh_terms::OutOfMemory;
+use rh_base::OutOfMemory;
 
 // A mode as a word.
 pub(crate) fn mode_word(mode: Mode) -> &'static str

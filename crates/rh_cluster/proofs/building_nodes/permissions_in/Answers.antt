@@ -1,6 +1,6 @@
 use Rattle.std.proofs.Common.{◌∙◌, ◌++◌, ◌∷◌, [], ℕ, List, Bool, not, map, sym, arith}
 use Rattle.std.specs.List.{list_any}
-use Rattle.rh_terms.specs.Tree.{tree_of}
+use Rattle.rh_base.specs.Tree.{tree_of}
 use Rattle.rh_cluster.specs.Values.{forbids}
 use Rattle.rh_cluster.proofs.Alike.{map_more}
 use Rattle.rh_cluster.proofs.building_nodes.permissions_in.Goals as goal

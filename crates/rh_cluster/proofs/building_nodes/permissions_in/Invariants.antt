@@ -1,6 +1,6 @@
 use Rattle.std.proofs.Common.{◌≡◌, not, map, take}
 use Rattle.std.specs.List.{list_any}
-use Rattle.rh_terms.specs.Tree.{tree_of}
+use Rattle.rh_base.specs.Tree.{tree_of}
 use Rattle.rh_cluster.specs.Values.{forbids}
 use Rattle.rh_cluster.proofs.building_nodes.permissions_in.Given as goal
 

@@ -1,5 +1,5 @@
 use Rattle.std.proofs.Common.{◌∙◌, ◌++◌, ◌∷◌, [], ◌||◌, ℕ, List, Bool, map, sym, arith}
-use Rattle.rh_terms.specs.Tree.{tree_of}
+use Rattle.rh_base.specs.Tree.{tree_of}
 use Rattle.rh_model.specs.Names.{is_among}
 use Rattle.rh_cluster.specs.Headers.{every_platform}
 use Rattle.rh_sections.specs.Shapes.{atoms}

@@ -1,6 +1,6 @@
 use Rattle.std.proofs.Common.{◌≡◌, map, take}
 use Rattle.std.specs.Prelude.{filter_map}
-use Rattle.rh_terms.specs.Tree.{tree_of}
+use Rattle.rh_base.specs.Tree.{tree_of}
 use Rattle.rh_cluster.specs.Values.{share_of}
 use Rattle.rh_cluster.proofs.building_shares.shares_of.Given as goal
 

@@ -1,6 +1,6 @@
 use Rattle.std.proofs.Common.{◌≡◌, ◌≤◌, map, take, length, fold}
 use Rattle.std.specs.Prelude.{flat_map}
-use Rattle.rh_terms.specs.Tree.{tree_of}
+use Rattle.rh_base.specs.Tree.{tree_of}
 use Rattle.rh_cluster.specs.Values.{with_platforms, platform_in_entry}
 use Rattle.rh_cluster.proofs.gathering.add_entries.Given as goal
 

@@ -1,6 +1,6 @@
 use Rattle.std.proofs.Common.{◌≡◌, ◌∙◌, ◌++◌, ◌∷◌, [], List, map, take, sym, ap, refl, arith}
 use Rattle.std.proofs.lemmas.Result.{err_from_is_err_and}
-use Rattle.rh_terms.specs.Tree.{Tree, tree_of}
+use Rattle.rh_base.specs.Tree.{Tree, tree_of}
 use Rattle.rh_sections.specs.declared.fault.ClusterFault.{ClusterFault}
 use Rattle.rh_cluster.specs.Headers.{header_faults, node_names, app_names, headers_pass}
 use Rattle.rh_cluster.proofs.OneHeader.{node_names-append, app_names-append}

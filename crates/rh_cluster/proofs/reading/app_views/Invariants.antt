@@ -1,5 +1,5 @@
 use Rattle.std.proofs.Common.{◌≡◌, ℕ, List, map, take}
-use Rattle.rh_terms.specs.Tree.{Tree, tree_of}
+use Rattle.rh_base.specs.Tree.{Tree, tree_of}
 use Rattle.rh_cluster.specs.Headers.{apps_in}
 use Rattle.rh_cluster.specs.Values.{app_view}
 use Rattle.rh_cluster.proofs.reading.app_views.Given as goal

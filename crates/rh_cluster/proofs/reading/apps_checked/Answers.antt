@@ -1,5 +1,5 @@
 use Rattle.std.proofs.Common.{◌≡◌, ◌∙◌, length, map, sym, ap, arith}
-use Rattle.rh_terms.specs.Tree.{tree_of}
+use Rattle.rh_base.specs.Tree.{tree_of}
 use Rattle.rh_model.specs.Names.{NamesView}
 use Rattle.rh_cluster.proofs.Counts.{length-node_views, length-all_shares}
 use Rattle.rh_cluster.proofs.reading.apps_checked.Goals as goal

@@ -1,6 +1,6 @@
 use Rattle.std.proofs.Common.{◌≡◌, ◌∙◌, length, map, sym, ap, subst}
 use Rattle.std.proofs.lemmas.Result.{err_from_is_err_and}
-use Rattle.rh_terms.specs.Tree.{tree_of}
+use Rattle.rh_base.specs.Tree.{tree_of}
 use Rattle.rh_model.specs.ClusterView.{IsWithin}
 use Rattle.rh_model.specs.Names.{NamesView}
 use Rattle.rh_cluster.specs.Agreement.{agreed_shares}

@@ -1,5 +1,5 @@
 use Rattle.std.proofs.Common.{◌≡◌, ℕ, List, map, take}
-use Rattle.rh_terms.specs.Tree.{Tree, tree_of}
+use Rattle.rh_base.specs.Tree.{Tree, tree_of}
 use Rattle.rh_cluster.specs.Headers.{nodes_in}
 use Rattle.rh_cluster.specs.Values.{node_view}
 use Rattle.rh_cluster.proofs.reading.node_views.Given as goal

@@ -1,8 +1,8 @@
 use Rattle.std.proofs.Common.{◌∙◌, List, Result, Ok, map, sym, ap}
 use Rattle.std.proofs.lemmas.Result.{err_from_is_err_and}
 use Rattle.rh_terms.specs.declared.fault.TermFault.{TermFault}
-use Rattle.rh_terms.specs.declared.term.Term.{Term}
-use Rattle.rh_terms.specs.Tree.{Trees, tree_of, trees_of}
+use Rattle.rh_base.specs.declared.term.Term.{Term}
+use Rattle.rh_base.specs.Tree.{Trees, tree_of, trees_of}
 use Rattle.rh_cluster.proofs.Exact.{read_gives, no_terms}
 use Rattle.rh_cluster.proofs.reading.read_cluster.Goals as goal
 

@@ -1,5 +1,5 @@
 use Rattle.std.proofs.Common.{ap}
-use Rattle.rh_terms.specs.Tree.{tree_of}
+use Rattle.rh_base.specs.Tree.{tree_of}
 use Rattle.rh_model.specs.TermSymbols.{symbols_of}
 use Rattle.rh_model.proofs.Prefix.{symbols_told}
 use Rattle.rh_model.proofs.app_settings.same_argument.Goals as goal

@@ -3,7 +3,8 @@ use Rattle.std.specs.List.{filter}
 use Rattle.rh_model.specs.declared.node.Node.{Node}
 use Rattle.rh_state.specs.StateView.{running_count}
 use Rattle.rh_state.specs.Stored.{read}
-use Rattle.rh_place.specs.Picks.{lightest, picked}
+use Rattle.rh_base.specs.Lists.{lightest}
+use Rattle.rh_place.specs.Picks.{picked}
 use Rattle.rh_place.specs.Placing.{best}
 use Rattle.rh_place.specs.Sets.{has}
 use Rattle.rh_place.proofs.Nowhere.{none_chosen}

@@ -4,9 +4,9 @@ use Rattle.std.specs.Option.{option_map}
 use Rattle.rh_model.specs.declared.settings.Spread.{Spread}
 use Rattle.rh_model.specs.ClusterView.{ClusterView}
 use Rattle.rh_place.specs.Sets.{has}
-use Rattle.rh_place.specs.Picks.{first_given}
+use Rattle.rh_base.specs.Lists.{first_given}
 use Rattle.rh_place.specs.Placing.{groups_of}
-use Rattle.rh_place.proofs.Lists.{first_meeting, none_meets}
+use Rattle.rh_base.proofs.Lists.{first_meeting, none_meets}
 use Rattle.rh_place.proofs.choosing.first_group.Goals as goal
 
 pub returns-in-Some-place_meeting-clause-first : goal.returns-in-Some-place_meeting-clause-first

@@ -3,7 +3,7 @@ use Rattle.std.specs.List.{filter}
 use Rattle.rh_state.specs.StateView.{running_count}
 use Rattle.rh_state.specs.Stored.{read}
 use Rattle.rh_place.specs.Sets.{has}
-use Rattle.rh_place.proofs.Lists.{smallest}
+use Rattle.rh_base.proofs.Lists.{smallest}
 use Rattle.rh_place.proofs.choosing.least_count.Given as goal
 
 abbrev pub invariant-nodes : goal.invariant-nodes

@@ -8,7 +8,8 @@ use Rattle.rh_state.specs.Shape.{IsNodeOf}
 use Rattle.rh_state.specs.Stored.{read}
 use Rattle.rh_place.specs.Sets.{has}
 use Rattle.rh_place.specs.Picks.{picked}
-use Rattle.rh_place.proofs.Lists.{both_more, picked_push, picked_All}
+use Rattle.rh_base.proofs.Lists.{both_more}
+use Rattle.rh_place.proofs.Picks.{picked_push, picked_All}
 use Rattle.rh_place.proofs.choosing.one_of_lightest.Goals as goal
 use Rattle.rh_place.proofs.choosing.one_of_lightest.Goals.{then-is_light, else-is_light}
 

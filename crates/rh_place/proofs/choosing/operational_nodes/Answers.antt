@@ -8,7 +8,7 @@ use Rattle.rh_state.specs.declared.status.Mode.TheVariants.{Down}
 use Rattle.rh_state.specs.StateView.{StateView, is_up, is_started, is_allowed}
 use Rattle.rh_state.specs.Stored.{read}
 use Rattle.rh_place.specs.Placing.{is_operational, deps_run}
-use Rattle.rh_place.proofs.Lists.{cases}
+use Rattle.rh_base.proofs.Lists.{cases}
 use Rattle.rh_place.proofs.choosing.operational_nodes.Goals as goal
 
 -- nothing can run at a node that isn't one of the cluster's

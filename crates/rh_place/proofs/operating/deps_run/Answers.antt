@@ -2,7 +2,7 @@ use Rattle.std.proofs.Common.{◌≡◌, sym, ap, ◌∙◌, not, Bool, true, fa
 use Rattle.rh_model.specs.ClusterView.{deps_of}
 use Rattle.rh_state.specs.Stored.{read}
 use Rattle.rh_place.specs.Placing.{dep_runs, deps_run, missing_dep}
-use Rattle.rh_place.proofs.Lists.{all_pass}
+use Rattle.rh_base.proofs.Lists.{all_pass}
 use Rattle.rh_place.proofs.operating.deps_run.Goals as goal
 
 turned : (a b : Bool) → a ≡ not b → b ≡ not a

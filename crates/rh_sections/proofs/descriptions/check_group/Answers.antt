@@ -1,7 +1,7 @@
 use Rattle.std.proofs.Common.{map}
 use Rattle.std.specs.Prelude.{flat_map}
 use Rattle.std.proofs.lemmas.Result.{err_from_is_err_and}
-use Rattle.rh_terms.specs.Tree.{tree_of}
+use Rattle.rh_base.specs.Tree.{tree_of}
 use Rattle.rh_sections.specs.Sections.{node_name_faults, members}
 use Rattle.rh_sections.proofs.InTurn.{passes_behind, fails_behind}
 use Rattle.rh_sections.proofs.descriptions.check_group.Goals as goal

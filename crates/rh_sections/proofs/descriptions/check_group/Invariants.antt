@@ -1,6 +1,6 @@
 use Rattle.std.proofs.Common.{◌≡◌, [], map, take}
 use Rattle.std.specs.Prelude.{flat_map}
-use Rattle.rh_terms.specs.Tree.{tree_of}
+use Rattle.rh_base.specs.Tree.{tree_of}
 use Rattle.rh_sections.specs.Faults.{in_turn}
 use Rattle.rh_sections.specs.Sections.{node_name_faults, members}
 use Rattle.rh_sections.proofs.descriptions.check_group.Given as goal

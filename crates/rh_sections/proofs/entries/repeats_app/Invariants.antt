@@ -1,5 +1,5 @@
 use Rattle.std.proofs.Common.{◌≡◌, map, drop, filter_map}
-use Rattle.rh_terms.specs.Tree.{tree_of}
+use Rattle.rh_base.specs.Tree.{tree_of}
 use Rattle.rh_model.specs.Names.{is_among}
 use Rattle.rh_sections.specs.Sections.{app_in}
 use Rattle.rh_sections.proofs.entries.repeats_app.Given as goal

@@ -1,5 +1,5 @@
 use Rattle.std.proofs.Common.{◌≡◌, map, drop}
-use Rattle.rh_terms.specs.Tree.{tree_of}
+use Rattle.rh_base.specs.Tree.{tree_of}
 use Rattle.rh_sections.specs.Shapes.{atoms}
 use Rattle.rh_model.specs.Names.{is_among}
 use Rattle.rh_sections.proofs.entries.repeats_atom.Given as goal

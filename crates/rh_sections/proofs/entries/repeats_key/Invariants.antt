@@ -1,6 +1,6 @@
 use Rattle.std.proofs.Common.{◌≡◌, map, drop}
 use Rattle.std.specs.List.{list_any}
-use Rattle.rh_terms.specs.Tree.{tree_of}
+use Rattle.rh_base.specs.Tree.{tree_of}
 use Rattle.rh_sections.specs.Sections.{has_key}
 use Rattle.rh_sections.proofs.entries.repeats_key.Given as goal
 

@@ -1,7 +1,7 @@
 use Rattle.std.proofs.Common.{◌≡◌, ◌∙◌, ◌++◌, ◌∷◌, [], List, map, take, sym, ap}
 use Rattle.std.proofs.lemmas.List.Elements.{filter_map-append}
 use Rattle.std.proofs.lemmas.Result.{err_from_is_err_and}
-use Rattle.rh_terms.specs.Tree.{Tree, tree_of}
+use Rattle.rh_base.specs.Tree.{Tree, tree_of}
 use Rattle.rh_sections.specs.declared.fault.ClusterFault.{ClusterFault}
 use Rattle.rh_sections.specs.Shapes.{as_atom, atoms}
 use Rattle.rh_sections.specs.Sections.{dep_faults}

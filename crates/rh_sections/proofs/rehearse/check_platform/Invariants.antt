@@ -1,5 +1,5 @@
 use Rattle.std.proofs.Common.{◌≡◌, [], map, take}
-use Rattle.rh_terms.specs.Tree.{tree_of}
+use Rattle.rh_base.specs.Tree.{tree_of}
 use Rattle.rh_sections.specs.Faults.{in_turn}
 use Rattle.rh_sections.specs.Sections.{platform_faults}
 use Rattle.rh_sections.proofs.rehearse.check_platform.Given as goal

@@ -1,5 +1,5 @@
 use Rattle.std.proofs.Common.{◌≡◌, [], map, take}
-use Rattle.rh_terms.specs.Tree.{tree_of}
+use Rattle.rh_base.specs.Tree.{tree_of}
 use Rattle.rh_sections.specs.Faults.{in_turn}
 use Rattle.rh_model.specs.Names.{is_among}
 use Rattle.rh_sections.specs.Sections.{entry_faults, rehearse_keys, rehearse_faults}

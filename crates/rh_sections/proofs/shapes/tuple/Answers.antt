@@ -1,10 +1,10 @@
 use Rattle.std.proofs.Common.{◌≡◌, List, map, sym, ap, ◌∙◌, Some}
-use Rattle.rh_terms.specs.declared.term.Terms.{fold_out-Terms}
-use Rattle.rh_terms.specs.declared.term.Term.{Term, fold-roll-Term}
-use Rattle.rh_terms.specs.declared.term.Term.TheVariants as term
-use Rattle.rh_terms.specs.declared.term.Term.TheVariants.{rolls-Tuple}
-use Rattle.rh_terms.specs.declared.term.Term.TheOpen.{Term-F}
-use Rattle.rh_terms.specs.Tree.{Tree, Trees, tree_step, terms_step, tree_of, trees_of, items_of, tuple}
+use Rattle.rh_base.specs.declared.term.Terms.{fold_out-Terms}
+use Rattle.rh_base.specs.declared.term.Term.{Term, fold-roll-Term}
+use Rattle.rh_base.specs.declared.term.Term.TheVariants as term
+use Rattle.rh_base.specs.declared.term.Term.TheVariants.{rolls-Tuple}
+use Rattle.rh_base.specs.declared.term.Term.TheOpen.{Term-F}
+use Rattle.rh_base.specs.Tree.{Tree, Trees, tree_step, terms_step, tree_of, trees_of, items_of, tuple}
 use Rattle.rh_sections.specs.Shapes.{as_tuple}
 use Rattle.rh_sections.proofs.Trees.{list_of_trees-trees_from}
 use Rattle.rh_sections.proofs.shapes.tuple.Goals as goal

@@ -5,7 +5,7 @@ use Rattle.rh_model.specs.ClusterView.{ClusterView, node_count, group_of}
 use Rattle.rh_state.specs.StateView.{StateView}
 use Rattle.rh_state.specs.Stored.{read}
 use Rattle.rh_place.specs.Placing.{is_operational}
-use Rattle.rh_place.proofs.Lists.{cases}
+use Rattle.rh_base.proofs.Lists.{cases}
 use Rattle.rh_settle.specs.declared.notice.Pair.{Pair}
 use Rattle.rh_settle.specs.Course.{is_fresh}
 use Rattle.rh_settle.specs.Moves.{comes_before, calls_away}

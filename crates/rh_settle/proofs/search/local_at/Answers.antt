@@ -6,7 +6,8 @@ use Rattle.rh_state.specs.StateView.{StateView, waiting_at, running_at, next_in_
 use Rattle.rh_state.specs.Stored.{read}
 use Rattle.rh_place.specs.declared.choosing.Pick.{Pick}
 use Rattle.rh_place.specs.declared.choosing.Pick.TheVariants.{First, Last}
-use Rattle.rh_place.specs.Picks.{picked, first_given}
+use Rattle.rh_place.specs.Picks.{picked}
+use Rattle.rh_base.specs.Lists.{first_given}
 use Rattle.rh_settle.specs.declared.notice.Move.{Move}
 use Rattle.rh_settle.specs.declared.notice.Move.TheVariants.{Local}
 use Rattle.rh_settle.specs.Moves.{can_start, local_move, local_moves}

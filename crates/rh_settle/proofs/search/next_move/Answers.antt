@@ -1,6 +1,6 @@
 use Rattle.std.proofs.Common.{List, Some}
 use Rattle.rh_state.specs.Numbers.{nodes_of, apps_of}
-use Rattle.rh_place.specs.Picks.{first_given, or_else}
+use Rattle.rh_base.specs.Lists.{first_given, or_else}
 use Rattle.rh_settle.specs.declared.notice.Move.{Move}
 use Rattle.rh_settle.specs.Moves.{local_moves, placements, takeovers, next_moves}
 use Rattle.rh_settle.proofs.Searches.{either_some, either_none}

@@ -1,6 +1,6 @@
 use Rattle.std.proofs.Common.{◌≡◌, drop}
 use Rattle.rh_state.specs.Numbers.{apps_of}
-use Rattle.rh_place.specs.Picks.{first_given}
+use Rattle.rh_base.specs.Lists.{first_given}
 use Rattle.rh_settle.specs.Moves.{takeovers}
 use Rattle.rh_state.specs.Stored.{read}
 use Rattle.rh_settle.proofs.search.next_takeover.Given as goal

@@ -3,7 +3,7 @@ use Rattle.std.specs.Prelude.{◌==◌}
 use Rattle.std.proofs.lemmas.List.{take_rest}
 use Rattle.std.proofs.lemmas.Bool.Decides.{nat_tests}
 use Rattle.rh_terms.specs.Bytes.{past_blank, begins}
-use Rattle.rh_terms.specs.Tree.{tree_of, none}
+use Rattle.rh_base.specs.Tree.{tree_of, none}
 use Rattle.rh_terms.specs.Grammar.{term_at}
 use Rattle.rh_terms.specs.Nest.{opening, closing, tree_in}
 use Rattle.rh_terms.proofs.Cut.{blank_text, behind_first}

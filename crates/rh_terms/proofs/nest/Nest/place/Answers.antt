@@ -4,7 +4,7 @@ use Rattle.rh_terms.specs.declared.fault.Fault.{Fault}
 use Rattle.rh_terms.specs.declared.nest.Bracket.{Bracket}
 use Rattle.rh_terms.specs.Bytes.{past_blank}
 use Rattle.rh_terms.specs.Faults.{Fails}
-use Rattle.rh_terms.specs.Tree.{Trees, tree_of}
+use Rattle.rh_base.specs.Tree.{Trees, tree_of}
 use Rattle.rh_terms.specs.Grammar.{next_at, dot_at}
 use Rattle.rh_terms.specs.Nest.{closing, ended, going}
 use Rattle.rh_terms.proofs.Cut.{blank_text, next_text, dot_text}

@@ -1,6 +1,6 @@
 use Rattle.std.proofs.Common.{◌≡◌, ◌≤◌, Ok, length, vec_len}
 use Rattle.std.specs.Str.{IsUtf8}
-use Rattle.rh_terms.specs.Tree.{tree_of}
+use Rattle.rh_base.specs.Tree.{tree_of}
 use Rattle.rh_terms.specs.Nest.{ended_in}
 use Rattle.rh_terms.proofs.nest.Nest.place.Given as goal
 

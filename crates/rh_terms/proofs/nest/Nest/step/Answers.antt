@@ -1,7 +1,7 @@
 use Rattle.std.proofs.Common.{arith, length, List, ◌∙◌, ◌-◌, sym, ap, ℕ}
 use Rattle.std.proofs.lemmas.Result.{err_from_is_err_and}
 use Rattle.rh_terms.specs.Faults.{Fails, Read}
-use Rattle.rh_terms.specs.Tree.{Tree}
+use Rattle.rh_base.specs.Tree.{Tree}
 use Rattle.rh_terms.specs.Grammar.{term_at}
 use Rattle.rh_terms.specs.Nest.{ended}
 use Rattle.rh_terms.proofs.Cut.{behind_first, first_byte, term_text}

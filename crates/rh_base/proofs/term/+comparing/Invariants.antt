@@ -1,6 +1,6 @@
 use Rattle.std.proofs.Common.{◌≡◌, take, map, length}
-use Rattle.rh_terms.specs.Tree.{tree_of}
-use Rattle.rh_terms.proofs.term.+comparing.Given as goal
+use Rattle.rh_base.specs.Tree.{tree_of}
+use Rattle.rh_base.proofs.term.+comparing.Given as goal
 
 abbrev pub invariant-Terms::same-terms : goal.invariant-Terms::same-terms
 invariant-Terms::same-terms l = record {

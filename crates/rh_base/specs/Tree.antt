@@ -1,8 +1,8 @@
 -- A term, without where it lies in memory.
 use Rattle.std.specs.Prelude.{List, [], ◌∷◌, ℕ, ℤ, map}
-use Rattle.rh_terms.specs.declared.term.Term.{Term, fold-Term}
-use Rattle.rh_terms.specs.declared.term.Terms.{Terms, out-Terms}
-use Rattle.rh_terms.specs.declared.term.Term.TheOpen.{Term-F, Terms-F}
+use Rattle.rh_base.specs.declared.term.Term.{Term, fold-Term}
+use Rattle.rh_base.specs.declared.term.Terms.{Terms, out-Terms}
+use Rattle.rh_base.specs.declared.term.Term.TheOpen.{Term-F, Terms-F}
 
 -- A term as a tree. Atoms and texts are their bytes, in UTF-8.
 mutual

@@ -1,7 +1,7 @@
 ghost use Rattle.std.specs.Prelude.{◌≡◌, ◌↔◌, IfOk, IsTrue};
-ghost use Rattle.rh_terms.specs.Tree.{tree_of, trees_of, items_of};
+ghost use Rattle.rh_base.specs.Tree.{tree_of, trees_of, items_of};
 
-use crate::fault::OutOfMemory;
+use crate::memory::OutOfMemory;
 use crate::text::Str;
 use std::alloc::Global;
 

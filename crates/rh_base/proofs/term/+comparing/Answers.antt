@@ -1,9 +1,9 @@
 use Rattle.std.proofs.Common.{◌≡◌, ◌<◌, ℕ, List, length, map, get_or, subst, sym, ap, ◌∙◌, arith}
 use Rattle.std.proofs.lemmas.List.{length-map, get_or-map}
-use Rattle.rh_terms.specs.declared.term.Term.{Term}
-use Rattle.rh_terms.specs.Tree.{tree_of, trees_of, items_of, list_of_trees}
-use Rattle.rh_terms.proofs.Trees.{list_of_trees-trees_of}
-use Rattle.rh_terms.proofs.term.+comparing.Goals as goal
+use Rattle.rh_base.specs.declared.term.Term.{Term}
+use Rattle.rh_base.specs.Tree.{tree_of, trees_of, items_of, list_of_trees}
+use Rattle.rh_base.proofs.Trees.{list_of_trees-trees_of}
+use Rattle.rh_base.proofs.term.+comparing.Goals as goal
 
 -- equal trees, as lists
 lists : (xs ys : List Term) → trees_of xs ≡ trees_of ys → map tree_of xs ≡ map tree_of ys

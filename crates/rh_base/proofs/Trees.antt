@@ -1,11 +1,11 @@
 -- What a caller knows who matches on a term and goes over the terms in it.
 use Rattle.std.proofs.Common.{◌≡◌, List, [], ◌∷◌, map, refl, sym, ap, ◌∙◌}
-use Rattle.rh_terms.specs.declared.term.Term.{Term, fold-roll-Term}
-use Rattle.rh_terms.specs.declared.term.Term.TheVariants as variants
-use Rattle.rh_terms.specs.declared.term.Term.TheVariants.{rolls-List, rolls-Tuple}
-use Rattle.rh_terms.specs.declared.term.Term.TheOpen.{Term-F}
-use Rattle.rh_terms.specs.declared.term.Terms.{Terms, fold_out-Terms}
-use Rattle.rh_terms.specs.Tree.{Tree, Trees, trees_from, list_of_trees, tree_step, terms_step, tree_of, trees_of, items_of, list, tuple}
+use Rattle.rh_base.specs.declared.term.Term.{Term, fold-roll-Term}
+use Rattle.rh_base.specs.declared.term.Term.TheVariants as variants
+use Rattle.rh_base.specs.declared.term.Term.TheVariants.{rolls-List, rolls-Tuple}
+use Rattle.rh_base.specs.declared.term.Term.TheOpen.{Term-F}
+use Rattle.rh_base.specs.declared.term.Terms.{Terms, fold_out-Terms}
+use Rattle.rh_base.specs.Tree.{Tree, Trees, trees_from, list_of_trees, tree_step, terms_step, tree_of, trees_of, items_of, list, tuple}
 
 -- the tree of a list
 pub tree_of-list : (ts : Terms) → tree_of (variants.List ts) ≡ list (trees_of (items_of ts))

@@ -2,7 +2,7 @@ ghost use Rattle.std.specs.Prelude.{◌≡◌, ◌↔◌, IfOk, IsTrue};
 ghost use Rattle.std.specs.Str.{IsUtf8};
 ghost use Rattle.std.specs.String.{string_bytes};
 
-use crate::fault::OutOfMemory;
+use crate::memory::OutOfMemory;
 use arrayvec::ArrayString;
 use std::alloc::{AllocError, Global};
 use std::marker::Model;
@@ -23,7 +23,7 @@ pub struct Str {
 /// Contracts see a `Str` as its bytes.
 impl Model for Str {
     ghost use Rattle.std.specs.Prelude.{List, ℕ};
-    ghost use Rattle.rh_terms.specs.Letters.{bytes_of};
+    ghost use Rattle.rh_base.specs.Letters.{bytes_of};
 
     ghost Value = { List ℕ };
 
