@@ -1,5 +1,6 @@
 -- The texts that sessions may write: there is one for all bytes, and what was written is one of them.
-use Rattle.std.proofs.Common.{◌≡◌, ◌≤◌, ◌<◌, ◌⊎◌, inl, inr, ℕ, List, [], ◌∷◌, length, map, Bool, true, false, Option, Some, None, Result, Ok, Err, IfSome, refl, sym, ap, subst}
+use Rattle.std.proofs.Common.{◌≡◌, ◌≤◌, ◌<◌, ◌⊎◌, inl, inr, ℕ, List, [], ◌∷◌, length, map, Bool, true, false, Option, Some, None, Result, Ok, Err, IfSome, refl}
+use Rattle.std.proofs.Common.{sym, ap, subst}
 use Rattle.std.proofs.KnownBytes.{Appends-nil, Keeps-refl}
 use Rattle.rh_model.specs.ClusterView.{ClusterView}
 use Rattle.rh_cluster.specs.ClusterOf.{cluster_of}
@@ -66,7 +67,8 @@ pub nothing_yet : (a : Option (List ℕ)) (text : List ℕ) → AppendsFront a a
 nothing_yet a text = ([], text, Appends-nil a, refl)
 
 module _ (may : List ℕ → Option RunFault → Type 0) (old new : Option (List ℕ)) (w : Bool) where
-  pub wrote_one : (r : Result (Unit {0}) RunFault) (text : List ℕ) (fault : Option RunFault) → may text fault → Wrote r text fault old new w → WroteOne may r old new w
+  pub wrote_one : (r : Result (Unit {0}) RunFault) (text : List ℕ) (fault : Option RunFault) → may text fault → Wrote r text fault old new w
+      → WroteOne may r old new w
   wrote_one (Ok x) text fault m h = (text, fault, m, h)
   wrote_one (Err (end.Cluster f)) text fault m h = (text, fault, m, h)
   wrote_one (Err (end.BadLine k)) text fault m h = (text, fault, m, h)
@@ -101,7 +103,8 @@ starved may old w some = (some.0, some.1, some.2, nothing_yet old some.0)
 
 -- ---- the history of a script's commands
 
-pub history_one : (c : ClusterView) (pick : Pick) (commands : List Command) (log : List Entry) (sim : SimView) (r : Result (Unit {0}) RunFault) (old new : Option (List ℕ)) (w : Bool)
+pub history_one : (c : ClusterView) (pick : Pick) (commands : List Command) (log : List Entry) (sim : SimView) (r : Result (Unit {0}) RunFault)
+    (old new : Option (List ℕ)) (w : Bool)
     → IsHistory c pick commands log → sim ≡ sim_after (opened c pick) (calls log) → Broke r (history_text c log (state_of sim)) old new w
     → WroteOne (ScriptMayGive c pick commands None) r old new w
 history_one c pick commands log sim r old new w is same h =
@@ -112,7 +115,8 @@ history_one c pick commands log sim r old new w is same h =
 pub history_fails : (c : ClusterView) (pick : Pick) (commands : List Command) (f : RunFault) (old : Option (List ℕ)) (w : Bool)
     → (f ≡ end.OutOfMemory) ⊎ (f ≡ end.Room) → WroteOne (ScriptMayGive c pick commands None) (Err f) old old w
 history_fails c pick commands f old w (inl e) =
-    subst (λ f. WroteOne (ScriptMayGive c pick commands None) (Err f) old old w) (sym e) (starved (ScriptMayGive c pick commands None) old w (some_text c pick commands None))
+    subst (λ f. WroteOne (ScriptMayGive c pick commands None) (Err f) old old w) (sym e)
+        (starved (ScriptMayGive c pick commands None) old w (some_text c pick commands None))
 history_fails c pick commands f old w (inr e) =
     subst (λ f. WroteOne (ScriptMayGive c pick commands None) (Err f) old old w) (sym e) (Keeps-refl old)
 
@@ -122,7 +126,8 @@ bad_line_one c pick commands bad k f old new w is h =
     subst (λ b. WroteOne (ScriptMayGive c pick commands b) (Err f) old new w) (sym is)
     (wrote_one (ScriptMayGive c pick commands (Some k)) old new w (Err f) (bad_text k) (Some (end.BadLine k)) (refl, refl) h)
 
-pub commands_one : (c : ClusterView) (pick : Pick) (these commands : List Command) (bad : Option ℕ) (r : Result (Unit {0}) RunFault) (old new : Option (List ℕ)) (w : Bool)
+pub commands_one : (c : ClusterView) (pick : Pick) (these commands : List Command) (bad : Option ℕ) (r : Result (Unit {0}) RunFault) (old new : Option (List ℕ))
+    (w : Bool)
     → bad ≡ None → these ≡ commands → WroteOne (ScriptMayGive c pick these None) r old new w → WroteOne (ScriptMayGive c pick commands bad) r old new w
 commands_one c pick these commands bad r old new w is same h =
     subst (λ b. WroteOne (ScriptMayGive c pick commands b) r old new w) (sym is)
@@ -130,7 +135,8 @@ commands_one c pick these commands bad r old new w is same h =
 
 -- ---- the text of an input
 
-pub script_one : (bytes : List ℕ) (pick : Pick) (c : ClusterView) (lines : List (List ℕ)) (r : Result (Unit {0}) RunFault) (old new : Option (List ℕ)) (w : Bool)
+pub script_one : (bytes : List ℕ) (pick : Pick) (c : ClusterView) (lines : List (List ℕ)) (r : Result (Unit {0}) RunFault) (old new : Option (List ℕ))
+    (w : Bool)
     → cluster_of (cluster_text bytes) ≡ Ok c → lines ≡ script_lines bytes
     → WroteOne (ScriptMayGive c pick (commands_of (session_lines_asked c lines)) (bad_session_line 1 0 (session_lines_asked c lines))) r old new w
     → WroteOne (MayGive bytes pick) r old new w
@@ -140,7 +146,8 @@ script_one bytes pick c lines r old new w read same h =
     (subst (λ ls. WroteOne (MayGiveOver pick ls (Ok c)) r old new w) same h)
 
 -- a text that is no cluster's
-pub cluster_fault_given : (bytes : List ℕ) (pick : Pick) (f : ClusterFault) → cluster_of (cluster_text bytes) ≡ Err f → MayGive bytes pick (fault_text f) (Some (end.Cluster f))
+pub cluster_fault_given : (bytes : List ℕ) (pick : Pick) (f : ClusterFault) → cluster_of (cluster_text bytes) ≡ Err f
+    → MayGive bytes pick (fault_text f) (Some (end.Cluster f))
 unfolding MayGive
 cluster_fault_given bytes pick f read = subst (λ x. MayGiveOver pick (script_lines bytes) x (fault_text f) (Some (end.Cluster f))) (sym read) (refl, refl)
 
@@ -149,8 +156,10 @@ cluster_fault_given bytes pick f read = subst (λ x. MayGiveOver pick (script_li
 gives_at : (bytes : List ℕ) (pick : Pick) (r : Result (Unit {0}) RunFault) (old new : Option (List ℕ)) (rf wf : Bool)
     → length bytes ≤ input_limit → rf ≡ false → WroteOne (MayGive bytes pick) r old new wf → SessionsGive r bytes pick old new rf wf
 gives_at bytes pick (Ok x) old new rf wf small reads h = (h.0, h.1, h.2, (h.3.0, record { written = h.3.1; small = small; reader = reads; writer = h.3.2 }))
-gives_at bytes pick (Err (end.Cluster f)) old new rf wf small reads h = (h.0, h.1, h.2, (h.3.0, record { written = h.3.1; small = small; reader = reads; writer = h.3.2 }))
-gives_at bytes pick (Err (end.BadLine k)) old new rf wf small reads h = (h.0, h.1, h.2, (h.3.0, record { written = h.3.1; small = small; reader = reads; writer = h.3.2 }))
+gives_at bytes pick (Err (end.Cluster f)) old new rf wf small reads h =
+    (h.0, h.1, h.2, (h.3.0, record { written = h.3.1; small = small; reader = reads; writer = h.3.2 }))
+gives_at bytes pick (Err (end.BadLine k)) old new rf wf small reads h =
+    (h.0, h.1, h.2, (h.3.0, record { written = h.3.1; small = small; reader = reads; writer = h.3.2 }))
 gives_at bytes pick (Err end.Read) old new rf wf small reads h = absurd h.3
 gives_at bytes pick (Err end.Write) old new rf wf small reads h = (h.0, h.1, h.2, (h.3.1, h.3.0))
 gives_at bytes pick (Err end.OutOfMemory) old new rf wf small reads h = (h.0, h.1, h.2, h.3)
@@ -170,7 +179,8 @@ unread (Some bytes) pick old rf wf h =
     let some = some_given bytes pick in
     (some.0, some.1, some.2, (h, Keeps-refl old))
 
-unheld : (known : Option (List ℕ)) (pick : Pick) (old : Option (List ℕ)) (rf wf : Bool) → IfSome known (λ bytes. SessionsGive (Err end.OutOfMemory) bytes pick old old rf wf)
+unheld : (known : Option (List ℕ)) (pick : Pick) (old : Option (List ℕ)) (rf wf : Bool)
+    → IfSome known (λ bytes. SessionsGive (Err end.OutOfMemory) bytes pick old old rf wf)
 unheld None pick old rf wf = tt
 unheld (Some bytes) pick old rf wf =
     let some = some_given bytes pick in

@@ -1,5 +1,6 @@
 -- Texts that are written piece by piece.
-use Rattle.std.proofs.Common.{◌≡◌, ◌<◌, ◌+◌, ℕ, List, [], ◌++◌, length, take, drop, get_or, Bool, Option, Result, Ok, Err, sym, ap, subst, ◌∙◌, append_assoc, take-append-drop}
+use Rattle.std.proofs.Common.{◌≡◌, ◌<◌, ◌+◌, ℕ, List, [], ◌++◌, length, take, drop, get_or, Bool, Option, Result, Ok, Err, sym, ap, subst, ◌∙◌, append_assoc}
+use Rattle.std.proofs.Common.{take-append-drop}
 use Rattle.std.specs.Io.KnownBytes.{Appends}
 use Rattle.std.specs.List.{flat_map}
 use Rattle.std.proofs.KnownBytes.{Appends-trans}
@@ -42,8 +43,10 @@ module _ {X : Type 0} (f : X → List ℕ) (xs : List X) (i : ℕ) (d : X) (at :
       ∙ ap (λ l. l ++ flat_map f (drop (i + 1) xs)) next_piece
       ∙ append_assoc (flat_map f (take i xs)) (f (get_or xs i d)) (flat_map f (drop (i + 1) xs))
 
-  pub fails_midway : d ≡ get_or xs i d → (fault : RunFault) (a b c : Option (List ℕ)) (w : Bool) → Appends a b (flat_map f (take i xs)) → Broke (Err fault) (f d) b c w → Broke (Err fault) (flat_map f xs) a c w
+  pub fails_midway : d ≡ get_or xs i d → (fault : RunFault) (a b c : Option (List ℕ)) (w : Bool) → Appends a b (flat_map f (take i xs))
+      → Broke (Err fault) (f d) b c w → Broke (Err fault) (flat_map f xs) a c w
   fails_midway is fault a b c w p q =
       let here = subst (λ x. Broke (Err fault) (f x) b c w) is q in
       let tail = flat_map f (drop (i + 1) xs) in
-      rw all_pieces (broke_behind (Err fault) a b c (flat_map f (take i xs)) (f (get_or xs i d) ++ tail) w p (broke_before fault b c (f (get_or xs i d)) tail w here))
+      rw all_pieces (broke_behind (Err fault) a b c (flat_map f (take i xs)) (f (get_or xs i d) ++ tail) w p
+          (broke_before fault b c (f (get_or xs i d)) tail w here))

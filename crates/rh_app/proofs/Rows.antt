@@ -25,8 +25,10 @@ use Rattle.rh_trail.specs.Lone.{opened}
 abbrev one_node : ClusterView
 one_node = record { node_names = codes "a" ∷ []; app_names = []; platform_names = []; nodes = []; apps = [] }
 
-script_row : script_text one_node (opened one_node First) 1 (lines_asked one_node (script_lines (codes "===\nboot a\nundo\nflip a\nshow\n"))) ≡ codes "ok\nup a\nok\nbad line 3\n"
-unfolding content line_of answer_text notice_line bad_text nodes_of apps_of configured moved_by all_moved all_alive is_ready mark_all come_up come_up_if_ready ready_come_up booted followed refused next step digits is_utf8 chars encode
+script_row : script_text one_node (opened one_node First) 1 (lines_asked one_node (script_lines (codes "===\nboot a\nundo\nflip a\nshow\n")))
+    ≡ codes "ok\nup a\nok\nbad line 3\n"
+unfolding content line_of answer_text notice_line bad_text nodes_of apps_of configured moved_by all_moved all_alive is_ready mark_all come_up come_up_if_ready
+    ready_come_up booted followed refused next step digits is_utf8 chars encode
 script_row = refl
 
 bad_line_row : bad_line 1 (lines_asked one_node (script_lines (codes "===\nboot a\nundo\nflip a\nshow\n"))) ≡ Some 3

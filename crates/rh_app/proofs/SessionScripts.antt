@@ -53,8 +53,10 @@ sessions_numbered c (line ∷ lines) =
 -- and so in a front of them
 all_in_front : (done more : List Command) → All IsNumbered (done ++ more) → All IsNumbered done
 all_in_front [] more h = All-nil IsNumbered
-all_in_front (x ∷ done) more h = All-cons IsNumbered x done (All-head IsNumbered x (done ++ more) h) (all_in_front done more (All-tail IsNumbered x (done ++ more) h))
+all_in_front (x ∷ done) more h = All-cons IsNumbered x done (All-head IsNumbered x (done ++ more) h)
+    (all_in_front done more (All-tail IsNumbered x (done ++ more) h))
 
-pub all_numbered : (c : ClusterView) (lines rest : List (List ℕ)) (done : List Command) → commands_of (session_lines_asked c lines) ≡ done ++ commands_of (session_lines_asked c rest)
+pub all_numbered : (c : ClusterView) (lines rest : List (List ℕ)) (done : List Command)
+    → commands_of (session_lines_asked c lines) ≡ done ++ commands_of (session_lines_asked c rest)
     → All (λ x. IsSession 8 x.session) done
 all_numbered c lines rest done is = all_in_front done (commands_of (session_lines_asked c rest)) (subst (All IsNumbered) is (sessions_numbered c lines))

@@ -15,8 +15,10 @@ pub record IsWhole (bytes text : List ℕ) (old new : Option (List ℕ)) (reader
 -- for these bytes a program owes this text and this fault at its end, or none; old and new are what its writer holds
 abbrev pub ProgramGives : Result (Unit {0}) RunFault → List ℕ → List ℕ → Option RunFault → Option (List ℕ) → Option (List ℕ) → Bool → Bool → Type 0
 ProgramGives (Ok x) bytes text fault old new reader_failed writer_failed = (fault ≡ None) × IsWhole bytes text old new reader_failed writer_failed
-ProgramGives (Err (end.Cluster f)) bytes text fault old new reader_failed writer_failed = (fault ≡ Some (end.Cluster f)) × IsWhole bytes text old new reader_failed writer_failed
-ProgramGives (Err (end.BadLine k)) bytes text fault old new reader_failed writer_failed = (fault ≡ Some (end.BadLine k)) × IsWhole bytes text old new reader_failed writer_failed
+ProgramGives (Err (end.Cluster f)) bytes text fault old new reader_failed writer_failed = (fault ≡ Some (end.Cluster f))
+    × IsWhole bytes text old new reader_failed writer_failed
+ProgramGives (Err (end.BadLine k)) bytes text fault old new reader_failed writer_failed = (fault ≡ Some (end.BadLine k))
+    × IsWhole bytes text old new reader_failed writer_failed
 -- nothing was written
 ProgramGives (Err end.Read) bytes text fault old new reader_failed writer_failed = ((reader_failed ≡ true) ⊎ (input_limit < length bytes)) × Keeps old new
 -- a front of the text was written

@@ -26,11 +26,13 @@ pub filter_both : {A : Type 0} (p q : A → Bool) (xs : List A) → filter q (fi
 filter_both p q [] = refl
 filter_both p q (x ∷ xs) = by (p x) (q x) refl (filter_both p q xs)
   where
-    by : (b e : Bool) → q x ≡ e → filter q (filter p xs) ≡ filter (λ y. p y && q y) xs → filter q (cond b (x ∷ filter p xs) (filter p xs)) ≡ cond (b && q x) (x ∷ filter (λ y. p y && q y) xs) (filter (λ y. p y && q y) xs)
+    by : (b e : Bool) → q x ≡ e → filter q (filter p xs) ≡ filter (λ y. p y && q y) xs
+        → filter q (cond b (x ∷ filter p xs) (filter p xs)) ≡ cond (b && q x) (x ∷ filter (λ y. p y && q y) xs) (filter (λ y. p y && q y) xs)
     by true e is h = ap (cond (q x) (x ∷ filter q (filter p xs))) h ∙ ap (λ ys. cond (q x) (x ∷ ys) (filter (λ y. p y && q y) xs)) h
     by false e is h = h
 
-pub both_more : {A : Type 0} (p q : A → Bool) (xs : List A) (i : ℕ) (d : A) → i < length xs → filter q (filter p (take (i + 1) xs)) ≡ filter q (filter p (take i xs)) ++ cond (p (get_or xs i d) && q (get_or xs i d)) (get_or xs i d ∷ []) []
+pub both_more : {A : Type 0} (p q : A → Bool) (xs : List A) (i : ℕ) (d : A) → i < length xs
+    → filter q (filter p (take (i + 1) xs)) ≡ filter q (filter p (take i xs)) ++ cond (p (get_or xs i d) && q (get_or xs i d)) (get_or xs i d ∷ []) []
 both_more p q xs i d h =
     filter_both p q (take (i + 1) xs)
     ∙ filter_more (λ x. p x && q x) xs i d h
@@ -41,7 +43,8 @@ pub any_filter : {A : Type 0} (p : A → Bool) (xs ys : List A) → list_any p x
 any_filter p [] ys h = cc
 any_filter p (x ∷ xs) ys h = by (p x) h (any_filter p xs ys)
   where
-    by : (b : Bool) → (b || list_any p xs) ≡ true → (list_any p xs ≡ true → or_else (filter p xs) ys ≡ filter p xs) → or_else (cond b (x ∷ filter p xs) (filter p xs)) ys ≡ cond b (x ∷ filter p xs) (filter p xs)
+    by : (b : Bool) → (b || list_any p xs) ≡ true → (list_any p xs ≡ true → or_else (filter p xs) ys ≡ filter p xs)
+        → or_else (cond b (x ∷ filter p xs) (filter p xs)) ys ≡ cond b (x ∷ filter p xs) (filter p xs)
     by true any rest = refl
     by false any rest = rest any
 
@@ -53,14 +56,16 @@ none_filter p (x ∷ xs) h = by (p x) h (none_filter p xs)
     by true any rest = cc
     by false any rest = rest any
 
-first_at : {A : Type 0} (p : A → Bool) (groups : List (List A)) (i : ℕ) (d : List A) → i < length groups → list_any p (get_or groups i d) ≡ true → ((k : ℕ) → k < i → list_any p (get_or groups k d) ≡ false) → first_given (filter p) groups ≡ filter p (get_or groups i d)
+first_at : {A : Type 0} (p : A → Bool) (groups : List (List A)) (i : ℕ) (d : List A) → i < length groups → list_any p (get_or groups i d) ≡ true
+    → ((k : ℕ) → k < i → list_any p (get_or groups k d) ≡ false) → first_given (filter p) groups ≡ filter p (get_or groups i d)
 first_at p [] i d h here before = absurd (omega arith)
 first_at p (g ∷ groups) zero d h here before = any_filter p g (first_given (filter p) groups) here
 first_at p (g ∷ groups) (suc i) d h here before =
     ap (λ xs. or_else xs (first_given (filter p) groups)) (none_filter p g (before 0 (omega arith)))
     ∙ first_at p groups i d (omega arith) here (λ k less. before (suc k) (omega arith))
 
-pub first_meeting : {A : Type 0} (p : A → Bool) (groups : List (List A)) (i : ℕ) (g : List A) → position (list_any p) groups ≡ Some i → g ≡ get_or groups i g → filter p g ≡ first_given (filter p) groups
+pub first_meeting : {A : Type 0} (p : A → Bool) (groups : List (List A)) (i : ℕ) (g : List A) → position (list_any p) groups ≡ Some i → g ≡ get_or groups i g
+    → filter p g ≡ first_given (filter p) groups
 first_meeting p groups i g h is =
     let at = position-Some (list_any p) groups i g h in
     ap (filter p) is ∙ sym (first_at p groups i g at.0 at.1 at.2)
@@ -75,7 +80,8 @@ any_place p (x ∷ xs) = by (p x) (any_place p xs)
     later : (n m : ℕ) → nat_lt (1 + n) (suc m) ≡ nat_lt n m
     later n m = grind (arith, nat_tests)
 
-    by : (b : Bool) → nat_lt (position_or_len p xs) (length xs) ≡ list_any p xs → nat_lt (cond (not b) (1 + position_or_len p xs) 0) (suc (length xs)) ≡ (b || list_any p xs)
+    by : (b : Bool) → nat_lt (position_or_len p xs) (length xs) ≡ list_any p xs → nat_lt (cond (not b) (1 + position_or_len p xs) 0) (suc (length xs))
+        ≡ (b || list_any p xs)
     by true h = first (length xs)
     by false h = later (position_or_len p xs) (length xs) ∙ h
 
@@ -92,7 +98,8 @@ pub nothing_given : {A : Type 0} (p : A → Bool) (groups : List (List A)) → l
 nothing_given p [] h = refl
 nothing_given {A} p (g ∷ groups) h = by (list_any p g) refl h (nothing_given p groups)
   where
-    by : (b : Bool) → list_any p g ≡ b → (b || list_any (list_any p) groups) ≡ false → (list_any (list_any p) groups ≡ false → first_given (filter p) groups ≡ []) → first_given (filter p) (g ∷ groups) ≡ []
+    by : (b : Bool) → list_any p g ≡ b → (b || list_any (list_any p) groups) ≡ false
+        → (list_any (list_any p) groups ≡ false → first_given (filter p) groups ≡ []) → first_given (filter p) (g ∷ groups) ≡ []
     by true is any rest = cc
     by false is any rest = ap (λ xs. or_else xs (first_given (filter p) groups)) (none_filter p g is) ∙ rest any
 

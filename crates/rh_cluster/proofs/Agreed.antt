@@ -1,5 +1,6 @@
 -- Groups and nodes, one after the other.
-use Rattle.std.proofs.Common.{◌≡◌, ℕ, suc, ◌+◌, ◌-◌, ◌<◌, ◌&&◌, List, [], ◌∷◌, Bool, true, false, cond, length, Some, drop, get_or, ◌++◌, refl, sym, ap, ◌∙◌, arith}
+use Rattle.std.proofs.Common.{◌≡◌, ℕ, suc, ◌+◌, ◌-◌, ◌<◌, ◌&&◌, List, [], ◌∷◌, Bool, true, false, cond, length, Some, drop, get_or, ◌++◌, refl, sym, ap, ◌∙◌}
+use Rattle.std.proofs.Common.{arith}
 use Rattle.std.specs.List.{range_with_len}
 use Rattle.std.proofs.lemmas.List.{drop_more}
 use Rattle.std.specs.Prelude.{flat_map}
@@ -8,7 +9,8 @@ use Rattle.rh_sections.specs.Faults.{first}
 use Rattle.rh_sections.proofs.InTurn.{first-append}
 use Rattle.rh_model.specs.declared.node.Node.{Node}
 use Rattle.rh_cluster.specs.declared.shares.Share.{Share}
-use Rattle.rh_cluster.specs.Agreement.{same_group, same_groups, is_involved, first_involved_in, first_involved, mismatch_faults, mismatches, mismatches_with, numbers_below}
+use Rattle.rh_cluster.specs.Agreement.{same_group, same_groups, is_involved, first_involved_in, first_involved, mismatch_faults, mismatches, mismatches_with}
+use Rattle.rh_cluster.specs.Agreement.{numbers_below}
 use Rattle.rh_model.specs.ClusterView.{NodeView}
 
 and_false : (b c : Bool) → false ≡ c → false ≡ (b && c)
@@ -37,11 +39,14 @@ module _ (f : ℕ → List ClusterFault) (n m : ℕ) where
   pub number_passes : n < m → f n ≡ [] → flat_map f (range_with_len (n + 1) (m - (n + 1))) ≡ flat_map f (range_with_len n (m - n))
   number_passes h here = sym (ap (flat_map f) (range_more n m h) ∙ ap (λ fs. fs ++ flat_map f (range_with_len (n + 1) (m - (n + 1)))) here)
 
-  pub number_fails : (x : ClusterFault) (all : List ClusterFault) → n < m → first (f n) ≡ Some x → flat_map f (range_with_len n (m - n)) ≡ all → first all ≡ Some x
-  number_fails x all h here so_far = ap first (sym so_far ∙ ap (flat_map f) (range_more n m h)) ∙ first-append (f n) (flat_map f (range_with_len (n + 1) (m - (n + 1)))) x here
+  pub number_fails : (x : ClusterFault) (all : List ClusterFault) → n < m → first (f n) ≡ Some x → flat_map f (range_with_len n (m - n)) ≡ all
+      → first all ≡ Some x
+  number_fails x all h here so_far = ap first (sym so_far ∙ ap (flat_map f) (range_more n m h))
+      ∙ first-append (f n) (flat_map f (range_with_len (n + 1) (m - (n + 1)))) x here
 
 -- an item of a list that is tested item by item
-pub item_fails : {A : Type 0} (f : A → List ClusterFault) (xs : List A) (i : ℕ) (a : A) (x : ClusterFault) (all : List ClusterFault) → i < length xs → first (f (get_or xs i a)) ≡ Some x
+pub item_fails : {A : Type 0} (f : A → List ClusterFault) (xs : List A) (i : ℕ) (a : A) (x : ClusterFault) (all : List ClusterFault) → i < length xs
+    → first (f (get_or xs i a)) ≡ Some x
     → flat_map f (drop i xs) ≡ all → first all ≡ Some x
 item_fails f xs i a x all inside here so_far =
     ap first (sym so_far ∙ ap (flat_map f) (drop_more xs i a inside)) ∙ first-append (f (get_or xs i a)) (flat_map f (drop (i + 1) xs)) x here

@@ -14,7 +14,8 @@ use Rattle.rh_model.specs.ClusterView.{app_numbered}
 use Rattle.rh_model.specs.Names.{NamesView, is_among}
 use Rattle.rh_sections.specs.Shapes.{as_atom, as_pair, as_tuple, as_node, as_app, pair_in, ◌>>=◌}
 use Rattle.rh_sections.specs.Faults.{in_turn, list_faults}
-use Rattle.rh_sections.specs.Sections.{app_in, first_atom, atom_faults, name_faults, app_name_faults, pair_faults_by, boot_faults, as_restart, entry_faults, rehearse_keys, rehearse_faults, section_keys, section_faults, parts_faults, parts_faults_by, parts_pass}
+use Rattle.rh_sections.specs.Sections.{app_in, first_atom, atom_faults, name_faults, app_name_faults, pair_faults_by, boot_faults, as_restart, entry_faults}
+use Rattle.rh_sections.specs.Sections.{rehearse_keys, rehearse_faults, section_keys, section_faults, parts_faults, parts_faults_by, parts_pass}
 use Rattle.rh_sections.proofs.Unrepeated.{not_repeated}
 use Rattle.rh_cluster.specs.Headers.{nodes_in}
 use Rattle.rh_cluster.specs.Values.{app_named, boot_entry, elements, elements_under, rehearse_of}
@@ -23,11 +24,13 @@ use Rattle.rh_cluster.proofs.NoFaults.{none_left, none_right, list_none, under_n
 module _ (names : NamesView) where
   -- ---- one entry
 
-  new_name : (earlier : List (List ℕ)) (o : Option (List ℕ)) (m : List ℕ) → atom_faults (is_among names.apps) earlier o ≡ [] → o ≡ Some m → is_among earlier m ≡ false
+  new_name : (earlier : List (List ℕ)) (o : Option (List ℕ)) (m : List ℕ) → atom_faults (is_among names.apps) earlier o ≡ [] → o ≡ Some m
+      → is_among earlier m ≡ false
   new_name earlier None m none h = cc
   new_name earlier (Some s) m none h = ap (is_among earlier) (sym (same_Some s m h)) ∙ not_repeated s (is_among names.apps s) (is_among earlier s) none
 
-  new_in_tuple : (earlier : List Tree) (o : Option (List Tree)) (m : List ℕ) → pair_faults_by names (λ v. is_some (as_restart v)) earlier (o >>= pair_in) ≡ [] → (o >>= first_atom) ≡ Some m
+  new_in_tuple : (earlier : List Tree) (o : Option (List Tree)) (m : List ℕ) → pair_faults_by names (λ v. is_some (as_restart v)) earlier (o >>= pair_in) ≡ []
+      → (o >>= first_atom) ≡ Some m
       → is_among (filter_map app_in earlier) m ≡ false
   unfolding app_name_faults name_faults
   new_in_tuple earlier None m none h = cc
@@ -36,7 +39,8 @@ module _ (names : NamesView) where
   new_in_tuple earlier (Some (a ∷ b ∷ [])) m none h = new_name (filter_map app_in earlier) (as_atom a) m (none_left _ _ none) h
   new_in_tuple earlier (Some (a ∷ b ∷ c ∷ ts)) m none h = cc
 
-  new_entry : (earlier : List Tree) (t : Tree) (m : List ℕ) → boot_faults names earlier t ≡ [] → app_in t ≡ Some m → is_among (filter_map app_in earlier) m ≡ false
+  new_entry : (earlier : List Tree) (t : Tree) (m : List ℕ) → boot_faults names earlier t ≡ [] → app_in t ≡ Some m
+      → is_among (filter_map app_in earlier) m ≡ false
   unfolding boot_faults as_pair app_in
   new_entry earlier t m none h = new_in_tuple earlier (as_tuple t) m none h
 
@@ -48,7 +52,8 @@ module _ (names : NamesView) where
   abbrev with_restart : Tree → App → Option (App × Restart)
   with_restart v app = as_restart v >>= λ restart. Some (app, restart)
 
-  by_restart : (k : ℕ) (o : Option Restart) (e : App × Restart) → (o >>= λ restart. Some (app_numbered k, restart)) ≡ Some e → ◌≡◌ {A = Option ℕ} (Some k) (Some e.0.0)
+  by_restart : (k : ℕ) (o : Option Restart) (e : App × Restart) → (o >>= λ restart. Some (app_numbered k, restart)) ≡ Some e
+      → ◌≡◌ {A = Option ℕ} (Some k) (Some e.0.0)
   by_restart k None e h = cc
   by_restart k (Some r) e h = ap (λ (x : App × Restart). Some x.0.0) (same_Some {A = App × Restart} (app_numbered k, r) e h)
 
@@ -56,12 +61,14 @@ module _ (names : NamesView) where
   by_place v None e h = cc
   by_place v (Some k) e h = by_restart k (as_restart v) e h
 
-  by_name : (v : Tree) (o : Option (List ℕ)) (e : App × Restart) → ((o >>= λ name. option_map app_numbered (position (bytes_eq name) names.apps)) >>= with_restart v) ≡ Some e
+  by_name : (v : Tree) (o : Option (List ℕ)) (e : App × Restart) →
+      ((o >>= λ name. option_map app_numbered (position (bytes_eq name) names.apps)) >>= with_restart v) ≡ Some e
       → (m : List ℕ) × (o ≡ Some m) × Of m e
   by_name v None e h = cc
   by_name v (Some m) e h = (m, refl, by_place v (position (bytes_eq m) names.apps) e h)
 
-  by_tuple : (o : Option (List Tree)) (e : App × Restart) → ((o >>= pair_in) >>= λ p. app_named names p.0 >>= with_restart p.1) ≡ Some e → (m : List ℕ) × ((o >>= first_atom) ≡ Some m) × Of m e
+  by_tuple : (o : Option (List Tree)) (e : App × Restart) → ((o >>= pair_in) >>= λ p. app_named names p.0 >>= with_restart p.1) ≡ Some e
+      → (m : List ℕ) × ((o >>= first_atom) ≡ Some m) × Of m e
   unfolding app_named
   by_tuple None e h = cc
   by_tuple (Some []) e h = cc
@@ -82,21 +89,26 @@ module _ (names : NamesView) where
 
   -- ---- the list
 
-  pub entries_once : (ts : List Tree) → in_turn (boot_faults names) [] ts ≡ [] → AllPairs (λ (e later : App × Restart). e.0.0 ≢ later.0.0) (filter_map (boot_entry names) ts)
-  entries_once ts none = each_once (boot_faults names) app_in new_entry (boot_entry names) Of (λ (e later : App × Restart). e.0.0 ≢ later.0.0) entry_named other_app [] ts none
+  pub entries_once : (ts : List Tree) → in_turn (boot_faults names) [] ts ≡ [] → AllPairs (λ (e later : App × Restart). e.0.0 ≢ later.0.0)
+      (filter_map (boot_entry names) ts)
+  entries_once ts none = each_once (boot_faults names) app_in new_entry (boot_entry names) Of
+      (λ (e later : App × Restart). e.0.0 ≢ later.0.0) entry_named other_app [] ts none
 
   -- the parts of a SysConfig are in order
   abbrev pub IsInOrder : (List ℕ × Tree) → Type 0
   IsInOrder n = list_faults (entry_faults (is_among section_keys) (section_faults names)) n.1 ≡ []
 
-  boot_none : (config : Tree) → list_faults (entry_faults (is_among section_keys) (section_faults names)) config ≡ [] → in_turn (boot_faults names) [] (elements_under (codes "boot") (rehearse_of config)) ≡ []
+  boot_none : (config : Tree) → list_faults (entry_faults (is_among section_keys) (section_faults names)) config ≡ []
+      → in_turn (boot_faults names) [] (elements_under (codes "boot") (rehearse_of config)) ≡ []
   unfolding section_faults rehearse_faults
   boot_none config none =
       under_none (is_among rehearse_keys) (rehearse_faults names) (boot_faults names) (codes "boot") (rehearse_of config) (λ v k. k)
-      (under_none (is_among section_keys) (section_faults names) (entry_faults (is_among rehearse_keys) (rehearse_faults names)) (codes "rehearse") (elements config) (λ v k. k)
+      (under_none (is_among section_keys) (section_faults names) (entry_faults (is_among rehearse_keys) (rehearse_faults names)) (codes "rehearse")
+          (elements config) (λ v k. k)
       (list_none (entry_faults (is_among section_keys) (section_faults names)) config none))
 
-  pub boot_once_in : (n : List ℕ × Tree) → IsInOrder n → AllPairs (λ (e later : App × Restart). e.0.0 ≢ later.0.0) (filter_map (boot_entry names) (elements_under (codes "boot") (rehearse_of n.1)))
+  pub boot_once_in : (n : List ℕ × Tree) → IsInOrder n → AllPairs (λ (e later : App × Restart). e.0.0 ≢ later.0.0)
+      (filter_map (boot_entry names) (elements_under (codes "boot") (rehearse_of n.1)))
   boot_once_in n none = entries_once (elements_under (codes "boot") (rehearse_of n.1)) (boot_none n.1 none)
 
   -- ---- each node
@@ -105,10 +117,12 @@ module _ (names : NamesView) where
   unfolding parts_faults
   node_none platforms t n none h = ap (λ o. parts_faults_by names platforms o (as_app t)) (sym h) ∙ none
 
-  nodes_none : (platforms : List (List ℕ)) (earlier ts : List Tree) → in_turn (λ _ t. parts_faults names platforms t) earlier ts ≡ [] → All IsInOrder (nodes_in ts)
+  nodes_none : (platforms : List (List ℕ)) (earlier ts : List Tree) → in_turn (λ _ t. parts_faults names platforms t) earlier ts ≡ []
+      → All IsInOrder (nodes_in ts)
   nodes_none platforms earlier [] none = All-nil IsInOrder
   nodes_none platforms earlier (t ∷ ts) none =
-      All-cons_option IsInOrder (as_node t) (nodes_in ts) (λ n h. node_none platforms t n (none_left _ _ none) h) (nodes_none platforms (earlier ++ t ∷ []) ts (none_right _ _ none))
+      All-cons_option IsInOrder (as_node t) (nodes_in ts) (λ n h. node_none platforms t n (none_left _ _ none) h)
+          (nodes_none platforms (earlier ++ t ∷ []) ts (none_right _ _ none))
 
   pub in_order : (platforms : List (List ℕ)) (ts : List Tree) → parts_pass names platforms ts ≡ [] → All IsInOrder (nodes_in ts)
   unfolding parts_pass

@@ -16,7 +16,8 @@ unless_err : {A : Type 0} (fs : List ClusterFault) (v : A) (f : ClusterFault) �
 unless_err [] v f h = cc
 unless_err (g ∷ fs) v f h = cc
 
-gives : (r : Result ClusterView ClusterFault) (fs : List ClusterFault) (v : ClusterView) (read : Result ClusterView ClusterFault) → read ≡ unless fs v → Finds r fs → IfOk r (λ c. c ≡ v)
+gives : (r : Result ClusterView ClusterFault) (fs : List ClusterFault) (v : ClusterView) (read : Result ClusterView ClusterFault) → read ≡ unless fs v
+    → Finds r fs → IfOk r (λ c. c ≡ v)
     → Gives (λ c. c) r read
 gives (Ok x) [] v read e h is = e ∙ ap Ok (sym is)
 gives (Ok x) (f ∷ fs) v read e h is = cc
@@ -27,12 +28,14 @@ unfolding cluster_of
 cluster_of_terms bytes ts h = ap cluster_in h ∙ ap (λ us. unless (faults_in us) (cluster_view us)) (list_of_trees-trees_from ts)
 
 -- the text is a list of these terms
-pub read_gives : (bytes : List ℕ) (ts : List Tree) (r : Result ClusterView ClusterFault) → terms_of bytes ≡ Ok (trees_from ts) → Finds r (faults_in ts) → IfOk r (λ c. c ≡ cluster_view ts)
+pub read_gives : (bytes : List ℕ) (ts : List Tree) (r : Result ClusterView ClusterFault) → terms_of bytes ≡ Ok (trees_from ts) → Finds r (faults_in ts)
+    → IfOk r (λ c. c ≡ cluster_view ts)
     → Gives (λ c. c) r (cluster_of bytes)
 read_gives bytes ts r h finds is = gives r (faults_in ts) (cluster_view ts) (cluster_of bytes) (cluster_of_terms bytes ts h) finds is
 
 -- the text is none
-pub no_terms : (bytes : List ℕ) (e : TermFault) → FaultIs e (terms_of bytes) → fault.Term e ≢ fault.Term terms.OutOfMemory → cluster_of bytes ≡ Err (fault.Term e)
+pub no_terms : (bytes : List ℕ) (e : TermFault) → FaultIs e (terms_of bytes) → fault.Term e ≢ fault.Term terms.OutOfMemory
+    → cluster_of bytes ≡ Err (fault.Term e)
 unfolding cluster_of
 no_terms bytes terms.OutOfMemory h n = absurd (n refl)
 no_terms bytes (terms.Syntax line) h n = ap cluster_in h

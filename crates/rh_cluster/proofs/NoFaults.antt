@@ -1,5 +1,6 @@
 -- What follows where a stage finds no fault.
-use Rattle.std.proofs.Common.{◌≡◌, ◌≢◌, ◌<◌, ◌||◌, ◌&&◌, ℕ, Bool, true, false, cond, List, [], ◌∷◌, ◌++◌, map, get_or, flat_map, Option, Some, None, unwrap_or, option_map, slice_get, refl, sym, ap, ◌∙◌, subst, arith}
+use Rattle.std.proofs.Common.{◌≡◌, ◌≢◌, ◌<◌, ◌||◌, ◌&&◌, ℕ, Bool, true, false, cond, List, [], ◌∷◌, ◌++◌, map, get_or, flat_map, Option, Some, None, unwrap_or}
+use Rattle.std.proofs.Common.{option_map, slice_get, refl, sym, ap, ◌∙◌, subst, arith}
 use Rattle.std.specs.Prelude.{All, AllPairs, zero, suc}
 use Rattle.std.specs.List.{list_any, filter_map, cons_option}
 use Rattle.std.specs.Option.{option_or}
@@ -77,7 +78,8 @@ module _ (is_read : List ℕ → Bool) (value_faults : List ℕ → Tree → Lis
       ∙ otherwise (is_read e.0 && list_any (has_key e.0) earlier) fault.DuplicateParameter (value_faults e.0 e.1) none
 
   -- the value of a key
-  pub value_none : (earlier ts : List Tree) (key : List ℕ) (v : Tree) → in_turn (entry_faults is_read value_faults) earlier ts ≡ [] → value_under key ts ≡ Some v → value_faults key v ≡ []
+  pub value_none : (earlier ts : List Tree) (key : List ℕ) (v : Tree) → in_turn (entry_faults is_read value_faults) earlier ts ≡ []
+      → value_under key ts ≡ Some v → value_faults key v ≡ []
   unfolding entry_faults value_if
   value_none earlier [] key v none h = cc
   value_none earlier (t ∷ ts) key v none h =
@@ -105,18 +107,24 @@ pub All-cons_option : {Y : Type 0} (P : Y → Type 0) (o : Option Y) (ys : List 
 All-cons_option P None ys each rest = rest
 All-cons_option P (Some y) ys each rest = All-cons P y ys (each y refl) rest
 
-AllPairs-cons_option : {Y : Type 0} (R : Y → Y → Type 0) (o : Option Y) (ys : List Y) → ((y : Y) → o ≡ Some y → All (R y) ys) → AllPairs R ys → AllPairs R (cons_option o ys)
+AllPairs-cons_option : {Y : Type 0} (R : Y → Y → Type 0) (o : Option Y) (ys : List Y) → ((y : Y) → o ≡ Some y → All (R y) ys) → AllPairs R ys
+    → AllPairs R (cons_option o ys)
 AllPairs-cons_option R None ys each rest = rest
 AllPairs-cons_option R (Some y) ys each rest = AllPairs-cons R y ys (each y refl) rest
 
 -- Terms in turn are tested so that the name of each, by key, isn't that of an earlier one. What g gives of them, each with its name, comes once.
-module _ (f : List Tree → Tree → List ClusterFault) (key : Tree → Option (List ℕ)) (fresh : (earlier : List Tree) (t : Tree) (m : List ℕ) → f earlier t ≡ [] → key t ≡ Some m → is_among (filter_map key earlier) m ≡ false)
-    {Y : Type 0} (g : Tree → Option Y) (Of : List ℕ → Y → Type 0) (R : Y → Y → Type 0) (named : (t : Tree) (y : Y) → g t ≡ Some y → (m : List ℕ) × (key t ≡ Some m) × Of m y)
+module _ (f : List Tree → Tree → List ClusterFault) (key : Tree → Option (List ℕ))
+    (fresh : (earlier : List Tree) (t : Tree) (m : List ℕ) → f earlier t ≡ [] → key t ≡ Some m → is_among (filter_map key earlier) m ≡ false)
+    {Y : Type 0} (g : Tree → Option Y) (Of : List ℕ → Y → Type 0) (R : Y → Y → Type 0)
+        (named : (t : Tree) (y : Y) → g t ≡ Some y → (m : List ℕ) × (key t ≡ Some m) × Of m y)
     (apart : (m n : List ℕ) (x y : Y) → Of m x → Of n y → m ≢ n → R x y) where
-  among_more : (earlier : List Tree) (t : Tree) (m : List ℕ) → is_among (filter_map key (earlier ++ t ∷ [])) m ≡ (is_among (filter_map key earlier) m || is_among (cons_option (key t) []) m)
-  among_more earlier t m = ap (list_any (bytes_eq m)) (filter_map-append key earlier (t ∷ [])) ∙ list_any-append (bytes_eq m) (filter_map key earlier) (cons_option (key t) [])
+  among_more : (earlier : List Tree) (t : Tree) (m : List ℕ) → is_among (filter_map key (earlier ++ t ∷ [])) m
+      ≡ (is_among (filter_map key earlier) m || is_among (cons_option (key t) []) m)
+  among_more earlier t m = ap (list_any (bytes_eq m)) (filter_map-append key earlier (t ∷ []))
+      ∙ list_any-append (bytes_eq m) (filter_map key earlier) (cons_option (key t) [])
 
-  still_among : (earlier : List Tree) (t : Tree) (m : List ℕ) → is_among (filter_map key earlier) m ≡ true → is_among (filter_map key (earlier ++ t ∷ [])) m ≡ true
+  still_among : (earlier : List Tree) (t : Tree) (m : List ℕ) → is_among (filter_map key earlier) m ≡ true
+      → is_among (filter_map key (earlier ++ t ∷ [])) m ≡ true
   still_among earlier t m h = among_more earlier t m ∙ ap (λ b. b || is_among (cons_option (key t) []) m) h
 
   itself_among : (earlier : List Tree) (t : Tree) (m : List ℕ) → key t ≡ Some m → is_among (filter_map key (earlier ++ t ∷ [])) m ≡ true
@@ -128,7 +136,8 @@ module _ (f : List Tree → Tree → List ClusterFault) (key : Tree → Option (
   other_name : (earlier : List Tree) (m n : List ℕ) → is_among (filter_map key earlier) m ≡ true → is_among (filter_map key earlier) n ≡ false → m ≢ n
   other_name earlier m n here there same = let no : true ≡ false = sym here ∙ ap (is_among (filter_map key earlier)) same ∙ there in cc
 
-  later_apart : (earlier ts : List Tree) (m : List ℕ) (x : Y) → Of m x → is_among (filter_map key earlier) m ≡ true → in_turn f earlier ts ≡ [] → All (R x) (filter_map g ts)
+  later_apart : (earlier ts : List Tree) (m : List ℕ) (x : Y) → Of m x → is_among (filter_map key earlier) m ≡ true → in_turn f earlier ts ≡ []
+      → All (R x) (filter_map g ts)
   later_apart earlier [] m x is here none = All-nil (R x)
   later_apart earlier (t ∷ ts) m x is here none =
       All-cons_option (R x) (g t) (filter_map g ts)
@@ -146,7 +155,8 @@ module _ (f : List Tree → Tree → List ClusterFault) (key : Tree → Option (
 -- ---- elements by number
 
 -- what holds of what g makes of each element holds of what it makes of the one at a place
-pub at_place : {A B C : Type 0} (P : A → Type 0) (f : A → B) (g : B → List C) (Q : List C → Type 0) → Q [] → ((x : A) → P x → Q (g (f x))) → (xs : List A) → All P xs → (i : ℕ)
+pub at_place : {A B C : Type 0} (P : A → Type 0) (f : A → B) (g : B → List C) (Q : List C → Type 0) → Q [] → ((x : A) → P x → Q (g (f x))) → (xs : List A)
+    → All P xs → (i : ℕ)
     → Q (unwrap_or (option_map g (slice_get (map f xs) i)) [])
 at_place P f g Q nothing each [] all i = nothing
 at_place P f g Q nothing each (x ∷ xs) all zero = each x (All-head P x xs all)

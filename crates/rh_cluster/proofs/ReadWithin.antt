@@ -21,7 +21,8 @@ same_ok v c e = cc
 
 faultless : (ts : List Tree) → faults_in ts ≡ [] → IsWithin (cluster_view ts)
 unfolding faults_in
-faultless ts none = view_is_within ts (none_left (headers_pass ts) (faults_behind_headers ts) none) (none_right (headers_pass ts) (faults_behind_headers ts) none)
+faultless ts none = view_is_within ts (none_left (headers_pass ts) (faults_behind_headers ts) none)
+    (none_right (headers_pass ts) (faults_behind_headers ts) none)
 
 within_unless : (ts : List Tree) (c : ClusterView) (faults : List ClusterFault) → faults_in ts ≡ faults → unless faults (cluster_view ts) ≡ Ok c → IsWithin c
 within_unless ts c [] none read = subst IsWithin (same_ok (cluster_view ts) c read) (faultless ts none)

@@ -1,5 +1,6 @@
 -- The fourth stage: what the nodes must agree on (kernel(6), `distributed` and `sync_nodes_timeout`).
-use Rattle.std.specs.Prelude.{ℕ, List, [], ◌∷◌, ◌++◌, length, flat_map, Bool, true, false, not, ◌&&◌, ◌||◌, ◌==◌, slice_get, Option, Some, None, unwrap_or, if◌then◌else◌}
+use Rattle.std.specs.Prelude.{ℕ, List, [], ◌∷◌, ◌++◌, length, flat_map, Bool, true, false, not, ◌&&◌, ◌||◌, ◌==◌, slice_get, Option, Some, None, unwrap_or}
+use Rattle.std.specs.Prelude.{if◌then◌else◌}
 use Rattle.std.specs.List.{list_any, list_all, range_with_len}
 use Rattle.std.specs.Option.{option_map}
 use Rattle.rh_sections.specs.declared.fault.ClusterFault.{ClusterFault}

@@ -1,5 +1,6 @@
 -- What the parts of a term are, where they are in order.
-use Rattle.std.specs.Prelude.{ℕ, List, [], ◌∷◌, ◌++◌, length, map, filter_map, flat_map, fold, position, Bool, true, false, not, ◌&&◌, ◌||◌, ◌==◌, nat_le, is_some, Option, Some, None, unwrap_or, codes, if◌then◌else◌}
+use Rattle.std.specs.Prelude.{ℕ, List, [], ◌∷◌, ◌++◌, length, map, filter_map, flat_map, fold, position, Bool, true, false, not, ◌&&◌, ◌||◌, ◌==◌, nat_le}
+use Rattle.std.specs.Prelude.{is_some, Option, Some, None, unwrap_or, codes, if◌then◌else◌}
 use Rattle.std.specs.List.{list_any, list_all}
 use Rattle.std.specs.Option.{option_map, option_or}
 use Rattle.std.specs.Str.{bytes_eq}
@@ -79,7 +80,8 @@ with_name names name = if is_among names name then names else names ++ name ∷ 
 unfoldable pub with_first_name : List (List ℕ) → List ℕ → List (List ℕ)
 with_first_name names name = if nat_le 256 (length names) then names else with_name names name
 
--- With the names of one platform list: `first` are the first 256 different names, of whatever lists; `known` are those of well-shaped lists, which hold atoms alone.
+-- With the names of one platform list: `first` are the first 256 different names, of whatever lists; `known` are those
+-- of well-shaped lists, which hold atoms alone.
 unfoldable pub with_platforms : Platforms → Tree → Platforms
 with_platforms p v = record {
   first = fold with_first_name p.first (atoms (elements v));

@@ -7,7 +7,8 @@ use Rattle.rh_base.proofs.Lists.{any_push, cases}
 use Rattle.rh_settle.proofs.Places.{or_left, or_right}
 
 -- one that passes is found
-pub any_at : {A : Type 0} (p : A → Bool) (f : ℕ → A) (start len k : ℕ) → start ≤ k → k < start + len → p (f k) ≡ true → list_any p (map f (range_with_len start len)) ≡ true
+pub any_at : {A : Type 0} (p : A → Bool) (f : ℕ → A) (start len k : ℕ) → start ≤ k → k < start + len → p (f k) ≡ true
+    → list_any p (map f (range_with_len start len)) ≡ true
 any_at p f start zero k ge lt h = absurd (omega arith)
 any_at p f start (suc len) k ge lt h = cases (nat_eq start k)
     (λ t. or_left (p (f start)) _ (ap (λ (i : ℕ). p (f i)) (equal start k t) ∙ h))
@@ -20,7 +21,8 @@ any_at p f start (suc len) k ge lt h = cases (nat_eq start k)
     above i j d l = grind (arith, nat_tests)
 
 -- none among the first i + 1 passes if none among the first i does
-pub none_more : {A : Type 0} (p : A → Bool) (f : ℕ → A) (i : ℕ) → list_any p (map f (range_with_len 0 i)) ≡ false → p (f i) ≡ false → list_any p (map f (range_with_len 0 (i + 1))) ≡ false
+pub none_more : {A : Type 0} (p : A → Bool) (f : ℕ → A) (i : ℕ) → list_any p (map f (range_with_len 0 i)) ≡ false → p (f i) ≡ false
+    → list_any p (map f (range_with_len 0 (i + 1))) ≡ false
 none_more p f i before here =
     ap (list_any p) (map-range_with_len_more f 0 i i (omega arith))
     ∙ any_push p (map f (range_with_len 0 i)) (f i)

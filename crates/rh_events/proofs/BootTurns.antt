@@ -26,30 +26,37 @@ any_default (x ∷ xs) zero d e l = refl
 any_default (x ∷ xs) (suc k) d e l = any_default xs k d e (omega arith)
 
 -- from s on, the first i of the boot list are marked, which led to t, and none of the others is started
-module _ (s t : StateView) (n : Node) (i : ℕ) (within : IsWithin s.cluster) (cluster : t.cluster ≡ s.cluster) (boot : List Booted) (is : boot ≡ boot_of t.cluster n) where
+module _ (s t : StateView) (n : Node) (i : ℕ) (within : IsWithin s.cluster) (cluster : t.cluster ≡ s.cluster) (boot : List Booted)
+    (is : boot ≡ boot_of t.cluster n) where
   pub boot_is : boot ≡ boot_of s.cluster n
   boot_is = is ∙ ap (λ (c : ClusterView). boot_of c n) cluster
 
-  module _ (lt : i < length (boot_of s.cluster n)) (rest : (k : ℕ) (d : Booted) → i ≤ k → k < length (boot_of s.cluster n) → is_started t n (get_or (boot_of s.cluster n) k d).0 ≡ false) where
+  module _ (lt : i < length (boot_of s.cluster n))
+      (rest : (k : ℕ) (d : Booted) → i ≤ k → k < length (boot_of s.cluster n) → is_started t n (get_or (boot_of s.cluster n) k d).0 ≡ false) where
     pub next_app_within : (d : Booted) → (get_or boot i d).0.0 < app_count t.cluster
     next_app_within d =
         subst (λ (xs : List Booted). (get_or xs i d).0.0 < app_count t.cluster) (sym boot_is)
         (subst (λ (c : ClusterView). (get_or (boot_of s.cluster n) i d).0.0 < app_count c) (sym cluster) (within.boot n i d lt))
 
     pub next_is_off : (d : Booted) → place_of t n (get_or boot i d).0 ≡ Off
-    next_is_off d = subst (λ (xs : List Booted). place_of t n (get_or xs i d).0 ≡ Off) (sym boot_is) (off (get_or (boot_of s.cluster n) i d).0 (rest i d (omega arith) lt))
+    next_is_off d = subst (λ (xs : List Booted). place_of t n (get_or xs i d).0 ≡ Off) (sym boot_is)
+        (off (get_or (boot_of s.cluster n) i d).0 (rest i d (omega arith) lt))
       where
         off : (a : App) → is_started t n a ≡ false → place_of t n a ≡ Off
         off a h = let apart = not_started (runs_at t n a) (waits_at t n a) h in off_of t n a apart.0 apart.1
 
-    module _ (u : StateView) (d : Booted) (before after : List Pair) (marked : (notices : List Notice) → course u notices after ≡ mark (course t notices before) n (get_or boot i d).0 (get_or boot i d).1) where
-      marked_next : (notices : List Notice) → course u notices after ≡ mark (course t notices before) n (get_or (boot_of s.cluster n) i d).0 (get_or (boot_of s.cluster n) i d).1
-      marked_next notices = subst (λ (xs : List Booted). course u notices after ≡ mark (course t notices before) n (get_or xs i d).0 (get_or xs i d).1) boot_is (marked notices)
+    module _ (u : StateView) (d : Booted) (before after : List Pair)
+        (marked : (notices : List Notice) → course u notices after ≡ mark (course t notices before) n (get_or boot i d).0 (get_or boot i d).1) where
+      marked_next : (notices : List Notice) → course u notices after ≡ mark (course t notices before) n (get_or (boot_of s.cluster n) i d).0
+          (get_or (boot_of s.cluster n) i d).1
+      marked_next notices = subst (λ (xs : List Booted). course u notices after ≡ mark (course t notices before) n (get_or xs i d).0 (get_or xs i d).1) boot_is
+          (marked notices)
 
       state_is : u ≡ with_mark t n (get_or (boot_of s.cluster n) i d).0 (get_or (boot_of s.cluster n) i d).1
       state_is = ap (λ (o : Course). o.state) (marked_next [])
 
-      pub one_more : (o : List Notice → Course) → ((notices : List Notice) → course t notices before ≡ fold (mark_booted n) (o notices) (take i (boot_of s.cluster n)))
+      pub one_more : (o : List Notice → Course) → ((notices : List Notice) → course t notices before
+          ≡ fold (mark_booted n) (o notices) (take i (boot_of s.cluster n)))
           → (notices : List Notice) → course u notices after ≡ fold (mark_booted n) (o notices) (take (i + 1) (boot_of s.cluster n))
       one_more o same notices =
           marked_next notices
@@ -57,7 +64,8 @@ module _ (s t : StateView) (n : Node) (i : ℕ) (within : IsWithin s.cluster) (c
           ∙ sym (fold_more (mark_booted n) (o notices) (boot_of s.cluster n) i d lt)
 
       pub same_cluster : u.cluster ≡ s.cluster
-      same_cluster = ap (λ (v : StateView). v.cluster) state_is ∙ mark_cluster t n (get_or (boot_of s.cluster n) i d).0 (get_or (boot_of s.cluster n) i d).1 ∙ cluster
+      same_cluster = ap (λ (v : StateView). v.cluster) state_is ∙ mark_cluster t n (get_or (boot_of s.cluster n) i d).0 (get_or (boot_of s.cluster n) i d).1
+          ∙ cluster
 
       pub others_off : (k : ℕ) (e : Booted) → i + 1 ≤ k → k < length (boot_of s.cluster n) → is_started u n (get_or (boot_of s.cluster n) k e).0 ≡ false
       others_off k e h l =

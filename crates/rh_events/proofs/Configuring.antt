@@ -34,7 +34,8 @@ over_all (x ∷ xs) [] h = refl
 over_all (x ∷ xs) (y ∷ ys) h = ap (λ zs. x ∷ zs) (over_all xs ys (omega (arith, h)))
 
 -- a cell of a row that was just written
-pub cell_of_set : {A : Type 0} (table : List (List A)) (n : ℕ) (xs : List A) (i : ℕ) (v : A) → with_cell (slice_set table n xs) n i v ≡ slice_set table n (slice_set xs i v)
+pub cell_of_set : {A : Type 0} (table : List (List A)) (n : ℕ) (xs : List A) (i : ℕ) (v : A)
+    → with_cell (slice_set table n xs) n i v ≡ slice_set table n (slice_set xs i v)
 cell_of_set [] n xs i v = refl
 cell_of_set (ys ∷ table) zero xs i v = refl
 cell_of_set (ys ∷ table) (suc n) xs i v = ap (λ zs. ys ∷ zs) (cell_of_set table n xs i v)
@@ -56,13 +57,15 @@ pub none_written : (s : StateView) (n : Node) → s ≡ with_first s n 0
 none_written s n = λ i. record s { allowed = sym (set_same s.allowed n.0 []) i }
 
 length-first : (c : ClusterView) (n : Node) (i : ℕ) → length (first_permissions c n i) ≡ i
-length-first c n i = length-map (map app_numbered (range_with_len 0 i)) (is_permitted c n) ∙ length-map (range_with_len 0 i) app_numbered ∙ length-range_with_len 0 i
+length-first c n i = length-map (map app_numbered (range_with_len 0 i)) (is_permitted c n) ∙ length-map (range_with_len 0 i) app_numbered
+    ∙ length-range_with_len 0 i
 
 module _ (s : StateView) (n : Node) (shape : IsShaped s) (number : IsNodeOf s.cluster n) where
   row_length : length (row s.allowed n.0) ≡ app_count s.cluster
   row_length = row_has (λ cells. length cells ≡ app_count s.cluster) s.allowed n.0 shape.allowed_rows (let e = shape.allowed in omega (arith, e, number))
 
-  pub one_written : (i : ℕ) → i < app_count s.cluster → with_allowed (with_first s n i) n (app_numbered i) (is_permitted s.cluster n (app_numbered i)) ≡ with_first s n (i + 1)
+  pub one_written : (i : ℕ) → i < app_count s.cluster → with_allowed (with_first s n i) n (app_numbered i) (is_permitted s.cluster n (app_numbered i))
+      ≡ with_first s n (i + 1)
   one_written i lt =
       let old : List Bool = row s.allowed n.0 in
       let before : List Bool = first_permissions s.cluster n i in

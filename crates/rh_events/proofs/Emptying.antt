@@ -1,5 +1,6 @@
 -- A node that is emptied, one application after the other.
-use Rattle.std.proofs.Common.{◌≡◌, ◌<◌, ◌≤◌, ◌+◌, ◌||◌, ℕ, zero, suc, Bool, true, false, not, List, [], ◌∷◌, length, Option, Some, None, IsNone, IfSome, unwrap_or, slice_get, slice_set, refl, sym, ap, ◌∙◌, arith}
+use Rattle.std.proofs.Common.{◌≡◌, ◌<◌, ◌≤◌, ◌+◌, ◌||◌, ℕ, zero, suc, Bool, true, false, not, List, [], ◌∷◌, length, Option, Some, None, IsNone, IfSome}
+use Rattle.std.proofs.Common.{unwrap_or, slice_get, slice_set, refl, sym, ap, ◌∙◌, arith}
 use Rattle.rh_model.specs.declared.node.Node.{Node}
 use Rattle.rh_model.specs.declared.node.App.{App}
 use Rattle.rh_state.specs.Numbers.{same_app}
@@ -59,7 +60,8 @@ shorter (x ∷ xs) a h =
 
 -- ---- the first that is started
 pub runs_first : (s : StateView) (n : Node) (a : App) → slice_get (running_at s n) 0 ≡ Some a → is_started s n a ≡ true
-runs_first s n a e = or_left (runs_at s n a) _ (is_in_list (λ b. has_app (running_at s n) b ≡ true) (slice_get (running_at s n) 0) a (first_is_next (running_at s n)) e)
+runs_first s n a e = or_left (runs_at s n a) _ (is_in_list (λ b. has_app (running_at s n) b ≡ true) (slice_get (running_at s n) 0) a
+    (first_is_next (running_at s n)) e)
 
 pub waits_first : (s : StateView) (n : Node) → IfSome (slice_get (waiting_at s n) 0) (λ a. is_started s n a ≡ true)
 waits_first s n = by (slice_get (waiting_at s n) 0) (first_is_next (waiting_at s n))

@@ -19,7 +19,8 @@ use Rattle.rh_events.specs.declared.event.Event.{Event}
 use Rattle.rh_events.specs.declared.event.Event.TheVariants.{Boot, Crash, Tick, Start, Stop, Permit, Takeover, Exit}
 use Rattle.rh_events.specs.Marking.{with_distributed_standing, with_mark}
 use Rattle.rh_events.specs.Ending.{timeout_of, cleared, lost_at, lost_from, lost_if_ran, all_lost, ended}
-use Rattle.rh_events.specs.ByHand.{stopped, is_started_anywhere, quiet_if_nowhere, left_waiting, forbidden, permitted, taken_from, taken_over, ends_node, exited}
+use Rattle.rh_events.specs.ByHand.{stopped, is_started_anywhere, quiet_if_nowhere, left_waiting, forbidden, permitted, taken_from, taken_over, ends_node}
+use Rattle.rh_events.specs.ByHand.{exited}
 use Rattle.rh_events.specs.Changes.{with_sync_timer, booted, change}
 use Rattle.rh_events.proofs.Marks.{mark_any}
 
@@ -31,14 +32,16 @@ pub record SameNodes (s t : StateView) : Type 0 where
   pub incarnations : t.incarnations ≡ s.incarnations
 
 pub same_then : (s t u : StateView) → SameNodes s t → SameNodes t u → SameNodes s u
-same_then s t u h k = record { cluster = k.cluster ∙ h.cluster; time = k.time ∙ h.time; modes = k.modes ∙ h.modes; incarnations = k.incarnations ∙ h.incarnations }
+same_then s t u h k = record { cluster = k.cluster ∙ h.cluster; time = k.time ∙ h.time; modes = k.modes ∙ h.modes; incarnations = k.incarnations
+    ∙ h.incarnations }
 
 -- ---- a node that ends
 one_lost_same : (n : Node) (s : StateView) (a : App) → SameNodes s (lost_if_ran n s a)
 unfolding lost_if_ran
 one_lost_same n s a = by (standing_of s a)
   where
-    at : (b : Bool) → SameNodes s (cond b (with_standing s a (Wanted (Some n))) (with_timer (with_standing s a (Lost n)) (s.time + timeout_of s.cluster a) (Failover a)))
+    at : (b : Bool) → SameNodes s (cond b (with_standing s a (Wanted (Some n)))
+        (with_timer (with_standing s a (Lost n)) (s.time + timeout_of s.cluster a) (Failover a)))
     at true = record { cluster = refl; time = refl; modes = refl; incarnations = refl }
     at false = record { cluster = refl; time = refl; modes = refl; incarnations = refl }
 
@@ -54,7 +57,8 @@ one_lost_same n s a = by (standing_of s a)
 
 pub each_lost_same : (n : Node) (apps : List App) (s : StateView) → SameNodes s (fold (lost_if_ran n) s apps)
 each_lost_same n [] s = record { cluster = refl; time = refl; modes = refl; incarnations = refl }
-each_lost_same n (a ∷ apps) s = same_then s (lost_if_ran n s a) (fold (lost_if_ran n) (lost_if_ran n s a) apps) (one_lost_same n s a) (each_lost_same n apps (lost_if_ran n s a))
+each_lost_same n (a ∷ apps) s = same_then s (lost_if_ran n s a) (fold (lost_if_ran n) (lost_if_ran n s a) apps) (one_lost_same n s a)
+    (each_lost_same n apps (lost_if_ran n s a))
 
 pub ended_cluster : (o : Course) (n : Node) → (ended o n).state.cluster ≡ o.state.cluster
 unfolding ended all_lost cleared
@@ -111,7 +115,8 @@ unfolding permitted forbidden
 permitted_same o n a allow = by (not allow && (is_allowed o.state n a && runs_at o.state n a))
   where
     by : (b : Bool) → SameNodes o.state (cond b (forbidden o n a) (record o { state = with_allowed o.state n a allow })).state
-    by true = distributed_same o.state (with_stopped (with_allowed o.state n a false) n a) a (Wanted None) record { cluster = refl; time = refl; modes = refl; incarnations = refl }
+    by true = distributed_same o.state (with_stopped (with_allowed o.state n a false) n a) a (Wanted None)
+        record { cluster = refl; time = refl; modes = refl; incarnations = refl }
     by false = record { cluster = refl; time = refl; modes = refl; incarnations = refl }
 
 pub taken_over_same : (o : Course) (n : Node) (a : App) (r : Restart) → SameNodes o.state (taken_over o n a r).state

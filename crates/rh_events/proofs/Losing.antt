@@ -1,5 +1,6 @@
 -- Applications that are lost, one after the other.
-use Rattle.std.proofs.Common.{◌≡◌, ◌≢◌, ◌≤◌, ◌+◌, ◌==◌, ℕ, suc, Bool, true, false, cond, not, List, [], ◌∷◌, map, fold, find, Option, Some, None, IsNone, is_some, refl, sym, ap, ◌∙◌, subst, arith, nat_le}
+use Rattle.std.proofs.Common.{◌≡◌, ◌≢◌, ◌≤◌, ◌+◌, ◌==◌, ℕ, suc, Bool, true, false, cond, not, List, [], ◌∷◌, map, fold, find, Option, Some, None, IsNone}
+use Rattle.std.proofs.Common.{is_some, refl, sym, ap, ◌∙◌, subst, arith, nat_le}
 use Rattle.std.specs.List.{range_with_len}
 use Rattle.std.specs.Option.{option_map}
 use Rattle.std.proofs.lemmas.List.FromFn.{map-range_with_len_more}
@@ -75,7 +76,8 @@ agree_self s a = record { standing = refl; due = refl; cluster = refl }
 lost_at_others : (s : StateView) (n : Node) (a b : App) → b.0 ≢ a.0 → Agree s (lost_at s n a) b
 lost_at_others s n a b other = by (timeout_of s.cluster a == 0)
   where
-    by : (p : Bool) → Agree s (cond p (with_standing s a (Wanted (Some n))) (with_timer (with_standing s a (Lost n)) (s.time + timeout_of s.cluster a) (Failover a))) b
+    by : (p : Bool) → Agree s (cond p (with_standing s a (Wanted (Some n)))
+        (with_timer (with_standing s a (Lost n)) (s.time + timeout_of s.cluster a) (Failover a))) b
     by true = record { standing = at_set_there s.standings a.0 b.0 (Wanted (Some n)) Quiet other; due = refl; cluster = refl }
     by false = record {
       standing = at_set_there s.standings a.0 b.0 (Lost n) Quiet other;

@@ -25,17 +25,20 @@ without_pushed : (xs : List App) (a : App) → without_app (xs ++ a ∷ []) a �
 without_pushed [] a = filter_no (λ b. not (same_app a b)) a [] (ap not (same_refl a.0))
 without_pushed (x ∷ xs) a = by (not (same_app a x)) (without_pushed xs a)
   where
-    by : (b : Bool) → without_app (xs ++ a ∷ []) a ≡ without_app xs a → cond b (x ∷ without_app (xs ++ a ∷ []) a) (without_app (xs ++ a ∷ []) a) ≡ cond b (x ∷ without_app xs a) (without_app xs a)
+    by : (b : Bool) → without_app (xs ++ a ∷ []) a ≡ without_app xs a → cond b (x ∷ without_app (xs ++ a ∷ []) a) (without_app (xs ++ a ∷ []) a)
+        ≡ cond b (x ∷ without_app xs a) (without_app xs a)
     by true h = ap (λ ys. x ∷ ys) h
     by false h = h
 
-put_and_taken : (table : List (List App)) (n : ℕ) (a : App) → slice_set (slice_set table n (row table n ++ a ∷ [])) n (without_app (row (slice_set table n (row table n ++ a ∷ [])) n) a) ≡ slice_set table n (without_app (row table n) a)
+put_and_taken : (table : List (List App)) (n : ℕ) (a : App) → slice_set (slice_set table n (row table n ++ a ∷ [])) n
+    (without_app (row (slice_set table n (row table n ++ a ∷ [])) n) a) ≡ slice_set table n (without_app (row table n) a)
 put_and_taken [] n a = refl
 put_and_taken (xs ∷ table) zero a = ap (λ ys. ys ∷ table) (without_pushed xs a)
 put_and_taken (xs ∷ table) (suc n) a = ap (λ ys. xs ∷ ys) (put_and_taken table n a)
 
 pub unlisted_waiting : (s : StateView) (n : Node) (a : App) → unlisted (with_waiting s n a) n a ≡ unlisted s n a
-unlisted_waiting s n a = ap (λ table. record s { running = slice_set s.running n.0 (without_app (row s.running n.0) a); waiting = table }) (put_and_taken s.waiting n.0 a)
+unlisted_waiting s n a = ap (λ table. record s { running = slice_set s.running n.0 (without_app (row s.running n.0) a); waiting = table })
+    (put_and_taken s.waiting n.0 a)
 
 pub waits_now : (s : StateView) (n : Node) (a : App) → IsShaped s → IsNodeOf s.cluster n → place_of (with_waiting s n a) n a ≢ Off
 waits_now s n a shape number =
@@ -48,4 +51,5 @@ waits_now s n a shape number =
 pub same_takeover : (s t : StateView) (a : App) (m n : Node) (notices : List Notice) (marked : List Pair) → unlisted t n a ≡ unlisted s n a
     → moved (course t notices marked) (Takeover a m n) ≡ moved (course s notices marked) (Takeover a m n)
 same_takeover s t a m n notices marked e =
-    ap (λ (u : StateView). told (told (course (with_standing (with_stopped (with_kind (with_running u n a) n a (kind.Takeover m)) m a) a (Running n)) notices marked) (notice.Started a n (kind.Takeover m) None)) (notice.Stopped a m)) e
+    ap (λ (u : StateView). told (told (course (with_standing (with_stopped (with_kind (with_running u n a) n a (kind.Takeover m)) m a) a
+        (Running n)) notices marked) (notice.Started a n (kind.Takeover m) None)) (notice.Stopped a m)) e

@@ -1,5 +1,6 @@
 -- After the ready nodes have come up none is ready: a node that comes up readies no other, since it was alive before.
-use Rattle.std.proofs.Common.{◌≡◌, ◌<◌, ◌≤◌, ◌&&◌, ◌++◌, ℕ, zero, suc, Bool, true, false, cond, List, [], ◌∷◌, length, fold, get_or, slice_get, unwrap_or, refl, sym, ap, ◌∙◌, subst, inl, inr, arith, nat_eq}
+use Rattle.std.proofs.Common.{◌≡◌, ◌<◌, ◌≤◌, ◌&&◌, ◌++◌, ℕ, zero, suc, Bool, true, false, cond, List, [], ◌∷◌, length, fold, get_or, slice_get, unwrap_or, refl}
+use Rattle.std.proofs.Common.{sym, ap, ◌∙◌, subst, inl, inr, arith, nat_eq}
 use Rattle.std.specs.List.{list_all}
 use Rattle.std.proofs.lemmas.Bool.{and_left}
 use Rattle.std.proofs.lemmas.Bool.Decides.{leb_tells}
@@ -43,13 +44,15 @@ alive_from_waiting Waiting h = refl
 alive_from_waiting Up h = refl
 
 -- ---- marks change no mode
-others_remade : (s : StateView) (w : List (List App)) (r : List (List Restart)) (st : List Standing) (ts : List (ℕ × Timer)) (m : Node) (wait : SyncWait) → has_others (remade s w r st ts) m wait ≡ has_others s m wait
+others_remade : (s : StateView) (w : List (List App)) (r : List (List Restart)) (st : List Standing) (ts : List (ℕ × Timer)) (m : Node) (wait : SyncWait)
+    → has_others (remade s w r st ts) m wait ≡ has_others s m wait
 unfolding all_alive
 others_remade s w r st ts m Unset = refl
 others_remade s w r st ts m (After ms) = refl
 others_remade s w r st ts m Forever = refl
 
-ready_remade : (s : StateView) (w : List (List App)) (r : List (List Restart)) (st : List Standing) (ts : List (ℕ × Timer)) (m : Node) → is_ready (remade s w r st ts) m ≡ is_ready s m
+ready_remade : (s : StateView) (w : List (List App)) (r : List (List Restart)) (st : List Standing) (ts : List (ℕ × Timer)) (m : Node)
+    → is_ready (remade s w r st ts) m ≡ is_ready s m
 unfolding is_ready
 ready_remade s w r st ts m = ap (λ b. is_waiting (mode_of s m) && b) (others_remade s w r st ts m (sync_wait_of s.cluster m))
 
@@ -86,7 +89,8 @@ module _ (s : StateView) (n : Node) (waits : is_waiting (mode_of s n) ≡ true) 
   unfolding is_ready
   none_readied m not_ready = cases (nat_eq m.0 n.0)
       (λ t. up_not_ready m (same_number m.0 n.0 t))
-      (λ f. ap (λ (mode : Mode). is_waiting mode && has_others (up s n) m (sync_wait_of s.cluster m)) (at_set_there s.modes n.0 m.0 Up Down (other_number m.0 n.0 f))
+      (λ f. ap (λ (mode : Mode). is_waiting mode && has_others (up s n) m (sync_wait_of s.cluster m))
+          (at_set_there s.modes n.0 m.0 Up Down (other_number m.0 n.0 f))
       ∙ ap (λ b. is_waiting (mode_of s m) && b) (others_kept m (sync_wait_of s.cluster m))
       ∙ not_ready)
 
@@ -113,7 +117,8 @@ steps_ready_none (n ∷ ns) o m h = steps_ready_none ns (come_up_if_ready o n) m
 
 steps_settle : (ns : List Node) (o : Course) (k : ℕ) (m : Node) → k < length ns → get_or ns k m ≡ m → is_ready (fold come_up_if_ready o ns).state m ≡ false
 steps_settle [] o k m l e = absurd (omega arith)
-steps_settle (n ∷ ns) o zero m l e = steps_ready_none ns (come_up_if_ready o n) m (subst (λ (x : Node). is_ready (come_up_if_ready o n).state x ≡ false) e (step_settles o n))
+steps_settle (n ∷ ns) o zero m l e = steps_ready_none ns (come_up_if_ready o n) m
+    (subst (λ (x : Node). is_ready (come_up_if_ready o n).state x ≡ false) e (step_settles o n))
 steps_settle (n ∷ ns) o (suc k) m l e = steps_settle ns (come_up_if_ready o n) k m (omega arith) e
 
 -- a node that the cluster doesn't have waits for nothing

@@ -30,7 +30,8 @@ use Rattle.rh_events.specs.Changes.{change}
 pub mark_after : (base : List Notice) (o : Course) (n : Node) (a : App) (r : Restart) → mark (after_notices base o) n a r ≡ after_notices base (mark o n a r)
 mark_after base o n a r = refl
 
-pub mark_all_after : (base : List Notice) (o : Course) (n : Node) (boot : List (App × Restart)) → mark_all (after_notices base o) n boot ≡ after_notices base (mark_all o n boot)
+pub mark_all_after : (base : List Notice) (o : Course) (n : Node) (boot : List (App × Restart))
+    → mark_all (after_notices base o) n boot ≡ after_notices base (mark_all o n boot)
 unfolding mark_all
 mark_all_after base o n boot = fold_after base (mark_booted n) (λ p booted. refl) o boot
 
@@ -41,7 +42,8 @@ come_up_after base o n =
     ap (λ (q : Course). mark_all q n (boot_of o.state.cluster n)) (told_after base p (notice.Up n))
     ∙ mark_all_after base (told p (notice.Up n)) n (boot_of o.state.cluster n)
 
-pub come_up_if_ready_after : (base : List Notice) (o : Course) (n : Node) → come_up_if_ready (after_notices base o) n ≡ after_notices base (come_up_if_ready o n)
+pub come_up_if_ready_after : (base : List Notice) (o : Course) (n : Node) → come_up_if_ready (after_notices base o) n
+    ≡ after_notices base (come_up_if_ready o n)
 unfolding come_up_if_ready
 come_up_if_ready_after base o n = by (is_ready o.state n)
   where
@@ -63,23 +65,28 @@ pub stopped_after : (base : List Notice) (o : Course) (n : Node) (a : App) → s
 unfolding stopped
 stopped_after base o n a = told_after base (now_in o (with_distributed_standing (unlisted o.state n a) a Quiet)) (notice.Stopped a n)
 
-pub left_waiting_after : (base : List Notice) (o : Course) (n : Node) (a : App) → left_waiting (after_notices base o) n a ≡ after_notices base (left_waiting o n a)
+pub left_waiting_after : (base : List Notice) (o : Course) (n : Node) (a : App) → left_waiting (after_notices base o) n a
+    ≡ after_notices base (left_waiting o n a)
 unfolding left_waiting
 left_waiting_after base o n a = refl
 
 forbidden_after : (base : List Notice) (o : Course) (n : Node) (a : App) → forbidden (after_notices base o) n a ≡ after_notices base (forbidden o n a)
 unfolding forbidden
-forbidden_after base o n a = told_after base (now_in o (with_distributed_standing (with_stopped (with_allowed o.state n a false) n a) a (Wanted None))) (notice.Stopped a n)
+forbidden_after base o n a = told_after base (now_in o (with_distributed_standing (with_stopped (with_allowed o.state n a false) n a) a (Wanted None)))
+    (notice.Stopped a n)
 
-pub permitted_after : (base : List Notice) (o : Course) (n : Node) (a : App) (allow : Bool) → permitted (after_notices base o) n a allow ≡ after_notices base (permitted o n a allow)
+pub permitted_after : (base : List Notice) (o : Course) (n : Node) (a : App) (allow : Bool)
+    → permitted (after_notices base o) n a allow ≡ after_notices base (permitted o n a allow)
 unfolding permitted
 permitted_after base o n a allow = by (not allow && (is_allowed o.state n a && runs_at o.state n a))
   where
-    by : (b : Bool) → cond b (forbidden (after_notices base o) n a) (now_in (after_notices base o) (with_allowed o.state n a allow)) ≡ after_notices base (cond b (forbidden o n a) (now_in o (with_allowed o.state n a allow)))
+    by : (b : Bool) → cond b (forbidden (after_notices base o) n a) (now_in (after_notices base o) (with_allowed o.state n a allow))
+        ≡ after_notices base (cond b (forbidden o n a) (now_in o (with_allowed o.state n a allow)))
     by true = forbidden_after base o n a
     by false = refl
 
-pub taken_over_after : (base : List Notice) (o : Course) (n : Node) (a : App) (r : Restart) → taken_over (after_notices base o) n a r ≡ after_notices base (taken_over o n a r)
+pub taken_over_after : (base : List Notice) (o : Course) (n : Node) (a : App) (r : Restart)
+    → taken_over (after_notices base o) n a r ≡ after_notices base (taken_over o n a r)
 unfolding taken_over
 taken_over_after base o n a r = by (standing_of o.state a)
   where
@@ -89,7 +96,8 @@ taken_over_after base o n a r = by (standing_of o.state a)
     by (Running m) = moved_after base (now_in o (with_restart o.state n a r)) (move.Takeover a m n)
     by (Lost m) = refl
 
-pub exited_after : (base : List Notice) (o : Course) (n : Node) (a : App) (normal : Bool) → exited (after_notices base o) n a normal ≡ after_notices base (exited o n a normal)
+pub exited_after : (base : List Notice) (o : Course) (n : Node) (a : App) (normal : Bool)
+    → exited (after_notices base o) n a normal ≡ after_notices base (exited o n a normal)
 unfolding exited
 exited_after base o n a normal = by (ends_node (restart_of o.state n a) normal)
   where
@@ -105,7 +113,8 @@ change_after base o (Tick ms) = refl
 change_after base o (Start n a r) = mark_after base o n a r
 change_after base o (Stop n a) = by (runs_at o.state n a)
   where
-    by : (b : Bool) → cond b (stopped (after_notices base o) n a) (left_waiting (after_notices base o) n a) ≡ after_notices base (cond b (stopped o n a) (left_waiting o n a))
+    by : (b : Bool) → cond b (stopped (after_notices base o) n a) (left_waiting (after_notices base o) n a)
+        ≡ after_notices base (cond b (stopped o n a) (left_waiting o n a))
     by true = stopped_after base o n a
     by false = left_waiting_after base o n a
 change_after base o (Permit n a allow) = permitted_after base o n a allow

@@ -83,7 +83,8 @@ module _ (s : StateView) (n : Node) (h : IsSound s) (is_node : IsNodeOf s.cluste
   Needs m set = set ≡ (is_waiting (mode_of (waits s n) m) && is_timed (sync_wait_of s.cluster m))
 
   needs_here : (m : Node) (set : Bool) → m.0 ≡ n.0 → set ≡ is_timed (sync_wait_of s.cluster n) → Needs m set
-  needs_here m set e is = is ∙ sym (ap (λ k. is_timed (sync_wait_of s.cluster (numbered k))) e) ∙ sym (ap (λ mode. is_waiting mode && is_timed (sync_wait_of s.cluster m)) (here m e))
+  needs_here m set e is = is ∙ sym (ap (λ k. is_timed (sync_wait_of s.cluster (numbered k))) e)
+      ∙ sym (ap (λ mode. is_waiting mode && is_timed (sync_wait_of s.cluster m)) (here m e))
 
   needs_there : (m : Node) (set : Bool) → m.0 ≢ n.0 → set ≡ is_set (Sync m) s.timers → Needs m set
   needs_there m set d is = is ∙ h.timers.sync m ∙ sym (ap (λ mode. is_waiting mode && is_timed (sync_wait_of s.cluster m)) (there m d))
@@ -106,7 +107,8 @@ module _ (s : StateView) (n : Node) (h : IsSound s) (is_node : IsNodeOf s.cluste
       let new : ℕ × Timer = (s.time + ms, Sync n) in
       record {
         sync = λ m. by_node (λ m. Needs m (is_set (Sync m) (with_timer (waits s n) (s.time + ms) (Sync n)).timers)) m
-            (λ e. needs_here m _ e (ap (λ k. is_set (Sync (numbered k)) (with_timer (waits s n) (s.time + ms) (Sync n)).timers) e ∙ set-behind new s.timers ∙ sym some))
+            (λ e. needs_here m _ e (ap (λ k. is_set (Sync (numbered k)) (with_timer (waits s n) (s.time + ms) (Sync n)).timers) e ∙ set-behind new s.timers
+                ∙ sym some))
             (λ d. needs_there m _ d (set-behind_other new (Sync m) s.timers (differ m.0 n.0 d)));
         failover = λ a. set-behind_other new (Failover a) s.timers refl ∙ h.timers.failover a;
         once = once-behind new s.timers unset h.timers.once;

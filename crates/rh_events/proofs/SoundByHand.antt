@@ -33,7 +33,8 @@ abbrev pub relieved : StateView → Node → App → List (List App) → List (L
 relieved s n a waiting allowed = record s { running = taken s.running n.0 a; waiting = waiting; allowed = allowed }
 
 -- an application that stands nowhere as running at the node stands as before
-pub sound_unlisted : (s : StateView) (n : Node) (a : App) (waiting : List (List App)) (allowed : List (List Bool)) → ((m : Node) → standing_of s a ≡ Running m → m.0 ≢ n.0)
+pub sound_unlisted : (s : StateView) (n : Node) (a : App) (waiting : List (List App)) (allowed : List (List Bool))
+    → ((m : Node) → standing_of s a ≡ Running m → m.0 ≢ n.0)
     → ListsFit (relieved s n a waiting allowed) → IsSound s → IsSound (relieved s n a waiting allowed)
 sound_unlisted s n a waiting allowed elsewhere lists h = record {
   within = h.within;
@@ -55,7 +56,8 @@ sound_unlisted s n a waiting allowed elsewhere lists h = record {
 
 -- a distributed one that ran nowhere else stands otherwise
 pub sound_relieved : (s : StateView) (n : Node) (a : App) (waiting : List (List App)) (allowed : List (List Bool)) (st : Standing) (timers : List (ℕ × Timer))
-    → is_local s.cluster a ≡ false → IsNodeOf s.cluster n → IsAppOf s.cluster a → ((m : Node) → st ≡ Running m → ⊥) → ((m : Node) → runs_at s m a ≡ true → m.0 ≡ n.0)
+    → is_local s.cluster a ≡ false → IsNodeOf s.cluster n → IsAppOf s.cluster a → ((m : Node) → st ≡ Running m → ⊥)
+        → ((m : Node) → runs_at s m a ≡ true → m.0 ≡ n.0)
     → TimersFit (restood s a st timers) → ListsFit (relieved s n a waiting allowed) → IsSound s → IsSound (restood (relieved s n a waiting allowed) a st timers)
 sound_relieved s n a waiting allowed st timers distributed node app stops here fit lists h =
     let l = lists_restood (relieved s n a waiting allowed) a st timers lists in
@@ -97,11 +99,14 @@ wanted_never m e = cc
 
 -- a distributed application runs at one node
 runs_alone : (s : StateView) (n m : Node) (a : App) → IsSound s → is_local s.cluster a ≡ false → runs_at s n a ≡ true → runs_at s m a ≡ true → m.0 ≡ n.0
-runs_alone s n m a h distributed r q = ap (λ (x : Node). x.0) (same_running m n (sym (h.standing.stands m a distributed q) ∙ h.standing.stands n a distributed r))
+runs_alone s n m a h distributed r q = ap (λ (x : Node). x.0)
+    (same_running m n (sym (h.standing.stands m a distributed q) ∙ h.standing.stands n a distributed r))
 
 -- a pair that ran runs no more, and the application stands so if it is distributed
-stands_down : (s : StateView) (n : Node) (a : App) (waiting : List (List App)) (allowed : List (List Bool)) (st : Standing) → ((m : Node) → st ≡ Running m → ⊥) → is_lost st ≡ false
-    → IsSound s → IsNodeOf s.cluster n → IsAppOf s.cluster a → runs_at s n a ≡ true → ListsFit (relieved s n a waiting allowed) → IsSound (with_distributed_standing (relieved s n a waiting allowed) a st)
+stands_down : (s : StateView) (n : Node) (a : App) (waiting : List (List App)) (allowed : List (List Bool)) (st : Standing) → ((m : Node) → st ≡ Running m → ⊥)
+    → is_lost st ≡ false
+    → IsSound s → IsNodeOf s.cluster n → IsAppOf s.cluster a → runs_at s n a ≡ true → ListsFit (relieved s n a waiting allowed)
+        → IsSound (with_distributed_standing (relieved s n a waiting allowed) a st)
 stands_down s n a waiting allowed st stops found h node app r lists = by (is_local s.cluster a) refl
   where
     by : (b : Bool) → is_local s.cluster a ≡ b → IsSound (cond b (relieved s n a waiting allowed) (with_standing (relieved s n a waiting allowed) a st))
@@ -111,14 +116,16 @@ stands_down s n a waiting allowed st stops found h node app r lists = by (is_loc
         (fit_standing s a st (found ∙ sym (ap is_lost (h.standing.stands n a distributed r))) h.timers)
         lists h
 
-pub sound_stopped : (o : Course) (n : Node) (a : App) → IsSound o.state → IsNodeOf o.state.cluster n → IsAppOf o.state.cluster a → runs_at o.state n a ≡ true → IsSound (stopped o n a).state
+pub sound_stopped : (o : Course) (n : Node) (a : App) → IsSound o.state → IsNodeOf o.state.cluster n → IsAppOf o.state.cluster a → runs_at o.state n a ≡ true
+    → IsSound (stopped o n a).state
 unfolding stopped
 sound_stopped o n a h node app r =
     let s : StateView = o.state in
     stands_down s n a (taken s.waiting n.0 a) s.allowed Quiet never_running refl h node app r (lists_unlisted s n a (lists_fit s h))
 
 -- ---- leaving where it waits
-pub sound_left_waiting : (o : Course) (n : Node) (a : App) → IsSound o.state → IsNodeOf o.state.cluster n → IsAppOf o.state.cluster a → waits_at o.state n a ≡ true → runs_at o.state n a ≡ false
+pub sound_left_waiting : (o : Course) (n : Node) (a : App) → IsSound o.state → IsNodeOf o.state.cluster n → IsAppOf o.state.cluster a
+    → waits_at o.state n a ≡ true → runs_at o.state n a ≡ false
     → IsSound (left_waiting o n a).state
 unfolding left_waiting
 sound_left_waiting o n a h node app w r = by (standing_of o.state a) refl
@@ -154,7 +161,8 @@ sound_left_waiting o n a h node app w r = by (standing_of o.state a) refl
 
         go : (b : Bool) → IsSound (cond b (unlisted s n a) (with_standing (unlisted s n a) a Quiet))
         go true = stays (λ m q. absurd (stops m (sym e ∙ q)))
-        go false = sound_relieved s n a (taken s.waiting n.0 a) s.allowed Quiet s.timers (free (Wanted from) e other) node app never_running (nowhere (Wanted from) e other stops)
+        go false = sound_relieved s n a (taken s.waiting n.0 a) s.allowed Quiet s.timers (free (Wanted from) e other) node app never_running
+            (nowhere (Wanted from) e other stops)
             (fit_standing s a Quiet (sym (ap is_lost e)) h.timers) lists h
     by (Running k) e = stays (λ m q f. both (runs_at s n a) (ap (λ i. has s.running i a) (sym f) ∙ h.runs.runs a m q) r)
     by (Lost k) e = go (is_started_anywhere (unlisted s n a) a)
@@ -167,7 +175,8 @@ sound_left_waiting o n a h node app w r = by (standing_of o.state a) refl
 
         go : (b : Bool) → IsSound (cond b (unlisted s n a) (without_due (with_standing (unlisted s n a) a Quiet) (Failover a)))
         go true = stays (λ m q. absurd (stops m (sym e ∙ q)))
-        go false = sound_relieved s n a (taken s.waiting n.0 a) s.allowed Quiet (without_due s (Failover a)).timers (free (Lost k) e other) node app never_running (nowhere (Lost k) e other stops)
+        go false = sound_relieved s n a (taken s.waiting n.0 a) s.allowed Quiet (without_due s (Failover a)).timers
+            (free (Lost k) e other) node app never_running (nowhere (Lost k) e other stops)
             (fit_found s a Quiet in_standings refl h.timers) lists h
 
 -- ---- permissions
@@ -184,7 +193,8 @@ sound_allowed s n a allow h up =
       timers = record { sync = h.timers.sync; failover = h.timers.failover; once = h.timers.once; order = h.timers.order; due = h.timers.due };
     }
 
-pub lists_stopped : (s : StateView) (n : Node) (a : App) → IsNodeOf s.cluster n → IsAppOf s.cluster a → is_up (mode_of s n) ≡ true → is_listed_at s.cluster a n ≡ true → ListsFit s
+pub lists_stopped : (s : StateView) (n : Node) (a : App) → IsNodeOf s.cluster n → IsAppOf s.cluster a → is_up (mode_of s n) ≡ true
+    → is_listed_at s.cluster a n ≡ true → ListsFit s
     → ListsFit (with_stopped s n a)
 lists_stopped s n a node app up listed h =
     lists_waiting (unlisted s n a) n a up app listed
@@ -192,7 +202,8 @@ lists_stopped s n a node app up listed h =
     (taken_not s.waiting n.0 a (let e = h.sized.waiting in omega (arith, e, node)))
     (lists_unlisted s n a h)
 
-sound_forbidden : (o : Course) (n : Node) (a : App) → IsSound o.state → IsNodeOf o.state.cluster n → IsAppOf o.state.cluster a → is_up (mode_of o.state n) ≡ true → runs_at o.state n a ≡ true
+sound_forbidden : (o : Course) (n : Node) (a : App) → IsSound o.state → IsNodeOf o.state.cluster n → IsAppOf o.state.cluster a
+    → is_up (mode_of o.state n) ≡ true → runs_at o.state n a ≡ true
     → IsSound (forbidden o n a).state
 unfolding forbidden
 sound_forbidden o n a h node app up r =
@@ -207,17 +218,20 @@ last_of true true r h = h
 last_of true false r h = cc
 last_of false q r h = cc
 
-pub sound_permitted : (o : Course) (n : Node) (a : App) (allow : Bool) → IsSound o.state → IsNodeOf o.state.cluster n → IsAppOf o.state.cluster a → is_up (mode_of o.state n) ≡ true
+pub sound_permitted : (o : Course) (n : Node) (a : App) (allow : Bool) → IsSound o.state → IsNodeOf o.state.cluster n → IsAppOf o.state.cluster a
+    → is_up (mode_of o.state n) ≡ true
     → IsSound (permitted o n a allow).state
 unfolding permitted
 sound_permitted o n a allow h node app up = by (not allow && (is_allowed o.state n a && runs_at o.state n a)) refl
   where
-    by : (b : Bool) → (not allow && (is_allowed o.state n a && runs_at o.state n a)) ≡ b → IsSound (cond b (forbidden o n a) (record o { state = with_allowed o.state n a allow })).state
+    by : (b : Bool) → (not allow && (is_allowed o.state n a && runs_at o.state n a)) ≡ b
+        → IsSound (cond b (forbidden o n a) (record o { state = with_allowed o.state n a allow })).state
     by true t = sound_forbidden o n a h node app up (last_of (not allow) (is_allowed o.state n a) (runs_at o.state n a) t)
     by false f = sound_allowed o.state n a allow h up
 
 -- ---- an application that ends
-pub sound_exited : (o : Course) (n : Node) (a : App) (normal : Bool) → IsSound o.state → IsNodeOf o.state.cluster n → IsAppOf o.state.cluster a → runs_at o.state n a ≡ true
+pub sound_exited : (o : Course) (n : Node) (a : App) (normal : Bool) → IsSound o.state → IsNodeOf o.state.cluster n → IsAppOf o.state.cluster a
+    → runs_at o.state n a ≡ true
     → IsSound (exited o n a normal).state
 unfolding exited
 sound_exited o n a normal h node app r = by (ends_node (restart_of o.state n a) normal)

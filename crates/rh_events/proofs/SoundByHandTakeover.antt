@@ -20,7 +20,8 @@ use Rattle.rh_settle.specs.Soundness.{IsSound, is_lost}
 use Rattle.rh_base.proofs.Lists.{cases}
 use Rattle.rh_settle.proofs.Places.{or_left}
 use Rattle.rh_events.specs.ByHand.{taken_from, taken_over}
-use Rattle.rh_settle.proofs.Entries.{same_number, other_number, both, row_there, taken, put, has, taken_has, taken_not, taken_keeps, there, put_has, put_keeps, put_gives}
+use Rattle.rh_settle.proofs.Entries.{same_number, other_number, both, row_there, taken, put, has, taken_has, taken_not, taken_keeps, there, put_has, put_keeps}
+use Rattle.rh_settle.proofs.Entries.{put_gives}
 use Rattle.rh_events.proofs.Tables.{at_pair}
 use Rattle.rh_events.proofs.SoundEndingFits.{stands_here, stands_there, fit_standing}
 use Rattle.rh_events.proofs.SoundEndingLists.{ListsFit, lists_fit, up_where_runs, lists_unlisted, lists_running, restood, lists_restood}
@@ -58,7 +59,8 @@ module _ (s : StateView) (m n : Node) (a : App) (h : IsSound s) (node : IsNodeOf
       let l = row_there s.running m.0 a runs_there in omega (arith, e, f, l)
 
   lists_started : ListsFit (with_running (unlisted s n a) n a)
-  lists_started = lists_running (unlisted s n a) n a up app listed (taken_not s.running n.0 a in_running) (taken_not s.waiting n.0 a in_waiting) (lists_unlisted s n a (lists_fit s h))
+  lists_started = lists_running (unlisted s n a) n a up app listed (taken_not s.running n.0 a in_running) (taken_not s.waiting n.0 a in_waiting)
+      (lists_unlisted s n a (lists_fit s h))
 
   within_m : IsNodeOf s.cluster m
   within_m = let e = h.sized.running in let l = row_there s.running m.0 a runs_there in omega (arith, e, l)
@@ -71,7 +73,8 @@ module _ (s : StateView) (m n : Node) (a : App) (h : IsSound s) (node : IsNodeOf
   -- it runs at no third node, and no more at m
   at_n : (k : Node) → has (taken both_run m.0 a) k.0 a ≡ true → Running n ≡ Running k
   at_n k r = cases (same_node k m)
-      (λ t. both (has (taken both_run m.0 a) m.0 a) (ap (λ i. has (taken both_run m.0 a) i a) (sym (same_number k.0 m.0 t)) ∙ r) (taken_not both_run m.0 a in_both))
+      (λ t. both (has (taken both_run m.0 a) m.0 a) (ap (λ i. has (taken both_run m.0 a) i a) (sym (same_number k.0 m.0 t)) ∙ r)
+          (taken_not both_run m.0 a in_both))
       (λ d. put_has left_at n.0 k.0 a a (taken_has both_run m.0 k.0 a a r)
       (λ before. absurd (other_number k.0 m.0 d (ap (λ (x : Node). x.0) (same_running k m (sym (ran k (taken_has s.running n.0 k.0 a a before)) ∙ stood)))))
       (λ e t. ap (λ i. Running (record { 0 = i })) (sym e)))
@@ -127,7 +130,8 @@ module _ (s : StateView) (m n : Node) (a : App) (h : IsSound s) (node : IsNodeOf
         };
         runs = record {
           runs = λ b k e. cases (same_app b a)
-              (λ t. ap (λ i. has (taken both_run m.0 a) i b) (ap (λ (x : Node). x.0) (same_running k n (sym e ∙ stands_here s a b (Running n) in_standings t))) ∙ runs_now b t)
+              (λ t. ap (λ i. has (taken both_run m.0 a) i b) (ap (λ (x : Node). x.0) (same_running k n (sym e ∙ stands_here s a b (Running n) in_standings t)))
+                  ∙ runs_now b t)
               (λ d. run_still k b d (h.runs.runs b k (sym (stands_there s a b (Running n) d) ∙ e)));
         };
         timers = record { sync = f.sync; failover = f.failover; once = f.once; order = f.order; due = f.due };
@@ -136,7 +140,8 @@ module _ (s : StateView) (m n : Node) (a : App) (h : IsSound s) (node : IsNodeOf
       clash : Running m ≡ Quiet → ⊥
       clash e = cc
 
-pub sound_taken_over : (o : Course) (n : Node) (a : App) (r : Restart) → IsSound o.state → IsNodeOf o.state.cluster n → IsAppOf o.state.cluster a → is_up (mode_of o.state n) ≡ true
+pub sound_taken_over : (o : Course) (n : Node) (a : App) (r : Restart) → IsSound o.state → IsNodeOf o.state.cluster n → IsAppOf o.state.cluster a
+    → is_up (mode_of o.state n) ≡ true
     → is_listed_at o.state.cluster a n ≡ true → ((m : Node) → standing_of o.state a ≡ Running m → same_node m n ≡ false) → IsSound (taken_over o n a r).state
 unfolding taken_over
 sound_taken_over o n a r h node app up listed elsewhere = by (standing_of o.state a) refl

@@ -1,5 +1,6 @@
 -- Nodes that come up keep a state sound.
-use Rattle.std.proofs.Common.{◌≡◌, ◌≢◌, ◌<◌, ◌≤◌, ◌&&◌, ◌+◌, ℕ, zero, suc, Bool, true, false, cond, is_some, List, [], ◌∷◌, fold, get_or, map, refl, sym, ap, ◌∙◌, arith, nat_eq, unwrap_or, slice_get, subst, All, AllPairs}
+use Rattle.std.proofs.Common.{◌≡◌, ◌≢◌, ◌<◌, ◌≤◌, ◌&&◌, ◌+◌, ℕ, zero, suc, Bool, true, false, cond, is_some, List, [], ◌∷◌, fold, get_or, map, refl, sym, ap}
+use Rattle.std.proofs.Common.{◌∙◌, arith, nat_eq, unwrap_or, slice_get, subst, All, AllPairs}
 use Rattle.std.specs.List.{range_with_len}
 use Rattle.std.proofs.lemmas.Bool.{and_parts}
 use Rattle.std.proofs.lemmas.List.{length-set}
@@ -103,13 +104,15 @@ rest_fits o n b boot h = (
   (λ k d l. subst (λ (c : ClusterView). (get_or boot k d).0.0 < app_count c) (sym c) (h.0 (suc k) d (omega arith))),
   (λ i j d l m. h.1 (suc i) (suc j) d (omega arith) (omega arith)),
   (λ k d l. subst (λ (c : ClusterView). is_listed_at c (get_or boot k d).0 n ≡ true) (sym c) (h.2 (suc k) d (omega arith))),
-  (λ k d l. mark_starts_no_other o.state n b.0 (get_or boot k d).0 b.1 (λ e. h.1 0 (suc k) d (omega arith) (omega arith) (sym e)) (h.3 (suc k) d (omega arith))),
+  (λ k d l. mark_starts_no_other o.state n b.0 (get_or boot k d).0 b.1 (λ e. h.1 0 (suc k) d (omega arith) (omega arith) (sym e))
+      (h.3 (suc k) d (omega arith))),
 )
   where
     c : (mark o n b.0 b.1).state.cluster ≡ o.state.cluster
     c = mark_cluster o.state n b.0 b.1
 
-sound_marks : (boot : List (App × Restart)) (o : Course) (n : Node) → IsSound o.state → IsNodeOf o.state.cluster n → is_up (mode_of o.state n) ≡ true → Fits o n boot → IsSound (fold (mark_booted n) o boot).state
+sound_marks : (boot : List (App × Restart)) (o : Course) (n : Node) → IsSound o.state → IsNodeOf o.state.cluster n → is_up (mode_of o.state n) ≡ true
+    → Fits o n boot → IsSound (fold (mark_booted n) o boot).state
 sound_marks [] o n h is_node is_up_there fits = h
 sound_marks (b ∷ boot) o n h is_node is_up_there fits =
     let c = mark_cluster o.state n b.0 b.1 in

@@ -1,5 +1,6 @@
 -- A node that ends keeps a state sound.
-use Rattle.std.proofs.Common.{◌≡◌, ◌≢◌, ◌<◌, ◌≤◌, ◌+◌, ◌==◌, ℕ, zero, suc, Bool, true, false, cond, ◌||◌, List, [], ◌∷◌, length, map, fold, refl, sym, ap, ◌∙◌, subst, arith, slice_get, slice_set, unwrap_or, Some}
+use Rattle.std.proofs.Common.{◌≡◌, ◌≢◌, ◌<◌, ◌≤◌, ◌+◌, ◌==◌, ℕ, zero, suc, Bool, true, false, cond, ◌||◌, List, [], ◌∷◌, length, map, fold, refl, sym, ap, ◌∙◌}
+use Rattle.std.proofs.Common.{subst, arith, slice_get, slice_set, unwrap_or, Some}
 use Rattle.std.specs.List.{range_with_len, list_any}
 use Rattle.std.proofs.lemmas.Bool.Decides.{nat_tests}
 use Rattle.std.proofs.lemmas.List.{length-set}
@@ -57,7 +58,8 @@ emptied_empty : (table : List (List App)) (n m : ℕ) → row table m ≡ [] →
 emptied_empty table n m h = at_set table n m [] [] (λ e. e ∙ h) (λ e v. v)
 
 -- a node that isn't up then is that node, or wasn't up
-by_mode : {P : Type 0} (s : StateView) (n m : Node) → is_up (unwrap_or (slice_get (slice_set s.modes n.0 Down) m.0) Down) ≡ false → (m.0 ≡ n.0 → P) → (m.0 ≢ n.0 → is_up (mode_of s m) ≡ false → P) → P
+by_mode : {P : Type 0} (s : StateView) (n m : Node) → is_up (unwrap_or (slice_get (slice_set s.modes n.0 Down) m.0) Down) ≡ false → (m.0 ≡ n.0 → P)
+    → (m.0 ≢ n.0 → is_up (mode_of s m) ≡ false → P) → P
 by_mode s n m f here there = cases (same_node m n)
     (λ t. here (same_number m.0 n.0 t))
     (λ d. there (other_number m.0 n.0 d) (sym (ap is_up (at_set_there s.modes n.0 m.0 Down Down (other_number m.0 n.0 d))) ∙ f))
@@ -80,13 +82,17 @@ lists_cleared s n h within = record {
     apps = λ m a t. h.sized.apps m a (started_before s n m a t);
   };
   once = record {
-    running = λ m. at_set s.running n.0 m.0 [] [] (λ e. subst AreOnce (sym e) (h.once.running m)) (λ e v. subst AreOnce (sym v) (λ i j d l k. absurd (omega arith)));
-    waiting = λ m. at_set s.waiting n.0 m.0 [] [] (λ e. subst AreOnce (sym e) (h.once.waiting m)) (λ e v. subst AreOnce (sym v) (λ i j d l k. absurd (omega arith)));
+    running = λ m. at_set s.running n.0 m.0 [] [] (λ e. subst AreOnce (sym e) (h.once.running m))
+        (λ e v. subst AreOnce (sym v) (λ i j d l k. absurd (omega arith)));
+    waiting = λ m. at_set s.waiting n.0 m.0 [] [] (λ e. subst AreOnce (sym e) (h.once.waiting m))
+        (λ e v. subst AreOnce (sym v) (λ i j d l k. absurd (omega arith)));
     apart = λ m a w. is_false _ (λ r. both (runs_at s m a) (emptied_has s.running n.0 m.0 a r) (h.once.apart m a (emptied_has s.waiting n.0 m.0 a w)));
   };
   idle = record {
-    running = λ m f. by_mode s n m f (λ e. ap (λ k. row (slice_set s.running n.0 []) k) e ∙ emptied_row s.running n.0) (λ d g. emptied_empty s.running n.0 m.0 (h.idle.running m g));
-    waiting = λ m f. by_mode s n m f (λ e. ap (λ k. row (slice_set s.waiting n.0 []) k) e ∙ emptied_row s.waiting n.0) (λ d g. emptied_empty s.waiting n.0 m.0 (h.idle.waiting m g));
+    running = λ m f. by_mode s n m f (λ e. ap (λ k. row (slice_set s.running n.0 []) k) e ∙ emptied_row s.running n.0)
+        (λ d g. emptied_empty s.running n.0 m.0 (h.idle.running m g));
+    waiting = λ m f. by_mode s n m f (λ e. ap (λ k. row (slice_set s.waiting n.0 []) k) e ∙ emptied_row s.waiting n.0)
+        (λ d g. emptied_empty s.waiting n.0 m.0 (h.idle.waiting m g));
     permissions = λ m of f. by_mode s n m f
         (λ e. ap (λ k. row (slice_set s.allowed n.0 (configured s.cluster n)) k) e
         ∙ at_set_here s.allowed n.0 (configured s.cluster n) [] (let l = h.sized.allowed in omega (arith, l, within))
@@ -135,7 +141,8 @@ sound_cleared s n h within = record {
 -- ---- each application that ran there is lost
 
 -- one that doesn't stand as running there is to be lost no more
-not_left : (n : Node) (s : StateView) (a : App) (rest : List App) → ((m : Node) → standing_of s a ≡ Running m → same_node m n ≡ false) → IsSoundBut n (a ∷ rest) s → IsSoundBut n rest s
+not_left : (n : Node) (s : StateView) (a : App) (rest : List App) → ((m : Node) → standing_of s a ≡ Running m → same_node m n ≡ false)
+    → IsSoundBut n (a ∷ rest) s → IsSoundBut n rest s
 not_left n s a rest elsewhere h = record {
   within = h.within;
   lists = h.lists;
@@ -151,7 +158,8 @@ not_left n s a rest elsewhere h = record {
 
 -- one that stood so stands otherwise
 stands_otherwise : (n k : Node) (s : StateView) (a : App) (rest : List App) (st : Standing) (timers : List (ℕ × Timer)) → ((m : Node) → st ≡ Running m → ⊥)
-    → standing_of s a ≡ Running k → same_node k n ≡ true → TimersFit (restood s a st timers) → IsSoundBut n (a ∷ rest) s → IsSoundBut n rest (restood s a st timers)
+    → standing_of s a ≡ Running k → same_node k n ≡ true → TimersFit (restood s a st timers) → IsSoundBut n (a ∷ rest) s
+        → IsSoundBut n rest (restood s a st timers)
 stands_otherwise n k s a rest st timers stops stood here fit h = record {
   within = h.within;
   lists = lists_restood s a st timers h.lists;
@@ -181,7 +189,8 @@ stands_otherwise n k s a rest st timers stops stood here fit h = record {
     never_quiet : Running k ≡ Quiet → ⊥
     never_quiet e = cc
 
-lost_here : (n k : Node) (s : StateView) (a : App) (rest : List App) → standing_of s a ≡ Running k → same_node k n ≡ true → IsSoundBut n (a ∷ rest) s → IsSoundBut n rest (lost_at s n a)
+lost_here : (n k : Node) (s : StateView) (a : App) (rest : List App) → standing_of s a ≡ Running k → same_node k n ≡ true → IsSoundBut n (a ∷ rest) s
+    → IsSoundBut n rest (lost_at s n a)
 lost_here n k s a rest stood here h = by (timeout_of s.cluster a == 0)
   where
     wanted_stops : (m : Node) → Wanted (Some n) ≡ Running m → ⊥
@@ -190,8 +199,10 @@ lost_here n k s a rest stood here h = by (timeout_of s.cluster a == 0)
     lost_stops : (m : Node) → Lost n ≡ Running m → ⊥
     lost_stops m e = cc
 
-    by : (b : Bool) → IsSoundBut n rest (cond b (with_standing s a (Wanted (Some n))) (with_timer (with_standing s a (Lost n)) (s.time + timeout_of s.cluster a) (Failover a)))
-    by true = stands_otherwise n k s a rest (Wanted (Some n)) s.timers wanted_stops stood here (fit_standing s a (Wanted (Some n)) (sym (ap is_lost stood)) h.timers) h
+    by : (b : Bool) → IsSoundBut n rest (cond b (with_standing s a (Wanted (Some n)))
+        (with_timer (with_standing s a (Lost n)) (s.time + timeout_of s.cluster a) (Failover a)))
+    by true = stands_otherwise n k s a rest (Wanted (Some n)) s.timers wanted_stops stood here
+        (fit_standing s a (Wanted (Some n)) (sym (ap is_lost stood)) h.timers) h
     by false = stands_otherwise n k s a rest (Lost n) (with_timer s (s.time + timeout_of s.cluster a) (Failover a)).timers lost_stops stood here
         (fit_lost s a (Lost n) (s.time + timeout_of s.cluster a) (stands_within s.standings a.0 k stood) refl (ap is_lost stood) (omega arith) h.timers) h
 

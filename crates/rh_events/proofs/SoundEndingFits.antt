@@ -44,7 +44,8 @@ fit_standing s a st e h = record {
 }
 
 -- one that is lost no more
-pub fit_found : (s : StateView) (a : App) (st : Standing) → a.0 < length s.standings → is_lost st ≡ false → TimersFit s → TimersFit (without_due (with_standing s a st) (Failover a))
+pub fit_found : (s : StateView) (a : App) (st : Standing) → a.0 < length s.standings → is_lost st ≡ false → TimersFit s
+    → TimersFit (without_due (with_standing s a st) (Failover a))
 fit_found s a st lt e h = record {
   sync = λ n. set-without_other (Failover a) (Sync n) s.timers refl ∙ h.sync n;
   failover = λ b. cases (same_app b a)
@@ -58,7 +59,8 @@ fit_found s a st lt e h = record {
 }
 
 -- one that is lost now
-pub fit_lost : (s : StateView) (a : App) (st : Standing) (due : ℕ) → a.0 < length s.standings → is_lost st ≡ true → is_lost (standing_of s a) ≡ false → s.time ≤ due → TimersFit s
+pub fit_lost : (s : StateView) (a : App) (st : Standing) (due : ℕ) → a.0 < length s.standings → is_lost st ≡ true → is_lost (standing_of s a) ≡ false
+    → s.time ≤ due → TimersFit s
     → TimersFit (with_timer (with_standing s a st) due (Failover a))
 fit_lost s a st due lt lost before later h =
     let unset : is_set (Failover a) s.timers ≡ false = h.failover a ∙ before in

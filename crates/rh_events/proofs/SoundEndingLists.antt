@@ -94,7 +94,8 @@ lists_running s n a up app listed r w h = record {
     waiting = h.idle.waiting;
     permissions = h.idle.permissions;
   };
-  listed = λ m b t. started m b t (h.listed m b) (λ e f. carried (λ i j. is_listed_at s.cluster (record { 0 = j }) (record { 0 = i }) ≡ true) n.0 m.0 a.0 b.0 e f listed);
+  listed = λ m b t. started m b t (h.listed m b) (λ e f. carried (λ i j. is_listed_at s.cluster (record { 0 = j }) (record { 0 = i })
+      ≡ true) n.0 m.0 a.0 b.0 e f listed);
 }
   where
     started : {P : Type 0} (m : Node) (b : App) → is_started (with_running s n a) m b ≡ true → (is_started s m b ≡ true → P) → (m.0 ≡ n.0 → b.0 ≡ a.0 → P) → P
@@ -127,7 +128,8 @@ lists_waiting s n a up app listed r w h = record {
     waiting = λ m f. at_set_there s.waiting n.0 m.0 (row s.waiting n.0 ++ a ∷ []) [] (elsewhere s n m up f) ∙ h.idle.waiting m f;
     permissions = h.idle.permissions;
   };
-  listed = λ m b t. started m b t (h.listed m b) (λ e f. carried (λ i j. is_listed_at s.cluster (record { 0 = j }) (record { 0 = i }) ≡ true) n.0 m.0 a.0 b.0 e f listed);
+  listed = λ m b t. started m b t (h.listed m b) (λ e f. carried (λ i j. is_listed_at s.cluster (record { 0 = j }) (record { 0 = i })
+      ≡ true) n.0 m.0 a.0 b.0 e f listed);
 }
   where
     started : {P : Type 0} (m : Node) (b : App) → is_started (with_waiting s n a) m b ≡ true → (is_started s m b ≡ true → P) → (m.0 ≡ n.0 → b.0 ≡ a.0 → P) → P
@@ -152,7 +154,8 @@ lists_allowed s n a allow up h = record {
   idle = record {
     running = h.idle.running;
     waiting = h.idle.waiting;
-    permissions = λ m within f. at_set_there s.allowed n.0 m.0 (slice_set (row s.allowed n.0) a.0 allow) [] (elsewhere s n m up f) ∙ h.idle.permissions m within f;
+    permissions = λ m within f. at_set_there s.allowed n.0 m.0 (slice_set (row s.allowed n.0) a.0 allow) [] (elsewhere s n m up f)
+        ∙ h.idle.permissions m within f;
   };
   listed = h.listed;
 }

@@ -1,5 +1,6 @@
 -- A mark keeps a state sound.
-use Rattle.std.proofs.Common.{◌≡◌, ◌≢◌, ◌≤◌, ◌||◌, Bool, true, false, cond, is_some, [], ◌∷◌, ◌++◌, refl, sym, ap, ◌∙◌, arith, nat_eq, subst, Option, Some, None}
+use Rattle.std.proofs.Common.{◌≡◌, ◌≢◌, ◌≤◌, ◌||◌, Bool, true, false, cond, is_some, [], ◌∷◌, ◌++◌, refl, sym, ap, ◌∙◌, arith, nat_eq, subst, Option, Some}
+use Rattle.std.proofs.Common.{None}
 use Rattle.std.proofs.lemmas.List.{length-set}
 use Rattle.rh_model.specs.declared.node.Node.{Node}
 use Rattle.rh_model.specs.declared.node.App.{App}
@@ -32,7 +33,8 @@ neither true q e f = cc
 neither false q e f = f
 
 -- what is started when one pair more waits: what was, and the pair
-started_before : {P : Type 0} (s : StateView) (n m : Node) (a b : App) → is_started (with_waiting s n a) m b ≡ true → (is_started s m b ≡ true → P) → (m.0 ≡ n.0 → same_app b a ≡ true → P) → P
+started_before : {P : Type 0} (s : StateView) (n m : Node) (a b : App) → is_started (with_waiting s n a) m b ≡ true → (is_started s m b ≡ true → P)
+    → (m.0 ≡ n.0 → same_app b a ≡ true → P) → P
 started_before {P} s n m a b h before more = by (runs_at s m b) refl h
   where
     by : (p : Bool) → runs_at s m b ≡ p → p || waits_at (with_waiting s n a) m b ≡ true → P
@@ -40,7 +42,8 @@ started_before {P} s n m a b h before more = by (runs_at s m b) refl h
     by false e h = put_has s.waiting n.0 m.0 a b h (λ w. before (or_right (runs_at s m b) _ w)) more
 
 -- a pair waits at a node that is up, and may be started there
-module _ (s : StateView) (n : Node) (a : App) (r : Restart) (h : IsSound s) (is_node : IsNodeOf s.cluster n) (is_app : IsAppOf s.cluster a) (up : is_up (mode_of s n) ≡ true) (listed : is_listed_at s.cluster a n ≡ true) (off : is_started s n a ≡ false) where
+module _ (s : StateView) (n : Node) (a : App) (r : Restart) (h : IsSound s) (is_node : IsNodeOf s.cluster n) (is_app : IsAppOf s.cluster a)
+    (up : is_up (mode_of s n) ≡ true) (listed : is_listed_at s.cluster a n ≡ true) (off : is_started s n a ≡ false) where
   abbrev t : StateView
   t = with_restart (with_waiting s n a) n a r
 
@@ -57,14 +60,16 @@ module _ (s : StateView) (n : Node) (a : App) (r : Restart) (h : IsSound s) (is_
   idle_put : IdleUnlessUp t
   idle_put = record {
     running = h.idle.running;
-    waiting = λ m idle. at_set_there s.waiting n.0 m.0 (waiting_at s n ++ a ∷ []) [] (λ e. both (is_up (mode_of s n)) up (ap (λ k. is_up (mode_of s (numbered k))) (sym e) ∙ idle)) ∙ h.idle.waiting m idle;
+    waiting = λ m idle. at_set_there s.waiting n.0 m.0 (waiting_at s n ++ a ∷ []) []
+        (λ e. both (is_up (mode_of s n)) up (ap (λ k. is_up (mode_of s (numbered k))) (sym e) ∙ idle)) ∙ h.idle.waiting m idle;
     permissions = h.idle.permissions;
   }
 
   stands_put : StandsWhereItRuns t
   stands_put = record {
     listed = λ m b e. started_before s n m a b e (λ was. h.standing.listed m b was)
-        (λ at same. ap (λ k. is_listed_at s.cluster b (numbered k)) at ∙ ap (λ k. is_listed_at s.cluster (app_numbered k) n) (same_number b.0 a.0 same) ∙ listed);
+        (λ at same. ap (λ k. is_listed_at s.cluster b (numbered k)) at ∙ ap (λ k. is_listed_at s.cluster (app_numbered k) n) (same_number b.0 a.0 same)
+            ∙ listed);
     stands = h.standing.stands;
     local = h.standing.local;
   }
@@ -87,12 +92,14 @@ module _ (s : StateView) (n : Node) (a : App) (r : Restart) (h : IsSound s) (is_
       }
 
 -- a distributed application that runs nowhere is wanted, and its timer goes
-module _ (s : StateView) (a : App) (from : Option Node) (h : IsSound s) (is_app : IsAppOf s.cluster a) (distributed : is_local s.cluster a ≡ false) (still : (m : Node) → standing_of s a ≢ Running m) where
+module _ (s : StateView) (a : App) (from : Option Node) (h : IsSound s) (is_app : IsAppOf s.cluster a) (distributed : is_local s.cluster a ≡ false)
+    (still : (m : Node) → standing_of s a ≢ Running m) where
   abbrev w : StateView
   w = without_due (with_standing s a (Wanted from)) (Failover a)
 
   stands_now : (b : App) → b.0 ≡ a.0 → standing_of w b ≡ Wanted from
-  stands_now b e = ap (λ k. standing_of w (app_numbered k)) e ∙ at_set_here s.standings a.0 (Wanted from) Quiet (let k = h.sized.standings in omega (arith, k, is_app))
+  stands_now b e = ap (λ k. standing_of w (app_numbered k)) e ∙ at_set_here s.standings a.0 (Wanted from) Quiet
+      (let k = h.sized.standings in omega (arith, k, is_app))
 
   stands_then : (b : App) → b.0 ≢ a.0 → standing_of w b ≡ standing_of s b
   stands_then b d = at_set_there s.standings a.0 b.0 (Wanted from) Quiet d
@@ -111,7 +118,8 @@ module _ (s : StateView) (a : App) (from : Option Node) (h : IsSound s) (is_app 
     sync = λ n. set-without_other (Failover a) (Sync n) s.timers refl ∙ h.timers.sync n;
     failover = λ b. by_app (λ b. is_some (due_of w (Failover b)) ≡ is_lost (standing_of w b)) b
         (λ e. ap (λ k. is_some (due_of w (Failover (app_numbered k)))) e ∙ unset-without (Failover a) s.timers ∙ sym (ap is_lost (stands_now b e)))
-        (λ d. set-without_other (Failover a) (Failover b) s.timers (differ a.0 b.0 (λ e. d (sym e))) ∙ h.timers.failover b ∙ sym (ap is_lost (stands_then b d)));
+        (λ d. set-without_other (Failover a) (Failover b) s.timers (differ a.0 b.0 (λ e. d (sym e))) ∙ h.timers.failover b
+            ∙ sym (ap is_lost (stands_then b d)));
     once = once-without (Failover a) s.timers h.timers.once;
     order = order-without (Failover a) s.timers h.timers.order;
     due = All-without (λ entry. s.time ≤ entry.0) (Failover a) s.timers h.timers.due;
@@ -151,7 +159,8 @@ module _ (s : StateView) (a : App) (from : Option Node) (h : IsSound s) (is_app 
   }
 
 -- one that is quiet has no timer
-sound_distributed : (s : StateView) (a : App) → IsSound s → IsAppOf s.cluster a → standing_of s a ≡ Quiet → IsSound (with_distributed_standing s a (Wanted None))
+sound_distributed : (s : StateView) (a : App) → IsSound s → IsAppOf s.cluster a → standing_of s a ≡ Quiet
+    → IsSound (with_distributed_standing s a (Wanted None))
 sound_distributed s a h is_app quiet = by (is_local s.cluster a) refl
   where
     quiet_not : (m : Node) → Quiet ≢ Running m
@@ -163,7 +172,8 @@ sound_distributed s a h is_app quiet = by (is_local s.cluster a) refl
         (ap (λ ts. record (with_standing s a (Wanted None)) { timers = ts }) (without_unset (Failover a) s.timers (h.timers.failover a ∙ ap is_lost quiet)))
         (sound_wanted s a None h is_app e (λ m r. quiet_not m (sym quiet ∙ r)))
 
-sound_by_mark : (s : StateView) (n : Node) (a : App) (st : Standing) → IsSound s → IsAppOf s.cluster a → standing_of s a ≡ st → IsSound (wanted_by_mark s n a st)
+sound_by_mark : (s : StateView) (n : Node) (a : App) (st : Standing) → IsSound s → IsAppOf s.cluster a → standing_of s a ≡ st
+    → IsSound (wanted_by_mark s n a st)
 sound_by_mark s n a Quiet h is_app e = sound_distributed s a h is_app e
 sound_by_mark s n a (Wanted from) h is_app e = h
 sound_by_mark s n a (Running m) h is_app e = h
@@ -182,7 +192,8 @@ sound_by_mark s n a (Lost m) h is_app e = by (same_node m n)
     by true = sound_wanted s a (Some n) h is_app far (λ k r. not_running k (sym e ∙ r))
     by false = h
 
-pub sound_mark : (s : StateView) (n : Node) (a : App) (r : Restart) → IsSound s → IsNodeOf s.cluster n → IsAppOf s.cluster a → is_up (mode_of s n) ≡ true → is_listed_at s.cluster a n ≡ true → is_started s n a ≡ false → IsSound (with_mark s n a r)
+pub sound_mark : (s : StateView) (n : Node) (a : App) (r : Restart) → IsSound s → IsNodeOf s.cluster n → IsAppOf s.cluster a → is_up (mode_of s n) ≡ true
+    → is_listed_at s.cluster a n ≡ true → is_started s n a ≡ false → IsSound (with_mark s n a r)
 unfolding with_mark
 sound_mark s n a r h is_node is_app up listed off =
     sound_by_mark (with_restart (with_waiting s n a) n a r) n a (standing_of s a) (sound_put s n a r h is_node is_app up listed off) is_app refl

@@ -32,7 +32,8 @@ pub at_pair : (table : List (List App)) (n m : ℕ) (a b : App) → m ≡ n → 
 at_pair table n m a b e t = ap (λ k. has table k b) e ∙ ap (λ k. has table n (app_numbered k)) (same_number b.0 a.0 t)
 
 -- an application that neither runs nor waits at a node is listed there once after it is set to wait
-pub once_waiting : (s : StateView) (n : Node) (a : App) → runs_at s n a ≡ false → waits_at s n a ≡ false → OnceAtEachNode s → OnceAtEachNode (with_waiting s n a)
+pub once_waiting : (s : StateView) (n : Node) (a : App) → runs_at s n a ≡ false → waits_at s n a ≡ false → OnceAtEachNode s
+    → OnceAtEachNode (with_waiting s n a)
 once_waiting s n a r w h = record {
   running = h.running;
   waiting = λ m. once_put s.waiting n.0 m.0 a (h.waiting n) (h.waiting m) w;

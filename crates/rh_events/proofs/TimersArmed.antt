@@ -24,7 +24,8 @@ once-behind new (x ∷ xs) unset once =
     by : (b : Bool) → IsOnce (behind new xs) → IsOnce (cond b (x ∷ behind new xs) (new ∷ x ∷ xs))
     by true later =
         AllPairs-cons (λ x y. same_timer x.1 y.1 ≡ false) x (behind new xs)
-        (All-behind (λ y. same_timer x.1 y.1 ≡ false) new xs (same_timer-sym x.1 new.1 ∙ (unset-cons new.1 x xs unset).0) (λ k d l. once 0 (suc k) d (omega arith) (omega arith)))
+        (All-behind (λ y. same_timer x.1 y.1 ≡ false) new xs (same_timer-sym x.1 new.1 ∙ (unset-cons new.1 x xs unset).0)
+            (λ k d l. once 0 (suc k) d (omega arith) (omega arith)))
         later
     by false later = AllPairs-cons (λ x y. same_timer x.1 y.1 ≡ false) new (x ∷ xs) (differs_from_unset new.1 (x ∷ xs) unset) once
 
@@ -53,7 +54,8 @@ set-behind new (x ∷ xs) = by (nat_le x.0 new.0) (set-behind new xs)
     or_true false = refl
 
     by : (b : Bool) → is_set new.1 (behind new xs) ≡ true → is_set new.1 (cond b (x ∷ behind new xs) (new ∷ x ∷ xs)) ≡ true
-    by true later = set-cons new.1 x (behind new xs) (same_timer new.1 x.1) refl ∙ ap (λ c. cond (same_timer new.1 x.1) true c) later ∙ or_true (same_timer new.1 x.1)
+    by true later = set-cons new.1 x (behind new xs) (same_timer new.1 x.1) refl ∙ ap (λ c. cond (same_timer new.1 x.1) true c) later
+        ∙ or_true (same_timer new.1 x.1)
     by false later = set-cons new.1 new (x ∷ xs) true (same_self new.1)
 
 -- each other timer is as it was
@@ -62,5 +64,6 @@ set-behind_other new t [] differs = set-cons t new [] false differs
 set-behind_other new t (x ∷ xs) differs = by (nat_le x.0 new.0) (set-behind_other new t xs differs)
   where
     by : (b : Bool) → is_set t (behind new xs) ≡ is_set t xs → is_set t (cond b (x ∷ behind new xs) (new ∷ x ∷ xs)) ≡ is_set t (x ∷ xs)
-    by true later = set-cons t x (behind new xs) (same_timer t x.1) refl ∙ ap (λ c. cond (same_timer t x.1) true c) later ∙ sym (set-cons t x xs (same_timer t x.1) refl)
+    by true later = set-cons t x (behind new xs) (same_timer t x.1) refl ∙ ap (λ c. cond (same_timer t x.1) true c) later
+        ∙ sym (set-cons t x xs (same_timer t x.1) refl)
     by false later = set-cons t new (x ∷ xs) false differs

@@ -1,5 +1,6 @@
 -- Timers told apart, and the entries of those that are set.
-use Rattle.std.proofs.Common.{◌≡◌, ◌≤◌, ◌==◌, ℕ, zero, suc, Bool, true, false, cond, not, is_some, Some, List, [], ◌∷◌, find, slice_get, All, AllPairs, refl, sym, ap, ◌∙◌, subst, inl, inr, ◌⊎◌, arith}
+use Rattle.std.proofs.Common.{◌≡◌, ◌≤◌, ◌==◌, ℕ, zero, suc, Bool, true, false, cond, not, is_some, Some, List, [], ◌∷◌, find, slice_get, All, AllPairs, refl}
+use Rattle.std.proofs.Common.{sym, ap, ◌∙◌, subst, inl, inr, ◌⊎◌, arith}
 use Rattle.std.specs.Option.{option_map}
 use Rattle.std.specs.List.Sorted.{IsNonDecreasingBy}
 use Rattle.std.proofs.lemmas.Bool.Decides.{eqb_tells, nat_tests}
@@ -47,9 +48,11 @@ IsInOrder xs = IsNonDecreasingBy (λ x. x.0) xs
 
 -- a timer is set in the first entry or behind it
 pub set-cons : (t : Timer) (x : ℕ × Timer) (xs : List (ℕ × Timer)) (b : Bool) → same_timer t x.1 ≡ b → is_set t (x ∷ xs) ≡ cond b true (is_set t xs)
-set-cons t x xs b e = ap (λ c. is_some (option_map (λ (entry : ℕ × Timer). entry.0) (cond c (Some x) (find (λ (entry : ℕ × Timer). same_timer t entry.1) xs)))) e ∙ by b
+set-cons t x xs b e = ap (λ c. is_some (option_map (λ (entry : ℕ × Timer). entry.0) (cond c (Some x) (find (λ (entry : ℕ × Timer). same_timer t entry.1) xs))))
+    e ∙ by b
   where
-    by : (b : Bool) → is_some (option_map (λ (entry : ℕ × Timer). entry.0) (cond b (Some x) (find (λ (entry : ℕ × Timer). same_timer t entry.1) xs))) ≡ cond b true (is_set t xs)
+    by : (b : Bool) → is_some (option_map (λ (entry : ℕ × Timer). entry.0) (cond b (Some x) (find (λ (entry : ℕ × Timer). same_timer t entry.1) xs)))
+        ≡ cond b true (is_set t xs)
     by true = refl
     by false = refl
 
@@ -57,7 +60,8 @@ set-cons t x xs b e = ap (λ c. is_some (option_map (λ (entry : ℕ × Timer). 
 pub unset-cons : (t : Timer) (x : ℕ × Timer) (xs : List (ℕ × Timer)) → is_set t (x ∷ xs) ≡ false → (same_timer t x.1 ≡ false) × (is_set t xs ≡ false)
 unset-cons t x xs = by (same_timer t x.1)
   where
-    by : (b : Bool) → is_some (option_map (λ (e : ℕ × Timer). e.0) (cond b (Some x) (find (λ (e : ℕ × Timer). same_timer t e.1) xs))) ≡ false → (b ≡ false) × (is_set t xs ≡ false)
+    by : (b : Bool) → is_some (option_map (λ (e : ℕ × Timer). e.0) (cond b (Some x) (find (λ (e : ℕ × Timer). same_timer t e.1) xs))) ≡ false
+        → (b ≡ false) × (is_set t xs ≡ false)
     by true h = absurd (cc)
     by false h = (refl, h)
 
@@ -71,7 +75,8 @@ pub unset-without : (t : Timer) (xs : List (ℕ × Timer)) → is_set t (without
 unset-without t [] = refl
 unset-without t (x ∷ xs) = by (same_timer t x.1) refl (unset-without t xs)
   where
-    by : (b : Bool) → same_timer t x.1 ≡ b → is_set t (without_timer t xs) ≡ false → is_set t (cond (not b) (x ∷ without_timer t xs) (without_timer t xs)) ≡ false
+    by : (b : Bool) → same_timer t x.1 ≡ b → is_set t (without_timer t xs) ≡ false
+        → is_set t (cond (not b) (x ∷ without_timer t xs) (without_timer t xs)) ≡ false
     by true e h = h
     by false e h = set-cons t x (without_timer t xs) false e ∙ h
 
@@ -86,9 +91,11 @@ set-without_other t u (x ∷ xs) differs = by (same_timer t x.1) refl (set-witho
       | inr a ↦ absurd (cc (a, e))
     ]
 
-    by : (b : Bool) → same_timer t x.1 ≡ b → is_set u (without_timer t xs) ≡ is_set u xs → is_set u (cond (not b) (x ∷ without_timer t xs) (without_timer t xs)) ≡ is_set u (x ∷ xs)
+    by : (b : Bool) → same_timer t x.1 ≡ b → is_set u (without_timer t xs) ≡ is_set u xs
+        → is_set u (cond (not b) (x ∷ without_timer t xs) (without_timer t xs)) ≡ is_set u (x ∷ xs)
     by true e h = h ∙ sym (set-cons u x xs false (both e))
-    by false e h = set-cons u x (without_timer t xs) (same_timer u x.1) refl ∙ ap (λ b. cond (same_timer u x.1) true b) h ∙ sym (set-cons u x xs (same_timer u x.1) refl)
+    by false e h = set-cons u x (without_timer t xs) (same_timer u x.1) refl ∙ ap (λ b. cond (same_timer u x.1) true b) h
+        ∙ sym (set-cons u x xs (same_timer u x.1) refl)
 
 -- what holds of the entries holds without that of a timer
 pub once-without : (t : Timer) (xs : List (ℕ × Timer)) → IsOnce xs → IsOnce (without_timer t xs)

@@ -6,7 +6,8 @@ use Rattle.std.proofs.lemmas.Bool.Decides.{Decides-eqb}
 use Rattle.rh_model.specs.declared.node.Node.{Node}
 
 -- one more place at which both have the same
-pub alike_more : {A : Type 0} (xs ys : List A) (n : ℕ) (a b : A) → length xs ≡ length ys → n < length xs → slice_get xs n ≡ Some a → slice_get ys n ≡ Some b → a ≡ b
+pub alike_more : {A : Type 0} (xs ys : List A) (n : ℕ) (a b : A) → length xs ≡ length ys → n < length xs → slice_get xs n ≡ Some a → slice_get ys n ≡ Some b
+    → a ≡ b
     → take n xs ≡ take n ys → take (n + 1) xs ≡ take (n + 1) ys
 alike_more xs ys n a b lengths inside x y same before =
     take_more xs n a inside

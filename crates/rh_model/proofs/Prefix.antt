@@ -13,10 +13,12 @@ mutual
   same_front (tuple ts) (tuple us) r s e = let all = same_fronts ts us r s (cc) (cc) in (ap tuple all.0, all.1)
   same_front _ _ r s e = (cc, cc)
 
-  pub same_fronts : (ts us : Trees) (r s : List TermSymbol) → length (list_of_trees ts) ≡ length (list_of_trees us) → symbols_of_all ts ++ r ≡ symbols_of_all us ++ s → (ts ≡ us) × (r ≡ s)
+  pub same_fronts : (ts us : Trees) (r s : List TermSymbol) → length (list_of_trees ts) ≡ length (list_of_trees us)
+      → symbols_of_all ts ++ r ≡ symbols_of_all us ++ s → (ts ≡ us) × (r ≡ s)
   same_fronts none none r s as_many e = (cc, e)
   same_fronts (more t ts) (more u us) r s as_many e =
-      let first = same_front t u (symbols_of_all ts ++ r) (symbols_of_all us ++ s) (sym (append_assoc (symbols_of t) (symbols_of_all ts) r) ∙ e ∙ append_assoc (symbols_of u) (symbols_of_all us) s) in
+      let first = same_front t u (symbols_of_all ts ++ r) (symbols_of_all us ++ s)
+              (sym (append_assoc (symbols_of t) (symbols_of_all ts) r) ∙ e ∙ append_assoc (symbols_of u) (symbols_of_all us) s) in
       let rest = same_fronts ts us r s (omega arith) first.1 in
       (cc (first.0, rest.0), rest.1)
   same_fronts _ _ r s as_many e = absurd (omega arith)

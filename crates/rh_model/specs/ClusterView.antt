@@ -1,5 +1,6 @@
 -- What callers see of a cluster, and the words of its readers.
-use Rattle.std.specs.Prelude.{◌≡◌, ◌≢◌, ◌<◌, ◌≤◌, ℕ, List, [], length, position, slice_get, Bool, true, false, ◌==◌, ◌||◌, Option, Some, is_none, is_some, unwrap_or, All, AllPairs, IsSome}
+use Rattle.std.specs.Prelude.{◌≡◌, ◌≢◌, ◌<◌, ◌≤◌, ℕ, List, [], length, position, slice_get, Bool, true, false, ◌==◌, ◌||◌, Option, Some, is_none, is_some}
+use Rattle.std.specs.Prelude.{unwrap_or, All, AllPairs, IsSome}
 use Rattle.std.specs.Option.{option_map, option_and_then}
 use Rattle.std.specs.List.{list_any}
 use Rattle.std.specs.Str.{bytes_eq}

@@ -1,5 +1,6 @@
 -- The bits of a set.
-use Rattle.std.proofs.Common.{not, nat_lt, IsTrue, nat_eq, ◌≡◌, ◌<◌, ◌≤◌, ◌*◌, ◌^◌, ◌%◌, ◌==◌, ◌||◌, ℕ, true, false, bit_and, w64, sym, ap, ◌∙◌, inl, inr, arith}
+use Rattle.std.proofs.Common.{not, nat_lt, IsTrue, nat_eq, ◌≡◌, ◌<◌, ◌≤◌, ◌*◌, ◌^◌, ◌%◌, ◌==◌, ◌||◌, ℕ, true, false, bit_and, w64, sym, ap, ◌∙◌, inl, inr}
+use Rattle.std.proofs.Common.{arith}
 use Rattle.std.specs.Int.{bit_at}
 use Rattle.std.specs.Int.RustNames.{bit_or}
 use Rattle.std.proofs.lemmas.Bool.Decides.{nat_tests, eqb_tells}
@@ -15,7 +16,8 @@ unfolding has
 has_none_above set n small above = ap (λ b. b == 1) (bit_at_above set.bits 64 n.0 small above)
 
 -- one more node
-pub has_more : (bits : ℕ) (node n : Node) → node.0 < 64 → has (record { bits = bit_or bits (1 * 2 ^ node.0 % 2 ^ 64) }) n ≡ (same_node n node || has (record { bits = bits }) n)
+pub has_more : (bits : ℕ) (node n : Node) → node.0 < 64 → has (record { bits = bit_or bits (1 * 2 ^ node.0 % 2 ^ 64) }) n
+    ≡ (same_node n node || has (record { bits = bits }) n)
 unfolding has
 has_more bits node n small = elim (eqb_tells n.0 node.0) [
   | inl same ↦ rw same.0 (ap (λ b. b == 1) (ap (bit_at (bit_or bits (1 * 2 ^ node.0 % 2 ^ 64))) same.1 ∙ bit_at_set_same w64 bits node.0 small))

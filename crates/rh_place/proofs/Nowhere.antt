@@ -1,5 +1,6 @@
 -- Nothing is chosen exactly if no node that passes the test stands in a group.
-use Rattle.std.proofs.Common.{◌≡◌, ◌↔◌, ◌==◌, ◌||◌, ℕ, Bool, true, false, cond, eqb, min, List, [], ◌∷◌, map, fold, IsNone, Option, Some, None, unwrap_or, refl, sym, ap, ◌∙◌, inl, inr, arith}
+use Rattle.std.proofs.Common.{◌≡◌, ◌↔◌, ◌==◌, ◌||◌, ℕ, Bool, true, false, cond, eqb, min, List, [], ◌∷◌, map, fold, IsNone, Option, Some, None, unwrap_or, refl}
+use Rattle.std.proofs.Common.{sym, ap, ◌∙◌, inl, inr, arith}
 use Rattle.std.specs.List.{filter, list_any, position}
 use Rattle.std.specs.Option.{option_map, option_and_then}
 use Rattle.std.proofs.lemmas.Bool.{eq-eqb}
@@ -67,7 +68,8 @@ given_nil : {A : Type 0} (p : A → Bool) (groups : List (List A)) → first_giv
 given_nil p [] h = refl
 given_nil p (g ∷ groups) h = cases (list_any p g)
     (λ t. any_not_nil p g t (sym (any_filter p g (first_given (filter p) groups) t) ∙ h))
-    (λ f. ap (λ b. b || list_any (list_any p) groups) f ∙ given_nil p groups (sym (ap (λ xs. or_else xs (first_given (filter p) groups)) (none_filter p g f)) ∙ h))
+    (λ f. ap (λ b. b || list_any (list_any p) groups) f ∙ given_nil p groups
+        (sym (ap (λ xs. or_else xs (first_given (filter p) groups)) (none_filter p g f)) ∙ h))
 
 not_in : (p : Node → Bool) (n : Node) (g : List Node) → p n ≡ true → list_any p g ≡ false → is_in n g ≡ false
 not_in p n [] t h = refl
@@ -90,22 +92,29 @@ none_passes p (m ∷ ms) h = cases (p m)
     (λ t. yes_no (m.0 == m.0) (eq-eqb m.0 m.0 refl) (neither (m.0 == m.0) (is_in m ms) (h m t)).0)
     (λ f. ap (λ b. b || list_any p ms) f ∙ none_passes p ms (λ n t. (neither (n.0 == m.0) (is_in n ms) (h n t)).1))
 
-none_of_groups : (p : Node → Bool) (groups : List (List Node)) → ((n : Node) → p n ≡ true → list_any (is_in n) groups ≡ false) → list_any (list_any p) groups ≡ false
+none_of_groups : (p : Node → Bool) (groups : List (List Node)) → ((n : Node) → p n ≡ true → list_any (is_in n) groups ≡ false)
+    → list_any (list_any p) groups ≡ false
 none_of_groups p [] h = refl
 none_of_groups p (g ∷ groups) h =
     ap (λ b. b || list_any (list_any p) groups) (none_passes p g (λ n t. (neither (is_in n g) (list_any (is_in n) groups) (h n t)).0))
     ∙ none_of_groups p groups (λ n t. (neither (is_in n g) (list_any (is_in n) groups) (h n t)).1)
 
-none_chosen_among : (w : Node → ℕ) (pick : Pick) (p : Node → Bool) (groups : List (List Node)) → IsNone (picked pick (lightest w (first_given (filter p) groups))) ↔ ((n : Node) → p n ≡ true → IsNone (position (is_in n) groups))
+none_chosen_among : (w : Node → ℕ) (pick : Pick) (p : Node → Bool) (groups : List (List Node))
+    → IsNone (picked pick (lightest w (first_given (filter p) groups))) ↔ ((n : Node) → p n ≡ true → IsNone (position (is_in n) groups))
 none_chosen_among w pick p groups = (
-  (λ h n t. place_any (is_in n) groups ∙ in_none p n groups t (given_nil p groups (lightest_nil w (first_given (filter p) groups) ((picked_none pick (lightest w (first_given (filter p) groups))).0 h)))),
-  (λ h. (picked_none pick (lightest w (first_given (filter p) groups))).1 (ap (lightest w) (nothing_given p groups (none_of_groups p groups (λ n t. sym (place_any (is_in n) groups) ∙ h n t))))),
+  (λ h n t. place_any (is_in n) groups ∙ in_none p n groups t
+      (given_nil p groups (lightest_nil w (first_given (filter p) groups) ((picked_none pick (lightest w (first_given (filter p) groups))).0 h)))),
+  (λ h. (picked_none pick (lightest w (first_given (filter p) groups))).1
+      (ap (lightest w) (nothing_given p groups (none_of_groups p groups (λ n t. sym (place_any (is_in n) groups) ∙ h n t))))),
 )
 
-pub none_chosen : (s : StateView) (a : App) (pick : Pick) (p : Node → Bool) → IsNone (picked pick (best s a p)) ↔ ((n : Node) → p n ≡ true → IsNone (group_of s.cluster a n))
+pub none_chosen : (s : StateView) (a : App) (pick : Pick) (p : Node → Bool) → IsNone (picked pick (best s a p))
+    ↔ ((n : Node) → p n ≡ true → IsNone (group_of s.cluster a n))
 unfolding best
 none_chosen s a pick p = by (spread_of s.cluster a)
   where
-    by : (o : Option Spread) → IsNone (picked pick (lightest (running_count s) (first_given (filter p) (unwrap_or (option_map (λ (v : Spread). v.groups) o) [])))) ↔ ((n : Node) → p n ≡ true → IsNone (option_and_then (λ (v : Spread). position (is_in n) v.groups) o))
+    by : (o : Option Spread) → IsNone (picked pick (lightest (running_count s) (first_given (filter p)
+        (unwrap_or (option_map (λ (v : Spread). v.groups) o) [])))) ↔
+        ((n : Node) → p n ≡ true → IsNone (option_and_then (λ (v : Spread). position (is_in n) v.groups) o))
     by None = ((λ h n t. refl), (λ h. (none_chosen_among (running_count s) pick p []).1 (λ n t. refl)))
     by (Some v) = none_chosen_among (running_count s) pick p v.groups

@@ -29,7 +29,8 @@ cluster_send : IsSend Cluster.the_row
 cluster_send = search (app_parts_send, names.the_send, node_settings.the_send, crosses, sendable) depth 60 fits 20000
 
 state_send : IsSend State.the_row
-state_send = search (cluster_send, app_list.the_send, kind.the_send, mode.the_send, standing.the_send, restart.the_send, table.the_send, wheel.the_send, crosses, sendable) depth 60 fits 20000
+state_send = search (cluster_send, app_list.the_send, kind.the_send, mode.the_send, standing.the_send, restart.the_send, table.the_send, wheel.the_send,
+    crosses, sendable) depth 60 fits 20000
 
 sim_send : IsSend Sim.the_row
 sim_send = search (cluster_send, state_send, event.the_send, crosses, sendable) depth 60 fits 20000

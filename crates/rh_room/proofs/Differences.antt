@@ -1,5 +1,6 @@
 -- The first place at which two lists of receipts differ.
-use Rattle.std.proofs.Common.{◌≡◌, ℕ, ◌+◌, ◌<◌, ◌≤◌, ◌==◌, ◌⊎◌, List, [], ◌∷◌, ◌++◌, length, take, drop, cond, not, Bool, true, false, suc, get_or, inl, inr, refl, sym, ap, subst, ◌∙◌, append-nil, take-append-drop, arith}
+use Rattle.std.proofs.Common.{◌≡◌, ℕ, ◌+◌, ◌<◌, ◌≤◌, ◌==◌, ◌⊎◌, List, [], ◌∷◌, ◌++◌, length, take, drop, cond, not, Bool, true, false, suc, get_or, inl, inr}
+use Rattle.std.proofs.Common.{refl, sym, ap, subst, ◌∙◌, append-nil, take-append-drop, arith}
 use Rattle.std.specs.Bool.{beq}
 use Rattle.std.specs.List.{HoldsAt}
 use Rattle.std.proofs.lemmas.Bool.{cases_lt}
@@ -45,9 +46,11 @@ one_at place r rs is later =
     ∙ ap (λ (ss : List Receipt). r ∷ ss) (none_at place (place + 1) rs (omega arith) later)
 
 -- after equal beginnings, two rests that differ at their first place
-pub differ_after : (front one other : List Receipt) (place : ℕ) → AreFrom place one → AreFrom place other → (at_place place one ≡ at_place place other → ⊥) → IsFirstDifference (front ++ one) (front ++ other) place
+pub differ_after : (front one other : List Receipt) (place : ℕ) → AreFrom place one → AreFrom place other → (at_place place one ≡ at_place place other → ⊥)
+    → IsFirstDifference (front ++ one) (front ++ other) place
 differ_after front one other place from from_other differ = record {
-  differ = λ same. differ (append_cancel_left (at_place place front) (at_place place one) (at_place place other) (sym (filter-append (of_place place) front one) ∙ same ∙ filter-append (of_place place) front other));
+  differ = λ same. differ (append_cancel_left (at_place place front) (at_place place one) (at_place place other)
+      (sym (filter-append (of_place place) front one) ∙ same ∙ filter-append (of_place place) front other));
   before = λ earlier below.
       filter-append (of_place earlier) front one
       ∙ ap (λ (rs : List Receipt). at_place earlier front ++ rs) (none_at earlier place one below from ∙ sym (none_at earlier place other below from_other))
@@ -120,7 +123,8 @@ is_session a b is = grind (arith, nat_tests)
 pub isnt_session : (a b : ℕ) → (a == b) ≡ false → a ≡ b → ⊥
 isnt_session a b isnt is = grind (arith, nat_tests)
 
-module _ (rs : List Receipt) (session : ℕ) (log : List Entry) (met place : ℕ) (e : Entry) (order : InOrder rs) (has : HasMet rs session log met place) (inside : place < length log) (at : get_or log place e ≡ e) where
+module _ (rs : List Receipt) (session : ℕ) (log : List Entry) (met place : ℕ) (e : Entry) (order : InOrder rs) (has : HasMet rs session log met place)
+    (inside : place < length log) (at : get_or log place e ≡ e) where
   abbrev told_rest : List Receipt
   told_rest = drop met rs
 
@@ -154,24 +158,29 @@ module _ (rs : List Receipt) (session : ℕ) (log : List Entry) (met place : ℕ
 
   differ_here : (at_place place told_rest ≡ at_place place logged_rest → ⊥) → IsFirstDifference rs (of_session session log) place
   differ_here differ =
-      let whole : take met rs ++ logged_rest ≡ of_session session log = ap (λ (ss : List Receipt). ss ++ logged_rest) has.same ∙ sym (of_session-split session place log (omega arith)) in
+      let whole : take met rs ++ logged_rest ≡ of_session session log = ap (λ (ss : List Receipt). ss ++ logged_rest) has.same
+              ∙ sym (of_session-split session place log (omega arith)) in
       subst (λ (ss : List Receipt). IsFirstDifference rs ss place) whole
       (subst (λ (ss : List Receipt). IsFirstDifference ss (take met rs ++ logged_rest) place) (take-append-drop met rs)
       (differ_after (take met rs) told_rest logged_rest place has.later (of_from-from session place (drop place log)) differ))
 
   -- told and not logged, or logged and not told
-  pub told_otherwise : (told : Bool) → (told ≡ true → IsNext rs met place) → (IsNext rs met place → told ≡ true) → not (beq told (e.session == session)) ≡ true → IsFirstDifference rs (of_session session log) place
+  pub told_otherwise : (told : Bool) → (told ≡ true → IsNext rs met place) → (IsNext rs met place → told ≡ true) → not (beq told (e.session == session)) ≡ true
+      → IsFirstDifference rs (of_session session log) place
   told_otherwise told is_next next_is differ = elim (apart told (e.session == session) differ) [
     | inl only_told ↦ differ_here (λ same.
-        let both : get_or rs met logged_here ∷ [] ≡ [] = sym (told_at logged_here (is_next only_told.0)) ∙ same ∙ unlogged_at (isnt_session e.session session only_told.1) in
+        let both : get_or rs met logged_here ∷ [] ≡ [] = sym (told_at logged_here (is_next only_told.0)) ∙ same
+                ∙ unlogged_at (isnt_session e.session session only_told.1) in
         absurd (cc both))
     | inr only_logged ↦ differ_here (λ same.
-        let both : [] ≡ logged_here ∷ [] = sym (untold_at (λ next. absurd (cc (next_is next, only_logged.0)))) ∙ same ∙ logged_at (is_session e.session session only_logged.1) in
+        let both : [] ≡ logged_here ∷ [] = sym (untold_at (λ next. absurd (cc (next_is next, only_logged.0)))) ∙ same
+                ∙ logged_at (is_session e.session session only_logged.1) in
         absurd (cc both))
   ]
 
   -- another call or another reply
-  pub told_wrongly : (r : Receipt) → r ≡ get_or rs met r → IsNext rs met place → e.session ≡ session → ((r.call ≡ e.call) × (r.reply ≡ e.reply) → ⊥) → IsFirstDifference rs (of_session session log) place
+  pub told_wrongly : (r : Receipt) → r ≡ get_or rs met r → IsNext rs met place → e.session ≡ session → ((r.call ≡ e.call) × (r.reply ≡ e.reply) → ⊥)
+      → IsFirstDifference rs (of_session session log) place
   told_wrongly r read next is other = differ_here (λ same.
       let both : get_or rs met r ∷ [] ≡ logged_here ∷ [] = sym (told_at r next) ∙ same ∙ logged_at is in
       let here : r ≡ logged_here = read ∙ ap (λ (ss : List Receipt). get_or ss 0 r) both in
@@ -184,17 +193,21 @@ module _ (rs : List Receipt) (session : ℕ) (log : List Entry) (met place : ℕ
       ∙ ap (λ (ss : List Receipt). ss ++ of_from session place (e ∷ [])) (sym has.same)
 
   -- told as it is logged
-  pub goes_on : (r : Receipt) → r ≡ get_or rs met r → IsNext rs met place → e.session ≡ session → r.call ≡ e.call → r.reply ≡ e.reply → HasMet rs session log (met + 1) (place + 1)
+  pub goes_on : (r : Receipt) → r ≡ get_or rs met r → IsNext rs met place → e.session ≡ session → r.call ≡ e.call → r.reply ≡ e.reply
+      → HasMet rs session log (met + 1) (place + 1)
   goes_on r read next is call reply =
       let of : r.place ≡ place = ap (λ (x : Receipt). x.place) read ∙ next.1 r in
       let here : r ≡ logged_here = λ i. record { place = of i; call = call i; reply = reply i } in
-      let entry : of_from session place (e ∷ []) ≡ logged_here ∷ [] = cond_true (e.session == session) (logged_here ∷ []) [] (same_number e.session session is) in
+      let entry : of_from session place (e ∷ []) ≡ logged_here ∷ [] = cond_true (e.session == session) (logged_here ∷ []) []
+              (same_number e.session session is) in
       let more : met + 1 ≤ length rs = omega (arith, next.0) in
       let one : suc met ≡ met + 1 = omega arith in
       record {
         within = more;
-        same = take_more rs met r next.0 ∙ ap (λ (x : Receipt). take met rs ++ x ∷ []) (sym read ∙ here) ∙ sym (one_more ∙ ap (λ (ss : List Receipt). take met rs ++ ss) entry);
-        later = subst (λ n. AreFrom (place + 1) (drop n rs)) one (subst (λ p. AreFrom (p + 1) (drop (suc met) rs)) (next.1 r) (rest_later rs met r order next.0));
+        same = take_more rs met r next.0 ∙ ap (λ (x : Receipt). take met rs ++ x ∷ []) (sym read ∙ here)
+            ∙ sym (one_more ∙ ap (λ (ss : List Receipt). take met rs ++ ss) entry);
+        later = subst (λ n. AreFrom (place + 1) (drop n rs)) one
+            (subst (λ p. AreFrom (p + 1) (drop (suc met) rs)) (next.1 r) (rest_later rs met r order next.0));
       }
 
   -- neither told nor logged
@@ -208,7 +221,8 @@ module _ (rs : List Receipt) (session : ℕ) (log : List Entry) (met place : ℕ
       }
 
 -- the log has no further entry of the session
-pub told_too_much : (rs : List Receipt) (session : ℕ) (log : List Entry) (met place : ℕ) (r : Receipt) → InOrder rs → HasMet rs session log met place → length log ≤ place → met < length rs → IsFirstDifference rs (of_session session log) (get_or rs met r).place
+pub told_too_much : (rs : List Receipt) (session : ℕ) (log : List Entry) (met place : ℕ) (r : Receipt) → InOrder rs → HasMet rs session log met place
+    → length log ≤ place → met < length rs → IsFirstDifference rs (of_session session log) (get_or rs met r).place
 told_too_much rs session log met place r order has past more =
     let q : ℕ = (get_or rs met r).place in
     let whole : take met rs ++ [] ≡ of_session session log = append-nil (take met rs) ∙ has.same ∙ ap (of_session session) (take_all place log past) in

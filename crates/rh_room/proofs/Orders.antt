@@ -8,16 +8,19 @@ use Rattle.rh_room.specs.Legal.{RoomView, InOrder}
 use Rattle.rh_room.specs.Serving.{last_of, IsLogged}
 
 -- the place of the last receipt is one of the log's
-pub last_inside : (room : RoomView) (session : ℕ) (rs : List Receipt) (d : Receipt) → 0 < length rs → IsLogged room session (last_of rs) → (get_or rs (length rs - 1) d).place < length room.log
+pub last_inside : (room : RoomView) (session : ℕ) (rs : List Receipt) (d : Receipt) → 0 < length rs → IsLogged room session (last_of rs)
+    → (get_or rs (length rs - 1) d).place < length room.log
 last_inside room session rs d some logged =
     let at : last_of rs ≡ Some (get_or rs (length rs - 1) d) = slice_get-get_or rs (length rs - 1) d (omega (arith, some)) in
     slice_get_within room.log (get_or rs (length rs - 1) d).place _ (subst (IsLogged room session) at logged)
 
-pub order_goes_on : (room : RoomView) (session : ℕ) (rs : List Receipt) (r : Receipt) → InOrder rs → IsLogged room session (last_of rs) → r.place ≡ length room.log → InOrder (rs ++ r ∷ [])
+pub order_goes_on : (room : RoomView) (session : ℕ) (rs : List Receipt) (r : Receipt) → InOrder rs → IsLogged room session (last_of rs)
+    → r.place ≡ length room.log → InOrder (rs ++ r ∷ [])
 order_goes_on room session rs r ordered logged at =
     all_pairs_push (λ (earlier later : Receipt). earlier.place < later.place) rs r ordered (λ k d inside.
     let last = last_inside room session rs d (omega (arith, inside)) logged in
     elim (cases_lt k (length rs - 1)) [
       | inl before ↦ let below = ordered k (length rs - 1) d before (omega (arith, inside)) in omega (arith, below, last, at)
-      | inr behind ↦ let here : k ≡ length rs - 1 = omega (arith, inside, behind) in subst (λ j. (get_or rs j d).place < r.place) (sym here) (omega (arith, last, at))
+      | inr behind ↦ let here : k ≡ length rs - 1 = omega (arith, inside, behind) in
+          subst (λ j. (get_or rs j d).place < r.place) (sym here) (omega (arith, last, at))
     ])

@@ -17,7 +17,8 @@ use Rattle.rh_room.specs.Legal.{IsRoom, IsSession, calls, entry}
 abbrev base_of : Served → SimView
 base_of v = opened v.sim.cluster v.sim.pick
 
-base-cond : (s : SimView) (b : Bool) (v w : Served) → base_of v ≡ opened s.cluster s.pick → base_of w ≡ opened s.cluster s.pick → base_of (cond b v w) ≡ opened s.cluster s.pick
+base-cond : (s : SimView) (b : Bool) (v w : Served) → base_of v ≡ opened s.cluster s.pick → base_of w ≡ opened s.cluster s.pick
+    → base_of (cond b v w) ≡ opened s.cluster s.pick
 base-cond s true v w p q = p
 base-cond s false v w p q = q
 

@@ -1,5 +1,6 @@
 -- The part of a log that is one session's.
-use Rattle.std.proofs.Common.{◌≡◌, ℕ, ◌+◌, ◌<◌, ◌≤◌, ◌==◌, List, [], ◌∷◌, ◌++◌, length, take, drop, cond, Bool, true, false, All, get_or, refl, sym, ap, ◌∙◌, take-append-drop, arith}
+use Rattle.std.proofs.Common.{◌≡◌, ℕ, ◌+◌, ◌<◌, ◌≤◌, ◌==◌, List, [], ◌∷◌, ◌++◌, length, take, drop, cond, Bool, true, false, All, get_or, refl, sym, ap, ◌∙◌}
+use Rattle.std.proofs.Common.{take-append-drop, arith}
 use Rattle.std.proofs.lemmas.List.{take_more, length-take-le}
 use Rattle.std.proofs.lemmas.List.Elements.{All-nil, All-cons, All-weaker}
 use Rattle.rh_room.specs.declared.pass.Entry.{Entry}
@@ -10,7 +11,8 @@ cond-append : (b : Bool) (r : Receipt) (rs ss : List Receipt) → cond b (r ∷ 
 cond-append true r rs ss = refl
 cond-append false r rs ss = refl
 
-pub of_from-append : (session place : ℕ) (xs ys : List Entry) → of_from session place (xs ++ ys) ≡ of_from session place xs ++ of_from session (place + length xs) ys
+pub of_from-append : (session place : ℕ) (xs ys : List Entry) → of_from session place (xs ++ ys)
+    ≡ of_from session place xs ++ of_from session (place + length xs) ys
 of_from-append session place [] ys = let zero_more : place ≡ place + 0 = omega arith in ap (λ n. of_from session n ys) zero_more
 of_from-append session place (x ∷ xs) ys =
     let one : place + 1 + length xs ≡ place + length (x ∷ xs) = omega arith in
@@ -28,7 +30,8 @@ module _ (session place : ℕ) (log : List Entry) where
       ∙ ap (λ n. of_session session (take place log) ++ of_from session n (drop place log)) kept
 
   -- one entry more
-  pub of_session-more : (d : Entry) → place < length log → of_session session (take (place + 1) log) ≡ of_session session (take place log) ++ of_from session place (get_or log place d ∷ [])
+  pub of_session-more : (d : Entry) → place < length log → of_session session (take (place + 1) log)
+      ≡ of_session session (take place log) ++ of_from session place (get_or log place d ∷ [])
   of_session-more d inside =
       let kept : 0 + length (take place log) ≡ place = omega (arith, length-take-le place log (omega arith)) in
       ap (of_session session) (take_more log place d inside)

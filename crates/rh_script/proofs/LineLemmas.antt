@@ -1,5 +1,6 @@
 -- One more line of a text.
-use Rattle.std.proofs.Common.{◌≡◌, ◌<◌, ◌≤◌, ◌+◌, ◌-◌, ℕ, zero, suc, List, [], ◌∷◌, ◌++◌, length, take, drop, get_or, map, true, false, cond, eqb, refl, sym, ap, ◌∙◌, arith, append_assoc}
+use Rattle.std.proofs.Common.{◌≡◌, ◌<◌, ◌≤◌, ◌+◌, ◌-◌, ℕ, zero, suc, List, [], ◌∷◌, ◌++◌, length, take, drop, get_or, map, true, false, cond, eqb, refl, sym}
+use Rattle.std.proofs.Common.{ap, ◌∙◌, arith, append_assoc}
 use Rattle.std.specs.List.{concat, onto_first}
 use Rattle.std.proofs.lemmas.List.{drop-drop, drop_at, take_at, length-append}
 use Rattle.std.proofs.Math.Seq.{take-add}
@@ -34,7 +35,8 @@ module _ (rest line after : List ℕ) (split : raw_lines rest ≡ line ∷ raw_l
   before_goes_on other = ap (λ ls. concat (lines_before ls)) split ∙ ap (λ t. concat (cond t [] (line ∷ lines_before (raw_lines after)))) other
 
   pub behind_goes_on : is_separator line ≡ false → script_lines rest ≡ script_lines after
-  behind_goes_on other = ap (λ ls. map content (lines_behind ls)) split ∙ ap (λ t. map content (cond t (raw_lines after) (lines_behind (raw_lines after)))) other
+  behind_goes_on other = ap (λ ls. map content (lines_behind ls)) split ∙ ap
+      (λ t. map content (cond t (raw_lines after) (lines_behind (raw_lines after)))) other
 
   pub before_ends : is_separator line ≡ true → cluster_text rest ≡ []
   before_ends found = ap (λ ls. concat (lines_before ls)) split ∙ ap (λ t. concat (cond t [] (line ∷ lines_before (raw_lines after)))) found
@@ -43,12 +45,14 @@ module _ (rest line after : List ℕ) (split : raw_lines rest ≡ line ∷ raw_l
   behind_begins found = ap (λ ls. map content (lines_behind ls)) split ∙ ap (λ t. map content (cond t (raw_lines after) (lines_behind (raw_lines after)))) found
 
 -- one line farther in the text
-module _ (bytes rest line after : List ℕ) (within : length rest ≤ length bytes) (place : rest ≡ drop (length bytes - length rest) bytes) (whole : rest ≡ line ++ after) where
+module _ (bytes rest line after : List ℕ) (within : length rest ≤ length bytes) (place : rest ≡ drop (length bytes - length rest) bytes)
+    (whole : rest ≡ line ++ after) where
   farther : length bytes - length after ≡ (length bytes - length rest) + length line
   farther = omega (arith, ap length whole, length-append line after, within)
 
   pub place_farther : after ≡ drop (length bytes - length after) bytes
-  place_farther = sym (drop_at line after (length line) refl) ∙ ap (drop (length line)) (sym whole ∙ place) ∙ drop-drop (length line) (length bytes - length rest) bytes ∙ ap (λ n. drop n bytes) (sym farther)
+  place_farther = sym (drop_at line after (length line) refl) ∙ ap (drop (length line)) (sym whole ∙ place)
+      ∙ drop-drop (length line) (length bytes - length rest) bytes ∙ ap (λ n. drop n bytes) (sym farther)
 
   pub front_farther : take (length bytes - length after) bytes ≡ take (length bytes - length rest) bytes ++ line
   front_farther = ap (λ n. take n bytes) farther ∙ take-add (length bytes - length rest) (length line) bytes
@@ -56,5 +60,6 @@ module _ (bytes rest line after : List ℕ) (within : length rest ≤ length byt
 
   pub cluster_farther : (all : List ℕ) → all ≡ take (length bytes - length rest) bytes ++ cluster_text rest → cluster_text rest ≡ line ++ cluster_text after
       → all ≡ take (length bytes - length after) bytes ++ cluster_text after
-  cluster_farther all so_far next = so_far ∙ ap (λ l. take (length bytes - length rest) bytes ++ l) next ∙ sym (append_assoc (take (length bytes - length rest) bytes) line (cluster_text after))
+  cluster_farther all so_far next = so_far ∙ ap (λ l. take (length bytes - length rest) bytes ++ l) next
+      ∙ sym (append_assoc (take (length bytes - length rest) bytes) line (cluster_text after))
       ∙ ap (λ l. l ++ cluster_text after) (sym front_farther)

@@ -1,5 +1,6 @@
 -- A word that is parsed as a number, and the number that it is in a script.
-use Rattle.std.proofs.Common.{◌≡◌, ℕ, ◌^◌, ◌<◌, ◌&&◌, ◌==◌, Bool, true, false, not, cond, List, [], ◌∷◌, length, drop, Some, None, nat_lt, refl, sym, ap, subst, ◌∙◌, arith}
+use Rattle.std.proofs.Common.{◌≡◌, ℕ, ◌^◌, ◌<◌, ◌&&◌, ◌==◌, Bool, true, false, not, cond, List, [], ◌∷◌, length, drop, Some, None, nat_lt, refl, sym, ap, subst}
+use Rattle.std.proofs.Common.{◌∙◌, arith}
 use Rattle.std.specs.List.{list_all}
 use Rattle.std.specs.Char.{digit_value}
 use Rattle.std.specs.Str.Parse.{AllDigits, IsNumeral, digits_value, without_leading_plus}
@@ -37,7 +38,8 @@ numeral_from word h = by (length word == 0) refl h
     by true is rest = absurd (cc rest)
     by false is rest = (grind (arith, nat_tests, is), digits_from word rest)
 
-pub read_number : (word : List ℕ) (n : ℕ) → begins_with 43 word ≡ false → IsNumeral 10 (without_leading_plus word) → digits_value 10 (without_leading_plus word) < 2 ^ 64
+pub read_number : (word : List ℕ) (n : ℕ) → begins_with 43 word ≡ false → IsNumeral 10 (without_leading_plus word)
+    → digits_value 10 (without_leading_plus word) < 2 ^ 64
     → n ≡ digits_value 10 (without_leading_plus word) → Some n ≡ milliseconds word
 unfolding milliseconds
 read_number word n plain numeral small is =
@@ -49,7 +51,8 @@ read_number word n plain numeral small is =
     ∙ sym (ap (λ t. cond (t && nat_lt (digits_value 10 word) (2 ^ 64)) (Some (digits_value 10 word)) None) numeral_here
     ∙ ap (λ t. cond t (Some (digits_value 10 word)) None) fits)
 
-pub read_nothing : (word : List ℕ) → begins_with 43 word ≡ false → (IsNumeral 10 (without_leading_plus word) × (digits_value 10 (without_leading_plus word) < 2 ^ 64) → ⊥) → None ≡ milliseconds word
+pub read_nothing : (word : List ℕ) → begins_with 43 word ≡ false →
+    (IsNumeral 10 (without_leading_plus word) × (digits_value 10 (without_leading_plus word) < 2 ^ 64) → ⊥) → None ≡ milliseconds word
 unfolding milliseconds
 read_nothing word plain not_so = by (is_numeral word) refl (nat_lt (digits_value 10 word) (2 ^ 64)) refl
   where

@@ -1,5 +1,6 @@
 -- What a line of a script asks (ours).
-use Rattle.std.specs.Prelude.{ℕ, ◌^◌, ◌&&◌, ◌==◌, List, [], ◌∷◌, length, filter, Bool, true, false, not, nat_lt, if◌then◌else◌, codes, Option, Some, None, unwrap_or}
+use Rattle.std.specs.Prelude.{ℕ, ◌^◌, ◌&&◌, ◌==◌, List, [], ◌∷◌, length, filter, Bool, true, false, not, nat_lt, if◌then◌else◌, codes, Option, Some, None}
+use Rattle.std.specs.Prelude.{unwrap_or}
 use Rattle.std.specs.List.{slice_split, list_all}
 use Rattle.std.specs.Char.{digit_value}
 use Rattle.std.specs.Str.{bytes_eq, is_utf8}

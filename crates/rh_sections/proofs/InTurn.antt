@@ -25,7 +25,8 @@ first-none fs gs f none h = ap (λ xs. first (xs ++ gs)) none ∙ h
 -- behind earlier trees e, in a list of terms of which the one at i is t
 module _ (f : List Tree → Tree → List ClusterFault) (e : List Tree) (ts : List Term) (i : ℕ) (t : Term) (inside : i < length ts) (is : t ≡ get_or ts i t) where
   pub trees_more : map tree_of (take (i + 1) ts) ≡ map tree_of (take i ts) ++ tree_of t ∷ []
-  trees_more = ap (map tree_of) (take_more ts i t inside) ∙ map-append tree_of (take i ts) (get_or ts i t ∷ []) ∙ ap (λ u. map tree_of (take i ts) ++ tree_of u ∷ []) (sym is)
+  trees_more = ap (map tree_of) (take_more ts i t inside) ∙ map-append tree_of (take i ts) (get_or ts i t ∷ [])
+      ∙ ap (λ u. map tree_of (take i ts) ++ tree_of u ∷ []) (sym is)
 
   pub trees_all : map tree_of ts ≡ map tree_of (take i ts) ++ tree_of t ∷ map tree_of (drop (i + 1) ts)
   trees_all =
@@ -34,13 +35,15 @@ module _ (f : List Tree → Tree → List ClusterFault) (e : List Tree) (ts : Li
       ∙ ap (λ u. map tree_of (take i ts) ++ tree_of u ∷ map tree_of (drop (i + 1) ts)) (sym is)
 
   -- the term has no fault
-  pub passes_behind : in_turn f e (map tree_of (take i ts)) ≡ [] → f (e ++ map tree_of (take i ts)) (tree_of t) ≡ [] → in_turn f e (map tree_of (take (i + 1) ts)) ≡ []
+  pub passes_behind : in_turn f e (map tree_of (take i ts)) ≡ [] → f (e ++ map tree_of (take i ts)) (tree_of t) ≡ []
+      → in_turn f e (map tree_of (take (i + 1) ts)) ≡ []
   passes_behind before here =
       ap (in_turn f e) trees_more ∙ in_turn-append f e (map tree_of (take i ts)) (tree_of t ∷ [])
       ∙ (λ j. before j ++ (here j ++ []))
 
   -- the term has this first fault
-  pub fails_behind : (x : ClusterFault) → in_turn f e (map tree_of (take i ts)) ≡ [] → first (f (e ++ map tree_of (take i ts)) (tree_of t)) ≡ Some x → first (in_turn f e (map tree_of ts)) ≡ Some x
+  pub fails_behind : (x : ClusterFault) → in_turn f e (map tree_of (take i ts)) ≡ [] → first (f (e ++ map tree_of (take i ts)) (tree_of t)) ≡ Some x
+      → first (in_turn f e (map tree_of ts)) ≡ Some x
   fails_behind x before here =
       ap (λ us. first (in_turn f e us)) trees_all
       ∙ ap first (in_turn-append f e (map tree_of (take i ts)) (tree_of t ∷ map tree_of (drop (i + 1) ts)))
@@ -50,10 +53,12 @@ module _ (f : List Tree → Tree → List ClusterFault) (ts : List Term) (i : �
   pub passes : in_turn f [] (map tree_of (take i ts)) ≡ [] → f (map tree_of (take i ts)) (tree_of t) ≡ [] → in_turn f [] (map tree_of (take (i + 1) ts)) ≡ []
   passes = passes_behind f [] ts i t inside is
 
-  pub fails : (x : ClusterFault) → in_turn f [] (map tree_of (take i ts)) ≡ [] → first (f (map tree_of (take i ts)) (tree_of t)) ≡ Some x → first (in_turn f [] (map tree_of ts)) ≡ Some x
+  pub fails : (x : ClusterFault) → in_turn f [] (map tree_of (take i ts)) ≡ [] → first (f (map tree_of (take i ts)) (tree_of t)) ≡ Some x
+      → first (in_turn f [] (map tree_of ts)) ≡ Some x
   fails = fails_behind f [] ts i t inside is
 
   -- the same in a value that is a list
-  pub list_fails : (v : Tree) (x : ClusterFault) → Some (map tree_of ts) ≡ as_list v → in_turn f [] (map tree_of (take i ts)) ≡ [] → first (f (map tree_of (take i ts)) (tree_of t)) ≡ Some x → first (list_faults f v) ≡ Some x
+  pub list_fails : (v : Tree) (x : ClusterFault) → Some (map tree_of ts) ≡ as_list v → in_turn f [] (map tree_of (take i ts)) ≡ []
+      → first (f (map tree_of (take i ts)) (tree_of t)) ≡ Some x → first (list_faults f v) ≡ Some x
   unfolding list_faults
   list_fails v x list before here = ap (λ o. first (in_turn_if_list f o)) (sym list) ∙ fails x before here

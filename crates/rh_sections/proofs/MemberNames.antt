@@ -22,7 +22,8 @@ is_among_both xs ys name = ap (list_any (bytes_eq name)) (filter_map-append as_a
 
 -- the first of the remaining groups, and the others
 pub is_among-drop : (gs : List Term) (i : ℕ) (g : Term) (name : List ℕ) → i < length gs → g ≡ get_or gs i g
-    → is_among (atoms (flat_map members (map tree_of (drop i gs)))) name ≡ (is_among (atoms (members (tree_of g))) name || is_among (atoms (flat_map members (map tree_of (drop (i + 1) gs)))) name)
+    → is_among (atoms (flat_map members (map tree_of (drop i gs)))) name ≡
+        (is_among (atoms (members (tree_of g))) name || is_among (atoms (flat_map members (map tree_of (drop (i + 1) gs)))) name)
 is_among-drop gs i g name inside is =
     ap (λ us. is_among (atoms (flat_map members (map tree_of us))) name) (drop_more gs i g inside)
     ∙ ap (λ u. is_among (atoms (members (tree_of u) ++ flat_map members (map tree_of (drop (i + 1) gs)))) name) (sym is)
@@ -33,22 +34,26 @@ module _ (f : List Tree → Tree → List ClusterFault) (gs : List Term) (i : �
   before = flat_map members (map tree_of (take i gs))
 
   -- one more group without a fault
-  pub group_passes : in_turn f [] (flat_map members (map tree_of (take i gs))) ≡ [] → in_turn f (flat_map members (map tree_of (take i gs))) (members (tree_of g)) ≡ []
+  pub group_passes : in_turn f [] (flat_map members (map tree_of (take i gs))) ≡ []
+      → in_turn f (flat_map members (map tree_of (take i gs))) (members (tree_of g)) ≡ []
       → in_turn f [] (flat_map members (map tree_of (take (i + 1) gs))) ≡ []
   group_passes none here =
       ap (λ us. in_turn f [] (flat_map members us)) (trees_more f [] gs i g inside is)
-      ∙ ap (in_turn f []) (flat_map-append members (map tree_of (take i gs)) (tree_of g ∷ []) ∙ ap (λ us. flat_map members (map tree_of (take i gs)) ++ us) (append-nil (members (tree_of g))))
+      ∙ ap (in_turn f []) (flat_map-append members (map tree_of (take i gs)) (tree_of g ∷ [])
+          ∙ ap (λ us. flat_map members (map tree_of (take i gs)) ++ us) (append-nil (members (tree_of g))))
       ∙ in_turn-append f [] (flat_map members (map tree_of (take i gs))) (members (tree_of g)) ∙ (λ j. none j ++ here j)
 
   -- a group with this first fault
-  pub group_fails : (x : ClusterFault) → in_turn f [] (flat_map members (map tree_of (take i gs))) ≡ [] → first (in_turn f (flat_map members (map tree_of (take i gs))) (members (tree_of g))) ≡ Some x
+  pub group_fails : (x : ClusterFault) → in_turn f [] (flat_map members (map tree_of (take i gs))) ≡ []
+      → first (in_turn f (flat_map members (map tree_of (take i gs))) (members (tree_of g))) ≡ Some x
       → first (in_turn f [] (flat_map members (map tree_of gs))) ≡ Some x
   group_fails x none here =
       let rest = flat_map members (map tree_of (drop (i + 1) gs)) in
       let front = flat_map members (map tree_of (take i gs)) in
       ap (λ us. first (in_turn f [] (flat_map members us))) (trees_all f [] gs i g inside is)
       ∙ ap (λ us. first (in_turn f [] us)) (flat_map-append members (map tree_of (take i gs)) (tree_of g ∷ map tree_of (drop (i + 1) gs)))
-      ∙ ap first (in_turn-append f [] front (members (tree_of g) ++ rest) ∙ ap (λ us. in_turn f [] front ++ us) (in_turn-append f front (members (tree_of g)) rest))
+      ∙ ap first (in_turn-append f [] front (members (tree_of g) ++ rest) ∙ ap (λ us. in_turn f [] front ++ us)
+          (in_turn-append f front (members (tree_of g)) rest))
       ∙ first-none _ _ x none (first-append (in_turn f front (members (tree_of g))) _ x here)
 
 -- a list of groups that isn't empty

@@ -1,5 +1,6 @@
 -- The third stage: the sections of each term.
-use Rattle.std.specs.Prelude.{ℕ, List, [], ◌∷◌, ◌++◌, filter_map, flat_map, Bool, true, false, not, ◌&&◌, ◌||◌, is_some, is_none, Option, Some, None, codes, if◌then◌else◌}
+use Rattle.std.specs.Prelude.{ℕ, List, [], ◌∷◌, ◌++◌, filter_map, flat_map, Bool, true, false, not, ◌&&◌, ◌||◌, is_some, is_none, Option, Some, None, codes}
+use Rattle.std.specs.Prelude.{if◌then◌else◌}
 use Rattle.std.specs.List.{list_any, list_all}
 use Rattle.std.specs.Str.{bytes_eq}
 use Rattle.rh_base.specs.Tree.{Tree}

@@ -50,7 +50,8 @@ as_entry t = as_pair t >>= λ parts. as_atom parts.0 >>= λ key. Some (key, part
 
 -- the name and the last part of {Word, Name, Part}
 unfoldable pub as_headed : List ℕ → Tree → Option (List ℕ × Tree)
-as_headed word t = as_triple t >>= λ parts. as_atom parts.0 >>= λ first. if bytes_eq first word then (as_atom parts.1 >>= λ name. Some (name, parts.2)) else None
+as_headed word t = as_triple t >>= λ parts. as_atom parts.0 >>= λ first. if bytes_eq first word then (as_atom parts.1 >>= λ name. Some (name, parts.2))
+    else None
 
 -- the name and SysConfig of {node, Name, SysConfig}
 abbrev pub as_node : Tree → Option (List ℕ × Tree)

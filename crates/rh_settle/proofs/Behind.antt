@@ -51,7 +51,8 @@ all_moved_after base pick o = moved_by_after base pick (2 * pair_count o.state.c
 tell_waiting_after : (base : List Notice) (o : Course) (p : Pair) → tell_waiting (after_notices base o) p ≡ after_notices base (tell_waiting o p)
 tell_waiting_after base o p = by (waits_at o.state p.node p.app)
   where
-    by : (b : Bool) → cond b (told (after_notices base o) (notice.Waits p.app p.node)) (after_notices base o) ≡ after_notices base (cond b (told o (notice.Waits p.app p.node)) o)
+    by : (b : Bool) → cond b (told (after_notices base o) (notice.Waits p.app p.node)) (after_notices base o)
+        ≡ after_notices base (cond b (told o (notice.Waits p.app p.node)) o)
     by true = told_after base o (notice.Waits p.app p.node)
     by false = refl
 

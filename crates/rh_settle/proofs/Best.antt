@@ -1,5 +1,6 @@
 -- The nodes that are best for an application are those that pass, in the first group that has any, with fewest applications.
-use Rattle.std.proofs.Common.{◌≡◌, ◌≤◌, ◌||◌, unwrap_or, ℕ, Bool, true, min, nat_eq, List, [], ◌∷◌, map, fold, Option, Some, None, is_some, inl, inr, refl, sym, ap, ◌∙◌, arith}
+use Rattle.std.proofs.Common.{◌≡◌, ◌≤◌, ◌||◌, unwrap_or, ℕ, Bool, true, min, nat_eq, List, [], ◌∷◌, map, fold, Option, Some, None, is_some, inl, inr, refl, sym}
+use Rattle.std.proofs.Common.{ap, ◌∙◌, arith}
 use Rattle.std.specs.List.{position}
 use Rattle.std.specs.Option.{option_map, option_and_then}
 use Rattle.std.proofs.lemmas.Bool.Decides.{nat_tests}
@@ -74,11 +75,13 @@ in_lightest w xs n h each =
 group_is : (c : ClusterView) (a : App) (n : Node) → group_of c a n ≡ place (groups_of c a) n
 group_is c a n = by (spread_of c a)
   where
-    by : (o : Option Spread) → option_and_then (λ (s : Spread). position (is_in n) s.groups) o ≡ place (unwrap_or (option_map (λ (v : Spread). v.groups) o) []) n
+    by : (o : Option Spread) → option_and_then (λ (s : Spread). position (is_in n) s.groups) o
+        ≡ place (unwrap_or (option_map (λ (v : Spread). v.groups) o) []) n
     by None = refl
     by (Some v) = refl
 
-before_is : (c : ClusterView) (a : App) (k n : Node) → comes_before (group_of c a k) (group_of c a n) ≡ comes_before (place (groups_of c a) k) (place (groups_of c a) n)
+before_is : (c : ClusterView) (a : App) (k n : Node) → comes_before (group_of c a k) (group_of c a n)
+    ≡ comes_before (place (groups_of c a) k) (place (groups_of c a) n)
 before_is c a k n = ap (λ q. comes_before q (group_of c a n)) (group_is c a k) ∙ ap (comes_before (place (groups_of c a) k)) (group_is c a n)
 
 is_best : (s : StateView) (a : App) (p : Node → Bool) (n : Node) → Chosen p (groups_of s.cluster a) n

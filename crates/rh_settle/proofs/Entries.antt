@@ -1,5 +1,6 @@
 -- A table of lists of applications, in which one list loses an application or gains one at its end.
-use Rattle.std.proofs.Common.{◌≡◌, ◌≢◌, ◌<◌, ℕ, zero, suc, Bool, true, false, List, [], ◌∷◌, ◌++◌, ◌||◌, length, refl, sym, ap, ◌∙◌, arith, nat_eq, slice_set, AllPairs, subst, not, ◌≤◌, nat_lt}
+use Rattle.std.proofs.Common.{◌≡◌, ◌≢◌, ◌<◌, ℕ, zero, suc, Bool, true, false, List, [], ◌∷◌, ◌++◌, ◌||◌, length, refl, sym, ap, ◌∙◌, arith, nat_eq, slice_set}
+use Rattle.std.proofs.Common.{AllPairs, subst, not, ◌≤◌, nat_lt}
 use Rattle.std.proofs.lemmas.Bool.Decides.{nat_tests}
 use Rattle.std.proofs.lemmas.List.{length-set}
 use Rattle.std.proofs.lemmas.List.Kept.{AllPairs-filter}
@@ -58,7 +59,8 @@ taken_keeps table n m a b d h = at_set table n m (without_app (row table n) a) [
 pub there : (table : List (List App)) (n m : ℕ) (xs : List App) (b : App) → m ≢ n → has (slice_set table n xs) m b ≡ has table m b
 there table n m xs b other = ap (λ ys. has_app ys b) (at_set_there table n m xs [] other)
 
-pub put_has : {P : Type 0} (table : List (List App)) (n m : ℕ) (a b : App) → has (put table n a) m b ≡ true → (has table m b ≡ true → P) → (m ≡ n → same_app b a ≡ true → P) → P
+pub put_has : {P : Type 0} (table : List (List App)) (n m : ℕ) (a b : App) → has (put table n a) m b ≡ true → (has table m b ≡ true → P)
+    → (m ≡ n → same_app b a ≡ true → P) → P
 put_has table n m a b h before more = cases (same_app b a)
     (λ t. at_set table n m (row table n ++ a ∷ []) []
     (λ e. before (sym (ap (λ xs. has_app xs b) e) ∙ h))
@@ -83,7 +85,8 @@ once_taken table n m a here at = at_set table n m (without_app (row table n) a) 
     (λ e. subst AreOnce (sym e) at)
     (λ e v. subst AreOnce (sym v) (AllPairs-filter (λ (x y : App). x.0 ≢ y.0) (λ x. not (same_app a x)) (row table n) here))
 
-pub once_put : (table : List (List App)) (n m : ℕ) (a : App) → AreOnce (row table n) → AreOnce (row table m) → has table n a ≡ false → AreOnce (row (put table n a) m)
+pub once_put : (table : List (List App)) (n m : ℕ) (a : App) → AreOnce (row table n) → AreOnce (row table m) → has table n a ≡ false
+    → AreOnce (row (put table n a) m)
 once_put table n m a here at absent = at_set table n m (row table n ++ a ∷ []) []
     (λ e. subst AreOnce (sym e) at)
     (λ e v. subst AreOnce (sym v) (AreOnce-push a (row table n) here absent))

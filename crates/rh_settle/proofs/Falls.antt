@@ -26,7 +26,8 @@ app_of (Takeover a m n) = a
 abbrev pub Progresses : StateView → Move → Type 0
 Progresses s (Local n a) = (n.0 < node_count s.cluster) × (a.0 < app_count s.cluster) × (is_local s.cluster a ≡ true) × (waits_at s n a ≡ true)
 Progresses s (Placement a from n) = (n.0 < node_count s.cluster) × (a.0 < app_count s.cluster) × (standing_of s a ≡ Wanted from) × (is_started s n a ≡ true)
-Progresses s (Takeover a m n) = (n.0 < node_count s.cluster) × (a.0 < app_count s.cluster) × (standing_of s a ≡ Running m) × (comes_before (group_of s.cluster a n) (group_of s.cluster a m) ≡ true) × (is_local s.cluster a ≡ false) × (is_started s n a ≡ true)
+Progresses s (Takeover a m n) = (n.0 < node_count s.cluster) × (a.0 < app_count s.cluster) × (standing_of s a ≡ Running m)
+    × (comes_before (group_of s.cluster a n) (group_of s.cluster a m) ≡ true) × (is_local s.cluster a ≡ false) × (is_started s n a ≡ true)
 
 local_falls : (s : StateView) (n : Node) (a : App) → IsSized s → Progresses s (Local n a) → points (moved_state s (Local n a)) < points s
 unfolding points_at
@@ -71,7 +72,8 @@ module _ (s : StateView) (n : Node) (a : App) (sized : IsSized s) (lt_a : a.0 < 
 
   each_standing : (m : Node) (b : App) → standing_point s.cluster m b (after b) ≤ standing_point s.cluster m b (standing_of s b)
   each_standing m b = at_set s.standings a.0 b.0 (Running n) Quiet
-      (λ e. let f : standing_point s.cluster m b (after b) ≡ standing_point s.cluster m b (standing_of s b) = ap (standing_point s.cluster m b) e in omega arith)
+      (λ e. let f : standing_point s.cluster m b (after b) ≡ standing_point s.cluster m b (standing_of s b) = ap (standing_point s.cluster m b) e in
+          omega arith)
       (λ same v. let P : ℕ → Type 0 = λ k. Outranked s.cluster n (app_numbered k) (standing_of s (app_numbered k)) in
       let here : Outranked s.cluster n b (standing_of s b) = subst P (sym same) out in
       let f : standing_point s.cluster m b (after b) ≡ standing_point s.cluster m b (Running n) = ap (standing_point s.cluster m b) v in
@@ -80,10 +82,12 @@ module _ (s : StateView) (n : Node) (a : App) (sized : IsSized s) (lt_a : a.0 < 
   this_standing : standing_point s.cluster n a (after a) < standing_point s.cluster n a (standing_of s a)
   this_standing =
       let lt : a.0 < length s.standings = (let e = sized.standings in omega arith) in
-      let f : standing_point s.cluster n a (after a) ≡ standing_point s.cluster n a (Running n) = ap (standing_point s.cluster n a) (at_set_here s.standings a.0 (Running n) Quiet lt) in
+      let f : standing_point s.cluster n a (after a) ≡ standing_point s.cluster n a (Running n) = ap (standing_point s.cluster n a)
+              (at_set_here s.standings a.0 (Running n) Quiet lt) in
       let g = outranked_lt s.cluster n a (standing_of s a) out in omega arith
 
-placement_falls : (s : StateView) (n : Node) (a : App) (from : Option Node) → IsSized s → Progresses s (Placement a from n) → points (moved_state s (Placement a from n)) < points s
+placement_falls : (s : StateView) (n : Node) (a : App) (from : Option Node) → IsSized s → Progresses s (Placement a from n)
+    → points (moved_state s (Placement a from n)) < points s
 unfolding points_at
 placement_falls s n a from sized h =
     let t : StateView = moved_state s (Placement a from n) in

@@ -59,7 +59,8 @@ never_left_wanted s a from h at e n listed =
     not_some (Some x) h k = cc
 
 -- a local application that waits has a reason
-pub waits_for_a_reason : (s : StateView) (n : Node) (a : App) → next_moves s [] ≡ [] → IsNodeOf s.cluster n → is_local s.cluster a ≡ true → waits_at s n a ≡ true
+pub waits_for_a_reason : (s : StateView) (n : Node) (a : App) → next_moves s [] ≡ [] → IsNodeOf s.cluster n → is_local s.cluster a ≡ true
+    → waits_at s n a ≡ true
     → (is_allowed s n a ≡ false) ⊎ (deps_run s n a ≡ false)
 waits_for_a_reason s n a h at l w =
     cases (is_allowed s n a)

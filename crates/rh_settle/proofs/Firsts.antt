@@ -1,5 +1,6 @@
 -- The moves of a set before which no other of it goes, and how a search for the first that is given finds them.
-use Rattle.std.proofs.Common.{◌≡◌, ℕ, ◌+◌, ◌<◌, ◌≤◌, ◌⊎◌, inl, inr, zero, suc, Bool, true, false, List, [], ◌∷◌, map, length, get_or, nat_eq, refl, sym, ap, ◌∙◌, arith, subst}
+use Rattle.std.proofs.Common.{◌≡◌, ℕ, ◌+◌, ◌<◌, ◌≤◌, ◌⊎◌, inl, inr, zero, suc, Bool, true, false, List, [], ◌∷◌, map, length, get_or, nat_eq, refl, sym, ap}
+use Rattle.std.proofs.Common.{◌∙◌, arith, subst}
 use Rattle.std.specs.List.{Contains, range_with_len}
 use Rattle.rh_base.specs.Lists.{or_else, first_given}
 use Rattle.rh_base.proofs.Lists.{cases}
@@ -103,7 +104,8 @@ pub firsts_range : {A : Type 0} (before : Move → Move → Bool) (g : ℕ → A
     → (start len : ℕ) → Firsts before (Numbered E start len) (first_given f (map g (range_with_len start len)))
 firsts_range before g f E apart each start zero = firsts_nil before (Numbered E start zero) (λ m r. (let lo = r.1 in let hi = r.2 in absurd (omega arith)))
 firsts_range before g f E apart each start (suc len) =
-    firsts_as before before (λ m. E start m ⊎ Numbered E (start + 1) len m) (Numbered E start (suc len)) (first_given f (map g (range_with_len start (suc len))))
+    firsts_as before before (λ m. E start m ⊎ Numbered E (start + 1) len m) (Numbered E start (suc len))
+        (first_given f (map g (range_with_len start (suc len))))
     (λ m e. either_of e (λ k. (start, omega arith, omega arith, k)) (λ r. (r.0, (let lo = r.1 in omega arith), (let hi = r.2 in omega arith), r.3)))
     (λ m r. cases (nat_eq r.0 start)
     (λ t. inl (subst (λ k. E k m) (same_number r.0 start t) r.3))

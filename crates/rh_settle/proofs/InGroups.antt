@@ -1,5 +1,6 @@
 -- The first group that has a node that passes a test: what stands in groups before it, and in it.
-use Rattle.std.proofs.Common.{◌≡◌, ◌+◌, ◌||◌, ℕ, suc, Bool, true, false, cond, not, nat_eq, nat_lt, List, [], ◌∷◌, length, Option, Some, None, IsSome, is_some, refl, sym, ap, ◌∙◌, arith, subst}
+use Rattle.std.proofs.Common.{◌≡◌, ◌+◌, ◌||◌, ℕ, suc, Bool, true, false, cond, not, nat_eq, nat_lt, List, [], ◌∷◌, length, Option, Some, None, IsSome, is_some}
+use Rattle.std.proofs.Common.{refl, sym, ap, ◌∙◌, arith, subst}
 use Rattle.std.specs.List.{filter, list_any, position, position_or_len}
 use Rattle.std.specs.Option.{option_map}
 use Rattle.std.proofs.lemmas.Bool.Decides.{nat_tests}
@@ -29,9 +30,11 @@ position_cons p x xs = by (p x)
     under true n = ap Some (one_more n)
     under false n = refl
 
-    by : (b : Bool) → cond (nat_lt (cond (not b) (1 + position_or_len p xs) 0) (suc (length xs))) (Some (cond (not b) (1 + position_or_len p xs) 0)) None ≡ cond b (Some 0) (option_map suc (position p xs))
+    by : (b : Bool) → cond (nat_lt (cond (not b) (1 + position_or_len p xs) 0) (suc (length xs))) (Some (cond (not b) (1 + position_or_len p xs) 0)) None
+        ≡ cond b (Some 0) (option_map suc (position p xs))
     by true = ap (λ c. cond c (Some 0) None) (first (length xs))
-    by false = ap (λ c. cond c (Some (1 + position_or_len p xs)) None) (later (position_or_len p xs) (length xs)) ∙ under (nat_lt (position_or_len p xs) (length xs)) (position_or_len p xs)
+    by false = ap (λ c. cond c (Some (1 + position_or_len p xs)) None) (later (position_or_len p xs) (length xs))
+        ∙ under (nat_lt (position_or_len p xs) (length xs)) (position_or_len p xs)
 
 abbrev pub place : List (List Node) → Node → Option ℕ
 place groups n = position (is_in n) groups
@@ -123,10 +126,12 @@ Chosen p groups n =
     × ((k : Node) → place groups k ≡ place groups n → p k ≡ true → is_in k (among p groups) ≡ true)
     × IsSome (place groups n)
 
-here : (p : Node → Bool) (g : List Node) (groups : List (List Node)) → list_any p g ≡ true → (n : Node) → is_in n g ≡ true → p n ≡ true → Chosen p (g ∷ groups) n
+here : (p : Node → Bool) (g : List Node) (groups : List (List Node)) → list_any p g ≡ true → (n : Node) → is_in n g ≡ true → p n ≡ true
+    → Chosen p (g ∷ groups) n
 here p g groups any n at t = (
   t,
-  (λ k h. both (comes_before (place (g ∷ groups) k) (Some 0)) (ap (comes_before (place (g ∷ groups) k)) (sym (in_here g groups n at)) ∙ h) (none_before (place (g ∷ groups) k))),
+  (λ k h. both (comes_before (place (g ∷ groups) k) (Some 0)) (ap (comes_before (place (g ∷ groups) k)) (sym (in_here g groups n at)) ∙ h)
+      (none_before (place (g ∷ groups) k))),
   (λ k e tk. cases (is_in k g)
       (λ h. ap (is_in k) (any_filter p g (among p groups) any) ∙ kept_in p g k tk h)
       (λ f. not_first (place groups k) (sym (not_here g groups k f) ∙ e ∙ in_here g groups n at))),
@@ -183,12 +188,14 @@ IsAmong p groups n =
 abbrev pub NoneBefore : (Node → Bool) → List (List Node) → Node → Type 0
 NoneBefore p groups n = (k : Node) → p k ≡ true → comes_before (place groups k) (place groups n) ≡ false
 
-among_here : (p : Node → Bool) (g : List Node) (groups : List (List Node)) (n : Node) → list_any p g ≡ true → p n ≡ true → NoneBefore p (g ∷ groups) n → IsAmong p (g ∷ groups) n
+among_here : (p : Node → Bool) (g : List Node) (groups : List (List Node)) (n : Node) → list_any p g ≡ true → p n ≡ true → NoneBefore p (g ∷ groups) n
+    → IsAmong p (g ∷ groups) n
 among_here p g groups n any t first =
     let e = any_filter p g (among p groups) any in
     let at : is_in n g ≡ true = cases (is_in n g) (λ h. h)
     (λ f. passing p g any (λ k i u. both (comes_before (place (g ∷ groups) k) (place (g ∷ groups) n))
-    (ap (λ q. comes_before q (place (g ∷ groups) n)) (in_here g groups k i) ∙ ap (comes_before (Some 0)) (not_here g groups n f) ∙ first_before (place groups n))
+    (ap (λ q. comes_before q (place (g ∷ groups) n)) (in_here g groups k i) ∙ ap (comes_before (Some 0)) (not_here g groups n f)
+        ∙ first_before (place groups n))
     (first k u))) in (
       ap (is_in n) e ∙ kept_in p g n t at,
       (λ k i. let r = of_filter p g k (sym (ap (is_in k) e) ∙ i) in (in_here g groups k r.0 ∙ sym (in_here g groups n at), r.1)),

@@ -1,5 +1,6 @@
 -- A move keeps that no application stands twice at a node, and that each runs where it stands as running.
-use Rattle.std.proofs.Common.{◌≡◌, ◌≢◌, ◌<◌, ℕ, zero, suc, true, false, List, [], ◌∷◌, ◌++◌, length, refl, sym, ap, ◌∙◌, arith, nat_eq, unwrap_or, slice_get, slice_set, subst, Option, Some, None, All, IfSome}
+use Rattle.std.proofs.Common.{◌≡◌, ◌≢◌, ◌<◌, ℕ, zero, suc, true, false, List, [], ◌∷◌, ◌++◌, length, refl, sym, ap, ◌∙◌, arith, nat_eq, unwrap_or, slice_get}
+use Rattle.std.proofs.Common.{slice_set, subst, Option, Some, None, All, IfSome}
 use Rattle.std.proofs.lemmas.List.{length-set}
 use Rattle.rh_model.specs.declared.node.Node.{Node}
 use Rattle.rh_model.specs.declared.node.App.{App}
@@ -21,7 +22,8 @@ use Rattle.rh_settle.specs.Moves.{comes_before, with_started, with_stopped, move
 use Rattle.rh_settle.specs.Validity.{RunsWhereItStands, OnceAtEachNode, CanBeMade}
 use Rattle.rh_settle.specs.Soundness.{IsSized}
 use Rattle.rh_settle.proofs.Places.{at_set_here, at_set_there, or_left, or_right, started_on}
-use Rattle.rh_settle.proofs.Entries.{same_number, other_number, is_false, both, taken, put, has, taken_has, taken_not, taken_keeps, there, put_has, put_keeps, put_gives, once_taken, once_put, row_there, length_taken, length_put}
+use Rattle.rh_settle.proofs.Entries.{same_number, other_number, is_false, both, taken, put, has, taken_has, taken_not, taken_keeps, there, put_has, put_keeps}
+use Rattle.rh_settle.proofs.Entries.{put_gives, once_taken, once_put, row_there, length_taken, length_put}
 use Rattle.rh_settle.proofs.Points.{not_before}
 use Rattle.rh_settle.proofs.Falls.{Progresses}
 
@@ -55,7 +57,8 @@ once_waiting s n a r w h = record {
       (λ e t. at_pair s.running n.0 m.0 a b e t ∙ r);
 }
 
-once_started : (s : StateView) (n : Node) (a : App) (k : Kind) → n.0 < length s.running → n.0 < length s.waiting → OnceAtEachNode s → OnceAtEachNode (with_started s n a k)
+once_started : (s : StateView) (n : Node) (a : App) (k : Kind) → n.0 < length s.running → n.0 < length s.waiting → OnceAtEachNode s
+    → OnceAtEachNode (with_started s n a k)
 once_started s n a k r w h =
     let o = once_running (unlisted s n a) n a (taken_not s.running n.0 a r) (taken_not s.waiting n.0 a w) (once_unlisted s n a h) in
     record { running = o.running; waiting = o.waiting; apart = o.apart }
@@ -67,7 +70,8 @@ once_stopped s n a r w h = once_waiting (unlisted s n a) n a (taken_not s.runnin
 started_runs : (s : StateView) (n m : Node) (a b : App) (k : Kind) → n.0 < length s.running → runs_at s m b ≡ true → runs_at (with_started s n a k) m b ≡ true
 started_runs s n m a b k lt h = cases (same_app b a)
     (λ t. cases (nat_eq m.0 n.0)
-    (λ e. ap (λ i. has (put (taken s.running n.0 a) n.0 a) i b) (same_number m.0 n.0 e) ∙ put_gives (taken s.running n.0 a) n.0 a b (sized_taken s.running n.0 a lt) t)
+    (λ e. ap (λ i. has (put (taken s.running n.0 a) n.0 a) i b) (same_number m.0 n.0 e)
+        ∙ put_gives (taken s.running n.0 a) n.0 a b (sized_taken s.running n.0 a lt) t)
     (λ d. there (taken s.running n.0 a) n.0 m.0 (row (taken s.running n.0 a) n.0 ++ a ∷ []) b (other_number m.0 n.0 d)
     ∙ there s.running n.0 m.0 (without_app (row s.running n.0) a) b (other_number m.0 n.0 d) ∙ h))
     (λ f. put_keeps (taken s.running n.0 a) n.0 m.0 a b (taken_keeps s.running n.0 m.0 a b f h))
@@ -76,7 +80,8 @@ started_runs s n m a b k lt h = cases (same_app b a)
     sized_taken table n a lt = let e = length-set table n (without_app (row table n) a) in omega (arith, e)
 
 started_here : (s : StateView) (n : Node) (a b : App) (k : Kind) → n.0 < length s.running → same_app b a ≡ true → runs_at (with_started s n a k) n b ≡ true
-started_here s n a b k lt t = put_gives (taken s.running n.0 a) n.0 a b (let e = length-set s.running n.0 (without_app (row s.running n.0) a) in omega (arith, e)) t
+started_here s n a b k lt t = put_gives (taken s.running n.0 a) n.0 a b
+    (let e = length-set s.running n.0 (without_app (row s.running n.0) a) in omega (arith, e)) t
 
 pub same_running : (x y : Node) → Running x ≡ Running y → x ≡ y
 same_running x y e = cc
@@ -161,5 +166,6 @@ module _ (s : StateView) (sized : IsSized s) where
   runs_moved (Takeover a m n) p h =
       let t : StateView = with_started s n a Normal in
       runs_after s (moved_state s (Takeover a m n)) n a refl (in_standings a p.1)
-      (λ b f. there t.running m.0 n.0 (without_app (row t.running m.0) a) b (λ e. elsewhere s a m n p.3 (sym e)) ∙ started_here s n a b Normal (in_running n p.0) f)
+      (λ b f. there t.running m.0 n.0 (without_app (row t.running m.0) a) b (λ e. elsewhere s a m n p.3 (sym e))
+          ∙ started_here s n a b Normal (in_running n p.0) f)
       (λ k b d r. taken_keeps t.running m.0 k.0 a b d (started_runs s n k a b Normal (in_running n p.0) r)) h

@@ -1,5 +1,6 @@
 -- A walk over a list of applications, from each to the one behind it.
-use Rattle.std.proofs.Common.{◌≡◌, ◌≢◌, ◌<◌, ◌||◌, ℕ, suc, true, false, cond, Option, Some, None, List, [], ◌∷◌, length, slice_get, All, AllPairs, IfSome, refl, sym, ap, ◌∙◌, arith, subst}
+use Rattle.std.proofs.Common.{◌≡◌, ◌≢◌, ◌<◌, ◌||◌, ℕ, suc, true, false, cond, Option, Some, None, List, [], ◌∷◌, length, slice_get, All, AllPairs, IfSome, refl}
+use Rattle.std.proofs.Common.{sym, ap, ◌∙◌, arith, subst}
 use Rattle.rh_model.specs.declared.node.App.{App}
 use Rattle.rh_model.specs.ClusterView.{app_numbered}
 use Rattle.rh_state.specs.Numbers.{same_app}
@@ -23,7 +24,8 @@ absent a (b ∷ apps) h = cases (same_app a b)
 
 pub once_of : (apps : List App) → AllPairs (λ (a b : App). a.0 ≢ b.0) apps → Once apps
 once_of [] h = tt
-once_of (a ∷ apps) h = (absent a apps (λ k d l. h 0 (suc k) d (omega arith) (omega arith)), once_of apps (λ i j d l m. h (suc i) (suc j) d (omega arith) (omega arith)))
+once_of (a ∷ apps) h = (absent a apps (λ k d l. h 0 (suc k) d (omega arith) (omega arith)),
+    once_of apps (λ i j d l m. h (suc i) (suc j) d (omega arith) (omega arith)))
 
 -- what is left of a list from an application on
 abbrev pub from_app : List App → App → List App
@@ -61,7 +63,8 @@ next_is_next apps a = by (next_app apps a) refl
     by (Some c) e = next_in apps a c e
 
 -- an element in front, that isn't what is next, is passed over
-passed : (b : App) (apps : List App) (next : Option App) → has_app apps b ≡ false → IfSome next (λ c. has_app apps c ≡ true) → left_of (b ∷ apps) next ≡ left_of apps next
+passed : (b : App) (apps : List App) (next : Option App) → has_app apps b ≡ false → IfSome next (λ c. has_app apps c ≡ true)
+    → left_of (b ∷ apps) next ≡ left_of apps next
 passed b apps None out h = refl
 passed b apps (Some c) out h = cases (same_app c b)
     (λ t. both (has_app apps b) (ap (λ (k : ℕ). has_app apps (app_numbered k)) (sym (same_number c.0 b.0 t)) ∙ h) out)
@@ -88,7 +91,8 @@ module _ {B : Type 0} (f : App → List B) (apps : List App) (next : Option App)
   pub found_on_walk : (a : App) (y : B) → Once apps → has_app apps a ≡ true → next ≡ Some a → f a ≡ y ∷ [] → first_given f apps ≡ y ∷ []
   found_on_walk a y once h is gives = here a once h is ∙ ap (λ ys. or_else ys (first_given f (left_of apps (next_app apps a)))) gives
 
-  pub later_on_walk : (a : App) → Once apps → has_app apps a ≡ true → next ≡ Some a → f a ≡ [] → first_given f (left_of apps (next_app apps a)) ≡ first_given f apps
+  pub later_on_walk : (a : App) → Once apps → has_app apps a ≡ true → next ≡ Some a → f a ≡ []
+      → first_given f (left_of apps (next_app apps a)) ≡ first_given f apps
   later_on_walk a once h is none = sym (ap (λ ys. or_else ys (first_given f (left_of apps (next_app apps a)))) none) ∙ sym (here a once h is)
 
   pub end_of_walk : next ≡ None → first_given f apps ≡ []

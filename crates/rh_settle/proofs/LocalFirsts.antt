@@ -37,7 +37,8 @@ place_later x xs a f = position_cons (same_app a) x xs ∙ ap (λ b. cond b (Som
 same_start : (s : StateView) (n : Node) (x a : App) → same_app a x ≡ true → can_start s n a ≡ can_start s n x
 same_start s n x a t = ap (λ k. can_start s n (app_numbered k)) (same_number a.0 x.0 t)
 
-starts_here : (s : StateView) (n : Node) (x : App) (xs : List App) → can_start s n x ≡ true → Firsts (line_before (x ∷ xs)) (InLine s n (x ∷ xs)) (Local n x ∷ [])
+starts_here : (s : StateView) (n : Node) (x : App) (xs : List App) → can_start s n x ≡ true
+    → Firsts (line_before (x ∷ xs)) (InLine s n (x ∷ xs)) (Local n x ∷ [])
 starts_here s n x xs t =
     let at : position (same_app x) (x ∷ xs) ≡ Some 0 = place_here x xs x (same_refl x.0) in
     let e : InLine s n (x ∷ xs) (Local n x) = (refl, or_left (same_app x x) (has_app xs x) (same_refl x.0), t) in record {
@@ -57,7 +58,8 @@ starts_here s n x xs t =
     not_nil : (m : Move) → m ∷ [] ≡ [] → ⊥
     not_nil m z = cc
 
-starts_later : (s : StateView) (n : Node) (x : App) (xs : List App) (ms : List Move) → can_start s n x ≡ false → Firsts (line_before xs) (InLine s n xs) ms → Firsts (line_before (x ∷ xs)) (InLine s n (x ∷ xs)) ms
+starts_later : (s : StateView) (n : Node) (x : App) (xs : List App) (ms : List Move) → can_start s n x ≡ false → Firsts (line_before xs) (InLine s n xs) ms
+    → Firsts (line_before (x ∷ xs)) (InLine s n (x ∷ xs)) ms
 starts_later s n x xs ms f r =
     let other : (a : App) → can_start s n a ≡ true → same_app a x ≡ false =
     λ a t. cases (same_app a x) (λ u. both (can_start s n x) (sym (same_start s n x a u) ∙ t) f) (λ v. v) in
@@ -76,7 +78,8 @@ in_line s n (x ∷ xs) =
     let ms : List Move = first_given (local_move s n) xs in
     cases (can_start s n x)
     (λ t. subst (Firsts (line_before (x ∷ xs)) (InLine s n (x ∷ xs))) (sym (ap (λ b. or_else (cond b (Local n x ∷ []) []) ms) t)) (starts_here s n x xs t))
-    (λ f. subst (Firsts (line_before (x ∷ xs)) (InLine s n (x ∷ xs))) (sym (ap (λ b. or_else (cond b (Local n x ∷ []) []) ms) f)) (starts_later s n x xs ms f rest))
+    (λ f. subst (Firsts (line_before (x ∷ xs)) (InLine s n (x ∷ xs))) (sym (ap (λ b. or_else (cond b (Local n x ∷ []) []) ms) f))
+        (starts_later s n x xs ms f rest))
 
 -- ---- order of numbers
 pub less : (i j : ℕ) → i < j → nat_lt i j ≡ true
@@ -104,7 +107,8 @@ here_before i b = rw (not_itself i, same_refl i) refl
 pub locals_at : (s : StateView) (k : ℕ) → Firsts (goes_before s) (LocalAt s k) (local_moves s (numbered k))
 unfolding local_moves
 locals_at s k =
-    firsts_as (line_before (waiting_at s (numbered k))) (goes_before s) (LocalAt s k) (LocalAt s k) (first_given (local_move s (numbered k)) (waiting_at s (numbered k)))
+    firsts_as (line_before (waiting_at s (numbered k))) (goes_before s) (LocalAt s k) (LocalAt s k)
+        (first_given (local_move s (numbered k)) (waiting_at s (numbered k)))
     (λ m l. l) (λ m l. l)
     (λ m o l h. sym (before_is s m o (Local (numbered k) (app_of m)) (Local (numbered k) (app_of o)) l.0 h.0
     ∙ here_before k (line_before (waiting_at s (numbered k)) m o)))

@@ -18,7 +18,8 @@ use Rattle.rh_settle.proofs.Sized.{sized_of}
 use Rattle.rh_settle.proofs.Fuel.{state_moved, cluster_moved, progress, falls_next, unrolled, ended}
 use Rattle.rh_settle.proofs.Kept.{can_be_made, once_moved, runs_moved}
 
-module _ (s : StateView) (notices : List Notice) (marked : List Pair) (pick : Pick) (m : Move) (shape : IsShaped s) (next : Some m ≡ picked pick (next_moves s marked)) where
+module _ (s : StateView) (notices : List Notice) (marked : List Pair) (pick : Pick) (m : Move) (shape : IsShaped s)
+    (next : Some m ≡ picked pick (next_moves s marked)) where
   known : Progresses s m
   known = progress (course s notices marked) pick m (sized_of s shape) (sym next)
 
@@ -47,5 +48,6 @@ module _ (s : StateView) (notices : List Notice) (marked : List Pair) (pick : Pi
     once_still runs once = subst OnceAtEachNode (sym is_moved) (once_moved s (sized_of s shape) runs m known once)
 
 -- the end
-pub none_left : (s : StateView) (notices : List Notice) (marked : List Pair) (pick : Pick) → None ≡ picked pick (next_moves s marked) → (all_moved pick (course s notices marked) ≡ course s notices marked) × (next_moves s marked ≡ [])
+pub none_left : (s : StateView) (notices : List Notice) (marked : List Pair) (pick : Pick) → None ≡ picked pick (next_moves s marked)
+    → (all_moved pick (course s notices marked) ≡ course s notices marked) × (next_moves s marked ≡ [])
 none_left s notices marked pick h = (ended pick (course s notices marked) (sym h), none_picked pick (next_moves s marked) (sym h))

@@ -17,7 +17,8 @@ use Rattle.rh_settle.specs.Moves.{is_local, can_start, local_moves, placements, 
 use Rattle.rh_settle.specs.Enabled.{IsBest, IsEnabled, IsFirst, goes_before}
 use Rattle.rh_settle.proofs.Falls.{app_of}
 use Rattle.rh_settle.proofs.Best.{each_best, in_best}
-use Rattle.rh_settle.proofs.Firsts.{In, in_contained, contained_in, every_in, empty_of, in_map, of_map, either_of, Firsts, firsts_flat, firsts_nil, firsts_as, firsts_else, Numbered, firsts_range}
+use Rattle.rh_settle.proofs.Firsts.{In, in_contained, contained_in, every_in, empty_of, in_map, of_map, either_of, Firsts, firsts_flat, firsts_nil, firsts_as}
+use Rattle.rh_settle.proofs.Firsts.{firsts_else, Numbered, firsts_range}
 use Rattle.rh_settle.proofs.LocalFirsts.{LocalAt, less, not_less, not_itself, before_is, locals_at, locals_apart}
 
 -- ---- placements and takeovers by application
@@ -29,10 +30,12 @@ abbrev TakenAs : StateView → List Pair → ℕ → Move → Type 0
 TakenAs s marked k m = (j : Node) × (n : Node) × (m ≡ Takeover (app_numbered k) j n) × (standing_of s (app_numbered k) ≡ Running j)
     × IsBest s (app_numbered k) (calls_away s marked (app_numbered k) j) n
 
-not_placed : (s : StateView) (k : ℕ) (st : Standing) → ((from : Option Node) → st ≡ Wanted from → ⊥) → standing_of s (app_numbered k) ≡ st → Firsts (goes_before s) (PlacedAs s k) []
+not_placed : (s : StateView) (k : ℕ) (st : Standing) → ((from : Option Node) → st ≡ Wanted from → ⊥) → standing_of s (app_numbered k) ≡ st
+    → Firsts (goes_before s) (PlacedAs s k) []
 not_placed s k st other e = firsts_nil (goes_before s) (PlacedAs s k) (λ m p. other p.0 (sym e ∙ p.3))
 
-placed_from : (s : StateView) (k : ℕ) (st : Standing) → standing_of s (app_numbered k) ≡ st → Firsts (goes_before s) (PlacedAs s k) (placements_from s (app_numbered k) st)
+placed_from : (s : StateView) (k : ℕ) (st : Standing) → standing_of s (app_numbered k) ≡ st
+    → Firsts (goes_before s) (PlacedAs s k) (placements_from s (app_numbered k) st)
 unfolding candidates
 placed_from s k Quiet e = not_placed s k Quiet (λ from c. wrong from c) e
   where
@@ -59,10 +62,12 @@ placed_from s k (Wanted from) e =
     same_from : (f g : Option Node) → Wanted f ≡ Wanted g → f ≡ g
     same_from f g c = cc
 
-not_taken : (s : StateView) (marked : List Pair) (k : ℕ) (st : Standing) → ((j : Node) → st ≡ Running j → ⊥) → standing_of s (app_numbered k) ≡ st → Firsts (goes_before s) (TakenAs s marked k) []
+not_taken : (s : StateView) (marked : List Pair) (k : ℕ) (st : Standing) → ((j : Node) → st ≡ Running j → ⊥) → standing_of s (app_numbered k) ≡ st
+    → Firsts (goes_before s) (TakenAs s marked k) []
 not_taken s marked k st other e = firsts_nil (goes_before s) (TakenAs s marked k) (λ m p. other p.0 (sym e ∙ p.3))
 
-taken_from : (s : StateView) (marked : List Pair) (k : ℕ) (st : Standing) → standing_of s (app_numbered k) ≡ st → Firsts (goes_before s) (TakenAs s marked k) (takeovers_from s marked (app_numbered k) st)
+taken_from : (s : StateView) (marked : List Pair) (k : ℕ) (st : Standing) → standing_of s (app_numbered k) ≡ st
+    → Firsts (goes_before s) (TakenAs s marked k) (takeovers_from s marked (app_numbered k) st)
 taken_from s marked k Quiet e = not_taken s marked k Quiet (λ j c. wrong j c) e
   where
     wrong : (j : Node) → Quiet ≡ Running j → ⊥
@@ -95,7 +100,8 @@ placed_apart s i j lt m o p q = (
   before_is s o m (Placement (app_numbered j) q.0 q.1) (Placement (app_numbered i) p.0 p.1) q.2 p.2 ∙ not_less i j lt,
 )
 
-taken_apart : (s : StateView) (marked : List Pair) (i j : ℕ) → i < j → (m o : Move) → TakenAs s marked i m → TakenAs s marked j o → (goes_before s m o ≡ true) × (goes_before s o m ≡ false)
+taken_apart : (s : StateView) (marked : List Pair) (i j : ℕ) → i < j → (m o : Move) → TakenAs s marked i m → TakenAs s marked j o
+    → (goes_before s m o ≡ true) × (goes_before s o m ≡ false)
 taken_apart s marked i j lt m o p q = (
   before_is s m o (Takeover (app_numbered i) p.0 p.1) (Takeover (app_numbered j) q.0 q.1) p.2 q.2 ∙ less i j lt,
   before_is s o m (Takeover (app_numbered j) q.0 q.1) (Takeover (app_numbered i) p.0 p.1) q.2 p.2 ∙ not_less i j lt,
@@ -117,11 +123,13 @@ locals s = firsts_range (goes_before s) numbered (local_moves s) (LocalAt s) (lo
 
 placed : (s : StateView) → Firsts (goes_before s) (Placed s) (first_given (placements s) (apps_of s.cluster))
 unfolding apps_of placements
-placed s = firsts_range (goes_before s) app_numbered (placements s) (PlacedAs s) (placed_apart s) (λ k. placed_from s k (standing_of s (app_numbered k)) refl) 0 (app_count s.cluster)
+placed s = firsts_range (goes_before s) app_numbered (placements s) (PlacedAs s) (placed_apart s) (λ k. placed_from s k (standing_of s (app_numbered k)) refl) 0
+    (app_count s.cluster)
 
 taken : (s : StateView) (marked : List Pair) → Firsts (goes_before s) (Taken s marked) (first_given (takeovers s marked) (apps_of s.cluster))
 unfolding apps_of takeovers
-taken s marked = firsts_range (goes_before s) app_numbered (takeovers s marked) (TakenAs s marked) (taken_apart s marked) (λ k. taken_from s marked k (standing_of s (app_numbered k)) refl) 0 (app_count s.cluster)
+taken s marked = firsts_range (goes_before s) app_numbered (takeovers s marked) (TakenAs s marked) (taken_apart s marked)
+    (λ k. taken_from s marked k (standing_of s (app_numbered k)) refl) 0 (app_count s.cluster)
 
 -- ---- all of them
 abbrev AnyKind : StateView → List Pair → Move → Type 0
@@ -131,7 +139,8 @@ can_start_all : (s : StateView) (n : Node) (a : App) → is_local s.cluster a �
 unfolding can_start
 can_start_all s n a l m r = rw (l, m, r) refl
 
-can_start_parts : (s : StateView) (n : Node) (a : App) → can_start s n a ≡ true → (is_local s.cluster a ≡ true) × (is_allowed s n a ≡ true) × (deps_run s n a ≡ true)
+can_start_parts : (s : StateView) (n : Node) (a : App) → can_start s n a ≡ true → (is_local s.cluster a ≡ true) × (is_allowed s n a ≡ true)
+    × (deps_run s n a ≡ true)
 unfolding can_start
 can_start_parts s n a h = by (is_local s.cluster a) (is_allowed s n a) (deps_run s n a) h
   where
@@ -157,7 +166,8 @@ firsts : (s : StateView) (marked : List Pair) → Firsts (goes_before s) (IsEnab
 unfolding next_moves
 firsts s marked =
     firsts_as (goes_before s) (goes_before s) (AnyKind s marked) (IsEnabled s marked)
-    (or_else (first_given (local_moves s) (nodes_of s.cluster)) (or_else (first_given (placements s) (apps_of s.cluster)) (first_given (takeovers s marked) (apps_of s.cluster))))
+    (or_else (first_given (local_moves s) (nodes_of s.cluster))
+        (or_else (first_given (placements s) (apps_of s.cluster)) (first_given (takeovers s marked) (apps_of s.cluster))))
     (enabled_kind s marked) (kind_of_enabled s marked) (λ m o e k. refl)
     (firsts_else (goes_before s) (Locals s) (λ m. Placed s m ⊎ Taken s marked m) (first_given (local_moves s) (nodes_of s.cluster))
     (or_else (first_given (placements s) (apps_of s.cluster)) (first_given (takeovers s marked) (apps_of s.cluster)))
@@ -171,7 +181,8 @@ firsts s marked =
       before_is s o m (Takeover (app_numbered t.0) t.3.0 t.3.1) (Local (numbered l.0) (app_of m)) t.3.2 l.3.0,
     )))
     (locals s)
-    (firsts_else (goes_before s) (Placed s) (Taken s marked) (first_given (placements s) (apps_of s.cluster)) (first_given (takeovers s marked) (apps_of s.cluster))
+    (firsts_else (goes_before s) (Placed s) (Taken s marked) (first_given (placements s) (apps_of s.cluster))
+        (first_given (takeovers s marked) (apps_of s.cluster))
     (λ m o p t. (
       before_is s m o (Placement (app_numbered p.0) p.3.0 p.3.1) (Takeover (app_numbered t.0) t.3.0 t.3.1) p.3.2 t.3.2,
       before_is s o m (Takeover (app_numbered t.0) t.3.0 t.3.1) (Placement (app_numbered p.0) p.3.0 p.3.1) t.3.2 p.3.2,

@@ -1,5 +1,6 @@
 -- What a list of applications has, and in which list of its node a pair stands, after it leaves one and enters another.
-use Rattle.std.proofs.Common.{◌≡◌, ◌≢◌, ◌<◌, ℕ, zero, suc, Bool, true, false, cond, not, ◌||◌, List, [], ◌∷◌, ◌++◌, length, refl, ap, ◌∙◌, arith, nat_eq, unwrap_or, slice_get, slice_set}
+use Rattle.std.proofs.Common.{◌≡◌, ◌≢◌, ◌<◌, ℕ, zero, suc, Bool, true, false, cond, not, ◌||◌, List, [], ◌∷◌, ◌++◌, length, refl, ap, ◌∙◌, arith, nat_eq}
+use Rattle.std.proofs.Common.{unwrap_or, slice_get, slice_set}
 use Rattle.std.proofs.lemmas.Bool.Decides.{nat_tests}
 use Rattle.rh_model.specs.declared.node.Node.{Node}
 use Rattle.rh_model.specs.declared.node.App.{App}
@@ -53,7 +54,8 @@ without_has (x ∷ xs) a b h =
     let rest = without_has xs a b in
     go (not (same_app a x)) rest h
   where
-    go : (keep : Bool) → (has_app (without_app xs a) b ≡ true → has_app xs b ≡ true) → has_app (cond keep (x ∷ without_app xs a) (without_app xs a)) b ≡ true → has_app (x ∷ xs) b ≡ true
+    go : (keep : Bool) → (has_app (without_app xs a) b ≡ true → has_app xs b ≡ true) → has_app (cond keep (x ∷ without_app xs a) (without_app xs a)) b ≡ true
+        → has_app (x ∷ xs) b ≡ true
     go true rest h = or_true (same_app b x) _ _ rest h
     go false rest h = or_right (same_app b x) _ (rest h)
 

@@ -157,7 +157,8 @@ both_kinds = up false none ((app ∷ []) ∷ [] ∷ (helper ∷ []) ∷ []) (Wan
 
 enabled_too : IsEnabled both_kinds [] (Placement app None n1)
 unfolding is_operational deps_run
-enabled_too = (omega arith, refl, record { listed = refl; passes = refl; first = λ k h. none_before (group_of (cluster false) app k); fewest = λ k h e. omega arith })
+enabled_too = (omega arith, refl, record { listed = refl; passes = refl; first = λ k h. none_before (group_of (cluster false) app k);
+    fewest = λ k h e. omega arith })
 
 local_before : goes_before both_kinds (Local n3 helper) (Placement app None n1) ≡ true
 local_before = refl

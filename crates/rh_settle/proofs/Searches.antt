@@ -1,5 +1,6 @@
 -- A search for the first that is given.
-use Rattle.std.proofs.Common.{◌≡◌, ℕ, ◌+◌, ◌<◌, ◌≤◌, List, [], ◌∷◌, map, Option, Some, None, refl, sym, ap, ◌∙◌, drop, get_or, length, arith, zero, suc, is_some}
+use Rattle.std.proofs.Common.{◌≡◌, ℕ, ◌+◌, ◌<◌, ◌≤◌, List, [], ◌∷◌, map, Option, Some, None, refl, sym, ap, ◌∙◌, drop, get_or, length, arith, zero, suc}
+use Rattle.std.proofs.Common.{is_some}
 use Rattle.std.specs.List.{Contains, range_with_len, last_or}
 use Rattle.std.specs.Option.{option_map}
 use Rattle.std.proofs.lemmas.List.{length-map}
@@ -19,7 +20,8 @@ pub none_of_none : {A : Type 0} (pick : Pick) → None ≡ picked {A = A} pick [
 none_of_none First = refl
 none_of_none Last = refl
 
-given_more : {A B : Type 0} (f : A → List B) (xs : List A) (i : ℕ) (d : A) → i < length xs → first_given f (drop i xs) ≡ or_else (f (get_or xs i d)) (first_given f (drop (i + 1) xs))
+given_more : {A B : Type 0} (f : A → List B) (xs : List A) (i : ℕ) (d : A) → i < length xs
+    → first_given f (drop i xs) ≡ or_else (f (get_or xs i d)) (first_given f (drop (i + 1) xs))
 given_more f xs i d h = at_drop_more (first_given f) xs i d h
 
 given_all : {A B : Type 0} (f : A → List B) (xs : List A) (i : ℕ) → length xs ≤ i → first_given f (drop i xs) ≡ []
@@ -92,15 +94,18 @@ picked_map Last f xs = last f xs None
     last f [] before = refl
     last f (x ∷ xs) before = last f xs (Some x)
 
-module _ {B : Type 0} (pick : Pick) (c : ClusterView) (f : Node → List B) (i : ℕ) (so_far : first_given f (drop i (nodes_of c)) ≡ first_given f (nodes_of c)) where
+module _ {B : Type 0} (pick : Pick) (c : ClusterView) (f : Node → List B) (i : ℕ)
+    (so_far : first_given f (drop i (nodes_of c)) ≡ first_given f (nodes_of c)) where
   no_such : Node
   no_such = numbered 0
 
   pub found_node : (o : B) → i < node_count c → Some o ≡ picked pick (f (numbered i)) → Some o ≡ picked pick (first_given f (nodes_of c))
-  found_node o lt h = let l = length_nodes c in found pick f (nodes_of c) (nodes_of c) i so_far no_such o (omega arith) (h ∙ ap (λ n. picked pick (f n)) (sym (node_there c i no_such lt)))
+  found_node o lt h = let l = length_nodes c in found pick f (nodes_of c) (nodes_of c) i so_far no_such o (omega arith)
+      (h ∙ ap (λ n. picked pick (f n)) (sym (node_there c i no_such lt)))
 
   pub later_node : i < node_count c → None ≡ picked pick (f (numbered i)) → first_given f (drop (i + 1) (nodes_of c)) ≡ first_given f (nodes_of c)
-  later_node lt h = let l = length_nodes c in later pick f (nodes_of c) (nodes_of c) i so_far no_such (omega arith) (h ∙ ap (λ n. picked pick (f n)) (sym (node_there c i no_such lt)))
+  later_node lt h = let l = length_nodes c in later pick f (nodes_of c) (nodes_of c) i so_far no_such (omega arith)
+      (h ∙ ap (λ n. picked pick (f n)) (sym (node_there c i no_such lt)))
 
   pub no_node_left : node_count c ≤ i → None ≡ picked pick (first_given f (nodes_of c))
   no_node_left ge = let l = length_nodes c in none pick f (nodes_of c) (nodes_of c) i so_far (omega arith)
@@ -110,10 +115,12 @@ module _ {B : Type 0} (pick : Pick) (c : ClusterView) (f : App → List B) (i : 
   no_such_app = app_numbered 0
 
   pub found_app : (o : B) → i < app_count c → Some o ≡ picked pick (f (app_numbered i)) → Some o ≡ picked pick (first_given f (apps_of c))
-  found_app o lt h = let l = length_apps c in found pick f (apps_of c) (apps_of c) i so_far no_such_app o (omega arith) (h ∙ ap (λ n. picked pick (f n)) (sym (app_there c i no_such_app lt)))
+  found_app o lt h = let l = length_apps c in found pick f (apps_of c) (apps_of c) i so_far no_such_app o (omega arith)
+      (h ∙ ap (λ n. picked pick (f n)) (sym (app_there c i no_such_app lt)))
 
   pub later_app : i < app_count c → None ≡ picked pick (f (app_numbered i)) → first_given f (drop (i + 1) (apps_of c)) ≡ first_given f (apps_of c)
-  later_app lt h = let l = length_apps c in later pick f (apps_of c) (apps_of c) i so_far no_such_app (omega arith) (h ∙ ap (λ n. picked pick (f n)) (sym (app_there c i no_such_app lt)))
+  later_app lt h = let l = length_apps c in later pick f (apps_of c) (apps_of c) i so_far no_such_app (omega arith)
+      (h ∙ ap (λ n. picked pick (f n)) (sym (app_there c i no_such_app lt)))
 
   pub no_app_left : app_count c ≤ i → None ≡ picked pick (first_given f (apps_of c))
   no_app_left ge = let l = length_apps c in none pick f (apps_of c) (apps_of c) i so_far (omega arith)

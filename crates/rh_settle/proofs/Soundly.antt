@@ -18,7 +18,8 @@ use Rattle.rh_settle.specs.Moves.{is_local, with_started, with_stopped, moved_st
 use Rattle.rh_settle.specs.Validity.{RunsWhereItStands}
 use Rattle.rh_settle.specs.Soundness.{IsSized, IdleUnlessUp, StandsWhereItRuns, TimersFit, IsSound, is_lost}
 use Rattle.rh_settle.proofs.Places.{at_set, at_set_here, at_set_there, or_left, or_right}
-use Rattle.rh_settle.proofs.Entries.{taken, put, has, taken_has, taken_not, put_has, either, both, same_number, other_number, row_there, length_taken, length_put}
+use Rattle.rh_settle.proofs.Entries.{taken, put, has, taken_has, taken_not, put_has, either, both, same_number, other_number, row_there, length_taken}
+use Rattle.rh_settle.proofs.Entries.{length_put}
 use Rattle.rh_settle.proofs.Falls.{Progresses}
 use Rattle.rh_settle.proofs.Sized.{started_by_start, started_by_stop, stays_sized}
 use Rattle.rh_settle.proofs.Kept.{same_running, once_moved, runs_moved}
@@ -74,7 +75,8 @@ idle_moved s (Takeover a m n) p runs h =
 same_pair : (s : StateView) (n k : Node) (a b : App) → is_started s n a ≡ true → k.0 ≡ n.0 → same_app b a ≡ true → is_started s k b ≡ true
 same_pair s n k a b h e t = ap (λ i. is_started s (numbered i) b) e ∙ ap (λ j. is_started s n (app_numbered j)) (same_number b.0 a.0 t) ∙ h
 
-started_before : (s : StateView) (m : Move) (k : Node) (b : App) → Progresses s m → RunsWhereItStands s → is_started (moved_state s m) k b ≡ true → is_started s k b ≡ true
+started_before : (s : StateView) (m : Move) (k : Node) (b : App) → Progresses s m → RunsWhereItStands s → is_started (moved_state s m) k b ≡ true
+    → is_started s k b ≡ true
 started_before s (Local n a) k b p runs h = started_by_start s n a k b h (λ t. t) (same_pair s n k a b (or_right (runs_at s n a) _ p.3))
 started_before s (Placement a from n) k b p runs h = started_by_start s n a k b h (λ t. t) (same_pair s n k a b p.3)
 started_before s (Takeover a m n) k b p runs h =
@@ -101,7 +103,8 @@ no_quiet : {P : Type 0} (from : Option Node) → Quiet ≡ Wanted from → P
 no_quiet from e = cc
 
 -- what runs after a start ran before, or is what is started
-runs_by_start : {P : Type 0} (s : StateView) (n : Node) (a : App) (k : Node) (b : App) → runs_at (with_started s n a Normal) k b ≡ true → (runs_at s k b ≡ true → P) → (k.0 ≡ n.0 → same_app b a ≡ true → P) → P
+runs_by_start : {P : Type 0} (s : StateView) (n : Node) (a : App) (k : Node) (b : App) → runs_at (with_started s n a Normal) k b ≡ true
+    → (runs_at s k b ≡ true → P) → (k.0 ≡ n.0 → same_app b a ≡ true → P) → P
 runs_by_start s n a k b r before moves = put_has (taken s.running n.0 a) n.0 k.0 a b r (λ t. before (taken_has s.running n.0 k.0 a b t)) moves
 
 at_node : (n k : Node) → k.0 ≡ n.0 → Running n ≡ Running k
@@ -124,12 +127,15 @@ stands_moved s (Takeover a m n) p sized runs h k b d r =
     runs_by_start s n a k b (taken_has u.running m.0 k.0 a b r)
     (λ v. cases (same_app b a)
     (λ t. let at : m ≡ k = same_running m k (sym p.2 ∙ sym (same_standing s a b t) ∙ h.stands k b d v) in
-    both (has (taken u.running m.0 a) m.0 a) (ap (λ i. has (taken u.running m.0 a) i a) (ap (λ (x : Node). x.0) at) ∙ ap (λ j. has (taken u.running m.0 a) k.0 (app_numbered j)) (sym (same_number b.0 a.0 t)) ∙ r)
-    (taken_not u.running m.0 a (let x = length_put (taken s.running n.0 a) n.0 a in let y = length_taken s.running n.0 a in let z = row_there s.running m.0 a (runs.runs a m p.2) in omega (arith, x, y, z))))
+    both (has (taken u.running m.0 a) m.0 a) (ap (λ i. has (taken u.running m.0 a) i a) (ap (λ (x : Node). x.0) at)
+        ∙ ap (λ j. has (taken u.running m.0 a) k.0 (app_numbered j)) (sym (same_number b.0 a.0 t)) ∙ r)
+    (taken_not u.running m.0 a (let x = length_put (taken s.running n.0 a) n.0 a in let y = length_taken s.running n.0 a in
+        let z = row_there s.running m.0 a (runs.runs a m p.2) in omega (arith, x, y, z))))
     (λ f. stands_still s a n b f ∙ h.stands k b d v))
     (λ e t. stands_here s a n b lt t ∙ at_node n k e)
 
-local_moved : (s : StateView) (m : Move) → Progresses s m → StandsWhereItRuns s → (b : App) → is_local s.cluster b ≡ true → standing_of (moved_state s m) b ≡ Quiet
+local_moved : (s : StateView) (m : Move) → Progresses s m → StandsWhereItRuns s → (b : App) → is_local s.cluster b ≡ true
+    → standing_of (moved_state s m) b ≡ Quiet
 local_moved s (Local n a) p h b l = h.local b l
 local_moved s (Placement a from n) p h b l = cases (same_app b a)
     (λ t. no_quiet from (sym (h.local b l) ∙ same_standing s a b t ∙ p.2))
@@ -143,9 +149,14 @@ listed_moved : (s : StateView) (m : Move) → Progresses s m → RunsWhereItStan
 listed_moved s m p runs h k b t = h.listed k b (started_before s m k b p runs t)
 
 standing_moved : (s : StateView) (m : Move) → Progresses s m → IsSized s → RunsWhereItStands s → StandsWhereItRuns s → StandsWhereItRuns (moved_state s m)
-standing_moved s (Local n a) p sized runs h = record { listed = listed_moved s (Local n a) p runs h; stands = stands_moved s (Local n a) p sized runs h; local = local_moved s (Local n a) p h }
-standing_moved s (Placement a from n) p sized runs h = record { listed = listed_moved s (Placement a from n) p runs h; stands = stands_moved s (Placement a from n) p sized runs h; local = local_moved s (Placement a from n) p h }
-standing_moved s (Takeover a m n) p sized runs h = record { listed = listed_moved s (Takeover a m n) p runs h; stands = stands_moved s (Takeover a m n) p sized runs h; local = local_moved s (Takeover a m n) p h }
+standing_moved s (Local n a) p sized runs h = record { listed = listed_moved s (Local n a) p runs h; stands = stands_moved s (Local n a) p sized runs h;
+    local = local_moved s (Local n a) p h }
+standing_moved s (Placement a from n) p sized runs h =
+    record { listed = listed_moved s (Placement a from n) p runs h; stands = stands_moved s (Placement a from n) p sized runs h;
+    local = local_moved s (Placement a from n) p h }
+standing_moved s (Takeover a m n) p sized runs h =
+    record { listed = listed_moved s (Takeover a m n) p runs h; stands = stands_moved s (Takeover a m n) p sized runs h;
+    local = local_moved s (Takeover a m n) p h }
 
 -- ---- timers
 -- no application is lost or found again by a move

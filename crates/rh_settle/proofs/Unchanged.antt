@@ -65,7 +65,8 @@ module _ {A : Type 0} (F : StateView → A) (each : (s : StateView) (m : Move) �
   settled_keeps pick o = ap F (waits_told_state (all_moved pick o)) ∙ by_all (λ p. F p.state) each_course pick o
 
   pub settles_keeps : (o p : Course) → Settles o p → F p.state ≡ F o.state
-  settles_keeps o p run = ap (λ (q : Course). F q.state) run.outcome ∙ ap F (waits_told_state (fold moved o run.moves)) ∙ by_moves (λ q. F q.state) each_course o run.moves
+  settles_keeps o p run = ap (λ (q : Course). F q.state) run.outcome ∙ ap F (waits_told_state (fold moved o run.moves))
+      ∙ by_moves (λ q. F q.state) each_course o run.moves
 
 -- ---- the marks
 pub settled_marked : (pick : Pick) (o : Course) → (settled pick o).marked ≡ o.marked
@@ -75,7 +76,8 @@ pub moves_marked : (o : Course) (ms : List Move) → (fold moved o ms).marked �
 moves_marked o ms = by_moves (λ p. p.marked) marks_moved o ms
 
 pub settles_marked : (o p : Course) → Settles o p → p.marked ≡ o.marked
-settles_marked o p run = ap (λ (q : Course). q.marked) run.outcome ∙ tells_marked (fold moved o run.moves) (fold moved o run.moves).marked ∙ moves_marked o run.moves
+settles_marked o p run = ap (λ (q : Course). q.marked) run.outcome ∙ tells_marked (fold moved o run.moves) (fold moved o run.moves).marked
+    ∙ moves_marked o run.moves
 
 -- ---- parts of the state
 cluster_same : (s : StateView) (m : Move) → (moved_state s m).cluster ≡ s.cluster

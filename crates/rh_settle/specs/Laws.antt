@@ -53,7 +53,8 @@ TakenOverByEarlierGroups =
 -- applications run (Distributed Applications, Starting and Stopping Distributed Applications, Failover)
 abbrev pub PlacedInFirstGroup : Type 0
 PlacedInFirstGroup =
-    (s : StateView) (marked : List Pair) (a : App) (from : Option Node) (n : Node) → Contains (next_moves s marked) (Placement a from n) → IsBest s a (is_operational s a) n
+    (s : StateView) (marked : List Pair) (a : App) (from : Option Node) (n : Node) → Contains (next_moves s marked) (Placement a from n)
+        → IsBest s a (is_operational s a) n
 
 -- where nothing moves, an application that is to run can run at no node of its node list (Distributed Applications,
 -- Failover)

@@ -1,5 +1,6 @@
 -- Lists in which each application stands at most once.
-use Rattle.std.proofs.Common.{◌≡◌, ◌≢◌, ◌<◌, ◌≤◌, ◌+◌, ◌||◌, ℕ, zero, suc, Bool, true, false, not, cond, eqb, Option, Some, None, List, [], ◌∷◌, ◌++◌, length, map, slice_get, All, AllPairs, IfSome, refl, sym, ◌∙◌, inl, inr, arith}
+use Rattle.std.proofs.Common.{◌≡◌, ◌≢◌, ◌<◌, ◌≤◌, ◌+◌, ◌||◌, ℕ, zero, suc, Bool, true, false, not, cond, eqb, Option, Some, None, List, [], ◌∷◌, ◌++◌, length}
+use Rattle.std.proofs.Common.{map, slice_get, All, AllPairs, IfSome, refl, sym, ◌∙◌, inl, inr, arith}
 use Rattle.std.specs.List.{IsDistinct, AllByRecursion, list_any, position, position_or_len}
 use Rattle.std.proofs.lemmas.Bool.Decides.{eqb_tells, nat_tests}
 use Rattle.std.proofs.lemmas.List.{length-map, length_push}
@@ -39,12 +40,14 @@ AreOnce-push a apps once absent = all_pairs_push (λ (b c : App). b.0 ≢ c.0) a
 
 differs : (a : App) (apps : List App) → All (λ (b : App). a.0 ≢ b.0) apps → AllByRecursion (λ n. eqb a.0 n ≡ false) (map (λ (b : App). b.0) apps)
 differs a [] h = tt
-differs a (b ∷ apps) h = (elim (eqb_tells a.0 b.0) [ inl e ↦ absurd (h 0 b (omega arith) e.1) | inr e ↦ e.0 ], differs a apps (λ k d l. h (suc k) d (omega arith)))
+differs a (b ∷ apps) h = (elim (eqb_tells a.0 b.0) [ inl e ↦ absurd (h 0 b (omega arith) e.1) | inr e ↦ e.0 ],
+    differs a apps (λ k d l. h (suc k) d (omega arith)))
 
 distinct : (apps : List App) → AreOnce apps → IsDistinct eqb (map (λ (a : App). a.0) apps)
 unfolding IsDistinct
 distinct [] once = tt
-distinct (a ∷ apps) once = (differs a apps (λ k d l. once 0 (suc k) d (omega arith) (omega arith)), distinct apps (λ i j d l m. once (suc i) (suc j) d (omega arith) (omega arith)))
+distinct (a ∷ apps) once = (differs a apps (λ k d l. once 0 (suc k) d (omega arith) (omega arith)),
+    distinct apps (λ i j d l m. once (suc i) (suc j) d (omega arith) (omega arith)))
 
 below : (n : ℕ) (apps : List App) → AreBelow n apps → (q : ℕ) → list_any (eqb q) (map (λ (a : App). a.0) apps) ≡ true → q < n
 below n [] h q e = absurd (cc)
@@ -71,7 +74,8 @@ next_at : (a : App) (apps : List App) → next_app apps a ≡ slice_get apps (su
 next_at a [] = refl
 next_at a (b ∷ apps) = by (same_app a b) (next_at a apps)
   where
-    by : (t : Bool) → next_app apps a ≡ slice_get apps (suc (position_or_len (same_app a) apps)) → cond t (slice_get apps 0) (next_app apps a) ≡ slice_get (b ∷ apps) (suc (cond (not t) (1 + position_or_len (same_app a) apps) 0))
+    by : (t : Bool) → next_app apps a ≡ slice_get apps (suc (position_or_len (same_app a) apps))
+        → cond t (slice_get apps 0) (next_app apps a) ≡ slice_get (b ∷ apps) (suc (cond (not t) (1 + position_or_len (same_app a) apps) 0))
     by true h = refl
     by false h = let e : 1 + position_or_len (same_app a) apps ≡ suc (position_or_len (same_app a) apps) = omega arith in rw e h
 

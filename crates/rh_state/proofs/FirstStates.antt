@@ -14,7 +14,8 @@ use Rattle.rh_state.specs.declared.status.Kind.{Kind}
 use Rattle.rh_state.specs.Shape.{IsShaped, IsAppOf, IsKindOf, IsStandingOf}
 
 -- one number more
-pub map_numbered_more : {X Y : Type 0} (f : X → Y) (g : ℕ → X) (n : ℕ) → map f (map g (range_with_len 0 (n + 1))) ≡ map f (map g (range_with_len 0 n)) ++ f (g n) ∷ []
+pub map_numbered_more : {X Y : Type 0} (f : X → Y) (g : ℕ → X) (n : ℕ) → map f (map g (range_with_len 0 (n + 1)))
+    ≡ map f (map g (range_with_len 0 n)) ++ f (g n) ∷ []
 map_numbered_more f g n = rw (map-range_with_len_more g 0 n n (omega arith)) (map_push f _ _)
 
 pub length-configured : (c : ClusterView) (n : Node) → length (configured c n) ≡ app_count c

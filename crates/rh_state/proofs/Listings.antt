@@ -14,11 +14,13 @@ pub row_read : (table : List (List App)) (n : ℕ) (apps : List App) → n < len
 row_read table n apps within is = unwrap_or-slice_get table n [] ∙ sym (get_or_read table n apps within is [])
 
 -- what holds of each list holds of it
-pub All-row : (P : App → Type 0) (table : List (List App)) (n : ℕ) (apps : List App) → n < length table → apps ≡ get_or table n apps → All (λ (apps : List App). All P apps) table → All P apps
+pub All-row : (P : App → Type 0) (table : List (List App)) (n : ℕ) (apps : List App) → n < length table → apps ≡ get_or table n apps
+    → All (λ (apps : List App). All P apps) table → All P apps
 All-row P table n apps within is all = rw is (all n apps within)
 
 -- a state in which the lists of a node are others
-pub IsShaped-running : (s : StateView) (n : ℕ) (apps : List App) → IsShaped s → All (IsAppOf s.cluster) apps → IsShaped (record s { running = set s.running n apps })
+pub IsShaped-running : (s : StateView) (n : ℕ) (apps : List App) → IsShaped s → All (IsAppOf s.cluster) apps
+    → IsShaped (record s { running = set s.running n apps })
 IsShaped-running s n apps shape all = record {
   time = shape.time;
   modes = shape.modes;
@@ -39,7 +41,8 @@ IsShaped-running s n apps shape all = record {
   standing_nodes = shape.standing_nodes;
 }
 
-pub IsShaped-waiting : (s : StateView) (n : ℕ) (apps : List App) → IsShaped s → All (IsAppOf s.cluster) apps → IsShaped (record s { waiting = set s.waiting n apps })
+pub IsShaped-waiting : (s : StateView) (n : ℕ) (apps : List App) → IsShaped s → All (IsAppOf s.cluster) apps
+    → IsShaped (record s { waiting = set s.waiting n apps })
 IsShaped-waiting s n apps shape all = record {
   time = shape.time;
   modes = shape.modes;

@@ -10,7 +10,8 @@ use Rattle.rh_state.specs.declared.status.Timer.TheVariants.{Sync, Failover}
 use Rattle.rh_state.specs.First.{first, configured}
 use Rattle.rh_state.specs.Numbers.{nodes_of, apps_of}
 use Rattle.rh_state.specs.Setters.{with_mode, with_incarnation, with_kind, with_running, with_waiting, with_timer, without_due, unlisted}
-use Rattle.rh_state.specs.StateView.{StateView, mode_of, incarnation_of, running_at, running_count, place_of, next_in_list, kind_of, is_allowed, due_of, earliest}
+use Rattle.rh_state.specs.StateView.{StateView, mode_of, incarnation_of, running_at, running_count, place_of, next_in_list, kind_of, is_allowed, due_of}
+use Rattle.rh_state.specs.StateView.{earliest}
 use Rattle.rh_state.specs.Timers.{timer_numbered, number_of}
 
 abbrev node : List Bool → NodeView
@@ -79,7 +80,8 @@ off_after_unlisting : place_of (unlisted started (numbered 1) (a 3)) (numbered 1
 off_after_unlisting = refl
 
 -- the start kind stays when the application is taken out
-kind_after_unlisting : kind_of (unlisted (with_kind started (numbered 1) (a 0) (kind.Takeover (numbered 0))) (numbered 1) (a 0)) (numbered 1) (a 0) ≡ kind.Takeover (numbered 0)
+kind_after_unlisting : kind_of (unlisted (with_kind started (numbered 1) (a 0) (kind.Takeover (numbered 0))) (numbered 1) (a 0)) (numbered 1) (a 0)
+    ≡ kind.Takeover (numbered 0)
 kind_after_unlisting = refl
 
 up : mode_of (with_mode started (numbered 1) Up) (numbered 1) ≡ Up

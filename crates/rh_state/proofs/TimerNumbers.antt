@@ -1,5 +1,6 @@
 -- Timers by their numbers: what a wheel keeps of numbers, it means of timers.
-use Rattle.std.proofs.Common.{◌≡◌, ◌+◌, ◌-◌, ◌==◌, ℕ, Bool, true, false, not, cond, nat_le, Some, List, [], ◌∷◌, ◌++◌, map, take, find, slice_get, refl, sym, ap, ◌∙◌, inl, inr, arith}
+use Rattle.std.proofs.Common.{◌≡◌, ◌+◌, ◌-◌, ◌==◌, ℕ, Bool, true, false, not, cond, nat_le, Some, List, [], ◌∷◌, ◌++◌, map, take, find, slice_get, refl, sym}
+use Rattle.std.proofs.Common.{ap, ◌∙◌, inl, inr, arith}
 use Rattle.std.specs.Option.{option_map}
 use Rattle.std.proofs.lemmas.Bool.{cases_lt, eq-eqb, lt-ltb, le-ltb}
 use Rattle.std.proofs.lemmas.Bool.Decides.{eqb_tells}
@@ -31,7 +32,8 @@ same_numbered c j k = elim (cases_lt j (node_count c)) [
   ]
   | inr a ↦ elim (cases_lt k (node_count c)) [
     | inl b ↦ simp (le-ltb j (node_count c) a, lt-ltb k (node_count c) b) (elim (eqb_tells k j) [ inl e ↦ absurd (omega (arith, e.1)) | inr e ↦ sym e.0 ])
-    | inr b ↦ simp (le-ltb j (node_count c) a, le-ltb k (node_count c) b) (same_number (j - node_count c) (k - node_count c) k j (λ e. omega (arith, e)) (λ e. omega (arith, e)))
+    | inr b ↦ simp (le-ltb j (node_count c) a, le-ltb k (node_count c) b)
+        (same_number (j - node_count c) (k - node_count c) k j (λ e. omega (arith, e)) (λ e. omega (arith, e)))
   ]
 ]
 
@@ -71,11 +73,13 @@ unfolding timers_of
 due_numbered c w k t e = rw (← e) (sym (due_meant c k (wheel.listed w)))
 
 -- a wheel with one timer more, and with one less
-pub behind_numbered : (c : ClusterView) (w v : wheel.Stored) (due k : ℕ) (t : Timer) → timer_numbered c k ≡ t → wheel.listed v ≡ behind (due, k) (wheel.listed w) → timers_of c v ≡ behind (due, t) (timers_of c w)
+pub behind_numbered : (c : ClusterView) (w v : wheel.Stored) (due k : ℕ) (t : Timer) → timer_numbered c k ≡ t
+    → wheel.listed v ≡ behind (due, k) (wheel.listed w) → timers_of c v ≡ behind (due, t) (timers_of c w)
 unfolding timers_of
 behind_numbered c w v due k t e h = rw (← e, h) (sym (behind_meant c (due, k) (wheel.listed w)))
 
-pub without_numbered : (c : ClusterView) (w v : wheel.Stored) (k : ℕ) (t : Timer) → timer_numbered c k ≡ t → wheel.listed v ≡ without k (wheel.listed w) → timers_of c v ≡ without_timer t (timers_of c w)
+pub without_numbered : (c : ClusterView) (w v : wheel.Stored) (k : ℕ) (t : Timer) → timer_numbered c k ≡ t → wheel.listed v ≡ without k (wheel.listed w)
+    → timers_of c v ≡ without_timer t (timers_of c w)
 unfolding timers_of
 without_numbered c w v k t e h = rw (← e, h) (sym (without_meant c k (wheel.listed w)))
 
@@ -85,7 +89,8 @@ unfolding timers_of
 first_numbered c w = slice_get-map (meant c) (wheel.listed w) 0
 
 -- one entry more
-pub meant_more : (c : ClusterView) (es : List (ℕ × ℕ)) (i due k : ℕ) → slice_get es i ≡ Some (due, k) → map (meant c) (take (i + 1) es) ≡ map (meant c) (take i es) ++ (due, timer_numbered c k) ∷ []
+pub meant_more : (c : ClusterView) (es : List (ℕ × ℕ)) (i due k : ℕ) → slice_get es i ≡ Some (due, k)
+    → map (meant c) (take (i + 1) es) ≡ map (meant c) (take i es) ++ (due, timer_numbered c k) ∷ []
 meant_more c es i due k h =
     let within = slice_get_within es i (due, k) h in
     let here = get_or_from_slice_get es i (due, k) (due, k) h in

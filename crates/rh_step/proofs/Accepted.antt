@@ -1,5 +1,6 @@
 -- What it says of a state that an event isn't refused.
-use Rattle.std.proofs.Common.{◌≡◌, ◌≢◌, ◌<◌, ◌≤◌, ◌+◌, ◌==◌, ℕ, Bool, true, false, cond, not, nat_lt, List, [], ◌∷◌, Option, Some, None, refl, sym, ap, ◌∙◌, arith}
+use Rattle.std.proofs.Common.{◌≡◌, ◌≢◌, ◌<◌, ◌≤◌, ◌+◌, ◌==◌, ℕ, Bool, true, false, cond, not, nat_lt, List, [], ◌∷◌, Option, Some, None, refl, sym, ap, ◌∙◌}
+use Rattle.std.proofs.Common.{arith}
 use Rattle.std.proofs.lemmas.Bool.Decides.{nat_tests}
 use Rattle.rh_model.specs.ClusterView.{is_listed_at}
 use Rattle.rh_model.specs.declared.node.Node.{Node}
@@ -121,7 +122,8 @@ unfolding refused
 accepted_start s n a r e =
     let h = none_applies (tests s (Start n a r)) e in
     let own = h.1.1.1 in
-    record { hand = by_hand s n a ((not (is_listed_at s.cluster a n), NotListed) ∷ (is_started s n a, AlreadyStarted) ∷ dep_tests (missing_dep s n a)) h; listed = holds _ own.0; unstarted = own.1.0; deps = no_dep _ own.1.1 }
+    record { hand = by_hand s n a ((not (is_listed_at s.cluster a n), NotListed) ∷ (is_started s n a, AlreadyStarted) ∷ dep_tests (missing_dep s n a)) h;
+        listed = holds _ own.0; unstarted = own.1.0; deps = no_dep _ own.1.1 }
 
 pub record CanStop (s : StateView) (n : Node) (a : App) : Type 0 where
   pub hand : ByHand s n a

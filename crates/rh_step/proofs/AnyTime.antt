@@ -19,7 +19,8 @@ use Rattle.rh_place.specs.Placing.{dep_runs, deps_run, is_operational, best, can
 use Rattle.rh_settle.specs.declared.notice.Move.TheVariants.{Local, Placement, Takeover}
 use Rattle.rh_settle.specs.declared.notice.Pair.{Pair}
 use Rattle.rh_settle.specs.Course.{is_fresh}
-use Rattle.rh_settle.specs.Moves.{is_local, can_start, local_moves, placements_from, placements, comes_before, calls_away, takeovers_from, takeovers, next_moves}
+use Rattle.rh_settle.specs.Moves.{is_local, can_start, local_moves, placements_from, placements, comes_before, calls_away, takeovers_from, takeovers}
+use Rattle.rh_settle.specs.Moves.{next_moves}
 use Rattle.rh_events.specs.Readiness.{all_alive, has_others, is_ready}
 
 -- whether a node is ready hangs on the cluster and the modes alone

@@ -14,7 +14,8 @@ use Rattle.rh_settle.specs.Moves.{is_local}
 use Rattle.rh_events.specs.declared.event.Event.{Event}
 use Rattle.rh_events.specs.declared.event.Event.TheVariants.{Start, Stop, Permit, Takeover, Exit}
 use Rattle.rh_step.specs.declared.refusal.Refusal.{Refusal}
-use Rattle.rh_step.specs.declared.refusal.Refusal.TheVariants.{NotDistributed, NotListed, AlreadyStarted, NeverStarted, NotRunning, RunsHere, NotRunningHere, NotPermitted}
+use Rattle.rh_step.specs.declared.refusal.Refusal.TheVariants.{NotDistributed, NotListed, AlreadyStarted, NeverStarted, NotRunning, RunsHere, NotRunningHere}
+use Rattle.rh_step.specs.declared.refusal.Refusal.TheVariants.{NotPermitted}
 use Rattle.rh_step.specs.Refusals.{refused, tests, tests_by_hand, dep_tests, stands_running, stands_running_at, first_that_applies}
 
 -- what the tests that all have give, for any others behind them
@@ -83,7 +84,8 @@ module _ (s : StateView) (n : Node) (a : App) (r : Option Refusal) (by : TestsBy
       → ((others : List (Bool × Refusal)) → first_that_applies (standing_tests standing others) ≡ option_or q (first_that_applies others))
       → q ≡ Some x → Some x ≡ refused s (Takeover n a restart)
   takeover_stands restart standing q x is local listed stands each here =
-      sym (ap (λ (b : Bool). cond b (Some NotDistributed) (first_that_applies ((not (is_listed_at s.cluster a n), NotListed) ∷ standing_tests (standing_of s a) behind))) local
+      sym (ap (λ (b : Bool). cond b (Some NotDistributed)
+          (first_that_applies ((not (is_listed_at s.cluster a n), NotListed) ∷ standing_tests (standing_of s a) behind))) local
       ∙ ap (λ (b : Bool). cond (not b) (Some NotListed) (first_that_applies (standing_tests (standing_of s a) behind))) listed
       ∙ ap (λ (v : Standing). first_that_applies (standing_tests v behind)) (sym stands)
       ∙ each behind

@@ -21,7 +21,8 @@ none_due limit (x ∷ xs) o e k d l = elim (leb_tells x.0 limit) [
 ]
 
 -- behind all firings none is due
-ends_undue : (pick : Pick) (most limit : ℕ) (o : Course) → IsSound o.state → timer_count o ≤ most → due_by limit (earliest (fired_by pick most limit o).state) ≡ None
+ends_undue : (pick : Pick) (most limit : ℕ) (o : Course) → IsSound o.state → timer_count o ≤ most
+    → due_by limit (earliest (fired_by pick most limit o).state) ≡ None
 unfolding fired_by
 ends_undue pick zero limit o sound few = nothing_due limit o.state.timers few
 ends_undue pick (suc most) limit o sound few = by_found (due_by limit (earliest o.state))
@@ -35,10 +36,12 @@ unfolding all_fired
 none_left pick limit o sound = ends_undue pick (timer_count o) limit o sound (omega arith)
 
 pub all_later : (pick : Pick) (limit : ℕ) (o : Course) → IsSound o.state → All (λ entry. limit ≤ entry.0) (all_fired pick limit o).state.timers
-all_later pick limit o sound = none_due limit (all_fired pick limit o).state.timers (sound_all_fired pick limit o sound).timers.order (none_left pick limit o sound)
+all_later pick limit o sound = none_due limit (all_fired pick limit o).state.timers (sound_all_fired pick limit o sound).timers.order
+    (none_left pick limit o sound)
 
 -- the state is sound before time passes to its end, and behind that
-pub sound_before_end : (pick : Pick) (limit : ℕ) (o : Course) → IsSound o.state → IsSound (all_fired pick limit o).state × IsSound (with_time (all_fired pick limit o).state limit)
+pub sound_before_end : (pick : Pick) (limit : ℕ) (o : Course) → IsSound o.state → IsSound (all_fired pick limit o).state
+    × IsSound (with_time (all_fired pick limit o).state limit)
 sound_before_end pick limit o sound =
     let before = sound_all_fired pick limit o sound in
     (before, sound_at (all_fired pick limit o).state limit before (all_later pick limit o sound))

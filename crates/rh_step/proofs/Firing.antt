@@ -77,11 +77,13 @@ unfolding fired_by fired
 fired_by_unmarked pick zero limit s notices marked = refl
 fired_by_unmarked pick (suc k) limit s notices marked = by (due_by limit (earliest s))
   where
-    by : (found : Option (ℕ × Timer)) → outcome_of (go_on (course s notices marked) found (λ entry. fired_by pick k limit (fired pick (course s notices marked) entry)))
+    by : (found : Option (ℕ × Timer)) → outcome_of
+        (go_on (course s notices marked) found (λ entry. fired_by pick k limit (fired pick (course s notices marked) entry)))
         ≡ outcome_of (go_on (course s notices []) found (λ entry. fired_by pick k limit (fired pick (course s notices []) entry)))
     by None = refl
     by (Some entry) = refl
 
-pub all_fired_unmarked : (pick : Pick) (limit : ℕ) (o : Course) → outcome_of (all_fired pick limit o) ≡ outcome_of (all_fired pick limit (course o.state o.notices []))
+pub all_fired_unmarked : (pick : Pick) (limit : ℕ) (o : Course) → outcome_of (all_fired pick limit o)
+    ≡ outcome_of (all_fired pick limit (course o.state o.notices []))
 unfolding all_fired
 all_fired_unmarked pick limit o = fired_by_unmarked pick (length o.state.timers) limit o.state o.notices o.marked

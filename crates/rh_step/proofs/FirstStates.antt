@@ -1,5 +1,6 @@
 -- The first state of a cluster is valid.
-use Rattle.std.proofs.Common.{◌≡◌, ◌≢◌, ◌||◌, ℕ, zero, suc, Bool, true, false, List, [], ◌∷◌, map, replicate, slice_get, unwrap_or, AllPairs, refl, sym, ap, ◌∙◌, subst, arith}
+use Rattle.std.proofs.Common.{◌≡◌, ◌≢◌, ◌||◌, ℕ, zero, suc, Bool, true, false, List, [], ◌∷◌, map, replicate, slice_get, unwrap_or, AllPairs, refl, sym, ap}
+use Rattle.std.proofs.Common.{◌∙◌, subst, arith}
 use Rattle.std.proofs.lemmas.Bool.{and_left}
 use Rattle.std.proofs.lemmas.List.{length-replicate, get_or-map}
 use Rattle.std.proofs.lemmas.Option.{unwrap_or-slice_get}
@@ -139,7 +140,8 @@ module _ (c : ClusterView) where
   pub first_still : next_moves (first c) [] ≡ []
   unfolding next_moves
   first_still =
-      ap (λ ms. or_else ms (or_else (first_given (placements (first c)) (apps_of c)) (first_given (takeovers (first c) []) (apps_of c)))) (none_given (local_moves (first c)) no_local (nodes_of c))
+      ap (λ ms. or_else ms (or_else (first_given (placements (first c)) (apps_of c)) (first_given (takeovers (first c) []) (apps_of c))))
+          (none_given (local_moves (first c)) no_local (nodes_of c))
       ∙ ap (λ ms. or_else ms (first_given (takeovers (first c) []) (apps_of c))) (none_given (placements (first c)) no_placement (apps_of c))
       ∙ none_given (takeovers (first c) []) no_takeover (apps_of c)
 

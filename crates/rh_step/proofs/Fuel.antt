@@ -1,5 +1,6 @@
 -- A timer that fires leaves fewer timers, so that as many firings as there are timers are enough.
-use Rattle.std.proofs.Common.{◌≡◌, ℕ, zero, suc, ◌<◌, ◌≤◌, Bool, true, false, cond, not, List, [], ◌∷◌, length, Option, Some, None, refl, sym, ap, subst, ◌∙◌, arith, nat_le, nat_eq, slice_get}
+use Rattle.std.proofs.Common.{◌≡◌, ℕ, zero, suc, ◌<◌, ◌≤◌, Bool, true, false, cond, not, List, [], ◌∷◌, length, Option, Some, None, refl, sym, ap, subst, ◌∙◌}
+use Rattle.std.proofs.Common.{arith, nat_le, nat_eq, slice_get}
 use Rattle.std.specs.List.{filter}
 use Rattle.std.proofs.lemmas.Bool.Decides.{nat_tests}
 use Rattle.rh_model.specs.ClusterView.{mandatory_of, numbered}
@@ -48,7 +49,8 @@ fewer_at_first entry rest =
     omega (arith, e, f)
 
 -- no application stands as running at a node that waits
-idle_waits : (s : StateView) (n : Node) → IsSound s → is_waiting (mode_of s n) ≡ true → (a : App) (m : Node) → standing_of s a ≡ Running m → same_node m n ≡ false
+idle_waits : (s : StateView) (n : Node) → IsSound s → is_waiting (mode_of s n) ≡ true → (a : App) (m : Node) → standing_of s a ≡ Running m
+    → same_node m n ≡ false
 idle_waits s n h waits a m e = cases (same_node m n)
     (λ same. absurd (clash (runs_at s n a)
     (ap (λ k. runs_at s (numbered k) a) (sym (same_number m.0 n.0 same)) ∙ h.runs.runs a m e)
@@ -68,8 +70,10 @@ idle_waits s n h waits a m e = cases (same_node m n)
     clash false t f = cc t
 
 -- what a timer does sets none
-effect_timers : (o : Course) (entry : ℕ × Timer) → IsSound o.state → earliest o.state ≡ Some entry → timer_count (effect (taken_off o entry) entry.1) ≤ timer_count (taken_off o entry)
-effect_timers o (due, Sync n) h e = by (all_alive (taken_off o (due, Sync n)).state (mandatory_of o.state.cluster n)) (idle_waits o.state n h (waits_to_end o.state due n h e))
+effect_timers : (o : Course) (entry : ℕ × Timer) → IsSound o.state → earliest o.state ≡ Some entry
+    → timer_count (effect (taken_off o entry) entry.1) ≤ timer_count (taken_off o entry)
+effect_timers o (due, Sync n) h e = by (all_alive (taken_off o (due, Sync n)).state (mandatory_of o.state.cluster n))
+    (idle_waits o.state n h (waits_to_end o.state due n h e))
   where
     by : (b : Bool) → ((a : App) (m : Node) → standing_of o.state a ≡ Running m → same_node m n ≡ false)
         → timer_count (cond b (come_up (taken_off o (due, Sync n)) n) (ended (taken_off o (due, Sync n)) n)) ≤ timer_count (taken_off o (due, Sync n))
@@ -115,7 +119,8 @@ fired_fewer pick limit o entry sound h =
     omega (arith, rising, settling, effective, without, all, off)
 
 -- and keeps a state sound
-pub sound_fired : (pick : Pick) (limit : ℕ) (o : Course) (entry : ℕ × Timer) → IsSound o.state → due_by limit (earliest o.state) ≡ Some entry → IsSound (fired pick o entry).state
+pub sound_fired : (pick : Pick) (limit : ℕ) (o : Course) (entry : ℕ × Timer) → IsSound o.state → due_by limit (earliest o.state) ≡ Some entry
+    → IsSound (fired pick o entry).state
 unfolding fired
 sound_fired pick limit o entry sound h =
     let q = effect (taken_off o entry) entry.1 in
@@ -134,7 +139,8 @@ by_found None none some = none refl
 by_found (Some x) none some = some x refl
 
 -- what each firing keeps holds behind all of them
-pub by_firing : (P : Course → Type 0) (pick : Pick) (limit : ℕ) → ((o : Course) (entry : ℕ × Timer) → P o → due_by limit (earliest o.state) ≡ Some entry → P (fired pick o entry))
+pub by_firing : (P : Course → Type 0) (pick : Pick) (limit : ℕ) →
+    ((o : Course) (entry : ℕ × Timer) → P o → due_by limit (earliest o.state) ≡ Some entry → P (fired pick o entry))
     → (most : ℕ) (o : Course) → P o → P (fired_by pick most limit o)
 unfolding fired_by
 by_firing P pick limit each zero o h = h
@@ -147,7 +153,8 @@ unfolding all_fired
 sound_all_fired pick limit o sound = by_firing (λ p. IsSound p.state) pick limit (λ p entry h is. sound_fired pick limit p entry h is) (timer_count o) o sound
 
 -- with enough firings, more change nothing
-pub enough : (pick : Pick) (k j limit : ℕ) (o : Course) → IsSound o.state → timer_count o ≤ k → timer_count o ≤ j → fired_by pick k limit o ≡ fired_by pick j limit o
+pub enough : (pick : Pick) (k j limit : ℕ) (o : Course) → IsSound o.state → timer_count o ≤ k → timer_count o ≤ j
+    → fired_by pick k limit o ≡ fired_by pick j limit o
 unfolding fired_by
 enough pick zero zero limit o sound a b = refl
 enough pick zero (suc j) limit o sound a b = sym (ap (goes pick j limit o) (nothing_due limit o.state.timers a))
@@ -167,7 +174,8 @@ unrolled pick limit o entry sound is =
     let fewer = fired_fewer pick limit o entry sound is in
     enough pick (timer_count o) (suc (timer_count o)) limit o sound (omega arith) (omega arith)
     ∙ ap (goes pick (timer_count o) limit o) is
-    ∙ enough pick (timer_count o) (timer_count (fired pick o entry)) limit (fired pick o entry) (sound_fired pick limit o entry sound is) (omega (arith, fewer)) (omega arith)
+    ∙ enough pick (timer_count o) (timer_count (fired pick o entry)) limit (fired pick o entry) (sound_fired pick limit o entry sound is) (omega (arith, fewer))
+        (omega arith)
 
 -- where none is due, none fires
 none_fires : (pick : Pick) (k limit : ℕ) (o : Course) → due_by limit (earliest o.state) ≡ None → fired_by pick k limit o ≡ o

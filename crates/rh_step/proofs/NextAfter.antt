@@ -14,14 +14,16 @@ use Rattle.rh_settle.proofs.Behind.{after_notices, settled_after}
 use Rattle.rh_events.proofs.Notices.{change_after, ready_come_up_after}
 use Rattle.rh_step.proofs.TickLaws.{ticked_after}
 
-pub followed_after : (base : List Notice) (pick : Pick) (o : Course) (e : Event) → followed pick (after_notices base o) e ≡ after_notices base (followed pick o e)
+pub followed_after : (base : List Notice) (pick : Pick) (o : Course) (e : Event)
+    → followed pick (after_notices base o) e ≡ after_notices base (followed pick o e)
 unfolding followed
 followed_after base pick o e =
     ap (λ p. settled pick (ready_come_up p)) (change_after base o e)
     ∙ ap (settled pick) (ready_come_up_after base (change o e))
     ∙ settled_after base pick (ready_come_up (change o e))
 
-pub next_from_after : (base : List Notice) (o : Course) (e : Event) (pick : Pick) → next_from (after_notices base o) e pick ≡ after_notices base (next_from o e pick)
+pub next_from_after : (base : List Notice) (o : Course) (e : Event) (pick : Pick)
+    → next_from (after_notices base o) e pick ≡ after_notices base (next_from o e pick)
 next_from_after base o (Boot n) pick = followed_after base pick o (Boot n)
 next_from_after base o (Crash n) pick = followed_after base pick o (Crash n)
 next_from_after base o (Tick ms) pick = ticked_after base pick o ms
@@ -31,5 +33,7 @@ next_from_after base o (Permit n a allow) pick = followed_after base pick o (Per
 next_from_after base o (Takeover n a r) pick = followed_after base pick o (Takeover n a r)
 next_from_after base o (Exit n a normal) pick = followed_after base pick o (Exit n a normal)
 
-pub next_after : (s : StateView) (base : List Notice) (e : Event) (pick : Pick) → next_from (course s base []) e pick ≡ after_notices base (next_from (course s [] []) e pick)
-next_after s base e pick = ap (λ (told : List Notice). next_from (course s told []) e pick) (sym (append-nil base)) ∙ next_from_after base (course s [] []) e pick
+pub next_after : (s : StateView) (base : List Notice) (e : Event) (pick : Pick) → next_from (course s base []) e pick
+    ≡ after_notices base (next_from (course s [] []) e pick)
+next_after s base e pick = ap (λ (told : List Notice). next_from (course s told []) e pick) (sym (append-nil base))
+    ∙ next_from_after base (course s [] []) e pick

@@ -42,7 +42,8 @@ module _ (s t : StateView) (base told : List Notice) (e : Event) (pick : Pick) (
 
   pub performed_allowed : IsValid s → refused s e ≡ None → (more : List Notice) × (told ≡ base ++ more) × Allowed s e (outcome t more)
   performed_allowed valid fine =
-      ((next s e pick).notices, performed_notices, subst (λ (v : StateView). Allowed s e (outcome v (next s e pick).notices)) (sym performed_state) (next_allowed s e pick valid fine))
+      ((next s e pick).notices, performed_notices, subst (λ (v : StateView). Allowed s e (outcome v (next s e pick).notices)) (sym performed_state)
+          (next_allowed s e pick valid fine))
 
   pub performed_valid : IsValid s → refused s e ≡ None → IsValid t
   performed_valid valid fine = subst IsValid (sym performed_state) (next_valid s e pick valid fine)

@@ -47,7 +47,8 @@ pub on_to_stop : (s : StateView) (n : Node) (a : App) → refused s (Stop n a) �
 on_to_stop s n a fine = started_on s n a (accepted_stop s n a fine).started
 
 -- an application that is taken over runs at another node
-pub runs_elsewhere : (s : StateView) (n : Node) (a : App) (r : Restart) → refused s (Takeover n a r) ≡ None → (m : Node) → standing_of s a ≡ Running m → m.0 ≢ n.0
+pub runs_elsewhere : (s : StateView) (n : Node) (a : App) (r : Restart) → refused s (Takeover n a r) ≡ None → (m : Node) → standing_of s a ≡ Running m
+    → m.0 ≢ n.0
 runs_elsewhere s n a r fine m is =
     let h = accepted_takeover s n a r fine in
     subst (λ (k : Node). k.0 ≢ n.0) (same_standing h.from m (sym h.stands ∙ is)) (differs h.from.0 n.0 h.elsewhere)

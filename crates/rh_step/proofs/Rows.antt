@@ -70,11 +70,15 @@ three_apps = record {
 started_again_row : answers (first three_apps) (Boot one ∷ Stop one b ∷ Start one b Temporary ∷ [])
     ≡ (Up one ∷ Started a one Normal None ∷ Started b one Normal None ∷ Started c one Normal None ∷ [])
     ∷ (Stopped b one ∷ []) ∷ (Started b one Normal None ∷ []) ∷ []
-unfolding nodes_of apps_of configured all_alive is_ready booted with_mark mark_all come_up come_up_if_ready ready_come_up stopped left_waiting is_started_anywhere missing_dep deps_run is_operational best candidates can_start local_moves placements calls_away takeovers next_moves moved_by all_moved followed next
+unfolding nodes_of apps_of configured all_alive is_ready booted with_mark mark_all come_up come_up_if_ready ready_come_up stopped left_waiting
+    is_started_anywhere missing_dep deps_run is_operational best candidates can_start local_moves placements calls_away takeovers next_moves moved_by all_moved
+    followed next
 started_again_row = refl
 
 order_row : (state_after (first three_apps) (Boot one ∷ Stop one b ∷ Start one b Temporary ∷ [])).running ≡ (a ∷ c ∷ b ∷ []) ∷ []
-unfolding nodes_of apps_of configured all_alive is_ready booted with_mark mark_all come_up come_up_if_ready ready_come_up stopped left_waiting is_started_anywhere missing_dep deps_run is_operational best candidates can_start local_moves placements calls_away takeovers next_moves moved_by all_moved followed next
+unfolding nodes_of apps_of configured all_alive is_ready booted with_mark mark_all come_up come_up_if_ready ready_come_up stopped left_waiting
+    is_started_anywhere missing_dep deps_run is_operational best candidates can_start local_moves placements calls_away takeovers next_moves moved_by all_moved
+    followed next
 order_row = refl
 
 -- one that may not run waits, and starts again as soon as it may
@@ -84,11 +88,14 @@ forbidden_b = state_after (first three_apps) (Boot one ∷ Permit one b false �
 forbidden_row : answers (first three_apps) (Boot one ∷ Permit one b false ∷ Permit one b true ∷ Crash one ∷ [])
     ≡ (Up one ∷ Started a one Normal None ∷ Started b one Normal None ∷ Started c one Normal None ∷ [])
     ∷ (Stopped b one ∷ []) ∷ (Started b one Normal None ∷ []) ∷ (Ended one ∷ []) ∷ []
-unfolding nodes_of apps_of configured all_alive is_ready booted with_mark mark_all come_up come_up_if_ready ready_come_up cleared lost_if_ran all_lost ended forbidden permitted missing_dep deps_run is_operational best candidates can_start local_moves placements calls_away takeovers next_moves moved_by all_moved followed next
+unfolding nodes_of apps_of configured all_alive is_ready booted with_mark mark_all come_up come_up_if_ready ready_come_up cleared lost_if_ran all_lost ended
+    forbidden permitted missing_dep deps_run is_operational best candidates can_start local_moves placements calls_away takeovers next_moves moved_by all_moved
+    followed next
 forbidden_row = refl
 
 started_already_row : refused forbidden_b (Start one b Permanent) ≡ Some AlreadyStarted
-unfolding nodes_of apps_of configured all_alive is_ready booted with_mark mark_all come_up come_up_if_ready ready_come_up forbidden permitted missing_dep deps_run is_operational best candidates can_start local_moves placements calls_away takeovers next_moves moved_by all_moved followed next refused
+unfolding nodes_of apps_of configured all_alive is_ready booted with_mark mark_all come_up come_up_if_ready ready_come_up forbidden permitted missing_dep
+    deps_run is_operational best candidates can_start local_moves placements calls_away takeovers next_moves moved_by all_moved followed next refused
 started_already_row = refl
 
 not_up_row : refused (first three_apps) (Permit one a true) ≡ Some NodeNotUp
@@ -121,12 +128,14 @@ needs = record {
 }
 
 missing_row : refused (state_after (first needs) (Boot v ∷ [])) (Start v x Permanent) ≡ Some (DependencyNotStarted (Listed d1))
-unfolding nodes_of apps_of configured all_alive is_ready booted with_mark mark_all come_up come_up_if_ready ready_come_up missing_dep deps_run is_operational best candidates can_start local_moves placements calls_away takeovers next_moves moved_by all_moved followed next refused
+unfolding nodes_of apps_of configured all_alive is_ready booted with_mark mark_all come_up come_up_if_ready ready_come_up missing_dep deps_run is_operational
+    best candidates can_start local_moves placements calls_away takeovers next_moves moved_by all_moved followed next refused
 missing_row = refl
 
 needs_row : answers (first needs) (Boot v ∷ Boot w ∷ Start w d2 Temporary ∷ [])
     ≡ (Up v ∷ []) ∷ (Up w ∷ Started d1 w Normal None ∷ Waits x w ∷ []) ∷ (Started d2 w Normal None ∷ Started x w Normal None ∷ []) ∷ []
-unfolding nodes_of apps_of configured all_alive is_ready booted with_mark mark_all come_up come_up_if_ready ready_come_up missing_dep deps_run is_operational best candidates can_start local_moves placements calls_away takeovers next_moves moved_by all_moved followed next
+unfolding nodes_of apps_of configured all_alive is_ready booted with_mark mark_all come_up come_up_if_ready ready_come_up missing_dep deps_run is_operational
+    best candidates can_start local_moves placements calls_away takeovers next_moves moved_by all_moved followed next
 needs_row = refl
 
 -- two that need each other wait for ever
@@ -140,5 +149,6 @@ circle = record {
 }
 
 circle_row : answers (first circle) (Boot one ∷ []) ≡ (Up one ∷ Waits a one ∷ Waits b one ∷ []) ∷ []
-unfolding nodes_of apps_of configured all_alive is_ready booted with_mark mark_all come_up come_up_if_ready ready_come_up missing_dep deps_run is_operational best candidates can_start local_moves placements calls_away takeovers next_moves moved_by all_moved followed next
+unfolding nodes_of apps_of configured all_alive is_ready booted with_mark mark_all come_up come_up_if_ready ready_come_up missing_dep deps_run is_operational
+    best candidates can_start local_moves placements calls_away takeovers next_moves moved_by all_moved followed next
 circle_row = refl

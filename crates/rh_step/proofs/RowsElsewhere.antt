@@ -28,7 +28,8 @@ use Rattle.rh_step.specs.Outcomes.{followed, next}
 use Rattle.rh_step.proofs.Rows.{state_after, answers}
 
 abbrev node : List Node → List Node → SyncWait → List (App × Restart) → NodeView
-node mandatory optional wait boot = record { mandatory = mandatory; optional = optional; sync_wait = wait; boot = boot; permissions = true ∷ true ∷ []; platforms = [] }
+node mandatory optional wait boot = record { mandatory = mandatory; optional = optional; sync_wait = wait; boot = boot; permissions = true ∷ true ∷ [];
+    platforms = [] }
 
 abbrev p : Node
 p = numbered 0
@@ -51,7 +52,8 @@ busy = record {
   node_names = codes "m1@lab" ∷ codes "m2@lab" ∷ codes "m3@lab" ∷ [];
   app_names = codes "load" ∷ codes "job" ∷ [];
   platform_names = [];
-  nodes = node [] [] Unset ((load, Permanent) ∷ (job, Permanent) ∷ []) ∷ node [] [] Unset ((job, Permanent) ∷ []) ∷ node [] [] Unset ((job, Permanent) ∷ []) ∷ [];
+  nodes = node [] [] Unset ((load, Permanent) ∷ (job, Permanent) ∷ []) ∷ node [] [] Unset ((job, Permanent) ∷ []) ∷ node [] [] Unset
+      ((job, Permanent) ∷ []) ∷ [];
   apps = record { deps = []; start_arg = None; phases = false; spread = None }
       ∷ record { deps = []; start_arg = None; phases = false; spread = Some (record { timeout = 0; groups = (p ∷ q ∷ []) ∷ (r ∷ []) ∷ [] }) }
       ∷ [];
@@ -66,7 +68,9 @@ takeover_row : answers (first busy) (Boot r ∷ Boot p ∷ Boot q ∷ Takeover r
     ∷ (Started job r (kind.Takeover p) None ∷ Stopped job p ∷ [])
     ∷ (Ended r ∷ Started job q kind.Normal (Some r) ∷ [])
     ∷ []
-unfolding nodes_of apps_of configured all_alive is_ready booted with_mark mark_all come_up come_up_if_ready ready_come_up cleared lost_if_ran all_lost ended taken_over missing_dep deps_run is_operational best candidates can_start local_moves placements calls_away takeovers next_moves moved_by all_moved followed next
+unfolding nodes_of apps_of configured all_alive is_ready booted with_mark mark_all come_up come_up_if_ready ready_come_up cleared lost_if_ran all_lost ended
+    taken_over missing_dep deps_run is_operational best candidates can_start local_moves placements calls_away takeovers next_moves moved_by all_moved followed
+    next
 takeover_row = refl
 
 -- ---- two nodes that wait for each other and for a third, which they can do without; an application with start phases
@@ -89,18 +93,26 @@ failover_row : answers (first waiting) (Boot p ∷ Boot q ∷ Tick 1000 ∷ Cras
     ∷ (Ended p ∷ []) ∷ []
     ∷ (Started svc q (kind.Failover p) (Some p) ∷ Up p ∷ Started svc p (kind.Takeover q) None ∷ Stopped svc q ∷ [])
     ∷ []
-unfolding nodes_of apps_of configured all_alive is_ready booted with_mark mark_all come_up come_up_if_ready ready_come_up cleared lost_if_ran all_lost ended missing_dep deps_run is_operational best candidates can_start local_moves placements calls_away takeovers next_moves moved_by all_moved fired fired_by all_fired ticked followed next
+unfolding nodes_of apps_of configured all_alive is_ready booted with_mark mark_all come_up come_up_if_ready ready_come_up cleared lost_if_ran all_lost ended
+    missing_dep deps_run is_operational best candidates can_start local_moves placements calls_away takeovers next_moves moved_by all_moved fired fired_by
+    all_fired ticked followed next
 failover_row = refl
 
 timers_row : (state_after (first waiting) (Boot p ∷ Boot q ∷ Tick 1000 ∷ Crash p ∷ Boot p ∷ [])).timers ≡ (2000, Failover svc) ∷ (2000, Sync p) ∷ []
-unfolding nodes_of apps_of configured all_alive is_ready booted with_mark mark_all come_up come_up_if_ready ready_come_up cleared lost_if_ran all_lost ended missing_dep deps_run is_operational best candidates can_start local_moves placements calls_away takeovers next_moves moved_by all_moved fired fired_by all_fired ticked followed next
+unfolding nodes_of apps_of configured all_alive is_ready booted with_mark mark_all come_up come_up_if_ready ready_come_up cleared lost_if_ran all_lost ended
+    missing_dep deps_run is_operational best candidates can_start local_moves placements calls_away takeovers next_moves moved_by all_moved fired fired_by
+    all_fired ticked followed next
 timers_row = refl
 
 -- one that is lost, and then started nowhere, is quiet, and its timer goes
 quiet_row : (state_after (first waiting) (Boot p ∷ Boot q ∷ Tick 1000 ∷ Exit p svc false ∷ Stop q svc ∷ [])).standings ≡ Quiet ∷ []
-unfolding nodes_of apps_of configured all_alive is_ready booted with_mark mark_all come_up come_up_if_ready ready_come_up cleared lost_if_ran all_lost ended stopped left_waiting is_started_anywhere exited missing_dep deps_run is_operational best candidates can_start local_moves placements calls_away takeovers next_moves moved_by all_moved fired fired_by all_fired ticked followed next
+unfolding nodes_of apps_of configured all_alive is_ready booted with_mark mark_all come_up come_up_if_ready ready_come_up cleared lost_if_ran all_lost ended
+    stopped left_waiting is_started_anywhere exited missing_dep deps_run is_operational best candidates can_start local_moves placements calls_away takeovers
+    next_moves moved_by all_moved fired fired_by all_fired ticked followed next
 quiet_row = refl
 
 no_timer_row : (state_after (first waiting) (Boot p ∷ Boot q ∷ Tick 1000 ∷ Exit p svc false ∷ Stop q svc ∷ [])).timers ≡ []
-unfolding nodes_of apps_of configured all_alive is_ready booted with_mark mark_all come_up come_up_if_ready ready_come_up cleared lost_if_ran all_lost ended stopped left_waiting is_started_anywhere exited missing_dep deps_run is_operational best candidates can_start local_moves placements calls_away takeovers next_moves moved_by all_moved fired fired_by all_fired ticked followed next
+unfolding nodes_of apps_of configured all_alive is_ready booted with_mark mark_all come_up come_up_if_ready ready_come_up cleared lost_if_ran all_lost ended
+    stopped left_waiting is_started_anywhere exited missing_dep deps_run is_operational best candidates can_start local_moves placements calls_away takeovers
+    next_moves moved_by all_moved fired fired_by all_fired ticked followed next
 no_timer_row = refl

@@ -20,7 +20,8 @@ use Rattle.rh_events.specs.Ending.{ended}
 use Rattle.rh_events.specs.ByHand.{stopped, left_waiting, forbidden, permitted, taken_from, taken_over, ends_node, exited}
 use Rattle.rh_events.specs.Changes.{change}
 use Rattle.rh_step.specs.Refusals.{refused}
-use Rattle.rh_step.proofs.Accepted.{same_standing, accepted_boot, accepted_crash, accepted_start, accepted_stop, accepted_permit, accepted_takeover, accepted_exit}
+use Rattle.rh_step.proofs.Accepted.{same_standing, accepted_boot, accepted_crash, accepted_start, accepted_stop, accepted_permit, accepted_takeover}
+use Rattle.rh_step.proofs.Accepted.{accepted_exit}
 use Rattle.rh_events.proofs.SoundBooting.{sound_booted}
 use Rattle.rh_events.proofs.SoundMarks.{sound_mark}
 use Rattle.rh_events.proofs.SoundEnding.{sound_ended}
@@ -48,7 +49,8 @@ forbidden_state : (o : Course) (n : Node) (a : App) → (forbidden o n a).state 
 unfolding forbidden
 forbidden_state o n a = refl
 
-taken_state : (o : Course) (n : Node) (a : App) (r : Restart) (standing : Standing) → (taken_from o n a r standing).state ≡ (taken_from (course o.state [] []) n a r standing).state
+taken_state : (o : Course) (n : Node) (a : App) (r : Restart) (standing : Standing)
+    → (taken_from o n a r standing).state ≡ (taken_from (course o.state [] []) n a r standing).state
 taken_state o n a r Quiet = refl
 taken_state o n a r (Wanted from) = refl
 taken_state o n a r (Running m) = refl
@@ -88,7 +90,8 @@ sound_change s (Takeover n a r) sound fine =
     let h = accepted_takeover s n a r fine in
     sound_taken_over (course s [] []) n a r sound h.hand.node h.hand.app h.hand.up h.listed
     (λ m is. subst (λ (k : Node). same_node k n ≡ false) (same_standing h.from m (sym h.stands ∙ is)) h.elsewhere)
-sound_change s (Exit n a normal) sound fine = let h = accepted_exit s n a normal fine in sound_exited (course s [] []) n a normal sound h.hand.node h.hand.app h.runs
+sound_change s (Exit n a normal) sound fine = let h = accepted_exit s n a normal fine in
+    sound_exited (course s [] []) n a normal sound h.hand.node h.hand.app h.runs
 
 -- behind any notices and marks
 pub sound_changed : (o : Course) (e : Event) → IsSound o.state → refused o.state e ≡ None → IsSound (change o e).state
@@ -167,4 +170,5 @@ marked_change s e fine = subst (AreNodes s) (sym (change_marked (course s [] [])
 
 pub marked_changed : (o : Course) (e : Event) → refused o.state e ≡ None → All (λ (p : Pair). IsNodeOf o.state.cluster p.node) o.marked
     → All (λ (p : Pair). IsNodeOf o.state.cluster p.node) (change o e).marked
-marked_changed o e fine before = subst (AreNodes o.state) (sym (change_marked o e)) (All-append (λ (p : Pair). IsNodeOf o.state.cluster p.node) o.marked (marks e) before (marks_within o.state e fine))
+marked_changed o e fine before = subst (AreNodes o.state) (sym (change_marked o e))
+    (All-append (λ (p : Pair). IsNodeOf o.state.cluster p.node) o.marked (marks e) before (marks_within o.state e fine))

@@ -1,5 +1,6 @@
 -- A node that is up stays up, unless it ends.
-use Rattle.std.proofs.Common.{◌≡◌, ◌≢◌, ◌⊎◌, ℕ, ◌+◌, ◌<◌, ◌==◌, Bool, true, false, cond, List, [], ◌∷◌, ◌++◌, length, Contains, None, Some, fold, unwrap_or, slice_get, slice_set, sym, ap, subst, ◌∙◌, inl, inr, arith, append-nil}
+use Rattle.std.proofs.Common.{◌≡◌, ◌≢◌, ◌⊎◌, ℕ, ◌+◌, ◌<◌, ◌==◌, Bool, true, false, cond, List, [], ◌∷◌, ◌++◌, length, Contains, None, Some, fold, unwrap_or}
+use Rattle.std.proofs.Common.{slice_get, slice_set, sym, ap, subst, ◌∙◌, inl, inr, arith, append-nil}
 use Rattle.std.proofs.lemmas.Option.{slice_get_past}
 use Rattle.std.proofs.lemmas.List.Elements.{Contains-append_left, Contains-append_right}
 use Rattle.std.proofs.lemmas.Bool.{cases_lt}
@@ -72,7 +73,8 @@ come_up_stays n m o (inr has) = inr (told_still (λ p. come_up p m) (λ base p. 
 
 ends_told : (n m : Node) (o : Course) → n.0 ≡ m.0 → Contains (ended o m).notices (notice.Ended n)
 unfolding ended
-ends_told n m o equal = Contains-append_right o.notices (notice.Ended m ∷ []) (notice.Ended n) (0, omega arith, ap (λ k. notice.Ended (record { 0 = k })) (sym equal))
+ends_told n m o equal = Contains-append_right o.notices (notice.Ended m ∷ []) (notice.Ended n)
+    (0, omega arith, ap (λ k. notice.Ended (record { 0 = k })) (sym equal))
 
 ended_stays : (n m : Node) (o : Course) → StaysUp n o → StaysUp n (ended o m)
 ended_stays n m o (inl up) = at_set o.state.modes m.0 n.0 Down Down
@@ -123,9 +125,11 @@ ticked_stays n pick o ms stays = by_firing (StaysUp n) pick (o.state.time + ms) 
 -- the other events
 boots_another : (s : StateView) (m n : Node) → refused s (Boot m) ≡ None → mode_of s n ≡ Up → n.0 ≢ m.0
 unfolding refused
-boots_another s m n fine up equal = by (is_unknown s m) (is_alive (mode_of s m)) (ap is_alive (ap (λ k. unwrap_or (slice_get s.modes k) Down) (sym equal) ∙ up)) fine
+boots_another s m n fine up equal = by (is_unknown s m) (is_alive (mode_of s m))
+    (ap is_alive (ap (λ k. unwrap_or (slice_get s.modes k) Down) (sym equal) ∙ up)) fine
   where
-    by : (unknown alive : Bool) → alive ≡ true → cond unknown (Some UnknownNode) (cond alive (Some AlreadyAlive) (cond (incarnation_of s m == incarnation_limit) (Some IncarnationLimit) None)) ≡ None → ⊥
+    by : (unknown alive : Bool) → alive ≡ true → cond unknown (Some UnknownNode)
+        (cond alive (Some AlreadyAlive) (cond (incarnation_of s m == incarnation_limit) (Some IncarnationLimit) None)) ≡ None → ⊥
     by true alive is h = cc h
     by false true is h = cc h
     by false false is h = cc is
@@ -159,8 +163,10 @@ change_stays s (Crash m) n fine up = ended_stays n m (course s [] []) (inl up)
 change_stays s (Tick ms) n fine up = inl up
 change_stays s (Start m a r) n fine up = still_up n (course s [] []) (change (course s [] []) (Start m a r)) up (marked_same s m a r).modes
 change_stays s (Stop m a) n fine up = stopped_stays n m a (course s [] []) up
-change_stays s (Permit m a allow) n fine up = still_up n (course s [] []) (change (course s [] []) (Permit m a allow)) up (permitted_same (course s [] []) m a allow).modes
-change_stays s (Takeover m a r) n fine up = still_up n (course s [] []) (change (course s [] []) (Takeover m a r)) up (taken_over_same (course s [] []) m a r).modes
+change_stays s (Permit m a allow) n fine up = still_up n (course s [] []) (change (course s [] []) (Permit m a allow)) up
+    (permitted_same (course s [] []) m a allow).modes
+change_stays s (Takeover m a r) n fine up = still_up n (course s [] []) (change (course s [] []) (Takeover m a r)) up
+    (taken_over_same (course s [] []) m a r).modes
 change_stays s (Exit m a normal) n fine up = exited_stays n m a normal (course s [] []) up
 
 followed_stays : (s : StateView) (e : Event) (pick : Pick) (n : Node) → refused s e ≡ None → mode_of s n ≡ Up → StaysUp n (followed pick (course s [] []) e)

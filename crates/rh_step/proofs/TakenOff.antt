@@ -1,5 +1,6 @@
 -- What it means that the timer that fires first is taken off, and as late as it was due.
-use Rattle.std.proofs.Common.{◌≡◌, ◌<◌, ◌≤◌, ℕ, zero, suc, Bool, true, false, cond, not, List, [], ◌∷◌, length, slice_get, slice_set, unwrap_or, Some, All, refl, sym, ap, ◌∙◌, subst, inl, inr, arith}
+use Rattle.std.proofs.Common.{◌≡◌, ◌<◌, ◌≤◌, ℕ, zero, suc, Bool, true, false, cond, not, List, [], ◌∷◌, length, slice_get, slice_set, unwrap_or, Some, All}
+use Rattle.std.proofs.Common.{refl, sym, ap, ◌∙◌, subst, inl, inr, arith}
 use Rattle.std.proofs.lemmas.Bool.{and_parts}
 use Rattle.std.proofs.lemmas.Bool.Decides.{eqb_tells}
 use Rattle.std.proofs.lemmas.List.{length-set}
@@ -28,13 +29,15 @@ use Rattle.rh_events.specs.Ending.{cleared, emptied, with_configured, all_lost, 
 use Rattle.rh_step.specs.Ticks.{wanted_if_lost, effect, taken_off}
 use Rattle.rh_events.proofs.SoundComingUp.{sound_come_up}
 use Rattle.rh_events.proofs.SoundEnding.{sound_ended}
-use Rattle.rh_events.proofs.TimersToldApart.{is_set, same_self, set-cons, unset-without, set-without_other, once-without, order-without, All-without, least-first}
+use Rattle.rh_events.proofs.TimersToldApart.{is_set, same_self, set-cons, unset-without, set-without_other, once-without, order-without, All-without}
+use Rattle.rh_events.proofs.TimersToldApart.{least-first}
 
 -- time passes up to where no timer is due before it
 pub sound_at : (s : StateView) (due : ℕ) → IsSound s → All (λ entry. due ≤ entry.0) s.timers → IsSound (with_time s due)
 sound_at s due h late = record {
   within = h.within;
-  sized = record { modes = h.sized.modes; running = h.sized.running; waiting = h.sized.waiting; allowed = h.sized.allowed; standings = h.sized.standings; apps = h.sized.apps };
+  sized = record { modes = h.sized.modes; running = h.sized.running; waiting = h.sized.waiting; allowed = h.sized.allowed; standings = h.sized.standings;
+      apps = h.sized.apps };
   once = record { running = h.once.running; waiting = h.once.waiting; apart = h.once.apart };
   idle = record { running = h.idle.running; waiting = h.idle.waiting; permissions = h.idle.permissions };
   standing = record { listed = h.standing.listed; stands = h.standing.stands; local = h.standing.local };
@@ -63,20 +66,23 @@ off_once t (x ∷ xs) = by (same_timer t x.1) refl (off_once t xs)
 comes_up_alike : (o : Course) (due : ℕ) (n : Node) → come_up (taken_off o (due, Sync n)) n ≡ come_up (later o due) n
 unfolding come_up
 comes_up_alike o due n =
-    ap (λ (timers : List (ℕ × Timer)). mark_all (told (now_in (later o due) (record o.state { time = due; modes = slice_set o.state.modes n.0 Up; timers = timers })) (notice.Up n)) n (boot_of o.state.cluster n))
+    ap (λ (timers : List (ℕ × Timer)). mark_all (told (now_in (later o due) (record o.state { time = due; modes = slice_set o.state.modes n.0 Up;
+        timers = timers })) (notice.Up n)) n (boot_of o.state.cluster n))
     (off_once (Sync n) o.state.timers)
 
 ends_alike : (o : Course) (due : ℕ) (n : Node) → ended (taken_off o (due, Sync n)) n ≡ ended (later o due) n
 unfolding ended cleared
 ends_alike o due n =
-    ap (λ (timers : List (ℕ × Timer)). told (now_in (later o due) (all_lost (with_mode (with_configured (emptied (record o.state { time = due; timers = timers }) n) n) n Down) n)) (notice.Ended n))
+    ap (λ (timers : List (ℕ × Timer)). told (now_in (later o due) (all_lost (with_mode
+        (with_configured (emptied (record o.state { time = due; timers = timers }) n) n) n Down) n)) (notice.Ended n))
     (off_once (Sync n) o.state.timers)
 
 pub sync_effect : (o : Course) (due : ℕ) (n : Node) → effect (taken_off o (due, Sync n)) (Sync n) ≡ effect (later o due) (Sync n)
 unfolding all_alive
 sync_effect o due n = by (all_alive o.state (mandatory_of o.state.cluster n))
   where
-    by : (b : Bool) → cond b (come_up (taken_off o (due, Sync n)) n) (ended (taken_off o (due, Sync n)) n) ≡ cond b (come_up (later o due) n) (ended (later o due) n)
+    by : (b : Bool) → cond b (come_up (taken_off o (due, Sync n)) n) (ended (taken_off o (due, Sync n)) n)
+        ≡ cond b (come_up (later o due) n) (ended (later o due) n)
     by true = comes_up_alike o due n
     by false = ends_alike o due n
 
@@ -101,12 +107,15 @@ waiting_node s n h w = let l = by s.modes n.0 w in let e = h.sized.modes in omeg
     by (m ∷ ms) (suc k) h = let l = by ms k h in omega (arith, l)
 
 -- at the end of its wait it comes up or ends
-sync_sound : (o : Course) (due : ℕ) (n : Node) → IsSound o.state → earliest o.state ≡ Some (due, Sync n) → IsSound (effect (taken_off o (due, Sync n)) (Sync n)).state
+sync_sound : (o : Course) (due : ℕ) (n : Node) → IsSound o.state → earliest o.state ≡ Some (due, Sync n)
+    → IsSound (effect (taken_off o (due, Sync n)) (Sync n)).state
 sync_sound o due n h e =
     let w = waits_to_end o.state due n h e in
-    subst (λ (p : Course). IsSound p.state) (sym (sync_effect o due n)) (by (all_alive (later o due).state (mandatory_of o.state.cluster n)) (sound_later o (due, Sync n) h e) w (waiting_node o.state n h w))
+    subst (λ (p : Course). IsSound p.state) (sym (sync_effect o due n))
+        (by (all_alive (later o due).state (mandatory_of o.state.cluster n)) (sound_later o (due, Sync n) h e) w (waiting_node o.state n h w))
   where
-    by : (b : Bool) → IsSound (later o due).state → is_waiting (mode_of o.state n) ≡ true → IsNodeOf o.state.cluster n → IsSound (cond b (come_up (later o due) n) (ended (later o due) n)).state
+    by : (b : Bool) → IsSound (later o due).state → is_waiting (mode_of o.state n) ≡ true → IsNodeOf o.state.cluster n
+        → IsSound (cond b (come_up (later o due) n) (ended (later o due) n)).state
     by true h w l = sound_come_up (later o due) n h l w
     by false h w l = sound_ended (later o due) n h l
 
@@ -122,7 +131,8 @@ lost_within s a m e = by s.standings a.0 (ap is_lost e)
     by (x ∷ xs) zero h = omega arith
     by (x ∷ xs) (suc k) h = let l = by xs k h in omega (arith, l)
 
-wanting_timers : (s : StateView) (due : ℕ) (a : App) (m : Node) → TimersFit s → standing_of s a ≡ Lost m → All (λ entry. due ≤ entry.0) s.timers → TimersFit (found_wanting s due a m)
+wanting_timers : (s : StateView) (due : ℕ) (a : App) (m : Node) → TimersFit s → standing_of s a ≡ Lost m → All (λ entry. due ≤ entry.0) s.timers
+    → TimersFit (found_wanting s due a m)
 wanting_timers s due a m h e late = record {
   sync = λ n. set-without_other (Failover a) (Sync n) s.timers refl ∙ h.sync n;
   failover = each;
@@ -133,17 +143,20 @@ wanting_timers s due a m h e late = record {
   where
     each : (b : App) → is_set (Failover b) (without_timer (Failover a) s.timers) ≡ is_lost (standing_of (found_wanting s due a m) b)
     each b = elim (eqb_tells a.0 b.0) [
-      | inl same ↦ subst (λ k. is_set (Failover (app_numbered k)) (without_timer (Failover a) s.timers) ≡ is_lost (standing_of (found_wanting s due a m) (app_numbered k))) same.1
+      | inl same ↦ subst (λ k. is_set (Failover (app_numbered k)) (without_timer (Failover a) s.timers)
+          ≡ is_lost (standing_of (found_wanting s due a m) (app_numbered k))) same.1
           (unset-without (Failover a) s.timers ∙ sym (ap is_lost (at_set_here s.standings a.0 (Wanted (Some m)) Quiet (lost_within s a m e))))
       | inr other ↦ set-without_other (Failover a) (Failover b) s.timers other.0 ∙ h.failover b
           ∙ sym (ap is_lost (at_set_there s.standings a.0 b.0 (Wanted (Some m)) Quiet (λ f. other.1 (sym f))))
     ]
 
 -- nothing else of the state is touched by that
-wanting_sound : (s : StateView) (due : ℕ) (a : App) (m : Node) → IsSound s → standing_of s a ≡ Lost m → All (λ entry. due ≤ entry.0) s.timers → IsSound (found_wanting s due a m)
+wanting_sound : (s : StateView) (due : ℕ) (a : App) (m : Node) → IsSound s → standing_of s a ≡ Lost m → All (λ entry. due ≤ entry.0) s.timers
+    → IsSound (found_wanting s due a m)
 wanting_sound s due a m h e late = record {
   within = h.within;
-  sized = record { modes = h.sized.modes; running = h.sized.running; waiting = h.sized.waiting; allowed = h.sized.allowed; standings = length-set s.standings a.0 (Wanted (Some m)) ∙ h.sized.standings; apps = h.sized.apps };
+  sized = record { modes = h.sized.modes; running = h.sized.running; waiting = h.sized.waiting; allowed = h.sized.allowed;
+      standings = length-set s.standings a.0 (Wanted (Some m)) ∙ h.sized.standings; apps = h.sized.apps };
   once = record { running = h.once.running; waiting = h.once.waiting; apart = h.once.apart };
   idle = record { running = h.idle.running; waiting = h.idle.waiting; permissions = h.idle.permissions };
   standing = record {
@@ -172,7 +185,8 @@ wanting_sound s due a m h e late = record {
     wanted_runs : (n : Node) → Wanted (Some m) ≡ Running n → ⊥
     wanted_runs n f = cc f
 
-failover_sound : (s : StateView) (due : ℕ) (a : App) (st : Standing) → IsSound s → standing_of s a ≡ st → is_lost st ≡ true → All (λ entry. due ≤ entry.0) s.timers
+failover_sound : (s : StateView) (due : ℕ) (a : App) (st : Standing) → IsSound s → standing_of s a ≡ st → is_lost st ≡ true
+    → All (λ entry. due ≤ entry.0) s.timers
     → IsSound (wanted_if_lost (with_time (without_due s (Failover a)) due) a st)
 failover_sound s due a Quiet h e lost late = absurd (cc lost)
 failover_sound s due a (Wanted from) h e lost late = absurd (cc lost)
@@ -183,4 +197,5 @@ failover_sound s due a (Lost m) h e lost late = wanting_sound s due a m h e late
 pub sound_effect : (o : Course) (entry : ℕ × Timer) → IsSound o.state → earliest o.state ≡ Some entry → IsSound (effect (taken_off o entry) entry.1).state
 sound_effect o (due, Sync n) h e = sync_sound o due n h e
 sound_effect o (due, Failover a) h e =
-    failover_sound o.state due a (standing_of o.state a) h refl (sym (h.timers.failover a) ∙ first_is_set (due, Failover a) o.state.timers e) (least-first (due, Failover a) o.state.timers e h.timers.order)
+    failover_sound o.state due a (standing_of o.state a) h refl (sym (h.timers.failover a) ∙ first_is_set (due, Failover a) o.state.timers e)
+        (least-first (due, Failover a) o.state.timers e h.timers.order)

@@ -1,5 +1,6 @@
 -- A tick in two parts, and a tick behind earlier notices.
-use Rattle.std.proofs.Common.{◌≡◌, ℕ, zero, suc, ◌+◌, ◌≤◌, ◌==◌, Bool, true, false, cond, List, [], ◌∷◌, ◌++◌, None, Some, nat_le, nat_lt, slice_get, refl, sym, ap, ◌∙◌, append-nil, arith}
+use Rattle.std.proofs.Common.{◌≡◌, ℕ, zero, suc, ◌+◌, ◌≤◌, ◌==◌, Bool, true, false, cond, List, [], ◌∷◌, ◌++◌, None, Some, nat_le, nat_lt, slice_get, refl, sym}
+use Rattle.std.proofs.Common.{ap, ◌∙◌, append-nil, arith}
 use Rattle.std.proofs.lemmas.Bool.Decides.{nat_tests}
 use Rattle.rh_model.specs.ClusterView.{mandatory_of}
 use Rattle.rh_state.specs.declared.status.Timer.{Timer}
@@ -35,7 +36,8 @@ effect_after base o (Sync n) = by (all_alive o.state (mandatory_of o.state.clust
     by false = ended_after base o n
 effect_after base o (Failover a) = refl
 
-fired_after : (base : List Notice) (pick : Pick) (o : Course) (entry : ℕ × Timer) → fired pick (after_notices base o) entry ≡ after_notices base (fired pick o entry)
+fired_after : (base : List Notice) (pick : Pick) (o : Course) (entry : ℕ × Timer)
+    → fired pick (after_notices base o) entry ≡ after_notices base (fired pick o entry)
 unfolding fired
 fired_after base pick o entry =
     let q = effect (taken_off o entry) entry.1 in
@@ -43,7 +45,8 @@ fired_after base pick o entry =
     ∙ ap (settled pick) (ready_come_up_after base q)
     ∙ settled_after base pick (ready_come_up q)
 
-fired_by_after : (base : List Notice) (pick : Pick) (k limit : ℕ) (o : Course) → fired_by pick k limit (after_notices base o) ≡ after_notices base (fired_by pick k limit o)
+fired_by_after : (base : List Notice) (pick : Pick) (k limit : ℕ) (o : Course) → fired_by pick k limit (after_notices base o)
+    ≡ after_notices base (fired_by pick k limit o)
 unfolding fired_by
 fired_by_after base pick zero limit o = refl
 fired_by_after base pick (suc k) limit o = by_found (due_by limit (earliest o.state))
@@ -53,7 +56,8 @@ fired_by_after base pick (suc k) limit o = by_found (due_by limit (earliest o.st
     ∙ fired_by_after base pick k limit (fired pick o entry)
     ∙ sym (ap (λ found. after_notices base (goes pick k limit o found)) is))
 
-all_fired_after : (base : List Notice) (pick : Pick) (limit : ℕ) (o : Course) → all_fired pick limit (after_notices base o) ≡ after_notices base (all_fired pick limit o)
+all_fired_after : (base : List Notice) (pick : Pick) (limit : ℕ) (o : Course) → all_fired pick limit (after_notices base o)
+    ≡ after_notices base (all_fired pick limit o)
 unfolding all_fired
 all_fired_after base pick limit o = fired_by_after base pick (timer_count o) limit o
 
@@ -66,7 +70,8 @@ unfolding ticked
 ticked_after base pick o ms = ap (at_end (o.state.time + ms)) (all_fired_after base pick (o.state.time + ms) o)
 
 -- what is due first is due by a later time too
-later_due : (limit more : ℕ) (entry : ℕ × Timer) (entries : List (ℕ × Timer)) → limit ≤ more → due_by limit (slice_get entries 0) ≡ Some entry → due_by more (slice_get entries 0) ≡ Some entry
+later_due : (limit more : ℕ) (entry : ℕ × Timer) (entries : List (ℕ × Timer)) → limit ≤ more → due_by limit (slice_get entries 0) ≡ Some entry
+    → due_by more (slice_get entries 0) ≡ Some entry
 later_due limit more entry [] le h = absurd (cc h)
 later_due limit more entry (x ∷ xs) le h = by (nat_le x.0 limit) refl h
   where
@@ -75,7 +80,8 @@ later_due limit more entry (x ∷ xs) le h = by (nat_le x.0 limit) refl h
     by false is h = absurd (cc h)
 
 -- what is due later fires also after what is due first
-goes_on_later : (pick : Pick) (k limit more : ℕ) (o : Course) → IsSound o.state → limit ≤ more → all_fired pick more o ≡ all_fired pick more (fired_by pick k limit o)
+goes_on_later : (pick : Pick) (k limit more : ℕ) (o : Course) → IsSound o.state → limit ≤ more
+    → all_fired pick more o ≡ all_fired pick more (fired_by pick k limit o)
 unfolding fired_by
 goes_on_later pick zero limit more o sound le = refl
 goes_on_later pick (suc k) limit more o sound le = by_found (due_by limit (earliest o.state))
@@ -102,7 +108,8 @@ from_none : (s : StateView) (base : List Notice) → course s base [] ≡ after_
 from_none s base = ap (λ notices. course s notices []) (sym (append-nil base))
 
 ticks_join : (s : StateView) (a b : ℕ) (pick : Pick) → IsSound s
-    → next s (Tick (a + b)) pick ≡ outcome (next (next s (Tick a) pick).state (Tick b) pick).state ((next s (Tick a) pick).notices ++ (next (next s (Tick a) pick).state (Tick b) pick).notices)
+    → next s (Tick (a + b)) pick ≡ outcome (next (next s (Tick a) pick).state (Tick b) pick).state
+        ((next s (Tick a) pick).notices ++ (next (next s (Tick a) pick).state (Tick b) pick).notices)
 unfolding next ticked all_fired
 ticks_join s a b pick sound =
     let first = all_fired pick (s.time + a) (course s [] []) in
@@ -115,7 +122,8 @@ ticks_join s a b pick sound =
     ∙ ap (seen_at (s.time + a + b)) (all_fired_after first.notices pick (s.time + a + b) (course (with_time first.state (s.time + a)) [] []))
 
 -- when a tick isn't refused
-accepted : (time ms : ℕ) → first_that_applies ((ms == 0, ZeroTick) ∷ (nat_lt time_limit (time + ms), TimeLimit) ∷ []) ≡ None → (ms == 0 ≡ false) × (nat_lt time_limit (time + ms) ≡ false)
+accepted : (time ms : ℕ) → first_that_applies ((ms == 0, ZeroTick) ∷ (nat_lt time_limit (time + ms), TimeLimit) ∷ []) ≡ None
+    → (ms == 0 ≡ false) × (nat_lt time_limit (time + ms) ≡ false)
 accepted time ms fine = by (ms == 0) (nat_lt time_limit (time + ms)) refl refl fine
   where
     by : (zero late : Bool) → ms == 0 ≡ zero → nat_lt time_limit (time + ms) ≡ late → cond zero (Some ZeroTick) (cond late (Some TimeLimit) None) ≡ None
@@ -124,7 +132,8 @@ accepted time ms fine = by (ms == 0) (nat_lt time_limit (time + ms)) refl refl f
     by false true e f h = absurd (cc h)
     by false false e f h = (e, f)
 
-join_accepted : (s : StateView) (a b : ℕ) (pick : Pick) → refused s (Tick a) ≡ None → refused (next s (Tick a) pick).state (Tick b) ≡ None → refused s (Tick (a + b)) ≡ None
+join_accepted : (s : StateView) (a b : ℕ) (pick : Pick) → refused s (Tick a) ≡ None → refused (next s (Tick a) pick).state (Tick b) ≡ None
+    → refused s (Tick (a + b)) ≡ None
 unfolding refused next ticked
 join_accepted s a b pick first second =
     let one = accepted s.time a first in

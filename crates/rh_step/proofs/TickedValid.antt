@@ -25,14 +25,17 @@ comes_valid pick o sound =
     let risen = sound_ready_come_up o sound in
     record {
       sound = settled_sound pick (ready_come_up o) risen;
-      settled = λ n. ready_alike (ready_come_up o).state (settled pick (ready_come_up o)).state n (settled_cluster pick (ready_come_up o)) (settled_modes pick (ready_come_up o)) ∙ none_ready o n sound.sized.modes;
+      settled = λ n. ready_alike (ready_come_up o).state (settled pick (ready_come_up o)).state n (settled_cluster pick (ready_come_up o))
+          (settled_modes pick (ready_come_up o)) ∙ none_ready o n sound.sized.modes;
       still = still_unmarked (settled pick (ready_come_up o)).state (ready_come_up o).marked (settled_still pick (ready_come_up o) risen.sized);
     }
 
 -- so behind a firing
-fired_valid : (pick : Pick) (limit : ℕ) (o : Course) (entry : ℕ × Timer) → IsValid o.state → due_by limit (earliest o.state) ≡ Some entry → IsValid (fired pick o entry).state
+fired_valid : (pick : Pick) (limit : ℕ) (o : Course) (entry : ℕ × Timer) → IsValid o.state → due_by limit (earliest o.state) ≡ Some entry
+    → IsValid (fired pick o entry).state
 unfolding fired
-fired_valid pick limit o entry valid is = comes_valid pick (effect (taken_off o entry) entry.1) (sound_effect o entry valid.sound (due_is_first limit o.state entry is))
+fired_valid pick limit o entry valid is = comes_valid pick (effect (taken_off o entry) entry.1)
+    (sound_effect o entry valid.sound (due_is_first limit o.state entry is))
 
 pub all_fired_valid : (pick : Pick) (limit : ℕ) (o : Course) → IsValid o.state → IsValid (all_fired pick limit o).state
 unfolding all_fired

@@ -14,7 +14,9 @@ use Rattle.rh_settle.specs.Moves.{is_local}
 use Rattle.rh_events.specs.declared.event.Event.{Event}
 use Rattle.rh_events.specs.declared.event.Event.TheVariants.{Boot, Crash, Tick, Start, Stop, Permit, Takeover, Exit}
 use Rattle.rh_step.specs.declared.refusal.Refusal.{Refusal}
-use Rattle.rh_step.specs.declared.refusal.Refusal.TheVariants.{UnknownNode, UnknownApp, AlreadyAlive, IncarnationLimit, NotAlive, ZeroTick, TimeLimit, NodeNotUp, NotDistributed, NotListed, AlreadyStarted, NeverStarted, NotRunning, RunsHere, NotRunningHere, NotPermitted, DependencyNotStarted, TrailFull, OutOfMemory}
+use Rattle.rh_step.specs.declared.refusal.Refusal.TheVariants.{UnknownNode, UnknownApp, AlreadyAlive, IncarnationLimit, NotAlive, ZeroTick, TimeLimit}
+use Rattle.rh_step.specs.declared.refusal.Refusal.TheVariants.{NodeNotUp, NotDistributed, NotListed, AlreadyStarted, NeverStarted, NotRunning, RunsHere}
+use Rattle.rh_step.specs.declared.refusal.Refusal.TheVariants.{NotRunningHere, NotPermitted, DependencyNotStarted, TrailFull, OutOfMemory}
 
 -- there is no such node, or no such application
 abbrev pub is_unknown : StateView → Node → Bool

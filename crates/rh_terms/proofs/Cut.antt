@@ -1,10 +1,12 @@
 -- Where a text in UTF-8 is cut, its parts are in UTF-8 again.
-use Rattle.std.proofs.Common.{◌≡◌, ◌<◌, ◌+◌, ◌-◌, ℕ, zero, suc, List, [], ◌∷◌, ◌++◌, Bool, true, false, cond, Ok, Some, length, take, drop, get_or, refl, sym, ap, subst, ◌∙◌, append_assoc, arith, length-append}
+use Rattle.std.proofs.Common.{◌≡◌, ◌<◌, ◌+◌, ◌-◌, ℕ, zero, suc, List, [], ◌∷◌, ◌++◌, Bool, true, false, cond, Ok, Some, length, take, drop, get_or, refl, sym}
+use Rattle.std.proofs.Common.{ap, subst, ◌∙◌, append_assoc, arith, length-append}
 use Rattle.std.specs.Prelude.{◌==◌, ◌&&◌}
 use Rattle.std.specs.Str.{IsUtf8}
 use Rattle.std.specs.List.{prefix_len, list_all}
 use Rattle.std.proofs.Math.Seq.{take-append_seam, drop-append-add, get_or-append_seam}
-use Rattle.std.proofs.lemmas.Str.{IsUtf8-nil, IsUtf8-take, IsUtf8-drop, IsUtf8-append, IsUtf8-from_ascii, IsCharBoundary-before_ascii, IsCharBoundary-after_ascii}
+use Rattle.std.proofs.lemmas.Str.{IsUtf8-nil, IsUtf8-take, IsUtf8-drop, IsUtf8-append, IsUtf8-from_ascii, IsCharBoundary-before_ascii}
+use Rattle.std.proofs.lemmas.Str.{IsCharBoundary-after_ascii}
 use Rattle.std.proofs.lemmas.List.{take_rest}
 use Rattle.std.proofs.lemmas.Bool.{eqb-true}
 use Rattle.std.proofs.lemmas.Bool.Decides.{nat_tests}
@@ -96,7 +98,8 @@ quoted_parts quote bs content rest small text e =
     let parts = cut_at r.inner rest quote small whole in
     (quoted_text quote [] r.inner content r.is parts.0, parts.1)
 
-front_cons : (p : ℕ → Bool) (ascii : (b : ℕ) → p b ≡ true → b < 128) (b : ℕ) (bs : List ℕ) (t : Bool) → p b ≡ t → IsUtf8 (take (prefix_len p bs) bs) → IsUtf8 (take (prefix_len p (b ∷ bs)) (b ∷ bs))
+front_cons : (p : ℕ → Bool) (ascii : (b : ℕ) → p b ≡ true → b < 128) (b : ℕ) (bs : List ℕ) (t : Bool) → p b ≡ t → IsUtf8 (take (prefix_len p bs) bs)
+    → IsUtf8 (take (prefix_len p (b ∷ bs)) (b ∷ bs))
 front_cons p ascii b bs true e others =
     let n : prefix_len p (b ∷ bs) ≡ suc (prefix_len p bs) = rw e (omega arith) in
     rw n (IsUtf8-append (b ∷ []) (take (prefix_len p bs) bs) (byte_text b (ascii b e)) others)

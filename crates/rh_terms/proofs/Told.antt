@@ -31,7 +31,8 @@ told_err : (bytes : List ℕ) (f : Fault) → is_utf8 bytes ≡ true → terms_f
 unfolding terms_of
 told_err bytes f text read = rw (text, read) refl
 
-pub told_fault : (bytes : List ℕ) (e : ReadError) → is_utf8 bytes ≡ true → Fails e (terms_from (past_blank bytes)) → FaultIs (fault_told bytes e) (terms_of bytes)
+pub told_fault : (bytes : List ℕ) (e : ReadError) → is_utf8 bytes ≡ true → Fails e (terms_from (past_blank bytes))
+    → FaultIs (fault_told bytes e) (terms_of bytes)
 told_fault bytes errors.Memory text read = tt
 told_fault bytes (errors.Fault (Syntax left)) text read = told_err bytes (Syntax left) text read
 told_fault bytes (errors.Fault (Unsupported left)) text read = told_err bytes (Unsupported left) text read
@@ -51,7 +52,8 @@ fault_read bytes ts fault exact e = let P : Result Trees TermFault → Type 0 = 
 same_fault : (f g : TermFault) → ◌≡◌ {A = Result Terms TermFault} (Err f) (Err g) → f ≡ g
 same_fault f g e = cc
 
-pub fault_there : (bytes : List ℕ) (fault : TermFault) (line : ℕ) → FaultIs fault (terms_of bytes) → ◌≡◌ {A = Result Terms TermFault} (Err fault) (Err (faults.Unsupported line)) → HasConstruct line bytes
+pub fault_there : (bytes : List ℕ) (fault : TermFault) (line : ℕ) → FaultIs fault (terms_of bytes)
+    → ◌≡◌ {A = Result Terms TermFault} (Err fault) (Err (faults.Unsupported line)) → HasConstruct line bytes
 fault_there bytes fault line exact e =
     let P : TermFault → Type 0 = λ f. FaultIs f (terms_of bytes) in
     unsupported_is_there bytes line (subst P (same_fault fault (faults.Unsupported line) e) exact)

@@ -1,5 +1,6 @@
 -- A whole text that is read is spelled by its terms.
-use Rattle.std.proofs.Common.{◌≡◌, ℕ, zero, suc, List, [], ◌∷◌, ◌++◌, length, drop, Bool, true, false, cond, Result, Ok, Err, refl, sym, ap, subst, ◌∙◌, append_assoc, arith, inl, inr}
+use Rattle.std.proofs.Common.{◌≡◌, ℕ, zero, suc, List, [], ◌∷◌, ◌++◌, length, drop, Bool, true, false, cond, Result, Ok, Err, refl, sym, ap, subst, ◌∙◌}
+use Rattle.std.proofs.Common.{append_assoc, arith, inl, inr}
 use Rattle.std.specs.Prelude.{◌==◌, ◌⊎◌, ◌||◌}
 use Rattle.std.proofs.lemmas.Bool.{eqb-true}
 use Rattle.rh_terms.specs.declared.fault.Fault.{Fault}
@@ -23,7 +24,8 @@ read_rest l = Ok l
 
 pub dot_is : (bs rest : List ℕ) → dot_at bs ≡ Ok rest → (bs ≡ 46 ∷ rest) × EndsDot rest
 unfolding dot_at
-dot_is bs rest e = elim (chosen (begins (λ b. b == 46) bs) (cond ((length bs == 1) || begins is_end (drop 1 bs)) (Ok (drop 1 bs)) (Err (stuck (drop 1 bs)))) (Err (stuck bs)) (Ok rest) e) [
+dot_is bs rest e = elim (chosen (begins (λ b. b == 46) bs) (cond ((length bs == 1) || begins is_end (drop 1 bs)) (Ok (drop 1 bs)) (Err (stuck (drop 1 bs))))
+    (Err (stuck bs)) (Ok rest) e) [
   | inl p ↦ elim (chosen ((length bs == 1) || begins is_end (drop 1 bs)) (Ok (drop 1 bs)) (Err (stuck (drop 1 bs))) (Ok rest) p.1) [
     | inl q ↦
         let first : bs ≡ 46 ∷ drop 1 bs = begins_is 46 bs p.0 in
@@ -31,7 +33,8 @@ dot_is bs rest e = elim (chosen (begins (λ b. b == 46) bs) (cond ((length bs ==
         let P : List ℕ → Type 0 = λ l. EndsDot l in (
           first ∙ ap (λ (l : List ℕ). 46 ∷ l) same,
           subst P same (elim (or_is (length bs == 1) (begins is_end (drop 1 bs)) q.0) [
-            | inl h ↦ let one : length bs ≡ 1 = eqb-true (length bs) 1 h in let more_one : length bs ≡ suc (length (drop 1 bs)) = ap (λ (l : List ℕ). length l) first in inl (omega arith)
+            | inl h ↦ let one : length bs ≡ 1 = eqb-true (length bs) 1 h in let more_one : length bs
+                ≡ suc (length (drop 1 bs)) = ap (λ (l : List ℕ). length l) first in inl (omega arith)
             | inr h ↦ inr h
           ]),
         )
@@ -73,7 +76,9 @@ tail_is false (b ∷ bs) e = elim (chosen (b == 37) (past true bs) (cond (is_whi
   | inl p ↦ elim (tail_is true bs p.1) [
     | inl h ↦ record { a = []; rest = b ∷ bs; parts = refl; blank = IsBlank.nothing; ends = inr (bs, ap (λ (y : ℕ). y ∷ bs) (eqb-true b 37 p.0), h) }
     | inr h ↦ let t = h.tail in
-        record { a = 37 ∷ (h.line ++ 10 ∷ t.a); rest = t.rest; parts = ap (λ (y : ℕ). y ∷ bs) (eqb-true b 37 p.0) ∙ ap (λ (l : List ℕ). 37 ∷ l) (h.parts ∙ ap (λ (l : List ℕ). h.line ++ 10 ∷ l) t.parts ∙ sym (append_assoc h.line (10 ∷ t.a) t.rest)); blank = IsBlank.comment h.line t.a h.in_line t.blank; ends = t.ends }
+        record { a = 37 ∷ (h.line ++ 10 ∷ t.a); rest = t.rest; parts = ap (λ (y : ℕ). y ∷ bs) (eqb-true b 37 p.0)
+            ∙ ap (λ (l : List ℕ). 37 ∷ l) (h.parts ∙ ap (λ (l : List ℕ). h.line ++ 10 ∷ l) t.parts ∙ sym (append_assoc h.line (10 ∷ t.a) t.rest));
+            blank = IsBlank.comment h.line t.a h.in_line t.blank; ends = t.ends }
   ]
   | inr p ↦ elim (chosen (is_white b) (past false bs) (b ∷ bs) [] p.1) [
     | inl q ↦ let t = tail_is false bs q.1 in
@@ -111,7 +116,8 @@ are_dotted (suc n) bs (c ∷ l) ts blank e =
     let a = blank_is bs c l blank in
     let s = term_spelled 64 (c ∷ l) x.0.0 x.0.1 x.1 in
     let b = blank_is x.0.1 46 d.0 dot.0 in
-    let whole : bs ≡ a.text ++ (s.text ++ (b.text ++ 46 ∷ d.0)) = a.parts ∙ ap (λ (y : List ℕ). a.text ++ y) (s.parts ∙ ap (λ (y : List ℕ). s.text ++ y) b.parts) in
+    let whole : bs ≡ a.text ++ (s.text ++ (b.text ++ 46 ∷ d.0)) = a.parts ∙ ap (λ (y : List ℕ). a.text ++ y)
+            (s.parts ∙ ap (λ (y : List ℕ). s.text ++ y) b.parts) in
     let P : List ℕ → Type 0 = λ y. AreDotted (more x.0.0 o.0) y in
     let Q : Trees → Type 0 = λ y. AreDotted y bs in
     subst Q (trees_is (more x.0.0 o.0) ts o.2) (subst P (sym whole) (AreDotted.term x.0.0 o.0 a.text s.text b.text d.0 a.is s.is b.is dot.1 others))

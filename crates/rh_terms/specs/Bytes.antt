@@ -31,7 +31,8 @@ abbrev pub begins : (ℕ → Bool) → List ℕ → Bool
 begins p [] = false
 begins p (b ∷ bs) = p b
 
--- What stands behind white space and comments, of which each goes from `%` to the end of its line (Reference Manual, Modules, Comments); inside of a comment, behind its rest too.
+-- What stands behind white space and comments, of which each goes from `%` to the end of its line (Reference Manual,
+-- Modules, Comments); inside of a comment, behind its rest too.
 unfoldable pub past : Bool → List ℕ → List ℕ
 past inside [] = []
 past true (b ∷ bs) = if b == 10 then past false bs else past true bs

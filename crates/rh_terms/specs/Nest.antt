@@ -54,7 +54,8 @@ climb room (b ∷ bs) read = in_bracket (room - 1) b.shape (trees_of b.items.ite
 
 -- A whole text, where the term in the innermost of them is read so.
 unfoldable pub ended : List Bracket → List Term → Read Tree → Result Trees Fault
-ended brackets terms read = climb 64 brackets read >>= λ x. dot_at (past_blank x.1) >>= λ rest. after_trees (join (trees_of terms) (more x.0 none)) (terms_from (past_blank rest))
+ended brackets terms read = climb 64 brackets read >>= λ x. dot_at (past_blank x.1) >>= λ rest. after_trees (join (trees_of terms) (more x.0 none))
+    (terms_from (past_blank rest))
 
 -- A whole text, of which these bytes are left, where a term begins or the text ends.
 unfoldable pub going : List Bracket → List Term → List ℕ → Result Trees Fault

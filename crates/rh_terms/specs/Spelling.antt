@@ -29,7 +29,8 @@ mutual
     quoted_atom : (room : ℕ) (s content : List ℕ) → IsQuoted 39 s content → Spells room (atom content) (39 ∷ (s ++ 39 ∷ []))
     text_of : (room : ℕ) (s content : List ℕ) → IsQuoted 34 s content → Spells room (text content) (34 ∷ (s ++ 34 ∷ []))
     integer : (room : ℕ) (s : List ℕ) → 0 < length s → list_all is_digit s ≡ true → fits false (number s) ≡ true → Spells room (int (signed false (number s))) s
-    minus : (room : ℕ) (s : List ℕ) → 0 < length s → list_all is_digit s ≡ true → fits true (number s) ≡ true → Spells room (int (signed true (number s))) (45 ∷ s)
+    minus : (room : ℕ) (s : List ℕ) → 0 < length s → list_all is_digit s ≡ true → fits true (number s) ≡ true
+        → Spells room (int (signed true (number s))) (45 ∷ s)
     list_of : (room : ℕ) (ts : Trees) (s : List ℕ) → IsInside room ts s → Spells (suc room) (list ts) (91 ∷ (s ++ 93 ∷ []))
     tuple_of : (room : ℕ) (ts : Trees) (s : List ℕ) → IsInside room ts s → Spells (suc room) (tuple ts) (123 ∷ (s ++ 125 ∷ []))
 
@@ -41,10 +42,12 @@ mutual
   -- elements and the commas between them
   pub data AreSeparated : ℕ → Trees → List ℕ → Type 0 where
     last : (room : ℕ) (t : Tree) (s b : List ℕ) → Spells room t s → IsBlank b → AreSeparated room (more t none) (s ++ b)
-    comma : (room : ℕ) (t : Tree) (ts : Trees) (s b a r : List ℕ) → Spells room t s → IsBlank b → IsBlank a → AreSeparated room ts r → AreSeparated room (more t ts) (s ++ (b ++ 44 ∷ (a ++ r)))
+    comma : (room : ℕ) (t : Tree) (ts : Trees) (s b a r : List ℕ) → Spells room t s → IsBlank b → IsBlank a → AreSeparated room ts r
+        → AreSeparated room (more t ts) (s ++ (b ++ 44 ∷ (a ++ r)))
 
 -- The spelling of a whole text: terms, each followed by a dot (kernel, file, consult/1). The last line may be a comment without its end.
 pub data AreDotted : Trees → List ℕ → Type 0 where
   nothing : (a : List ℕ) → IsBlank a → AreDotted none a
   last_comment : (a line : List ℕ) → IsBlank a → InLine line → AreDotted none (a ++ 37 ∷ line)
-  term : (t : Tree) (ts : Trees) (a s b r : List ℕ) → IsBlank a → Spells 64 t s → IsBlank b → (length r ≡ 0) ⊎ (begins is_end r ≡ true) → AreDotted ts r → AreDotted (more t ts) (a ++ (s ++ (b ++ 46 ∷ r)))
+  term : (t : Tree) (ts : Trees) (a s b r : List ℕ) → IsBlank a → Spells 64 t s → IsBlank b → (length r ≡ 0) ⊎ (begins is_end r ≡ true) → AreDotted ts r
+      → AreDotted (more t ts) (a ++ (s ++ (b ++ 46 ∷ r)))

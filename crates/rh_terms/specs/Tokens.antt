@@ -1,6 +1,7 @@
 -- The words of the grammar: atoms, texts, integers.
 -- Bytes are written as numbers: 10 is LF, 34 `"`, 37 `%`, 39 `'`, 44 `,`, 45 `-`, 46 `.`, 91 `[`, 92 `\`, 93 `]`, 123 `{`, 124 `|`, 125 `}`.
-use Rattle.std.specs.Prelude.{◌≡◌, ◌≤◌, ◌<◌, ℕ, ℤ, pos, ◌+◌, ◌-◌, ◌*◌, ◌^◌, List, [], ◌∷◌, length, take, drop, Bool, true, false, not, ◌&&◌, ◌||◌, ◌==◌, nat_le, nat_lt, Option, Some, None, Ok, Err, fold, if◌then◌else◌}
+use Rattle.std.specs.Prelude.{◌≡◌, ◌≤◌, ◌<◌, ℕ, ℤ, pos, ◌+◌, ◌-◌, ◌*◌, ◌^◌, List, [], ◌∷◌, length, take, drop, Bool, true, false, not, ◌&&◌, ◌||◌, ◌==◌, nat_le}
+use Rattle.std.specs.Prelude.{nat_lt, Option, Some, None, Ok, Err, fold, if◌then◌else◌}
 use Rattle.std.specs.List.{prefix_len}
 use lib.IntN.{neg_ℤ}
 use Rattle.rh_terms.specs.declared.fault.Fault.TheVariants.{Syntax, Unsupported, IntRange}
@@ -11,7 +12,8 @@ use Rattle.rh_base.specs.Tree.{Tree, atom, int, text}
 -- What a `\` and the byte behind it stand for (Reference Manual, Data Types, Escape Sequences; the others are left out, which is ours).
 abbrev pub escape : ℕ → Option ℕ
 escape b =
-    if (b == 92) || (b == 39) || (b == 34) then Some b else if b == 110 then Some 10 else if b == 116 then Some 9 else if b == 114 then Some 13 else if b == 115 then Some 32 else None
+    if (b == 92) || (b == 39) || (b == 34) then Some b else if b == 110 then Some 10 else if b == 116 then Some 9 else if b == 114 then Some 13 else if b == 115
+        then Some 32 else None
 
 -- what was read, behind this byte
 abbrev pub with_byte : ℕ → Read (List ℕ) → Read (List ℕ)
@@ -72,7 +74,8 @@ name_at bs = let n = prefix_len is_name bs in Ok (atom (take n bs), drop n bs)
 unfoldable pub quoted_atom_at : List ℕ → Read Tree
 quoted_atom_at bs = quoted false 39 bs >>= λ x. Ok (atom x.0, x.1)
 
--- A text, its opening quote read (Data Types, String). No other stands behind it with only white space and comments between: Erlang would join the two, which is left out (ours).
+-- A text, its opening quote read (Data Types, String). No other stands behind it with only white space and comments
+-- between: Erlang would join the two, which is left out (ours).
 unfoldable pub text_at : List ℕ → Read Tree
 text_at bs = quoted false 34 bs >>= λ x.
     if begins (λ b. b == 34) (past_blank x.1) then Err (Unsupported (length (past_blank x.1))) else Ok (text x.0, x.1)

@@ -29,7 +29,8 @@ module _ (c : ClusterView) (pick : Pick) (trail : List Event) (cursor : ℕ) (e 
       ∙ fold_push (step pick) (first c) (take cursor trail) e
 
   -- what holds of the earlier states and of the new one holds of all
-  pub each_state : (P : StateView → Type 0) → ((k : ℕ) → k ≤ length trail → P (after c pick (take k trail))) → P (step pick (after c pick (take cursor trail)) e)
+  pub each_state : (P : StateView → Type 0) → ((k : ℕ) → k ≤ length trail → P (after c pick (take k trail)))
+      → P (step pick (after c pick (take cursor trail)) e)
       → (k : ℕ) → k ≤ length (take cursor trail ++ e ∷ []) → P (after c pick (take k (take cursor trail ++ e ∷ [])))
   each_state P each new k bound = elim (cases_lt cursor k) [
     | inl above ↦
@@ -43,8 +44,10 @@ pub opened_valid : (c : ClusterView) (pick : Pick) → IsWithin c → (k : ℕ) 
 opened_valid c pick within zero = first_valid c within
 opened_valid c pick within (suc k) = first_valid c within
 
-pub history_opens : (c : ClusterView) (pick : Pick) (trail : List Event) (states : List Stored) (s : Stored) → IsWithin c → trail ≡ [] → states ≡ s ∷ [] → read s ≡ first c → IsHistory c pick trail states 0
-history_opens c pick trail states s fits none one is = subst (λ (es : List Event). IsHistory c pick es states 0) (sym none) (subst (λ (ss : List Stored). IsHistory c pick [] ss 0) (sym one) (record {
+pub history_opens : (c : ClusterView) (pick : Pick) (trail : List Event) (states : List Stored) (s : Stored) → IsWithin c → trail ≡ [] → states ≡ s ∷ []
+    → read s ≡ first c → IsHistory c pick trail states 0
+history_opens c pick trail states s fits none one is = subst (λ (es : List Event). IsHistory c pick es states 0) (sym none)
+    (subst (λ (ss : List Stored). IsHistory c pick [] ss 0) (sym one) (record {
   count = omega arith;
   within = omega arith;
   limited = omega arith;
@@ -83,7 +86,8 @@ module _ (c : ClusterView) (pick : Pick) (trail : List Event) (states : List Sto
           ∙ h.each k d (omega (arith, h.within))
           ∙ sym (state_earlier c pick trail cursor e h.within k below)
 
-      last : (k : ℕ) (d : Stored) → k ≡ cursor + 1 → read (get_or (take (cursor + 1) states ++ s ∷ []) k d) ≡ after c pick (take k (take cursor trail ++ e ∷ []))
+      last : (k : ℕ) (d : Stored) → k ≡ cursor + 1 → read (get_or (take (cursor + 1) states ++ s ∷ []) k d)
+          ≡ after c pick (take k (take cursor trail ++ e ∷ []))
       last k d at =
           ap read (get_or_push (take (cursor + 1) states) s d k (omega (arith, kept_states)))
           ∙ is

@@ -1,5 +1,6 @@
 -- Undo and redo after any list of calls.
-use Rattle.std.proofs.Common.{◌≡◌, ℕ, ◌+◌, ◌-◌, ◌<◌, ◌≤◌, ◌==◌, List, [], ◌∷◌, ◌++◌, length, take, Option, Some, None, Bool, true, false, cond, refl, sym, ap, subst, ◌∙◌, arith}
+use Rattle.std.proofs.Common.{◌≡◌, ℕ, ◌+◌, ◌-◌, ◌<◌, ◌≤◌, ◌==◌, List, [], ◌∷◌, ◌++◌, length, take, Option, Some, None, Bool, true, false, cond, refl, sym, ap}
+use Rattle.std.proofs.Common.{subst, ◌∙◌, arith}
 use Rattle.std.proofs.lemmas.Bool.Decides.{nat_tests}
 use Rattle.std.proofs.lemmas.List.{length-take-le, take_all, take_at, length_push}
 use Rattle.rh_events.specs.declared.event.Event.{Event}
@@ -68,7 +69,8 @@ call_sound s call.Undo sound = by (s.cursor == 0)
     by false = record { within = omega (arith, sound.within); limited = sound.limited; valid = sound.valid }
 call_sound s call.Redo sound = by (s.cursor == length s.trail) refl
   where
-    by : (b : Bool) → (s.cursor == length s.trail) ≡ b → IsSound (cond b (answered reply.AtEnd s) (answered reply.Redone (record s { cursor = s.cursor + 1 }))).sim
+    by : (b : Bool) → (s.cursor == length s.trail) ≡ b → IsSound
+        (cond b (answered reply.AtEnd s) (answered reply.Redone (record s { cursor = s.cursor + 1 }))).sim
     by true _ = sound
     by false more = record { within = grind (arith, nat_tests, sound.within); limited = sound.limited; valid = sound.valid }
 call_sound s call.UndoAll sound = record { within = omega arith; limited = sound.limited; valid = sound.valid }
@@ -165,7 +167,8 @@ module _ (s : SimView) (sound : IsSound s) (e : Event) (ns : List Notice) (is : 
   is_allowed =
       let a = accepted s e ns is in
       let state_is : state_of (next_sim s (call.Step e)) ≡ (next (state_of s) e s.pick).state = ap state_of a.sim ∙ state_of-with_event s e sound.within in
-      subst (λ (o : Outcome). Allowed (state_of s) e o) (λ i. outcome (sym state_is i) (sym a.told i)) (next_allowed (state_of s) e s.pick (state_valid s sound) a.fine)
+      subst (λ (o : Outcome). Allowed (state_of s) e o) (λ i. outcome (sym state_is i) (sym a.told i))
+          (next_allowed (state_of s) e s.pick (state_valid s sound) a.fine)
 
   is_undone_to : state_of (next_sim (next_sim s (call.Step e)) call.Undo) ≡ state_of s
   is_undone_to =
@@ -228,4 +231,5 @@ reversible s sound = record {
 }
 
 pub calls_reversible : CallsAreReversible
-calls_reversible c pick calls fits = reversible (sim_after (opened c pick) calls) (calls_sound (opened c pick) calls (record { within = omega arith; limited = omega arith; valid = λ k none. opened_valid c pick fits k }))
+calls_reversible c pick calls fits = reversible (sim_after (opened c pick) calls)
+    (calls_sound (opened c pick) calls (record { within = omega arith; limited = omega arith; valid = λ k none. opened_valid c pick fits k }))

@@ -38,13 +38,16 @@ one_node = record { node_names = codes "a" ∷ []; app_names = []; platform_name
 two_nodes_row : replies (opened two_nodes First) (Step (Boot (numbered 0)) ∷ Step (Crash (numbered 0)) ∷ Undo ∷ Look ∷ Redo ∷ UndoAll ∷ Undo ∷ RedoAll ∷ [])
     ≡ Done (Up (numbered 0) ∷ []) ∷ Done (Ended (numbered 0) ∷ []) ∷ Undone ∷ Seen 1 2 (codes "now 0\nnode a@x up 1\nnode b@x down 0\n")
     ∷ Redone ∷ Moved 2 ∷ AtStart ∷ Moved 2 ∷ []
-unfolding nodes_of apps_of configured moved_by all_moved all_alive is_ready mark_all come_up come_up_if_ready ready_come_up booted cleared lost_if_ran all_lost ended followed refused next step node_line line_if_forbidden app_line timer_line node_lines digits
+unfolding nodes_of apps_of configured moved_by all_moved all_alive is_ready mark_all come_up come_up_if_ready ready_come_up booted cleared lost_if_ran all_lost
+    ended followed refused next step node_line line_if_forbidden app_line timer_line node_lines digits
 two_nodes_row = refl
 
 -- a refused step leaves what can be made again
-redo_stays_row : replies (opened one_node First) (Undo ∷ Step (Boot (numbered 0)) ∷ Undo ∷ Step (Crash (numbered 0)) ∷ Redo ∷ Step (Boot (numbered 255)) ∷ Step (Boot (numbered 0)) ∷ Redo ∷ [])
+redo_stays_row : replies (opened one_node First) (Undo ∷ Step (Boot (numbered 0)) ∷ Undo ∷ Step (Crash (numbered 0)) ∷ Redo ∷ Step (Boot (numbered 255)) ∷ Step
+    (Boot (numbered 0)) ∷ Redo ∷ [])
     ≡ AtStart ∷ Done (Up (numbered 0) ∷ []) ∷ Undone ∷ Refused NotAlive ∷ Redone ∷ Refused UnknownNode ∷ Refused AlreadyAlive ∷ AtEnd ∷ []
-unfolding nodes_of apps_of configured moved_by all_moved all_alive is_ready mark_all come_up come_up_if_ready ready_come_up booted cleared lost_if_ran all_lost ended followed refused next step
+unfolding nodes_of apps_of configured moved_by all_moved all_alive is_ready mark_all come_up come_up_if_ready ready_come_up booted cleared lost_if_ran all_lost
+    ended followed refused next step
 redo_stays_row = refl
 
 -- a node at its last incarnation
@@ -88,7 +91,8 @@ unfolding nodes_of apps_of node_line running_line waiting_line forbidden_line li
 report_row = refl
 
 -- where a distributed application stands that doesn't run
-lost_row : report_text (record failed_over { running = [] ∷ [] ∷ []; waiting = [] ∷ [] ∷ []; allowed = (true ∷ true ∷ []) ∷ (true ∷ true ∷ []) ∷ []; standings = Lost (numbered 0) ∷ Quiet ∷ []; timers = (9, timer.Failover (app_numbered 0)) ∷ [] })
+lost_row : report_text (record failed_over { running = [] ∷ [] ∷ []; waiting = [] ∷ [] ∷ []; allowed = (true ∷ true ∷ []) ∷ (true ∷ true ∷ []) ∷ [];
+    standings = Lost (numbered 0) ∷ Quiet ∷ []; timers = (9, timer.Failover (app_numbered 0)) ∷ [] })
     ≡ codes "now 7\nnode n1 up 2\nnode n2 up 1\napp job lost n1\ntimer failover job 9\n"
 unfolding nodes_of apps_of node_line running_line waiting_line forbidden_line line_if_forbidden app_line timer_line node_lines digits
 lost_row = refl

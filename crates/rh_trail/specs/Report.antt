@@ -66,7 +66,8 @@ node_line s n = codes "node " ++ name_of s.cluster n ++ codes " " ++ mode_words 
 
 -- an application that runs at a node
 unfoldable pub running_line : StateView → Node → App → List ℕ
-running_line s n a = codes "  running " ++ app_name_of s.cluster a ++ codes " " ++ restart_words (restart_of s n a) ++ codes " " ++ kind_words s.cluster (kind_of s n a) ++ codes "\n"
+running_line s n a = codes "  running " ++ app_name_of s.cluster a ++ codes " " ++ restart_words (restart_of s n a) ++ codes " "
+    ++ kind_words s.cluster (kind_of s n a) ++ codes "\n"
 
 -- one that waits there
 unfoldable pub waiting_line : StateView → Node → App → List ℕ
@@ -81,7 +82,8 @@ line_if_forbidden s n a = if is_allowed s n a then [] else forbidden_line s.clus
 
 -- a distributed application; nothing for a local one
 unfoldable pub app_line : StateView → App → List ℕ
-app_line s a = if is_local s.cluster a then [] else codes "app " ++ app_name_of s.cluster a ++ codes " " ++ standing_words s.cluster (standing_of s a) ++ codes "\n"
+app_line s a = if is_local s.cluster a then [] else codes "app " ++ app_name_of s.cluster a ++ codes " " ++ standing_words s.cluster (standing_of s a)
+    ++ codes "\n"
 
 unfoldable pub timer_line : ClusterView → ℕ × Timer → List ℕ
 timer_line c entry = codes "timer " ++ timer_words c entry.1 ++ codes " " ++ decimal entry.0 ++ codes "\n"
@@ -90,7 +92,8 @@ timer_line c entry = codes "timer " ++ timer_words c entry.1 ++ codes " " ++ dec
 
 -- a node's line, and then what runs there, what waits there and what may not run there
 unfoldable pub node_lines : StateView → Node → List ℕ
-node_lines s n = node_line s n ++ flat_map (running_line s n) (running_at s n) ++ flat_map (waiting_line s n) (waiting_at s n) ++ flat_map (line_if_forbidden s n) (apps_of s.cluster)
+node_lines s n = node_line s n ++ flat_map (running_line s n) (running_at s n) ++ flat_map (waiting_line s n) (waiting_at s n)
+    ++ flat_map (line_if_forbidden s n) (apps_of s.cluster)
 
 -- the lines of all distributed applications, in their order
 abbrev pub app_lines : StateView → List ℕ

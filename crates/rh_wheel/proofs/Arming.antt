@@ -1,5 +1,6 @@
 -- Arming: an entry put behind the last one that isn't due later.
-use Rattle.std.proofs.Common.{◌≡◌, ◌≢◌, ◌<◌, ◌≤◌, ◌==◌, ◌+◌, ℕ, zero, suc, Bool, true, false, cond, nat_le, Some, List, [], ◌∷◌, ◌++◌, length, insert, All, AllPairs, IsNone, refl, sym, ap, ◌∙◌, inl, inr, arith}
+use Rattle.std.proofs.Common.{◌≡◌, ◌≢◌, ◌<◌, ◌≤◌, ◌==◌, ◌+◌, ℕ, zero, suc, Bool, true, false, cond, nat_le, Some, List, [], ◌∷◌, ◌++◌, length, insert, All}
+use Rattle.std.proofs.Common.{AllPairs, IsNone, refl, sym, ap, ◌∙◌, inl, inr, arith}
 use Rattle.std.specs.List.Sorted.{IsNonDecreasingBy, IsPartitionPoint}
 use Rattle.std.proofs.lemmas.Bool.Decides.{eqb_tells, leb_tells}
 use Rattle.std.proofs.lemmas.Bool.{eq-eqb}
@@ -9,13 +10,15 @@ use Rattle.rh_wheel.specs.Firing.{behind, without, due_in, due_at, IsFiringOrder
 use Rattle.rh_wheel.proofs.Finding.{unarmed-cons, differs_from_unarmed}
 
 -- the place between the entries that aren't due later and those that are
-pub insert-at_point : (new : ℕ × ℕ) (i : ℕ) (xs : List (ℕ × ℕ)) → i ≤ length xs → IsPartitionPoint (λ x. nat_le x.0 new.0 ≡ true) (λ x. nat_le x.0 new.0 ≡ false) xs i → insert xs i new ≡ behind new xs
+pub insert-at_point : (new : ℕ × ℕ) (i : ℕ) (xs : List (ℕ × ℕ)) → i ≤ length xs → IsPartitionPoint (λ x. nat_le x.0 new.0 ≡ true)
+    (λ x. nat_le x.0 new.0 ≡ false) xs i → insert xs i new ≡ behind new xs
 insert-at_point new zero [] l p = refl
 insert-at_point new (suc i) [] l p = absurd (omega arith)
 insert-at_point new zero (x ∷ xs) l p = let e : nat_le x.0 new.0 ≡ false = p.1 0 x (omega arith) (omega arith) in simp e refl
 insert-at_point new (suc i) (x ∷ xs) l p =
     let e : nat_le x.0 new.0 ≡ true = p.0 0 x (omega arith) (omega arith) in
-    simp e (ap (λ l. x ∷ l) (insert-at_point new i xs (omega arith) (λ k d a b. p.0 (suc k) d (omega arith) (omega arith), λ k d a b. p.1 (suc k) d (omega arith) (omega arith))))
+    simp e (ap (λ l. x ∷ l) (insert-at_point new i xs (omega arith)
+        (λ k d a b. p.0 (suc k) d (omega arith) (omega arith), λ k d a b. p.1 (suc k) d (omega arith) (omega arith))))
 
 pub All-behind : (P : ℕ × ℕ → Type 0) (new : ℕ × ℕ) (xs : List (ℕ × ℕ)) → P new → All P xs → All P (behind new xs)
 All-behind P new [] here all = All-cons P new [] here all
@@ -53,7 +56,8 @@ by_due-behind new (x ∷ xs) o = elim (leb_tells x.0 new.0) [
 ]
 
 -- arming keeps the firing order
-pub IsFiringOrder-behind : (n : ℕ) (new : ℕ × ℕ) (xs : List (ℕ × ℕ)) → IsFiringOrder n xs → new.1 < n → IsNone (due_in new.1 xs) → IsFiringOrder n (behind new xs)
+pub IsFiringOrder-behind : (n : ℕ) (new : ℕ × ℕ) (xs : List (ℕ × ℕ)) → IsFiringOrder n xs → new.1 < n → IsNone (due_in new.1 xs)
+    → IsFiringOrder n (behind new xs)
 IsFiringOrder-behind n new xs o numbered none = record {
   by_due = by_due-behind new xs o.by_due;
   once = once-behind new xs (differs_from_unarmed new.1 xs none) o.once;

@@ -38,7 +38,8 @@ due_in-without_other t (x ∷ xs) u differs = elim (eqb_tells x.1 t) [
 pub length-without : (t : ℕ) (xs : List (ℕ × ℕ)) → AllPairs (λ x y. x.1 ≢ y.1) xs → IsSome (due_in t xs) → length (without t xs) + 1 ≡ length xs
 length-without t [] once h = absurd (cc)
 length-without t (x ∷ xs) once h = elim (eqb_tells x.1 t) [
-  | inl a ↦ (let e = ap (λ (l : List (ℕ × ℕ)). length l) (without-unarmed t xs (unarmed_from_differs t xs (λ k d l f. once 0 (suc k) d (omega arith) (omega arith) (a.1 ∙ sym f)))) in
+  | inl a ↦ (let e = ap (λ (l : List (ℕ × ℕ)). length l)
+      (without-unarmed t xs (unarmed_from_differs t xs (λ k d l f. once 0 (suc k) d (omega arith) (omega arith) (a.1 ∙ sym f)))) in
       simp a.0 (omega (arith, e)))
   | inr a ↦ (let e = length-without t xs (λ i j d l m. once (suc i) (suc j) d (omega arith) (omega arith)) (simp a.0 at h) in
       simp a.0 (omega (arith, e)))

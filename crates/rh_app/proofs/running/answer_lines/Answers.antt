@@ -11,8 +11,10 @@ returns-in-Err g c =
     let c' = c.args.cluster.now in
     let asked = λ (ls : List (List ℕ)). lines_asked c' (map content ls) in
     let tail = asked (raw_lines c.split_line.result.1.now) in
-    fails_here c' c.args.sim.now.seen c.lines.sim.seen c.answer_line.new.sim.seen c.lines.number (asked (raw_lines c.args.script.now)) (asked (raw_lines c.lines.rest.now)) tail
-    (line_of c' (content c.split_line.result.0.now)) (held c.args.writer.now.inner) (held c.lines.writer.inner) (held c.answer_line.new.writer.inner) c.lines.invariant.text.0 c.answer_line.new.writer.failed
+    fails_here c' c.args.sim.now.seen c.lines.sim.seen c.answer_line.new.sim.seen c.lines.number (asked (raw_lines c.args.script.now))
+        (asked (raw_lines c.lines.rest.now)) tail
+    (line_of c' (content c.split_line.result.0.now)) (held c.args.writer.now.inner) (held c.lines.writer.inner)
+        (held c.answer_line.new.writer.inner) c.lines.invariant.text.0 c.answer_line.new.writer.failed
     (ap asked c.split_line.ensures.line) c.lines.invariant.text.1 c.lines.invariant.text.2 c.lines.invariant.fault c.in-Err.fault (c.in-Err.ensures tail)
 
 pub lines-preserved : goal.lines-preserved
@@ -23,11 +25,15 @@ lines-preserved g c =
     let tail = asked (raw_lines c.split_line.result.1.now) in
     let turn = c.in-Ok.ensures tail in
     record {
-      text = text_goes_on c' c.args.sim.now.seen c.lines.sim.seen c.answer_line.new.sim.seen c.lines.number (asked (raw_lines c.args.script.now)) (asked (raw_lines c.lines.rest.now)) tail
-          (line_of c' (content c.split_line.result.0.now)) (held c.args.writer.now.inner) (held c.lines.writer.inner) (held c.answer_line.new.writer.inner) c.lines.invariant.text.0 c.answer_line.new.writer.failed
+      text = text_goes_on c' c.args.sim.now.seen c.lines.sim.seen c.answer_line.new.sim.seen c.lines.number (asked (raw_lines c.args.script.now))
+          (asked (raw_lines c.lines.rest.now)) tail
+          (line_of c' (content c.split_line.result.0.now)) (held c.args.writer.now.inner) (held c.lines.writer.inner)
+              (held c.answer_line.new.writer.inner) c.lines.invariant.text.0 c.answer_line.new.writer.failed
           (ap asked c.split_line.ensures.line) c.lines.invariant.text.1 c.lines.invariant.text.2 c.lines.invariant.fault turn;
-      fault = bad_goes_on c' c.args.sim.now.seen c.lines.sim.seen c.answer_line.new.sim.seen c.lines.number (asked (raw_lines c.args.script.now)) (asked (raw_lines c.lines.rest.now)) tail
-          (line_of c' (content c.split_line.result.0.now)) (held c.args.writer.now.inner) (held c.lines.writer.inner) (held c.answer_line.new.writer.inner) c.lines.invariant.text.0 c.answer_line.new.writer.failed
+      fault = bad_goes_on c' c.args.sim.now.seen c.lines.sim.seen c.answer_line.new.sim.seen c.lines.number (asked (raw_lines c.args.script.now))
+          (asked (raw_lines c.lines.rest.now)) tail
+          (line_of c' (content c.split_line.result.0.now)) (held c.args.writer.now.inner) (held c.lines.writer.inner)
+              (held c.answer_line.new.writer.inner) c.lines.invariant.text.0 c.answer_line.new.writer.failed
           (ap asked c.split_line.ensures.line) c.lines.invariant.text.1 c.lines.invariant.text.2 c.lines.invariant.fault turn;
       watch = turn.4;
       count = omega (arith, c.lines.invariant.count, c.split_line.ensures.shorter);

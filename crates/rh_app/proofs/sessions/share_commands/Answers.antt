@@ -3,7 +3,8 @@ use Rattle.rh_app.proofs.sessions.share_commands.Goals as goal
 
 pub returns-in-Err : goal.returns-in-Err
 returns-in-Err g c =
-    history_fails c.args.cluster.now c.args.pick c.args.commands.now c.in-Err.fault (g.W.Write.contents c.args.writer.now.inner) c.args.writer.now.failed c.in-Err.ensures.only
+    history_fails c.args.cluster.now c.args.pick c.args.commands.now c.in-Err.fault
+        (g.W.Write.contents c.args.writer.now.inner) c.args.writer.now.failed c.in-Err.ensures.only
 
 pub returns-in-Ok : goal.returns-in-Ok
 returns-in-Ok g c =

@@ -9,7 +9,8 @@ use Rattle.rh_app.proofs.sessions.share_input.Goals as goal
 
 pub returns-then-is_memory : goal.returns-then-is_memory
 returns-then-is_memory g c =
-    starved (MayGive c.args.input.now c.args.pick) (g.W.Write.contents c.args.writer.now.inner) c.args.writer.now.failed (some_given c.args.input.now c.args.pick)
+    starved (MayGive c.args.input.now c.args.pick) (g.W.Write.contents c.args.writer.now.inner) c.args.writer.now.failed
+        (some_given c.args.input.now c.args.pick)
 
 pub returns-in-Ok : goal.returns-in-Ok
 returns-in-Ok g c =
@@ -24,4 +25,5 @@ returns-in-Err-write_fault g c =
     let other = c.is_memory.ensures.other c.if-is_memory.false in
     broke_off (MayGive c.args.input.now c.args.pick) (held c.args.writer.now.inner) (held c.write_fault.new.writer.inner) c.write_fault.new.writer.failed
     c.in-Err-write_fault.broken (fault_text c.in-Err.fault) (Some (end.Cluster c.in-Err.fault))
-    (cluster_fault_given c.args.input.now c.args.pick c.in-Err.fault (ap cluster_of (sym c.cut.ensures.cluster) ∙ c.in-Err.ensures.exact other.0 other.1)) c.in-Err-write_fault.ensures
+    (cluster_fault_given c.args.input.now c.args.pick c.in-Err.fault (ap cluster_of (sym c.cut.ensures.cluster) ∙ c.in-Err.ensures.exact other.0 other.1))
+        c.in-Err-write_fault.ensures

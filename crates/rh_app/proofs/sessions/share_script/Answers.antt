@@ -8,7 +8,8 @@ use Rattle.rh_app.proofs.sessions.share_script.Goals as goal
 pub returns-in-Err : goal.returns-in-Err
 returns-in-Err g c =
     let asked = session_lines_asked c.args.cluster.now (map content (raw_lines c.args.script.now)) in
-    starved (ScriptMayGive c.args.cluster.now c.args.pick (commands_of asked) (bad_session_line 1 0 asked)) (g.W.Write.contents c.args.writer.now.inner) c.args.writer.now.failed
+    starved (ScriptMayGive c.args.cluster.now c.args.pick (commands_of asked) (bad_session_line 1 0 asked))
+        (g.W.Write.contents c.args.writer.now.inner) c.args.writer.now.failed
     (some_text c.args.cluster.now c.args.pick (commands_of asked) (bad_session_line 1 0 asked))
 
 pub returns-in-Ok-BadLine : goal.returns-in-Ok-BadLine
@@ -25,4 +26,5 @@ returns-in-Ok-Commands g c =
     let asked = session_lines_asked c.args.cluster.now (map content (raw_lines c.args.script.now)) in
     let all = rw c.in-Ok-Commands.field-0-is at c.in-Ok-Commands.ensures.script in
     commands_one c.args.cluster.now c.args.pick c.as_slice.result.now (commands_of asked) (bad_session_line 1 0 asked) c.share_commands.result
-    (held c.args.writer.now.inner) (held c.share_commands.new.writer.inner) c.share_commands.new.writer.failed all.0 (c.as_slice.ensures.value ∙ all.1) c.share_commands.ensures
+    (held c.args.writer.now.inner) (held c.share_commands.new.writer.inner) c.share_commands.new.writer.failed all.0
+        (c.as_slice.ensures.value ∙ all.1) c.share_commands.ensures

@@ -10,7 +10,8 @@ returns-in_err-check_mismatch c =
     let p = err_from_is_err_and c.from_residual.result c.from_residual.ensures.1 in
     let f = mismatch_faults c.args.names.now c.args.nodes.now c.args.all.now c.in-Some.first in
     rw (p.1, p.2) (λ n. ap first (mismatches_are c.args.names.now c.args.nodes.now c.args.all.now c.in-Some.first c.in-Some.ensures)
-    ∙ number_fails f c.loop-node.node (length c.args.all.now) c.in_err-check_mismatch.field-0.0 _ (omega arith) (c.in_err-check_mismatch.ensures n) c.loop-node.invariant)
+    ∙ number_fails f c.loop-node.node (length c.args.all.now) c.in_err-check_mismatch.field-0.0 _ (omega arith)
+        (c.in_err-check_mismatch.ensures n) c.loop-node.invariant)
 
 pub loop-node-preserved : goal.loop-node-preserved
 loop-node-preserved c =

@@ -3,4 +3,5 @@ use Rattle.rh_cluster.proofs.Agreed.{passed_over}
 use Rattle.rh_cluster.proofs.agreement.first_involved.Goals as goal
 
 pub loop-node-preserved : goal.loop-node-preserved
-loop-node-preserved c = passed_over c.args.all.now c.loop-node.node (length c.args.all.now) c.loop-node-test.true (sym c.if-is_involved.ensures) ∙ c.loop-node.invariant
+loop-node-preserved c = passed_over c.args.all.now c.loop-node.node (length c.args.all.now) c.loop-node-test.true (sym c.if-is_involved.ensures)
+    ∙ c.loop-node.invariant

@@ -25,7 +25,9 @@ unfolding headers_pass
 returns-in_err-add_header-clause-faults c =
     let p = err_from_is_err_and c.from_residual.result c.from_residual.ensures.1 in
     rw (p.1, p.2) (λ n.
-    first-append _ _ c.in_err-add_header.field-0.0 (fails faults_of c.args.terms.now c.loop-term.term-index c.term-item.result c.loop-term-test.true c.term-item.is c.in_err-add_header.field-0.0 c.loop-term.invariant.passed
+    first-append _ _ c.in_err-add_header.field-0.0
+        (fails faults_of c.args.terms.now c.loop-term.term-index c.term-item.result c.loop-term-test.true c.term-item.is c.in_err-add_header.field-0.0
+        c.loop-term.invariant.passed
     (rw (← c.loop-term.invariant.nodes, ← c.loop-term.invariant.apps) (c.in_err-add_header.ensures.faults n))))
 
 pub loop-term-preserved : goal.loop-term-preserved
@@ -37,8 +39,10 @@ loop-term-preserved c =
     let here : header_faults (node_names before) (app_names before) (tree_of c.term-item.result) ≡ [] = rw (← inv.nodes, ← inv.apps) done.faults in
     record {
       passed = passes faults_of c.args.terms.now c.loop-term.term-index c.term-item.result c.loop-term-test.true c.term-item.is inv.passed here;
-      nodes = done.nodes ∙ (λ i. inv.nodes i ++ node_names (tree_of c.term-item.result ∷ [])) ∙ sym (ap node_names more ∙ node_names-append before (tree_of c.term-item.result));
-      apps = done.apps ∙ (λ i. inv.apps i ++ app_names (tree_of c.term-item.result ∷ [])) ∙ sym (ap app_names more ∙ app_names-append before (tree_of c.term-item.result));
+      nodes = done.nodes ∙ (λ i. inv.nodes i ++ node_names (tree_of c.term-item.result ∷ []))
+          ∙ sym (ap node_names more ∙ node_names-append before (tree_of c.term-item.result));
+      apps = done.apps ∙ (λ i. inv.apps i ++ app_names (tree_of c.term-item.result ∷ []))
+          ∙ sym (ap app_names more ∙ app_names-append before (tree_of c.term-item.result));
       few_nodes = done.few_nodes inv.few_nodes;
       few_apps = done.few_apps inv.few_apps;
     }

@@ -13,18 +13,21 @@ mark-requires-clause-app c =
     let s = read c.args.state.now in
     let t = read c.booted.state in
     let within : IsWithin s.cluster = subst IsWithin c.cluster.ensures c.is_within.ensures in
-    let here : c.boot.result.now ≡ boot_of t.cluster c.args.node = c.boot.ensures ∙ ap (λ (v : ClusterView). boot_of v c.args.node) c.cluster-in-booted.ensures in
+    let here : c.boot.result.now ≡ boot_of t.cluster c.args.node = c.boot.ensures
+            ∙ ap (λ (v : ClusterView). boot_of v c.args.node) c.cluster-in-booted.ensures in
     let whole = c.boot-count.ensures ∙ ap (λ (v : ClusterView). boot_of v c.args.node) c.cluster-2.ensures in
     let count = ap (λ (xs : List (App × Restart)). length xs) whole in
     let lt : c.booted.place < length (boot_of s.cluster c.args.node) = omega (arith, count, c.booted-test.true) in
-    next_app_within s t c.args.node c.booted.place within c.booted.invariant.cluster c.boot.result.now here lt c.booted.invariant.rest (app_numbered 0, Permanent)
+    next_app_within s t c.args.node c.booted.place within c.booted.invariant.cluster c.boot.result.now here lt c.booted.invariant.rest
+        (app_numbered 0, Permanent)
 
 pub mark-requires-clause-off : goal.mark-requires-clause-off
 mark-requires-clause-off c =
     let s = read c.args.state.now in
     let t = read c.booted.state in
     let within : IsWithin s.cluster = subst IsWithin c.cluster.ensures c.is_within.ensures in
-    let here : c.boot.result.now ≡ boot_of t.cluster c.args.node = c.boot.ensures ∙ ap (λ (v : ClusterView). boot_of v c.args.node) c.cluster-in-booted.ensures in
+    let here : c.boot.result.now ≡ boot_of t.cluster c.args.node = c.boot.ensures
+            ∙ ap (λ (v : ClusterView). boot_of v c.args.node) c.cluster-in-booted.ensures in
     let whole = c.boot-count.ensures ∙ ap (λ (v : ClusterView). boot_of v c.args.node) c.cluster-2.ensures in
     let count = ap (λ (xs : List (App × Restart)). length xs) whole in
     let lt : c.booted.place < length (boot_of s.cluster c.args.node) = omega (arith, count, c.booted-test.true) in
@@ -50,7 +53,8 @@ booted-preserved c =
     let rest = c.booted.invariant.rest in
     let boot = c.boot.result.now in
     record {
-      same = one_more s t n i within cluster boot here lt rest u d before after made (λ notices. course s notices c.args.marked.now.items) c.booted.invariant.same;
+      same = one_more s t n i within cluster boot here lt rest u d before after made
+          (λ notices. course s notices c.args.marked.now.items) c.booted.invariant.same;
       cluster = same_cluster s t n i within cluster boot here lt rest u d before after made;
       rest = others_off s t n i within cluster boot here lt rest u d before after made;
     }
@@ -61,4 +65,5 @@ returns c = λ notices.
     let whole = c.boot-count.ensures ∙ ap (λ (v : ClusterView). boot_of v c.args.node) c.cluster-2.ensures in
     let count = ap (λ (xs : List (App × Restart)). length xs) whole in
     c.booted.invariant.same notices
-    ∙ all_marked (course s notices c.args.marked.now.items) c.args.node (boot_of s.cluster c.args.node) c.booted.place (omega (arith, count, c.booted-test.false))
+    ∙ all_marked (course s notices c.args.marked.now.items) c.args.node (boot_of s.cluster c.args.node) c.booted.place
+        (omega (arith, count, c.booted-test.false))

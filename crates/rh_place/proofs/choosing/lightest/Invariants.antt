@@ -8,4 +8,5 @@ use Rattle.rh_place.specs.Sets.{has}
 use Rattle.rh_place.proofs.choosing.lightest.Given as goal
 
 abbrev pub invariant-nodes : goal.invariant-nodes
-invariant-nodes l = (n : Node) → has l.nodes n ≡ is_in n (filter (λ (m : Node). running_count (read l.state) m == l.count) (filter (has l.set) (take l.node-index l.group)))
+invariant-nodes l = (n : Node) → has l.nodes n ≡ is_in n
+    (filter (λ (m : Node). running_count (read l.state) m == l.count) (filter (has l.set) (take l.node-index l.group)))

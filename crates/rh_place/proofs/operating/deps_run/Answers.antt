@@ -11,4 +11,5 @@ turned a false h = ap not (sym h)
 
 pub returns : goal.returns
 unfolding deps_run missing_dep
-returns c = turned _ _ c.is_none.ensures ∙ ap is_none c.missing_dep.ensures ∙ all_pass (dep_runs (read c.args.state.now) c.args.node) (deps_of (read c.args.state.now).cluster c.args.app)
+returns c = turned _ _ c.is_none.ensures ∙ ap is_none c.missing_dep.ensures ∙ all_pass (dep_runs (read c.args.state.now) c.args.node)
+    (deps_of (read c.args.state.now).cluster c.args.app)

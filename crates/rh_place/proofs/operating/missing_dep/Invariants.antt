@@ -5,4 +5,5 @@ use Rattle.rh_place.specs.Placing.{dep_runs}
 use Rattle.rh_place.proofs.operating.missing_dep.Given as goal
 
 abbrev pub invariant-deps : goal.invariant-deps
-invariant-deps l = find (λ (d : Dep). not (dep_runs (read l.state) l.node d)) (drop l.dep-index l.deps) ≡ find (λ (d : Dep). not (dep_runs (read l.state) l.node d)) l.deps
+invariant-deps l = find (λ (d : Dep). not (dep_runs (read l.state) l.node d)) (drop l.dep-index l.deps)
+    ≡ find (λ (d : Dep). not (dep_runs (read l.state) l.node d)) l.deps

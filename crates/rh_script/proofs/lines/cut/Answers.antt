@@ -15,6 +15,7 @@ loop-line-preserved c =
     record {
       within = omega (arith, so_far.within, cut.shorter);
       place = place_farther bytes rest line after so_far.within so_far.place cut.whole;
-      cluster = cluster_farther bytes rest line after so_far.within so_far.place cut.whole (cluster_text bytes) so_far.cluster (before_goes_on rest line after cut.line other);
+      cluster = cluster_farther bytes rest line after so_far.within so_far.place cut.whole (cluster_text bytes) so_far.cluster
+          (before_goes_on rest line after cut.line other);
       script = so_far.script ∙ behind_goes_on rest line after cut.line other;
     }

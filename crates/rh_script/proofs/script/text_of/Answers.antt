@@ -11,7 +11,8 @@ not_text bs lacks = by (is_utf8 bs) (IsUtf8-from_is_utf8 bs)
     by false _ = refl
 
 pub returns-in-Ok : goal.returns-in-Ok
-returns-in-Ok c = ap Some c.in-Ok.ensures.cases.0 ∙ ap (λ b. cond b (Some c.args.line.now) None) (sym (is_utf8-from_IsUtf8 c.args.line.now c.in-Ok.ensures.cases.1))
+returns-in-Ok c = ap Some c.in-Ok.ensures.cases.0 ∙ ap (λ b. cond b (Some c.args.line.now) None)
+    (sym (is_utf8-from_IsUtf8 c.args.line.now c.in-Ok.ensures.cases.1))
 
 pub returns-in-Err : goal.returns-in-Err
 returns-in-Err c = ap (λ b. cond b (Some c.args.line.now) None) (sym (not_text c.args.line.now c.in-Err.ensures.cases.0))

@@ -12,11 +12,13 @@ returns-then-repeats_atom c =
     let rest = is_among (atoms (flat_map members (map tree_of (drop (c.loop-group.group-index + 1) c.args.groups.now)))) c.args.name.now in
     let here : is_among (atoms (members (tree_of c.group-item.result))) c.args.name.now ≡ true =
     ap (λ ts. is_among (atoms ts) c.args.name.now) (sym c.members.ensures) ∙ sym c.if-repeats_atom.ensures in
-    sym (sym c.loop-group.invariant ∙ is_among-drop c.args.groups.now c.loop-group.group-index c.group-item.result c.args.name.now c.loop-group-test.true c.group-item.is ∙ ap (λ b. b || rest) here)
+    sym (sym c.loop-group.invariant ∙ is_among-drop c.args.groups.now c.loop-group.group-index c.group-item.result c.args.name.now c.loop-group-test.true
+        c.group-item.is ∙ ap (λ b. b || rest) here)
 
 pub loop-group-preserved : goal.loop-group-preserved
 loop-group-preserved c =
     let rest = is_among (atoms (flat_map members (map tree_of (drop (c.loop-group.group-index + 1) c.args.groups.now)))) c.args.name.now in
     let here : is_among (atoms (members (tree_of c.group-item.result))) c.args.name.now ≡ false =
     ap (λ ts. is_among (atoms ts) c.args.name.now) (sym c.members.ensures) ∙ sym c.if-repeats_atom.ensures in
-    sym (is_among-drop c.args.groups.now c.loop-group.group-index c.group-item.result c.args.name.now c.loop-group-test.true c.group-item.is ∙ ap (λ b. b || rest) here) ∙ c.loop-group.invariant
+    sym (is_among-drop c.args.groups.now c.loop-group.group-index c.group-item.result c.args.name.now c.loop-group-test.true c.group-item.is
+        ∙ ap (λ b. b || rest) here) ∙ c.loop-group.invariant

@@ -6,8 +6,10 @@ use Rattle.rh_sections.proofs.kernel.check_permissions.Goals as goal
 pub returns-in_err-check_permission : goal.returns-in_err-check_permission
 returns-in_err-check_permission c =
     let p = err_from_is_err_and c.from_residual.result c.from_residual.ensures.1 in
-    rw (p.1, p.2) (λ n. list_fails (permission_faults c.args.names.now) c.in-Some.terms.now c.loop-index.index c.index-terms-index.result c.loop-index-test.true c.index-terms-index.is _ c.in_err-check_permission.field-0.0 c.in-Some.ensures c.loop-index.invariant (c.in_err-check_permission.ensures n))
+    rw (p.1, p.2) (λ n. list_fails (permission_faults c.args.names.now) c.in-Some.terms.now c.loop-index.index c.index-terms-index.result c.loop-index-test.true
+        c.index-terms-index.is _ c.in_err-check_permission.field-0.0 c.in-Some.ensures c.loop-index.invariant (c.in_err-check_permission.ensures n))
 
 pub loop-index-preserved : goal.loop-index-preserved
 loop-index-preserved c =
-    passes (permission_faults c.args.names.now) c.in-Some.terms.now c.loop-index.index c.index-terms-index.result c.loop-index-test.true c.index-terms-index.is c.loop-index.invariant c.in_ok-check_permission.ensures
+    passes (permission_faults c.args.names.now) c.in-Some.terms.now c.loop-index.index c.index-terms-index.result c.loop-index-test.true c.index-terms-index.is
+        c.loop-index.invariant c.in_ok-check_permission.ensures

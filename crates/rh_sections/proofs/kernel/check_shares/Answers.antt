@@ -6,8 +6,10 @@ use Rattle.rh_sections.proofs.kernel.check_shares.Goals as goal
 pub returns-in_err-check_share : goal.returns-in_err-check_share
 returns-in_err-check_share c =
     let p = err_from_is_err_and c.from_residual.result c.from_residual.ensures.1 in
-    rw (p.1, p.2) (λ n. list_fails (share_faults c.args.names.now) c.in-Some.terms.now c.loop-index.index c.index-terms-index.result c.loop-index-test.true c.index-terms-index.is _ c.in_err-check_share.field-0.0 c.in-Some.ensures c.loop-index.invariant (c.in_err-check_share.ensures n))
+    rw (p.1, p.2) (λ n. list_fails (share_faults c.args.names.now) c.in-Some.terms.now c.loop-index.index c.index-terms-index.result c.loop-index-test.true
+        c.index-terms-index.is _ c.in_err-check_share.field-0.0 c.in-Some.ensures c.loop-index.invariant (c.in_err-check_share.ensures n))
 
 pub loop-index-preserved : goal.loop-index-preserved
 loop-index-preserved c =
-    passes (share_faults c.args.names.now) c.in-Some.terms.now c.loop-index.index c.index-terms-index.result c.loop-index-test.true c.index-terms-index.is c.loop-index.invariant c.in_ok-check_share.ensures
+    passes (share_faults c.args.names.now) c.in-Some.terms.now c.loop-index.index c.index-terms-index.result c.loop-index-test.true c.index-terms-index.is
+        c.loop-index.invariant c.in_ok-check_share.ensures

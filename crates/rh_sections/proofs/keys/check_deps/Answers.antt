@@ -12,7 +12,8 @@ pub returns-in_err-check_dep : goal.returns-in_err-check_dep
 returns-in_err-check_dep c =
     let faults_of : List Tree → Tree → List ClusterFault = λ earlier t. dep_faults c.args.names.now c.args.platforms.now c.args.own.now (atoms earlier) t in
     let p = err_from_is_err_and c.from_residual.result c.from_residual.ensures.1 in
-    rw (p.1, p.2) (λ n. list_fails faults_of c.in-Some.terms.now c.loop-term.term-index c.term-item.result c.loop-term-test.true c.term-item.is _ c.in_err-check_dep.field-0.0 c.in-Some.ensures c.loop-term.invariant.passed
+    rw (p.1, p.2) (λ n. list_fails faults_of c.in-Some.terms.now c.loop-term.term-index c.term-item.result c.loop-term-test.true c.term-item.is _
+        c.in_err-check_dep.field-0.0 c.in-Some.ensures c.loop-term.invariant.passed
     (rw (← c.loop-term.invariant.earlier) (c.in_err-check_dep.ensures.faults n)))
 
 pub loop-term-preserved : goal.loop-term-preserved
@@ -25,5 +26,6 @@ loop-term-preserved c =
     let here : faults_of before (tree_of c.term-item.result) ≡ [] = rw (← inv.earlier) done.faults in
     record {
       passed = passes faults_of c.in-Some.terms.now c.loop-term.term-index c.term-item.result c.loop-term-test.true c.term-item.is inv.passed here;
-      earlier = done.earlier ∙ (λ i. inv.earlier i ++ atoms (tree_of c.term-item.result ∷ [])) ∙ sym (ap atoms more ∙ filter_map-append as_atom before (tree_of c.term-item.result ∷ []));
+      earlier = done.earlier ∙ (λ i. inv.earlier i ++ atoms (tree_of c.term-item.result ∷ []))
+          ∙ sym (ap atoms more ∙ filter_map-append as_atom before (tree_of c.term-item.result ∷ []));
     }

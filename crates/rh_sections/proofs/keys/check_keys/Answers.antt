@@ -7,8 +7,11 @@ use Rattle.rh_sections.proofs.keys.check_keys.Goals as goal
 pub returns-in_err-check_key : goal.returns-in_err-check_key
 returns-in_err-check_key c =
     let p = err_from_is_err_and c.from_residual.result c.from_residual.ensures.1 in
-    rw (p.1, p.2) (λ n. list_fails (entry_faults (is_among app_keys) (key_faults c.args.names.now c.args.platforms.now c.args.own.now)) c.in-Some.terms.now c.loop-index.index c.index-terms-index.result c.loop-index-test.true c.index-terms-index.is _ c.in_err-check_key.field-0.0 c.in-Some.ensures c.loop-index.invariant (c.in_err-check_key.ensures n))
+    rw (p.1, p.2) (λ n. list_fails (entry_faults (is_among app_keys) (key_faults c.args.names.now c.args.platforms.now c.args.own.now)) c.in-Some.terms.now
+        c.loop-index.index c.index-terms-index.result c.loop-index-test.true c.index-terms-index.is _ c.in_err-check_key.field-0.0 c.in-Some.ensures
+        c.loop-index.invariant (c.in_err-check_key.ensures n))
 
 pub loop-index-preserved : goal.loop-index-preserved
 loop-index-preserved c =
-    passes (entry_faults (is_among app_keys) (key_faults c.args.names.now c.args.platforms.now c.args.own.now)) c.in-Some.terms.now c.loop-index.index c.index-terms-index.result c.loop-index-test.true c.index-terms-index.is c.loop-index.invariant c.in_ok-check_key.ensures
+    passes (entry_faults (is_among app_keys) (key_faults c.args.names.now c.args.platforms.now c.args.own.now)) c.in-Some.terms.now c.loop-index.index
+        c.index-terms-index.result c.loop-index-test.true c.index-terms-index.is c.loop-index.invariant c.in_ok-check_key.ensures

@@ -7,8 +7,11 @@ use Rattle.rh_sections.proofs.rehearse.check_rehearse.Goals as goal
 pub returns-in_err-check_parameter : goal.returns-in_err-check_parameter
 returns-in_err-check_parameter c =
     let p = err_from_is_err_and c.from_residual.result c.from_residual.ensures.1 in
-    rw (p.1, p.2) (λ n. list_fails (entry_faults (is_among rehearse_keys) (rehearse_faults c.args.names.now)) c.in-Some.terms.now c.loop-index.index c.index-terms-index.result c.loop-index-test.true c.index-terms-index.is _ c.in_err-check_parameter.field-0.0 c.in-Some.ensures c.loop-index.invariant (c.in_err-check_parameter.ensures n))
+    rw (p.1, p.2) (λ n. list_fails (entry_faults (is_among rehearse_keys) (rehearse_faults c.args.names.now)) c.in-Some.terms.now c.loop-index.index
+        c.index-terms-index.result c.loop-index-test.true c.index-terms-index.is _ c.in_err-check_parameter.field-0.0 c.in-Some.ensures c.loop-index.invariant
+        (c.in_err-check_parameter.ensures n))
 
 pub loop-index-preserved : goal.loop-index-preserved
 loop-index-preserved c =
-    passes (entry_faults (is_among rehearse_keys) (rehearse_faults c.args.names.now)) c.in-Some.terms.now c.loop-index.index c.index-terms-index.result c.loop-index-test.true c.index-terms-index.is c.loop-index.invariant c.in_ok-check_parameter.ensures
+    passes (entry_faults (is_among rehearse_keys) (rehearse_faults c.args.names.now)) c.in-Some.terms.now c.loop-index.index c.index-terms-index.result
+        c.loop-index-test.true c.index-terms-index.is c.loop-index.invariant c.in_ok-check_parameter.ensures

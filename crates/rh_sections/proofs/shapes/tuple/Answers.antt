@@ -12,6 +12,8 @@ use Rattle.rh_sections.proofs.shapes.tuple.Goals as goal
 pub returns-in-Tuple : goal.returns-in-Tuple
 unfolding as_tuple
 returns-in-Tuple c =
-    let e : tree_of (term.Tuple c.in-Tuple.terms) ≡ tuple (trees_of (items_of c.in-Tuple.terms)) = ap tree_of (sym (rolls-Tuple c.in-Tuple.terms)) ∙ fold-roll-Term Tree Trees tree_step terms_step (Term-F.Tuple c.in-Tuple.terms) ∙ ap tuple (fold_out-Terms Tree Trees tree_step terms_step c.in-Tuple.terms) in
+    let e : tree_of (term.Tuple c.in-Tuple.terms) ≡ tuple (trees_of (items_of c.in-Tuple.terms)) = ap tree_of (sym (rolls-Tuple c.in-Tuple.terms))
+            ∙ fold-roll-Term Tree Trees tree_step terms_step (Term-F.Tuple c.in-Tuple.terms)
+            ∙ ap tuple (fold_out-Terms Tree Trees tree_step terms_step c.in-Tuple.terms) in
     ap (λ (xs : List Term). Some (map tree_of xs)) c.as_slice.ensures ∙ ap Some (sym (list_of_trees-trees_from _))
     ∙ sym (ap as_tuple (ap tree_of c.in-Tuple.is ∙ e))

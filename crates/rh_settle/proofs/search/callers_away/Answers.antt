@@ -19,7 +19,8 @@ and_false true false = refl
 and_false false q = refl
 
 -- no node calls an application away that isn't one of the cluster's
-beyond : (s : StateView) (marked : List Pair) (a : App) (m n : Node) → length s.modes ≡ node_count s.cluster → node_count s.cluster ≤ n.0 → calls_away s marked a m n ≡ false
+beyond : (s : StateView) (marked : List Pair) (a : App) (m n : Node) → length s.modes ≡ node_count s.cluster → node_count s.cluster ≤ n.0
+    → calls_away s marked a m n ≡ false
 unfolding calls_away
 beyond s marked a m n sized past = cases (is_operational s a n)
     (λ t. let w = operational_within s a n sized t in absurd (omega arith))
@@ -29,5 +30,7 @@ pub returns : goal.returns
 returns c = λ n. cases (nat_lt n.0 c.nodes.number)
     (λ t. c.nodes.invariant.below n (is_below n.0 c.nodes.number t))
     (λ f. let above = is_above n.0 c.nodes.number f in
-    let counted : c.node_count-number-end.result ≡ node_count (read c.args.state.now).cluster = c.node_count-number-end.ensures.count ∙ ap (λ (v : ClusterView). node_count v) c.cluster.ensures in
-    c.nodes.invariant.above n above ∙ sym (beyond (read c.args.state.now) c.args.marked.now c.args.app c.args.from n c.shape.ensures.modes (omega (arith, c.nodes-test.false))))
+    let counted : c.node_count-number-end.result ≡ node_count (read c.args.state.now).cluster = c.node_count-number-end.ensures.count
+            ∙ ap (λ (v : ClusterView). node_count v) c.cluster.ensures in
+    c.nodes.invariant.above n above ∙ sym (beyond (read c.args.state.now) c.args.marked.now c.args.app c.args.from n c.shape.ensures.modes
+        (omega (arith, c.nodes-test.false))))

@@ -13,7 +13,8 @@ use Rattle.rh_settle.specs.declared.notice.Move.TheVariants.{Local}
 use Rattle.rh_settle.specs.Moves.{can_start, local_move, local_moves}
 use Rattle.rh_settle.specs.Validity.{OnceAtEachNode}
 use Rattle.rh_settle.proofs.Searches.{none_of_none}
-use Rattle.rh_settle.proofs.ListWalks.{once_of, left_of, all_left, first_is_next, next_is_next, found_on_walk, later_on_walk, end_of_walk, shorter_walk, is_in_list}
+use Rattle.rh_settle.proofs.ListWalks.{once_of, left_of, all_left, first_is_next, next_is_next, found_on_walk, later_on_walk, end_of_walk, shorter_walk}
+use Rattle.rh_settle.proofs.ListWalks.{is_in_list}
 use Rattle.rh_settle.proofs.search.local_at.Goals as goal
 
 single : (pick : Pick) (m : Move) → Some m ≡ picked pick (m ∷ [])
@@ -80,7 +81,8 @@ waiting-preserved c =
     let behind = c.next_in_list-waiting.ensures.next ∙ behind_waiting s n a c.requires.once there in
     record {
       same = ap (λ o. first_given (local_move s n) (left_of apps o)) behind
-          ∙ later_on_walk (local_move s n) apps c.waiting.waiting c.waiting.invariant.same a (once_of apps (c.requires.once.waiting n)) there c.in-Some.is (no_move_of s n a (sym c.can_start.ensures ∙ c.if-can_start.false));
+          ∙ later_on_walk (local_move s n) apps c.waiting.waiting c.waiting.invariant.same a (once_of apps (c.requires.once.waiting n)) there c.in-Some.is
+              (no_move_of s n a (sym c.can_start.ensures ∙ c.if-can_start.false));
       next = subst (λ o. IfSome o (λ b. has_app apps b ≡ true)) (sym behind) (next_is_next apps a);
       number = c.next_in_list-waiting.ensures.number;
     }
@@ -89,4 +91,5 @@ pub returns : goal.returns
 unfolding local_moves
 returns c = λ pick.
     let s = read c.args.state.now in
-    none_of_none pick ∙ ap (picked pick) (sym (end_of_walk (local_move s c.args.node) (waiting_at s c.args.node) c.waiting.waiting c.waiting.invariant.same c.in_default.is))
+    none_of_none pick ∙ ap (picked pick) (sym (end_of_walk (local_move s c.args.node)
+        (waiting_at s c.args.node) c.waiting.waiting c.waiting.invariant.same c.in_default.is))

@@ -10,7 +10,8 @@ use Rattle.rh_settle.proofs.search.local_at.Given as goal
 
 abbrev pub invariant-waiting : goal.invariant-waiting
 invariant-waiting l = record {
-  same : first_given (local_move (read l.state) l.node) (left_of (waiting_at (read l.state) l.node) l.waiting) ≡ first_given (local_move (read l.state) l.node) (waiting_at (read l.state) l.node);
+  same : first_given (local_move (read l.state) l.node) (left_of (waiting_at (read l.state) l.node) l.waiting)
+      ≡ first_given (local_move (read l.state) l.node) (waiting_at (read l.state) l.node);
   next : IfSome l.waiting (λ a. has_app (waiting_at (read l.state) l.node) a ≡ true);
   number : IfSome l.waiting (λ a. IsAppOf (read l.state).cluster a);
 }

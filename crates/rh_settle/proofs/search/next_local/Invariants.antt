@@ -6,4 +6,5 @@ use Rattle.rh_state.specs.Stored.{read}
 use Rattle.rh_settle.proofs.search.next_local.Given as goal
 
 abbrev pub invariant-nodes : goal.invariant-nodes
-invariant-nodes l = first_given (local_moves (read l.state)) (drop l.number (nodes_of (read l.state).cluster)) ≡ first_given (local_moves (read l.state)) (nodes_of (read l.state).cluster)
+invariant-nodes l = first_given (local_moves (read l.state)) (drop l.number (nodes_of (read l.state).cluster))
+    ≡ first_given (local_moves (read l.state)) (nodes_of (read l.state).cluster)

@@ -6,4 +6,5 @@ use Rattle.rh_state.specs.Stored.{read}
 use Rattle.rh_settle.proofs.search.next_placement.Given as goal
 
 abbrev pub invariant-apps : goal.invariant-apps
-invariant-apps l = first_given (placements (read l.state)) (drop l.number (apps_of (read l.state).cluster)) ≡ first_given (placements (read l.state)) (apps_of (read l.state).cluster)
+invariant-apps l = first_given (placements (read l.state)) (drop l.number (apps_of (read l.state).cluster))
+    ≡ first_given (placements (read l.state)) (apps_of (read l.state).cluster)

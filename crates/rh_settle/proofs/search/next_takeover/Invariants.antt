@@ -6,4 +6,5 @@ use Rattle.rh_state.specs.Stored.{read}
 use Rattle.rh_settle.proofs.search.next_takeover.Given as goal
 
 abbrev pub invariant-apps : goal.invariant-apps
-invariant-apps l = first_given (takeovers (read l.state) l.marked) (drop l.number (apps_of (read l.state).cluster)) ≡ first_given (takeovers (read l.state) l.marked) (apps_of (read l.state).cluster)
+invariant-apps l = first_given (takeovers (read l.state) l.marked) (drop l.number (apps_of (read l.state).cluster))
+    ≡ first_given (takeovers (read l.state) l.marked) (apps_of (read l.state).cluster)

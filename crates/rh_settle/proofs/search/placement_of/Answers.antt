@@ -14,7 +14,8 @@ use Rattle.rh_settle.proofs.Searches.{picked_map, none_of_none}
 use Rattle.rh_state.specs.Stored.{read}
 use Rattle.rh_settle.proofs.search.placement_of.Goals as goal
 
-otherwise : (pick : Pick) (s : StateView) (a : App) (st : Standing) → ((from : Option Node) → st ≡ Wanted from → ⊥) → None ≡ picked pick (placements_from s a st)
+otherwise : (pick : Pick) (s : StateView) (a : App) (st : Standing) → ((from : Option Node) → st ≡ Wanted from → ⊥)
+    → None ≡ picked pick (placements_from s a st)
 otherwise pick s a (Wanted from) h = absurd (h from refl)
 otherwise pick s a Quiet h = none_of_none pick
 otherwise pick s a (Running _) h = none_of_none pick

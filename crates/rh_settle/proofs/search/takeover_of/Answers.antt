@@ -15,7 +15,8 @@ use Rattle.rh_settle.proofs.Searches.{picked_map, none_of_none}
 use Rattle.rh_state.specs.Stored.{read}
 use Rattle.rh_settle.proofs.search.takeover_of.Goals as goal
 
-otherwise : (pick : Pick) (s : StateView) (marked : List Pair) (a : App) (st : Standing) → ((m : Node) → st ≡ Running m → ⊥) → None ≡ picked pick (takeovers_from s marked a st)
+otherwise : (pick : Pick) (s : StateView) (marked : List Pair) (a : App) (st : Standing) → ((m : Node) → st ≡ Running m → ⊥)
+    → None ≡ picked pick (takeovers_from s marked a st)
 otherwise pick s marked a (Running m) h = absurd (h m refl)
 otherwise pick s marked a Quiet h = none_of_none pick
 otherwise pick s marked a (Wanted _) h = none_of_none pick

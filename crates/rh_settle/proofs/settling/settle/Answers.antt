@@ -11,11 +11,14 @@ pub returns-clause-allowed : goal.returns-clause-allowed
 returns-clause-allowed c =
     let o = course (read c.args.state.now) c.args.notices.now.items c.args.marked.now in
     on_ok_weaker c.tell_waiting.result
-    (λ told. subst (Settles o) (sym (told ∙ ap waits_told c.in_ok-make_moves.ensures.moved)) (settles_by_pick c.args.pick o (sized_of (read c.args.state.now) c.shape.ensures)))
+    (λ told. subst (Settles o) (sym (told ∙ ap waits_told c.in_ok-make_moves.ensures.moved))
+        (settles_by_pick c.args.pick o (sized_of (read c.args.state.now) c.shape.ensures)))
     c.tell_waiting.ensures
 
 pub returns-clause-few : goal.returns-clause-few
-returns-clause-few c = λ p run. few_moves (course (read c.args.state.now) c.args.notices.now.items c.args.marked.now) p (sized_of (read c.args.state.now) c.shape.ensures) run
+returns-clause-few c = λ p run. few_moves (course (read c.args.state.now) c.args.notices.now.items c.args.marked.now) p
+    (sized_of (read c.args.state.now) c.shape.ensures) run
 
 pub returns-in_err-make_moves-clause-few : goal.returns-in_err-make_moves-clause-few
-returns-in_err-make_moves-clause-few c = λ p run. few_moves (course (read c.args.state.now) c.args.notices.now.items c.args.marked.now) p (sized_of (read c.args.state.now) c.shape.ensures) run
+returns-in_err-make_moves-clause-few c = λ p run. few_moves (course (read c.args.state.now) c.args.notices.now.items c.args.marked.now) p
+    (sized_of (read c.args.state.now) c.shape.ensures) run

@@ -5,4 +5,5 @@ use Rattle.rh_settle.specs.Settling.{tell_waiting}
 use Rattle.rh_settle.proofs.settling.tell_waiting.Given as goal
 
 abbrev pub invariant-marked : goal.invariant-marked
-invariant-marked l = course (read l.state) l.notices.items l.marked ≡ fold tell_waiting (course (read l.state) l.fn.notices.items l.marked) (take l.pair-index l.marked)
+invariant-marked l = course (read l.state) l.notices.items l.marked ≡ fold tell_waiting (course (read l.state) l.fn.notices.items l.marked)
+    (take l.pair-index l.marked)

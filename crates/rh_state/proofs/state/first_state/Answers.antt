@@ -13,6 +13,7 @@ invariant_of-result c =
     let incarnations : c.in_ok-incarnations.incarnations.items ≡ replicate c.node_count-nodes.result 0 = search rules in
     let standings : c.in_ok-standings.standings.items ≡ replicate c.app_count-apps.result Quiet = search rules in
     record {
-      shape = rw (modes, incarnations, c.in_ok-running.ensures, c.in_ok-waiting.ensures, c.in_ok-restarts.ensures, c.in_ok-kinds.ensures, c.in_ok-allowed.ensures, standings, nodes, apps, same) (IsShaped-first c.args.cluster.now);
+      shape = rw (modes, incarnations, c.in_ok-running.ensures, c.in_ok-waiting.ensures, c.in_ok-restarts.ensures, c.in_ok-kinds.ensures,
+          c.in_ok-allowed.ensures, standings, nodes, apps, same) (IsShaped-first c.args.cluster.now);
       timers = rw same (omega (arith, nodes, apps, c.in_ok-wheel.ensures.count));
     }

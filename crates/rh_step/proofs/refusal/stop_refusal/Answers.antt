@@ -10,11 +10,13 @@ returns-in-Some c =
 
 pub returns-in-Off : goal.returns-in-Off
 returns-in-Off c =
-    ap (λ (b : Bool). cond (not b) (Some NeverStarted) None) (sym (off_unstarted (read c.args.state.now) c.args.node c.args.app (sym c.in-Off.is ∙ c.place_of.ensures)))
+    ap (λ (b : Bool). cond (not b) (Some NeverStarted) None)
+        (sym (off_unstarted (read c.args.state.now) c.args.node c.args.app (sym c.in-Off.is ∙ c.place_of.ensures)))
     ∙ stop_none (read c.args.state.now) c.args.node c.args.app c.refusal_by_hand.result c.refusal_by_hand.ensures.tests c.in_default.is
 
 pub returns-in-InRunning : goal.returns-in-InRunning
 returns-in-InRunning c =
     ap (λ (b : Bool). cond (not b) (Some NeverStarted) None)
-    (sym (on_started (read c.args.state.now) c.args.node c.args.app c.place_of.result c.place_of.ensures (λ e. elim c.in-InRunning.is [ inl f ↦ cc (sym e ∙ f) | inr f ↦ cc (sym e ∙ f) ])))
+    (sym (on_started (read c.args.state.now) c.args.node c.args.app c.place_of.result c.place_of.ensures
+        (λ e. elim c.in-InRunning.is [ inl f ↦ cc (sym e ∙ f) | inr f ↦ cc (sym e ∙ f) ])))
     ∙ stop_none (read c.args.state.now) c.args.node c.args.app c.refusal_by_hand.result c.refusal_by_hand.ensures.tests c.in_default.is

@@ -12,7 +12,8 @@ pub boot-requires-clause-node : goal.boot-requires-clause-node
 boot-requires-clause-node c = let s = read c.args.state.now in (accepted_boot s c.in-Boot.node (sym (ap (refused s) c.in-Boot.is) ∙ c.requires.accepted)).node
 
 pub boot-requires-clause-incarnation : goal.boot-requires-clause-incarnation
-boot-requires-clause-incarnation c = let s = read c.args.state.now in (accepted_boot s c.in-Boot.node (sym (ap (refused s) c.in-Boot.is) ∙ c.requires.accepted)).incarnation
+boot-requires-clause-incarnation c = let s = read c.args.state.now in
+    (accepted_boot s c.in-Boot.node (sym (ap (refused s) c.in-Boot.is) ∙ c.requires.accepted)).incarnation
 
 pub boot-requires-clause-unset : goal.boot-requires-clause-unset
 boot-requires-clause-unset c =
@@ -38,10 +39,12 @@ mark-requires-clause-off c =
     off_to_start s c.in-Start.node c.in-Start.app c.in-Start.restart (sym (ap (refused s) c.in-Start.is) ∙ c.requires.accepted)
 
 pub stop-requires-clause-node : goal.stop-requires-clause-node
-stop-requires-clause-node c = let s = read c.args.state.now in (accepted_stop s c.in-Stop.node c.in-Stop.app (sym (ap (refused s) c.in-Stop.is) ∙ c.requires.accepted)).hand.node
+stop-requires-clause-node c = let s = read c.args.state.now in
+    (accepted_stop s c.in-Stop.node c.in-Stop.app (sym (ap (refused s) c.in-Stop.is) ∙ c.requires.accepted)).hand.node
 
 pub stop-requires-clause-app : goal.stop-requires-clause-app
-stop-requires-clause-app c = let s = read c.args.state.now in (accepted_stop s c.in-Stop.node c.in-Stop.app (sym (ap (refused s) c.in-Stop.is) ∙ c.requires.accepted)).hand.app
+stop-requires-clause-app c = let s = read c.args.state.now in
+    (accepted_stop s c.in-Stop.node c.in-Stop.app (sym (ap (refused s) c.in-Stop.is) ∙ c.requires.accepted)).hand.app
 
 pub stop-requires-clause-started : goal.stop-requires-clause-started
 stop-requires-clause-started c =
@@ -74,13 +77,16 @@ take_over-requires-clause-elsewhere c =
     runs_elsewhere s c.in-Takeover.node c.in-Takeover.app c.in-Takeover.restart (sym (ap (refused s) c.in-Takeover.is) ∙ c.requires.accepted)
 
 pub exit-requires-clause-node : goal.exit-requires-clause-node
-exit-requires-clause-node c = let s = read c.args.state.now in (accepted_exit s c.in-Exit.node c.in-Exit.app c.in-Exit.normal (sym (ap (refused s) c.in-Exit.is) ∙ c.requires.accepted)).hand.node
+exit-requires-clause-node c = let s = read c.args.state.now in
+    (accepted_exit s c.in-Exit.node c.in-Exit.app c.in-Exit.normal (sym (ap (refused s) c.in-Exit.is) ∙ c.requires.accepted)).hand.node
 
 pub exit-requires-clause-app : goal.exit-requires-clause-app
-exit-requires-clause-app c = let s = read c.args.state.now in (accepted_exit s c.in-Exit.node c.in-Exit.app c.in-Exit.normal (sym (ap (refused s) c.in-Exit.is) ∙ c.requires.accepted)).hand.app
+exit-requires-clause-app c = let s = read c.args.state.now in
+    (accepted_exit s c.in-Exit.node c.in-Exit.app c.in-Exit.normal (sym (ap (refused s) c.in-Exit.is) ∙ c.requires.accepted)).hand.app
 
 pub exit-requires-clause-runs : goal.exit-requires-clause-runs
-exit-requires-clause-runs c = let s = read c.args.state.now in (accepted_exit s c.in-Exit.node c.in-Exit.app c.in-Exit.normal (sym (ap (refused s) c.in-Exit.is) ∙ c.requires.accepted)).runs
+exit-requires-clause-runs c = let s = read c.args.state.now in
+    (accepted_exit s c.in-Exit.node c.in-Exit.app c.in-Exit.normal (sym (ap (refused s) c.in-Exit.is) ∙ c.requires.accepted)).runs
 
 pub returns-in-Start : goal.returns-in-Start
 returns-in-Start c =

@@ -36,5 +36,6 @@ unfolding followed
 returns c =
     on_ok_weaker c.follow.result
     (λ made. ap outcome_of (made ∙ ap (λ (p : Course). settled c.args.pick (ready_come_up p))
-    (c.in_ok-change.ensures ∙ ap (λ (ps : List Pair). change (course (read c.args.state.now) c.args.notices.now.items ps) c.args.event.now) c.new-marked.ensures.items)))
+    (c.in_ok-change.ensures ∙ ap (λ (ps : List Pair). change (course (read c.args.state.now) c.args.notices.now.items ps) c.args.event.now)
+        c.new-marked.ensures.items)))
     c.follow.ensures

@@ -54,6 +54,7 @@ follow-requires-clause-marked c =
     let o = taken_off (course s c.args.notices.now.items []) (c.args.due, c.args.timer) in
     let is = c.set_now.ensures ∙ ap (λ (t : StateView). with_time t c.args.due) c.cancel_if_set.ensures in
     let made = c.in_ok-take_effect.ensures ∙ (λ i. effect (course (is i) c.args.notices.now.items (c.new-marked.ensures.items i)) c.args.timer) in
-    subst (λ (v : ClusterView). All (λ (p : Pair). IsNodeOf v p.node) c.take_effect.new.marked.items) (sym (ap (λ (p : Course). p.state.cluster) made ∙ effect_cluster o c.args.timer))
+    subst (λ (v : ClusterView). All (λ (p : Pair). IsNodeOf v p.node) c.take_effect.new.marked.items)
+        (sym (ap (λ (p : Course). p.state.cluster) made ∙ effect_cluster o c.args.timer))
     (subst (λ (ps : List Pair). All (λ (p : Pair). IsNodeOf s.cluster p.node) ps) (sym (ap (λ (p : Course). p.marked) made))
     (effect_marked o c.args.timer c.requires.timer (none_marked s)))

@@ -26,7 +26,8 @@ timers-preserved c =
           ∙ sym (all_fired_unmarked c.args.pick c.args.limit (fired c.args.pick o (c.in-Some.due, c.in-Some.timer)))
           ∙ sym (ap outcome_of (unrolled c.args.pick c.args.limit o (c.in-Some.due, c.in-Some.timer) c.timers.invariant.1 due))
           ∙ c.timers.invariant.0,
-      subst IsSound (sym (ap (λ (p : Outcome). p.state) c.in_ok-fire.ensures)) (sound_fired c.args.pick c.args.limit o (c.in-Some.due, c.in-Some.timer) c.timers.invariant.1 due),
+      subst IsSound (sym (ap (λ (p : Outcome). p.state) c.in_ok-fire.ensures))
+          (sound_fired c.args.pick c.args.limit o (c.in-Some.due, c.in-Some.timer) c.timers.invariant.1 due),
     )
 
 pub returns : goal.returns

@@ -8,7 +8,8 @@ use Rattle.rh_step.proofs.ticks.fire_due.Given as goal
 
 abbrev pub invariant-timers : goal.invariant-timers
 invariant-timers l =
-    (outcome_of (all_fired l.pick l.limit (course (read l.state) l.notices.items [])) ≡ outcome_of (all_fired l.pick l.limit (course (read l.fn.state) l.fn.notices.items [])))
+    (outcome_of (all_fired l.pick l.limit (course (read l.state) l.notices.items []))
+        ≡ outcome_of (all_fired l.pick l.limit (course (read l.fn.state) l.fn.notices.items [])))
     × IsSound (read l.state)
 
 abbrev pub decreases-timers : goal.decreases-timers

@@ -15,7 +15,8 @@ returns-in_err-write_entries g c =
     let final = report_text (state_of c.args.closed.now.sim.seen) in
     let p = err_from_is_err_and c.from_residual.result c.from_residual.ensures.1 in
     rw (p.1, p.2, sym c.as_slice.ensures.value, append_assoc entries (codes "final\n") final)
-    (broke_before c.in_err-write_entries.field-0.0 (held c.args.writer.now.inner) (held c.write_entries.new.writer.inner) entries (codes "final\n" ++ final) c.write_entries.new.writer.failed c.in_err-write_entries.ensures)
+    (broke_before c.in_err-write_entries.field-0.0 (held c.args.writer.now.inner) (held c.write_entries.new.writer.inner) entries
+        (codes "final\n" ++ final) c.write_entries.new.writer.failed c.in_err-write_entries.ensures)
 
 pub returns : goal.returns
 returns g c =
@@ -23,4 +24,5 @@ returns g c =
     let entries = flat_map (entry_text c.args.cluster.now) c.as_slice.result.now in
     let final = report_text (read c.state.result.now) in
     rw (sym c.as_slice.ensures.value, sym c.state.ensures.state, append_assoc entries (codes "final\n") final)
-    (broke_behind c.write_final.result (held c.args.writer.now.inner) (held c.write_entries.new.writer.inner) (held c.write_final.new.writer.inner) entries (codes "final\n" ++ final) c.write_final.new.writer.failed c.in_ok-write_entries.ensures.0 c.write_final.ensures)
+    (broke_behind c.write_final.result (held c.args.writer.now.inner) (held c.write_entries.new.writer.inner) (held c.write_final.new.writer.inner) entries
+        (codes "final\n" ++ final) c.write_final.new.writer.failed c.in_ok-write_entries.ensures.0 c.write_final.ensures)

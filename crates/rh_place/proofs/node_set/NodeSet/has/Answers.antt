@@ -9,4 +9,5 @@ returns-then-node-lt64 c = has_by_mask c.self.inside.bits c.args.node c.if-node-
 pub returns-else-node-lt64 : goal.returns-else-node-lt64
 returns-else-node-lt64 c =
     let small : c.self.inside.bits < 2 ^ 64 = omega arith in
-    is_above c.args.node.0 64 c.if-node-lt64.false ∙ sym (has_none_above (record { bits = c.self.inside.bits }) c.args.node small c.if-node-lt64.false) ∙ ap (λ s. has s c.args.node) c.self.view_is
+    is_above c.args.node.0 64 c.if-node-lt64.false ∙ sym (has_none_above (record { bits = c.self.inside.bits }) c.args.node small c.if-node-lt64.false)
+        ∙ ap (λ s. has s c.args.node) c.self.view_is

@@ -9,7 +9,8 @@ pub returns-in-Some-clause-first : goal.returns-in-Some-clause-first
 unfolding read
 returns-in-Some-clause-first c =
     let numbered : c.timer_of.result ≡ timer_numbered c.self.inside.cluster c.in-Some.number = rw (← c.self.view_is) at c.timer_of.ensures.timer in
-    rw (← c.self.view_is, first_numbered c.self.inside.cluster c.self.inside.wheel, numbered) (ap (option_map (meant c.self.inside.cluster)) c.in-Some.ensures.first)
+    rw (← c.self.view_is, first_numbered c.self.inside.cluster c.self.inside.wheel, numbered)
+        (ap (option_map (meant c.self.inside.cluster)) c.in-Some.ensures.first)
 
 pub returns-in-None-clause-first : goal.returns-in-None-clause-first
 unfolding read

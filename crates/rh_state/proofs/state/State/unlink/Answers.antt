@@ -19,9 +19,11 @@ pub invariant_of-self : goal.invariant_of-self
 invariant_of-self c =
     let P = IsAppOf c.self.inside.cluster in
     let run : All P c.remove.new.self =
-    rw c.remove.ensures (All-filter (λ (b : App). not (same_app c.args.app b)) P _ (All-row P _ _ _ (within c) c.index_mut.ensures.value c.self.invariant.shape.running_apps)) in
+    rw c.remove.ensures (All-filter (λ (b : App). not (same_app c.args.app b)) P _
+        (All-row P _ _ _ (within c) c.index_mut.ensures.value c.self.invariant.shape.running_apps)) in
     let wait : All P c.remove-2.new.self =
-    rw c.remove-2.ensures (All-filter (λ (b : App). not (same_app c.args.app b)) P _ (All-row P _ _ _ (within_waiting c) c.index_mut-2.ensures.value c.self.invariant.shape.waiting_apps)) in
+    rw c.remove-2.ensures (All-filter (λ (b : App). not (same_app c.args.app b)) P _
+        (All-row P _ _ _ (within_waiting c) c.index_mut-2.ensures.value c.self.invariant.shape.waiting_apps)) in
     record {
       shape = IsShaped-waiting _ _ _ (IsShaped-running _ _ _ c.self.invariant.shape run) wait;
       timers = c.self.invariant.timers;

@@ -11,7 +11,8 @@ use Rattle.rh_wheel.proofs.wheel.Wheel.due_of.Goals as goal
 due : (c : goal.After-map) → c.map.result ≡ due_in c.args.timer (listed c.args.self.now)
 unfolding listed
 due c =
-    let found = find_from_yields_List (λ x. x.1 == c.args.timer) _ _ c.find.result c.find.ensures.ran (YieldsList-from_slice c.self.inside.entries.items (search rules)) (λ x b q k. search (rules, tests)) in
+    let found = find_from_yields_List (λ x. x.1 == c.args.timer) _ _ c.find.result c.find.ensures.ran
+            (YieldsList-from_slice c.self.inside.entries.items (search rules)) (λ x b q k. search (rules, tests)) in
     let mapped : c.map.result ≡ option_map (λ x. x.0) (option_map (λ x. x.now) c.find.result) = grind (arith, common_steps) in
     rw (← c.self.view_is) (mapped ∙ ap (option_map (λ x. x.0)) found)
 
@@ -23,4 +24,5 @@ returns-clause-entry c = rw (due c) (Contains-due_in c.args.timer (listed c.args
 
 pub returns-clause-numbered : goal.returns-clause-numbered
 unfolding listed timer_count
-returns-clause-numbered c h = rw (← c.self.view_is) (numbered_from_armed _ c.args.timer c.self.inside.entries.items c.self.invariant.order.numbered (rw (due c, ← c.self.view_is) at h))
+returns-clause-numbered c h = rw (← c.self.view_is)
+    (numbered_from_armed _ c.args.timer c.self.inside.entries.items c.self.invariant.order.numbered (rw (due c, ← c.self.view_is) at h))
