@@ -11,6 +11,8 @@ import subprocess
 import sys
 import time
 
+from support import chain
+
 MIB = 1_048_576
 FRONT, BACK = b"{node, a@x, [{skipped, [", b"]}]}."
 
@@ -26,15 +28,6 @@ SHAPES = {
     "one long quoted atom": lambda size: filled(FRONT + b"'", b"q", b"'" + BACK, size),
     "nested lists": lambda size: filled(FRONT, b"[" * 60 + b"]" * 60 + b",", b"[]" + BACK, size),
 }
-
-
-def chain():
-    """One node that boots 64 applications, of which each needs the next one."""
-    names = [b"a%d" % number for number in range(64)]
-    boot = b", ".join(b"{%s, permanent}" % name for name in names)
-    needs = [b"[%s]" % name for name in names[1:]] + [b"[]"]
-    apps = b" ".join(b"{application, %s, [{applications, %s}]}." % pair for pair in zip(names, needs))
-    return b"{node, z, [{rehearse, [{boot, [%s]}]}]}. %s\n===\n" % (boot, apps)
 
 
 def large():
@@ -92,7 +85,7 @@ def main():
             print(f"{name:22} {size:3} MiB  {seconds:7.3f} s  peak so far {peak():7.1f} MiB")
     nodes, text = large()
     for name, script in {
-        "one step: 64 applications in a chain": chain() + b"boot z\n",
+        "one step: 64 applications in a chain": chain(64)[1] + b"boot z\n",
         "2,000 steps: 32 nodes, 64 applications": text + steps(nodes, 2_000),
         "200 times show of that cluster": text + steps(nodes, 32) + b"show\n" * 200,
     }.items():

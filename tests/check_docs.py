@@ -18,11 +18,12 @@ import shlex
 import subprocess
 import sys
 
-TOP = os.path.dirname(os.path.dirname(os.path.abspath(__file__)))
+from support import LONGEST_RUN, TOP, finish, run
+
 ANSWERS = "docs/ANSWERS.md"
 # The definitions of what the program prints.
 PRINTED = ["rh_trail/specs/Report", "rh_script/specs/Answers", "rh_app/specs/CheckText", "rh_app/specs/Histories",
-           "rh_step/specs/Refusals", "rh_sections/specs/FaultWords", "rh_terms/specs/FaultWords"]
+           "rh_events/specs/Refusals", "rh_sections/specs/FaultTexts", "rh_terms/specs/FaultTexts"]
 HELPS = [["--help"], ["run", "--help"], ["check", "--help"], ["sessions", "--help"]]
 
 
@@ -114,7 +115,7 @@ def commands(lines):
 def shell(program, command):
     """Runs a command as an operator would who stands at the top of the repository."""
     line = command.replace("./rehearse", shlex.quote(os.path.abspath(program)))
-    return subprocess.run(["bash", "-c", line], cwd=TOP, stdin=subprocess.DEVNULL, capture_output=True, timeout=300)
+    return subprocess.run(["bash", "-c", line], cwd=TOP, stdin=subprocess.DEVNULL, capture_output=True, timeout=LONGEST_RUN)
 
 
 def shown_fault(done, lines):
@@ -138,14 +139,14 @@ def shown_examples(program):
                     yield f"{name}: {command.splitlines()[0]}", shown_fault(shell(program, command), owed)
             elif language == "erlang":
                 text = "\n".join(lines).encode()
-                done = subprocess.run([program, "check"], input=text, capture_output=True, timeout=300)
+                done = run(program, ["check"], input=text)
                 yield f"{name}: a cluster file", None if done.returncode == 0 else f"{done.stdout}{done.stderr}"
 
 
 def help_examples(program):
     """Each command in a help text runs when it is pasted, and no line is longer than a terminal's."""
     for words in HELPS:
-        text = subprocess.run([program] + words, stdin=subprocess.DEVNULL, capture_output=True, timeout=300).stderr.decode()
+        text = run(program, words).stderr.decode()
         # The line of an option with its values is put together by clap.
         long = [line for line in text.splitlines() if len(line) > 80 and "[default:" not in line]
         yield f"{' '.join(words)}: width", f"more than 80 columns: {long}" if long else None
@@ -184,7 +185,7 @@ def answers_told(program):
 def help_links(program):
     """Each file that a help text names is there."""
     for words in HELPS:
-        text = subprocess.run([program] + words, stdin=subprocess.DEVNULL, capture_output=True, timeout=300).stderr.decode()
+        text = run(program, words).stderr.decode()
         names = re.findall(r"(?:docs|examples|tests)/[\w./-]*\w", text)
         missing = [name for name in names if not os.path.exists(os.path.join(TOP, name))]
         yield f"{' '.join(words)}: files", f"there is no {missing}" if missing else None
@@ -215,7 +216,7 @@ def constructs_refused(program):
         wrong = []
         for example in re.findall(r"`([^`]+)`", examples):
             text = "{node, a, [%s]}." % (place % example.replace("\\|", "|"))
-            done = subprocess.run([program, "check"], input=text.encode(), capture_output=True, timeout=300)
+            done = run(program, ["check"], input=text.encode())
             if code.split()[0].encode() not in done.stdout.split():
                 wrong.append(f"{example}: {done.stdout}")
         yield f"refused: {name}", "; ".join(wrong) or None
@@ -224,7 +225,7 @@ def constructs_refused(program):
 def help_files(program):
     """What ./rehearse shows before the program is built is what the program says."""
     for name, words in [("rehearse", ["--help"]), ("version", ["--version"])] + [(w[0], w) for w in HELPS[1:]]:
-        done = subprocess.run([program] + words, stdin=subprocess.DEVNULL, capture_output=True, timeout=300)
+        done = run(program, words)
         is_same = done.stderr.decode() == text_of(f"docs/help/{name}.txt")
         yield f"docs/help/{name}.txt", None if is_same else f"it isn't what the program says to {' '.join(words)}"
 
@@ -235,15 +236,7 @@ TESTS = (links, answers_told, definitions_named, constructs_refused, shown_examp
 def main():
     if len(sys.argv) != 2:
         sys.exit(__doc__)
-    passed = failed = 0
-    for tests in TESTS:
-        for name, wrong in tests(os.path.abspath(sys.argv[1])):
-            passed += wrong is None
-            failed += wrong is not None
-            if wrong is not None:
-                print(f"FAILED {name}: {wrong}")
-    print(f"{passed} passed, {failed} failed")
-    sys.exit(1 if failed else 0)
+    finish(TESTS, os.path.abspath(sys.argv[1]))
 
 
 if __name__ == "__main__":

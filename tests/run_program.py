@@ -1,77 +1,83 @@
 #!/usr/bin/env python3
-"""Tests the built program: run_program.py PROGRAM
+"""Tests the built program: run_program.py PROGRAM [ROW..]
 
-The worked rows are the files NAME.in (standard input), NAME.args (the words of the command line), NAME.out (the
-standard output that is owed) and NAME.status (the exit status) of the folders in tests/rows. Each example of the
-repository has its NAME.args, NAME.out and NAME.status in tests/examples. Then come inputs that are too large for
-files, devices and memory that fail, and the documents (check_docs.py). The last line is 'N passed, M failed'.
+The worked rows are the files GROUP/NAME.row in tests/rows (row_files.py says what stands in one). Each example of the
+repository, examples/NAME.txt, has its row tests/examples/NAME.row, without an input: that is the example. A file in these
+folders that is no such row is a failed test. Then come inputs that are too large for a file, which are made here, devices
+and memory that fail, texts that are no terms (term_faults.py) and the documents (check_docs.py). The last line is
+'N passed, M failed'. Where paths of rows are given, these alone are run.
 """
-import difflib
 import os
+import re
 import subprocess
 import sys
 import tempfile
 
 import check_docs
+from row_files import RowFault, read_row
+from support import TOP, chain, fault_of, files_below, finish, read, run
 from term_faults import term_faults
 
-HERE = os.path.dirname(os.path.abspath(__file__))
-TOP = os.path.dirname(HERE)
+ROWS = os.path.join(TOP, "tests", "rows")
+EXAMPLES = os.path.join(TOP, "examples")
+EXAMPLE_ROWS = os.path.join(TOP, "tests", "examples")
+# Chance decides how its sessions take turns, so it has no row.
+BY_CHANCE = os.path.join(EXAMPLES, "two-operators.txt")
 TWO_NODES = b"{node, a@x, []}. {node, b@x, []}."
 INPUT_LIMIT = 16_777_216
 
 
-def read(path):
-    with open(path, "rb") as file:
-        return file.read()
+def example_row(example):
+    """The path of an example's row."""
+    return os.path.join(EXAMPLE_ROWS, os.path.splitext(os.path.relpath(example, EXAMPLES))[0] + ".row")
 
 
-def run(program, words, **options):
-    options.setdefault("stdout", subprocess.PIPE)
-    return subprocess.run([program] + words, stderr=subprocess.PIPE, timeout=300, **options)
+def row_at(path):
+    """The row of a file. The input of an example's row is the example."""
+    name = os.path.relpath(path, EXAMPLE_ROWS)
+    if name.startswith(os.pardir):
+        return read_row(path)
+    example = os.path.join(EXAMPLES, os.path.splitext(name)[0] + ".txt")
+    return read_row(path, ("output",))._replace(input=read(example))
 
 
-def difference(want, have):
-    lines = difflib.unified_diff(
-        want.decode("utf-8", "replace").splitlines(), have.decode("utf-8", "replace").splitlines(),
-        "want", "have", lineterm="")
-    return "\n".join(list(lines)[:40])
-
-
-def fault_of(done, status, out):
-    """What is wrong with a finished run, or None."""
-    if done.returncode != status:
-        return f"status {done.returncode}, want {status}"
-    if out is not None and done.stdout != out:
-        return difference(out, done.stdout)
-    if status != 1 and done.stderr:
-        return f"standard error: {done.stderr[:200]}"
-    return None
+def row_fault(program, path):
+    """What is wrong with a row, or with what the program answers to it, or None."""
+    try:
+        row = row_at(path)
+    except (RowFault, OSError) as fault:
+        return str(fault)
+    return fault_of(run(program, row.words, input=row.input), row.status, row.output)
 
 
 def rows(program):
-    folder = os.path.join(HERE, "rows")
-    for stage in sorted(os.listdir(folder)):
-        for name in sorted(f[:-3] for f in os.listdir(os.path.join(folder, stage)) if f.endswith(".in")):
-            row = os.path.join(folder, stage, name)
-            done = run(program, read(row + ".args").decode().split(), input=read(row + ".in"))
-            yield f"{stage}/{name}", fault_of(done, int(read(row + ".status")), read(row + ".out"))
+    """Each file of tests/rows is a row."""
+    paths = files_below(ROWS)
+    if not paths:
+        yield "tests/rows", "there is no row"
+    for path in paths:
+        name = os.path.relpath(path, ROWS)
+        if re.fullmatch(r"[^/]+/[^/]+\.row", name):
+            yield os.path.splitext(name)[0], row_fault(program, path)
+        else:
+            yield f"tests/rows/{name}", "it is no row: a row is a file tests/rows/GROUP/NAME.row"
 
 
 def examples(program):
-    folder = os.path.join(TOP, "examples")
-    for path in sorted(os.path.join(where, name) for where, _, names in os.walk(folder) for name in names):
-        name = os.path.relpath(path, folder)
-        want = os.path.join(HERE, "examples", name)
-        if name == "two-operators.txt":
-            # Chance decides how its sessions take turns.
-            yield f"examples/{name}", history_fault(program, read(path))
+    """Each example but the one of chance has its row, and each file of tests/examples is a row of one."""
+    owed = set()
+    for example in files_below(EXAMPLES):
+        name = f"examples/{os.path.relpath(example, EXAMPLES)}"
+        path = example_row(example)
+        if example == BY_CHANCE:
+            yield name, history_fault(program, read(example))
             continue
-        if not os.path.exists(want + ".out"):
-            yield f"examples/{name}", "no text is owed for it in tests/examples"
-            continue
-        done = run(program, read(want + ".args").decode().split(), input=read(path))
-        yield f"examples/{name}", fault_of(done, int(read(want + ".status")), read(want + ".out"))
+        owed.add(path)
+        missing = f"it has no row {os.path.relpath(path, TOP)}"
+        yield name, row_fault(program, path) if os.path.exists(path) else missing
+    for path in files_below(EXAMPLE_ROWS):
+        if path not in owed:
+            yield os.path.relpath(path, TOP), "it is no example's row: that of examples/NAME.txt is tests/examples/NAME.row"
 
 
 def history_fault(program, source):
@@ -157,11 +163,7 @@ def large_inputs(program):
 def long_chains(program):
     """Applications that each need the next one of the list, started in the worst order: the last one starts first."""
     for count in (1, 2, 64):
-        names = [b"a%d" % number for number in range(count)]
-        boot = b", ".join(b"{%s, permanent}" % name for name in names)
-        needs = [b"[%s]" % name for name in names[1:]] + [b"[]"]
-        apps = b" ".join(b"{application, %s, [{applications, %s}]}." % pair for pair in zip(names, needs))
-        text = b"{node, z, [{rehearse, [{boot, [%s]}]}]}. %s\n===\n" % (boot, apps)
+        names, text = chain(count)
         started = b"".join(b"started %s z normal\n" % name for name in reversed(names))
         done = run(program, ["run"], input=text + b"boot z\n")
         yield f"a chain of {count} applications", fault_of(done, 0, b"ok\nup z\n" + started)
@@ -173,9 +175,9 @@ def long_chains(program):
 
 
 def failing_devices(program):
-    row = os.path.join(HERE, "rows", "bare-nodes", "two-bare-nodes")
+    row = row_at(os.path.join(ROWS, "bare-nodes", "two-bare-nodes.row"))
     with open("/dev/full", "wb") as full:
-        done = run(program, ["run"], input=read(row + ".in"), stdout=full)
+        done = run(program, row.words, input=row.input, stdout=full)
     yield "output to a full device", fault_of(done, 4, None)
     folder = os.open("/", os.O_RDONLY)
     done = run(program, ["run"], stdin=folder)
@@ -218,21 +220,21 @@ void *realloc(void *p, size_t size) {
 """
 
 
-def refusals(program, library, counted, words, source, want):
-    """Each allocation of a run refused in turn: how many there were, how many were missed, and what is wrong."""
+def refusals(program, library, counted, row):
+    """Each allocation of a row's run refused in turn: how many there were, and what is wrong, or None."""
 
     def refusing(number):
-        return run(program, words, input=source, env={
+        return run(program, row.words, input=row.input, env={
             **os.environ, "LD_PRELOAD": library, "FAIL_ALLOCATION": str(number), "COUNT_FILE": counted})
 
-    wrong = fault_of(refusing(0), 0, want)
+    wrong = fault_of(refusing(0), row.status, row.output)
     count = int.from_bytes(read(counted), sys.byteorder)
     missed = 0
     for number in range(1, count + 1):
         done = refusing(number)
         missed += done.returncode == 5
-        is_whole = done.returncode == 0 and done.stdout == want
-        is_front = done.returncode == 5 and want.startswith(done.stdout)
+        is_whole = done.returncode == row.status and done.stdout == row.output
+        is_front = done.returncode == 5 and row.output.startswith(done.stdout)
         if wrong is None and not (is_whole or is_front):
             wrong = f"allocation {number}: status {done.returncode}, {done.stdout!r}"
     # A growth that only would save room may be done without; most can't.
@@ -243,11 +245,9 @@ def refusals(program, library, counted, words, source, want):
 
 def refused_memory(program):
     """Each allocation of whole runs refused in turn: the whole text, or status 5 and a front of it."""
-    row = os.path.join(HERE, "rows", "bare-nodes", "two-bare-nodes")
-    session = os.path.join(HERE, "rows", "sessions", "one-session-all-calls")
-    cluster = os.path.join(TOP, "examples", "three-nodes.txt")
-    told = [os.path.join("examples", name) for name in (
-        "waiting-nodes.txt", "local-applications.txt", "failover-and-takeover.txt")]
+    runs = [row_at(os.path.join(TOP, "tests", name + ".row")) for name in (
+        "rows/bare-nodes/two-bare-nodes", "rows/sessions/one-session-all-calls", "examples/waiting-nodes",
+        "examples/local-applications", "examples/failover-and-takeover", "examples/three-nodes")]
     with tempfile.TemporaryDirectory() as folder:
         code, library, counted = (os.path.join(folder, name) for name in ("refusing.c", "refusing.so", "count"))
         with open(code, "w") as file:
@@ -256,30 +256,22 @@ def refused_memory(program):
         if made.returncode != 0:
             yield "refused memory", f"cc: {made.stderr.decode()[:200]}"
             return
-        for words, source, want in [
-                (["run"], read(row + ".in"), read(row + ".out")),
-                (["sessions"], read(session + ".in"), read(session + ".out")),
-                *((["run"], read(os.path.join(TOP, name)), read(os.path.join(HERE, name + ".out"))) for name in told),
-                (["check"], read(cluster), b"ok 3 nodes 1 applications\n")]:
-            count, wrong = refusals(program, library, counted, words, source, want)
-            yield f"{words[0]}: each of {count} allocations refused in turn", wrong
+        for row in runs:
+            count, wrong = refusals(program, library, counted, row)
+            yield f"{row.words[0]}: each of {count} allocations refused in turn", wrong
 
 
 def main():
-    if len(sys.argv) != 2:
+    if len(sys.argv) < 2:
         sys.exit(__doc__)
-    program = os.path.abspath(sys.argv[1])
-    passed = failed = 0
-    for tests in (rows, examples, term_faults, command_lines, large_inputs, long_chains, several_sessions, failing_devices,
-                  refused_memory, *check_docs.TESTS):
-        for name, wrong in tests(program):
-            if wrong is None:
-                passed += 1
-            else:
-                failed += 1
-                print(f"FAILED {name}: {wrong}")
-    print(f"{passed} passed, {failed} failed")
-    sys.exit(1 if failed else 0)
+
+    def named_rows(program):
+        for path in sys.argv[2:]:
+            yield path, row_fault(program, path)
+
+    all_groups = (rows, examples, term_faults, command_lines, large_inputs, long_chains, several_sessions, failing_devices,
+                  refused_memory, *check_docs.TESTS)
+    finish((named_rows,) if sys.argv[2:] else all_groups, os.path.abspath(sys.argv[1]))
 
 
 main()

@@ -1,6 +1,6 @@
 """Texts that are no terms, or are only just, and what `check` answers for each: term_faults(program) gives pairs of a name and of
 what is wrong, or None. A text that is read but holds no node is C10 (no shape of a cluster file) or C2 (no term at all)."""
-import subprocess
+from support import fault_of, run
 
 READ, NOTHING = "C10 bad_value", "C2 no_nodes"
 INT_RANGE, TOO_DEEP, NOT_UTF8 = "C1 T5 int_range", "C1 T4 too_deep", "C1 T3 not_utf8"
@@ -43,8 +43,5 @@ TEXTS = [
 
 def term_faults(program):
     for text, want in [(text.encode(), want) for text, want in TEXTS] + [(b"\xff", NOT_UTF8), (b"$\xff", NOT_UTF8)]:
-        done = subprocess.run([program, "check"], input=text, capture_output=True, timeout=300)
-        have = done.stdout.decode().strip()
-        wanted = f"cluster refused {want}"
-        is_so = have == wanted and done.returncode == 2 and not done.stderr
-        yield f"check of {text[:40]!r}", None if is_so else f"{have}, want {wanted}"
+        done = run(program, ["check"], input=text)
+        yield f"check of {text[:40]!r}", fault_of(done, 2, f"cluster refused {want}\n".encode())

@@ -202,7 +202,8 @@ pub fn asked_of(alloc: Global, words: &[String]) -> Asked {
 
 /// A command line with a word that isn't UTF-8 is refused, in the form of `clap`'s other refusals.
 pub fn not_utf8(alloc: Global) -> Asked {
-    match not_utf8_error(alloc) {
+    let text = "a word of the command line isn't UTF-8";
+    match refusal(alloc, ErrorKind::InvalidValue, text) {
         Ok(error) => refused_by(error),
         Err(error) => refused_by(error),
     }
@@ -217,25 +218,29 @@ fn refused_by(error: Error) -> Asked {
     }
 }
 
-// The error for a word that isn't UTF-8.
-fn not_utf8_error(alloc: Global) -> Result<Error, Error> {
+// An error of this kind and with this text, in the form of `clap`'s own.
+fn refusal(alloc: Global, kind: ErrorKind, text: &str) -> Result<Error, Error> {
     let mut command = whole_command(alloc)?;
-    let error = command.error(
-        ErrorKind::InvalidValue,
-        "a word of the command line isn't UTF-8",
-    )?;
+    let error = command.error(kind, text)?;
     Ok(error)
 }
 
-// The program that the words name.
+// The program that the words name. A subcommand without a program is an error.
 fn program_of(alloc: Global, words: &[String]) -> Result<Program, Error> {
     let command = whole_command(alloc)?;
     let matches = command.try_get_matches_from(words)?;
     match matches.subcommand() {
+        Some(("run", matches)) => Ok(Program::Run(pick_of(matches.get_str("pick")))),
         Some(("check", _)) => Ok(Program::Check),
         Some(("sessions", matches)) => Ok(Program::Sessions(pick_of(matches.get_str("pick")))),
-        Some((_, matches)) => Ok(Program::Run(pick_of(matches.get_str("pick")))),
-        None => Ok(Program::Run(Pick::First)),
+        _ => {
+            let error = refusal(
+                alloc,
+                ErrorKind::InvalidSubcommand,
+                "no program has this name",
+            )?;
+            Err(error)
+        }
     }
 }
 

@@ -5,7 +5,7 @@ use Rattle.std.proofs.lemmas.Bool.Decides.{nat_tests}
 use Rattle.std.proofs.lemmas.List.Elements.{All-head, All-tail, All-weaker, All-map}
 use Rattle.rh_trail.specs.SimView.{SimView}
 use Rattle.rh_room.specs.declared.pass.Entry.{Entry}
-use Rattle.rh_room.specs.Legal.{IsRoom, IsSession}
+use Rattle.rh_room.specs.Legal.{IsRoom, IsSession, session_limit}
 use Rattle.rh_script.specs.declared.session_lines.Command.{Command}
 use Rattle.rh_app.specs.Histories.{asked, by_session}
 
@@ -17,35 +17,35 @@ none_of : (session : ℕ) (commands : List Command) → All (λ (x : Command). (
 none_of session [] others = refl
 none_of session (x ∷ xs) others =
     cond-false (x.session == session) (x ∷ by_session session xs) (by_session session xs)
-        (All-head (λ (y : Command). (y.session == session) ≡ false) x xs others)
+    (All-head (λ (y : Command). (y.session == session) ≡ false) x xs others)
     ∙ none_of session xs (All-tail (λ (y : Command). (y.session == session) ≡ false) x xs others)
 
 abbrev Same : List Command → List Entry → ℕ → Type 0
 Same commands log session = by_session session (map asked log) ≡ by_session session commands
 
 -- none is of a session that there isn't
-module _ (commands : List Command) (log : List Entry) (numbered : All (λ (x : Command). IsSession 8 x.session) commands)
-    (known : All (λ (e : Entry). IsSession 8 e.session) log) where
-  elsewhere : (session : ℕ) → ((other : ℕ) → IsSession 8 other → (other == session) ≡ false) → Same commands log session
+module _ (commands : List Command) (log : List Entry)
+    (numbered : All (λ (x : Command). IsSession session_limit x.session) commands) (known : All (λ (e : Entry). IsSession session_limit e.session) log) where
+  elsewhere : (session : ℕ) → ((other : ℕ) → IsSession session_limit other → (other == session) ≡ false) → Same commands log session
   elsewhere session apart =
-      none_of session (map asked log) (All-map (λ (x : Command). (x.session == session) ≡ false) asked log
-      (All-weaker (λ (e : Entry). IsSession 8 e.session) (λ (e : Entry). ((asked e).session == session) ≡ false) (λ e is. apart e.session is) log known))
-      ∙ sym (none_of session commands (All-weaker (λ (x : Command). IsSession 8 x.session) (λ (x : Command). (x.session == session) ≡ false)
-          (λ x is. apart x.session is) commands numbered))
+      let other : Command → Type 0 = λ x. (x.session == session) ≡ false in
+      let not_logged = All-weaker (λ (e : Entry). IsSession session_limit e.session) (λ (e : Entry). other (asked e)) (λ e is. apart e.session is) log known in
+      let not_asked = All-weaker (λ (x : Command). IsSession session_limit x.session) other (λ x is. apart x.session is) commands numbered in
+      none_of session (map asked log) (All-map other asked log not_logged) ∙ sym (none_of session commands not_asked)
 
-  -- so it is enough to look at the sessions 1 to 8
-  pub everywhere : (last : ℕ) → 8 ≤ last → ((session : ℕ) → 1 ≤ session → session ≤ last → Same commands log session) → (session : ℕ)
-      → Same commands log session
+  -- so it is enough to look at the sessions that a room can have
+  pub everywhere : (last : ℕ) → session_limit ≤ last → ((session : ℕ) → 1 ≤ session → session ≤ last → Same commands log session)
+      → (session : ℕ) → Same commands log session
   everywhere last all each session = elim (cases_lt 0 session) [
-    | inl some ↦ elim (cases_lt 8 session) [
+    | inl some ↦ elim (cases_lt session_limit session) [
       | inl above ↦ elsewhere session (λ other is. let high = is.1 in grind (arith, nat_tests, above, high))
       | inr below ↦ each session (omega (arith, some)) (omega (arith, below, all))
     ]
     | inr none ↦ elsewhere session (λ other is. let low = is.0 in grind (arith, nat_tests, none, low))
   ]
 
--- a room has at most 8 sessions
-pub known_of : (sim : SimView) (sessions : ℕ) (log : List Entry) → IsRoom sim sessions log → All (λ (e : Entry). IsSession 8 e.session) log
+-- and of those are the sessions of a room
+pub known_of : (sim : SimView) (sessions : ℕ) (log : List Entry) → IsRoom sim sessions log → All (λ (e : Entry). IsSession session_limit e.session) log
 known_of sim sessions log room =
-    All-weaker (λ (e : Entry). IsSession sessions e.session) (λ (e : Entry). IsSession 8 e.session)
-        (λ e is. let few = room.few.1 in (is.0, omega (arith, is.1, few))) log room.known
+    All-weaker (λ (e : Entry). IsSession sessions e.session) (λ (e : Entry). IsSession session_limit e.session)
+    (λ e is. let few = room.few.1 in (is.0, omega (arith, is.1, few))) log room.known

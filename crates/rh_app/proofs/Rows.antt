@@ -4,6 +4,7 @@ use Rattle.std.specs.Fmt.{digits}
 use Rattle.std.specs.Str.{is_utf8, chars}
 use lib.Utf8.{encode}
 use Rattle.rh_model.specs.ClusterView.{ClusterView}
+use Rattle.rh_state.specs.Limits.{time_limit, incarnation_limit}
 use Rattle.rh_state.specs.Numbers.{nodes_of, apps_of}
 use Rattle.rh_state.specs.First.{configured}
 use Rattle.rh_place.specs.declared.choosing.Pick.TheVariants.{First}
@@ -12,7 +13,7 @@ use Rattle.rh_events.specs.Readiness.{all_alive, is_ready}
 use Rattle.rh_events.specs.Marking.{mark_all}
 use Rattle.rh_events.specs.ComingUp.{come_up, come_up_if_ready, ready_come_up}
 use Rattle.rh_events.specs.Changes.{booted}
-use Rattle.rh_step.specs.Refusals.{refused}
+use Rattle.rh_events.specs.Refusals.{refused}
 use Rattle.rh_step.specs.Outcomes.{followed, next}
 use Rattle.rh_trail.specs.Runs.{step}
 use Rattle.rh_script.specs.Lines.{content, script_lines}
@@ -21,9 +22,17 @@ use Rattle.rh_script.specs.Answers.{notice_line, answer_text, bad_text}
 use Rattle.rh_app.specs.RunText.{script_text, bad_line, lines_asked}
 use Rattle.rh_app.specs.CheckText.{count_text}
 use Rattle.rh_trail.specs.Lone.{opened}
+use Rattle.rh_trail.specs.Lone.{trail_limit}
+use Rattle.rh_room.specs.Legal.{session_limit, log_limit}
+use Rattle.rh_app.specs.Devices.{input_limit}
 
 abbrev one_node : ClusterView
 one_node = record { node_names = codes "a" ∷ []; app_names = []; platform_names = []; nodes = []; apps = [] }
+
+-- the limits of a run: milliseconds, incarnations of a node, events of a trail, sessions, entries of a log, bytes of the input
+limits_row : (time_limit ≡ 1000000000000) × (incarnation_limit ≡ 9999) × (trail_limit ≡ 65535)
+    × (session_limit ≡ 8) × (log_limit ≡ 65535) × (input_limit ≡ 16777216)
+limits_row = (refl, refl, refl, refl, refl, refl)
 
 script_row : script_text one_node (opened one_node First) 1 (lines_asked one_node (script_lines (codes "===\nboot a\nundo\nflip a\nshow\n")))
     ≡ codes "ok\nup a\nok\nbad line 3\n"

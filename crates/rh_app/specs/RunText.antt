@@ -1,6 +1,7 @@
 -- What a run writes for the bytes that it reads, and how it ends (ours).
-use Rattle.std.specs.Prelude.{◌≡◌, ℕ, ◌+◌, List, [], ◌∷◌, ◌++◌, map, Bool, true, false, Option, Some, None, Result, Ok, Err}
+use Rattle.std.specs.Prelude.{◌≡◌, ℕ, ◌+◌, List, [], ◌∷◌, ◌++◌, map, Bool, false, Option, Some, None, Result, Ok, Err}
 use Rattle.std.specs.List.{flat_map}
+use Rattle.std.specs.Option.{option_map}
 use Rattle.std.specs.Io.KnownBytes.{Appends}
 use Rattle.rh_model.specs.ClusterView.{ClusterView}
 use Rattle.rh_cluster.specs.ClusterOf.{cluster_of}
@@ -11,12 +12,13 @@ use Rattle.rh_trail.specs.SimView.{SimView}
 use Rattle.rh_trail.specs.Lone.{opened, replies}
 use Rattle.rh_script.specs.declared.script.Line.{Line}
 use Rattle.rh_script.specs.declared.script.Line.TheVariants.{Nothing, Asks, Bad}
-use Rattle.rh_app.specs.declared.fault.RunFault.{RunFault}
-use Rattle.rh_app.specs.declared.fault.RunFault.TheVariants as end
+use Rattle.rh_app.specs.declared.fault.Told.{Told}
+use Rattle.rh_app.specs.declared.fault.Told.TheVariants as told
+use Rattle.rh_app.specs.declared.fault.WriteFault.{WriteFault}
 use Rattle.rh_script.specs.Lines.{cluster_text, script_lines}
 use Rattle.rh_script.specs.Commands.{line_of}
 use Rattle.rh_script.specs.Answers.{answer_text, fault_text, bad_text}
-use Rattle.rh_app.specs.Devices.{AppendsFront}
+use Rattle.rh_app.specs.Devices.{WroteFront}
 
 -- the commands up to the first bad line
 abbrev pub calls_of : List Line → List Call
@@ -32,61 +34,56 @@ bad_line k (Nothing ∷ lines) = bad_line (k + 1) lines
 bad_line k (Asks call ∷ lines) = bad_line (k + 1) lines
 bad_line k (Bad ∷ lines) = Some k
 
+-- what a script that ends at such a line is told
 abbrev pub end_text : Option ℕ → List ℕ
 end_text None = []
 end_text (Some k) = bad_text k
 
-abbrev pub script_end : Option ℕ → Option RunFault
-script_end None = None
-script_end (Some k) = Some (end.BadLine k)
+-- and the fault that it tells
+abbrev pub script_end : Option ℕ → Option Told
+script_end bad = option_map (λ k. told.BadLine k) bad
 
 -- the answers to the commands, and then the bad line
 abbrev pub script_text : ClusterView → SimView → ℕ → List Line → List ℕ
 script_text c sim k lines = flat_map (answer_text c) (replies sim (calls_of lines)) ++ end_text (bad_line k lines)
 
+-- what the lines ask
 abbrev pub lines_asked : ClusterView → List (List ℕ) → List Line
 lines_asked c lines = map (line_of c) lines
 
+-- the text for a cluster and a script, or for the fault of a text that is no cluster
 abbrev pub text_over : Pick → List (List ℕ) → Result ClusterView ClusterFault → List ℕ
 text_over pick lines (Ok c) = script_text c (opened c pick) 1 (lines_asked c lines)
 text_over pick lines (Err f) = fault_text f
 
-abbrev pub end_over : List (List ℕ) → Result ClusterView ClusterFault → Option RunFault
+-- and the fault that it tells
+abbrev pub end_over : List (List ℕ) → Result ClusterView ClusterFault → Option Told
 end_over lines (Ok c) = script_end (bad_line 1 (lines_asked c lines))
-end_over lines (Err f) = Some (end.Cluster f)
+end_over lines (Err f) = Some (told.Cluster f)
 
 -- what is written
 unfoldable pub run_text : List ℕ → Pick → List ℕ
 run_text bytes pick = text_over pick (script_lines bytes) (cluster_of (cluster_text bytes))
 
 -- and the fault at the end, if there is one
-unfoldable pub run_end : List ℕ → Option RunFault
+unfoldable pub run_end : List ℕ → Option Told
 run_end bytes = end_over (script_lines bytes) (cluster_of (cluster_text bytes))
 
--- a text was written whole, or a front of it
-abbrev pub Wrote : Result (Unit {0}) RunFault → List ℕ → Option RunFault → Option (List ℕ) → Option (List ℕ) → Bool → Type 0
-Wrote (Ok x) text fault old new failed = (fault ≡ None) × Appends old new text × (failed ≡ false)
-Wrote (Err (end.Cluster f)) text fault old new failed = (fault ≡ Some (end.Cluster f)) × Appends old new text × (failed ≡ false)
-Wrote (Err (end.BadLine k)) text fault old new failed = (fault ≡ Some (end.BadLine k)) × Appends old new text × (failed ≡ false)
-Wrote (Err end.Read) text fault old new failed = ⊥
-Wrote (Err end.Write) text fault old new failed = AppendsFront old new text × (failed ≡ true)
-Wrote (Err end.OutOfMemory) text fault old new failed = AppendsFront old new text
-Wrote (Err end.Room) text fault old new failed = ⊥
+-- ---- how it is written
 
 -- a piece was written whole, or a front of it
-abbrev pub Broke : Result (Unit {0}) RunFault → List ℕ → Option (List ℕ) → Option (List ℕ) → Bool → Type 0
+abbrev pub Broke : Result (Unit {0}) WriteFault → List ℕ → Option (List ℕ) → Option (List ℕ) → Bool → Type 0
 Broke (Ok x) text old new failed = Appends old new text × (failed ≡ false)
-Broke (Err (end.Cluster f)) text old new failed = ⊥
-Broke (Err (end.BadLine k)) text old new failed = ⊥
-Broke (Err end.Read) text old new failed = ⊥
-Broke (Err end.Write) text old new failed = AppendsFront old new text × (failed ≡ true)
-Broke (Err end.OutOfMemory) text old new failed = AppendsFront old new text
-Broke (Err end.Room) text old new failed = ⊥
+Broke (Err f) text old new failed = WroteFront f text old new failed
+
+-- a text was written whole that tells what it owes at its end, or a front of it
+abbrev pub Wrote : {T : Type 0} → Result (Option T) WriteFault → List ℕ → Option T → Option (List ℕ) → Option (List ℕ) → Bool → Type 0
+Wrote (Ok said) text owed old new failed = (owed ≡ said) × Appends old new text × (failed ≡ false)
+Wrote (Err f) text owed old new failed = WroteFront f text old new failed
 
 -- one line was answered, and the other lines are left; or the run ends there
-abbrev pub Turns : Result (Unit {0}) RunFault → ClusterView → SimView → SimView → ℕ → Line → List Line → Option (List ℕ) → Option (List ℕ) → Bool → Type 0
-Turns (Ok x) c before after k line lines old new failed =
+abbrev pub Turns : Result (Option ℕ) WriteFault → ClusterView → SimView → SimView → ℕ → Line → List Line → Option (List ℕ) → Option (List ℕ) → Bool → Type 0
+Turns (Ok None) c before after k line lines old new failed =
     (piece : List ℕ) × Appends old new piece × (script_text c before k (line ∷ lines) ≡ piece ++ script_text c after (k + 1) lines)
     × (bad_line k (line ∷ lines) ≡ bad_line (k + 1) lines) × (failed ≡ false)
-Turns (Err f) c before after k line lines old new failed =
-    Wrote (Err f) (script_text c before k (line ∷ lines)) (script_end (bad_line k (line ∷ lines))) old new failed
+Turns result c before after k line lines old new failed = Wrote result (script_text c before k (line ∷ lines)) (bad_line k (line ∷ lines)) old new failed

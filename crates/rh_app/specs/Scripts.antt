@@ -1,6 +1,6 @@
 -- The commands of a script of sessions (ours).
 use Rattle.std.specs.Prelude.{◌≡◌, List, All, None, Some}
-use Rattle.rh_room.specs.Legal.{IsSession}
+use Rattle.rh_room.specs.Legal.{IsSession, session_limit}
 use Rattle.rh_script.specs.declared.session_lines.SessionLine.{SessionLine}
 use Rattle.rh_app.specs.declared.sessions.commands.Script.{Script}
 use Rattle.rh_app.specs.declared.sessions.commands.Script.TheVariants.{Commands, BadLine}
@@ -13,5 +13,5 @@ IsScriptOf lines (BadLine k) = bad_session_line 1 0 lines ≡ Some k
 
 -- the sessions are numbered 1 to 8
 abbrev pub AreNumbered : Script → Type 0
-AreNumbered (Commands commands) = All (λ c. IsSession 8 c.session) commands.items
+AreNumbered (Commands commands) = All (λ c. IsSession session_limit c.session) commands.items
 AreNumbered (BadLine k) = Unit {0}

@@ -1,18 +1,18 @@
 //! The program `check`: the cluster file is read, and that is all.
 
-ghost use Rattle.std.specs.Prelude.{◌≡◌, false, None, IfOk, IfSome};
+ghost use Rattle.std.specs.Prelude.{◌≡◌, false, IfOk, IfSome};
 ghost use Rattle.std.specs.String.{string_bytes};
 ghost use Rattle.rh_app.specs.CheckText.{count_text, check_text, check_end};
 ghost use Rattle.rh_app.specs.Programs.{ProgramGives};
 ghost use Rattle.rh_app.specs.RunText.{Wrote, Broke};
 
 use crate::device::{read_input, write_text};
-use crate::fault::RunFault;
+use crate::fault::{RunFault, Told, WriteFault, ended};
 use crate::running::write_fault;
 use crate::watched::Watched;
+use rh_base::OutOfMemory;
 use rh_cluster::{Cluster, ClusterFault, read_cluster};
 use rh_script::cut;
-use rh_base::OutOfMemory;
 use std::alloc::Global;
 use std::io::{Read, Write};
 
@@ -37,7 +37,8 @@ pub fn run_check<R: Read, W: Write>(
         (W.contents writer.old.inner) (W.contents writer.new.inner) reader.new.failed writer.new.failed) }
 {
     let input = read_input(alloc, reader)?;
-    check_input(alloc, input.as_slice(), writer)
+    let told = check_input(alloc, input.as_slice(), writer)?;
+    ended(told)
 }
 
 // Writes what the check of an input says.
@@ -46,7 +47,7 @@ fn check_input<W: Write>(
     alloc: Global,
     input: &[u8],
     writer: &mut Watched<W>,
-) -> Result<(), RunFault>
+) -> Result<Option<Told>, WriteFault>
     requires { writer.old.failed ≡ false }
     ensures { Wrote result (check_text input.now) (check_end input.now) (W.contents writer.old.inner) (W.contents writer.new.inner) writer.new.failed }
 {
@@ -54,12 +55,15 @@ fn check_input<W: Write>(
     match read_cluster(alloc, text) {
         Err(fault) => {
             if fault.is_memory() {
-                return Err(RunFault::OutOfMemory);
+                return Err(WriteFault::OutOfMemory);
             }
             write_fault(alloc, &fault, writer)?;
-            Err(RunFault::Cluster(fault))
+            Ok(Some(Told::Cluster(fault)))
         }
-        Ok(cluster) => write_counts(alloc, &cluster, writer),
+        Ok(cluster) => {
+            write_counts(alloc, &cluster, writer)?;
+            Ok(None)
+        }
     }
 }
 
@@ -68,14 +72,12 @@ fn write_counts<W: Write>(
     alloc: Global,
     cluster: &Cluster,
     writer: &mut Watched<W>,
-) -> Result<(), RunFault>
+) -> Result<(), WriteFault>
     requires { writer.old.failed ≡ false }
-    ensures { Wrote result (count_text cluster.now) None (W.contents writer.old.inner) (W.contents writer.new.inner) writer.new.failed }
+    ensures { Broke result (count_text cluster.now) (W.contents writer.old.inner) (W.contents writer.new.inner) writer.new.failed }
 {
-    match count_text(alloc, cluster) {
-        Err(OutOfMemory) => Err(RunFault::OutOfMemory),
-        Ok(text) => write_text(writer, text.as_bytes()),
-    }
+    let text = count_text(alloc, cluster)?;
+    write_text(writer, text.as_bytes())
 }
 
 // The text that tells how many nodes and applications a cluster has.

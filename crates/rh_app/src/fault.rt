@@ -1,10 +1,15 @@
-//! Why a program ended early.
+//! Why a program ended early, and what can go wrong in each of its parts.
 
 ghost use Rattle.std.specs.Prelude.{◌≡◌};
-ghost use Rattle.rh_app.specs.declared.fault.RunFault.TheVariants as run;
+ghost use Rattle.rh_app.specs.Faults.{reading_fault, writing_fault, history_fault, sessions_fault, ended};
+ghost use Rattle.rh_app.specs.declared.fault.ReadFault.TheVariants as reading;
+ghost use Rattle.rh_app.specs.declared.fault.WriteFault.TheVariants as writing;
+ghost use Rattle.rh_app.specs.declared.fault.HistoryFault.TheVariants as history;
+ghost use Rattle.rh_app.specs.declared.fault.SessionsFault.TheVariants as sessions;
 
-use rh_cluster::ClusterFault;
 use rh_base::OutOfMemory;
+use rh_cluster::ClusterFault;
+use std::alloc::{AllocError, AllocFailed};
 use thiserror::Error;
 
 /// Why a program ended early.
@@ -30,10 +35,160 @@ pub enum RunFault {
     Room,
 }
 
-impl From<OutOfMemory> for RunFault {
-    ghost from_gives = { λ _ e. e ≡ run.OutOfMemory };
+/// The fault that a whole text tells at its end.
+#[derive(Drop)]
+pub enum Told {
+    /// The text describes no cluster.
+    Cluster(ClusterFault),
+    /// The line of this number is no command.
+    BadLine(u64),
+}
 
-    fn from(_error: OutOfMemory) -> RunFault {
-        RunFault::OutOfMemory
+/// Why an input was not read.
+#[derive(Clone, Copy)]
+pub enum ReadFault {
+    /// The reader has failed.
+    Failed,
+    /// There are more bytes than a program reads.
+    TooLong,
+    /// A growth was refused.
+    OutOfMemory,
+}
+
+/// Why a text was not written whole.
+#[derive(Clone, Copy)]
+pub enum WriteFault {
+    /// The writer has failed.
+    Failed,
+    /// A growth was refused.
+    OutOfMemory,
+}
+
+/// Why the sessions' threads gave no history.
+#[derive(Clone, Copy)]
+pub enum HistoryFault {
+    /// They made no one history of the commands.
+    Room,
+    /// A growth was refused.
+    OutOfMemory,
+}
+
+/// Why the text of sessions was not written whole.
+#[derive(Clone, Copy)]
+pub enum SessionsFault {
+    /// Their threads made no one history of the commands.
+    Room,
+    /// A text was not written whole.
+    Write(WriteFault),
+}
+
+/// How a program ends whose text was written whole.
+pub fn ended(told: Option<Told>) -> Result<(), RunFault>
+    ensures { result ≡ ended told }
+{
+    match told {
+        None => Ok(()),
+        Some(Told::Cluster(fault)) => Err(RunFault::Cluster(fault)),
+        Some(Told::BadLine(number)) => Err(RunFault::BadLine(number)),
+    }
+}
+
+impl From<ReadFault> for RunFault {
+    ghost from_gives = { λ fault e. e ≡ reading_fault fault };
+
+    fn from(fault: ReadFault) -> RunFault {
+        match fault {
+            ReadFault::Failed | ReadFault::TooLong => RunFault::Read,
+            ReadFault::OutOfMemory => RunFault::OutOfMemory,
+        }
+    }
+}
+
+impl From<WriteFault> for RunFault {
+    ghost from_gives = { λ fault e. e ≡ writing_fault fault };
+
+    fn from(fault: WriteFault) -> RunFault {
+        match fault {
+            WriteFault::Failed => RunFault::Write,
+            WriteFault::OutOfMemory => RunFault::OutOfMemory,
+        }
+    }
+}
+
+impl From<SessionsFault> for RunFault {
+    ghost from_gives = { λ fault e. e ≡ sessions_fault fault };
+
+    fn from(fault: SessionsFault) -> RunFault {
+        match fault {
+            SessionsFault::Room => RunFault::Room,
+            SessionsFault::Write(fault) => RunFault::from(fault),
+        }
+    }
+}
+
+impl From<AllocError> for ReadFault {
+    ghost from_gives = { λ _ e. e ≡ reading.OutOfMemory };
+
+    fn from(_error: AllocError) -> ReadFault {
+        ReadFault::OutOfMemory
+    }
+}
+
+impl From<OutOfMemory> for WriteFault {
+    ghost from_gives = { λ _ e. e ≡ writing.OutOfMemory };
+
+    fn from(_error: OutOfMemory) -> WriteFault {
+        WriteFault::OutOfMemory
+    }
+}
+
+impl From<OutOfMemory> for HistoryFault {
+    ghost from_gives = { λ _ e. e ≡ history.OutOfMemory };
+
+    fn from(_error: OutOfMemory) -> HistoryFault {
+        HistoryFault::OutOfMemory
+    }
+}
+
+impl From<AllocError> for HistoryFault {
+    ghost from_gives = { λ _ e. e ≡ history.OutOfMemory };
+
+    fn from(_error: AllocError) -> HistoryFault {
+        HistoryFault::OutOfMemory
+    }
+}
+
+impl<T: Drop> From<AllocFailed<T>> for HistoryFault {
+    ghost from_gives = { λ _ e. e ≡ history.OutOfMemory };
+
+    fn from(_error: AllocFailed<T>) -> HistoryFault {
+        HistoryFault::OutOfMemory
+    }
+}
+
+impl From<OutOfMemory> for SessionsFault {
+    ghost from_gives = { λ _ e. e ≡ sessions.Write writing.OutOfMemory };
+
+    fn from(error: OutOfMemory) -> SessionsFault {
+        SessionsFault::Write(WriteFault::from(error))
+    }
+}
+
+impl From<WriteFault> for SessionsFault {
+    ghost from_gives = { λ fault e. e ≡ sessions.Write fault };
+
+    fn from(fault: WriteFault) -> SessionsFault {
+        SessionsFault::Write(fault)
+    }
+}
+
+impl From<HistoryFault> for SessionsFault {
+    ghost from_gives = { λ fault e. e ≡ history_fault fault };
+
+    fn from(fault: HistoryFault) -> SessionsFault {
+        match fault {
+            HistoryFault::Room => SessionsFault::Room,
+            HistoryFault::OutOfMemory => SessionsFault::Write(WriteFault::OutOfMemory),
+        }
     }
 }

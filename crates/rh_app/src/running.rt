@@ -1,23 +1,20 @@
 //! The program `run`: commands are answered one after the other.
 
-ghost use Rattle.std.specs.Prelude.{List, ◌≡◌, ◌≢◌, ◌<◌, ◌≤◌, ◌⊎◌, length, map, true, false, None, Some, Err, OnOk, OnErr, IfOk, IfErr, IfSome};
-ghost use Rattle.std.specs.Io.KnownBytes.{Appends, Keeps};
+ghost use Rattle.std.specs.Prelude.{List, ◌≡◌, map, false, OnOk, IfSome};
 ghost use Rattle.rh_trail.specs.Lone.{opened, served};
-ghost use Rattle.rh_app.specs.Devices.{input_limit, AppendsFront};
 ghost use Rattle.rh_script.specs.Lines.{raw_lines, content};
 ghost use Rattle.rh_script.specs.declared.script.Line.{Line};
 ghost use Rattle.rh_script.specs.Commands.{line_of};
 ghost use Rattle.rh_script.specs.Answers.{answer_text, fault_text, bad_text};
-ghost use Rattle.rh_app.specs.RunText.{script_text, bad_line, script_end, lines_asked, run_text, run_end, Wrote, Broke, Turns};
+ghost use Rattle.rh_app.specs.RunText.{script_text, bad_line, lines_asked, run_text, run_end, Wrote, Broke, Turns};
 ghost use Rattle.rh_app.specs.Programs.{ProgramGives};
 
 use crate::device::{read_input, write_text};
-use crate::fault::RunFault;
+use crate::fault::{RunFault, Told, WriteFault, ended};
 use crate::watched::Watched;
 use rh_cluster::{Cluster, ClusterFault, read_cluster};
 use rh_script::{Line, answer_text, bad_text, content, cut, fault_text, line_of, split_line};
 use rh_step::Pick;
-use rh_base::OutOfMemory;
 use rh_trail::{Call, Reply, Sim};
 use std::alloc::Global;
 use std::io::{Read, Write};
@@ -44,7 +41,8 @@ pub fn run<R: Read, W: Write>(
         (W.contents writer.old.inner) (W.contents writer.new.inner) reader.new.failed writer.new.failed) }
 {
     let input = read_input(alloc, reader)?;
-    answer_input(alloc, input.as_slice(), writer, pick)
+    let told = answer_input(alloc, input.as_slice(), writer, pick)?;
+    ended(told)
 }
 
 // Writes the answers to an input.
@@ -54,7 +52,7 @@ fn answer_input<W: Write>(
     input: &[u8],
     writer: &mut Watched<W>,
     pick: Pick,
-) -> Result<(), RunFault>
+) -> Result<Option<Told>, WriteFault>
     requires { writer.old.failed ≡ false }
     ensures { Wrote result (run_text input.now pick) (run_end input.now) (W.contents writer.old.inner) (W.contents writer.new.inner) writer.new.failed }
 {
@@ -62,12 +60,15 @@ fn answer_input<W: Write>(
     match read_cluster(alloc, text) {
         Err(fault) => {
             if fault.is_memory() {
-                return Err(RunFault::OutOfMemory);
+                return Err(WriteFault::OutOfMemory);
             }
             write_fault(alloc, &fault, writer)?;
-            Err(RunFault::Cluster(fault))
+            Ok(Some(Told::Cluster(fault)))
         }
-        Ok(cluster) => answer_script(alloc, &cluster, script, writer, pick),
+        Ok(cluster) => {
+            let bad = answer_script(alloc, &cluster, script, writer, pick)?;
+            Ok(bad.map(Told::BadLine))
+        }
     }
 }
 
@@ -76,64 +77,62 @@ pub fn write_fault<W: Write>(
     alloc: Global,
     fault: &ClusterFault,
     writer: &mut Watched<W>,
-) -> Result<(), RunFault>
+) -> Result<(), WriteFault>
     requires { writer.old.failed ≡ false }
     ensures { Broke result (fault_text fault.now) (W.contents writer.old.inner) (W.contents writer.new.inner) writer.new.failed }
 {
-    match fault_text(alloc, fault) {
-        Err(OutOfMemory) => Err(RunFault::OutOfMemory),
-        Ok(text) => write_text(writer, text.as_bytes()),
-    }
+    let text = fault_text(alloc, fault)?;
+    write_text(writer, text.as_bytes())
 }
 
-// Writes the answers to a script.
+// Writes the answers to a script. The answer is the number of the bad line that ended it, if one did.
 fn answer_script<W: Write>(
     alloc: Global,
     cluster: &Cluster,
     script: &[u8],
     writer: &mut Watched<W>,
     pick: Pick,
-) -> Result<(), RunFault>
+) -> Result<Option<u64>, WriteFault>
     requires { writer.old.failed ≡ false }
     ensures { Wrote result
         (script_text cluster.now (opened cluster.now pick) 1 (lines_asked cluster.now (map content (raw_lines script.now))))
-        (script_end (bad_line 1 (lines_asked cluster.now (map content (raw_lines script.now)))))
+        (bad_line 1 (lines_asked cluster.now (map content (raw_lines script.now))))
         (W.contents writer.old.inner) (W.contents writer.new.inner) writer.new.failed }
 {
     let mut sim = Sim::open(alloc, cluster.copy(alloc)?, pick)?;
     answer_lines(alloc, cluster, &mut sim, script, writer)
 }
 
-// Writes the answers to lines, the first of which has number 1.
+// Writes the answers to lines, the first of which has number 1, up to the first bad line, and answers its number.
 fn answer_lines<W: Write>(
     alloc: Global,
     cluster: &Cluster,
     sim: &mut Sim,
     script: &[u8],
     writer: &mut Watched<W>,
-) -> Result<(), RunFault>
+) -> Result<Option<u64>, WriteFault>
     requires { writer.old.failed ≡ false }
     ensures { Wrote result
         (script_text cluster.now sim.old.seen 1 (lines_asked cluster.now (map content (raw_lines script.now))))
-        (script_end (bad_line 1 (lines_asked cluster.now (map content (raw_lines script.now)))))
+        (bad_line 1 (lines_asked cluster.now (map content (raw_lines script.now))))
         (W.contents writer.old.inner) (W.contents writer.new.inner) writer.new.failed }
 {
     let mut rest = script;
     let mut number: u64 = 1;
     'lines: while !rest.is_empty() {
         let (line, after) = split_line(rest);
-        match answer_line(alloc, cluster, sim, number, line, writer) {
-            Err(fault) => return Err(fault),
-            Ok(()) => {
+        match answer_line(alloc, cluster, sim, number, line, writer)? {
+            Some(bad) => return Ok(Some(bad)),
+            None => {
                 rest = after;
                 number += 1;
             }
         }
     }
-    Ok(())
+    Ok(None)
 }
 
-// Writes the answer to a line, if it gets one.
+// Writes the answer to a line, if it gets one. The answer is the number of a bad line.
 fn answer_line<W: Write>(
     alloc: Global,
     cluster: &Cluster,
@@ -141,31 +140,35 @@ fn answer_line<W: Write>(
     number: u64,
     line: &[u8],
     writer: &mut Watched<W>,
-) -> Result<(), RunFault>
+) -> Result<Option<u64>, WriteFault>
     requires { writer.old.failed ≡ false }
     ensures { (lines : List Line) → Turns result cluster.now sim.old.seen sim.new.seen number (line_of cluster.now (content line.now)) lines
         (W.contents writer.old.inner) (W.contents writer.new.inner) writer.new.failed }
 {
-    match line_of(alloc, cluster, content(line)) {
-        Err(OutOfMemory) => Err(RunFault::OutOfMemory),
-        Ok(Line::Nothing) => Ok(()),
-        Ok(Line::Asks(call)) => answer_call(alloc, cluster, sim, call, writer),
-        Ok(Line::Bad) => Err(answer_bad(alloc, number, writer)),
+    match line_of(alloc, cluster, content(line))? {
+        Line::Nothing => Ok(None),
+        Line::Asks(call) => {
+            answer_call(alloc, cluster, sim, call, writer)?;
+            Ok(None)
+        }
+        Line::Bad => {
+            answer_bad(alloc, number, writer)?;
+            Ok(Some(number))
+        }
     }
 }
 
 // Writes that a line is no command.
-pub fn answer_bad<W: Write>(alloc: Global, number: u64, writer: &mut Watched<W>) -> RunFault
+pub fn answer_bad<W: Write>(
+    alloc: Global,
+    number: u64,
+    writer: &mut Watched<W>,
+) -> Result<(), WriteFault>
     requires { writer.old.failed ≡ false }
-    ensures { Wrote (Err result) (bad_text number) (Some (RunFault.BadLine number)) (W.contents writer.old.inner) (W.contents writer.new.inner) writer.new.failed }
+    ensures { Broke result (bad_text number) (W.contents writer.old.inner) (W.contents writer.new.inner) writer.new.failed }
 {
-    match bad_text(alloc, number) {
-        Err(OutOfMemory) => RunFault::OutOfMemory,
-        Ok(text) => match write_text(writer, text.as_bytes()) {
-            Err(fault) => fault,
-            Ok(()) => RunFault::BadLine(number),
-        },
-    }
+    let text = bad_text(alloc, number)?;
+    write_text(writer, text.as_bytes())
 }
 
 // Gives a call to the simulation, and writes the answer.
@@ -175,15 +178,13 @@ fn answer_call<W: Write>(
     sim: &mut Sim,
     call: Call,
     writer: &mut Watched<W>,
-) -> Result<(), RunFault>
+) -> Result<(), WriteFault>
     requires { writer.old.failed ≡ false }
     ensures sim { OnOk result (sim.new.seen ≡ (served sim.old.seen call).sim) }
     ensures text { Broke result (answer_text cluster.now (served sim.old.seen call).reply) (W.contents writer.old.inner) (W.contents writer.new.inner) writer.new.failed }
 {
-    match sim.answer(alloc, call) {
-        Err(OutOfMemory) => Err(RunFault::OutOfMemory),
-        Ok(reply) => write_answer(alloc, cluster, &reply, writer),
-    }
+    let reply = sim.answer(alloc, call)?;
+    write_answer(alloc, cluster, &reply, writer)
 }
 
 // Writes the answer of a reply.
@@ -192,12 +193,10 @@ fn write_answer<W: Write>(
     cluster: &Cluster,
     reply: &Reply,
     writer: &mut Watched<W>,
-) -> Result<(), RunFault>
+) -> Result<(), WriteFault>
     requires { writer.old.failed ≡ false }
     ensures { Broke result (answer_text cluster.now reply.now) (W.contents writer.old.inner) (W.contents writer.new.inner) writer.new.failed }
 {
-    match answer_text(alloc, cluster, reply) {
-        Err(OutOfMemory) => Err(RunFault::OutOfMemory),
-        Ok(text) => write_text(writer, text.as_slice()),
-    }
+    let text = answer_text(alloc, cluster, reply)?;
+    write_text(writer, text.as_slice())
 }

@@ -6,7 +6,7 @@ ghost use Rattle.std.specs.String.{string_bytes};
 ghost use Rattle.rh_state.specs.Stored.{read};
 ghost use Rattle.rh_trail.specs.SimView.{state_of};
 ghost use Rattle.rh_trail.specs.Lone.{opened};
-ghost use Rattle.rh_room.specs.Legal.{IsSession};
+ghost use Rattle.rh_room.specs.Legal.{IsSession, session_limit};
 ghost use Rattle.rh_script.specs.Lines.{raw_lines, content};
 ghost use Rattle.rh_app.specs.Histories.{session_lines_asked, commands_of, bad_session_line, IsHistory, history_text, last_state};
 ghost use Rattle.rh_app.specs.Sessions.{ScriptMayGive, MayGive, SessionsGive, WroteOne};
@@ -16,7 +16,7 @@ mod history;
 mod threads;
 
 use crate::device::read_input;
-use crate::fault::RunFault;
+use crate::fault::{RunFault, SessionsFault, Told, WriteFault, ended};
 use crate::running::{answer_bad, write_fault};
 use crate::sessions::commands::{Script, commands_in};
 use crate::sessions::history::write_history;
@@ -25,7 +25,6 @@ use crate::watched::Watched;
 use rh_cluster::{Cluster, read_cluster};
 use rh_script::{Command, cut};
 use rh_step::Pick;
-use rh_base::OutOfMemory;
 use std::alloc::Global;
 use std::io::{Read, Write};
 use std::sync::Wait;
@@ -55,10 +54,9 @@ pub fn run_sessions<T: Threads + Wait + Sync, R: Read, W: Write>(
     ensures { IfSome (R.remaining reader.old.inner) (λ bytes. SessionsGive result bytes pick
         (W.contents writer.old.inner) (W.contents writer.new.inner) reader.new.failed writer.new.failed) }
 {
-    match read_input(alloc, reader) {
-        Err(fault) => Err(fault),
-        Ok(input) => share_input(rt, alloc, input.as_slice(), writer, pick),
-    }
+    let input = read_input(alloc, reader)?;
+    let told = share_input(rt, alloc, input.as_slice(), writer, pick)?;
+    ended(told)
 }
 
 // Writes a history of the commands of an input.
@@ -69,7 +67,7 @@ fn share_input<T: Threads + Wait + Sync, W: Write>(
     input: &[u8],
     writer: &mut Watched<W>,
     pick: Pick,
-) -> Result<(), RunFault>
+) -> Result<Option<Told>, SessionsFault>
     requires { writer.old.failed ≡ false }
     ensures { WroteOne (MayGive input.now pick) result (W.contents writer.old.inner) (W.contents writer.new.inner) writer.new.failed }
 {
@@ -77,12 +75,10 @@ fn share_input<T: Threads + Wait + Sync, W: Write>(
     match read_cluster(alloc, text) {
         Err(fault) => {
             if fault.is_memory() {
-                return Err(RunFault::OutOfMemory);
+                return Err(SessionsFault::Write(WriteFault::OutOfMemory));
             }
-            match write_fault(alloc, &fault, writer) {
-                Err(broken) => Err(broken),
-                Ok(()) => Err(RunFault::Cluster(fault)),
-            }
+            write_fault(alloc, &fault, writer)?;
+            Ok(Some(Told::Cluster(fault)))
         }
         Ok(cluster) => share_script(rt, alloc, &cluster, script, writer, pick),
     }
@@ -96,17 +92,19 @@ fn share_script<T: Threads + Wait + Sync, W: Write>(
     script: &[u8],
     writer: &mut Watched<W>,
     pick: Pick,
-) -> Result<(), RunFault>
+) -> Result<Option<Told>, SessionsFault>
     requires { writer.old.failed ≡ false }
     ensures { WroteOne (ScriptMayGive cluster.now pick
         (commands_of (session_lines_asked cluster.now (map content (raw_lines script.now))))
         (bad_session_line 1 0 (session_lines_asked cluster.now (map content (raw_lines script.now)))))
         result (W.contents writer.old.inner) (W.contents writer.new.inner) writer.new.failed }
 {
-    match commands_in(alloc, cluster, script) {
-        Err(OutOfMemory) => Err(RunFault::OutOfMemory),
-        Ok(Script::BadLine(number)) => Err(answer_bad(alloc, number, writer)),
-        Ok(Script::Commands(commands)) => {
+    match commands_in(alloc, cluster, script)? {
+        Script::BadLine(number) => {
+            answer_bad(alloc, number, writer)?;
+            Ok(Some(Told::BadLine(number)))
+        }
+        Script::Commands(commands) => {
             share_commands(rt, alloc, cluster, commands.as_slice(), writer, pick)
         }
     }
@@ -120,14 +118,13 @@ fn share_commands<T: Threads + Wait + Sync, W: Write>(
     commands: &[Command],
     writer: &mut Watched<W>,
     pick: Pick,
-) -> Result<(), RunFault>
+) -> Result<Option<Told>, SessionsFault>
     requires writer { writer.old.failed ≡ false }
-    requires sessions { All (λ c. IsSession 8 c.session) commands.now }
+    requires sessions { All (λ c. IsSession session_limit c.session) commands.now }
     ensures { WroteOne (ScriptMayGive cluster.now pick commands.now None)
         result (W.contents writer.old.inner) (W.contents writer.new.inner) writer.new.failed }
 {
-    match history_of(rt, alloc, cluster, commands, pick) {
-        Err(fault) => Err(fault),
-        Ok(closed) => write_history(alloc, cluster, &closed, writer),
-    }
+    let closed = history_of(rt, alloc, cluster, commands, pick)?;
+    write_history(alloc, cluster, &closed, writer)?;
+    Ok(None)
 }

@@ -9,12 +9,14 @@ use Rattle.rh_base.specs.Tree.{Tree, Trees, trees_from, list_of_trees, tree_step
 
 -- the tree of a list
 pub tree_of-list : (ts : Terms) → tree_of (variants.List ts) ≡ list (trees_of (items_of ts))
-tree_of-list ts = ap tree_of (sym (rolls-List ts)) ∙ fold-roll-Term Tree Trees tree_step terms_step (Term-F.List ts)
+tree_of-list ts =
+    ap tree_of (sym (rolls-List ts)) ∙ fold-roll-Term Tree Trees tree_step terms_step (Term-F.List ts)
     ∙ ap list (fold_out-Terms Tree Trees tree_step terms_step ts)
 
 -- the tree of a tuple
 pub tree_of-tuple : (ts : Terms) → tree_of (variants.Tuple ts) ≡ tuple (trees_of (items_of ts))
-tree_of-tuple ts = ap tree_of (sym (rolls-Tuple ts)) ∙ fold-roll-Term Tree Trees tree_step terms_step (Term-F.Tuple ts)
+tree_of-tuple ts =
+    ap tree_of (sym (rolls-Tuple ts)) ∙ fold-roll-Term Tree Trees tree_step terms_step (Term-F.Tuple ts)
     ∙ ap tuple (fold_out-Terms Tree Trees tree_step terms_step ts)
 
 -- a list of trees as trees, and back

@@ -11,6 +11,7 @@ pub struct OutOfMemory;
 impl From<AllocError> for OutOfMemory {
     ghost from_gives = { λ _ _. ⊤ };
 
+    // A refused growth is want of memory.
     fn from(_error: AllocError) -> OutOfMemory {
         OutOfMemory
     }
@@ -19,6 +20,7 @@ impl From<AllocError> for OutOfMemory {
 impl<T: Drop> From<AllocFailed<T>> for OutOfMemory {
     ghost from_gives = { λ _ _. ⊤ };
 
+    // So it is where a value is given back.
     fn from(_error: AllocFailed<T>) -> OutOfMemory {
         OutOfMemory
     }

@@ -1,3 +1,5 @@
+//! Terms.
+
 ghost use Rattle.std.specs.Prelude.{◌≡◌, ◌↔◌, IfOk, IsTrue};
 ghost use Rattle.rh_base.specs.Tree.{tree_of, trees_of, items_of};
 
@@ -9,10 +11,15 @@ use std::alloc::Global;
 #[derive(Drop)]
 #[cycle(term)]
 pub enum Term {
+    /// An atom, by its name.
     Atom(Str),
+    /// An integer.
     Int(i64),
+    /// A text between double quotes.
     Text(Str),
+    /// A list, by its elements.
     List(Terms),
+    /// A tuple, by its elements.
     Tuple(Terms),
 }
 

@@ -1,3 +1,5 @@
+//! Texts in UTF-8.
+
 ghost use Rattle.std.specs.Prelude.{◌≡◌, ◌↔◌, IfOk, IsTrue};
 ghost use Rattle.std.specs.Str.{IsUtf8};
 ghost use Rattle.std.specs.String.{string_bytes};
@@ -7,7 +9,7 @@ use arrayvec::ArrayString;
 use std::alloc::{AllocError, Global};
 use std::marker::Model;
 
-/// Where a text lies: in the value itself if it has at most 16 bytes, which most atoms have, or in a `String`.
+// Where a text lies: in the value itself if it has at most 16 bytes, which most atoms have, or in a `String`.
 #[derive(Debug, Drop)]
 enum Letters {
     Short(ArrayString<16>),
@@ -39,7 +41,7 @@ impl Str {
         Str { letters }
     }
 
-    /// A copy of this text.
+    // A copy of this text.
     fn from_str(alloc: Global, text: &str) -> Result<Str, AllocError>
         ensures { IfOk result (λ s. s ≡ text.now) }
     {

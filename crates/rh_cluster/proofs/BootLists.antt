@@ -14,12 +14,14 @@ use Rattle.rh_model.specs.ClusterView.{app_numbered}
 use Rattle.rh_model.specs.Names.{NamesView, is_among}
 use Rattle.rh_sections.specs.Shapes.{as_atom, as_pair, as_tuple, as_node, as_app, pair_in, ◌>>=◌}
 use Rattle.rh_sections.specs.Faults.{in_turn, list_faults}
-use Rattle.rh_sections.specs.Sections.{app_in, first_atom, atom_faults, name_faults, app_name_faults, pair_faults_by, boot_faults, as_restart, entry_faults}
-use Rattle.rh_sections.specs.Sections.{rehearse_keys, rehearse_faults, section_keys, section_faults, parts_faults, parts_faults_by, parts_pass}
+use Rattle.rh_sections.specs.Sections.{app_in, first_atom, atom_faults, name_faults, app_name_faults, pair_faults_by}
+use Rattle.rh_sections.specs.Sections.{boot_faults, as_restart, entry_faults, rehearse_keys, rehearse_faults, section_keys}
+use Rattle.rh_sections.specs.Sections.{section_faults, parts_faults, parts_faults_by, parts_stage}
 use Rattle.rh_sections.proofs.Unrepeated.{not_repeated}
 use Rattle.rh_cluster.specs.Headers.{nodes_in}
 use Rattle.rh_cluster.specs.Values.{app_named, boot_entry, elements, elements_under, rehearse_of}
-use Rattle.rh_cluster.proofs.NoFaults.{none_left, none_right, list_none, under_none, All-cons_option, each_once}
+use Rattle.rh_base.proofs.Elements.{none_left, none_right, All-cons_option}
+use Rattle.rh_cluster.proofs.NoFaults.{list_none, under_none, each_once}
 
 module _ (names : NamesView) where
   -- ---- one entry
@@ -29,8 +31,8 @@ module _ (names : NamesView) where
   new_name earlier None m none h = cc
   new_name earlier (Some s) m none h = ap (is_among earlier) (sym (same_Some s m h)) ∙ not_repeated s (is_among names.apps s) (is_among earlier s) none
 
-  new_in_tuple : (earlier : List Tree) (o : Option (List Tree)) (m : List ℕ) → pair_faults_by names (λ v. is_some (as_restart v)) earlier (o >>= pair_in) ≡ []
-      → (o >>= first_atom) ≡ Some m
+  new_in_tuple : (earlier : List Tree) (o : Option (List Tree)) (m : List ℕ)
+      → pair_faults_by names (λ v. is_some (as_restart v)) earlier (o >>= pair_in) ≡ [] → (o >>= first_atom) ≡ Some m
       → is_among (filter_map app_in earlier) m ≡ false
   unfolding app_name_faults name_faults
   new_in_tuple earlier None m none h = cc
@@ -61,8 +63,8 @@ module _ (names : NamesView) where
   by_place v None e h = cc
   by_place v (Some k) e h = by_restart k (as_restart v) e h
 
-  by_name : (v : Tree) (o : Option (List ℕ)) (e : App × Restart) →
-      ((o >>= λ name. option_map app_numbered (position (bytes_eq name) names.apps)) >>= with_restart v) ≡ Some e
+  by_name : (v : Tree) (o : Option (List ℕ)) (e : App × Restart)
+      → ((o >>= λ name. option_map app_numbered (position (bytes_eq name) names.apps)) >>= with_restart v) ≡ Some e
       → (m : List ℕ) × (o ≡ Some m) × Of m e
   by_name v None e h = cc
   by_name v (Some m) e h = (m, refl, by_place v (position (bytes_eq m) names.apps) e h)
@@ -89,10 +91,10 @@ module _ (names : NamesView) where
 
   -- ---- the list
 
-  pub entries_once : (ts : List Tree) → in_turn (boot_faults names) [] ts ≡ [] → AllPairs (λ (e later : App × Restart). e.0.0 ≢ later.0.0)
-      (filter_map (boot_entry names) ts)
-  entries_once ts none = each_once (boot_faults names) app_in new_entry (boot_entry names) Of
-      (λ (e later : App × Restart). e.0.0 ≢ later.0.0) entry_named other_app [] ts none
+  pub entries_once : (ts : List Tree) → in_turn (boot_faults names) [] ts ≡ []
+      → AllPairs (λ (e later : App × Restart). e.0.0 ≢ later.0.0) (filter_map (boot_entry names) ts)
+  entries_once ts none =
+      each_once (boot_faults names) app_in new_entry (boot_entry names) Of (λ (e later : App × Restart). e.0.0 ≢ later.0.0) entry_named other_app [] ts none
 
   -- the parts of a SysConfig are in order
   abbrev pub IsInOrder : (List ℕ × Tree) → Type 0
@@ -104,11 +106,11 @@ module _ (names : NamesView) where
   boot_none config none =
       under_none (is_among rehearse_keys) (rehearse_faults names) (boot_faults names) (codes "boot") (rehearse_of config) (λ v k. k)
       (under_none (is_among section_keys) (section_faults names) (entry_faults (is_among rehearse_keys) (rehearse_faults names)) (codes "rehearse")
-          (elements config) (λ v k. k)
+      (elements config) (λ v k. k)
       (list_none (entry_faults (is_among section_keys) (section_faults names)) config none))
 
-  pub boot_once_in : (n : List ℕ × Tree) → IsInOrder n → AllPairs (λ (e later : App × Restart). e.0.0 ≢ later.0.0)
-      (filter_map (boot_entry names) (elements_under (codes "boot") (rehearse_of n.1)))
+  pub boot_once_in : (n : List ℕ × Tree) → IsInOrder n
+      → AllPairs (λ (e later : App × Restart). e.0.0 ≢ later.0.0) (filter_map (boot_entry names) (elements_under (codes "boot") (rehearse_of n.1)))
   boot_once_in n none = entries_once (elements_under (codes "boot") (rehearse_of n.1)) (boot_none n.1 none)
 
   -- ---- each node
@@ -122,8 +124,8 @@ module _ (names : NamesView) where
   nodes_none platforms earlier [] none = All-nil IsInOrder
   nodes_none platforms earlier (t ∷ ts) none =
       All-cons_option IsInOrder (as_node t) (nodes_in ts) (λ n h. node_none platforms t n (none_left _ _ none) h)
-          (nodes_none platforms (earlier ++ t ∷ []) ts (none_right _ _ none))
+      (nodes_none platforms (earlier ++ t ∷ []) ts (none_right _ _ none))
 
-  pub in_order : (platforms : List (List ℕ)) (ts : List Tree) → parts_pass names platforms ts ≡ [] → All IsInOrder (nodes_in ts)
-  unfolding parts_pass
+  pub in_order : (platforms : List (List ℕ)) (ts : List Tree) → parts_stage names platforms ts ≡ [] → All IsInOrder (nodes_in ts)
+  unfolding parts_stage
   in_order platforms ts none = nodes_none platforms [] ts none

@@ -18,5 +18,5 @@ length-all_shares names ts = length-map (nodes_in ts) (λ (n : List ℕ × Tree)
 
 pub length-app_views : (names : NamesView) (shares : List Share) (ts : List Tree) → length (app_views names shares ts) ≡ length (names_of ts).apps
 unfolding app_views names_of app_names
-length-app_views names shares ts = length-map (apps_in ts) (λ (a : List ℕ × Tree). app_view names shares a.0 a.1)
-    ∙ sym (length-map (apps_in ts) (λ (a : List ℕ × Tree). a.0))
+length-app_views names shares ts =
+    length-map (apps_in ts) (λ (a : List ℕ × Tree). app_view names shares a.0 a.1) ∙ sym (length-map (apps_in ts) (λ (a : List ℕ × Tree). a.0))

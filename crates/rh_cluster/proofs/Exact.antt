@@ -10,7 +10,7 @@ use Rattle.rh_sections.specs.declared.fault.ClusterFault.TheVariants as fault
 use Rattle.rh_model.specs.ClusterView.{ClusterView}
 use Rattle.rh_sections.specs.Faults.{Finds, Gives, first, unless}
 use Rattle.rh_cluster.specs.ClusterOf.{faults_in, cluster_view, cluster_in, cluster_of}
-use Rattle.rh_sections.proofs.Trees.{list_of_trees-trees_from}
+use Rattle.rh_base.proofs.Trees.{list_of_trees-trees_from}
 
 unless_err : {A : Type 0} (fs : List ClusterFault) (v : A) (f : ClusterFault) → first fs ≡ Some f → unless fs v ≡ Err f
 unless_err [] v f h = cc
@@ -28,8 +28,8 @@ unfolding cluster_of
 cluster_of_terms bytes ts h = ap cluster_in h ∙ ap (λ us. unless (faults_in us) (cluster_view us)) (list_of_trees-trees_from ts)
 
 -- the text is a list of these terms
-pub read_gives : (bytes : List ℕ) (ts : List Tree) (r : Result ClusterView ClusterFault) → terms_of bytes ≡ Ok (trees_from ts) → Finds r (faults_in ts)
-    → IfOk r (λ c. c ≡ cluster_view ts)
+pub read_gives : (bytes : List ℕ) (ts : List Tree) (r : Result ClusterView ClusterFault) → terms_of bytes ≡ Ok (trees_from ts)
+    → Finds r (faults_in ts) → IfOk r (λ c. c ≡ cluster_view ts)
     → Gives (λ c. c) r (cluster_of bytes)
 read_gives bytes ts r h finds is = gives r (faults_in ts) (cluster_view ts) (cluster_of bytes) (cluster_of_terms bytes ts h) finds is
 

@@ -1,15 +1,12 @@
 -- What follows where a stage finds no fault.
-use Rattle.std.proofs.Common.{◌≡◌, ◌≢◌, ◌<◌, ◌||◌, ◌&&◌, ℕ, Bool, true, false, cond, List, [], ◌∷◌, ◌++◌, map, get_or, flat_map, Option, Some, None, unwrap_or}
-use Rattle.std.proofs.Common.{option_map, slice_get, refl, sym, ap, ◌∙◌, subst, arith}
-use Rattle.std.specs.Prelude.{All, AllPairs, zero, suc}
+use Rattle.std.proofs.Common.{◌≡◌, ◌≢◌, ◌||◌, ◌&&◌, ℕ, Bool, true, false, cond, List, [], ◌∷◌, ◌++◌, Option, Some, None}
+use Rattle.std.proofs.Common.{unwrap_or, option_map, refl, sym, ap, ◌∙◌, arith}
+use Rattle.std.specs.Prelude.{All, AllPairs}
 use Rattle.std.specs.List.{list_any, filter_map, cons_option}
-use Rattle.std.specs.Option.{option_or}
 use Rattle.std.specs.Str.{bytes_eq}
 use Rattle.std.proofs.lemmas.Slice.Eq.{bytes_eq-Decides}
-use Rattle.std.proofs.lemmas.List.Elements.{All-nil, All-cons, All-head, All-tail, filter_map-append}
+use Rattle.std.proofs.lemmas.List.Elements.{All-nil, filter_map-append}
 use Rattle.std.proofs.lemmas.List.Folds.{list_any-append}
-use Rattle.std.proofs.lemmas.List.FromFn.{length-range_with_len, get_or-range_with_len}
-use Rattle.std.proofs.lemmas.List.Kept.{AllPairs-cons}
 use Rattle.std.proofs.lemmas.Option.{cond_some}
 use Rattle.rh_base.specs.Tree.{Tree}
 use Rattle.rh_sections.specs.declared.fault.ClusterFault.{ClusterFault}
@@ -18,34 +15,15 @@ use Rattle.rh_sections.specs.Shapes.{as_list, ◌>>=◌}
 use Rattle.rh_sections.specs.Faults.{when, in_turn, in_turn_if_list, list_faults}
 use Rattle.rh_sections.specs.Sections.{has_key, entry_faults, entry_faults_by}
 use Rattle.rh_model.specs.Names.{is_among}
-use Rattle.rh_cluster.specs.Agreement.{numbers_below}
-use Rattle.rh_cluster.specs.Values.{elements, elements_if, elements_under, list_or_none, value_if, value_under}
+use Rattle.rh_cluster.specs.Values.{elements, elements_under, value_if, value_under}
+use Rattle.rh_base.proofs.Elements.{none_left, none_right, from_either, or_true, All-cons_option, AllPairs-cons_option}
 
 -- ---- parts of a list of faults
-
-pub none_left : (xs ys : List ClusterFault) → xs ++ ys ≡ [] → xs ≡ []
-none_left [] ys h = refl
-none_left (x ∷ xs) ys h = cc
-
-pub none_right : (xs ys : List ClusterFault) → xs ++ ys ≡ [] → ys ≡ []
-none_right [] ys h = h
-none_right (x ∷ xs) ys h = cc
 
 -- a test that gives no fault doesn't apply
 pub not_when : (b : Bool) (f : ClusterFault) → when b f ≡ [] → b ≡ false
 not_when true f h = cc
 not_when false f h = refl
-
-pub none_each : {A : Type 0} (f : A → List ClusterFault) (xs : List A) → flat_map f xs ≡ [] → All (λ x. f x ≡ []) xs
-none_each f [] h = All-nil (λ x. f x ≡ [])
-none_each f (x ∷ xs) h = All-cons (λ x. f x ≡ []) x xs (none_left (f x) (flat_map f xs) h) (none_each f xs (none_right (f x) (flat_map f xs) h))
-
--- of each number below a limit
-pub none_below : (f : ℕ → List ClusterFault) (m i : ℕ) → flat_map f (numbers_below m) ≡ [] → i < m → f i ≡ []
-none_below f m i h inside =
-    let long = length-range_with_len 0 m in
-    let there : get_or (numbers_below m) i 0 ≡ i = omega (arith, get_or-range_with_len 0 m i 0 inside) in
-    subst (λ k. f k ≡ []) there (none_each f (numbers_below m) h i 0 (omega arith))
 
 -- ---- lists of terms
 
@@ -54,14 +32,9 @@ pub list_none : (f : List Tree → Tree → List ClusterFault) (t : Tree) → li
 unfolding list_faults elements
 list_none f t h = by (as_list t) h
   where
-    by : (o : Option (List Tree)) → in_turn_if_list f o ≡ [] → in_turn f [] (list_or_none o) ≡ []
+    by : (o : Option (List Tree)) → in_turn_if_list f o ≡ [] → in_turn f [] (unwrap_or o []) ≡ []
     by None k = refl
     by (Some ts) k = k
-
--- from one of two options
-from_either : {P : Type 0} (o p : Option Tree) (v : Tree) → (o ≡ Some v → P) → (p ≡ Some v → P) → option_or o p ≡ Some v → P
-from_either None p v f g h = g h
-from_either (Some w) p v f g h = f h
 
 otherwise : (b : Bool) (f : ClusterFault) (fs : List ClusterFault) → cond b (f ∷ []) fs ≡ [] → fs ≡ []
 otherwise true f fs h = cc
@@ -93,35 +66,22 @@ module _ (is_read : List ℕ → Bool) (value_faults : List ℕ → Tree → Lis
   unfolding elements_under
   under_none f key ts lists none = by (value_under key ts) refl
     where
-      by : (o : Option Tree) → value_under key ts ≡ o → in_turn f [] (elements_if o) ≡ []
+      by : (o : Option Tree) → value_under key ts ≡ o → in_turn f [] (unwrap_or (option_map elements o) []) ≡ []
       by None e = refl
       by (Some v) e = list_none f v (lists v (value_none [] ts key v none e))
 
 -- ---- names that come once
 
-or_true : (b c : Bool) → c ≡ true → (b || c) ≡ true
-or_true true c h = refl
-or_true false c h = h
-
-pub All-cons_option : {Y : Type 0} (P : Y → Type 0) (o : Option Y) (ys : List Y) → ((y : Y) → o ≡ Some y → P y) → All P ys → All P (cons_option o ys)
-All-cons_option P None ys each rest = rest
-All-cons_option P (Some y) ys each rest = All-cons P y ys (each y refl) rest
-
-AllPairs-cons_option : {Y : Type 0} (R : Y → Y → Type 0) (o : Option Y) (ys : List Y) → ((y : Y) → o ≡ Some y → All (R y) ys) → AllPairs R ys
-    → AllPairs R (cons_option o ys)
-AllPairs-cons_option R None ys each rest = rest
-AllPairs-cons_option R (Some y) ys each rest = AllPairs-cons R y ys (each y refl) rest
-
 -- Terms in turn are tested so that the name of each, by key, isn't that of an earlier one. What g gives of them, each with its name, comes once.
 module _ (f : List Tree → Tree → List ClusterFault) (key : Tree → Option (List ℕ))
     (fresh : (earlier : List Tree) (t : Tree) (m : List ℕ) → f earlier t ≡ [] → key t ≡ Some m → is_among (filter_map key earlier) m ≡ false)
     {Y : Type 0} (g : Tree → Option Y) (Of : List ℕ → Y → Type 0) (R : Y → Y → Type 0)
-        (named : (t : Tree) (y : Y) → g t ≡ Some y → (m : List ℕ) × (key t ≡ Some m) × Of m y)
+    (named : (t : Tree) (y : Y) → g t ≡ Some y → (m : List ℕ) × (key t ≡ Some m) × Of m y)
     (apart : (m n : List ℕ) (x y : Y) → Of m x → Of n y → m ≢ n → R x y) where
-  among_more : (earlier : List Tree) (t : Tree) (m : List ℕ) → is_among (filter_map key (earlier ++ t ∷ [])) m
-      ≡ (is_among (filter_map key earlier) m || is_among (cons_option (key t) []) m)
-  among_more earlier t m = ap (list_any (bytes_eq m)) (filter_map-append key earlier (t ∷ []))
-      ∙ list_any-append (bytes_eq m) (filter_map key earlier) (cons_option (key t) [])
+  among_more : (earlier : List Tree) (t : Tree) (m : List ℕ)
+      → is_among (filter_map key (earlier ++ t ∷ [])) m ≡ (is_among (filter_map key earlier) m || is_among (cons_option (key t) []) m)
+  among_more earlier t m =
+      ap (list_any (bytes_eq m)) (filter_map-append key earlier (t ∷ [])) ∙ list_any-append (bytes_eq m) (filter_map key earlier) (cons_option (key t) [])
 
   still_among : (earlier : List Tree) (t : Tree) (m : List ℕ) → is_among (filter_map key earlier) m ≡ true
       → is_among (filter_map key (earlier ++ t ∷ [])) m ≡ true
@@ -151,13 +111,3 @@ module _ (f : List Tree → Tree → List ClusterFault) (key : Tree → Option (
       AllPairs-cons_option R (g t) (filter_map g ts)
       (λ x found. let n = named t x found in later_apart (earlier ++ t ∷ []) ts n.0 x n.2 (itself_among earlier t n.0 n.1) rest)
       (each_once (earlier ++ t ∷ []) ts rest)
-
--- ---- elements by number
-
--- what holds of what g makes of each element holds of what it makes of the one at a place
-pub at_place : {A B C : Type 0} (P : A → Type 0) (f : A → B) (g : B → List C) (Q : List C → Type 0) → Q [] → ((x : A) → P x → Q (g (f x))) → (xs : List A)
-    → All P xs → (i : ℕ)
-    → Q (unwrap_or (option_map g (slice_get (map f xs) i)) [])
-at_place P f g Q nothing each [] all i = nothing
-at_place P f g Q nothing each (x ∷ xs) all zero = each x (All-head P x xs all)
-at_place P f g Q nothing each (x ∷ xs) all (suc i) = at_place P f g Q nothing each xs (All-tail P x xs all) i

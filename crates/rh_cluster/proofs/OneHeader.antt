@@ -42,7 +42,8 @@ one_word : (w v : List ℕ) (parts : Tree × Tree × Tree) (first : List ℕ) (x
 one_word w v parts first x other h = by (bytes_eq first w) refl h
   where
     by : (b : Bool) → bytes_eq first w ≡ b → cond b (as_atom parts.1 >>= λ name. Some (name, parts.2)) None ≡ Some x → after_word v parts first ≡ None
-    by true e k = ap (λ (s : List ℕ). after_word v parts s) ((bytes_eq-Decides first w).0 e)
+    by true e k =
+        ap (λ (s : List ℕ). after_word v parts s) ((bytes_eq-Decides first w).0 e)
         ∙ (λ i. cond (other i) (as_atom parts.1 >>= λ name. Some (name, parts.2)) None)
     by false e k = cc
 
@@ -66,10 +67,12 @@ no_node t x h = one_word_parts (codes "application") (codes "node") (as_triple t
 
 pub node_names-append : (ts : List Tree) (t : Tree) → node_names (ts ++ t ∷ []) ≡ node_names ts ++ node_names (t ∷ [])
 unfolding node_names
-node_names-append ts t = ap (map (λ (n : List ℕ × Tree). n.0)) (filter_map-append as_node ts (t ∷ []))
+node_names-append ts t =
+    ap (map (λ (n : List ℕ × Tree). n.0)) (filter_map-append as_node ts (t ∷ []))
     ∙ map-append (λ (n : List ℕ × Tree). n.0) (filter_map as_node ts) (filter_map as_node (t ∷ []))
 
 pub app_names-append : (ts : List Tree) (t : Tree) → app_names (ts ++ t ∷ []) ≡ app_names ts ++ app_names (t ∷ [])
 unfolding app_names
-app_names-append ts t = ap (map (λ (n : List ℕ × Tree). n.0)) (filter_map-append as_app ts (t ∷ []))
+app_names-append ts t =
+    ap (map (λ (n : List ℕ × Tree). n.0)) (filter_map-append as_app ts (t ∷ []))
     ∙ map-append (λ (n : List ℕ × Tree). n.0) (filter_map as_app ts) (filter_map as_app (t ∷ []))

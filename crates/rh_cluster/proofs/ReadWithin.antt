@@ -1,5 +1,5 @@
 -- The cluster of a text is one whose lists fit together.
-use Rattle.std.proofs.Common.{◌≡◌, List, [], ◌∷◌, Ok, Err, refl, sym, subst}
+use Rattle.std.proofs.Common.{◌≡◌, List, [], ◌∷◌, Ok, Err, refl, subst}
 use Rattle.std.specs.Prelude.{Result}
 use Rattle.rh_base.specs.Tree.{Tree, Trees, list_of_trees}
 use Rattle.rh_terms.specs.Grammar.{terms_of}
@@ -7,10 +7,10 @@ use Rattle.rh_terms.specs.declared.fault.TermFault.{TermFault}
 use Rattle.rh_model.specs.ClusterView.{ClusterView, IsWithin}
 use Rattle.rh_sections.specs.declared.fault.ClusterFault.{ClusterFault}
 use Rattle.rh_sections.specs.Faults.{unless}
-use Rattle.rh_cluster.specs.Headers.{headers_pass}
+use Rattle.rh_cluster.specs.Headers.{headers_stage}
 use Rattle.rh_cluster.specs.ClusterOf.{faults_behind_headers, faults_in, cluster_view, cluster_in, cluster_of}
 use Rattle.rh_cluster.specs.Laws.{ClustersAreWithin}
-use Rattle.rh_cluster.proofs.NoFaults.{none_left, none_right}
+use Rattle.rh_base.proofs.Elements.{none_left, none_right}
 use Rattle.rh_cluster.proofs.Within.{view_is_within}
 
 abbrev read_as : ClusterView → Result ClusterView ClusterFault
@@ -21,8 +21,8 @@ same_ok v c e = cc
 
 faultless : (ts : List Tree) → faults_in ts ≡ [] → IsWithin (cluster_view ts)
 unfolding faults_in
-faultless ts none = view_is_within ts (none_left (headers_pass ts) (faults_behind_headers ts) none)
-    (none_right (headers_pass ts) (faults_behind_headers ts) none)
+faultless ts none =
+    view_is_within ts (none_left (headers_stage ts) (faults_behind_headers ts) none) (none_right (headers_stage ts) (faults_behind_headers ts) none)
 
 within_unless : (ts : List Tree) (c : ClusterView) (faults : List ClusterFault) → faults_in ts ≡ faults → unless faults (cluster_view ts) ≡ Ok c → IsWithin c
 within_unless ts c [] none read = subst IsWithin (same_ok (cluster_view ts) c read) (faultless ts none)

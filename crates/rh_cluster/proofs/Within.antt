@@ -1,14 +1,14 @@
 -- What the terms of a file say of nodes and of applications is within the cluster.
-use Rattle.std.proofs.Common.{◌≡◌, ◌≢◌, ◌<◌, ◌≤◌, ℕ, Bool, List, [], ◌∷◌, length, map, position, cond, Option, Some, None, refl, sym, ap, ◌∙◌, subst, slice_get}
-use Rattle.std.proofs.Common.{true, false, codes, ◌||◌, arith}
-use Rattle.std.specs.Prelude.{All, AllPairs, IsSome, is_some, unwrap_or, not, ◌==◌}
+use Rattle.std.proofs.Common.{◌≡◌, ◌≢◌, ◌<◌, ◌≤◌, ℕ, List, [], ◌∷◌, length, map, position, Option, Some, None, refl}
+use Rattle.std.proofs.Common.{sym, ap, ◌∙◌, subst, slice_get, codes, ◌||◌, arith}
+use Rattle.std.specs.Prelude.{All, AllPairs, IsSome, unwrap_or, not, ◌==◌}
 use Rattle.std.specs.List.{filter_map, list_any}
 use Rattle.std.specs.Option.{option_map, option_and_then}
 use Rattle.std.specs.Str.{bytes_eq}
 use Rattle.std.proofs.lemmas.List.{length-map}
 use Rattle.std.proofs.lemmas.List.Elements.{All-nil, All-cons, All-head, All-tail}
 use Rattle.std.proofs.lemmas.List.Quantifiers.{position-Some}
-use Rattle.std.proofs.lemmas.Option.{slice_get-map, slice_get-get_or, same_Some}
+use Rattle.std.proofs.lemmas.Option.{slice_get-map, same_Some}
 use Rattle.rh_base.specs.Tree.{Tree}
 use Rattle.rh_model.specs.declared.node.Node.{Node}
 use Rattle.rh_model.specs.declared.node.App.{App}
@@ -20,31 +20,22 @@ use Rattle.rh_model.specs.ClusterView.{NodeView, AppView, IsWithin, numbered, ap
 use Rattle.rh_model.specs.Names.{NamesView, is_among}
 use Rattle.rh_model.specs.Limits.{timeout_limit}
 use Rattle.rh_sections.specs.Shapes.{as_atom, as_pair, atoms, ◌>>=◌}
-use Rattle.rh_sections.specs.Sections.{as_share, as_restart, members, parts_pass}
+use Rattle.rh_sections.specs.Sections.{as_share, as_restart, members, parts_stage}
 use Rattle.rh_cluster.specs.declared.shares.Share.{Share}
-use Rattle.rh_cluster.specs.Headers.{every_platform, nodes_in, apps_in, headers_pass}
-use Rattle.rh_cluster.specs.Values.{node_named, app_named, boot_entry, dep_named, dep_by, elements, elements_under, kernel_of, rehearse_of, node_view, app_view}
-use Rattle.rh_cluster.specs.Values.{group_in, share_of, shares_in, spread_for, spread_named, permissions_in, platforms_of, forbids, time_or_zero, platforms_in}
-use Rattle.rh_cluster.specs.Agreement.{shares_of, first_involved, agreed_shares}
+use Rattle.rh_cluster.specs.Headers.{every_platform, nodes_in, apps_in, headers_stage}
+use Rattle.rh_cluster.specs.Values.{node_named, app_named, boot_entry, dep_named, dep_by, elements, elements_under}
+use Rattle.rh_cluster.specs.Values.{kernel_of, rehearse_of, node_view, app_view, group_in, share_of, shares_in}
+use Rattle.rh_cluster.specs.Values.{spread_for, spread_named, permissions_in, platforms_of, forbids, time_or_zero}
+use Rattle.rh_cluster.specs.Values.{platforms_in}
+use Rattle.rh_cluster.specs.Agreement.{shares_at, first_involved, agreed_shares}
 use Rattle.rh_cluster.specs.ClusterOf.{names_of, node_views, all_shares, app_views, faults_behind_headers, cluster_view}
 use Rattle.rh_cluster.proofs.Counts.{length-node_views, length-app_views}
-use Rattle.rh_cluster.proofs.NoFaults.{none_left, none_right, All-cons_option, at_place}
+use Rattle.rh_base.proofs.Elements.{none_left, none_right, All-filter_map, at_position, at_mapped, in_mapped, at_place, some_inside, one_of}
 use Rattle.rh_cluster.proofs.Timeouts.{time_within}
 use Rattle.rh_cluster.proofs.BootLists.{IsInOrder, boot_once_in, in_order}
 use Rattle.rh_cluster.proofs.Listing.{boots_listed}
 
--- ---- lists and options
-
--- what holds of each value that f gives holds of all that it gives
-All-filter_map : {X Y : Type 0} (P : Y → Type 0) (f : X → Option Y) → ((x : X) (y : Y) → f x ≡ Some y → P y) → (xs : List X) → All P (filter_map f xs)
-All-filter_map P f each [] = All-nil P
-All-filter_map P f each (x ∷ xs) = All-cons_option P (f x) (filter_map f xs) (each x) (All-filter_map P f each xs)
-
--- what holds of f at each place of a list holds of f at the place that is found
-at_position : {A : Type 0} (p : List ℕ → Bool) (names : List (List ℕ)) (f : ℕ → A) (P : A → Type 0) → ((i : ℕ) → i < length names → P (f i)) → (o : Option ℕ)
-    → position p names ≡ o → (x : A) → option_map f o ≡ Some x → P x
-at_position p names f P each None e x h = cc
-at_position p names f P each (Some i) e x h = let is : f i ≡ x = cc in subst P is (each i (position-Some p names i [] e).0)
+-- ---- options
 
 -- what holds of each value that g gives holds of what it gives for the value of o
 at_value : {A B : Type 0} (o : Option A) (g : A → Option B) (P : B → Type 0) → ((a : A) (b : B) → o ≡ Some a → g a ≡ Some b → P b) → (b : B)
@@ -52,42 +43,28 @@ at_value : {A B : Type 0} (o : Option A) (g : A → Option B) (P : B → Type 0)
 at_value None g P each b h = cc
 at_value (Some a) g P each b h = each a b refl h
 
--- an element of what a map gives
-at_mapped : {A B : Type 0} (f : A → B) (P : B → Type 0) → ((x : A) → P (f x)) → (o : Option A) (v : B) → option_map f o ≡ Some v → P v
-at_mapped f P each None v h = cc
-at_mapped f P each (Some x) v h = let is : f x ≡ v = cc in subst P is (each x)
-
--- a list in an element of what a map gives
-in_mapped : {A B C : Type 0} (f : A → B) (g : B → List C) (P : C → Type 0) → ((x : A) → All P (g (f x))) → (xs : List A) (i : ℕ)
-    → All P (unwrap_or (option_map g (slice_get (map f xs) i)) [])
-in_mapped f g P each xs i = subst (λ o. All P (unwrap_or (option_map g o) [])) (sym (slice_get-map f xs i)) (by (slice_get xs i))
-  where
-    by : (o : Option _) → All P (unwrap_or (option_map g (option_map f o)) [])
-    by None = All-nil P
-    by (Some x) = each x
-
 -- ---- names
 
 node_within : (names : NamesView) (t : Tree) (n : Node) → node_named names t ≡ Some n → n.0 < length names.nodes
 unfolding node_named
 node_within names t n h =
     at_value (as_atom t) (λ name. option_map numbered (position (bytes_eq name) names.nodes)) (λ m. m.0 < length names.nodes)
-    (λ name m _ k. at_position (bytes_eq name) names.nodes numbered (λ m. m.0 < length names.nodes) (λ i inside. inside)
-        (position (bytes_eq name) names.nodes) refl m k) n h
+    (λ name m _ k. at_position (bytes_eq name) names.nodes [] numbered (λ m. m.0 < length names.nodes) (λ i inside. inside)
+    (position (bytes_eq name) names.nodes) refl m k) n h
 
 app_within : (names : NamesView) (t : Tree) (a : App) → app_named names t ≡ Some a → a.0 < length names.apps
 unfolding app_named
 app_within names t a h =
     at_value (as_atom t) (λ name. option_map app_numbered (position (bytes_eq name) names.apps)) (λ b. b.0 < length names.apps)
-    (λ name b _ k. at_position (bytes_eq name) names.apps app_numbered (λ b. b.0 < length names.apps) (λ i inside. inside)
-        (position (bytes_eq name) names.apps) refl b k) a h
+    (λ name b _ k. at_position (bytes_eq name) names.apps [] app_numbered (λ b. b.0 < length names.apps) (λ i inside. inside)
+    (position (bytes_eq name) names.apps) refl b k) a h
 
 -- ---- what applications depend on
 
 module _ (names : NamesView) (P : Dep → Type 0) (each_app : (i : ℕ) → i < length names.apps → P (Listed (app_numbered i)))
     (each_platform : (i : ℕ) → i < length names.platforms → P (Platform i)) where
-  dep_by_within : (name : List ℕ) (a : Option ℕ) → position (bytes_eq name) names.apps ≡ a → (p : Option ℕ) → position (bytes_eq name) names.platforms ≡ p
-      → (d : Dep) → dep_by a p ≡ Some d → P d
+  dep_by_within : (name : List ℕ) (a : Option ℕ) → position (bytes_eq name) names.apps ≡ a → (p : Option ℕ)
+      → position (bytes_eq name) names.platforms ≡ p → (d : Dep) → dep_by a p ≡ Some d → P d
   dep_by_within name (Some a) e p f d h = subst P (same_Some (Listed (app_numbered a)) d h) (each_app a (position-Some (bytes_eq name) names.apps a [] e).0)
   dep_by_within name None e (Some p) f d h = subst P (same_Some (Platform p) d h) (each_platform p (position-Some (bytes_eq name) names.platforms p [] f).0)
   dep_by_within name None e None f d h = cc
@@ -98,17 +75,13 @@ module _ (names : NamesView) (P : Dep → Type 0) (each_app : (i : ℕ) → i < 
       at_value (as_atom t) (λ name. dep_by (position (bytes_eq name) names.apps) (position (bytes_eq name) names.platforms)) P
       (λ name d _ k. dep_by_within name (position (bytes_eq name) names.apps) refl (position (bytes_eq name) names.platforms) refl d k) d h
 
--- a place of a list has an element
-some_inside : (xs : List (List ℕ)) (i : ℕ) → i < length xs → IsSome (slice_get xs i)
-some_inside xs i inside = ap is_some (slice_get-get_or xs i [] inside)
-
 -- ---- entries
 
 boot_within : (names : NamesView) (t : Tree) (e : App × Restart) → boot_entry names t ≡ Some e → e.0.0 < length names.apps
 unfolding boot_entry
 boot_within names t e h =
     at_value (as_pair t) (λ p. app_named names p.0 >>= λ app. as_restart p.1 >>= λ restart. Some (app, restart))
-        (λ (e : App × Restart). e.0.0 < length names.apps)
+    (λ (e : App × Restart). e.0.0 < length names.apps)
     (λ p e _ k. at_value (app_named names p.0) (λ app. as_restart p.1 >>= λ restart. Some (app, restart)) (λ (e : App × Restart). e.0.0 < length names.apps)
     (λ app e named k. at_value (as_restart p.1) (λ restart. Some (app, restart)) (λ (e : App × Restart). e.0.0 < length names.apps)
     (λ restart e _ k. subst (λ (e : App × Restart). e.0.0 < length names.apps) (same_Some (app, restart) e k) (app_within names p.0 app named)) e k) e k) e h
@@ -148,10 +121,10 @@ shares_in_within : (names : NamesView) (config : Tree) → All (IsShare names) (
 unfolding shares_in
 shares_in_within names config = All-filter_map (IsShare names) (share_of names) (share_within names) (elements_under (codes "distributed") (kernel_of config))
 
-shares_at_within : (names : NamesView) (ns : List (List ℕ × Tree)) (i : ℕ) → All (IsShare names)
-    (unwrap_or (slice_get (map (λ (n : List ℕ × Tree). shares_in names n.1) ns) i) [])
-shares_at_within names ns i = subst (λ o. All (IsShare names) (unwrap_or o [])) (sym (slice_get-map (λ (n : List ℕ × Tree). shares_in names n.1) ns i))
-    (by (slice_get ns i))
+shares_at_within : (names : NamesView) (ns : List (List ℕ × Tree)) (i : ℕ)
+    → All (IsShare names) (unwrap_or (slice_get (map (λ (n : List ℕ × Tree). shares_in names n.1) ns) i) [])
+shares_at_within names ns i =
+    subst (λ o. All (IsShare names) (unwrap_or o [])) (sym (slice_get-map (λ (n : List ℕ × Tree). shares_in names n.1) ns i)) (by (slice_get ns i))
   where
     by : (o : Option (List ℕ × Tree)) → All (IsShare names) (unwrap_or (option_map (λ (n : List ℕ × Tree). shares_in names n.1) o) [])
     by None = All-nil (IsShare names)
@@ -161,13 +134,9 @@ agreed_within : (names : NamesView) (ts : List Tree) → All (IsShare names) (ag
 unfolding agreed_shares all_shares
 agreed_within names ts = by (first_involved (all_shares names ts))
   where
-    by : (o : Option ℕ) → All (IsShare names) (shares_of (all_shares names ts) o)
+    by : (o : Option ℕ) → All (IsShare names) (unwrap_or (option_map (shares_at (all_shares names ts)) o) [])
     by None = All-nil (IsShare names)
     by (Some n) = shares_at_within names (nodes_in ts) n
-
-one_of : (b : Bool) (x : Spread) (o : Option Spread) (s : Spread) (Q : Spread → Type 0) → Q x → (o ≡ Some s → Q s) → cond b (Some x) o ≡ Some s → Q s
-one_of true x o s Q here rest h = subst Q (same_Some x s h) here
-one_of false x o s Q here rest h = rest h
 
 spread_for_within : (names : NamesView) (shares : List Share) → All (IsShare names) shares → (a : App) (s : Spread) → spread_for shares a ≡ Some s
     → IsSpread names s
@@ -176,11 +145,11 @@ spread_for_within names (x ∷ xs) all a s h =
     one_of (x.app.0 == a.0) x.spread (spread_for xs a) s (IsSpread names) (All-head (IsShare names) x xs all)
     (spread_for_within names xs (All-tail (IsShare names) x xs all) a s) h
 
-spread_within : (names : NamesView) (shares : List Share) → All (IsShare names) shares → (name : List ℕ) (s : Spread) → spread_named names shares name ≡ Some s
-    → IsSpread names s
+spread_within : (names : NamesView) (shares : List Share) → All (IsShare names) shares → (name : List ℕ) (s : Spread)
+    → spread_named names shares name ≡ Some s → IsSpread names s
 spread_within names shares all name s h =
     at_value (option_map app_numbered (position (bytes_eq name) names.apps)) (spread_for shares) (IsSpread names)
-        (λ a s _ k. spread_for_within names shares all a s k) s h
+    (λ a s _ k. spread_for_within names shares all a s k) s h
 
 -- ---- the cluster
 
@@ -214,27 +183,27 @@ module _ (ts : List Tree) where
   unfolding node_view
   boots_within n = in_mapped node_at (λ (v : NodeView). v.boot) (λ (e : App × Restart). e.0.0 < length (names_of ts).apps)
       (λ x. All-filter_map (λ (e : App × Restart). e.0.0 < length (names_of ts).apps) (boot_entry (names_of ts)) (boot_within (names_of ts))
-          (elements_under (codes "boot") (rehearse_of x.1))) (nodes_in ts) n
+      (elements_under (codes "boot") (rehearse_of x.1))) (nodes_in ts) n
 
   permissions_within : (n : ℕ) (v : NodeView) → slice_get (map node_at (nodes_in ts)) n ≡ Some v → length v.permissions ≡ length (names_of ts).apps
   unfolding node_view
   permissions_within n v h = at_mapped node_at (λ (v : NodeView). length v.permissions ≡ length (names_of ts).apps)
       (λ x. length-permissions (names_of ts) (elements_under (codes "permissions") (kernel_of x.1))) (slice_get (nodes_in ts) n) v
-          (sym (slice_get-map node_at (nodes_in ts) n) ∙ h)
+      (sym (slice_get-map node_at (nodes_in ts) n) ∙ h)
 
   platforms_within : (n : ℕ) (v : NodeView) → slice_get (map node_at (nodes_in ts)) n ≡ Some v → length v.platforms ≡ length (names_of ts).platforms
   unfolding node_view
   platforms_within n v h = at_mapped node_at (λ (v : NodeView). length v.platforms ≡ length (names_of ts).platforms)
       (λ x. length-platforms (names_of ts) (elements_under (codes "platform") (rehearse_of x.1))) (slice_get (nodes_in ts) n) v
-          (sym (slice_get-map node_at (nodes_in ts) n) ∙ h)
+      (sym (slice_get-map node_at (nodes_in ts) n) ∙ h)
 
   deps_within : (a : ℕ) → All (λ d. IsSome (dep_name (cluster_view ts) d))
       (unwrap_or (option_map (λ (v : AppView). v.deps) (slice_get (map app_at (apps_in ts)) a)) [])
   unfolding app_view cluster_view names_of
   deps_within a = in_mapped app_at (λ (v : AppView). v.deps) (λ d. IsSome (dep_name (cluster_view ts) d))
       (λ x. All-filter_map (λ d. IsSome (dep_name (cluster_view ts) d)) (dep_named (names_of ts))
-      (dep_within (names_of ts) (λ d. IsSome (dep_name (cluster_view ts) d)) (some_inside (names_of ts).apps) (some_inside (names_of ts).platforms))
-          (elements_under (codes "applications") (elements x.1))) (apps_in ts) a
+      (dep_within (names_of ts) (λ d. IsSome (dep_name (cluster_view ts) d)) (λ i. some_inside (names_of ts).apps i [])
+      (λ i. some_inside (names_of ts).platforms i [])) (elements_under (codes "applications") (elements x.1))) (apps_in ts) a
 
   spreads_within : (a : ℕ) (s : Spread) → option_and_then (λ (v : AppView). v.spread) (slice_get (map app_at (apps_in ts)) a) ≡ Some s
       → IsSpread (names_of ts) s
@@ -245,17 +214,17 @@ module _ (ts : List Tree) where
       by None k = cc
       by (Some x) k = spread_within (names_of ts) (agreed_shares (all_shares (names_of ts) ts)) (agreed_within (names_of ts) ts) x.0 s k
 
-  boots_once : parts_pass (names_of ts) (platforms_in ts).known ts ≡ [] → (n : ℕ)
+  boots_once : parts_stage (names_of ts) (platforms_in ts).known ts ≡ [] → (n : ℕ)
       → AllPairs (λ (e later : App × Restart). e.0.0 ≢ later.0.0)
-          (unwrap_or (option_map (λ (v : NodeView). v.boot) (slice_get (map node_at (nodes_in ts)) n)) [])
+      (unwrap_or (option_map (λ (v : NodeView). v.boot) (slice_get (map node_at (nodes_in ts)) n)) [])
   unfolding node_view
   boots_once none n =
       at_place (IsInOrder (names_of ts)) node_at (λ (v : NodeView). v.boot) (AllPairs (λ (e later : App × Restart). e.0.0 ≢ later.0.0))
-          (λ i j d l k. absurd (omega arith))
+      (λ i j d l k. absurd (omega arith))
       (boot_once_in (names_of ts)) (nodes_in ts) (in_order (names_of ts) (platforms_in ts).known ts none) n
 
   -- terms in which no stage finds a fault
-  pub view_is_within : headers_pass ts ≡ [] → faults_behind_headers ts ≡ [] → IsWithin (cluster_view ts)
+  pub view_is_within : headers_stage ts ≡ [] → faults_behind_headers ts ≡ [] → IsWithin (cluster_view ts)
   unfolding cluster_view names_of node_views app_views faults_behind_headers
   view_is_within headers behind = record {
     nodes = length-node_views (names_of ts) ts;

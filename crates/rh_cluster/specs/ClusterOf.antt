@@ -9,10 +9,10 @@ use Rattle.rh_cluster.specs.declared.shares.Share.{Share}
 use Rattle.rh_model.specs.ClusterView.{ClusterView, NodeView, AppView}
 use Rattle.rh_sections.specs.Faults.{unless}
 use Rattle.rh_model.specs.Names.{NamesView}
-use Rattle.rh_cluster.specs.Headers.{nodes_in, apps_in, node_names, app_names, headers_pass}
-use Rattle.rh_sections.specs.Sections.{parts_pass}
+use Rattle.rh_cluster.specs.Headers.{nodes_in, apps_in, node_names, app_names, headers_stage}
+use Rattle.rh_sections.specs.Sections.{parts_stage}
 use Rattle.rh_cluster.specs.Values.{platforms_in, node_view, shares_in, app_view}
-use Rattle.rh_cluster.specs.Agreement.{agreed_shares, agreement_pass}
+use Rattle.rh_cluster.specs.Agreement.{agreed_shares, agreement_stage}
 
 -- the names of these terms
 unfoldable pub names_of : List Tree → NamesView
@@ -33,11 +33,12 @@ app_views names shares ts = map (λ (a : List ℕ × Tree). app_view names share
 -- the faults of the third and the fourth stage
 unfoldable pub faults_behind_headers : List Tree → List ClusterFault
 faults_behind_headers ts =
-    parts_pass (names_of ts) (platforms_in ts).known ts ++ agreement_pass (names_of ts).nodes (node_views (names_of ts) ts) (all_shares (names_of ts) ts)
+    parts_stage (names_of ts) (platforms_in ts).known ts
+    ++ agreement_stage (names_of ts).nodes (node_views (names_of ts) ts) (all_shares (names_of ts) ts)
 
 -- the faults of the second, the third and the fourth stage, in this order
 unfoldable pub faults_in : List Tree → List ClusterFault
-faults_in ts = headers_pass ts ++ faults_behind_headers ts
+faults_in ts = headers_stage ts ++ faults_behind_headers ts
 
 -- the cluster of terms that have no fault
 unfoldable pub cluster_view : List Tree → ClusterView
@@ -49,10 +50,12 @@ cluster_view ts = record {
   apps = app_views (names_of ts) (agreed_shares (all_shares (names_of ts) ts)) ts;
 }
 
+-- the cluster of terms that were read, or the first fault
 abbrev pub cluster_in : Result Trees TermFault → Result ClusterView ClusterFault
 cluster_in (Ok ts) = unless (faults_in (list_of_trees ts)) (cluster_view (list_of_trees ts))
 cluster_in (Err f) = Err (fault.Term f)
 
--- The first stage reads the terms. Then the first fault of the stages over the terms counts, and else this is the cluster.
+-- The first stage reads the terms. Then the first fault of the stages over the terms counts; without one, this is the
+-- cluster.
 unfoldable pub cluster_of : List ℕ → Result ClusterView ClusterFault
 cluster_of bytes = cluster_in (terms_of bytes)

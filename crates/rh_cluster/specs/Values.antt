@@ -1,8 +1,9 @@
 -- What the parts of a term are, where they are in order.
-use Rattle.std.specs.Prelude.{ℕ, List, [], ◌∷◌, ◌++◌, length, map, filter_map, flat_map, fold, position, Bool, true, false, not, ◌&&◌, ◌||◌, ◌==◌, nat_le}
-use Rattle.std.specs.Prelude.{is_some, Option, Some, None, unwrap_or, codes, if◌then◌else◌}
+use Rattle.std.specs.Prelude.{ℕ, List, [], ◌∷◌, ◌++◌, length, map, filter_map, flat_map, fold, position, codes}
+use Rattle.std.specs.Prelude.{Bool, true, false, not, ◌&&◌, ◌||◌, ◌==◌, nat_le, if◌then◌else◌}
+use Rattle.std.specs.Prelude.{Option, Some, None, is_some, unwrap_or}
 use Rattle.std.specs.List.{list_any, list_all}
-use Rattle.std.specs.Option.{option_map, option_or}
+use Rattle.std.specs.Option.{option_map, option_or, option_to_list}
 use Rattle.std.specs.Str.{bytes_eq}
 use Rattle.rh_base.specs.Tree.{Tree}
 use Rattle.rh_model.specs.declared.node.Node.{Node}
@@ -14,6 +15,7 @@ use Rattle.rh_model.specs.declared.settings.SyncWait.{SyncWait}
 use Rattle.rh_model.specs.declared.settings.SyncWait.TheVariants.{Unset}
 use Rattle.rh_model.specs.declared.settings.Spread.{Spread}
 use Rattle.rh_model.specs.declared.platforms.Platforms.{Platforms}
+use Rattle.rh_model.specs.declared.limits.TheConstants.{MAX_PLATFORMS}
 use Rattle.rh_cluster.specs.declared.shares.Share.{Share}
 use Rattle.rh_sections.specs.Shapes.{as_atom, as_list, as_pair, as_entry, as_node, as_time, atoms, ◌>>=◌}
 use Rattle.rh_model.specs.Names.{is_among, NamesView}
@@ -24,103 +26,103 @@ use Rattle.rh_sections.specs.Sections.{as_sync_wait, as_truth, as_restart, as_sh
 
 -- ---- entries
 
-abbrev pub list_or_none : Option (List Tree) → List Tree
-list_or_none None = []
-list_or_none (Some ts) = ts
-
 -- the elements of a list; another term has none
 unfoldable pub elements : Tree → List Tree
-elements t = list_or_none (as_list t)
+elements t = unwrap_or (as_list t) []
 
 -- the value of an entry of this key
 unfoldable pub value_if : List ℕ → Tree → Option Tree
-value_if key t = as_entry t >>= λ e. if bytes_eq e.0 key then Some e.1 else None
+value_if key t = do
+  e ← as_entry t
+  if bytes_eq e.0 key then Some e.1 else None
 
 -- the value of the first entry of this key
 abbrev pub value_under : List ℕ → List Tree → Option Tree
 value_under key [] = None
 value_under key (t ∷ ts) = option_or (value_if key t) (value_under key ts)
 
-abbrev pub elements_if : Option Tree → List Tree
-elements_if None = []
-elements_if (Some t) = elements t
-
 -- the elements of that value
 unfoldable pub elements_under : List ℕ → List Tree → List Tree
-elements_under key ts = elements_if (value_under key ts)
+elements_under key ts = unwrap_or (option_map elements (value_under key ts)) []
 
 -- ---- platform names (ours)
 
--- what f gives for the value, if there is one
-abbrev pub values_in : Option Tree → (Tree → List Tree) → List Tree
-values_in None f = []
-values_in (Some v) f = f v
-
 -- the value of a `platform` parameter
 unfoldable pub platform_in_entry : Tree → List Tree
-platform_in_entry t = values_in (value_if (codes "platform") t) (λ v. v ∷ [])
+platform_in_entry t = option_to_list (value_if (codes "platform") t)
 
 -- those in a section `rehearse`
 unfoldable pub platform_in_section : Tree → List Tree
-platform_in_section t = values_in (value_if (codes "rehearse") t) (λ v. flat_map platform_in_entry (elements v))
-
-abbrev pub platform_in_node : Option (List ℕ × Tree) → List Tree
-platform_in_node None = []
-platform_in_node (Some n) = flat_map platform_in_section (elements n.1)
+platform_in_section t = flat_map platform_in_entry (unwrap_or (option_map elements (value_if (codes "rehearse") t)) [])
 
 -- those in a node term
 unfoldable pub platform_in_term : Tree → List Tree
-platform_in_term t = platform_in_node (as_node t)
+platform_in_term t = flat_map platform_in_section (unwrap_or (option_map (λ n. elements n.1) (as_node t)) [])
 
 -- with this name, unless it is there
 unfoldable pub with_name : List (List ℕ) → List ℕ → List (List ℕ)
 with_name names name = if is_among names name then names else names ++ name ∷ []
 
--- the same, as long as there are fewer than 256
+-- the same, as long as there are fewer than `MAX_PLATFORMS`
 unfoldable pub with_first_name : List (List ℕ) → List ℕ → List (List ℕ)
-with_first_name names name = if nat_le 256 (length names) then names else with_name names name
+with_first_name names name = if nat_le MAX_PLATFORMS (length names) then names else with_name names name
 
--- With the names of one platform list: `first` are the first 256 different names, of whatever lists; `known` are those
--- of well-shaped lists, which hold atoms alone.
+-- With the names of one platform list: `first` are the first `MAX_PLATFORMS` different names, of whatever lists;
+-- `known` are those of well-shaped lists, which hold atoms alone.
 unfoldable pub with_platforms : Platforms → Tree → Platforms
 with_platforms p v = record {
   first = fold with_first_name p.first (atoms (elements v));
-  known = if list_all (λ t. is_some (as_atom t)) (elements v) then fold with_name p.known (atoms (elements v)) else p.known;
+  known =
+      if list_all (λ t. is_some (as_atom t)) (elements v) then fold with_name p.known (atoms (elements v)) else p.known;
 }
 
 -- the platform names of a file; every node has the first two
 unfoldable pub platforms_in : List Tree → Platforms
-platforms_in ts = fold with_platforms (record { first = every_platform; known = every_platform }) (flat_map platform_in_term ts)
+platforms_in ts =
+    fold with_platforms (record { first = every_platform; known = every_platform }) (flat_map platform_in_term ts)
 
 -- ---- names
 
 -- the node of this name
 unfoldable pub node_named : NamesView → Tree → Option Node
-node_named names t = as_atom t >>= λ name. option_map numbered (position (bytes_eq name) names.nodes)
+node_named names t = do
+  name ← as_atom t
+  option_map numbered (position (bytes_eq name) names.nodes)
 
 -- the application of this name
 unfoldable pub app_named : NamesView → Tree → Option App
-app_named names t = as_atom t >>= λ name. option_map app_numbered (position (bytes_eq name) names.apps)
+app_named names t = do
+  name ← as_atom t
+  option_map app_numbered (position (bytes_eq name) names.apps)
 
 -- ---- a node
 
+-- the entries of its section `kernel`
 abbrev pub kernel_of : Tree → List Tree
 kernel_of config = elements_under (codes "kernel") (elements config)
 
+-- the entries of its section `rehearse`
 abbrev pub rehearse_of : Tree → List Tree
 rehearse_of config = elements_under (codes "rehearse") (elements config)
 
+-- how long the value of `sync_nodes_timeout` lets the node wait
 abbrev pub wait_in : Option Tree → SyncWait
-wait_in None = Unset
-wait_in (Some t) = unwrap_or (as_sync_wait t) Unset
+wait_in value = unwrap_or (value >>= as_sync_wait) Unset
 
+-- an entry {App, RestartType} of `boot`
 unfoldable pub boot_entry : NamesView → Tree → Option (App × Restart)
-boot_entry names t = as_pair t >>= λ e. app_named names e.0 >>= λ app. as_restart e.1 >>= λ restart. Some (app, restart)
+boot_entry names t = do
+  e ← as_pair t
+  app ← app_named names e.0
+  restart ← as_restart e.1
+  Some (app, restart)
 
+-- does the value forbid it?
 abbrev pub is_false : Option Bool → Bool
 is_false (Some false) = true
 is_false o = false
 
+-- do the parts of an entry forbid the application of this name?
 abbrev pub forbids_by : List ℕ → Option (Tree × Tree) → Bool
 forbids_by name None = false
 forbids_by name (Some e) = atom_is (bytes_eq name) (as_atom e.0) && is_false (as_truth e.1)
@@ -150,6 +152,7 @@ node_view names config = record {
 
 -- ---- an application
 
+-- an application of the cluster, or else a platform name
 abbrev pub dep_by : Option ℕ → Option ℕ → Option Dep
 dep_by (Some a) p = Some (Listed (app_numbered a))
 dep_by None (Some p) = Some (Platform p)
@@ -157,26 +160,27 @@ dep_by None None = None
 
 -- what this name stands for in `applications`
 unfoldable pub dep_named : NamesView → Tree → Option Dep
-dep_named names t = as_atom t >>= λ name. dep_by (position (bytes_eq name) names.apps) (position (bytes_eq name) names.platforms)
+dep_named names t = do
+  name ← as_atom t
+  dep_by (position (bytes_eq name) names.apps) (position (bytes_eq name) names.platforms)
 
 -- the module and the argument of {Module, StartArg}
 abbrev pub start_in : Option Tree → Option (List ℕ × Tree)
-start_in None = None
-start_in (Some t) = as_entry t
+start_in value = value >>= as_entry
 
 -- the argument in prefix notation
 abbrev pub start_view : Option (List ℕ × Tree) → Option (List ℕ × List TermSymbol)
 start_view o = option_map (λ (s : List ℕ × Tree). (s.0, symbols_of s.1)) o
 
+-- is the value a list?
 abbrev pub is_list_there : Option Tree → Bool
-is_list_there None = false
-is_list_there (Some t) = is_some (as_list t)
+is_list_there value = is_some (value >>= as_list)
 
 -- ---- `distributed`
 
+-- the milliseconds of the value; without it, or for another term, 0
 abbrev pub time_or_zero : Option Tree → ℕ
-time_or_zero None = 0
-time_or_zero (Some t) = unwrap_or (as_time t) 0
+time_or_zero value = unwrap_or (value >>= as_time) 0
 
 -- the nodes of a group
 unfoldable pub group_in : NamesView → Tree → List Node
@@ -184,8 +188,13 @@ group_in names t = filter_map (node_named names) (members t)
 
 -- an entry of `distributed`
 unfoldable pub share_of : NamesView → Tree → Option Share
-share_of names t = as_share t >>= λ s. app_named names s.0 >>= λ app.
-    Some (record { app = app; spread = record { timeout = time_or_zero s.1; groups = map (group_in names) (elements s.2) } })
+share_of names t = do
+  s ← as_share t
+  app ← app_named names s.0
+  Some (record {
+    app = app;
+    spread = record { timeout = time_or_zero s.1; groups = map (group_in names) (elements s.2) };
+  })
 
 -- the entries of a node's `distributed`
 unfoldable pub shares_in : NamesView → Tree → List Share

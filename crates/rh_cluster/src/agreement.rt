@@ -6,12 +6,17 @@ ghost use Rattle.std.specs.Option.{option_map};
 ghost use Rattle.rh_model.specs.ClusterView.{is_in, numbered};
 ghost use Rattle.rh_sections.specs.Faults.{Finds};
 ghost use Rattle.rh_cluster.specs.Values.{spread_for};
-ghost use Rattle.rh_cluster.specs.Agreement.{same_group, same_groups, same_share, same_shares, same_wait, shares_at, wait_at, lists_node, names_node, is_involved, first_involved, agreed_shares, agree, mismatch_faults, mismatches, boot_entry_faults, boot_list_faults, boot_at, agreement_pass, numbers_below};
+ghost use Rattle.rh_cluster.specs.Agreement.{same_group, same_groups, same_share, same_shares, same_wait, shares_at};
+ghost use Rattle.rh_cluster.specs.Agreement.{wait_at, lists_node, names_node, is_involved, first_involved};
+ghost use Rattle.rh_cluster.specs.Agreement.{agreed_shares, agree, mismatch_faults, mismatches, boot_entry_faults};
+ghost use Rattle.rh_cluster.specs.Agreement.{boot_list_faults, boot_at, agreement_stage, numbers_below};
 
 use crate::shares::{Share, Shares};
-use rh_model::{App, Group, NameSet, Node, NodeSettings, Restart, Spread, SyncWait, is_in};
-use rh_sections::ClusterFault;
 use rh_base::{OutOfMemory, Str};
+use rh_model::{
+    App, Group, MAX_NODES, NameSet, Node, NodeSettings, Restart, Spread, SyncWait, is_in,
+};
+use rh_sections::ClusterFault;
 use std::alloc::Global;
 
 // Are all of these nodes in the other group?
@@ -26,6 +31,7 @@ fn are_in(these: &[Node], those: &[Node]) -> bool
     true
 }
 
+// Are these the same nodes, in any order?
 #[tactic(auto, unfolding(crate::specs::Agreement::same_group))]
 fn same_group(these: &[Node], those: &[Node]) -> bool
     ensures { result ≡ same_group these.now those.now }
@@ -33,6 +39,7 @@ fn same_group(these: &[Node], those: &[Node]) -> bool
     are_in(these, those) && are_in(those, these)
 }
 
+// Are these the same groups in the same order?
 fn same_groups(these: &[Group], those: &[Group]) -> bool
     ensures { result ≡ same_groups these.now those.now }
 {
@@ -47,6 +54,7 @@ fn same_groups(these: &[Group], those: &[Group]) -> bool
     true
 }
 
+// The same entry: its application, its timeout, its groups?
 #[tactic(auto, unfolding(crate::specs::Agreement::same_share))]
 fn same_share(this: &Share, that: &Share) -> bool
     ensures { result ≡ same_share this.now that.now }
@@ -56,6 +64,7 @@ fn same_share(this: &Share, that: &Share) -> bool
         && same_groups(this.spread.groups.as_slice(), that.spread.groups.as_slice())
 }
 
+// Is the same entry among these?
 fn has_share(share: &Share, shares: &[Share]) -> bool
     ensures { result ≡ list_any (same_share share.now) shares.now }
 {
@@ -67,6 +76,7 @@ fn has_share(share: &Share, shares: &[Share]) -> bool
     false
 }
 
+// Is each of these entries among those?
 fn has_shares(these: &[Share], those: &[Share]) -> bool
     ensures { result ≡ list_all (λ s. list_any (same_share s) those.now) these.now }
 {
@@ -78,6 +88,7 @@ fn has_shares(these: &[Share], those: &[Share]) -> bool
     true
 }
 
+// Are these the same entries, in any order?
 #[tactic(auto, unfolding(crate::specs::Agreement::same_shares))]
 fn same_shares(these: &[Share], those: &[Share]) -> bool
     ensures { result ≡ same_shares these.now those.now }
@@ -85,6 +96,7 @@ fn same_shares(these: &[Share], those: &[Share]) -> bool
     has_shares(these, those) && has_shares(those, these)
 }
 
+// The same `sync_nodes_timeout`?
 fn same_wait(this: SyncWait, that: SyncWait) -> bool
     ensures { result ≡ same_wait this that }
 {
@@ -108,6 +120,7 @@ fn lists_node(node: Node, spread: &Spread) -> bool
     false
 }
 
+// Does the list of one of these entries name the node?
 fn names_node(node: Node, shares: &[Share]) -> bool
     ensures { result ≡ names_node node shares.now }
 {
@@ -119,6 +132,7 @@ fn names_node(node: Node, shares: &[Share]) -> bool
     false
 }
 
+// Does the `distributed` of some node name it?
 fn some_names_node(node: Node, all: &[Shares]) -> bool
     ensures { result ≡ list_any (names_node node) all.now }
 {
@@ -130,44 +144,42 @@ fn some_names_node(node: Node, all: &[Shares]) -> bool
     false
 }
 
+// The `distributed` of a node.
 fn shares_at(all: &[Shares], node: usize) -> &[Share]
     ensures { result.now ≡ shares_at all.now node }
 {
-    match all.get(node) {
-        Some(shares) => shares.as_slice(),
-        None => &[],
-    }
+    all.get(node).map_or(&[], Shares::as_slice)
 }
 
+// How long a node waits when it starts.
 fn wait_at(nodes: &[NodeSettings], node: usize) -> SyncWait
     ensures { result ≡ wait_at nodes.now node }
 {
-    match nodes.get(node) {
-        Some(settings) => settings.sync_wait(),
-        None => SyncWait::Unset,
-    }
+    nodes
+        .get(node)
+        .map_or(SyncWait::Unset, NodeSettings::sync_wait)
 }
 
+// What a node starts, in order.
 fn boot_at(nodes: &[NodeSettings], node: usize) -> &[(App, Restart)]
     ensures { result.now ≡ boot_at nodes.now node }
 {
-    match nodes.get(node) {
-        Some(settings) => settings.boot(),
-        None => &[],
-    }
+    nodes.get(node).map_or(&[], NodeSettings::boot)
 }
 
+// Has the node's `distributed` an entry, or does some node's name it?
 #[tactic(auto, unfolding(crate::specs::Agreement::is_involved))]
 fn is_involved(all: &[Shares], node: usize) -> bool
-    requires { node < 256 }
+    requires { node ≤ u8.MAX }
     ensures { result ≡ is_involved all.now node }
 {
     !shares_at(all, node).is_empty() || some_names_node(Node(node as u8), all)
 }
 
+// The first involved node.
 #[tactic(auto, unfolding(crate::specs::Agreement::first_involved))]
 fn first_involved(all: &[Shares]) -> Option<usize>
-    requires { length all.now ≤ 32 }
+    requires { length all.now ≤ MAX_NODES }
     ensures { result ≡ first_involved all.now }
 {
     for node in 0..all.len() {
@@ -178,10 +190,10 @@ fn first_involved(all: &[Shares]) -> Option<usize>
     None
 }
 
-/// The entries on which all involved nodes agree.
+/// The `distributed` of the first involved node, which is that of all of them where they agree.
 #[tactic(auto, unfolding(crate::specs::Agreement::agreed_shares))]
 pub fn agreed_shares(all: &[Shares]) -> &[Share]
-    requires { length all.now ≤ 32 }
+    requires { length all.now ≤ MAX_NODES }
     ensures { result.now ≡ agreed_shares all.now }
 {
     match first_involved(all) {
@@ -202,6 +214,7 @@ pub fn spread_for(shares: &[Share], app: App) -> Option<&Spread>
     None
 }
 
+// Do two nodes agree: the same wait, the same `distributed`?
 #[tactic(auto, unfolding(crate::specs::Agreement::agree))]
 fn agree(nodes: &[NodeSettings], all: &[Shares], this: usize, that: usize) -> bool
     ensures { result ≡ agree nodes.now all.now this that }
@@ -210,6 +223,7 @@ fn agree(nodes: &[NodeSettings], all: &[Shares], this: usize, that: usize) -> bo
         && same_shares(shares_at(all, this), shares_at(all, that))
 }
 
+// The same name in memory of its own.
 fn copy_of(alloc: Global, name: &str) -> Result<Str, OutOfMemory>
     ensures { IfOk result (λ copy. copy ≡ name.now) }
 {
@@ -227,7 +241,7 @@ fn check_mismatch(
     node: usize,
 ) -> Result<(), ClusterFault>
     requires named { node < length names.now }
-    requires small { node < 256 }
+    requires small { node ≤ u8.MAX }
     ensures { Finds result (mismatch_faults names.now nodes.now all.now first node) }
 {
     if is_involved(all, node) && !agree(nodes, all, first, node) {
@@ -237,6 +251,7 @@ fn check_mismatch(
     Ok(())
 }
 
+// Tests whether all involved nodes agree with the first one, in node order.
 #[tactic(auto, unfolding(crate::specs::Agreement::mismatches))]
 fn check_mismatches(
     alloc: Global,
@@ -245,7 +260,7 @@ fn check_mismatches(
     all: &[Shares],
 ) -> Result<(), ClusterFault>
     requires named { length names.now ≡ length all.now }
-    requires few { length all.now ≤ 32 }
+    requires few { length all.now ≤ MAX_NODES }
     ensures { Finds result (mismatches names.now nodes.now all.now) }
 {
     let Some(first) = first_involved(all) else {
@@ -260,7 +275,7 @@ fn check_mismatches(
 // Tests whether the application, if it is distributed, lists the node.
 #[tactic(auto, unfolding(crate::specs::Agreement::boot_entry_faults))]
 fn check_boot_entry(shares: &[Share], node: usize, app: App) -> Result<(), ClusterFault>
-    requires { node < 256 }
+    requires { node ≤ u8.MAX }
     ensures { Finds result (boot_entry_faults shares.now node app) }
 {
     match spread_for(shares, app) {
@@ -275,9 +290,14 @@ fn check_boot_entry(shares: &[Share], node: usize, app: App) -> Result<(), Clust
     }
 }
 
+// Tests each entry of a node's boot list, in order.
 #[tactic(auto, unfolding(crate::specs::Agreement::boot_list_faults))]
-fn check_boot_list(shares: &[Share], nodes: &[NodeSettings], node: usize) -> Result<(), ClusterFault>
-    requires { node < 256 }
+fn check_boot_list(
+    shares: &[Share],
+    nodes: &[NodeSettings],
+    node: usize,
+) -> Result<(), ClusterFault>
+    requires { node ≤ u8.MAX }
     ensures { Finds result (boot_list_faults shares.now nodes.now node) }
 {
     let boot = boot_at(nodes, node);
@@ -287,8 +307,9 @@ fn check_boot_list(shares: &[Share], nodes: &[NodeSettings], node: usize) -> Res
     Ok(())
 }
 
+// Tests the boot list of each node, in node order.
 fn check_boot_lists(shares: &[Share], nodes: &[NodeSettings]) -> Result<(), ClusterFault>
-    requires { length nodes.now ≤ 32 }
+    requires { length nodes.now ≤ MAX_NODES }
     ensures { Finds result (flat_map (boot_list_faults shares.now nodes.now) (numbers_below (length nodes.now))) }
 {
     for node in 0..nodes.len() {
@@ -297,8 +318,9 @@ fn check_boot_lists(shares: &[Share], nodes: &[NodeSettings]) -> Result<(), Clus
     Ok(())
 }
 
-/// Tests what the nodes must agree on.
-#[tactic(auto, unfolding(crate::specs::Agreement::agreement_pass))]
+/// Tests what the nodes must agree on: that all involved nodes do, and that each distributed application lists
+/// the nodes that boot it.
+#[tactic(auto, unfolding(crate::specs::Agreement::agreement_stage))]
 pub fn check_agreement(
     alloc: Global,
     names: &NameSet,
@@ -306,9 +328,9 @@ pub fn check_agreement(
     all: &[Shares],
 ) -> Result<(), ClusterFault>
     requires named { length names.now ≡ length all.now }
-    requires few { length all.now ≤ 32 }
-    requires few_nodes { length nodes.now ≤ 32 }
-    ensures { Finds result (agreement_pass names.now nodes.now all.now) }
+    requires few { length all.now ≤ MAX_NODES }
+    requires few_nodes { length nodes.now ≤ MAX_NODES }
+    ensures { Finds result (agreement_stage names.now nodes.now all.now) }
 {
     check_mismatches(alloc, names, nodes, all)?;
     check_boot_lists(agreed_shares(all), nodes)

@@ -8,25 +8,25 @@ ghost use Rattle.rh_cluster.specs.Values.{dep_named, start_in, is_list_there, sp
 use crate::agreement::spread_for;
 use crate::shares::Share;
 use crate::values::{elements, elements_under, value_under};
-use rh_model::{App, AppSettings, Dep, Names, Spread, copy_of_spread, copy_of_start};
-use rh_sections::shapes;
 use rh_base::{OutOfMemory, Term};
+use rh_model::{AppSettings, Dep, Names, Spread, copy_of_spread, copy_of_start};
+use rh_sections::shapes;
 use std::alloc::Global;
 
+// What the name stands for in `applications`: an application of the cluster, or else a platform name.
 #[tactic(auto, unfolding(crate::specs::Values::dep_named))]
 fn dep_named(names: &Names, term: &Term) -> Option<Dep>
     ensures { result ≡ dep_named names.now (tree_of term.now) }
 {
     let name = shapes::atom(term)?;
-    if let Some(index) = names.apps().index_of(name) {
-        return Some(Dep::Listed(App(index as u8)));
+    if let Some(app) = names.app_of(name) {
+        return Some(Dep::Listed(app));
     }
-    match names.platforms().index_of(name) {
-        Some(index) => Some(Dep::Platform(index as u16)),
-        None => None,
-    }
+    let index = names.platforms().index_of(name)?;
+    Some(Dep::Platform(index as u16))
 }
 
+// What these names stand for in `applications`, in order.
 fn deps_named(alloc: Global, names: &Names, terms: &[Term]) -> Result<Vec<Dep>, OutOfMemory>
     ensures { IfOk result (λ deps. deps.items ≡ filter_map (dep_named names.now) (map tree_of terms.now)) }
 {
@@ -39,21 +39,21 @@ fn deps_named(alloc: Global, names: &Names, terms: &[Term]) -> Result<Vec<Dep>, 
     Ok(deps)
 }
 
+// The module and the argument of `{Module, StartArg}`.
 fn start_in(value: Option<&Term>) -> Option<(&str, &Term)>
     ensures { option_map (λ s. (s.0.now, tree_of s.1.now)) result ≡ start_in (option_map (λ t. tree_of t.now) value.entry) }
 {
     shapes::entry(value?)
 }
 
+// Is the value a list?
 fn is_list_there(value: Option<&Term>) -> bool
     ensures { result ≡ is_list_there (option_map (λ t. tree_of t.now) value.entry) }
 {
-    match value {
-        Some(term) => shapes::list(term).is_some(),
-        None => false,
-    }
+    value.and_then(shapes::list).is_some()
 }
 
+// Where the application of this name may run, by these entries.
 fn spread_named<'a>(names: &Names, shares: &'a [Share], name: &str) -> Option<&'a Spread>
     ensures { option_map (λ s. s.now) result ≡ spread_named names.now shares.now name.now }
 {

@@ -14,9 +14,9 @@ ghost use Rattle.rh_cluster.specs.Values.{node_named, boot_entry, is_false, forb
 
 use crate::headers::is_platform_everywhere;
 use crate::values::{app_named, elements, elements_under, node_named, value_under};
+use rh_base::{OutOfMemory, Term};
 use rh_model::{App, Names, Node, NodeSettings, Restart, SyncWait};
 use rh_sections::{repeats_atom, restart, shapes, sync_wait, truth};
-use rh_base::{OutOfMemory, Term};
 use std::alloc::Global;
 
 /// The nodes of these names.
@@ -32,19 +32,18 @@ pub fn nodes_named(alloc: Global, names: &Names, terms: &[Term]) -> Result<Vec<N
     Ok(nodes)
 }
 
+// How long the value of `sync_nodes_timeout` lets the node wait.
 fn wait_in(value: Option<&Term>) -> SyncWait
     ensures wait { result ≡ wait_in (option_map (λ t. tree_of t.now) value.entry) }
     ensures limit { IsWithinLimit result }
 {
     match value {
-        Some(term) => match sync_wait(term) {
-            Some(wait) => wait,
-            None => SyncWait::Unset,
-        },
+        Some(term) => sync_wait(term).unwrap_or(SyncWait::Unset),
         None => SyncWait::Unset,
     }
 }
 
+// The application of an entry of `boot`, with its restart type.
 #[tactic(auto, unfolding(crate::specs::Values::boot_entry))]
 fn boot_entry(names: &Names, term: &Term) -> Option<(App, Restart)>
     ensures { result ≡ boot_entry names.now (tree_of term.now) }
@@ -55,6 +54,7 @@ fn boot_entry(names: &Names, term: &Term) -> Option<(App, Restart)>
     Some((app, kind))
 }
 
+// What these entries of `boot` say, in order.
 fn boot_entries(
     alloc: Global,
     names: &Names,
@@ -82,15 +82,14 @@ fn forbids(name: &str, term: &Term) -> bool
     }
 }
 
+// Is it `false`?
 fn is_false(term: &Term) -> bool
     ensures { result ≡ is_false (as_truth (tree_of term.now)) }
 {
-    match truth(term) {
-        Some(value) => !value,
-        None => false,
-    }
+    matches!(truth(term), Some(false))
 }
 
+// Is it the atom of this name?
 fn is_atom(name: &str, term: &Term) -> bool
     ensures { result ≡ atom_is (bytes_eq name.now) (as_atom (tree_of term.now)) }
 {
@@ -100,6 +99,7 @@ fn is_atom(name: &str, term: &Term) -> bool
     }
 }
 
+// Does an entry forbid the application?
 fn is_forbidden(name: &str, entries: &[Term]) -> bool
     ensures { result ≡ list_any (forbids name.now) (map tree_of entries.now) }
 {
@@ -111,6 +111,7 @@ fn is_forbidden(name: &str, entries: &[Term]) -> bool
     false
 }
 
+// Is the application permitted: does no entry forbid it?
 fn is_permitted(name: &str, entries: &[Term]) -> bool
     ensures { result ≡ not (list_any (forbids name.now) (map tree_of entries.now)) }
 {
@@ -130,6 +131,7 @@ fn permissions_in(alloc: Global, names: &Names, entries: &[Term]) -> Result<Vec<
     Ok(permissions)
 }
 
+// Does the node have the platform name, as every node does or by its own list?
 fn has_platform(name: &str, terms: &[Term]) -> bool
     ensures { result ≡ (is_among every_platform name.now || is_among (atoms (map tree_of terms.now)) name.now) }
 {
@@ -151,7 +153,11 @@ fn platforms_of(alloc: Global, names: &Names, terms: &[Term]) -> Result<Vec<bool
 
 /// The settings of the node of this configuration.
 #[tactic(auto, unfolding(crate::specs::Values::node_view))]
-pub fn node_settings(alloc: Global, names: &Names, config: &Term) -> Result<NodeSettings, OutOfMemory>
+pub fn node_settings(
+    alloc: Global,
+    names: &Names,
+    config: &Term,
+) -> Result<NodeSettings, OutOfMemory>
     ensures { IfOk result (λ settings. settings ≡ node_view names.now (tree_of config.now)) }
 {
     let sections = elements(config);

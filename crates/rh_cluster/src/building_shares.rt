@@ -8,23 +8,19 @@ ghost use Rattle.rh_cluster.specs.Values.{time_or_zero, group_in, elements, shar
 use crate::building_nodes::nodes_named;
 use crate::shares::{Share, Shares};
 use crate::values::{app_named, elements, elements_under};
+use rh_base::{OutOfMemory, Term};
 use rh_model::{Group, Groups, Names, Spread};
 use rh_sections::{members, shapes, share};
-use rh_base::{OutOfMemory, Term};
 use std::alloc::Global;
 
+// The milliseconds of the value; without it, or for another term, 0.
 fn time_or_zero(value: Option<&Term>) -> u64
     ensures { result ≡ time_or_zero (option_map (λ t. tree_of t.now) value.entry) }
 {
-    match value {
-        Some(term) => match shapes::time(term) {
-            Some(time) => time,
-            None => 0,
-        },
-        None => 0,
-    }
+    value.and_then(shapes::time).unwrap_or(0)
 }
 
+// The nodes of a group.
 #[tactic(auto, unfolding(crate::specs::Values::group_in))]
 fn group_in(alloc: Global, names: &Names, term: &Term) -> Result<Group, OutOfMemory>
     ensures { IfOk result (λ group. group ≡ group_in names.now (tree_of term.now)) }
@@ -32,6 +28,7 @@ fn group_in(alloc: Global, names: &Names, term: &Term) -> Result<Group, OutOfMem
     Ok(Group::of(nodes_named(alloc, names, members(term))?))
 }
 
+// The nodes of each of these groups, in order.
 fn groups_in(alloc: Global, names: &Names, terms: &[Term]) -> Result<Groups, OutOfMemory>
     ensures { IfOk result (λ groups. groups ≡ map (group_in names.now) (map tree_of terms.now)) }
 {
@@ -61,6 +58,7 @@ fn share_of(alloc: Global, names: &Names, term: &Term) -> Result<Option<Share>, 
     }))
 }
 
+// These entries, in order, without those whose application isn't known.
 fn shares_of(alloc: Global, names: &Names, terms: &[Term]) -> Result<Shares, OutOfMemory>
     ensures { IfOk result (λ shares. shares ≡ filter_map (share_of names.now) (map tree_of terms.now)) }
 {

@@ -5,12 +5,13 @@ ghost use Rattle.std.specs.List.{list_all};
 ghost use Rattle.rh_base.specs.Tree.{tree_of};
 ghost use Rattle.rh_cluster.specs.Headers.{every_platform};
 ghost use Rattle.rh_sections.specs.Shapes.{as_atom, atoms};
-ghost use Rattle.rh_cluster.specs.Values.{with_name, with_first_name, with_platforms, platform_in_entry, platform_in_section, platform_in_term, platforms_in, elements};
+ghost use Rattle.rh_cluster.specs.Values.{with_name, with_first_name, with_platforms, platform_in_entry};
+ghost use Rattle.rh_cluster.specs.Values.{platform_in_section, platform_in_term, platforms_in, elements};
 
 use crate::values::{elements, value_if};
-use rh_model::{NameSet, Platforms};
-use rh_sections::shapes;
 use rh_base::{OutOfMemory, Term};
+use rh_model::{MAX_PLATFORMS, NameSet, Platforms};
+use rh_sections::shapes;
 use std::alloc::Global;
 
 // Adds a name, unless it is there.
@@ -24,18 +25,19 @@ fn add_name(alloc: Global, names: &mut NameSet, name: &str) -> Result<(), OutOfM
     names.add(alloc, name)
 }
 
-// The same, as long as there are fewer than 256.
+// The same, as long as there are fewer than `MAX_PLATFORMS`.
 #[tactic(auto, unfolding(crate::specs::Values::with_first_name, crate::specs::Values::with_name))]
 fn add_first_name(alloc: Global, names: &mut NameSet, name: &str) -> Result<(), OutOfMemory>
     ensures names { OnOk result (names.new ≡ with_first_name names.old name.now) }
-    ensures few { OnOk result (length names.old ≤ 256 → length names.new ≤ 256) }
+    ensures few { OnOk result (length names.old ≤ MAX_PLATFORMS → length names.new ≤ MAX_PLATFORMS) }
 {
-    if 256 <= names.len() || names.contains(name) {
+    if MAX_PLATFORMS <= names.len() || names.contains(name) {
         return Ok(());
     }
     names.add(alloc, name)
 }
 
+// Adds the name that a term is, if it is an atom.
 fn add_known(alloc: Global, names: &mut NameSet, term: &Term) -> Result<(), OutOfMemory>
     ensures { OnOk result (names.new ≡ fold with_name names.old (atoms (tree_of term.now ∷ []))) }
 {
@@ -45,9 +47,10 @@ fn add_known(alloc: Global, names: &mut NameSet, term: &Term) -> Result<(), OutO
     }
 }
 
+// The same, as long as there are fewer than `MAX_PLATFORMS`.
 fn add_first(alloc: Global, names: &mut NameSet, term: &Term) -> Result<(), OutOfMemory>
     ensures names { OnOk result (names.new ≡ fold with_first_name names.old (atoms (tree_of term.now ∷ []))) }
-    ensures few { OnOk result (length names.old ≤ 256 → length names.new ≤ 256) }
+    ensures few { OnOk result (length names.old ≤ MAX_PLATFORMS → length names.new ≤ MAX_PLATFORMS) }
 {
     match shapes::atom(term) {
         Some(name) => add_first_name(alloc, names, name),
@@ -65,10 +68,10 @@ fn add_all_known(alloc: Global, names: &mut NameSet, terms: &[Term]) -> Result<(
     Ok(())
 }
 
-// The same, as long as there are fewer than 256.
+// The same, as long as there are fewer than `MAX_PLATFORMS`.
 fn add_all_first(alloc: Global, names: &mut NameSet, terms: &[Term]) -> Result<(), OutOfMemory>
     ensures names { OnOk result (names.new ≡ fold with_first_name names.old (atoms (map tree_of terms.now))) }
-    ensures few { OnOk result (length names.old ≤ 256 → length names.new ≤ 256) }
+    ensures few { OnOk result (length names.old ≤ MAX_PLATFORMS → length names.new ≤ MAX_PLATFORMS) }
 {
     for term in terms {
         add_first(alloc, names, term)?;
@@ -76,6 +79,7 @@ fn add_all_first(alloc: Global, names: &mut NameSet, terms: &[Term]) -> Result<(
     Ok(())
 }
 
+// Are these atoms alone?
 fn are_atoms(terms: &[Term]) -> bool
     ensures { result ≡ list_all (λ t. is_some (as_atom t)) (map tree_of terms.now) }
 {
@@ -91,7 +95,7 @@ fn are_atoms(terms: &[Term]) -> bool
 #[tactic(auto, unfolding(crate::specs::Values::with_platforms))]
 fn add_list(alloc: Global, platforms: &mut Platforms, value: &Term) -> Result<(), OutOfMemory>
     ensures names { OnOk result (platforms.new ≡ with_platforms platforms.old (tree_of value.now)) }
-    ensures few { OnOk result (length platforms.old.first ≤ 256 → length platforms.new.first ≤ 256) }
+    ensures few { OnOk result (length platforms.old.first ≤ MAX_PLATFORMS → length platforms.new.first ≤ MAX_PLATFORMS) }
 {
     let terms = elements(value);
     add_all_first(alloc, &mut platforms.first, terms)?;
@@ -105,7 +109,7 @@ fn add_list(alloc: Global, platforms: &mut Platforms, value: &Term) -> Result<()
 #[tactic(auto, unfolding(crate::specs::Values::platform_in_entry))]
 fn add_entry(alloc: Global, platforms: &mut Platforms, entry: &Term) -> Result<(), OutOfMemory>
     ensures names { OnOk result (platforms.new ≡ fold with_platforms platforms.old (platform_in_entry (tree_of entry.now))) }
-    ensures few { OnOk result (length platforms.old.first ≤ 256 → length platforms.new.first ≤ 256) }
+    ensures few { OnOk result (length platforms.old.first ≤ MAX_PLATFORMS → length platforms.new.first ≤ MAX_PLATFORMS) }
 {
     match value_if("platform", entry) {
         Some(value) => add_list(alloc, platforms, value),
@@ -120,7 +124,7 @@ fn add_entries(
     entries: &[Term],
 ) -> Result<(), OutOfMemory>
     ensures names { OnOk result (platforms.new ≡ fold with_platforms platforms.old (flat_map platform_in_entry (map tree_of entries.now))) }
-    ensures few { OnOk result (length platforms.old.first ≤ 256 → length platforms.new.first ≤ 256) }
+    ensures few { OnOk result (length platforms.old.first ≤ MAX_PLATFORMS → length platforms.new.first ≤ MAX_PLATFORMS) }
 {
     for entry in entries {
         add_entry(alloc, platforms, entry)?;
@@ -132,7 +136,7 @@ fn add_entries(
 #[tactic(auto, unfolding(crate::specs::Values::platform_in_section))]
 fn add_section(alloc: Global, platforms: &mut Platforms, section: &Term) -> Result<(), OutOfMemory>
     ensures names { OnOk result (platforms.new ≡ fold with_platforms platforms.old (platform_in_section (tree_of section.now))) }
-    ensures few { OnOk result (length platforms.old.first ≤ 256 → length platforms.new.first ≤ 256) }
+    ensures few { OnOk result (length platforms.old.first ≤ MAX_PLATFORMS → length platforms.new.first ≤ MAX_PLATFORMS) }
 {
     match value_if("rehearse", section) {
         Some(value) => add_entries(alloc, platforms, elements(value)),
@@ -147,7 +151,7 @@ fn add_sections(
     sections: &[Term],
 ) -> Result<(), OutOfMemory>
     ensures names { OnOk result (platforms.new ≡ fold with_platforms platforms.old (flat_map platform_in_section (map tree_of sections.now))) }
-    ensures few { OnOk result (length platforms.old.first ≤ 256 → length platforms.new.first ≤ 256) }
+    ensures few { OnOk result (length platforms.old.first ≤ MAX_PLATFORMS → length platforms.new.first ≤ MAX_PLATFORMS) }
 {
     for section in sections {
         add_section(alloc, platforms, section)?;
@@ -159,7 +163,7 @@ fn add_sections(
 #[tactic(auto, unfolding(crate::specs::Values::platform_in_term))]
 fn add_term(alloc: Global, platforms: &mut Platforms, term: &Term) -> Result<(), OutOfMemory>
     ensures names { OnOk result (platforms.new ≡ fold with_platforms platforms.old (platform_in_term (tree_of term.now))) }
-    ensures few { OnOk result (length platforms.old.first ≤ 256 → length platforms.new.first ≤ 256) }
+    ensures few { OnOk result (length platforms.old.first ≤ MAX_PLATFORMS → length platforms.new.first ≤ MAX_PLATFORMS) }
 {
     match shapes::node(term) {
         Some((_, config)) => add_sections(alloc, platforms, elements(config)),
@@ -181,7 +185,7 @@ fn every_platform(alloc: Global) -> Result<NameSet, OutOfMemory>
 #[tactic(auto, unfolding(crate::specs::Values::platforms_in))]
 pub fn platforms_in(alloc: Global, terms: &[Term]) -> Result<Platforms, OutOfMemory>
     ensures names { IfOk result (λ platforms. platforms ≡ platforms_in (map tree_of terms.now)) }
-    ensures few { IfOk result (λ platforms. length platforms.first ≤ 256) }
+    ensures few { IfOk result (λ platforms. length platforms.first ≤ MAX_PLATFORMS) }
 {
     let first = every_platform(alloc)?;
     let known = every_platform(alloc)?;

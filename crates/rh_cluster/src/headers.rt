@@ -4,11 +4,11 @@ ghost use Rattle.std.specs.Prelude.{◌≡◌, ◌<◌, ◌≤◌, ℕ, [], ◌�
 ghost use Rattle.rh_base.specs.Tree.{tree_of};
 ghost use Rattle.rh_sections.specs.Faults.{Finds};
 ghost use Rattle.rh_model.specs.Names.{is_among};
-ghost use Rattle.rh_cluster.specs.Headers.{every_platform, new_name_faults, header_faults, headers_pass, node_names, app_names};
+ghost use Rattle.rh_cluster.specs.Headers.{every_platform, new_name_faults, header_faults, headers_stage, node_names, app_names};
 
-use rh_model::NameSet;
-use rh_sections::{ClusterFault, is_name, shapes};
 use rh_base::Term;
+use rh_model::{MAX_APPS, MAX_NODES, NameSet};
+use rh_sections::{ClusterFault, is_name, shapes};
 use std::alloc::Global;
 
 /// Is it a platform name of every node?
@@ -55,26 +55,27 @@ fn add_header(
     ensures faults { Finds result (header_faults nodes.old apps.old (tree_of term.now)) }
     ensures nodes { OnOk result (nodes.new ≡ nodes.old ++ node_names (tree_of term.now ∷ [])) }
     ensures apps { OnOk result (apps.new ≡ apps.old ++ app_names (tree_of term.now ∷ [])) }
-    ensures few_nodes { OnOk result (length nodes.old ≤ 32 → length nodes.new ≤ 32) }
-    ensures few_apps { OnOk result (length apps.old ≤ 64 → length apps.new ≤ 64) }
+    ensures few_nodes { OnOk result (length nodes.old ≤ MAX_NODES → length nodes.new ≤ MAX_NODES) }
+    ensures few_apps { OnOk result (length apps.old ≤ MAX_APPS → length apps.new ≤ MAX_APPS) }
 {
     if let Some((name, _)) = shapes::node(term) {
-        return add_name(alloc, 32, false, nodes, name);
+        return add_name(alloc, MAX_NODES, false, nodes, name);
     }
     if let Some((name, _)) = shapes::app(term) {
-        return add_name(alloc, 64, is_platform_everywhere(name), apps, name);
+        let reserved = is_platform_everywhere(name);
+        return add_name(alloc, MAX_APPS, reserved, apps, name);
     }
     Err(ClusterFault::BadValue)
 }
 
 /// The names of the nodes and of the applications.
-#[tactic(auto, unfolding(crate::specs::Headers::headers_pass))]
+#[tactic(auto, unfolding(crate::specs::Headers::headers_stage))]
 pub fn headers(alloc: Global, terms: &[Term]) -> Result<(NameSet, NameSet), ClusterFault>
-    ensures faults { Finds result (headers_pass (map tree_of terms.now)) }
+    ensures faults { Finds result (headers_stage (map tree_of terms.now)) }
     ensures nodes { IfOk result (λ names. names.0 ≡ node_names (map tree_of terms.now)) }
     ensures apps { IfOk result (λ names. names.1 ≡ app_names (map tree_of terms.now)) }
-    ensures few_nodes { IfOk result (λ names. length names.0 ≤ 32) }
-    ensures few_apps { IfOk result (λ names. length names.1 ≤ 64) }
+    ensures few_nodes { IfOk result (λ names. length names.0 ≤ MAX_NODES) }
+    ensures few_apps { IfOk result (λ names. length names.1 ≤ MAX_APPS) }
 {
     let mut nodes = NameSet::new(alloc);
     let mut apps = NameSet::new(alloc);

@@ -6,7 +6,9 @@ use std::marker::Model;
 /// An entry of a node's `distributed`: an application, and where it may run.
 #[derive(Drop)]
 pub struct Share {
+    /// The application.
     pub app: App,
+    /// Where it may run.
     pub spread: Spread,
 }
 
@@ -29,12 +31,14 @@ impl Model for Shares {
 impl Shares {
     ghost use Rattle.std.specs.Prelude.{◌≡◌};
 
+    /// The `distributed` with these entries.
     pub fn of(shares: Vec<Share>) -> Shares
         ensures { result ≡ shares.items }
     {
         Shares { shares }
     }
 
+    /// The entries, in order.
     pub fn as_slice(&self) -> &[Share]
         ensures { result.now ≡ self.now }
     {

@@ -8,9 +8,7 @@ use Rattle.rh_model.specs.declared.settings.Restart.{Restart}
 use Rattle.rh_model.specs.ClusterView.{ClusterView, IsWithin, app_count, boot_of}
 use Rattle.rh_state.specs.declared.status.Place.TheVariants.{Off}
 use Rattle.rh_state.specs.StateView.{StateView, runs_at, waits_at, is_started, place_of}
-use Rattle.rh_settle.specs.declared.notice.Notice.{Notice}
-use Rattle.rh_settle.specs.declared.notice.Pair.{Pair}
-use Rattle.rh_settle.specs.Course.{Course, course}
+use Rattle.rh_settle.specs.Course.{Course}
 use Rattle.rh_settle.proofs.Places.{off_of}
 use Rattle.rh_events.specs.Marking.{with_mark, mark, mark_booted, mark_all}
 use Rattle.rh_events.proofs.Marks.{mark_cluster, mark_starts_no_other}
@@ -25,52 +23,50 @@ any_default [] k d e l = absurd (omega arith)
 any_default (x ∷ xs) zero d e l = refl
 any_default (x ∷ xs) (suc k) d e l = any_default xs k d e (omega arith)
 
--- from s on, the first i of the boot list are marked, which led to t, and none of the others is started
-module _ (s t : StateView) (n : Node) (i : ℕ) (within : IsWithin s.cluster) (cluster : t.cluster ≡ s.cluster) (boot : List Booted)
-    (is : boot ≡ boot_of t.cluster n) where
+-- from s on, the first i of the boot list are marked, which led to o, and none of the others is started
+module _ (s : StateView) (o : Course) (n : Node) (i : ℕ) (within : IsWithin s.cluster) (cluster : o.state.cluster ≡ s.cluster)
+    (boot : List Booted) (is : boot ≡ boot_of o.state.cluster n) where
   pub boot_is : boot ≡ boot_of s.cluster n
   boot_is = is ∙ ap (λ (c : ClusterView). boot_of c n) cluster
 
   module _ (lt : i < length (boot_of s.cluster n))
-      (rest : (k : ℕ) (d : Booted) → i ≤ k → k < length (boot_of s.cluster n) → is_started t n (get_or (boot_of s.cluster n) k d).0 ≡ false) where
-    pub next_app_within : (d : Booted) → (get_or boot i d).0.0 < app_count t.cluster
+      (rest : (k : ℕ) (d : Booted) → i ≤ k → k < length (boot_of s.cluster n) → is_started o.state n (get_or (boot_of s.cluster n) k d).0 ≡ false) where
+    pub next_app_within : (d : Booted) → (get_or boot i d).0.0 < app_count o.state.cluster
     next_app_within d =
-        subst (λ (xs : List Booted). (get_or xs i d).0.0 < app_count t.cluster) (sym boot_is)
+        subst (λ (xs : List Booted). (get_or xs i d).0.0 < app_count o.state.cluster) (sym boot_is)
         (subst (λ (c : ClusterView). (get_or (boot_of s.cluster n) i d).0.0 < app_count c) (sym cluster) (within.boot n i d lt))
 
-    pub next_is_off : (d : Booted) → place_of t n (get_or boot i d).0 ≡ Off
-    next_is_off d = subst (λ (xs : List Booted). place_of t n (get_or xs i d).0 ≡ Off) (sym boot_is)
+    pub next_is_off : (d : Booted) → place_of o.state n (get_or boot i d).0 ≡ Off
+    next_is_off d =
+        subst (λ (xs : List Booted). place_of o.state n (get_or xs i d).0 ≡ Off) (sym boot_is)
         (off (get_or (boot_of s.cluster n) i d).0 (rest i d (omega arith) lt))
       where
-        off : (a : App) → is_started t n a ≡ false → place_of t n a ≡ Off
-        off a h = let apart = not_started (runs_at t n a) (waits_at t n a) h in off_of t n a apart.0 apart.1
+        off : (a : App) → is_started o.state n a ≡ false → place_of o.state n a ≡ Off
+        off a h = let apart = not_started (runs_at o.state n a) (waits_at o.state n a) h in off_of o.state n a apart.0 apart.1
 
-    module _ (u : StateView) (d : Booted) (before after : List Pair)
-        (marked : (notices : List Notice) → course u notices after ≡ mark (course t notices before) n (get_or boot i d).0 (get_or boot i d).1) where
-      marked_next : (notices : List Notice) → course u notices after ≡ mark (course t notices before) n (get_or (boot_of s.cluster n) i d).0
-          (get_or (boot_of s.cluster n) i d).1
-      marked_next notices = subst (λ (xs : List Booted). course u notices after ≡ mark (course t notices before) n (get_or xs i d).0 (get_or xs i d).1) boot_is
-          (marked notices)
+    module _ (p : Course) (d : Booted) (marked : p ≡ mark o n (get_or boot i d).0 (get_or boot i d).1) where
+      marked_next : p ≡ mark o n (get_or (boot_of s.cluster n) i d).0 (get_or (boot_of s.cluster n) i d).1
+      marked_next = subst (λ (xs : List Booted). p ≡ mark o n (get_or xs i d).0 (get_or xs i d).1) boot_is marked
 
-      state_is : u ≡ with_mark t n (get_or (boot_of s.cluster n) i d).0 (get_or (boot_of s.cluster n) i d).1
-      state_is = ap (λ (o : Course). o.state) (marked_next [])
+      state_is : p.state ≡ with_mark o.state n (get_or (boot_of s.cluster n) i d).0 (get_or (boot_of s.cluster n) i d).1
+      state_is = ap (λ (q : Course). q.state) marked_next
 
-      pub one_more : (o : List Notice → Course) → ((notices : List Notice) → course t notices before
-          ≡ fold (mark_booted n) (o notices) (take i (boot_of s.cluster n)))
-          → (notices : List Notice) → course u notices after ≡ fold (mark_booted n) (o notices) (take (i + 1) (boot_of s.cluster n))
-      one_more o same notices =
-          marked_next notices
-          ∙ ap (λ p. mark p n (get_or (boot_of s.cluster n) i d).0 (get_or (boot_of s.cluster n) i d).1) (same notices)
-          ∙ sym (fold_more (mark_booted n) (o notices) (boot_of s.cluster n) i d lt)
+      pub one_more : (first : Course) → o ≡ fold (mark_booted n) first (take i (boot_of s.cluster n))
+          → p ≡ fold (mark_booted n) first (take (i + 1) (boot_of s.cluster n))
+      one_more first same =
+          marked_next
+          ∙ ap (λ q. mark q n (get_or (boot_of s.cluster n) i d).0 (get_or (boot_of s.cluster n) i d).1) same
+          ∙ sym (fold_more (mark_booted n) first (boot_of s.cluster n) i d lt)
 
-      pub same_cluster : u.cluster ≡ s.cluster
-      same_cluster = ap (λ (v : StateView). v.cluster) state_is ∙ mark_cluster t n (get_or (boot_of s.cluster n) i d).0 (get_or (boot_of s.cluster n) i d).1
-          ∙ cluster
+      pub same_cluster : p.state.cluster ≡ s.cluster
+      same_cluster =
+          ap (λ (v : StateView). v.cluster) state_is
+          ∙ mark_cluster o.state n (get_or (boot_of s.cluster n) i d).0 (get_or (boot_of s.cluster n) i d).1 ∙ cluster
 
-      pub others_off : (k : ℕ) (e : Booted) → i + 1 ≤ k → k < length (boot_of s.cluster n) → is_started u n (get_or (boot_of s.cluster n) k e).0 ≡ false
+      pub others_off : (k : ℕ) (e : Booted) → i + 1 ≤ k → k < length (boot_of s.cluster n) → is_started p.state n (get_or (boot_of s.cluster n) k e).0 ≡ false
       others_off k e h l =
           ap (λ (v : StateView). is_started v n (get_or (boot_of s.cluster n) k e).0) state_is
-          ∙ mark_starts_no_other t n (get_or (boot_of s.cluster n) i d).0 (get_or (boot_of s.cluster n) k e).0 (get_or (boot_of s.cluster n) i d).1
+          ∙ mark_starts_no_other o.state n (get_or (boot_of s.cluster n) i d).0 (get_or (boot_of s.cluster n) k e).0 (get_or (boot_of s.cluster n) i d).1
           differs (rest k e (omega arith) l)
         where
           -- both entries are read with the default of one of them

@@ -15,13 +15,11 @@ use Rattle.rh_state.specs.StateView.{StateView, incarnation_of, runs_at, is_allo
 use Rattle.rh_state.specs.Setters.{with_mode, with_incarnation, with_allowed, with_standing, with_timer, without_due, unlisted}
 use Rattle.rh_settle.specs.Course.{Course}
 use Rattle.rh_settle.specs.Moves.{is_local, with_stopped}
-use Rattle.rh_events.specs.declared.event.Event.{Event}
-use Rattle.rh_events.specs.declared.event.Event.TheVariants.{Boot, Crash, Tick, Start, Stop, Permit, Takeover, Exit}
 use Rattle.rh_events.specs.Marking.{with_distributed_standing, with_mark}
 use Rattle.rh_events.specs.Ending.{timeout_of, cleared, lost_at, lost_from, lost_if_ran, all_lost, ended}
 use Rattle.rh_events.specs.ByHand.{stopped, is_started_anywhere, quiet_if_nowhere, left_waiting, forbidden, permitted, taken_from, taken_over, ends_node}
 use Rattle.rh_events.specs.ByHand.{exited}
-use Rattle.rh_events.specs.Changes.{with_sync_timer, booted, change}
+use Rattle.rh_events.specs.Changes.{with_sync_timer, booted}
 use Rattle.rh_events.proofs.Marks.{mark_any}
 
 -- the cluster, the time and what is known of its nodes
@@ -32,8 +30,13 @@ pub record SameNodes (s t : StateView) : Type 0 where
   pub incarnations : t.incarnations ≡ s.incarnations
 
 pub same_then : (s t u : StateView) → SameNodes s t → SameNodes t u → SameNodes s u
-same_then s t u h k = record { cluster = k.cluster ∙ h.cluster; time = k.time ∙ h.time; modes = k.modes ∙ h.modes; incarnations = k.incarnations
-    ∙ h.incarnations }
+same_then s t u h k = record {
+  cluster = k.cluster ∙ h.cluster;
+  time = k.time ∙ h.time;
+  modes = k.modes ∙ h.modes;
+  incarnations = k.incarnations
+      ∙ h.incarnations;
+}
 
 -- ---- a node that ends
 one_lost_same : (n : Node) (s : StateView) (a : App) → SameNodes s (lost_if_ran n s a)
@@ -50,10 +53,8 @@ one_lost_same n s a = by (standing_of s a)
     there false = record { cluster = refl; time = refl; modes = refl; incarnations = refl }
 
     by : (st : Standing) → SameNodes s (lost_from s n a st)
-    by Quiet = record { cluster = refl; time = refl; modes = refl; incarnations = refl }
-    by (Wanted from) = record { cluster = refl; time = refl; modes = refl; incarnations = refl }
     by (Running m) = there (same_node m n)
-    by (Lost m) = record { cluster = refl; time = refl; modes = refl; incarnations = refl }
+    by _ = record { cluster = refl; time = refl; modes = refl; incarnations = refl }
 
 pub each_lost_same : (n : Node) (apps : List App) (s : StateView) → SameNodes s (fold (lost_if_ran n) s apps)
 each_lost_same n [] s = record { cluster = refl; time = refl; modes = refl; incarnations = refl }
@@ -124,17 +125,15 @@ unfolding taken_over
 taken_over_same o n a r = by (standing_of o.state a)
   where
     by : (st : Standing) → SameNodes o.state (taken_from o n a r st).state
-    by Quiet = record { cluster = refl; time = refl; modes = refl; incarnations = refl }
-    by (Wanted from) = record { cluster = refl; time = refl; modes = refl; incarnations = refl }
     by (Running m) = record { cluster = refl; time = refl; modes = refl; incarnations = refl }
-    by (Lost m) = record { cluster = refl; time = refl; modes = refl; incarnations = refl }
+    by _ = record { cluster = refl; time = refl; modes = refl; incarnations = refl }
 
 -- ---- the cluster and the time, whatever happens
 pub record SameTime (s t : StateView) : Type 0 where
   pub cluster : t.cluster ≡ s.cluster
   pub time : t.time ≡ s.time
 
-in_time : (s t : StateView) → SameNodes s t → SameTime s t
+pub in_time : (s t : StateView) → SameNodes s t → SameTime s t
 in_time s t h = record { cluster = h.cluster; time = h.time }
 
 pub booted_same : (s : StateView) (n : Node) → SameTime s (booted s n)
@@ -146,33 +145,13 @@ booted_same s n = by (sync_wait_of s.cluster n)
     by (After ms) = record { cluster = refl; time = refl }
     by Forever = record { cluster = refl; time = refl }
 
-ended_same : (o : Course) (n : Node) → SameTime o.state (ended o n).state
+pub ended_same : (o : Course) (n : Node) → SameTime o.state (ended o n).state
 ended_same o n = record { cluster = ended_cluster o n; time = ended_time o n }
 
-exited_same : (o : Course) (n : Node) (a : App) (normal : Bool) → SameTime o.state (exited o n a normal).state
+pub exited_same : (o : Course) (n : Node) (a : App) (normal : Bool) → SameTime o.state (exited o n a normal).state
 unfolding exited
 exited_same o n a normal = by (ends_node (restart_of o.state n a) normal)
   where
     by : (b : Bool) → SameTime o.state (cond b (ended o n) (stopped o n a)).state
     by true = ended_same o n
     by false = in_time o.state (stopped o n a).state (stopped_same o n a)
-
-pub change_same : (o : Course) (e : Event) → SameTime o.state (change o e).state
-change_same o (Boot n) = booted_same o.state n
-change_same o (Crash n) = ended_same o n
-change_same o (Tick ms) = record { cluster = refl; time = refl }
-change_same o (Start n a r) = in_time o.state (with_mark o.state n a r) (marked_same o.state n a r)
-change_same o (Stop n a) = by (runs_at o.state n a)
-  where
-    by : (b : Bool) → SameTime o.state (cond b (stopped o n a) (left_waiting o n a)).state
-    by true = in_time o.state (stopped o n a).state (stopped_same o n a)
-    by false = in_time o.state (left_waiting o n a).state (left_waiting_same o n a)
-change_same o (Permit n a allow) = in_time o.state (permitted o n a allow).state (permitted_same o n a allow)
-change_same o (Takeover n a r) = in_time o.state (taken_over o n a r).state (taken_over_same o n a r)
-change_same o (Exit n a normal) = exited_same o n a normal
-
-pub change_cluster : (o : Course) (e : Event) → (change o e).state.cluster ≡ o.state.cluster
-change_cluster o e = (change_same o e).cluster
-
-pub change_time : (o : Course) (e : Event) → (change o e).state.time ≡ o.state.time
-change_time o e = (change_same o e).time

@@ -22,3 +22,10 @@ pub mod SoundByHandTakeover
 pub mod Fields
 pub mod Notices
 pub mod TimersFall
+pub mod RefusedByHand
+pub mod Accepted
+pub mod Requirements
+pub mod Reasons
+pub mod ModesKept
+pub mod StaysUp
+pub mod EachEvent

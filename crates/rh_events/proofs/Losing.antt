@@ -94,10 +94,8 @@ lost_others s n a b other = by (standing_of s a)
     if_same false = agree_self s b
 
     by : (st : Standing) → Agree s (lost_from s n a st) b
-    by Quiet = agree_self s b
-    by (Wanted from) = agree_self s b
     by (Running m) = if_same (same_node m n)
-    by (Lost m) = agree_self s b
+    by _ = agree_self s b
 
 pub lost_cluster : (s : StateView) (n : Node) (a : App) → (lost_if_ran n s a).cluster ≡ s.cluster
 lost_cluster s n a = (lost_others s n a (app_numbered (suc a.0)) (λ e. absurd (omega (arith, e)))).cluster

@@ -1,5 +1,5 @@
 -- The pairs that coming up marks are those of the cluster's nodes.
-use Rattle.std.proofs.Common.{suc, Bool, true, false, cond, List, [], ◌∷◌, fold, All, arith}
+use Rattle.std.proofs.Common.{◌≡◌, refl, suc, Bool, true, false, cond, List, [], ◌∷◌, fold, All, arith}
 use Rattle.std.proofs.lemmas.List.Elements.{All-push}
 use Rattle.rh_model.specs.ClusterView.{ClusterView, IsWithin, boot_of}
 use Rattle.rh_model.specs.declared.node.Node.{Node}
@@ -10,6 +10,8 @@ use Rattle.rh_state.specs.Shape.{IsNodeOf}
 use Rattle.rh_settle.specs.declared.notice.Notice.TheVariants as notice
 use Rattle.rh_settle.specs.declared.notice.Pair.{Pair}
 use Rattle.rh_settle.specs.Course.{Course, told, now_in}
+use Rattle.rh_state.specs.StateView.{StateView}
+use Rattle.rh_events.specs.Ending.{ended}
 use Rattle.rh_events.specs.Readiness.{is_ready}
 use Rattle.rh_events.specs.Marking.{pair, mark, mark_booted, mark_all}
 use Rattle.rh_events.specs.ComingUp.{come_up, come_up_if_ready, ready_come_up}
@@ -45,3 +47,11 @@ pub marked_ready_come_up : (o : Course) → IsWithin o.state.cluster → All (λ
     → All (λ (p : Pair). IsNodeOf o.state.cluster p.node) (ready_come_up o).marked
 unfolding ready_come_up
 marked_ready_come_up o within all = marked_each o.state.cluster (nodes_of o.state.cluster) o (all_nodes o.state.cluster) all
+
+-- ---- what leaves the marks as they were
+pub none_marked : (s : StateView) → All (λ (p : Pair). IsNodeOf s.cluster p.node) []
+none_marked s k d l = absurd (omega arith)
+
+pub ended_marked : (o : Course) (n : Node) → (ended o n).marked ≡ o.marked
+unfolding ended
+ended_marked o n = refl

@@ -40,7 +40,7 @@ remade s waiting restarts standings timers = record s { waiting = waiting; resta
 
 pub mark_any : (P : StateView → Type 0) (s : StateView) (n : Node) (a : App) (r : Restart)
     → ((waiting : List (List App)) (restarts : List (List Restart)) (standings : List Standing) (timers : List (ℕ × Timer))
-        → P (remade s waiting restarts standings timers)) → P (with_mark s n a r)
+    → P (remade s waiting restarts standings timers)) → P (with_mark s n a r)
 unfolding with_mark
 mark_any P s n a r each =
     let t : StateView = with_restart (with_waiting s n a) n a r in
@@ -49,11 +49,11 @@ mark_any P s n a r each =
 -- so with all marks of a boot list
 pub marks_any : (P : StateView → Type 0) (o : Course) (n : Node) (boot : List (App × Restart))
     → ((waiting : List (List App)) (restarts : List (List Restart)) (standings : List Standing) (timers : List (ℕ × Timer))
-        → P (remade o.state waiting restarts standings timers)) → P (fold (mark_booted n) o boot).state
+    → P (remade o.state waiting restarts standings timers)) → P (fold (mark_booted n) o boot).state
 marks_any P o n [] each = each o.state.waiting o.state.restarts o.state.standings o.state.timers
 marks_any P o n (b ∷ boot) each = marks_any P (mark o n b.0 b.1) n boot
     (mark_any (λ s. (waiting : List (List App)) (restarts : List (List Restart)) (standings : List Standing) (timers : List (ℕ × Timer))
-        → P (remade s waiting restarts standings timers))
+    → P (remade s waiting restarts standings timers))
     o.state n b.0 b.1 (λ w r st ts waiting restarts standings timers. each waiting restarts standings timers))
 
 -- an application that isn't started at a node is not started there by the mark of another
@@ -62,14 +62,14 @@ waiting_kept s n a b other off =
     let apart = not_started (runs_at s n b) (waits_at s n b) off in
     neither (runs_at s n b) (waits_at (with_waiting s n a) n b) apart.0
     (is_false (waits_at (with_waiting s n a) n b) (λ w. put_has s.waiting n.0 n.0 a b w (λ was. both (waits_at s n b) was apart.1)
-        (λ e same. absurd (other (same_number b.0 a.0 same)))))
+    (λ e same. absurd (other (same_number b.0 a.0 same)))))
 
 pub mark_starts_no_other : (s : StateView) (n : Node) (a b : App) (r : Restart) → b.0 ≢ a.0 → is_started s n b ≡ false
     → is_started (with_mark s n a r) n b ≡ false
 unfolding with_mark
 mark_starts_no_other s n a b r other off =
     wanted_any (λ t. is_started t n b ≡ false) (with_restart (with_waiting s n a) n a r) n a (standing_of s a)
-        (λ standings timers. waiting_kept s n a b other off)
+    (λ standings timers. waiting_kept s n a b other off)
 
 -- cluster and modes are as they were
 pub mark_cluster : (s : StateView) (n : Node) (a : App) (r : Restart) → (with_mark s n a r).cluster ≡ s.cluster

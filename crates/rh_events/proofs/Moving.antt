@@ -14,10 +14,8 @@ use Rattle.rh_state.specs.Setters.{with_waiting, with_running, with_kind, with_s
 use Rattle.rh_settle.proofs.Every.{filter_no}
 use Rattle.rh_settle.proofs.Places.{at_set_here, same_refl, or_right, append_gives, started_on}
 use Rattle.rh_settle.specs.declared.notice.Move.TheVariants.{Takeover}
-use Rattle.rh_settle.specs.declared.notice.Notice.{Notice}
 use Rattle.rh_settle.specs.declared.notice.Notice.TheVariants as notice
-use Rattle.rh_settle.specs.declared.notice.Pair.{Pair}
-use Rattle.rh_settle.specs.Course.{course, told}
+use Rattle.rh_settle.specs.Course.{TraceView, course, told}
 use Rattle.rh_settle.specs.Moves.{moved, with_stopped}
 
 -- an application that enters a list and leaves it again
@@ -48,8 +46,10 @@ waits_now s n a shape number =
     ∙ append_gives (row s.waiting n.0) a a (same_refl a.0)))
 
 -- a takeover takes its application out of the lists of the node first
-pub same_takeover : (s t : StateView) (a : App) (m n : Node) (notices : List Notice) (marked : List Pair) → unlisted t n a ≡ unlisted s n a
-    → moved (course t notices marked) (Takeover a m n) ≡ moved (course s notices marked) (Takeover a m n)
-same_takeover s t a m n notices marked e =
-    ap (λ (u : StateView). told (told (course (with_standing (with_stopped (with_kind (with_running u n a) n a (kind.Takeover m)) m a) a
-        (Running n)) notices marked) (notice.Started a n (kind.Takeover m) None)) (notice.Stopped a m)) e
+abbrev taken_to : StateView → App → Node → Node → StateView
+taken_to u a m n = with_standing (with_stopped (with_kind (with_running u n a) n a (kind.Takeover m)) m a) a (Running n)
+
+pub same_takeover : (s t : StateView) (a : App) (m n : Node) (trace : TraceView) → unlisted t n a ≡ unlisted s n a
+    → moved (course t trace) (Takeover a m n) ≡ moved (course s trace) (Takeover a m n)
+same_takeover s t a m n trace e =
+    ap (λ (u : StateView). told (told (course (taken_to u a m n) trace) (notice.Started a n (kind.Takeover m) None)) (notice.Stopped a m)) e

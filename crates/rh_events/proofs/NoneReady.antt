@@ -90,7 +90,7 @@ module _ (s : StateView) (n : Node) (waits : is_waiting (mode_of s n) ≡ true) 
   none_readied m not_ready = cases (nat_eq m.0 n.0)
       (λ t. up_not_ready m (same_number m.0 n.0 t))
       (λ f. ap (λ (mode : Mode). is_waiting mode && has_others (up s n) m (sync_wait_of s.cluster m))
-          (at_set_there s.modes n.0 m.0 Up Down (other_number m.0 n.0 f))
+      (at_set_there s.modes n.0 m.0 Up Down (other_number m.0 n.0 f))
       ∙ ap (λ b. is_waiting (mode_of s m) && b) (others_kept m (sync_wait_of s.cluster m))
       ∙ not_ready)
 

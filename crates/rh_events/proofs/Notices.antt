@@ -6,7 +6,7 @@ use Rattle.rh_model.specs.declared.node.App.{App}
 use Rattle.rh_model.specs.declared.settings.Restart.{Restart}
 use Rattle.rh_state.specs.declared.status.Mode.TheVariants.{Up}
 use Rattle.rh_state.specs.declared.status.Standing.{Standing}
-use Rattle.rh_state.specs.declared.status.Standing.TheVariants.{Quiet, Wanted, Running, Lost}
+use Rattle.rh_state.specs.declared.status.Standing.TheVariants.{Quiet, Wanted, Running}
 use Rattle.rh_state.specs.declared.status.Timer.TheVariants.{Sync}
 use Rattle.rh_state.specs.Numbers.{nodes_of}
 use Rattle.rh_state.specs.StateView.{runs_at, is_allowed, restart_of, standing_of}
@@ -17,14 +17,11 @@ use Rattle.rh_settle.specs.declared.notice.Notice.TheVariants as notice
 use Rattle.rh_settle.specs.Course.{Course, told, now_in}
 use Rattle.rh_settle.specs.Moves.{with_stopped}
 use Rattle.rh_settle.proofs.Behind.{after_notices, told_after, fold_after, moved_after}
-use Rattle.rh_events.specs.declared.event.Event.{Event}
-use Rattle.rh_events.specs.declared.event.Event.TheVariants.{Boot, Crash, Tick, Start, Stop, Permit, Takeover, Exit}
 use Rattle.rh_events.specs.Readiness.{is_ready}
 use Rattle.rh_events.specs.Marking.{with_distributed_standing, mark, mark_booted, mark_all}
 use Rattle.rh_events.specs.ComingUp.{come_up, come_up_if_ready, ready_come_up}
 use Rattle.rh_events.specs.Ending.{cleared, all_lost, ended}
 use Rattle.rh_events.specs.ByHand.{stopped, left_waiting, forbidden, permitted, taken_from, taken_over, ends_node, exited}
-use Rattle.rh_events.specs.Changes.{change}
 
 -- ---- marks, and nodes that come up
 pub mark_after : (base : List Notice) (o : Course) (n : Node) (a : App) (r : Restart) → mark (after_notices base o) n a r ≡ after_notices base (mark o n a r)
@@ -91,10 +88,8 @@ unfolding taken_over
 taken_over_after base o n a r = by (standing_of o.state a)
   where
     by : (st : Standing) → taken_from (after_notices base o) n a r st ≡ after_notices base (taken_from o n a r st)
-    by Quiet = refl
-    by (Wanted from) = refl
     by (Running m) = moved_after base (now_in o (with_restart o.state n a r)) (move.Takeover a m n)
-    by (Lost m) = refl
+    by _ = refl
 
 pub exited_after : (base : List Notice) (o : Course) (n : Node) (a : App) (normal : Bool)
     → exited (after_notices base o) n a normal ≡ after_notices base (exited o n a normal)
@@ -104,19 +99,3 @@ exited_after base o n a normal = by (ends_node (restart_of o.state n a) normal)
     by : (b : Bool) → cond b (ended (after_notices base o) n) (stopped (after_notices base o) n a) ≡ after_notices base (cond b (ended o n) (stopped o n a))
     by true = ended_after base o n
     by false = stopped_after base o n a
-
--- ---- the change of any event
-pub change_after : (base : List Notice) (o : Course) (e : Event) → change (after_notices base o) e ≡ after_notices base (change o e)
-change_after base o (Boot n) = refl
-change_after base o (Crash n) = ended_after base o n
-change_after base o (Tick ms) = refl
-change_after base o (Start n a r) = mark_after base o n a r
-change_after base o (Stop n a) = by (runs_at o.state n a)
-  where
-    by : (b : Bool) → cond b (stopped (after_notices base o) n a) (left_waiting (after_notices base o) n a)
-        ≡ after_notices base (cond b (stopped o n a) (left_waiting o n a))
-    by true = stopped_after base o n a
-    by false = left_waiting_after base o n a
-change_after base o (Permit n a allow) = permitted_after base o n a allow
-change_after base o (Takeover n a r) = taken_over_after base o n a r
-change_after base o (Exit n a normal) = exited_after base o n a normal

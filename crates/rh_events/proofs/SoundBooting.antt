@@ -1,7 +1,7 @@
 -- A node that boots keeps a state sound.
-use Rattle.std.proofs.Common.{◌≡◌, ◌≢◌, ◌≤◌, ◌&&◌, ◌+◌, ℕ, Bool, true, false, List, refl, sym, ap, ◌∙◌, arith, nat_eq}
-use Rattle.std.proofs.lemmas.Bool.{and_left}
-use Rattle.std.proofs.lemmas.List.{length-set}
+use Rattle.std.proofs.Common.{◌≡◌, ◌≢◌, ◌≤◌, ◌&&◌, ◌+◌, ℕ, Bool, true, false, List, refl, sym, ap, ◌∙◌, arith, nat_eq, inl, inr}
+use Rattle.std.proofs.lemmas.Bool.{and_left, cases_lt}
+use Rattle.std.proofs.lemmas.List.Elements.{All-get_or}
 use Rattle.rh_model.specs.declared.node.Node.{Node}
 use Rattle.rh_model.specs.declared.settings.SyncWait.{SyncWait}
 use Rattle.rh_model.specs.declared.settings.SyncWait.TheVariants.{Unset, After, Forever}
@@ -10,17 +10,20 @@ use Rattle.rh_state.specs.declared.status.Mode.{Mode}
 use Rattle.rh_state.specs.declared.status.Mode.TheVariants.{Down, Waiting, Up}
 use Rattle.rh_state.specs.declared.status.Timer.{Timer}
 use Rattle.rh_state.specs.declared.status.Timer.TheVariants.{Sync, Failover}
+use Rattle.rh_state.specs.Limits.{incarnation_limit}
 use Rattle.rh_state.specs.Shape.{IsNodeOf}
 use Rattle.rh_state.specs.StateView.{StateView, mode_of, incarnation_of, is_up, is_alive, is_waiting}
 use Rattle.rh_state.specs.Setters.{with_mode, with_incarnation, with_timer}
 use Rattle.rh_base.proofs.Lists.{cases}
 use Rattle.rh_settle.specs.Soundness.{TimersFit, IsSound, is_timed}
+use Rattle.rh_settle.proofs.Shapes.{shaped_timers, shaped_mode, shaped_incarnation}
 use Rattle.rh_settle.proofs.Places.{at_set_here, at_set_there}
 use Rattle.rh_events.specs.Changes.{with_sync_timer, booted}
 use Rattle.rh_settle.proofs.Entries.{same_number, other_number}
 use Rattle.rh_events.proofs.Tables.{differ}
 use Rattle.rh_events.proofs.TimersToldApart.{is_set}
-use Rattle.rh_events.proofs.TimersArmed.{All-behind, once-behind, order-behind, set-behind, set-behind_other}
+use Rattle.rh_events.proofs.TimersArmed.{once-behind, order-behind, set-behind, set-behind_other}
+use Rattle.rh_wheel.proofs.Arming.{All-behind}
 
 not_up : (mode : Mode) → is_alive mode ≡ false → is_up mode ≡ false
 not_up Down h = refl
@@ -36,9 +39,16 @@ not_waiting Up h = refl
 abbrev waits : StateView → Node → StateView
 waits s n = with_mode (with_incarnation s n (incarnation_of s n + 1)) n Waiting
 
-module _ (s : StateView) (n : Node) (h : IsSound s) (is_node : IsNodeOf s.cluster n) (down : is_alive (mode_of s n) ≡ false) where
+module _ (s : StateView) (n : Node) (h : IsSound s) (is_node : IsNodeOf s.cluster n) (down : is_alive (mode_of s n) ≡ false)
+    (another : incarnation_of s n ≢ incarnation_limit) where
+  one_more : incarnation_of s n + 1 ≤ incarnation_limit
+  one_more =
+      let count = h.shaped.incarnations in
+      let most = All-get_or (λ i. i ≤ incarnation_limit) s.incarnations n.0 0 (omega (arith, count, is_node)) h.shaped.limited in
+      elim (cases_lt (incarnation_of s n) incarnation_limit) [ inl below ↦ omega (arith, below) | inr above ↦ absurd (another (omega (arith, above, most))) ]
+
   here : (m : Node) → m.0 ≡ n.0 → mode_of (waits s n) m ≡ Waiting
-  here m e = ap (λ k. mode_of (waits s n) (numbered k)) e ∙ at_set_here s.modes n.0 Waiting Down (let k = h.sized.modes in omega (arith, k, is_node))
+  here m e = ap (λ k. mode_of (waits s n) (numbered k)) e ∙ at_set_here s.modes n.0 Waiting Down (let k = h.shaped.modes in omega (arith, k, is_node))
 
   there : (m : Node) → m.0 ≢ n.0 → mode_of (waits s n) m ≡ mode_of s m
   there m d = at_set_there s.modes n.0 m.0 Waiting Down d
@@ -57,14 +67,8 @@ module _ (s : StateView) (n : Node) (h : IsSound s) (is_node : IsNodeOf s.cluste
   sound_but_timers : (timers : List (ℕ × Timer)) → TimersFit (record (waits s n) { timers = timers }) → IsSound (record (waits s n) { timers = timers })
   sound_but_timers timers fit = record {
     within = h.within;
-    sized = record {
-      modes = length-set s.modes n.0 Waiting ∙ h.sized.modes;
-      running = h.sized.running;
-      waiting = h.sized.waiting;
-      allowed = h.sized.allowed;
-      standings = h.sized.standings;
-      apps = h.sized.apps;
-    };
+    shaped = shaped_timers (waits s n) timers
+        (shaped_mode (with_incarnation s n (incarnation_of s n + 1)) n Waiting (shaped_incarnation s n (incarnation_of s n + 1) one_more h.shaped));
     once = record { running = h.once.running; waiting = h.once.waiting; apart = h.once.apart };
     idle = record {
       running = λ m idle. h.idle.running m (was_idle m idle);
@@ -108,7 +112,7 @@ module _ (s : StateView) (n : Node) (h : IsSound s) (is_node : IsNodeOf s.cluste
       record {
         sync = λ m. by_node (λ m. Needs m (is_set (Sync m) (with_timer (waits s n) (s.time + ms) (Sync n)).timers)) m
             (λ e. needs_here m _ e (ap (λ k. is_set (Sync (numbered k)) (with_timer (waits s n) (s.time + ms) (Sync n)).timers) e ∙ set-behind new s.timers
-                ∙ sym some))
+            ∙ sym some))
             (λ d. needs_there m _ d (set-behind_other new (Sync m) s.timers (differ m.0 n.0 d)));
         failover = λ a. set-behind_other new (Failover a) s.timers refl ∙ h.timers.failover a;
         once = once-behind new s.timers unset h.timers.once;

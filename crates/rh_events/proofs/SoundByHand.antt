@@ -8,7 +8,7 @@ use Rattle.rh_state.specs.declared.status.Standing.TheVariants.{Quiet, Wanted, R
 use Rattle.rh_state.specs.declared.status.Timer.{Timer}
 use Rattle.rh_state.specs.declared.status.Timer.TheVariants.{Failover}
 use Rattle.rh_state.specs.Numbers.{same_app}
-use Rattle.rh_state.specs.Shape.{IsNodeOf, IsAppOf}
+use Rattle.rh_state.specs.Shape.{IsNodeOf, IsAppOf, IsStandingOf}
 use Rattle.rh_state.specs.Tables.{row}
 use Rattle.rh_state.specs.Lists.{without_app}
 use Rattle.rh_state.specs.StateView.{StateView, mode_of, is_up, runs_at, waits_at, is_allowed, restart_of, standing_of}
@@ -22,7 +22,7 @@ use Rattle.rh_events.specs.Marking.{with_distributed_standing}
 use Rattle.rh_events.specs.Ending.{ended}
 use Rattle.rh_events.specs.ByHand.{stopped, is_started_anywhere, quiet_if_nowhere, left_waiting, forbidden, permitted, ends_node, exited}
 use Rattle.rh_settle.proofs.Entries.{same_number, both, taken, has, taken_has, taken_not, taken_keeps, there}
-use Rattle.rh_events.proofs.Tables.{at_pair}
+use Rattle.rh_settle.proofs.Kept.{at_pair}
 use Rattle.rh_events.proofs.SoundEndingFits.{stands_here, stands_there, same_standing, fit_standing, fit_found}
 use Rattle.rh_events.proofs.SoundEndingLists.{ListsFit, lists_fit, lists_unlisted, lists_waiting, lists_allowed, restood, lists_restood}
 use Rattle.rh_settle.proofs.Kept.{same_running}
@@ -38,7 +38,7 @@ pub sound_unlisted : (s : StateView) (n : Node) (a : App) (waiting : List (List 
     → ListsFit (relieved s n a waiting allowed) → IsSound s → IsSound (relieved s n a waiting allowed)
 sound_unlisted s n a waiting allowed elsewhere lists h = record {
   within = h.within;
-  sized = lists.sized;
+  shaped = lists.shaped;
   once = lists.once;
   idle = lists.idle;
   standing = record {
@@ -56,14 +56,14 @@ sound_unlisted s n a waiting allowed elsewhere lists h = record {
 
 -- a distributed one that ran nowhere else stands otherwise
 pub sound_relieved : (s : StateView) (n : Node) (a : App) (waiting : List (List App)) (allowed : List (List Bool)) (st : Standing) (timers : List (ℕ × Timer))
-    → is_local s.cluster a ≡ false → IsNodeOf s.cluster n → IsAppOf s.cluster a → ((m : Node) → st ≡ Running m → ⊥)
-        → ((m : Node) → runs_at s m a ≡ true → m.0 ≡ n.0)
+    → IsStandingOf s.cluster st → is_local s.cluster a ≡ false → IsNodeOf s.cluster n → IsAppOf s.cluster a → ((m : Node) → st ≡ Running m → ⊥)
+    → ((m : Node) → runs_at s m a ≡ true → m.0 ≡ n.0)
     → TimersFit (restood s a st timers) → ListsFit (relieved s n a waiting allowed) → IsSound s → IsSound (restood (relieved s n a waiting allowed) a st timers)
-sound_relieved s n a waiting allowed st timers distributed node app stops here fit lists h =
-    let l = lists_restood (relieved s n a waiting allowed) a st timers lists in
+sound_relieved s n a waiting allowed st timers known distributed node app stops here fit lists h =
+    let l = lists_restood (relieved s n a waiting allowed) a st timers known lists in
     record {
       within = h.within;
-      sized = l.sized;
+      shaped = l.shaped;
       once = l.once;
       idle = l.idle;
       standing = record {
@@ -85,10 +85,10 @@ sound_relieved s n a waiting allowed st timers distributed node app stops here f
     }
   where
     in_running : n.0 < length s.running
-    in_running = let e = h.sized.running in omega (arith, e, node)
+    in_running = let e = h.shaped.running in omega (arith, e, node)
 
     in_standings : a.0 < length s.standings
-    in_standings = let e = h.sized.standings in omega (arith, e, app)
+    in_standings = let e = h.shaped.standings in omega (arith, e, app)
 
 -- ---- stopping
 never_running : (m : Node) → Quiet ≡ Running m → ⊥
@@ -103,15 +103,15 @@ runs_alone s n m a h distributed r q = ap (λ (x : Node). x.0)
     (same_running m n (sym (h.standing.stands m a distributed q) ∙ h.standing.stands n a distributed r))
 
 -- a pair that ran runs no more, and the application stands so if it is distributed
-stands_down : (s : StateView) (n : Node) (a : App) (waiting : List (List App)) (allowed : List (List Bool)) (st : Standing) → ((m : Node) → st ≡ Running m → ⊥)
-    → is_lost st ≡ false
+stands_down : (s : StateView) (n : Node) (a : App) (waiting : List (List App)) (allowed : List (List Bool)) (st : Standing) → IsStandingOf s.cluster st
+    → ((m : Node) → st ≡ Running m → ⊥) → is_lost st ≡ false
     → IsSound s → IsNodeOf s.cluster n → IsAppOf s.cluster a → runs_at s n a ≡ true → ListsFit (relieved s n a waiting allowed)
-        → IsSound (with_distributed_standing (relieved s n a waiting allowed) a st)
-stands_down s n a waiting allowed st stops found h node app r lists = by (is_local s.cluster a) refl
+    → IsSound (with_distributed_standing (relieved s n a waiting allowed) a st)
+stands_down s n a waiting allowed st known stops found h node app r lists = by (is_local s.cluster a) refl
   where
     by : (b : Bool) → is_local s.cluster a ≡ b → IsSound (cond b (relieved s n a waiting allowed) (with_standing (relieved s n a waiting allowed) a st))
     by true local = sound_unlisted s n a waiting allowed (λ m e. absurd (never_running m (sym (h.standing.local a local) ∙ e))) lists h
-    by false distributed = sound_relieved s n a waiting allowed st s.timers distributed node app stops
+    by false distributed = sound_relieved s n a waiting allowed st s.timers known distributed node app stops
         (λ m q. runs_alone s n m a h distributed r q)
         (fit_standing s a st (found ∙ sym (ap is_lost (h.standing.stands n a distributed r))) h.timers)
         lists h
@@ -121,7 +121,7 @@ pub sound_stopped : (o : Course) (n : Node) (a : App) → IsSound o.state → Is
 unfolding stopped
 sound_stopped o n a h node app r =
     let s : StateView = o.state in
-    stands_down s n a (taken s.waiting n.0 a) s.allowed Quiet never_running refl h node app r (lists_unlisted s n a (lists_fit s h))
+    stands_down s n a (taken s.waiting n.0 a) s.allowed Quiet tt never_running refl h node app r (lists_unlisted s n a (lists_fit s h))
 
 -- ---- leaving where it waits
 pub sound_left_waiting : (o : Course) (n : Node) (a : App) → IsSound o.state → IsNodeOf o.state.cluster n → IsAppOf o.state.cluster a
@@ -147,7 +147,7 @@ sound_left_waiting o n a h node app w r = by (standing_of o.state a) refl
     stays elsewhere = sound_unlisted s n a (taken s.waiting n.0 a) s.allowed elsewhere lists h
 
     in_standings : a.0 < length s.standings
-    in_standings = let e = h.sized.standings in omega (arith, e, app)
+    in_standings = let e = h.shaped.standings in omega (arith, e, app)
 
     by : (st : Standing) → standing_of s a ≡ st → IsSound (quiet_if_nowhere (unlisted s n a) a st)
     by Quiet e = stays (λ m q. absurd (never_running m (sym e ∙ q)))
@@ -161,7 +161,7 @@ sound_left_waiting o n a h node app w r = by (standing_of o.state a) refl
 
         go : (b : Bool) → IsSound (cond b (unlisted s n a) (with_standing (unlisted s n a) a Quiet))
         go true = stays (λ m q. absurd (stops m (sym e ∙ q)))
-        go false = sound_relieved s n a (taken s.waiting n.0 a) s.allowed Quiet s.timers (free (Wanted from) e other) node app never_running
+        go false = sound_relieved s n a (taken s.waiting n.0 a) s.allowed Quiet s.timers tt (free (Wanted from) e other) node app never_running
             (nowhere (Wanted from) e other stops)
             (fit_standing s a Quiet (sym (ap is_lost e)) h.timers) lists h
     by (Running k) e = stays (λ m q f. both (runs_at s n a) (ap (λ i. has s.running i a) (sym f) ∙ h.runs.runs a m q) r)
@@ -175,7 +175,7 @@ sound_left_waiting o n a h node app w r = by (standing_of o.state a) refl
 
         go : (b : Bool) → IsSound (cond b (unlisted s n a) (without_due (with_standing (unlisted s n a) a Quiet) (Failover a)))
         go true = stays (λ m q. absurd (stops m (sym e ∙ q)))
-        go false = sound_relieved s n a (taken s.waiting n.0 a) s.allowed Quiet (without_due s (Failover a)).timers
+        go false = sound_relieved s n a (taken s.waiting n.0 a) s.allowed Quiet (without_due s (Failover a)).timers tt
             (free (Lost k) e other) node app never_running (nowhere (Lost k) e other stops)
             (fit_found s a Quiet in_standings refl h.timers) lists h
 
@@ -185,7 +185,7 @@ sound_allowed s n a allow h up =
     let l = lists_allowed s n a allow up (lists_fit s h) in
     record {
       within = h.within;
-      sized = l.sized;
+      shaped = l.shaped;
       once = l.once;
       idle = l.idle;
       standing = record { listed = l.listed; stands = h.standing.stands; local = h.standing.local };
@@ -198,8 +198,8 @@ pub lists_stopped : (s : StateView) (n : Node) (a : App) → IsNodeOf s.cluster 
     → ListsFit (with_stopped s n a)
 lists_stopped s n a node app up listed h =
     lists_waiting (unlisted s n a) n a up app listed
-    (taken_not s.running n.0 a (let e = h.sized.running in omega (arith, e, node)))
-    (taken_not s.waiting n.0 a (let e = h.sized.waiting in omega (arith, e, node)))
+    (taken_not s.running n.0 a (let e = h.shaped.running in omega (arith, e, node)))
+    (taken_not s.waiting n.0 a (let e = h.shaped.waiting in omega (arith, e, node)))
     (lists_unlisted s n a h)
 
 sound_forbidden : (o : Course) (n : Node) (a : App) → IsSound o.state → IsNodeOf o.state.cluster n → IsAppOf o.state.cluster a
@@ -210,7 +210,7 @@ sound_forbidden o n a h node app up r =
     let s : StateView = o.state in
     let t : StateView = with_allowed s n a false in
     let listed = h.standing.listed n a (or_left (runs_at s n a) (waits_at s n a) r) in
-    stands_down s n a (with_stopped t n a).waiting t.allowed (Wanted None) wanted_never refl h node app r
+    stands_down s n a (with_stopped t n a).waiting t.allowed (Wanted None) tt wanted_never refl h node app r
     (lists_stopped t n a node app up listed (lists_allowed s n a false up (lists_fit s h)))
 
 last_of : (p q r : Bool) → (p && (q && r)) ≡ true → r ≡ true

@@ -5,8 +5,9 @@ use Rattle.rh_model.specs.ClusterView.{is_listed_at}
 use Rattle.rh_model.specs.declared.node.Node.{Node}
 use Rattle.rh_model.specs.declared.node.App.{App}
 use Rattle.rh_model.specs.declared.settings.Restart.{Restart}
+use Rattle.rh_state.specs.declared.status.Kind.TheVariants as kind
 use Rattle.rh_state.specs.declared.status.Standing.{Standing}
-use Rattle.rh_state.specs.declared.status.Standing.TheVariants.{Quiet, Wanted, Running, Lost}
+use Rattle.rh_state.specs.declared.status.Standing.TheVariants.{Quiet, Running}
 use Rattle.rh_state.specs.Numbers.{same_app, same_node}
 use Rattle.rh_state.specs.Shape.{IsNodeOf, IsAppOf}
 use Rattle.rh_state.specs.Tables.{row}
@@ -14,15 +15,16 @@ use Rattle.rh_state.specs.Lists.{without_app}
 use Rattle.rh_state.specs.StateView.{StateView, mode_of, is_up, runs_at, waits_at, standing_of}
 use Rattle.rh_state.specs.Setters.{with_running, with_restart, unlisted}
 use Rattle.rh_settle.specs.Course.{Course}
-use Rattle.rh_settle.specs.Moves.{is_local, with_stopped, moved_state}
+use Rattle.rh_settle.specs.Moves.{is_local, with_started, with_stopped, moved_state}
 use Rattle.rh_settle.specs.declared.notice.Move.TheVariants.{Takeover}
 use Rattle.rh_settle.specs.Soundness.{IsSound, is_lost}
 use Rattle.rh_base.proofs.Lists.{cases}
+use Rattle.rh_settle.proofs.Shapes.{shaped_standing, shaped_restart, shaped_started, shaped_stopped}
 use Rattle.rh_settle.proofs.Places.{or_left}
 use Rattle.rh_events.specs.ByHand.{taken_from, taken_over}
 use Rattle.rh_settle.proofs.Entries.{same_number, other_number, both, row_there, taken, put, has, taken_has, taken_not, taken_keeps, there, put_has, put_keeps}
 use Rattle.rh_settle.proofs.Entries.{put_gives}
-use Rattle.rh_events.proofs.Tables.{at_pair}
+use Rattle.rh_settle.proofs.Kept.{at_pair}
 use Rattle.rh_events.proofs.SoundEndingFits.{stands_here, stands_there, fit_standing}
 use Rattle.rh_events.proofs.SoundEndingLists.{ListsFit, lists_fit, up_where_runs, lists_unlisted, lists_running, restood, lists_restood}
 use Rattle.rh_settle.proofs.Kept.{same_running}
@@ -32,13 +34,13 @@ use Rattle.rh_events.proofs.SoundByHand.{lists_stopped}
 module _ (s : StateView) (m n : Node) (a : App) (h : IsSound s) (node : IsNodeOf s.cluster n) (app : IsAppOf s.cluster a) (up : is_up (mode_of s n) ≡ true)
     (listed : is_listed_at s.cluster a n ≡ true) (stood : standing_of s a ≡ Running m) (other : same_node m n ≡ false) where
   in_running : n.0 < length s.running
-  in_running = let e = h.sized.running in omega (arith, e, node)
+  in_running = let e = h.shaped.running in omega (arith, e, node)
 
   in_waiting : n.0 < length s.waiting
-  in_waiting = let e = h.sized.waiting in omega (arith, e, node)
+  in_waiting = let e = h.shaped.waiting in omega (arith, e, node)
 
   in_standings : a.0 < length s.standings
-  in_standings = let e = h.sized.standings in omega (arith, e, app)
+  in_standings = let e = h.shaped.standings in omega (arith, e, app)
 
   abbrev left_at : List (List App)
   left_at = taken s.running n.0 a
@@ -63,10 +65,10 @@ module _ (s : StateView) (m n : Node) (a : App) (h : IsSound s) (node : IsNodeOf
       (lists_unlisted s n a (lists_fit s h))
 
   within_m : IsNodeOf s.cluster m
-  within_m = let e = h.sized.running in let l = row_there s.running m.0 a runs_there in omega (arith, e, l)
+  within_m = let e = h.shaped.running in let l = row_there s.running m.0 a runs_there in omega (arith, e, l)
 
   lists_moved : ListsFit (restood (with_stopped (with_running (unlisted s n a) n a) m a) a (Running n) s.timers)
-  lists_moved = lists_restood (with_stopped (with_running (unlisted s n a) n a) m a) a (Running n) s.timers
+  lists_moved = lists_restood (with_stopped (with_running (unlisted s n a) n a) m a) a (Running n) s.timers node
       (lists_stopped (with_running (unlisted s n a) n a) m a within_m app (up_where_runs s m a h.idle runs_there)
       (h.standing.listed m a (or_left (runs_at s m a) (waits_at s m a) runs_there)) lists_started)
 
@@ -74,7 +76,7 @@ module _ (s : StateView) (m n : Node) (a : App) (h : IsSound s) (node : IsNodeOf
   at_n : (k : Node) → has (taken both_run m.0 a) k.0 a ≡ true → Running n ≡ Running k
   at_n k r = cases (same_node k m)
       (λ t. both (has (taken both_run m.0 a) m.0 a) (ap (λ i. has (taken both_run m.0 a) i a) (sym (same_number k.0 m.0 t)) ∙ r)
-          (taken_not both_run m.0 a in_both))
+      (taken_not both_run m.0 a in_both))
       (λ d. put_has left_at n.0 k.0 a a (taken_has both_run m.0 k.0 a a r)
       (λ before. absurd (other_number k.0 m.0 d (ap (λ (x : Node). x.0) (same_running k m (sym (ran k (taken_has s.running n.0 k.0 a a before)) ∙ stood)))))
       (λ e t. ap (λ i. Running (record { 0 = i })) (sym e)))
@@ -106,17 +108,13 @@ module _ (s : StateView) (m n : Node) (a : App) (h : IsSound s) (node : IsNodeOf
   pub sound_takeover : (r : Restart) → IsSound (moved_state (with_restart s n a r) (Takeover a m n))
   sound_takeover r =
       let l = lists_moved in
+      let begun : StateView = with_started (with_restart s n a r) n a (kind.Takeover m) in
       let f = fit_standing s a (Running n) (sym (ap is_lost stood)) h.timers in
       record {
         within = h.within;
-        sized = record {
-          modes = l.sized.modes;
-          running = l.sized.running;
-          waiting = l.sized.waiting;
-          allowed = l.sized.allowed;
-          standings = l.sized.standings;
-          apps = l.sized.apps;
-        };
+        shaped = shaped_standing (with_stopped begun m a) a (Running n) node
+            (shaped_stopped begun m a app
+            (shaped_started (with_restart s n a r) n a (kind.Takeover m) node app within_m (shaped_restart s n a r node h.shaped)));
         once = record { running = l.once.running; waiting = l.once.waiting; apart = l.once.apart };
         idle = record { running = l.idle.running; waiting = l.idle.waiting; permissions = l.idle.permissions };
         standing = record {
@@ -131,7 +129,7 @@ module _ (s : StateView) (m n : Node) (a : App) (h : IsSound s) (node : IsNodeOf
         runs = record {
           runs = λ b k e. cases (same_app b a)
               (λ t. ap (λ i. has (taken both_run m.0 a) i b) (ap (λ (x : Node). x.0) (same_running k n (sym e ∙ stands_here s a b (Running n) in_standings t)))
-                  ∙ runs_now b t)
+              ∙ runs_now b t)
               (λ d. run_still k b d (h.runs.runs b k (sym (stands_there s a b (Running n) d) ∙ e)));
         };
         timers = record { sync = f.sync; failover = f.failover; once = f.once; order = f.order; due = f.due };
@@ -147,7 +145,5 @@ unfolding taken_over
 sound_taken_over o n a r h node app up listed elsewhere = by (standing_of o.state a) refl
   where
     by : (st : Standing) → standing_of o.state a ≡ st → IsSound (taken_from o n a r st).state
-    by Quiet e = h
-    by (Wanted from) e = h
     by (Running m) e = sound_takeover o.state m n a h node app up listed e (elsewhere m e) r
-    by (Lost m) e = h
+    by _ e = h

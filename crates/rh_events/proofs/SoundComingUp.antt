@@ -3,7 +3,6 @@ use Rattle.std.proofs.Common.{◌≡◌, ◌≢◌, ◌<◌, ◌≤◌, ◌&&◌
 use Rattle.std.proofs.Common.{◌∙◌, arith, nat_eq, unwrap_or, slice_get, subst, All, AllPairs}
 use Rattle.std.specs.List.{range_with_len}
 use Rattle.std.proofs.lemmas.Bool.{and_parts}
-use Rattle.std.proofs.lemmas.List.{length-set}
 use Rattle.std.proofs.lemmas.List.FromFn.{map-range_with_len_more}
 use Rattle.std.proofs.lemmas.List.Sums.{fold_push}
 use Rattle.rh_model.specs.declared.node.Node.{Node}
@@ -22,6 +21,7 @@ use Rattle.rh_base.proofs.Lists.{cases}
 use Rattle.rh_settle.specs.declared.notice.Notice.TheVariants as notice
 use Rattle.rh_settle.specs.Course.{Course, told, now_in}
 use Rattle.rh_settle.specs.Soundness.{TimersFit, IsSound, is_timed}
+use Rattle.rh_settle.proofs.Shapes.{shaped_timers, shaped_mode}
 use Rattle.rh_settle.proofs.Places.{at_set_here, at_set_there}
 use Rattle.rh_events.specs.Readiness.{is_ready}
 use Rattle.rh_events.specs.Marking.{mark, mark_booted, mark_all}
@@ -38,7 +38,7 @@ up s n = with_mode (without_due s (Sync n)) n Up
 
 module _ (s : StateView) (n : Node) (h : IsSound s) (is_node : IsNodeOf s.cluster n) where
   pub up_now : (m : Node) → m.0 ≡ n.0 → mode_of (up s n) m ≡ Up
-  up_now m e = ap (λ k. mode_of (up s n) (numbered k)) e ∙ at_set_here s.modes n.0 Up Down (let k = h.sized.modes in omega (arith, k, is_node))
+  up_now m e = ap (λ k. mode_of (up s n) (numbered k)) e ∙ at_set_here s.modes n.0 Up Down (let k = h.shaped.modes in omega (arith, k, is_node))
 
   as_before : (m : Node) → m.0 ≢ n.0 → mode_of (up s n) m ≡ mode_of s m
   as_before m d = at_set_there s.modes n.0 m.0 Up Down d
@@ -68,14 +68,7 @@ module _ (s : StateView) (n : Node) (h : IsSound s) (is_node : IsNodeOf s.cluste
   pub sound_up : IsSound (up s n)
   sound_up = record {
     within = h.within;
-    sized = record {
-      modes = length-set s.modes n.0 Up ∙ h.sized.modes;
-      running = h.sized.running;
-      waiting = h.sized.waiting;
-      allowed = h.sized.allowed;
-      standings = h.sized.standings;
-      apps = h.sized.apps;
-    };
+    shaped = shaped_mode (without_due s (Sync n)) n Up (shaped_timers s (without_due s (Sync n)).timers h.shaped);
     once = record { running = h.once.running; waiting = h.once.waiting; apart = h.once.apart };
     idle = record {
       running = λ m idle. was_idle m idle (λ was. h.idle.running m was);

@@ -3,7 +3,7 @@ use Rattle.std.proofs.Common.{◌≡◌, ◌≢◌, ◌<◌, ◌≤◌, ◌+◌,
 use Rattle.std.proofs.Common.{subst, arith, slice_get, slice_set, unwrap_or, Some}
 use Rattle.std.specs.List.{range_with_len, list_any}
 use Rattle.std.proofs.lemmas.Bool.Decides.{nat_tests}
-use Rattle.std.proofs.lemmas.List.{length-set}
+use Rattle.std.proofs.lemmas.List.Elements.{All-nil}
 use Rattle.rh_model.specs.ClusterView.{ClusterView, IsWithin, app_count, app_numbered}
 use Rattle.rh_model.specs.declared.node.Node.{Node}
 use Rattle.rh_model.specs.declared.node.App.{App}
@@ -11,20 +11,23 @@ use Rattle.rh_state.specs.declared.status.Mode.TheVariants.{Down}
 use Rattle.rh_state.specs.declared.status.Standing.{Standing}
 use Rattle.rh_state.specs.declared.status.Standing.TheVariants.{Quiet, Wanted, Running, Lost}
 use Rattle.rh_state.specs.declared.status.Timer.{Timer}
-use Rattle.rh_state.specs.declared.status.Timer.TheVariants.{Failover}
+use Rattle.rh_state.specs.declared.status.Timer.TheVariants.{Sync, Failover}
 use Rattle.rh_state.specs.First.{configured}
 use Rattle.rh_state.specs.Numbers.{same_app, same_node, apps_of}
-use Rattle.rh_state.specs.Shape.{IsNodeOf}
+use Rattle.rh_state.specs.Shape.{IsNodeOf, IsAppOf, IsStandingOf}
 use Rattle.rh_state.specs.Tables.{row}
 use Rattle.rh_state.specs.Lists.{has_app}
 use Rattle.rh_state.specs.StateView.{StateView, mode_of, is_up, runs_at, waits_at, is_started, standing_of}
-use Rattle.rh_state.specs.Setters.{with_standing, with_timer}
+use Rattle.rh_state.specs.Setters.{with_standing, with_timer, without_due}
 use Rattle.rh_settle.specs.Course.{Course}
 use Rattle.rh_settle.specs.Moves.{is_local}
 use Rattle.rh_settle.specs.Soundness.{TimersFit, IsSound, is_lost}
 use Rattle.rh_base.proofs.Lists.{cases}
+use Rattle.rh_state.proofs.FirstStates.{length-configured}
+use Rattle.rh_state.proofs.Listings.{IsShaped-running, IsShaped-waiting}
+use Rattle.rh_settle.proofs.Shapes.{shaped_timers, shaped_mode, shaped_permissions}
 use Rattle.rh_settle.proofs.Places.{at_set, at_set_here, at_set_there, or_left, or_right}
-use Rattle.rh_events.specs.Ending.{timeout_of, cleared, lost_at, lost_from, lost_if_ran, all_lost, ended}
+use Rattle.rh_events.specs.Ending.{timeout_of, emptied, with_configured, cleared, lost_at, lost_from, lost_if_ran, all_lost, ended}
 use Rattle.rh_settle.proofs.Kept.{same_running}
 use Rattle.rh_settle.proofs.Entries.{same_number, other_number, is_false, both, has, AreOnce, either}
 use Rattle.rh_events.proofs.SoundEndingFits.{stands_here, stands_there, same_standing, fit_standing, fit_lost, fit_down}
@@ -33,6 +36,7 @@ use Rattle.rh_events.proofs.SoundEndingLists.{ListsFit, restood, lists_restood}
 -- the part of soundness that an ending node keeps at each moment, and where the others run
 pub record IsSoundBut (n : Node) (rest : List App) (s : StateView) : Type 0 where
   pub within : IsWithin s.cluster
+  pub node : IsNodeOf s.cluster n
   pub lists : ListsFit s
   pub stands : (m : Node) (a : App) → is_local s.cluster a ≡ false → runs_at s m a ≡ true → standing_of s a ≡ Running m
   pub local : (a : App) → is_local s.cluster a ≡ true → standing_of s a ≡ Quiet
@@ -73,14 +77,10 @@ started_before s n m a h = either (has (slice_set s.running n.0 []) m.0 a) (has 
 lists_cleared : (s : StateView) (n : Node) → IsSound s → IsNodeOf s.cluster n → ListsFit (cleared s n)
 unfolding cleared
 lists_cleared s n h within = record {
-  sized = record {
-    modes = length-set s.modes n.0 Down ∙ h.sized.modes;
-    running = length-set s.running n.0 [] ∙ h.sized.running;
-    waiting = length-set s.waiting n.0 [] ∙ h.sized.waiting;
-    allowed = length-set s.allowed n.0 (configured s.cluster n) ∙ h.sized.allowed;
-    standings = h.sized.standings;
-    apps = λ m a t. h.sized.apps m a (started_before s n m a t);
-  };
+  shaped = shaped_mode (with_configured (emptied (without_due s (Sync n)) n) n) n Down
+      (shaped_permissions (emptied (without_due s (Sync n)) n) n (configured s.cluster n) (length-configured s.cluster n)
+      (IsShaped-waiting (record (without_due s (Sync n)) { running = slice_set s.running n.0 [] }) n.0 [] (IsShaped-running (without_due s (Sync n)) n.0 []
+      (shaped_timers s (without_due s (Sync n)).timers h.shaped) (All-nil (IsAppOf s.cluster))) (All-nil (IsAppOf s.cluster))));
   once = record {
     running = λ m. at_set s.running n.0 m.0 [] [] (λ e. subst AreOnce (sym e) (h.once.running m))
         (λ e v. subst AreOnce (sym v) (λ i j d l k. absurd (omega arith)));
@@ -95,7 +95,7 @@ lists_cleared s n h within = record {
         (λ d g. emptied_empty s.waiting n.0 m.0 (h.idle.waiting m g));
     permissions = λ m of f. by_mode s n m f
         (λ e. ap (λ k. row (slice_set s.allowed n.0 (configured s.cluster n)) k) e
-        ∙ at_set_here s.allowed n.0 (configured s.cluster n) [] (let l = h.sized.allowed in omega (arith, l, within))
+        ∙ at_set_here s.allowed n.0 (configured s.cluster n) [] (let l = h.shaped.allowed in omega (arith, l, within))
         ∙ ap (λ k. configured s.cluster (record { 0 = k })) (sym e))
         (λ d g. at_set_there s.allowed n.0 m.0 (configured s.cluster n) [] d ∙ h.idle.permissions m of g);
   };
@@ -129,13 +129,14 @@ sound_cleared : (s : StateView) (n : Node) → IsSound s → IsNodeOf s.cluster 
 unfolding cleared
 sound_cleared s n h within = record {
   within = h.within;
+  node = within;
   lists = lists_cleared s n h within;
   stands = λ m a distributed r. h.standing.stands m a distributed (emptied_has s.running n.0 m.0 a r);
   local = h.standing.local;
   timers = let f = fit_down s n h.timers in record { sync = f.sync; failover = f.failover; once = f.once; order = f.order; due = f.due };
   none = λ a. ap (λ xs. has_app xs a) (emptied_row s.running n.0);
   others = λ a m e d. ap (λ xs. has_app xs a) (at_set_there s.running n.0 m.0 [] [] (other_number m.0 n.0 d)) ∙ h.runs.runs a m e;
-  left = λ a m e t. has_apps s.cluster a (let l = stands_within s.standings a.0 m e in let k = h.sized.standings in omega (arith, l, k));
+  left = λ a m e t. has_apps s.cluster a (let l = stands_within s.standings a.0 m e in let k = h.shaped.standings in omega (arith, l, k));
 }
 
 -- ---- each application that ran there is lost
@@ -145,6 +146,7 @@ not_left : (n : Node) (s : StateView) (a : App) (rest : List App) → ((m : Node
     → IsSoundBut n (a ∷ rest) s → IsSoundBut n rest s
 not_left n s a rest elsewhere h = record {
   within = h.within;
+  node = h.node;
   lists = h.lists;
   stands = h.stands;
   local = h.local;
@@ -158,11 +160,13 @@ not_left n s a rest elsewhere h = record {
 
 -- one that stood so stands otherwise
 stands_otherwise : (n k : Node) (s : StateView) (a : App) (rest : List App) (st : Standing) (timers : List (ℕ × Timer)) → ((m : Node) → st ≡ Running m → ⊥)
+    → IsStandingOf s.cluster st
     → standing_of s a ≡ Running k → same_node k n ≡ true → TimersFit (restood s a st timers) → IsSoundBut n (a ∷ rest) s
-        → IsSoundBut n rest (restood s a st timers)
-stands_otherwise n k s a rest st timers stops stood here fit h = record {
+    → IsSoundBut n rest (restood s a st timers)
+stands_otherwise n k s a rest st timers stops known stood here fit h = record {
   within = h.within;
-  lists = lists_restood s a st timers h.lists;
+  node = h.node;
+  lists = lists_restood s a st timers known h.lists;
   stands = λ m b distributed r. cases (same_app b a)
       (λ t. let e : standing_of s a ≡ Running m = sym (same_standing s a b t) ∙ h.stands m b distributed r in
       let at : k.0 ≡ m.0 = ap (λ (x : Node). x.0) (same_running k m (sym stood ∙ e)) in
@@ -201,9 +205,9 @@ lost_here n k s a rest stood here h = by (timeout_of s.cluster a == 0)
 
     by : (b : Bool) → IsSoundBut n rest (cond b (with_standing s a (Wanted (Some n)))
         (with_timer (with_standing s a (Lost n)) (s.time + timeout_of s.cluster a) (Failover a)))
-    by true = stands_otherwise n k s a rest (Wanted (Some n)) s.timers wanted_stops stood here
+    by true = stands_otherwise n k s a rest (Wanted (Some n)) s.timers wanted_stops h.node stood here
         (fit_standing s a (Wanted (Some n)) (sym (ap is_lost stood)) h.timers) h
-    by false = stands_otherwise n k s a rest (Lost n) (with_timer s (s.time + timeout_of s.cluster a) (Failover a)).timers lost_stops stood here
+    by false = stands_otherwise n k s a rest (Lost n) (with_timer s (s.time + timeout_of s.cluster a) (Failover a)).timers lost_stops h.node stood here
         (fit_lost s a (Lost n) (s.time + timeout_of s.cluster a) (stands_within s.standings a.0 k stood) refl (ap is_lost stood) (omega arith) h.timers) h
 
 one_lost : (n : Node) (s : StateView) (a : App) (rest : List App) → IsSoundBut n (a ∷ rest) s → IsSoundBut n rest (lost_if_ran n s a)
@@ -228,7 +232,7 @@ each_lost n (a ∷ rest) s h = each_lost n rest (lost_if_ran n s a) (one_lost n 
 sound_again : (n : Node) (s : StateView) → IsSoundBut n [] s → IsSound s
 sound_again n s h = record {
   within = h.within;
-  sized = h.lists.sized;
+  shaped = h.lists.shaped;
   once = h.lists.once;
   idle = h.lists.idle;
   standing = record { listed = h.lists.listed; stands = h.stands; local = h.local };
@@ -244,4 +248,4 @@ unfolding ended all_lost cleared
 sound_ended o n h within =
     let t = each_lost n (apps_of o.state.cluster) (cleared o.state n) (sound_cleared o.state n h within) in
     let u = sound_again n (fold (lost_if_ran n) (cleared o.state n) (apps_of o.state.cluster)) t in
-    record { within = u.within; sized = u.sized; once = u.once; idle = u.idle; standing = u.standing; runs = u.runs; timers = u.timers }
+    record { within = u.within; shaped = u.shaped; once = u.once; idle = u.idle; standing = u.standing; runs = u.runs; timers = u.timers }

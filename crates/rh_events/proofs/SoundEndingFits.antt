@@ -17,7 +17,8 @@ use Rattle.rh_base.proofs.Lists.{cases}
 use Rattle.rh_settle.proofs.Places.{at_set, at_set_here, at_set_there}
 use Rattle.rh_settle.proofs.Entries.{same_number, other_number}
 use Rattle.rh_events.proofs.TimersToldApart.{is_set, same_timer-sym, unset-without, set-without_other, once-without, order-without, All-without}
-use Rattle.rh_events.proofs.TimersArmed.{All-behind, once-behind, order-behind, set-behind, set-behind_other}
+use Rattle.rh_events.proofs.TimersArmed.{once-behind, order-behind, set-behind, set-behind_other}
+use Rattle.rh_wheel.proofs.Arming.{All-behind}
 
 -- the standing of an application after a change
 pub stands_here : (s : StateView) (a b : App) (st : Standing) → a.0 < length s.standings → same_app b a ≡ true → standing_of (with_standing s a st) b ≡ st

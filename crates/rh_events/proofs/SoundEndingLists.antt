@@ -1,33 +1,34 @@
 -- What the lists of a state keep: sizes, applications at most once, nothing at a node that isn't up, and each only where it
 -- may be started.
-use Rattle.std.proofs.Common.{◌≡◌, ◌≢◌, ◌<◌, ℕ, Bool, true, false, List, [], ◌∷◌, ◌++◌, sym, ap, ◌∙◌, subst, slice_get, slice_set, unwrap_or}
-use Rattle.std.proofs.lemmas.List.{length-set}
-use Rattle.rh_model.specs.ClusterView.{app_count, is_listed_at}
+use Rattle.std.proofs.Common.{◌≡◌, ◌≢◌, ℕ, Bool, true, false, List, [], ◌∷◌, ◌++◌, sym, ap, ◌∙◌, subst, slice_get, slice_set, unwrap_or}
+use Rattle.rh_model.specs.ClusterView.{is_listed_at}
 use Rattle.rh_model.specs.declared.node.Node.{Node}
 use Rattle.rh_model.specs.declared.node.App.{App}
 use Rattle.rh_state.specs.declared.status.Mode.TheVariants.{Down}
 use Rattle.rh_state.specs.declared.status.Standing.{Standing}
 use Rattle.rh_state.specs.declared.status.Timer.{Timer}
-use Rattle.rh_state.specs.Shape.{IsAppOf}
+use Rattle.rh_state.specs.Shape.{IsShaped, IsAppOf, IsStandingOf}
 use Rattle.rh_state.specs.Tables.{row}
-use Rattle.rh_state.specs.Lists.{without_app}
 use Rattle.rh_state.specs.StateView.{StateView, mode_of, is_up, running_at, runs_at, waits_at, is_started}
-use Rattle.rh_state.specs.Setters.{with_running, with_waiting, with_allowed, unlisted}
-use Rattle.rh_settle.specs.Soundness.{IsSized, IdleUnlessUp, IsSound}
+use Rattle.rh_state.specs.Setters.{with_running, with_waiting, with_allowed, with_standing, unlisted}
+use Rattle.rh_settle.specs.Soundness.{IdleUnlessUp, IsSound}
 use Rattle.rh_settle.specs.Validity.{OnceAtEachNode}
 use Rattle.rh_base.proofs.Lists.{cases}
 use Rattle.rh_settle.proofs.Places.{at_set_there, or_left, or_right}
 use Rattle.rh_settle.proofs.Entries.{same_number, is_false, both, taken_has, put_has, once_taken, once_put, either}
-use Rattle.rh_events.proofs.Tables.{not_empty, at_pair, taken_empty}
+use Rattle.rh_settle.proofs.NextMoves.{up_within}
+use Rattle.rh_settle.proofs.Shapes.{shaped_timers, shaped_standing, shaped_allowed, shaped_running, shaped_waiting, shaped_unlisted}
+use Rattle.rh_settle.proofs.Kept.{at_pair}
+use Rattle.rh_events.proofs.Tables.{not_empty, taken_empty}
 
 pub record ListsFit (s : StateView) : Type 0 where
-  pub sized : IsSized s
+  pub shaped : IsShaped s
   pub once : OnceAtEachNode s
   pub idle : IdleUnlessUp s
   pub listed : (n : Node) (a : App) → is_started s n a ≡ true → is_listed_at s.cluster a n ≡ true
 
 pub lists_fit : (s : StateView) → IsSound s → ListsFit s
-lists_fit s h = record { sized = h.sized; once = h.once; idle = h.idle; listed = h.standing.listed }
+lists_fit s h = record { shaped = h.shaped; once = h.once; idle = h.idle; listed = h.standing.listed }
 
 -- a node where something is started is up
 pub up_where_runs : (s : StateView) (n : Node) (a : App) → IdleUnlessUp s → runs_at s n a ≡ true → is_up (mode_of s n) ≡ true
@@ -41,14 +42,7 @@ started_before s n m a b h = either (runs_at (unlisted s n a) m b) (waits_at (un
 
 pub lists_unlisted : (s : StateView) (n : Node) (a : App) → ListsFit s → ListsFit (unlisted s n a)
 lists_unlisted s n a h = record {
-  sized = record {
-    modes = h.sized.modes;
-    running = length-set s.running n.0 (without_app (row s.running n.0) a) ∙ h.sized.running;
-    waiting = length-set s.waiting n.0 (without_app (row s.waiting n.0) a) ∙ h.sized.waiting;
-    allowed = h.sized.allowed;
-    standings = h.sized.standings;
-    apps = λ m b t. h.sized.apps m b (started_before s n m a b t);
-  };
+  shaped = shaped_unlisted s n a h.shaped;
   once = record {
     running = λ m. once_taken s.running n.0 m.0 a (h.once.running n) (h.once.running m);
     waiting = λ m. once_taken s.waiting n.0 m.0 a (h.once.waiting n) (h.once.waiting m);
@@ -74,14 +68,7 @@ carried P n m a b e f p = subst (λ k. P k b) (sym e) (subst (λ k. P n k) (sym 
 pub lists_running : (s : StateView) (n : Node) (a : App) → is_up (mode_of s n) ≡ true → IsAppOf s.cluster a → is_listed_at s.cluster a n ≡ true
     → runs_at s n a ≡ false → waits_at s n a ≡ false → ListsFit s → ListsFit (with_running s n a)
 lists_running s n a up app listed r w h = record {
-  sized = record {
-    modes = h.sized.modes;
-    running = length-set s.running n.0 (row s.running n.0 ++ a ∷ []) ∙ h.sized.running;
-    waiting = h.sized.waiting;
-    allowed = h.sized.allowed;
-    standings = h.sized.standings;
-    apps = λ m b t. started m b t (h.sized.apps m b) (λ e f. carried (λ i j. j < app_count s.cluster) n.0 m.0 a.0 b.0 e f app);
-  };
+  shaped = shaped_running s n a app h.shaped;
   once = record {
     running = λ m. once_put s.running n.0 m.0 a (h.once.running n) (h.once.running m) r;
     waiting = h.once.waiting;
@@ -108,14 +95,7 @@ lists_running s n a up app listed r w h = record {
 pub lists_waiting : (s : StateView) (n : Node) (a : App) → is_up (mode_of s n) ≡ true → IsAppOf s.cluster a → is_listed_at s.cluster a n ≡ true
     → runs_at s n a ≡ false → waits_at s n a ≡ false → ListsFit s → ListsFit (with_waiting s n a)
 lists_waiting s n a up app listed r w h = record {
-  sized = record {
-    modes = h.sized.modes;
-    running = h.sized.running;
-    waiting = length-set s.waiting n.0 (row s.waiting n.0 ++ a ∷ []) ∙ h.sized.waiting;
-    allowed = h.sized.allowed;
-    standings = h.sized.standings;
-    apps = λ m b t. started m b t (h.sized.apps m b) (λ e f. carried (λ i j. j < app_count s.cluster) n.0 m.0 a.0 b.0 e f app);
-  };
+  shaped = shaped_waiting s n a app h.shaped;
   once = record {
     running = h.once.running;
     waiting = λ m. once_put s.waiting n.0 m.0 a (h.once.waiting n) (h.once.waiting m) w;
@@ -142,14 +122,7 @@ lists_waiting s n a up app listed r w h = record {
 -- ---- permissions change only of a node that is up
 pub lists_allowed : (s : StateView) (n : Node) (a : App) (allow : Bool) → is_up (mode_of s n) ≡ true → ListsFit s → ListsFit (with_allowed s n a allow)
 lists_allowed s n a allow up h = record {
-  sized = record {
-    modes = h.sized.modes;
-    running = h.sized.running;
-    waiting = h.sized.waiting;
-    allowed = length-set s.allowed n.0 (slice_set (row s.allowed n.0) a.0 allow) ∙ h.sized.allowed;
-    standings = h.sized.standings;
-    apps = h.sized.apps;
-  };
+  shaped = shaped_allowed s n a allow (up_within s n h.shaped.modes up) h.shaped;
   once = record { running = h.once.running; waiting = h.once.waiting; apart = h.once.apart };
   idle = record {
     running = h.idle.running;
@@ -164,16 +137,10 @@ lists_allowed s n a allow up h = record {
 abbrev pub restood : StateView → App → Standing → List (ℕ × Timer) → StateView
 restood s a st timers = record s { standings = slice_set s.standings a.0 st; timers = timers }
 
-pub lists_restood : (s : StateView) (a : App) (st : Standing) (timers : List (ℕ × Timer)) → ListsFit s → ListsFit (restood s a st timers)
-lists_restood s a st timers h = record {
-  sized = record {
-    modes = h.sized.modes;
-    running = h.sized.running;
-    waiting = h.sized.waiting;
-    allowed = h.sized.allowed;
-    standings = length-set s.standings a.0 st ∙ h.sized.standings;
-    apps = h.sized.apps;
-  };
+pub lists_restood : (s : StateView) (a : App) (st : Standing) (timers : List (ℕ × Timer)) → IsStandingOf s.cluster st → ListsFit s
+    → ListsFit (restood s a st timers)
+lists_restood s a st timers known h = record {
+  shaped = shaped_timers (with_standing s a st) timers (shaped_standing s a st known h.shaped);
   once = record { running = h.once.running; waiting = h.once.waiting; apart = h.once.apart };
   idle = record { running = h.idle.running; waiting = h.idle.waiting; permissions = h.idle.permissions };
   listed = h.listed;

@@ -1,7 +1,6 @@
 -- A mark keeps a state sound.
 use Rattle.std.proofs.Common.{◌≡◌, ◌≢◌, ◌≤◌, ◌||◌, Bool, true, false, cond, is_some, [], ◌∷◌, ◌++◌, refl, sym, ap, ◌∙◌, arith, nat_eq, subst, Option, Some}
 use Rattle.std.proofs.Common.{None}
-use Rattle.std.proofs.lemmas.List.{length-set}
 use Rattle.rh_model.specs.declared.node.Node.{Node}
 use Rattle.rh_model.specs.declared.node.App.{App}
 use Rattle.rh_model.specs.declared.settings.Restart.{Restart}
@@ -10,17 +9,19 @@ use Rattle.rh_state.specs.declared.status.Standing.{Standing}
 use Rattle.rh_state.specs.declared.status.Standing.TheVariants.{Quiet, Wanted, Running, Lost}
 use Rattle.rh_state.specs.declared.status.Timer.TheVariants.{Sync, Failover}
 use Rattle.rh_state.specs.Numbers.{same_node, same_app}
-use Rattle.rh_state.specs.Shape.{IsNodeOf, IsAppOf}
+use Rattle.rh_state.specs.Shape.{IsNodeOf, IsAppOf, IsStandingOf}
 use Rattle.rh_state.specs.StateView.{StateView, mode_of, is_up, waiting_at, runs_at, waits_at, is_started, standing_of, due_of}
 use Rattle.rh_state.specs.Setters.{with_restart, with_standing, with_waiting, without_due}
 use Rattle.rh_base.proofs.Lists.{cases}
 use Rattle.rh_settle.specs.Moves.{is_local}
-use Rattle.rh_settle.specs.Soundness.{IsSized, IdleUnlessUp, StandsWhereItRuns, TimersFit, IsSound, is_lost}
+use Rattle.rh_settle.specs.Soundness.{IdleUnlessUp, StandsWhereItRuns, TimersFit, IsSound, is_lost}
+use Rattle.rh_settle.proofs.Shapes.{shaped_timers, shaped_standing, shaped_restart, shaped_waiting}
 use Rattle.rh_settle.proofs.Places.{at_set_here, at_set_there, or_left, or_right}
 use Rattle.rh_events.specs.Marking.{with_distributed_standing, wanted_by_mark, with_mark}
 use Rattle.rh_events.proofs.Alive.{without_unset}
 use Rattle.rh_settle.proofs.Entries.{same_number, other_number, both, put_has}
-use Rattle.rh_events.proofs.Tables.{differ, once_waiting}
+use Rattle.rh_settle.proofs.Kept.{once_waiting}
+use Rattle.rh_events.proofs.Tables.{differ}
 use Rattle.rh_events.proofs.TimersToldApart.{set-without_other, unset-without, once-without, order-without, All-without}
 
 -- a pair that isn't started neither runs nor waits
@@ -47,16 +48,6 @@ module _ (s : StateView) (n : Node) (a : App) (r : Restart) (h : IsSound s) (is_
   abbrev t : StateView
   t = with_restart (with_waiting s n a) n a r
 
-  sized_put : IsSized t
-  sized_put = record {
-    modes = h.sized.modes;
-    running = h.sized.running;
-    waiting = length-set s.waiting n.0 (waiting_at s n ++ a ∷ []) ∙ h.sized.waiting;
-    allowed = h.sized.allowed;
-    standings = h.sized.standings;
-    apps = λ m b e. started_before s n m a b e (λ was. h.sized.apps m b was) (λ at same. let k = same_number b.0 a.0 same in omega (arith, k, is_app));
-  }
-
   idle_put : IdleUnlessUp t
   idle_put = record {
     running = h.idle.running;
@@ -69,7 +60,7 @@ module _ (s : StateView) (n : Node) (a : App) (r : Restart) (h : IsSound s) (is_
   stands_put = record {
     listed = λ m b e. started_before s n m a b e (λ was. h.standing.listed m b was)
         (λ at same. ap (λ k. is_listed_at s.cluster b (numbered k)) at ∙ ap (λ k. is_listed_at s.cluster (app_numbered k) n) (same_number b.0 a.0 same)
-            ∙ listed);
+        ∙ listed);
     stands = h.standing.stands;
     local = h.standing.local;
   }
@@ -83,7 +74,7 @@ module _ (s : StateView) (n : Node) (a : App) (r : Restart) (h : IsSound s) (is_
       let o = once_waiting s n a apart.0 apart.1 h.once in
       record {
         within = h.within;
-        sized = sized_put;
+        shaped = shaped_restart (with_waiting s n a) n a r is_node (shaped_waiting s n a is_app h.shaped);
         once = record { running = o.running; waiting = o.waiting; apart = o.apart };
         idle = idle_put;
         standing = stands_put;
@@ -92,14 +83,14 @@ module _ (s : StateView) (n : Node) (a : App) (r : Restart) (h : IsSound s) (is_
       }
 
 -- a distributed application that runs nowhere is wanted, and its timer goes
-module _ (s : StateView) (a : App) (from : Option Node) (h : IsSound s) (is_app : IsAppOf s.cluster a) (distributed : is_local s.cluster a ≡ false)
-    (still : (m : Node) → standing_of s a ≢ Running m) where
+module _ (s : StateView) (a : App) (from : Option Node) (h : IsSound s) (is_app : IsAppOf s.cluster a) (known : IsStandingOf s.cluster (Wanted from))
+    (distributed : is_local s.cluster a ≡ false) (still : (m : Node) → standing_of s a ≢ Running m) where
   abbrev w : StateView
   w = without_due (with_standing s a (Wanted from)) (Failover a)
 
   stands_now : (b : App) → b.0 ≡ a.0 → standing_of w b ≡ Wanted from
-  stands_now b e = ap (λ k. standing_of w (app_numbered k)) e ∙ at_set_here s.standings a.0 (Wanted from) Quiet
-      (let k = h.sized.standings in omega (arith, k, is_app))
+  stands_now b e = ap (λ k. standing_of w (app_numbered k)) e
+      ∙ at_set_here s.standings a.0 (Wanted from) Quiet (let k = h.shaped.standings in omega (arith, k, is_app))
 
   stands_then : (b : App) → b.0 ≢ a.0 → standing_of w b ≡ standing_of s b
   stands_then b d = at_set_there s.standings a.0 b.0 (Wanted from) Quiet d
@@ -119,7 +110,7 @@ module _ (s : StateView) (a : App) (from : Option Node) (h : IsSound s) (is_app 
     failover = λ b. by_app (λ b. is_some (due_of w (Failover b)) ≡ is_lost (standing_of w b)) b
         (λ e. ap (λ k. is_some (due_of w (Failover (app_numbered k)))) e ∙ unset-without (Failover a) s.timers ∙ sym (ap is_lost (stands_now b e)))
         (λ d. set-without_other (Failover a) (Failover b) s.timers (differ a.0 b.0 (λ e. d (sym e))) ∙ h.timers.failover b
-            ∙ sym (ap is_lost (stands_then b d)));
+        ∙ sym (ap is_lost (stands_then b d)));
     once = once-without (Failover a) s.timers h.timers.once;
     order = order-without (Failover a) s.timers h.timers.order;
     due = All-without (λ entry. s.time ≤ entry.0) (Failover a) s.timers h.timers.due;
@@ -128,14 +119,7 @@ module _ (s : StateView) (a : App) (from : Option Node) (h : IsSound s) (is_app 
   pub sound_wanted : IsSound w
   sound_wanted = record {
     within = h.within;
-    sized = record {
-      modes = h.sized.modes;
-      running = h.sized.running;
-      waiting = h.sized.waiting;
-      allowed = h.sized.allowed;
-      standings = length-set s.standings a.0 (Wanted from) ∙ h.sized.standings;
-      apps = h.sized.apps;
-    };
+    shaped = shaped_timers (with_standing s a (Wanted from)) w.timers (shaped_standing s a (Wanted from) known h.shaped);
     once = record { running = h.once.running; waiting = h.once.waiting; apart = h.once.apart };
     idle = record { running = h.idle.running; waiting = h.idle.waiting; permissions = h.idle.permissions };
     standing = record {
@@ -170,14 +154,14 @@ sound_distributed s a h is_app quiet = by (is_local s.cluster a) refl
     by true e = h
     by false e = subst IsSound
         (ap (λ ts. record (with_standing s a (Wanted None)) { timers = ts }) (without_unset (Failover a) s.timers (h.timers.failover a ∙ ap is_lost quiet)))
-        (sound_wanted s a None h is_app e (λ m r. quiet_not m (sym quiet ∙ r)))
+        (sound_wanted s a None h is_app tt e (λ m r. quiet_not m (sym quiet ∙ r)))
 
-sound_by_mark : (s : StateView) (n : Node) (a : App) (st : Standing) → IsSound s → IsAppOf s.cluster a → standing_of s a ≡ st
+sound_by_mark : (s : StateView) (n : Node) (a : App) (st : Standing) → IsSound s → IsNodeOf s.cluster n → IsAppOf s.cluster a → standing_of s a ≡ st
     → IsSound (wanted_by_mark s n a st)
-sound_by_mark s n a Quiet h is_app e = sound_distributed s a h is_app e
-sound_by_mark s n a (Wanted from) h is_app e = h
-sound_by_mark s n a (Running m) h is_app e = h
-sound_by_mark s n a (Lost m) h is_app e = by (same_node m n)
+sound_by_mark s n a Quiet h is_node is_app e = sound_distributed s a h is_app e
+sound_by_mark s n a (Wanted from) h is_node is_app e = h
+sound_by_mark s n a (Running m) h is_node is_app e = h
+sound_by_mark s n a (Lost m) h is_node is_app e = by (same_node m n)
   where
     not_running : (k : Node) → Lost m ≢ Running k
     not_running k e = cc
@@ -189,11 +173,11 @@ sound_by_mark s n a (Lost m) h is_app e = by (same_node m n)
     far = cases (is_local s.cluster a) (λ t. absurd (not_quiet (sym e ∙ h.standing.local a t))) (λ f. f)
 
     by : (p : Bool) → IsSound (cond p (without_due (with_standing s a (Wanted (Some n))) (Failover a)) s)
-    by true = sound_wanted s a (Some n) h is_app far (λ k r. not_running k (sym e ∙ r))
+    by true = sound_wanted s a (Some n) h is_app is_node far (λ k r. not_running k (sym e ∙ r))
     by false = h
 
 pub sound_mark : (s : StateView) (n : Node) (a : App) (r : Restart) → IsSound s → IsNodeOf s.cluster n → IsAppOf s.cluster a → is_up (mode_of s n) ≡ true
     → is_listed_at s.cluster a n ≡ true → is_started s n a ≡ false → IsSound (with_mark s n a r)
 unfolding with_mark
 sound_mark s n a r h is_node is_app up listed off =
-    sound_by_mark (with_restart (with_waiting s n a) n a r) n a (standing_of s a) (sound_put s n a r h is_node is_app up listed off) is_app refl
+    sound_by_mark (with_restart (with_waiting s n a) n a r) n a (standing_of s a) (sound_put s n a r h is_node is_app up listed off) is_node is_app refl

@@ -1,20 +1,12 @@
 -- A timer that is set: its entry goes behind the last one that isn't due later.
 use Rattle.std.proofs.Common.{◌≡◌, ◌≤◌, ℕ, zero, suc, Bool, true, false, cond, nat_le, List, [], ◌∷◌, All, refl, sym, ap, ◌∙◌, inl, inr, arith}
 use Rattle.std.proofs.lemmas.Bool.Decides.{leb_tells}
-use Rattle.std.proofs.lemmas.List.Elements.{All-cons}
 use Rattle.std.proofs.lemmas.List.Kept.{AllPairs-cons}
 use Rattle.rh_wheel.specs.Firing.{behind}
+use Rattle.rh_wheel.proofs.Arming.{All-behind}
 use Rattle.rh_state.specs.declared.status.Timer.{Timer}
 use Rattle.rh_state.specs.Timers.{same_timer}
 use Rattle.rh_events.proofs.TimersToldApart.{same_self, is_set, IsOnce, IsInOrder, same_timer-sym, set-cons, unset-cons, differs_from_unset}
-
-pub All-behind : (P : ℕ × Timer → Type 0) (new : ℕ × Timer) (xs : List (ℕ × Timer)) → P new → All P xs → All P (behind new xs)
-All-behind P new [] here all = All-cons P new [] here all
-All-behind P new (x ∷ xs) here all = by (nat_le x.0 new.0) (All-behind P new xs here (λ k d l. all (suc k) d (omega arith)))
-  where
-    by : (b : Bool) → All P (behind new xs) → All P (cond b (x ∷ behind new xs) (new ∷ x ∷ xs))
-    by true later = All-cons P x (behind new xs) (all 0 x (omega arith)) later
-    by false later = All-cons P new (x ∷ xs) here all
 
 pub once-behind : (new : ℕ × Timer) (xs : List (ℕ × Timer)) → is_set new.1 xs ≡ false → IsOnce xs → IsOnce (behind new xs)
 once-behind new [] unset once = AllPairs-cons (λ x y. same_timer x.1 y.1 ≡ false) new [] (λ k d l. absurd (omega arith)) once
@@ -25,7 +17,7 @@ once-behind new (x ∷ xs) unset once =
     by true later =
         AllPairs-cons (λ x y. same_timer x.1 y.1 ≡ false) x (behind new xs)
         (All-behind (λ y. same_timer x.1 y.1 ≡ false) new xs (same_timer-sym x.1 new.1 ∙ (unset-cons new.1 x xs unset).0)
-            (λ k d l. once 0 (suc k) d (omega arith) (omega arith)))
+        (λ k d l. once 0 (suc k) d (omega arith) (omega arith)))
         later
     by false later = AllPairs-cons (λ x y. same_timer x.1 y.1 ≡ false) new (x ∷ xs) (differs_from_unset new.1 (x ∷ xs) unset) once
 

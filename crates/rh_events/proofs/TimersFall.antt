@@ -28,7 +28,7 @@ timer_count o = length o.state.timers
 pub fewer_without : (t : Timer) (entries : List (ℕ × Timer)) → length (without_timer t entries) ≤ length entries
 fewer_without t entries =
     let parts = length-filter_both (λ (entry : ℕ × Timer). not (same_timer t entry.1)) (λ entry. not (not (same_timer t entry.1))) (λ entry. refl) entries in
-            omega (arith, parts)
+    omega (arith, parts)
 
 -- ---- coming up only cancels
 standing_timers : (s : StateView) (a : App) (st : Standing) → length (with_distributed_standing s a st).timers ≤ length s.timers

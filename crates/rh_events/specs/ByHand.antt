@@ -27,10 +27,9 @@ is_started_anywhere s a = list_any (λ n. is_started s n a) (nodes_of s.cluster)
 
 -- an application that is to run, but is started nowhere, is quiet
 abbrev pub quiet_if_nowhere : StateView → App → Standing → StateView
-quiet_if_nowhere s a Quiet = s
 quiet_if_nowhere s a (Wanted from) = if is_started_anywhere s a then s else with_standing s a Quiet
-quiet_if_nowhere s a (Running m) = s
 quiet_if_nowhere s a (Lost m) = if is_started_anywhere s a then s else without_due (with_standing s a Quiet) (Failover a)
+quiet_if_nowhere s a _ = s
 
 -- one that waits at a node leaves it
 unfoldable pub left_waiting : Course → Node → App → Course
@@ -48,10 +47,8 @@ permitted o n a allow =
 
 -- one that runs elsewhere is taken over, and has the given restart type
 abbrev pub taken_from : Course → Node → App → Restart → Standing → Course
-taken_from o n a r Quiet = o
-taken_from o n a r (Wanted from) = o
 taken_from o n a r (Running m) = moved (now_in o (with_restart o.state n a r)) (move.Takeover a m n)
-taken_from o n a r (Lost m) = o
+taken_from o n a r _ = o
 
 unfoldable pub taken_over : Course → Node → App → Restart → Course
 taken_over o n a r = taken_from o n a r (standing_of o.state a)

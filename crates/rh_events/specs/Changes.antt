@@ -4,7 +4,7 @@ use Rattle.std.specs.Prelude.{◌+◌, if◌then◌else◌}
 use Rattle.rh_model.specs.ClusterView.{sync_wait_of}
 use Rattle.rh_model.specs.declared.node.Node.{Node}
 use Rattle.rh_model.specs.declared.settings.SyncWait.{SyncWait}
-use Rattle.rh_model.specs.declared.settings.SyncWait.TheVariants.{Unset, After, Forever}
+use Rattle.rh_model.specs.declared.settings.SyncWait.TheVariants.{After}
 use Rattle.rh_state.specs.declared.status.Mode.TheVariants.{Waiting}
 use Rattle.rh_state.specs.declared.status.Timer.TheVariants.{Sync}
 use Rattle.rh_state.specs.StateView.{StateView, incarnation_of, runs_at}
@@ -18,9 +18,8 @@ use Rattle.rh_events.specs.ByHand.{stopped, left_waiting, permitted, taken_over,
 
 -- a node whose wait ends by itself has a timer for that
 abbrev pub with_sync_timer : StateView → Node → SyncWait → StateView
-with_sync_timer s n Unset = s
 with_sync_timer s n (After ms) = with_timer s (s.time + ms) (Sync n)
-with_sync_timer s n Forever = s
+with_sync_timer s n _ = s
 
 -- a node that boots has one incarnation more, and waits
 unfoldable pub booted : StateView → Node → StateView

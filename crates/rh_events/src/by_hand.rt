@@ -1,6 +1,6 @@
 //! What an operator changes by hand.
 
-ghost use Rattle.std.specs.Prelude.{◌≡◌, ◌≢◌, true, List, OnOk};
+ghost use Rattle.std.specs.Prelude.{◌≡◌, ◌≢◌, true, OnOk};
 ghost use Rattle.rh_model.specs.declared.node.Node.{Node};
 ghost use Rattle.rh_state.specs.Shape.{IsNodeOf, IsAppOf};
 ghost use Rattle.rh_state.specs.StateView.{place_of, runs_at, is_started, standing_of};
@@ -9,7 +9,6 @@ ghost use Rattle.rh_state.specs.Stored.{read};
 ghost use Rattle.rh_state.specs.declared.status.Place.TheVariants.{Off, InRunning, InWaiting};
 ghost use Rattle.rh_state.specs.declared.status.Standing.TheVariants.{Running};
 ghost use Rattle.rh_settle.specs.declared.notice.Move.TheVariants.{Takeover};
-ghost use Rattle.rh_settle.specs.declared.notice.Pair.{Pair};
 ghost use Rattle.rh_settle.specs.Course.{course};
 ghost use Rattle.rh_settle.specs.Moves.{moved};
 ghost use Rattle.rh_settle.specs.Soundness.{IsSound};
@@ -21,10 +20,10 @@ ghost use Rattle.rh_events.specs.declared.event.Event.TheVariants.{Stop};
 use crate::ending::end;
 use crate::marking::set_distributed_standing;
 use crate::readiness::cancel_if_set;
-use rh_model::{App, Node, Restart};
-use rh_settle::{Move, Notice, make_move};
-use rh_state::{Place, Standing, State, Timer};
 use rh_base::OutOfMemory;
+use rh_model::{App, Node, Restart};
+use rh_settle::{Move, Notice, Trace, make_move};
+use rh_state::{Place, Standing, State, Timer};
 
 // An application that runs at a node stops there.
 #[tactic(auto, unfolding(crate::specs::ByHand::stopped))]
@@ -32,14 +31,14 @@ fn stop_running(
     state: &mut State,
     node: Node,
     app: App,
-    notices: &mut Vec<Notice>,
+    trace: &mut Trace,
 ) -> Result<(), OutOfMemory>
     requires node { IsNodeOf (read state.old).cluster node }
     requires app { IsAppOf (read state.old).cluster app }
     requires started { place_of (read state.old) node app ≢ Off }
-    ensures { OnOk result ((marked : List Pair) → course (read state.new) notices.new.items marked ≡ stopped (course (read state.old) notices.old.items marked) node app) }
+    ensures { OnOk result (course (read state.new) trace.new ≡ stopped (course (read state.old) trace.old) node app) }
 {
-    notices.push(Notice::Stopped { app, node })?;
+    trace.tell(Notice::Stopped { app, node })?;
     state.unlink(node, app);
     set_distributed_standing(state, app, Standing::Quiet);
     Ok(())
@@ -104,19 +103,14 @@ fn leave_waiting(state: &mut State, node: Node, app: App)
 
 /// An application that is started at a node is stopped there (application(3), `stop/1`).
 #[tactic(auto, unfolding(crate::specs::ByHand::left_waiting))]
-pub fn stop(
-    state: &mut State,
-    node: Node,
-    app: App,
-    notices: &mut Vec<Notice>,
-) -> Result<(), OutOfMemory>
+pub fn stop(state: &mut State, node: Node, app: App, trace: &mut Trace) -> Result<(), OutOfMemory>
     requires node { IsNodeOf (read state.old).cluster node }
     requires app { IsAppOf (read state.old).cluster app }
     requires started { place_of (read state.old) node app ≢ Off }
-    ensures { OnOk result ((marked : List Pair) → course (read state.new) notices.new.items marked ≡ change (course (read state.old) notices.old.items marked) (Stop node app)) }
+    ensures { OnOk result (course (read state.new) trace.new ≡ change (course (read state.old) trace.old) (Stop node app)) }
 {
     if state.place_of(node, app) == Place::InRunning {
-        return stop_running(state, node, app, notices);
+        return stop_running(state, node, app, trace);
     }
     leave_waiting(state, node, app);
     Ok(())
@@ -124,19 +118,14 @@ pub fn stop(
 
 // An application that runs at a node may do so no longer: it stops there, waits, and is wanted.
 #[tactic(auto, unfolding(crate::specs::ByHand::forbidden))]
-fn forbid(
-    state: &mut State,
-    node: Node,
-    app: App,
-    notices: &mut Vec<Notice>,
-) -> Result<(), OutOfMemory>
+fn forbid(state: &mut State, node: Node, app: App, trace: &mut Trace) -> Result<(), OutOfMemory>
     requires node { IsNodeOf (read state.old).cluster node }
     requires app { IsAppOf (read state.old).cluster app }
     requires started { place_of (read state.old) node app ≢ Off }
-    ensures { OnOk result ((marked : List Pair) → course (read state.new) notices.new.items marked ≡ forbidden (course (read state.old) notices.old.items marked) node app) }
+    ensures { OnOk result (course (read state.new) trace.new ≡ forbidden (course (read state.old) trace.old) node app) }
 {
     state.shape();
-    notices.push(Notice::Stopped { app, node })?;
+    trace.tell(Notice::Stopped { app, node })?;
     state.set_allowed(node, app, false);
     state.unlink(node, app);
     state.push_waiting(node, app);
@@ -151,14 +140,14 @@ pub fn permit(
     node: Node,
     app: App,
     allow: bool,
-    notices: &mut Vec<Notice>,
+    trace: &mut Trace,
 ) -> Result<(), OutOfMemory>
     requires node { IsNodeOf (read state.old).cluster node }
     requires app { IsAppOf (read state.old).cluster app }
-    ensures { OnOk result ((marked : List Pair) → course (read state.new) notices.new.items marked ≡ permitted (course (read state.old) notices.old.items marked) node app allow) }
+    ensures { OnOk result (course (read state.new) trace.new ≡ permitted (course (read state.old) trace.old) node app allow) }
 {
     if !allow && state.allowed(node, app) && state.place_of(node, app) == Place::InRunning {
-        return forbid(state, node, app, notices);
+        return forbid(state, node, app, trace);
     }
     state.set_allowed(node, app, allow);
     Ok(())
@@ -185,17 +174,17 @@ fn move_by_hand(
     app: App,
     from: Node,
     node: Node,
-    notices: &mut Vec<Notice>,
+    trace: &mut Trace,
 ) -> Result<(), OutOfMemory>
     requires node { IsNodeOf (read state.old).cluster node }
     requires app { IsAppOf (read state.old).cluster app }
     requires from { IsNodeOf (read state.old).cluster from }
     requires other { from.0 ≢ node.0 }
     requires runs { runs_at (read state.old) from app ≡ true }
-    ensures { OnOk result ((marked : List Pair) → course (read state.new) notices.new.items marked ≡ moved (course (read state.old) notices.old.items marked) (Takeover app from node)) }
+    ensures { OnOk result (course (read state.new) trace.new ≡ moved (course (read state.old) trace.old) (Takeover app from node)) }
 {
     start_if_off(state, node, app);
-    make_move(state, Move::Takeover { app, from, node }, notices)
+    make_move(state, Move::Takeover { app, from, node }, trace)
 }
 
 /// A distributed application that runs elsewhere moves to a node, and has the given restart type there (application(3),
@@ -206,18 +195,18 @@ pub fn take_over(
     node: Node,
     app: App,
     restart: Restart,
-    notices: &mut Vec<Notice>,
+    trace: &mut Trace,
 ) -> Result<(), OutOfMemory>
     requires node { IsNodeOf (read state.old).cluster node }
     requires app { IsAppOf (read state.old).cluster app }
     requires elsewhere { (m : Node) → standing_of (read state.old) app ≡ Running m → m.0 ≢ node.0 }
     requires runs { RunsWhereItStands (read state.old) }
-    ensures { OnOk result ((marked : List Pair) → course (read state.new) notices.new.items marked ≡ taken_over (course (read state.old) notices.old.items marked) node app restart) }
+    ensures { OnOk result (course (read state.new) trace.new ≡ taken_over (course (read state.old) trace.old) node app restart) }
 {
     match state.standing(app) {
         Standing::Running(from) => {
             state.set_restart(node, app, restart);
-            move_by_hand(state, app, from, node, notices)
+            move_by_hand(state, app, from, node, trace)
         }
         Standing::Quiet | Standing::Wanted(_) | Standing::Lost(_) => Ok(()),
     }
@@ -241,17 +230,17 @@ pub fn exit(
     node: Node,
     app: App,
     normal: bool,
-    notices: &mut Vec<Notice>,
+    trace: &mut Trace,
 ) -> Result<(), OutOfMemory>
     requires node { IsNodeOf (read state.old).cluster node }
     requires app { IsAppOf (read state.old).cluster app }
     requires runs { runs_at (read state.old) node app ≡ true }
     requires sound { IsSound (read state.old) }
-    ensures { OnOk result ((marked : List Pair) → course (read state.new) notices.new.items marked ≡ exited (course (read state.old) notices.old.items marked) node app normal) }
+    ensures { OnOk result (course (read state.new) trace.new ≡ exited (course (read state.old) trace.old) node app normal) }
 {
     if ends_node(state.restart_of(node, app), normal) {
-        end(state, node, notices)
+        end(state, node, trace)
     } else {
-        stop_running(state, node, app, notices)
+        stop_running(state, node, app, trace)
     }
 }

@@ -10,61 +10,47 @@ ghost use Rattle.rh_events.specs.ComingUp.{come_up, come_up_if_ready, ready_come
 
 use crate::marking::mark_booted;
 use crate::readiness::{cancel_if_set, is_ready};
-use rh_model::Node;
-use rh_settle::{Notice, Pair};
-use rh_state::{Mode, State, Timer};
 use rh_base::OutOfMemory;
+use rh_model::Node;
+use rh_settle::{Notice, Trace};
+use rh_state::{Mode, State, Timer};
 
 /// A node at which nothing is started comes up, and what it boots is started.
 #[tactic(auto, unfolding(crate::specs::ComingUp::come_up))]
-pub fn come_up(
-    state: &mut State,
-    node: Node,
-    notices: &mut Vec<Notice>,
-    marked: &mut Vec<Pair>,
-) -> Result<(), OutOfMemory>
+pub fn come_up(state: &mut State, node: Node, trace: &mut Trace) -> Result<(), OutOfMemory>
     requires node { IsNodeOf (read state.old).cluster node }
     requires running { running_at (read state.old) node ≡ [] }
     requires waiting { waiting_at (read state.old) node ≡ [] }
-    ensures { OnOk result (course (read state.new) notices.new.items marked.new.items ≡ come_up (course (read state.old) notices.old.items marked.old.items) node) }
+    ensures { OnOk result (course (read state.new) trace.new ≡ come_up (course (read state.old) trace.old) node) }
 {
-    notices.push(Notice::Up { node })?;
+    trace.tell(Notice::Up { node })?;
     cancel_if_set(state, Timer::Sync(node));
     state.set_mode(node, Mode::Up);
-    mark_booted(state, node, marked)
+    mark_booted(state, node, trace)
 }
 
 // The node comes up if it is ready.
 #[tactic(auto, unfolding(crate::specs::ComingUp::come_up_if_ready))]
-fn let_come_up_if_ready(
-    state: &mut State,
-    node: Node,
-    notices: &mut Vec<Notice>,
-    marked: &mut Vec<Pair>,
-) -> Result<(), OutOfMemory>
+fn let_come_up_if_ready(state: &mut State, node: Node, trace: &mut Trace) -> Result<(), OutOfMemory>
     requires node { IsNodeOf (read state.old).cluster node }
     requires sound { IsSound (read state.old) }
-    ensures { OnOk result (course (read state.new) notices.new.items marked.new.items ≡ come_up_if_ready (course (read state.old) notices.old.items marked.old.items) node) }
+    ensures { OnOk result (course (read state.new) trace.new ≡ come_up_if_ready (course (read state.old) trace.old) node) }
 {
     if is_ready(state, node) {
-        come_up(state, node, notices, marked)?;
+        come_up(state, node, trace)?;
     }
     Ok(())
 }
 
 /// The ready nodes come up, in node order.
 #[tactic(auto, unfolding(crate::specs::ComingUp::ready_come_up, rh_state::specs::Numbers::nodes_of))]
-pub fn let_ready_come_up(
-    state: &mut State,
-    notices: &mut Vec<Notice>,
-    marked: &mut Vec<Pair>,
-) -> Result<(), OutOfMemory>
+pub fn let_ready_come_up(state: &mut State, trace: &mut Trace) -> Result<(), OutOfMemory>
     requires { IsSound (read state.old) }
-    ensures { OnOk result (course (read state.new) notices.new.items marked.new.items ≡ ready_come_up (course (read state.old) notices.old.items marked.old.items)) }
+    ensures { OnOk result (course (read state.new) trace.new ≡ ready_come_up (course (read state.old) trace.old)) }
 {
     let count = state.cluster().node_count();
     'nodes: for number in 0..count {
-        let_come_up_if_ready(state, Node(number as u8), notices, marked)?;
+        let_come_up_if_ready(state, Node(number as u8), trace)?;
     }
     Ok(())
 }

@@ -1,6 +1,6 @@
 //! How a node ends.
 
-ghost use Rattle.std.specs.Prelude.{◌≡◌, ◌≤◌, ◌↔◌, [], true, List, IsNone, IfSome, OnOk};
+ghost use Rattle.std.specs.Prelude.{◌≡◌, ◌≤◌, ◌↔◌, [], true, IsNone, IfSome, OnOk};
 ghost use Rattle.rh_model.specs.declared.node.App.{App};
 ghost use Rattle.rh_model.specs.Limits.{timeout_limit};
 ghost use Rattle.rh_state.specs.Shape.{IsNodeOf, IsAppOf};
@@ -8,15 +8,14 @@ ghost use Rattle.rh_state.specs.StateView.{running_at, waiting_at, is_started, s
 ghost use Rattle.rh_state.specs.Stored.{read};
 ghost use Rattle.rh_state.specs.declared.status.Standing.TheVariants.{Running};
 ghost use Rattle.rh_state.specs.declared.status.Timer.TheVariants.{Failover};
-ghost use Rattle.rh_settle.specs.declared.notice.Pair.{Pair};
 ghost use Rattle.rh_settle.specs.Course.{course};
 ghost use Rattle.rh_events.specs.Ending.{timeout_of, emptied, with_configured, cleared, lost_at, lost_if_ran, all_lost, ended};
 
 use crate::readiness::cancel_if_set;
-use rh_model::{App, Cluster, Node};
-use rh_settle::Notice;
-use rh_state::{Mode, Standing, State, Timer};
 use rh_base::OutOfMemory;
+use rh_model::{App, Cluster, Node};
+use rh_settle::{Notice, Trace};
+use rh_state::{Mode, Standing, State, Timer};
 
 // An application that is started at a node, if there is one.
 fn first_started(state: &State, node: Node) -> Option<App>
@@ -125,12 +124,12 @@ fn lose_all(state: &mut State, node: Node)
 
 /// A node ends (Distributed Applications, "Failover"): nothing is started there any more, and what ran there is lost.
 #[tactic(auto, unfolding(crate::specs::Ending::ended))]
-pub fn end(state: &mut State, node: Node, notices: &mut Vec<Notice>) -> Result<(), OutOfMemory>
+pub fn end(state: &mut State, node: Node, trace: &mut Trace) -> Result<(), OutOfMemory>
     requires node { IsNodeOf (read state.old).cluster node }
     requires unset { (a : App) → standing_of (read state.old) a ≡ Running node → IsNone (due_of (read state.old) (Failover a)) }
-    ensures { OnOk result ((marked : List Pair) → course (read state.new) notices.new.items marked ≡ ended (course (read state.old) notices.old.items marked) node) }
+    ensures { OnOk result (course (read state.new) trace.new ≡ ended (course (read state.old) trace.old) node) }
 {
-    notices.push(Notice::Ended { node })?;
+    trace.tell(Notice::Ended { node })?;
     clear(state, node);
     lose_all(state, node);
     Ok(())

@@ -1,21 +1,25 @@
-//! What an event changes of itself: nodes boot, come up and end, applications are started, stopped, permitted and taken over
-//! by hand.
+//! What may happen to a cluster, when that is refused, and what it changes of itself: nodes boot, come up and end,
+//! applications are started, stopped, permitted and taken over by hand.
 //!
-//! Each function makes one change and tells what follows at once; that applications settle afterwards is rh_settle's.
+//! [`refusal_of`] says why an [`Event`] is refused in a state. [`change`] makes its change and tells what follows
+//! at once; that applications settle afterwards is rh_settle's.
 #![tactic(auto)]
 
 mod booting;
 mod by_hand;
+mod changing;
 mod coming_up;
 mod ending;
 mod event;
 mod marking;
 mod readiness;
+mod refusal;
+mod refusing;
 
-pub use booting::boot;
-pub use by_hand::{exit, permit, stop, take_over};
+pub use changing::change;
 pub use coming_up::{come_up, let_ready_come_up};
 pub use ending::end;
 pub use event::Event;
-pub use marking::mark;
 pub use readiness::{all_alive, cancel_if_set};
+pub use refusal::Refusal;
+pub use refusing::refusal_of;

@@ -1,20 +1,19 @@
 //! How an application is started at a node: it waits there until it may run.
 
-ghost use Rattle.std.specs.Prelude.{◌≡◌, [], List, OnOk};
+ghost use Rattle.std.specs.Prelude.{◌≡◌, [], OnOk};
 ghost use Rattle.rh_model.specs.ClusterView.{boot_of};
 ghost use Rattle.rh_state.specs.Shape.{IsNodeOf, IsAppOf, IsStandingOf};
 ghost use Rattle.rh_state.specs.StateView.{place_of, running_at, waiting_at, standing_of};
 ghost use Rattle.rh_state.specs.Stored.{read};
 ghost use Rattle.rh_state.specs.declared.status.Place.TheVariants.{Off};
-ghost use Rattle.rh_settle.specs.declared.notice.Notice.{Notice};
 ghost use Rattle.rh_settle.specs.Course.{course};
 ghost use Rattle.rh_events.specs.Marking.{with_distributed_standing, wanted_by_mark, with_mark, mark, mark_all};
 
 use crate::readiness::cancel_if_set;
-use rh_model::{App, Node, Restart};
-use rh_settle::Pair;
-use rh_state::{Standing, State, Timer};
 use rh_base::OutOfMemory;
+use rh_model::{App, Node, Restart};
+use rh_settle::{Pair, Trace};
+use rh_state::{Standing, State, Timer};
 
 /// A distributed application has the given standing from now on; a local one is always quiet.
 pub fn set_distributed_standing(state: &mut State, app: App, standing: Standing)
@@ -51,14 +50,14 @@ pub fn mark(
     node: Node,
     app: App,
     restart: Restart,
-    marked: &mut Vec<Pair>,
+    trace: &mut Trace,
 ) -> Result<(), OutOfMemory>
     requires node { IsNodeOf (read state.old).cluster node }
     requires app { IsAppOf (read state.old).cluster app }
     requires off { place_of (read state.old) node app ≡ Off }
-    ensures { OnOk result ((notices : List Notice) → course (read state.new) notices marked.new.items ≡ mark (course (read state.old) notices marked.old.items) node app restart) }
+    ensures { OnOk result (course (read state.new) trace.new ≡ mark (course (read state.old) trace.old) node app restart) }
 {
-    marked.push(Pair { node, app })?;
+    trace.mark(Pair { node, app })?;
     state.push_waiting(node, app);
     state.set_restart(node, app, restart);
     want_by_mark(state, node, app);
@@ -67,17 +66,17 @@ pub fn mark(
 
 /// What a node boots is started there, in order.
 #[tactic(auto, unfolding(crate::specs::Marking::mark_all))]
-pub fn mark_booted(state: &mut State, node: Node, marked: &mut Vec<Pair>) -> Result<(), OutOfMemory>
+pub fn mark_booted(state: &mut State, node: Node, trace: &mut Trace) -> Result<(), OutOfMemory>
     requires node { IsNodeOf (read state.old).cluster node }
     requires running { running_at (read state.old) node ≡ [] }
     requires waiting { waiting_at (read state.old) node ≡ [] }
-    ensures { OnOk result ((notices : List Notice) → course (read state.new) notices marked.new.items ≡ mark_all (course (read state.old) notices marked.old.items) node (boot_of (read state.old).cluster node)) }
+    ensures { OnOk result (course (read state.new) trace.new ≡ mark_all (course (read state.old) trace.old) node (boot_of (read state.old).cluster node)) }
 {
     state.cluster().is_within();
     let count = state.cluster().boot(node).len();
     'booted: for place in 0..count {
         let (app, restart) = state.cluster().boot(node)[place];
-        mark(state, node, app, restart, marked)?;
+        mark(state, node, app, restart, trace)?;
     }
     Ok(())
 }

@@ -1,13 +1,14 @@
 -- Lists that are equal, place by place.
-use Rattle.std.proofs.Common.{◌≡◌, ◌+◌, ◌++◌, ◌∷◌, [], List, ℕ, eqb, take, length, get_or, Some, slice_get, ap, sym, ◌∙◌, subst, ◌<◌, Decides}
+use Rattle.std.proofs.Common.{◌≡◌, ◌+◌, ◌++◌, ◌∷◌, [], List, ℕ, eqb, take, length, get_or, Some, slice_get, ap, sym, ◌∙◌}
+use Rattle.std.proofs.Common.{subst, ◌<◌, Decides}
 use Rattle.std.proofs.lemmas.List.{take_more}
 use Rattle.std.proofs.lemmas.Option.{get_or_from_slice_get}
 use Rattle.std.proofs.lemmas.Bool.Decides.{Decides-eqb}
 use Rattle.rh_model.specs.declared.node.Node.{Node}
 
 -- one more place at which both have the same
-pub alike_more : {A : Type 0} (xs ys : List A) (n : ℕ) (a b : A) → length xs ≡ length ys → n < length xs → slice_get xs n ≡ Some a → slice_get ys n ≡ Some b
-    → a ≡ b
+pub alike_more : {A : Type 0} (xs ys : List A) (n : ℕ) (a b : A) → length xs ≡ length ys → n < length xs
+    → slice_get xs n ≡ Some a → slice_get ys n ≡ Some b → a ≡ b
     → take n xs ≡ take n ys → take (n + 1) xs ≡ take (n + 1) ys
 alike_more xs ys n a b lengths inside x y same before =
     take_more xs n a inside

@@ -1,3 +1,4 @@
 pub mod Alike
 pub mod Texts
 pub mod Prefix
+pub mod Crossing

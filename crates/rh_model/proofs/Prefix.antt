@@ -18,7 +18,7 @@ mutual
   same_fronts none none r s as_many e = (cc, e)
   same_fronts (more t ts) (more u us) r s as_many e =
       let first = same_front t u (symbols_of_all ts ++ r) (symbols_of_all us ++ s)
-              (sym (append_assoc (symbols_of t) (symbols_of_all ts) r) ∙ e ∙ append_assoc (symbols_of u) (symbols_of_all us) s) in
+      (sym (append_assoc (symbols_of t) (symbols_of_all ts) r) ∙ e ∙ append_assoc (symbols_of u) (symbols_of_all us) s) in
       let rest = same_fronts ts us r s (omega arith) first.1 in
       (cc (first.0, rest.0), rest.1)
   same_fronts _ _ r s as_many e = absurd (omega arith)

@@ -1,5 +1,6 @@
 -- What a list of texts has in common with the list of their bytes.
-use Rattle.std.proofs.Common.{◌||◌, ◌≡◌, ◌+◌, Bool, not, cond, List, [], ◌∷◌, map, length, position, Some, None, nat_lt, refl, ap, ◌∙◌}
+use Rattle.std.proofs.Common.{◌||◌, ◌≡◌, ◌+◌, Bool, not, cond, List, [], ◌∷◌, map, length, position, Some, None, nat_lt}
+use Rattle.std.proofs.Common.{refl, ap, ◌∙◌}
 use Rattle.std.proofs.lemmas.List.{length-map}
 use Rattle.std.specs.List.{AllZip, list_any, prefix_len, position_or_len}
 use Rattle.std.specs.Prelude.{String}
@@ -13,7 +14,7 @@ prefix_len-map p f (x ∷ xs) = ap (λ n. cond (p (f x)) (1 + n) 0) (prefix_len-
 pub position-map : {X Y : Type 0} (p : Y → Bool) (f : X → Y) (xs : List X) → position p (map f xs) ≡ position (λ x. p (f x)) xs
 position-map p f xs =
     ap (λ n. cond (nat_lt n (length (map f xs))) (Some n) None) (prefix_len-map (λ y. not (p y)) f xs)
-    ∙ ap (λ n. cond (nat_lt (position_or_len (λ x. p (f x)) xs) n) (Some (position_or_len (λ x. p (f x)) xs)) None) (length-map xs f)
+    ∙ ap (λ n. let k = position_or_len (λ x. p (f x)) xs in cond (nat_lt k n) (Some k) None) (length-map xs f)
 
 -- clones have the same bytes
 pub bytes_of_clones : {A : Type 0} (xs ys : List (String A)) → AllZip (λ s t. string_bytes t ≡ string_bytes s) xs ys → map string_bytes ys ≡ map string_bytes xs

@@ -1,6 +1,6 @@
 -- What callers see of a cluster, and the words of its readers.
-use Rattle.std.specs.Prelude.{◌≡◌, ◌≢◌, ◌<◌, ◌≤◌, ℕ, List, [], length, position, slice_get, Bool, true, false, ◌==◌, ◌||◌, Option, Some, is_none, is_some}
-use Rattle.std.specs.Prelude.{unwrap_or, All, AllPairs, IsSome}
+use Rattle.std.specs.Prelude.{◌≡◌, ◌≢◌, ◌<◌, ◌≤◌, ℕ, List, [], length, position, slice_get, All, AllPairs}
+use Rattle.std.specs.Prelude.{Bool, true, false, ◌==◌, ◌||◌, Option, Some, is_none, is_some, unwrap_or, IsSome}
 use Rattle.std.specs.Option.{option_map, option_and_then}
 use Rattle.std.specs.List.{list_any}
 use Rattle.std.specs.Str.{bytes_eq}
@@ -86,11 +86,13 @@ boot_of c n = unwrap_or (option_map (λ (v : NodeView). v.boot) (slice_get c.nod
 
 -- may the application run there, as configured?
 abbrev pub is_permitted : ClusterView → Node → App → Bool
-is_permitted c n a = unwrap_or (option_and_then (λ (v : NodeView). slice_get v.permissions a.0) (slice_get c.nodes n.0)) false
+is_permitted c n a =
+    unwrap_or (option_and_then (λ (v : NodeView). slice_get v.permissions a.0) (slice_get c.nodes n.0)) false
 
 -- does the node have this platform name?
 abbrev pub is_platform : ClusterView → Node → ℕ → Bool
-is_platform c n p = unwrap_or (option_and_then (λ (v : NodeView). slice_get v.platforms p) (slice_get c.nodes n.0)) false
+is_platform c n p =
+    unwrap_or (option_and_then (λ (v : NodeView). slice_get v.platforms p) (slice_get c.nodes n.0)) false
 
 -- what the application must find started, in order
 abbrev pub deps_of : ClusterView → App → List Dep
@@ -120,9 +122,9 @@ group_of c a n = option_and_then (λ (s : Spread). position (is_in n) s.groups) 
 abbrev pub is_listed_at : ClusterView → App → Node → Bool
 is_listed_at c a n = is_none (spread_of c a) || is_some (group_of c a n)
 
--- The lists of a cluster fit together: there are parts for each name, as many tests as what they are of, and each number
--- is that of a node, of an application or of a platform name of the cluster. What a node boots, it boots once, and may
--- start; and each timeout of `distributed` is within its limit.
+-- The lists of a cluster fit together: there are parts for each name, as many tests as what they are of, and each
+-- number is that of a node, of an application or of a platform name of the cluster. What a node boots, it boots once,
+-- and may start; and each timeout of `distributed` is within its limit.
 pub record IsWithin (c : ClusterView) : Type 0 where
   pub nodes : length c.nodes ≡ node_count c
   pub apps : length c.apps ≡ app_count c
@@ -132,7 +134,10 @@ pub record IsWithin (c : ClusterView) : Type 0 where
   pub boot_once : (n : Node) → AllPairs (λ (e later : App × Restart). e.0.0 ≢ later.0.0) (boot_of c n)
   pub boot_listed : (n : Node) → All (λ (e : App × Restart). is_listed_at c e.0 n ≡ true) (boot_of c n)
   pub permissions : (n : ℕ) (v : NodeView) → slice_get c.nodes n ≡ Some v → length v.permissions ≡ app_count c
-  pub platforms : (n : ℕ) (v : NodeView) → slice_get c.nodes n ≡ Some v → length v.platforms ≡ length c.platform_names
+  pub platforms :
+      (n : ℕ) (v : NodeView) → slice_get c.nodes n ≡ Some v → length v.platforms ≡ length c.platform_names
   pub deps : (a : App) → All (λ (d : Dep). IsSome (dep_name c d)) (deps_of c a)
-  pub groups : (a : App) (s : Spread) → spread_of c a ≡ Some s → All (λ (g : List Node). All (λ (m : Node). m.0 < node_count c) g) s.groups
+  pub groups :
+      (a : App) (s : Spread) → spread_of c a ≡ Some s
+      → All (λ (g : List Node). All (λ (m : Node). m.0 < node_count c) g) s.groups
   pub timeouts : (a : App) (s : Spread) → spread_of c a ≡ Some s → s.timeout ≤ timeout_limit

@@ -1,11 +1,12 @@
 -- How long the waits of a cluster file can be (ours).
 use Rattle.std.specs.Prelude.{ℕ, ◌≤◌}
+use Rattle.rh_model.specs.declared.limits.TheConstants.{TIMEOUT_LIMIT}
 use Rattle.rh_model.specs.declared.settings.SyncWait.{SyncWait}
 use Rattle.rh_model.specs.declared.settings.SyncWait.TheVariants.{Unset, After, Forever}
 
 -- most milliseconds of a timeout
 abbrev pub timeout_limit : ℕ
-timeout_limit = 1000000000000
+timeout_limit = TIMEOUT_LIMIT
 
 -- a wait that ends by itself ends within the limit
 abbrev pub IsWithinLimit : SyncWait → Type 0

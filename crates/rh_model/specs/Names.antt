@@ -7,7 +7,7 @@ use Rattle.std.specs.Str.{bytes_eq}
 abbrev pub is_among : List (List ℕ) → List ℕ → Bool
 is_among names name = list_any (bytes_eq name) names
 
--- the names of a file: of its nodes, of its applications, and the first 256 different ones of its platforms
+-- the names of a file: of its nodes, of its applications, and the first `MAX_PLATFORMS` different ones of its platforms
 pub record NamesView : Type 0 where
   pub nodes : List (List ℕ)
   pub apps : List (List ℕ)

@@ -2,7 +2,7 @@
 
 use crate::name_set::same_text;
 use crate::settings::{Dep, Spread};
-use rh_base::{OutOfMemory, Str, Term};
+use rh_base::{Duplicate, OutOfMemory, Same, Str, Term, are_same};
 use std::alloc::Global;
 use std::marker::Model;
 
@@ -33,7 +33,12 @@ impl Model for AppSettings {
 
     ghost Value = { AppView };
 
-    ghost view = { λ a. record { deps = a.deps.items; start_arg = option_map (λ s. (s.module, symbols_of (tree_of s.argument))) a.start; phases = a.phases; spread = a.spread } };
+    ghost view = { λ a. record {
+      deps = a.deps.items;
+      start_arg = option_map (λ s. (s.module, symbols_of (tree_of s.argument))) a.start;
+      phases = a.phases;
+      spread = a.spread;
+    } };
 }
 
 impl AppSettings {
@@ -49,7 +54,12 @@ impl AppSettings {
         phases: bool,
         spread: Option<Spread>,
     ) -> AppSettings
-        ensures { result ≡ record { deps = deps.items; start_arg = option_map (λ s. (s.module, symbols_of (tree_of s.argument))) start; phases = phases; spread = spread } }
+        ensures { result ≡ record {
+          deps = deps.items;
+          start_arg = option_map (λ s. (s.module, symbols_of (tree_of s.argument))) start;
+          phases = phases;
+          spread = spread;
+        } }
     {
         AppSettings {
             deps,
@@ -70,10 +80,8 @@ impl AppSettings {
     pub fn start_arg(&self) -> Option<(&str, &Term)>
         ensures { option_map (λ s. (s.0.now, symbols_of (tree_of s.1.now))) result ≡ self.now.start_arg }
     {
-        match &self.start {
-            Some(start) => Some((start.module.as_str(), &start.argument)),
-            None => None,
-        }
+        let start = self.start.as_ref()?;
+        Some((start.module.as_str(), &start.argument))
     }
 
     /// Are its start phases defined?
@@ -89,9 +97,10 @@ impl AppSettings {
     {
         self.spread.as_ref()
     }
+}
 
-    /// Equal settings in memory of their own.
-    pub fn copy(&self, alloc: Global) -> Result<AppSettings, OutOfMemory>
+impl Duplicate for AppSettings {
+    fn copy(&self, alloc: Global) -> Result<AppSettings, OutOfMemory>
         ensures { IfOk result (λ copy. copy ≡ self.now) }
     {
         let deps = Vec::from_slice(alloc, self.deps())?;
@@ -99,12 +108,13 @@ impl AppSettings {
         let spread = copy_of_spread(alloc, self.spread())?;
         Ok(AppSettings::of(deps, start, self.phases(), spread))
     }
+}
 
-    /// Are the settings equal?
-    pub fn same(&self, other: &AppSettings) -> bool
+impl Same for AppSettings {
+    fn same(&self, other: &AppSettings) -> bool
         ensures { IsTrue result ↔ (self.now ≡ other.now) }
     {
-        same_deps(self.deps(), other.deps())
+        are_same(self.deps(), other.deps())
             && same_start(self.start_arg(), other.start_arg())
             && self.phases() == other.phases()
             && same_spread(self.spread(), other.spread())
@@ -121,7 +131,9 @@ pub fn copy_of_start(
     alloc: Global,
     start: Option<(&str, &Term)>,
 ) -> Result<Option<Start>, OutOfMemory>
-    ensures { IfOk result (λ copy. option_map {U = List ℕ × Tree} (λ s. (s.module, tree_of s.argument)) copy ≡ option_map {U = List ℕ × Tree} (λ s. (s.0.now, tree_of s.1.now)) start.entry) }
+    ensures { IfOk result (λ copy.
+        option_map {U = List ℕ × Tree} (λ s. (s.module, tree_of s.argument)) copy ≡
+        option_map {U = List ℕ × Tree} (λ s. (s.0.now, tree_of s.1.now)) start.entry) }
 {
     match start {
         Some((module, argument)) => {
@@ -149,26 +161,6 @@ pub fn copy_of_spread(alloc: Global, spread: Option<&Spread>) -> Result<Option<S
     }
 }
 
-fn same_dep(this: Dep, that: Dep) -> bool
-    ensures { IsTrue result ↔ (this ≡ that) }
-{
-    this == that
-}
-
-fn same_deps(these: &[Dep], those: &[Dep]) -> bool
-    ensures { IsTrue result ↔ (these.now ≡ those.now) }
-{
-    if these.len() != those.len() {
-        return false;
-    }
-    for index in 0..these.len() {
-        if !same_dep(these[index], those[index]) {
-            return false;
-        }
-    }
-    true
-}
-
 // The same words, and so the same term: no two terms have the same words.
 fn same_argument(this: &Term, that: &Term) -> bool
     ensures { IsTrue result ↔ (symbols_of (tree_of this.now) ≡ symbols_of (tree_of that.now)) }
@@ -176,8 +168,11 @@ fn same_argument(this: &Term, that: &Term) -> bool
     this.same(that)
 }
 
+// Are both absent, or are the modules and the start arguments equal?
 fn same_start(this: Option<(&str, &Term)>, that: Option<(&str, &Term)>) -> bool
-    ensures { IsTrue result ↔ (option_map {U = List ℕ × List TermSymbol} (λ s. (s.0.now, symbols_of (tree_of s.1.now))) this.entry ≡ option_map {U = List ℕ × List TermSymbol} (λ s. (s.0.now, symbols_of (tree_of s.1.now))) that.entry) }
+    ensures { IsTrue result ↔ (
+        option_map {U = List ℕ × List TermSymbol} (λ s. (s.0.now, symbols_of (tree_of s.1.now))) this.entry ≡
+        option_map {U = List ℕ × List TermSymbol} (λ s. (s.0.now, symbols_of (tree_of s.1.now))) that.entry) }
 {
     match (this, that) {
         (Some((module, argument)), Some((other_module, other_argument))) => {
@@ -188,6 +183,7 @@ fn same_start(this: Option<(&str, &Term)>, that: Option<(&str, &Term)>) -> bool
     }
 }
 
+// Are both absent, or are the timeouts and the groups equal?
 fn same_spread(this: Option<&Spread>, that: Option<&Spread>) -> bool
     ensures { IsTrue result ↔ (option_map (λ s. s.now) this.entry ≡ option_map (λ s. s.now) that.entry) }
 {
@@ -197,5 +193,13 @@ fn same_spread(this: Option<&Spread>, that: Option<&Spread>) -> bool
         }
         (None, None) => true,
         _ => false,
+    }
+}
+
+impl Same for Dep {
+    fn same(&self, other: &Dep) -> bool
+        ensures { IsTrue result ↔ (self.now ≡ other.now) }
+    {
+        *self == *other
     }
 }

@@ -2,11 +2,12 @@
 
 use crate::app_settings::AppSettings;
 use crate::groups::{Group, is_in};
+use crate::limits::{MAX_APPS, MAX_NODES};
 use crate::names::Names;
 use crate::node::{App, Node};
 use crate::node_settings::NodeSettings;
 use crate::settings::{Dep, Restart, Spread, SyncWait};
-use rh_base::{OutOfMemory, Term};
+use rh_base::{OutOfMemory, Term, are_same, copies_of};
 use std::alloc::Global;
 use std::marker::Model;
 
@@ -24,9 +25,22 @@ impl Model for Cluster {
 
     ghost Value = { ClusterView };
 
-    ghost view = { λ c. record { node_names = c.names.nodes; app_names = c.names.apps; platform_names = c.names.platforms; nodes = c.nodes.items; apps = c.apps.items } };
+    ghost view = { λ c. record {
+      node_names = c.names.nodes;
+      app_names = c.names.apps;
+      platform_names = c.names.platforms;
+      nodes = c.nodes.items;
+      apps = c.apps.items;
+    } };
 
-    ghost invariant = { λ c. (length c.nodes.items ≡ length c.names.nodes) × (length c.apps.items ≡ length c.names.apps) × IsWithin (record { node_names = c.names.nodes; app_names = c.names.apps; platform_names = c.names.platforms; nodes = c.nodes.items; apps = c.apps.items }) };
+    ghost invariant = { λ c.
+        (length c.nodes.items ≡ length c.names.nodes) × (length c.apps.items ≡ length c.names.apps) × IsWithin (record {
+          node_names = c.names.nodes;
+          app_names = c.names.apps;
+          platform_names = c.names.platforms;
+          nodes = c.nodes.items;
+          apps = c.apps.items;
+        }) };
 }
 
 impl Cluster {
@@ -34,7 +48,9 @@ impl Cluster {
     ghost use Rattle.std.specs.Option.{option_map};
     ghost use Rattle.rh_base.specs.Tree.{tree_of};
     ghost use Rattle.rh_model.specs.TermSymbols.{symbols_of};
-    ghost use Rattle.rh_model.specs.ClusterView.{node_count, app_count, node_of, app_of, dep_name, mandatory_of, optional_of, sync_wait_of, boot_of, is_permitted, is_platform, deps_of, start_arg_of, has_phases, spread_of, group_of, IsWithin};
+    ghost use Rattle.rh_model.specs.ClusterView.{node_count, app_count, node_of, app_of, dep_name, mandatory_of};
+    ghost use Rattle.rh_model.specs.ClusterView.{optional_of, sync_wait_of, boot_of, is_permitted, is_platform};
+    ghost use Rattle.rh_model.specs.ClusterView.{deps_of, start_arg_of, has_phases, spread_of, group_of, IsWithin};
     ghost use Rattle.rh_model.specs.Limits.{IsWithinLimit};
 
     /// The cluster of these names, with the settings of each node and of each application in the order of
@@ -42,8 +58,20 @@ impl Cluster {
     pub fn of(names: Names, nodes: Vec<NodeSettings>, apps: Vec<AppSettings>) -> Cluster
         requires nodes { length nodes.items ≡ length names.nodes }
         requires apps { length apps.items ≡ length names.apps }
-        requires within { IsWithin (record { node_names = names.nodes; app_names = names.apps; platform_names = names.platforms; nodes = nodes.items; apps = apps.items }) }
-        ensures { result ≡ record { node_names = names.nodes; app_names = names.apps; platform_names = names.platforms; nodes = nodes.items; apps = apps.items } }
+        requires within { IsWithin (record {
+          node_names = names.nodes;
+          app_names = names.apps;
+          platform_names = names.platforms;
+          nodes = nodes.items;
+          apps = apps.items;
+        }) }
+        ensures { result ≡ record {
+          node_names = names.nodes;
+          app_names = names.apps;
+          platform_names = names.platforms;
+          nodes = nodes.items;
+          apps = apps.items;
+        } }
     {
         Cluster { names, nodes, apps }
     }
@@ -73,18 +101,18 @@ impl Cluster {
         &self.apps[app.0 as usize]
     }
 
-    /// The number of nodes, 32 at most.
+    /// The number of nodes, [`MAX_NODES`] at most.
     pub fn node_count(&self) -> usize
         ensures count { result ≡ node_count self.now }
-        ensures limit { result ≤ 32 }
+        ensures limit { result ≤ MAX_NODES }
     {
         self.names.nodes().len()
     }
 
-    /// The number of applications, 64 at most.
+    /// The number of applications, [`MAX_APPS`] at most.
     pub fn app_count(&self) -> usize
         ensures count { result ≡ app_count self.now }
-        ensures limit { result ≤ 64 }
+        ensures limit { result ≤ MAX_APPS }
     {
         self.names.apps().len()
     }
@@ -165,10 +193,8 @@ impl Cluster {
         requires app { app.0 < app_count self.now }
         ensures { result ≡ is_permitted self.now node app }
     {
-        match self.parts_of(node).permissions().get(app.0 as usize) {
-            Some(permitted) => *permitted,
-            None => false,
-        }
+        let permitted = self.parts_of(node).permissions().get(app.0 as usize);
+        permitted.copied().unwrap_or(false)
     }
 
     /// Has the node the platform name of this number?
@@ -177,10 +203,8 @@ impl Cluster {
         requires platform { platform < length self.now.platform_names }
         ensures { result ≡ is_platform self.now node platform }
     {
-        match self.parts_of(node).platforms().get(platform as usize) {
-            Some(has) => *has,
-            None => false,
-        }
+        let has = self.parts_of(node).platforms().get(platform as usize);
+        has.copied().unwrap_or(false)
     }
 
     /// What the application must find started, in order (app(4), `applications`).
@@ -220,10 +244,8 @@ impl Cluster {
         requires { app.0 < app_count self.now }
         ensures { result ≡ group_of self.now app node }
     {
-        match self.spread(app) {
-            Some(spread) => place_of(node, spread.groups.as_slice()),
-            None => None,
-        }
+        let spread = self.spread(app)?;
+        place_of(node, spread.groups.as_slice())
     }
 
     /// The name of what an application depends on.
@@ -242,8 +264,8 @@ impl Cluster {
         ensures { IfOk result (λ copy. copy ≡ self.now) }
     {
         let names = self.names.copy()?;
-        let nodes = copies_of_nodes(alloc, self.nodes.as_slice())?;
-        let apps = copies_of_apps(alloc, self.apps.as_slice())?;
+        let nodes = copies_of(alloc, self.nodes.as_slice())?;
+        let apps = copies_of(alloc, self.apps.as_slice())?;
         Ok(Cluster { names, nodes, apps })
     }
 
@@ -252,12 +274,12 @@ impl Cluster {
         ensures { IsTrue result ↔ (self.now ≡ other.now) }
     {
         self.names.same(&other.names)
-            && same_nodes(self.nodes.as_slice(), other.nodes.as_slice())
-            && same_apps(self.apps.as_slice(), other.apps.as_slice())
+            && are_same(self.nodes.as_slice(), other.nodes.as_slice())
+            && are_same(self.apps.as_slice(), other.apps.as_slice())
     }
 }
 
-ghost use Rattle.std.specs.Prelude.{◌≡◌, ◌↔◌, IfOk, IsTrue, position};
+ghost use Rattle.std.specs.Prelude.{◌≡◌, position};
 ghost use Rattle.rh_model.specs.ClusterView.{is_in};
 
 // The place of the first group that has the node.
@@ -267,52 +289,4 @@ fn place_of(node: Node, groups: &[Group]) -> Option<usize>
     groups
         .iter()
         .position(|group| is_in(node, group.as_slice()))
-}
-
-fn copies_of_nodes(alloc: Global, nodes: &[NodeSettings]) -> Result<Vec<NodeSettings>, OutOfMemory>
-    ensures { IfOk result (λ copies. copies.items ≡ nodes.now) }
-{
-    let mut copies = Vec::new(alloc);
-    for settings in nodes {
-        copies.push(settings.copy(alloc)?)?;
-    }
-    Ok(copies)
-}
-
-fn copies_of_apps(alloc: Global, apps: &[AppSettings]) -> Result<Vec<AppSettings>, OutOfMemory>
-    ensures { IfOk result (λ copies. copies.items ≡ apps.now) }
-{
-    let mut copies = Vec::new(alloc);
-    for settings in apps {
-        copies.push(settings.copy(alloc)?)?;
-    }
-    Ok(copies)
-}
-
-fn same_nodes(these: &[NodeSettings], those: &[NodeSettings]) -> bool
-    ensures { IsTrue result ↔ (these.now ≡ those.now) }
-{
-    if these.len() != those.len() {
-        return false;
-    }
-    for index in 0..these.len() {
-        if !these[index].same(&those[index]) {
-            return false;
-        }
-    }
-    true
-}
-
-fn same_apps(these: &[AppSettings], those: &[AppSettings]) -> bool
-    ensures { IsTrue result ↔ (these.now ≡ those.now) }
-{
-    if these.len() != those.len() {
-        return false;
-    }
-    for index in 0..these.len() {
-        if !these[index].same(&those[index]) {
-            return false;
-        }
-    }
-    true
 }

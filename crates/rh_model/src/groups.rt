@@ -4,7 +4,7 @@ ghost use Rattle.std.specs.Prelude.{◌≡◌, IfOk, IsTrue, ◌↔◌};
 ghost use Rattle.rh_model.specs.ClusterView.{is_in};
 
 use crate::node::Node;
-use rh_base::OutOfMemory;
+use rh_base::{Duplicate, OutOfMemory, Same, are_same, copies_of};
 use std::alloc::Global;
 use std::marker::Model;
 
@@ -38,16 +38,20 @@ impl Group {
     {
         self.nodes.as_slice()
     }
+}
 
-    pub(crate) fn copy(&self, alloc: Global) -> Result<Group, OutOfMemory>
+impl Duplicate for Group {
+    fn copy(&self, alloc: Global) -> Result<Group, OutOfMemory>
         ensures { IfOk result (λ copy. copy ≡ self.now) }
     {
         Ok(Group {
             nodes: Vec::from_slice(alloc, self.nodes.as_slice())?,
         })
     }
+}
 
-    pub(crate) fn same(&self, other: &Group) -> bool
+impl Same for Group {
+    fn same(&self, other: &Group) -> bool
         ensures { IsTrue result ↔ (self.now ≡ other.now) }
     {
         same_nodes(self.as_slice(), other.as_slice())
@@ -103,42 +107,22 @@ impl Groups {
     {
         self.groups.as_slice()
     }
+}
 
-    pub(crate) fn copy(&self, alloc: Global) -> Result<Groups, OutOfMemory>
+impl Duplicate for Groups {
+    fn copy(&self, alloc: Global) -> Result<Groups, OutOfMemory>
         ensures { IfOk result (λ copy. copy ≡ self.now) }
     {
         Ok(Groups {
-            groups: copies(alloc, self.groups.as_slice())?,
+            groups: copies_of(alloc, self.groups.as_slice())?,
         })
     }
+}
 
-    pub(crate) fn same(&self, other: &Groups) -> bool
+impl Same for Groups {
+    fn same(&self, other: &Groups) -> bool
         ensures { IsTrue result ↔ (self.now ≡ other.now) }
     {
-        same_groups(self.as_slice(), other.as_slice())
+        are_same(self.as_slice(), other.as_slice())
     }
-}
-
-fn copies(alloc: Global, groups: &[Group]) -> Result<Vec<Group>, OutOfMemory>
-    ensures { IfOk result (λ copies. copies.items ≡ groups.now) }
-{
-    let mut copies = Vec::new(alloc);
-    for group in groups {
-        copies.push(group.copy(alloc)?)?;
-    }
-    Ok(copies)
-}
-
-fn same_groups(these: &[Group], those: &[Group]) -> bool
-    ensures { IsTrue result ↔ (these.now ≡ those.now) }
-{
-    if these.len() != those.len() {
-        return false;
-    }
-    for index in 0..these.len() {
-        if !these[index].same(&those[index]) {
-            return false;
-        }
-    }
-    true
 }

@@ -4,19 +4,21 @@
 mod app_settings;
 mod cluster;
 mod groups;
-mod names;
+mod limits;
 mod name_set;
+mod names;
 mod node;
 mod node_settings;
-mod settings;
 mod platforms;
+mod settings;
 
 pub use app_settings::{AppSettings, Start, copy_of_spread, copy_of_start};
 pub use cluster::Cluster;
 pub use groups::{Group, Groups, is_in};
-pub use names::Names;
+pub use limits::{MAX_APPS, MAX_NODES, MAX_PLATFORMS, TIMEOUT_LIMIT};
 pub use name_set::NameSet;
+pub use names::Names;
 pub use node::{App, Node};
 pub use node_settings::NodeSettings;
-pub use settings::{Dep, Restart, Spread, SyncWait};
 pub use platforms::Platforms;
+pub use settings::{Dep, Restart, Spread, SyncWait};

@@ -6,6 +6,7 @@ ghost use Rattle.std.specs.Str.{bytes_eq};
 ghost use Rattle.rh_model.specs.ClusterView.{numbered, app_numbered};
 ghost use Rattle.rh_model.specs.Names.{is_among};
 
+use crate::limits::{MAX_APPS, MAX_NODES, MAX_PLATFORMS};
 use crate::name_set::NameSet;
 use crate::node::{App, Node};
 use rh_base::OutOfMemory;
@@ -23,20 +24,21 @@ pub struct Names {
 impl Model for Names {
     ghost use Rattle.std.specs.Prelude.{length, ◌≤◌};
     ghost use Rattle.rh_model.specs.Names.{NamesView};
+    ghost use Rattle.rh_model.specs.declared.limits.TheConstants.{MAX_NODES, MAX_APPS, MAX_PLATFORMS};
 
     ghost Value = { NamesView };
 
     ghost view = { λ n. record { nodes = n.nodes; apps = n.apps; platforms = n.platforms } };
 
-    ghost invariant = { λ n. (length n.nodes ≤ 32) × (length n.apps ≤ 64) × (length n.platforms ≤ 256) };
+    ghost invariant = { λ n. (length n.nodes ≤ MAX_NODES) × (length n.apps ≤ MAX_APPS) × (length n.platforms ≤ MAX_PLATFORMS) };
 }
 
 impl Names {
     /// The names of a file, of which there are few.
     pub fn of(nodes: NameSet, apps: NameSet, platforms: NameSet) -> Names
-        requires few_nodes { length nodes ≤ 32 }
-        requires few_apps { length apps ≤ 64 }
-        requires few_platforms { length platforms ≤ 256 }
+        requires few_nodes { length nodes ≤ MAX_NODES }
+        requires few_apps { length apps ≤ MAX_APPS }
+        requires few_platforms { length platforms ≤ MAX_PLATFORMS }
         ensures { result ≡ record { nodes = nodes; apps = apps; platforms = platforms } }
     {
         Names {
@@ -49,7 +51,7 @@ impl Names {
     /// The names of the nodes, in the order of their terms.
     pub fn nodes(&self) -> &NameSet
         ensures names { result.now ≡ self.now.nodes }
-        ensures few { length result.now ≤ 32 }
+        ensures few { length result.now ≤ MAX_NODES }
     {
         &self.nodes
     }
@@ -57,7 +59,7 @@ impl Names {
     /// The names of the applications, in the order of their terms.
     pub fn apps(&self) -> &NameSet
         ensures names { result.now ≡ self.now.apps }
-        ensures few { length result.now ≤ 64 }
+        ensures few { length result.now ≤ MAX_APPS }
     {
         &self.apps
     }
@@ -65,7 +67,7 @@ impl Names {
     /// The names of the platforms, in the order in which they were met.
     pub fn platforms(&self) -> &NameSet
         ensures names { result.now ≡ self.now.platforms }
-        ensures few { length result.now ≤ 256 }
+        ensures few { length result.now ≤ MAX_PLATFORMS }
     {
         &self.platforms
     }
@@ -95,20 +97,16 @@ impl Names {
     pub fn node_of(&self, name: &str) -> Option<Node>
         ensures { result ≡ option_map numbered (position (bytes_eq name.now) self.now.nodes) }
     {
-        match self.nodes().index_of(name) {
-            Some(index) => Some(Node(index as u8)),
-            None => None,
-        }
+        let index = self.nodes().index_of(name)?;
+        Some(Node(index as u8))
     }
 
     /// The application of this name.
     pub fn app_of(&self, name: &str) -> Option<App>
         ensures { result ≡ option_map app_numbered (position (bytes_eq name.now) self.now.apps) }
     {
-        match self.apps().index_of(name) {
-            Some(index) => Some(App(index as u8)),
-            None => None,
-        }
+        let index = self.apps().index_of(name)?;
+        Some(App(index as u8))
     }
 
     /// The same names in memory of their own.

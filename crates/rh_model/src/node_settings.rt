@@ -3,7 +3,7 @@
 use crate::groups::same_nodes;
 use crate::node::{App, Node};
 use crate::settings::{Restart, SyncWait};
-use rh_base::OutOfMemory;
+use rh_base::{Duplicate, OutOfMemory, Same, are_same};
 use std::alloc::Global;
 use std::marker::Model;
 
@@ -25,7 +25,14 @@ impl Model for NodeSettings {
 
     ghost Value = { NodeView };
 
-    ghost view = { λ n. record { mandatory = n.mandatory.items; optional = n.optional.items; sync_wait = n.sync_wait; boot = n.boot.items; permissions = n.permissions.items; platforms = n.platforms.items } };
+    ghost view = { λ n. record {
+      mandatory = n.mandatory.items;
+      optional = n.optional.items;
+      sync_wait = n.sync_wait;
+      boot = n.boot.items;
+      permissions = n.permissions.items;
+      platforms = n.platforms.items;
+    } };
 
     ghost invariant = { λ n. IsWithinLimit n.sync_wait };
 }
@@ -44,7 +51,14 @@ impl NodeSettings {
         platforms: Vec<bool>,
     ) -> NodeSettings
         requires { IsWithinLimit sync_wait }
-        ensures { result ≡ record { mandatory = mandatory.items; optional = optional.items; sync_wait = sync_wait; boot = boot.items; permissions = permissions.items; platforms = platforms.items } }
+        ensures { result ≡ record {
+          mandatory = mandatory.items;
+          optional = optional.items;
+          sync_wait = sync_wait;
+          boot = boot.items;
+          permissions = permissions.items;
+          platforms = platforms.items;
+        } }
     {
         NodeSettings {
             mandatory,
@@ -98,9 +112,10 @@ impl NodeSettings {
     {
         self.platforms.as_slice()
     }
+}
 
-    /// Equal settings in memory of their own.
-    pub fn copy(&self, alloc: Global) -> Result<NodeSettings, OutOfMemory>
+impl Duplicate for NodeSettings {
+    fn copy(&self, alloc: Global) -> Result<NodeSettings, OutOfMemory>
         ensures { IfOk result (λ copy. copy ≡ self.now) }
     {
         Ok(NodeSettings {
@@ -112,52 +127,35 @@ impl NodeSettings {
             platforms: Vec::from_slice(alloc, self.platforms.as_slice())?,
         })
     }
+}
 
-    /// Are the settings equal?
-    pub fn same(&self, other: &NodeSettings) -> bool
+impl Same for NodeSettings {
+    fn same(&self, other: &NodeSettings) -> bool
         ensures { IsTrue result ↔ (self.now ≡ other.now) }
     {
         same_nodes(self.mandatory(), other.mandatory())
             && same_nodes(self.optional(), other.optional())
             && self.sync_wait() == other.sync_wait()
-            && same_boot(self.boot(), other.boot())
-            && same_tests(self.permissions(), other.permissions())
-            && same_tests(self.platforms(), other.platforms())
+            && are_same(self.boot(), other.boot())
+            && are_same(self.permissions(), other.permissions())
+            && are_same(self.platforms(), other.platforms())
     }
 }
 
-ghost use Rattle.std.specs.Prelude.{◌≡◌, ◌↔◌, IsTrue};
+ghost use Rattle.std.specs.Prelude.{◌≡◌, ◌↔◌, IfOk, IsTrue};
 
-fn same_entry(this: (App, Restart), that: (App, Restart)) -> bool
-    ensures { IsTrue result ↔ (this ≡ that) }
-{
-    this.0 == that.0 && this.1 == that.1
+impl Same for App {
+    fn same(&self, other: &App) -> bool
+        ensures { IsTrue result ↔ (self.now ≡ other.now) }
+    {
+        *self == *other
+    }
 }
 
-fn same_boot(these: &[(App, Restart)], those: &[(App, Restart)]) -> bool
-    ensures { IsTrue result ↔ (these.now ≡ those.now) }
-{
-    if these.len() != those.len() {
-        return false;
+impl Same for Restart {
+    fn same(&self, other: &Restart) -> bool
+        ensures { IsTrue result ↔ (self.now ≡ other.now) }
+    {
+        *self == *other
     }
-    for index in 0..these.len() {
-        if !same_entry(these[index], those[index]) {
-            return false;
-        }
-    }
-    true
-}
-
-fn same_tests(these: &[bool], those: &[bool]) -> bool
-    ensures { IsTrue result ↔ (these.now ≡ those.now) }
-{
-    if these.len() != those.len() {
-        return false;
-    }
-    for index in 0..these.len() {
-        if these[index] != those[index] {
-            return false;
-        }
-    }
-    true
 }

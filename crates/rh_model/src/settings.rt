@@ -20,7 +20,7 @@ pub enum Restart {
 pub enum SyncWait {
     /// It doesn't wait.
     Unset,
-    /// It waits at most so many milliseconds, 10^12 at most.
+    /// It waits so many milliseconds at most, which are within [`TIMEOUT_LIMIT`](crate::TIMEOUT_LIMIT).
     After(u64),
     /// It waits until they are there.
     Forever,
@@ -38,8 +38,8 @@ pub enum Dep {
 /// Where a distributed application may run (kernel(6), `distributed`).
 #[derive(Drop)]
 pub struct Spread {
-    /// How long the application stays lost before it is started elsewhere, in milliseconds, 10^12 at
-    /// most.
+    /// How long the application stays lost before it is started elsewhere, in milliseconds, within
+    /// [`TIMEOUT_LIMIT`](crate::TIMEOUT_LIMIT).
     pub timeout: u64,
     /// The nodes that may run it, those that it prefers first.
     pub groups: Groups,

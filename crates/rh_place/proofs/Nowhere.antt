@@ -69,7 +69,7 @@ given_nil p [] h = refl
 given_nil p (g ∷ groups) h = cases (list_any p g)
     (λ t. any_not_nil p g t (sym (any_filter p g (first_given (filter p) groups) t) ∙ h))
     (λ f. ap (λ b. b || list_any (list_any p) groups) f ∙ given_nil p groups
-        (sym (ap (λ xs. or_else xs (first_given (filter p) groups)) (none_filter p g f)) ∙ h))
+    (sym (ap (λ xs. or_else xs (first_given (filter p) groups)) (none_filter p g f)) ∙ h))
 
 not_in : (p : Node → Bool) (n : Node) (g : List Node) → p n ≡ true → list_any p g ≡ false → is_in n g ≡ false
 not_in p n [] t h = refl

@@ -1,5 +1,5 @@
 -- What the pick takes of a list.
-use Rattle.std.proofs.Common.{◌≡◌, ◌++◌, ◌×◌, List, [], ◌∷◌, Option, Some, None, IsNone, IfSome, is_some, false, All, ◌↔◌, refl, sym, ap, ◌∙◌}
+use Rattle.std.proofs.Common.{◌≡◌, ◌++◌, List, [], ◌∷◌, Option, Some, None, IsNone, IfSome, is_some, false, All, ◌↔◌, refl, sym, ap, ◌∙◌}
 use Rattle.std.specs.List.{last_or}
 use Rattle.std.specs.Option.{option_to_list}
 use Rattle.std.proofs.lemmas.List.Elements.{All-tail, All-head}

@@ -61,8 +61,11 @@ cluster phases = record {
 
 -- the application waits at all nodes
 abbrev all_up : StateView
-all_up = record (first (cluster true)) { modes = Up ∷ Up ∷ Up ∷ []; waiting = (app ∷ []) ∷ (app ∷ []) ∷ (app ∷ []) ∷ [];
-    allowed = (true ∷ true ∷ true ∷ []) ∷ (true ∷ true ∷ true ∷ []) ∷ (true ∷ true ∷ true ∷ []) ∷ [] }
+all_up = record (first (cluster true)) {
+  modes = Up ∷ Up ∷ Up ∷ [];
+  waiting = (app ∷ []) ∷ (app ∷ []) ∷ (app ∷ []) ∷ [];
+  allowed = (true ∷ true ∷ true ∷ []) ∷ (true ∷ true ∷ true ∷ []) ∷ (true ∷ true ∷ true ∷ []) ∷ [];
+}
 
 abbrev first_down : StateView
 first_down = record all_up { modes = Down ∷ Up ∷ Up ∷ [] }

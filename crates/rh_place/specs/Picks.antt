@@ -1,5 +1,5 @@
 -- The choice among several that are equally good (ours).
-use Rattle.std.specs.Prelude.{List, [], ◌∷◌, Option, Some, None}
+use Rattle.std.specs.Prelude.{List, Option, None}
 use Rattle.std.specs.List.{last_or}
 use Rattle.rh_base.specs.Lists.{head}
 use Rattle.rh_place.specs.declared.choosing.Pick.{Pick}

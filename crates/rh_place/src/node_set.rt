@@ -30,6 +30,9 @@ impl Model for NodeSet {
 }
 
 impl NodeSet {
+    /// A set has nodes below this number only: its word has so many bits.
+    pub const LIMIT: u8 = 64;
+
     /// The set without a node.
     #[tactic(auto, unfolding(crate::specs::Sets::has))]
     pub fn empty() -> NodeSet
@@ -41,7 +44,7 @@ impl NodeSet {
     /// The set with a further node.
     #[tactic(auto, unfolding(crate::specs::Sets::has))]
     pub fn with(self, node: Node) -> NodeSet
-        requires { node.0 < 64 }
+        requires { node.0 < Self.LIMIT }
         ensures { (n : Node) → has result n ≡ (same_node n node || has self n) }
     {
         NodeSet {
@@ -54,7 +57,7 @@ impl NodeSet {
     pub fn has(self, node: Node) -> bool
         ensures { result ≡ has self node }
     {
-        node.0 < 64 && self.bits & 1 << node.0 != 0
+        node.0 < Self::LIMIT && self.bits & 1 << node.0 != 0
     }
 
     /// Is there no node in the set?

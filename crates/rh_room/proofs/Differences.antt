@@ -159,7 +159,7 @@ module _ (rs : List Receipt) (session : ℕ) (log : List Entry) (met place : ℕ
   differ_here : (at_place place told_rest ≡ at_place place logged_rest → ⊥) → IsFirstDifference rs (of_session session log) place
   differ_here differ =
       let whole : take met rs ++ logged_rest ≡ of_session session log = ap (λ (ss : List Receipt). ss ++ logged_rest) has.same
-              ∙ sym (of_session-split session place log (omega arith)) in
+      ∙ sym (of_session-split session place log (omega arith)) in
       subst (λ (ss : List Receipt). IsFirstDifference rs ss place) whole
       (subst (λ (ss : List Receipt). IsFirstDifference ss (take met rs ++ logged_rest) place) (take-append-drop met rs)
       (differ_after (take met rs) told_rest logged_rest place has.later (of_from-from session place (drop place log)) differ))
@@ -170,11 +170,11 @@ module _ (rs : List Receipt) (session : ℕ) (log : List Entry) (met place : ℕ
   told_otherwise told is_next next_is differ = elim (apart told (e.session == session) differ) [
     | inl only_told ↦ differ_here (λ same.
         let both : get_or rs met logged_here ∷ [] ≡ [] = sym (told_at logged_here (is_next only_told.0)) ∙ same
-                ∙ unlogged_at (isnt_session e.session session only_told.1) in
+        ∙ unlogged_at (isnt_session e.session session only_told.1) in
         absurd (cc both))
     | inr only_logged ↦ differ_here (λ same.
         let both : [] ≡ logged_here ∷ [] = sym (untold_at (λ next. absurd (cc (next_is next, only_logged.0)))) ∙ same
-                ∙ logged_at (is_session e.session session only_logged.1) in
+        ∙ logged_at (is_session e.session session only_logged.1) in
         absurd (cc both))
   ]
 
@@ -199,7 +199,7 @@ module _ (rs : List Receipt) (session : ℕ) (log : List Entry) (met place : ℕ
       let of : r.place ≡ place = ap (λ (x : Receipt). x.place) read ∙ next.1 r in
       let here : r ≡ logged_here = λ i. record { place = of i; call = call i; reply = reply i } in
       let entry : of_from session place (e ∷ []) ≡ logged_here ∷ [] = cond_true (e.session == session) (logged_here ∷ []) []
-              (same_number e.session session is) in
+      (same_number e.session session is) in
       let more : met + 1 ≤ length rs = omega (arith, next.0) in
       let one : suc met ≡ met + 1 = omega arith in
       record {

@@ -3,15 +3,15 @@ use Rattle.std.proofs.Common.{◌≡◌, ℕ, ◌<◌, ◌==◌, List, [], ◌�
 use Rattle.std.proofs.lemmas.List.{length_push, map-append}
 use Rattle.std.proofs.lemmas.List.Elements.{All-push}
 use Rattle.rh_events.specs.declared.event.Event.{Event}
-use Rattle.rh_step.specs.declared.refusal.Refusal.{Refusal}
-use Rattle.rh_step.specs.Refusals.{refused}
+use Rattle.rh_events.specs.declared.refusal.Refusal.{Refusal}
+use Rattle.rh_events.specs.Refusals.{refused}
 use Rattle.rh_trail.specs.declared.call.Call.{Call}
 use Rattle.rh_trail.specs.declared.call.Call.TheVariants as call
 use Rattle.rh_trail.specs.declared.call.Reply.{Reply}
 use Rattle.rh_trail.specs.SimView.{SimView, state_of}
-use Rattle.rh_trail.specs.Lone.{Served, answered, served, stepped, opened, replies, sim_after}
+use Rattle.rh_trail.specs.Lone.{Served, answered, served, stepped, opened, replies, sim_after, trail_limit}
 use Rattle.rh_room.specs.declared.pass.Entry.{Entry}
-use Rattle.rh_room.specs.Legal.{IsRoom, IsSession, calls, entry}
+use Rattle.rh_room.specs.Legal.{IsRoom, IsSession, calls, entry, log_limit}
 
 -- the new simulation of the cluster and the pick of another
 abbrev base_of : Served → SimView
@@ -24,7 +24,7 @@ base-cond s false v w p q = q
 
 base-stepped : (s : SimView) (e : Event) (o : Option Refusal) → base_of (stepped s e o) ≡ opened s.cluster s.pick
 base-stepped s e (Some r) = refl
-base-stepped s e None = base-cond s (s.cursor == 65535) _ _ refl refl
+base-stepped s e None = base-cond s (s.cursor == trail_limit) _ _ refl refl
 
 -- a call keeps cluster and pick
 pub base-served : (s : SimView) (c : Call) → base_of (served s c) ≡ opened s.cluster s.pick
@@ -45,7 +45,8 @@ sim_after-push s [] c = refl
 sim_after-push s (d ∷ cs) c = sim_after-push (served s d).sim cs c
 
 module _ (s t : SimView) (k : ℕ) (log : List Entry) (session : ℕ) (c : Call) (r : Reply) where
-  pub room_goes_on : IsRoom s k log → served s c ≡ answered r t → IsSession k session → length log < 65535 → IsRoom t k (log ++ entry session c r ∷ [])
+  pub room_goes_on : IsRoom s k log → served s c ≡ answered r t → IsSession k session → length log < log_limit
+      → IsRoom t k (log ++ entry session c r ∷ [])
   room_goes_on room is known space = record {
     few = room.few;
     legal =

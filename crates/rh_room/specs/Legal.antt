@@ -6,6 +6,7 @@ use Rattle.rh_trail.specs.SimView.{SimView, Held}
 use Rattle.rh_trail.specs.Lone.{opened, replies, sim_after}
 use Rattle.rh_room.specs.declared.pass.Entry.{Entry}
 use Rattle.rh_room.specs.declared.pass.Receipt.{Receipt}
+use Rattle.rh_room.specs.declared.room.TheConstants.Room.{SESSION_LIMIT, LOG_LIMIT}
 
 -- what callers see of a room
 pub record RoomView : Type 0 where
@@ -16,10 +17,10 @@ pub record RoomView : Type 0 where
 
 -- most sessions of a room, and most entries of its log
 abbrev pub session_limit : ℕ
-session_limit = 8
+session_limit = SESSION_LIMIT
 
 abbrev pub log_limit : ℕ
-log_limit = 65535
+log_limit = LOG_LIMIT
 
 -- sessions are numbered from 1
 abbrev pub IsSession : ℕ → ℕ → Type 0

@@ -5,7 +5,7 @@ use Rattle.rh_trail.specs.Lone.{served}
 use Rattle.rh_room.specs.declared.pass.Receipt.{Receipt}
 use Rattle.rh_room.specs.declared.pass.RoomFault.{RoomFault}
 use Rattle.rh_room.specs.declared.pass.RoomFault.TheVariants.{SessionCount, WrongRoom, LogFull, OutOfMemory}
-use Rattle.rh_room.specs.Legal.{PassView, RoomView, IsSession, entry, receipt, log_limit}
+use Rattle.rh_room.specs.Legal.{PassView, RoomView, IsSession, entry, receipt, session_limit, log_limit}
 
 -- the last receipt, if there is one
 abbrev pub last_of : List Receipt → Option Receipt
@@ -38,7 +38,7 @@ WhyNot room pass OutOfMemory = IsPassOf room pass × (length room.log < log_limi
 
 -- why none is opened
 abbrev pub WhyNotOpened : ℕ → RoomFault → Type 0
-WhyNotOpened sessions SessionCount = IsSession 8 sessions → ⊥
+WhyNotOpened sessions SessionCount = IsSession session_limit sessions → ⊥
 WhyNotOpened sessions (WrongRoom place) = ⊥
 WhyNotOpened sessions LogFull = ⊥
-WhyNotOpened sessions OutOfMemory = IsSession 8 sessions
+WhyNotOpened sessions OutOfMemory = IsSession session_limit sessions

@@ -3,14 +3,14 @@
 ghost use Rattle.std.specs.Prelude.{◌≡◌, [], map, IfOk, OnOk, IfErr};
 ghost use Rattle.std.specs.List.{range_with_len};
 ghost use Rattle.rh_trail.specs.Lone.{opened};
-ghost use Rattle.rh_room.specs.Legal.{IsSession, new_pass};
+ghost use Rattle.rh_room.specs.Legal.{IsSession, new_pass, session_limit};
 ghost use Rattle.rh_room.specs.Serving.{WhyNotOpened};
 
 use crate::pass::{Pass, RoomFault};
 use crate::room::Room;
+use rh_base::OutOfMemory;
 use rh_model::Cluster;
 use rh_step::Pick;
-use rh_base::OutOfMemory;
 use rh_trail::Sim;
 use std::alloc::Global;
 
@@ -18,7 +18,7 @@ use std::alloc::Global;
 /// cluster is dropped if there is a fault.
 ///
 /// # Errors
-/// `SessionCount` unless the number of sessions is 1 to 8, and `OutOfMemory`.
+/// `SessionCount` unless the number of sessions is 1 to [`Room::SESSION_LIMIT`], and `OutOfMemory`.
 pub fn open_room(
     alloc: Global,
     cluster: Cluster,
@@ -29,7 +29,7 @@ pub fn open_room(
     ensures sessions { IfOk result (λ opening. opening.0.sessions ≡ sessions) }
     ensures log { IfOk result (λ opening. opening.0.log ≡ []) }
     ensures passes { IfOk result (λ opening. opening.1.items ≡ map new_pass (range_with_len 1 sessions)) }
-    ensures fine { OnOk result (IsSession 8 sessions) }
+    ensures fine { OnOk result (IsSession session_limit sessions) }
     ensures fault { IfErr result (WhyNotOpened sessions) }
 {
     if sessions == 0 || sessions > Room::SESSION_LIMIT {
@@ -48,7 +48,7 @@ fn room_with_passes(
     pick: Pick,
     sessions: u8,
 ) -> Result<(Room, Vec<Pass>), OutOfMemory>
-    requires { IsSession 8 sessions }
+    requires { IsSession session_limit sessions }
     ensures sim { IfOk result (λ opening. opening.0.sim.seen ≡ opened cluster pick) }
     ensures sessions { IfOk result (λ opening. opening.0.sessions ≡ sessions) }
     ensures log { IfOk result (λ opening. opening.0.log ≡ []) }

@@ -76,12 +76,12 @@ impl Pass {
 /// Why a room doesn't open, or doesn't serve.
 #[derive(Clone, Copy, Debug, PartialEq, Eq)]
 pub enum RoomFault {
-    /// A room has 1 to 8 sessions.
+    /// A room has 1 to [`Room::SESSION_LIMIT`](crate::Room::SESSION_LIMIT) sessions.
     SessionCount,
     /// The pass is of another room: of a session that this one hasn't, or at the place of its last receipt (0 without
     /// receipts) the log has another entry, or none.
     WrongRoom { place: usize },
-    /// The log holds 65,535 entries, the most that it can.
+    /// The log holds [`Room::LOG_LIMIT`](crate::Room::LOG_LIMIT) entries, the most that it can.
     LogFull,
     /// Memory was refused.
     OutOfMemory,

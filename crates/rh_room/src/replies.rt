@@ -5,8 +5,8 @@ ghost use Rattle.rh_trail.specs.declared.call.Call.TheVariants as call;
 ghost use Rattle.rh_trail.specs.declared.call.Reply.TheVariants as reply;
 ghost use Rattle.rh_trail.specs.Lone.{served, answered};
 
-use rh_step::{Event, Refusal};
 use rh_base::OutOfMemory;
+use rh_step::{Event, Refusal};
 use rh_trail::{Call, Reply, Sim};
 use std::alloc::Global;
 

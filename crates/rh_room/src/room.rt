@@ -4,7 +4,7 @@ ghost use Rattle.std.specs.Prelude.{◌≡◌, ◌<◌, ◌↔◌, ◌++◌, ◌
 ghost use Rattle.std.specs.Option.{option_map};
 ghost use Rattle.rh_trail.specs.Lone.{served, opened};
 ghost use Rattle.rh_trail.specs.Laws.{IsReversible};
-ghost use Rattle.rh_room.specs.Legal.{IsSession, IsRoom, entry, log_limit};
+ghost use Rattle.rh_room.specs.Legal.{IsSession, IsRoom, entry, session_limit, log_limit};
 ghost use Rattle.rh_room.specs.Serving.{last_of, place_of, IsPassOf, receipt_of, WhyNot};
 
 use crate::pass::{Entry, Pass, Receipt, RoomFault};
@@ -46,7 +46,7 @@ impl Room {
     // A room with an empty log.
     pub(crate) fn of(alloc: Global, sim: Sim, sessions: u8) -> Room
         requires sim { sim.seen ≡ opened sim.seen.cluster sim.seen.pick }
-        requires sessions { IsSession 8 sessions }
+        requires sessions { IsSession session_limit sessions }
         ensures sim { result.sim ≡ sim }
         ensures sessions { result.sessions ≡ sessions }
         ensures log { result.log ≡ [] }
@@ -76,10 +76,10 @@ impl Room {
         &self.sim
     }
 
-    /// The number of sessions, 1 to 8.
+    /// The number of sessions, 1 to [`Room::SESSION_LIMIT`].
     pub fn sessions(&self) -> u8
         ensures sessions { result ≡ self.now.sessions }
-        ensures few { IsSession 8 result }
+        ensures few { IsSession session_limit result }
     {
         self.sessions
     }

@@ -1,9 +1,10 @@
 -- A word that is parsed as a number, and the number that it is in a script.
-use Rattle.std.proofs.Common.{◌≡◌, ℕ, ◌^◌, ◌<◌, ◌&&◌, ◌==◌, Bool, true, false, not, cond, List, [], ◌∷◌, length, drop, Some, None, nat_lt, refl, sym, ap, subst}
-use Rattle.std.proofs.Common.{◌∙◌, arith}
+use Rattle.std.proofs.Common.{◌≡◌, ℕ, ◌^◌, ◌<◌, ◌&&◌, ◌==◌, Bool, true, false, not, cond, List, [], ◌∷◌, length, drop, Some, None, Result, Ok, Err, nat_lt}
+use Rattle.std.proofs.Common.{refl, sym, ap, subst, ◌∙◌, arith}
 use Rattle.std.specs.List.{list_all}
 use Rattle.std.specs.Char.{digit_value}
-use Rattle.std.specs.Str.Parse.{AllDigits, IsNumeral, digits_value, without_leading_plus}
+use Rattle.std.specs.Result.{result_ok}
+use Rattle.std.specs.Str.Parse.{AllDigits, IsNumeral, ParsesUnsigned, digits_value, without_leading_plus}
 use Rattle.std.proofs.lemmas.Bool.Decides.{nat_tests}
 use Rattle.rh_script.specs.Commands.{begins_with, is_numeral, milliseconds}
 
@@ -38,7 +39,7 @@ numeral_from word h = by (length word == 0) refl h
     by true is rest = absurd (cc rest)
     by false is rest = (grind (arith, nat_tests, is), digits_from word rest)
 
-pub read_number : (word : List ℕ) (n : ℕ) → begins_with 43 word ≡ false → IsNumeral 10 (without_leading_plus word)
+read_number : (word : List ℕ) (n : ℕ) → begins_with 43 word ≡ false → IsNumeral 10 (without_leading_plus word)
     → digits_value 10 (without_leading_plus word) < 2 ^ 64
     → n ≡ digits_value 10 (without_leading_plus word) → Some n ≡ milliseconds word
 unfolding milliseconds
@@ -51,7 +52,7 @@ read_number word n plain numeral small is =
     ∙ sym (ap (λ t. cond (t && nat_lt (digits_value 10 word) (2 ^ 64)) (Some (digits_value 10 word)) None) numeral_here
     ∙ ap (λ t. cond t (Some (digits_value 10 word)) None) fits)
 
-pub read_nothing : (word : List ℕ) → begins_with 43 word ≡ false →
+read_nothing : (word : List ℕ) → begins_with 43 word ≡ false →
     (IsNumeral 10 (without_leading_plus word) × (digits_value 10 (without_leading_plus word) < 2 ^ 64) → ⊥) → None ≡ milliseconds word
 unfolding milliseconds
 read_nothing word plain not_so = by (is_numeral word) refl (nat_lt (digits_value 10 word) (2 ^ 64)) refl
@@ -63,6 +64,11 @@ read_nothing word plain not_so = by (is_numeral word) refl (nat_lt (digits_value
         let e = sym (no_plus word plain) in
         let small : digits_value 10 word < 2 ^ 64 = grind (arith, nat_tests, fits) in
         absurd (not_so (subst (IsNumeral 10) e (numeral_from word is), subst (λ w. digits_value 10 w < 2 ^ 64) e small))
+
+-- what is parsed of a word without a plus
+pub read_word : {E : Type 0} (word : List ℕ) (r : Result ℕ E) → begins_with 43 word ≡ false → ParsesUnsigned 64 10 word r → result_ok r ≡ milliseconds word
+read_word word (Ok n) plain h = read_number word n plain h.0.0 h.0.1 h.1
+read_word word (Err e) plain h = read_nothing word plain h
 
 pub read_plus : (word : List ℕ) → begins_with 43 word ≡ true → None ≡ milliseconds word
 unfolding milliseconds

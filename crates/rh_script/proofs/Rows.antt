@@ -9,12 +9,13 @@ use Rattle.rh_model.specs.declared.settings.Restart.TheVariants.{Permanent, Tran
 use Rattle.rh_state.specs.declared.status.Kind.TheVariants as kind
 use Rattle.rh_settle.specs.declared.notice.Notice.TheVariants.{Started, Stopped, Waits}
 use Rattle.rh_events.specs.declared.event.Event.TheVariants.{Boot, Tick, Start, Stop, Permit, Takeover, Exit}
-use Rattle.rh_step.specs.declared.refusal.Refusal.TheVariants.{DependencyNotStarted}
+use Rattle.rh_events.specs.declared.refusal.Refusal.TheVariants.{DependencyNotStarted}
 use Rattle.rh_trail.specs.declared.call.Call.TheVariants.{Step, Undo, Look}
 use Rattle.rh_trail.specs.declared.call.Reply.TheVariants.{Refused}
+use Rattle.rh_script.specs.declared.script.TheConstants.{NO_NODE, NO_APP}
 use Rattle.rh_script.specs.declared.script.Line.TheVariants.{Nothing, Asks, Bad}
 use Rattle.rh_script.specs.Lines.{content, cluster_text, script_lines}
-use Rattle.rh_script.specs.Commands.{milliseconds, line_of}
+use Rattle.rh_script.specs.Commands.{milliseconds, four_word_command, line_of}
 use Rattle.rh_script.specs.declared.session_lines.SessionLine.TheVariants as line
 use Rattle.rh_script.specs.SessionLines.{command, session_line_of}
 use Rattle.rh_script.specs.Answers.{notice_line, answer_text, fault_text}
@@ -29,11 +30,11 @@ abbrev one_app : ClusterView
 one_app = record { node_names = codes "a" ∷ codes "b" ∷ []; app_names = codes "w" ∷ []; platform_names = codes "kernel" ∷ []; nodes = []; apps = [] }
 
 boot_row : line_of one_node (codes "  boot   a ") ≡ Asks (Step (Boot (numbered 0)))
-unfolding line_of is_utf8 chars encode
+unfolding line_of four_word_command is_utf8 chars encode
 boot_row = refl
 
-unknown_name_row : line_of one_node (codes "boot b") ≡ Asks (Step (Boot (numbered 255)))
-unfolding line_of is_utf8 chars encode
+unknown_name_row : line_of one_node (codes "boot b") ≡ Asks (Step (Boot NO_NODE))
+unfolding line_of four_word_command is_utf8 chars encode
 unknown_name_row = refl
 
 tick_row : line_of one_node (codes "tick 18446744073709551615") ≡ Asks (Step (Tick 18446744073709551615))
@@ -57,51 +58,51 @@ unfolding line_of milliseconds is_utf8 chars encode
 tick_with_zeros_row = refl
 
 start_row : line_of one_app (codes "start b w transient") ≡ Asks (Step (Start (numbered 1) (app_numbered 0) Transient))
-unfolding line_of is_utf8 chars encode
+unfolding line_of four_word_command is_utf8 chars encode
 start_row = refl
 
 stop_row : line_of one_app (codes "stop b w") ≡ Asks (Step (Stop (numbered 1) (app_numbered 0)))
-unfolding line_of is_utf8 chars encode
+unfolding line_of four_word_command is_utf8 chars encode
 stop_row = refl
 
 permit_row : line_of one_app (codes "permit b w true") ≡ Asks (Step (Permit (numbered 1) (app_numbered 0) true))
-unfolding line_of is_utf8 chars encode
+unfolding line_of four_word_command is_utf8 chars encode
 permit_row = refl
 
 forbid_row : line_of one_app (codes "permit b w false") ≡ Asks (Step (Permit (numbered 1) (app_numbered 0) false))
-unfolding line_of is_utf8 chars encode
+unfolding line_of four_word_command is_utf8 chars encode
 forbid_row = refl
 
 takeover_row : line_of one_app (codes "takeover b w temporary") ≡ Asks (Step (Takeover (numbered 1) (app_numbered 0) Temporary))
-unfolding line_of is_utf8 chars encode
+unfolding line_of four_word_command is_utf8 chars encode
 takeover_row = refl
 
 exit_row : line_of one_app (codes "exit b w normal") ≡ Asks (Step (Exit (numbered 1) (app_numbered 0) true))
-unfolding line_of is_utf8 chars encode
+unfolding line_of four_word_command is_utf8 chars encode
 exit_row = refl
 
 abnormal_exit_row : line_of one_app (codes "exit b w abnormal") ≡ Asks (Step (Exit (numbered 1) (app_numbered 0) false))
-unfolding line_of is_utf8 chars encode
+unfolding line_of four_word_command is_utf8 chars encode
 abnormal_exit_row = refl
 
-unknown_app_row : line_of one_app (codes "start w b permanent") ≡ Asks (Step (Start (numbered 255) (app_numbered 255) Permanent))
-unfolding line_of is_utf8 chars encode
+unknown_app_row : line_of one_app (codes "start w b permanent") ≡ Asks (Step (Start NO_NODE NO_APP Permanent))
+unfolding line_of four_word_command is_utf8 chars encode
 unknown_app_row = refl
 
 start_without_type_row : line_of one_app (codes "start b w") ≡ Bad
-unfolding line_of is_utf8 chars encode
+unfolding line_of four_word_command is_utf8 chars encode
 start_without_type_row = refl
 
 unknown_type_row : line_of one_app (codes "start b w permanently") ≡ Bad
-unfolding line_of is_utf8 chars encode
+unfolding line_of four_word_command is_utf8 chars encode
 unknown_type_row = refl
 
 neither_true_nor_false_row : line_of one_app (codes "permit b w yes") ≡ Bad
-unfolding line_of is_utf8 chars encode
+unfolding line_of four_word_command is_utf8 chars encode
 neither_true_nor_false_row = refl
 
 stop_with_option_row : line_of one_app (codes "stop b w normal") ≡ Bad
-unfolding line_of is_utf8 chars encode
+unfolding line_of four_word_command is_utf8 chars encode
 stop_with_option_row = refl
 
 failover_row : notice_line one_app (Started (app_numbered 0) (numbered 1) (kind.Failover (numbered 0)) (Some (numbered 0))) ≡ codes "started w b failover a\n"
@@ -129,19 +130,19 @@ unfolding answer_text
 missing_platform_row = refl
 
 blank_row : line_of one_node (codes "   ") ≡ Nothing
-unfolding line_of is_utf8 chars encode
+unfolding line_of four_word_command is_utf8 chars encode
 blank_row = refl
 
 comment_row : line_of one_node (codes "# boot a") ≡ Nothing
-unfolding line_of is_utf8 chars encode
+unfolding line_of four_word_command is_utf8 chars encode
 comment_row = refl
 
 blank_before_comment_row : line_of one_node (codes " # boot a") ≡ Bad
-unfolding line_of is_utf8 chars encode
+unfolding line_of four_word_command is_utf8 chars encode
 blank_before_comment_row = refl
 
 too_many_words_row : line_of one_node (codes "boot a a") ≡ Bad
-unfolding line_of is_utf8 chars encode
+unfolding line_of four_word_command is_utf8 chars encode
 too_many_words_row = refl
 
 cut_row : cluster_text (codes "a\n===\nb\n") ≡ codes "a\n"
@@ -188,7 +189,7 @@ session_comment_row : session_line_of one_node (codes "# x") ≡ line.Nothing
 unfolding session_line_of is_utf8 chars encode
 session_comment_row = refl
 
-unknown_node_words_row : command_words one_node (Step (Boot (numbered 255))) ≡ codes "boot ?"
+unknown_node_words_row : command_words one_node (Step (Boot NO_NODE)) ≡ codes "boot ?"
 unfolding command_words event_words
 unknown_node_words_row = refl
 
@@ -200,7 +201,7 @@ forbid_words_row : command_words one_app (Step (Permit (numbered 1) (app_numbere
 unfolding command_words event_words
 forbid_words_row = refl
 
-start_words_row : command_words one_app (Step (Start (numbered 1) (app_numbered 255) Transient)) ≡ codes "start b ? transient"
+start_words_row : command_words one_app (Step (Start (numbered 1) NO_APP Transient)) ≡ codes "start b ? transient"
 unfolding command_words event_words
 start_words_row = refl
 

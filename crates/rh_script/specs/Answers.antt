@@ -2,7 +2,7 @@
 use Rattle.std.specs.Prelude.{ℕ, List, [], ◌++◌, codes, unwrap_or}
 use Rattle.std.specs.List.{flat_map}
 use Rattle.std.specs.Fmt.{decimal}
-use Rattle.rh_model.specs.ClusterView.{ClusterView, name_of, dep_name}
+use Rattle.rh_model.specs.ClusterView.{ClusterView, dep_name}
 use Rattle.rh_model.specs.declared.node.Node.{Node}
 use Rattle.rh_model.specs.declared.node.App.{App}
 use Rattle.rh_model.specs.declared.settings.Dep.{Dep}
@@ -10,24 +10,25 @@ use Rattle.rh_sections.specs.FaultTexts.{cluster_fault_text}
 use Rattle.rh_sections.specs.declared.fault.ClusterFault.{ClusterFault}
 use Rattle.rh_settle.specs.declared.notice.Notice.{Notice}
 use Rattle.rh_settle.specs.declared.notice.Notice.TheVariants.{Up, Ended, Started, Stopped, Waits}
-use Rattle.rh_step.specs.declared.refusal.Refusal.{Refusal}
-use Rattle.rh_step.specs.declared.refusal.Refusal.TheVariants.{DependencyNotStarted}
+use Rattle.rh_events.specs.declared.refusal.Refusal.{Refusal}
+use Rattle.rh_events.specs.declared.refusal.Refusal.TheVariants.{DependencyNotStarted}
 use Rattle.rh_trail.specs.declared.call.Reply.{Reply}
 use Rattle.rh_trail.specs.declared.call.Reply.TheVariants as reply
-use Rattle.rh_trail.specs.Report.{app_name_of, kind_words}
-use Rattle.rh_step.specs.Refusals.{refusal_words}
+use Rattle.rh_trail.specs.Report.{no_name, node_word, app_word, kind_words}
+use Rattle.rh_events.specs.Refusals.{refusal_words}
 
--- the name of a dependency, or nothing for one that isn't of this cluster
+-- the name of a dependency, or what is shown for a missing name
 abbrev pub dep_words : ClusterView → Dep → List ℕ
-dep_words c d = unwrap_or (dep_name c d) []
+dep_words c d = unwrap_or (dep_name c d) no_name
 
 -- an application, and a node
 abbrev pub pair_words : ClusterView → App → Node → List ℕ
-pair_words c a n = app_name_of c a ++ codes " " ++ name_of c n
+pair_words c a n = app_word c a ++ codes " " ++ node_word c n
 
+-- what followed from a step
 unfoldable pub notice_line : ClusterView → Notice → List ℕ
-notice_line c (Up n) = codes "up " ++ name_of c n ++ codes "\n"
-notice_line c (Ended n) = codes "ended " ++ name_of c n ++ codes "\n"
+notice_line c (Up n) = codes "up " ++ node_word c n ++ codes "\n"
+notice_line c (Ended n) = codes "ended " ++ node_word c n ++ codes "\n"
 notice_line c (Started a n kind lost) = codes "started " ++ pair_words c a n ++ codes " " ++ kind_words c kind ++ codes "\n"
 notice_line c (Stopped a n) = codes "stopped " ++ pair_words c a n ++ codes "\n"
 notice_line c (Waits a n) = codes "waits " ++ pair_words c a n ++ codes "\n"
@@ -37,9 +38,11 @@ abbrev pub reason_words : ClusterView → Refusal → List ℕ
 reason_words c (DependencyNotStarted dep) = codes " " ++ dep_words c dep
 reason_words c other = []
 
+-- why a step was refused
 abbrev pub refusal_line : ClusterView → Refusal → List ℕ
 refusal_line c refusal = codes "refused " ++ refusal_words refusal ++ reason_words c refusal ++ codes "\n"
 
+-- the answer to a call
 unfoldable pub answer_text : ClusterView → Reply → List ℕ
 answer_text c (reply.Done notices) = codes "ok\n" ++ flat_map (notice_line c) notices
 answer_text c (reply.Refused refusal) = refusal_line c refusal
@@ -50,8 +53,10 @@ answer_text c reply.AtEnd = codes "refused at_end\n"
 answer_text c (reply.Moved count) = codes "ok " ++ decimal count ++ codes "\n"
 answer_text c (reply.Seen cursor trail text) = codes "ok\n" ++ text
 
+-- why a text is no cluster file
 unfoldable pub fault_text : ClusterFault → List ℕ
 fault_text f = codes "cluster refused " ++ cluster_fault_text f ++ codes "\n"
 
+-- the line of this number is no command
 unfoldable pub bad_text : ℕ → List ℕ
 bad_text k = codes "bad line " ++ decimal k ++ codes "\n"

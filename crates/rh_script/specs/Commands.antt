@@ -2,16 +2,20 @@
 use Rattle.std.specs.Prelude.{ℕ, ◌^◌, ◌&&◌, ◌==◌, List, [], ◌∷◌, length, filter, Bool, true, false, not, nat_lt, if◌then◌else◌, codes, Option, Some, None}
 use Rattle.std.specs.Prelude.{unwrap_or}
 use Rattle.std.specs.List.{slice_split, list_all}
+use Rattle.std.specs.Option.{option_map}
 use Rattle.std.specs.Char.{digit_value}
 use Rattle.std.specs.Str.{bytes_eq, is_utf8}
 use Rattle.std.specs.Str.Parse.{digits_value}
-use Rattle.rh_model.specs.ClusterView.{ClusterView, node_of, numbered, app_of, app_numbered}
+use Rattle.rh_model.specs.ClusterView.{ClusterView, node_of, app_of}
 use Rattle.rh_model.specs.declared.node.Node.{Node}
 use Rattle.rh_model.specs.declared.node.App.{App}
 use Rattle.rh_model.specs.declared.settings.Restart.{Restart}
 use Rattle.rh_model.specs.declared.settings.Restart.TheVariants.{Permanent, Transient, Temporary}
+use Rattle.rh_events.specs.declared.event.Event.{Event}
 use Rattle.rh_events.specs.declared.event.Event.TheVariants.{Boot, Crash, Tick, Start, Stop, Permit, Takeover, Exit}
 use Rattle.rh_trail.specs.declared.call.Call.TheVariants as call
+use Rattle.rh_trail.specs.Report.{restart_words}
+use Rattle.rh_script.specs.declared.script.TheConstants.{NO_NODE, NO_APP}
 use Rattle.rh_script.specs.declared.script.Line.{Line}
 use Rattle.rh_script.specs.declared.script.Line.TheVariants.{Nothing, Asks, Bad}
 
@@ -19,14 +23,15 @@ use Rattle.rh_script.specs.declared.script.Line.TheVariants.{Nothing, Asks, Bad}
 abbrev pub words_of : List ℕ → List (List ℕ)
 words_of line = filter (λ word. not (length word == 0)) (slice_split (λ b. b == 32) line)
 
--- a name that no node has stands for number 255
+-- the node of this name, or what stands for none
 abbrev pub named : ClusterView → List ℕ → Node
-named c name = unwrap_or (node_of c name) (numbered 255)
+named c name = unwrap_or (node_of c name) NO_NODE
 
--- and one that no application has
+-- and the application
 abbrev pub named_app : ClusterView → List ℕ → App
-named_app c name = unwrap_or (app_of c name) (app_numbered 255)
+named_app c name = unwrap_or (app_of c name) NO_APP
 
+-- a command of one word
 abbrev pub plain_command : List ℕ → Line
 plain_command word =
     if bytes_eq word (codes "undo") then Asks call.Undo
@@ -36,6 +41,7 @@ plain_command word =
     else if bytes_eq word (codes "show") then Asks call.Look
     else Bad
 
+-- does the line begin with this byte?
 abbrev pub begins_with : ℕ → List ℕ → Bool
 begins_with b [] = false
 begins_with b (c ∷ bytes) = c == b
@@ -48,56 +54,45 @@ is_numeral word = not (length word == 0) && list_all (λ b. nat_lt (digit_value 
 unfoldable pub milliseconds : List ℕ → Option ℕ
 milliseconds word = if is_numeral word && nat_lt (digits_value 10 word) (2 ^ 64) then Some (digits_value 10 word) else None
 
-abbrev pub tick_command : Option ℕ → Line
-tick_command None = Bad
-tick_command (Some ms) = Asks (call.Step (Tick ms))
+-- the command of an event, or none without one
+abbrev pub step_command : Option Event → Line
+step_command None = Bad
+step_command (Some event) = Asks (call.Step event)
 
+-- a command of two words
 abbrev pub two_word_command : ClusterView → List ℕ → List ℕ → Line
 two_word_command c word name =
     if bytes_eq word (codes "boot") then Asks (call.Step (Boot (named c name)))
     else if bytes_eq word (codes "crash") then Asks (call.Step (Crash (named c name)))
-    else if bytes_eq word (codes "tick") then tick_command (milliseconds name)
+    else if bytes_eq word (codes "tick") then step_command (option_map (λ ms. Tick ms) (milliseconds name))
     else Bad
 
--- the restart type of this name (application(3), `start/2`)
+-- the restart type of this word (application(3), `start/2`)
 abbrev pub restart_named : List ℕ → Option Restart
 restart_named word =
-    if bytes_eq word (codes "permanent") then Some Permanent
-    else if bytes_eq word (codes "transient") then Some Transient
-    else if bytes_eq word (codes "temporary") then Some Temporary
+    if bytes_eq word (restart_words Permanent) then Some Permanent
+    else if bytes_eq word (restart_words Transient) then Some Transient
+    else if bytes_eq word (restart_words Temporary) then Some Temporary
     else None
 
 -- which of two words it is: the first stands for yes
 abbrev pub first_of : List ℕ → List ℕ → List ℕ → Option Bool
 first_of yea nay word = if bytes_eq word yea then Some true else if bytes_eq word nay then Some false else None
 
-abbrev pub start_command : Node → App → Option Restart → Line
-start_command n a None = Bad
-start_command n a (Some restart) = Asks (call.Step (Start n a restart))
-
-abbrev pub takeover_command : Node → App → Option Restart → Line
-takeover_command n a None = Bad
-takeover_command n a (Some restart) = Asks (call.Step (Takeover n a restart))
-
-abbrev pub permit_command : Node → App → Option Bool → Line
-permit_command n a None = Bad
-permit_command n a (Some allow) = Asks (call.Step (Permit n a allow))
-
-abbrev pub exit_command : Node → App → Option Bool → Line
-exit_command n a None = Bad
-exit_command n a (Some normal) = Asks (call.Step (Exit n a normal))
-
+-- a command of three words
 abbrev pub three_word_command : List ℕ → Node → App → Line
 three_word_command word n a = if bytes_eq word (codes "stop") then Asks (call.Step (Stop n a)) else Bad
 
-abbrev pub four_word_command : List ℕ → Node → App → List ℕ → Line
+-- a command of four words
+unfoldable pub four_word_command : List ℕ → Node → App → List ℕ → Line
 four_word_command word n a option =
-    if bytes_eq word (codes "start") then start_command n a (restart_named option)
-    else if bytes_eq word (codes "permit") then permit_command n a (first_of (codes "true") (codes "false") option)
-    else if bytes_eq word (codes "takeover") then takeover_command n a (restart_named option)
-    else if bytes_eq word (codes "exit") then exit_command n a (first_of (codes "normal") (codes "abnormal") option)
+    if bytes_eq word (codes "start") then step_command (option_map (λ restart. Start n a restart) (restart_named option))
+    else if bytes_eq word (codes "permit") then step_command (option_map (λ allow. Permit n a allow) (first_of (codes "true") (codes "false") option))
+    else if bytes_eq word (codes "takeover") then step_command (option_map (λ restart. Takeover n a restart) (restart_named option))
+    else if bytes_eq word (codes "exit") then step_command (option_map (λ normal. Exit n a normal) (first_of (codes "normal") (codes "abnormal") option))
     else Bad
 
+-- the command that the words make, and nothing of none
 abbrev pub command_of : ClusterView → List (List ℕ) → Line
 command_of c [] = Nothing
 command_of c (word ∷ []) = plain_command word
@@ -106,6 +101,7 @@ command_of c (word ∷ node ∷ app ∷ []) = three_word_command word (named c n
 command_of c (word ∷ node ∷ app ∷ option ∷ []) = four_word_command word (named c node) (named_app c app) option
 command_of c (word ∷ node ∷ app ∷ option ∷ other ∷ more) = Bad
 
+-- what a line asks; one that begins with `#` is a comment
 unfoldable pub line_of : ClusterView → List ℕ → Line
 line_of c line =
     if begins_with 35 line then Nothing

@@ -3,38 +3,14 @@
 ghost use Rattle.std.specs.Prelude.{◌≡◌, ◌++◌, is_some, OnOk, IfOk};
 ghost use Rattle.std.specs.List.{flat_map};
 ghost use Rattle.std.specs.String.{string_bytes};
-ghost use Rattle.rh_model.specs.ClusterView.{name_of, dep_name};
-ghost use Rattle.rh_trail.specs.Report.{app_name_of, kind_words};
+ghost use Rattle.rh_model.specs.ClusterView.{dep_name};
 ghost use Rattle.rh_script.specs.Answers.{dep_words, pair_words, reason_words, refusal_line, notice_line, answer_text, fault_text, bad_text};
 
-use rh_cluster::{App, Cluster, ClusterFault, Dep, Node};
-use rh_state::Kind;
-use rh_step::{Notice, Refusal};
 use rh_base::OutOfMemory;
-use rh_trail::Reply;
+use rh_cluster::{App, Cluster, ClusterFault, Dep, Node};
+use rh_step::{Notice, Refusal};
+use rh_trail::{NO_NAME, Reply, app_word, node_word, push_kind};
 use std::alloc::Global;
-
-// The name of a node, or nothing for a number that no node has.
-fn name_of<'a>(cluster: &'a Cluster, node: Node) -> &'a str
-    ensures { result.now ≡ name_of cluster.now node }
-{
-    if (node.0 as usize) < cluster.node_count() {
-        cluster.node_name(node)
-    } else {
-        ""
-    }
-}
-
-// The name of an application, or nothing for a number that no application has.
-fn app_name_of<'a>(cluster: &'a Cluster, app: App) -> &'a str
-    ensures { result.now ≡ app_name_of cluster.now app }
-{
-    if (app.0 as usize) < cluster.app_count() {
-        cluster.app_name(app)
-    } else {
-        ""
-    }
-}
 
 // Is the dependency one of the cluster's?
 fn has_dep(cluster: &Cluster, dep: Dep) -> bool
@@ -46,41 +22,23 @@ fn has_dep(cluster: &Cluster, dep: Dep) -> bool
     }
 }
 
-// The name of a dependency, or nothing for one that isn't of this cluster.
+// The name of a dependency, or a question mark for one that isn't of this cluster.
 fn dep_words<'a>(cluster: &'a Cluster, dep: Dep) -> &'a str
     ensures { result.now ≡ dep_words cluster.now dep }
 {
     if has_dep(cluster, dep) {
         cluster.dep_name(dep)
     } else {
-        ""
+        NO_NAME
     }
-}
-
-// Adds how an application was started.
-fn push_kind(text: &mut String, cluster: &Cluster, kind: Kind) -> Result<(), OutOfMemory>
-    ensures { OnOk result (string_bytes text.new ≡ string_bytes text.old ++ kind_words cluster.now kind) }
-{
-    match kind {
-        Kind::Normal => text.push_str("normal")?,
-        Kind::Failover(from) => {
-            let name = name_of(cluster, from);
-            write!(text, "failover {name}")?;
-        }
-        Kind::Takeover(from) => {
-            let name = name_of(cluster, from);
-            write!(text, "takeover {name}")?;
-        }
-    }
-    Ok(())
 }
 
 // Adds an application and a node.
 fn push_pair(text: &mut String, cluster: &Cluster, app: App, node: Node) -> Result<(), OutOfMemory>
     ensures { OnOk result (string_bytes text.new ≡ string_bytes text.old ++ pair_words cluster.now app node) }
 {
-    let app = app_name_of(cluster, app);
-    let node = name_of(cluster, node);
+    let app = app_word(cluster, app);
+    let node = node_word(cluster, node);
     write!(text, "{app} {node}")?;
     Ok(())
 }
@@ -92,11 +50,11 @@ fn push_notice(text: &mut String, cluster: &Cluster, notice: &Notice) -> Result<
 {
     match *notice {
         Notice::Up { node } => {
-            let name = name_of(cluster, node);
+            let name = node_word(cluster, node);
             writeln!(text, "up {name}")?;
         }
         Notice::Ended { node } => {
-            let name = name_of(cluster, node);
+            let name = node_word(cluster, node);
             writeln!(text, "ended {name}")?;
         }
         Notice::Started {

@@ -2,47 +2,13 @@
 
 ghost use Rattle.std.specs.Prelude.{◌≡◌, ◌++◌, OnOk, IfOk, codes};
 ghost use Rattle.std.specs.String.{string_bytes};
-ghost use Rattle.rh_trail.specs.Report.{restart_words};
-ghost use Rattle.rh_script.specs.CommandWords.{node_word, app_word, place_words, truth_word, reason_word, event_words, command_words};
+ghost use Rattle.rh_script.specs.CommandWords.{place_words, truth_word, reason_word, event_words, command_words};
 
-use rh_cluster::{App, Cluster, Node, Restart};
-use rh_step::Event;
 use rh_base::OutOfMemory;
-use rh_trail::Call;
+use rh_cluster::{App, Cluster, Node};
+use rh_step::Event;
+use rh_trail::{Call, app_word, node_word, restart_word};
 use std::alloc::Global;
-
-// The name of a node, or a question mark for a number that no node has.
-fn node_word<'a>(cluster: &'a Cluster, node: Node) -> &'a str
-    ensures { result.now ≡ node_word cluster.now node }
-{
-    if (node.0 as usize) < cluster.node_count() {
-        cluster.node_name(node)
-    } else {
-        "?"
-    }
-}
-
-// The name of an application, or a question mark for a number that no application has.
-fn app_word<'a>(cluster: &'a Cluster, app: App) -> &'a str
-    ensures { result.now ≡ app_word cluster.now app }
-{
-    if (app.0 as usize) < cluster.app_count() {
-        cluster.app_name(app)
-    } else {
-        "?"
-    }
-}
-
-// The word of a restart type.
-fn restart_word(restart: Restart) -> &'static str
-    ensures { result.now ≡ restart_words restart }
-{
-    match restart {
-        Restart::Permanent => "permanent",
-        Restart::Transient => "transient",
-        Restart::Temporary => "temporary",
-    }
-}
 
 // The word of a permission.
 fn truth_word(allow: bool) -> &'static str

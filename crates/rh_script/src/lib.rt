@@ -14,4 +14,4 @@ pub use answers::{answer_text, bad_text, fault_text};
 pub use command_words::command_text;
 pub use lines::{content, cut, split_line};
 pub use script::{Line, line_of};
-pub use session_lines::{Command, SessionLine, session_line_of};
+pub use session_lines::{Command, LAST_SESSION, SessionLine, session_line_of};

@@ -19,7 +19,7 @@ fn line_len(bytes: &[u8]) -> usize
     at
 }
 
-// The first line, and what stands behind it.
+/// The first line, and what stands behind it.
 pub fn split_line(bytes: &[u8]) -> (&[u8], &[u8])
     requires { 0 < length bytes.now }
     ensures line { raw_lines bytes.now ≡ result.0.now ∷ raw_lines result.1.now }
@@ -47,7 +47,7 @@ fn has_end(line: &[u8]) -> bool
     !line.is_empty() && line[line.len() - 1] == b'\n'
 }
 
-// A line without its LF, and without one CR before that.
+/// A line without its LF, and without one CR before that.
 #[tactic(auto, unfolding(crate::specs::Lines::content))]
 pub fn content(line: &[u8]) -> &[u8]
     ensures { result.now ≡ content line.now }
@@ -66,7 +66,7 @@ fn is_separator(line: &[u8]) -> bool
     content(line) == b"===".as_slice()
 }
 
-// The text before the separator, and the script behind it.
+/// The text before the line `===`, and the script behind it.
 pub fn cut(bytes: &[u8]) -> (&[u8], &[u8])
     ensures cluster { result.0.now ≡ cluster_text bytes.now }
     ensures script { map content (raw_lines result.1.now) ≡ script_lines bytes.now }

@@ -4,12 +4,12 @@ ghost use Rattle.std.specs.Prelude.{not, ◌==◌, ◌≡◌, if◌then◌else�
 ghost use Rattle.std.specs.List.{slice_split};
 ghost use Rattle.std.specs.Option.{option_map};
 ghost use Rattle.std.specs.Str.{is_utf8};
-ghost use Rattle.rh_script.specs.Commands.{words_of, named, named_app, begins_with, milliseconds, tick_command, plain_command, two_word_command, restart_named, first_of, start_command, takeover_command, permit_command, exit_command, three_word_command, four_word_command, command_of, line_of};
+ghost use Rattle.rh_script.specs.Commands.{words_of, named, named_app, begins_with, milliseconds, step_command, plain_command, two_word_command, restart_named, first_of, three_word_command, four_word_command, command_of, line_of};
 
+use rh_base::OutOfMemory;
 use rh_cluster::{App, Cluster, Node, Restart};
 use rh_step::Event;
-use rh_base::OutOfMemory;
-use rh_trail::Call;
+use rh_trail::{Call, restart_word};
 use std::alloc::{AllocError, Global};
 
 /// What a line of a script asks.
@@ -22,6 +22,12 @@ pub enum Line {
     /// It is no command.
     Bad,
 }
+
+// Stands for a node whose name the cluster hasn't. No cluster has so many nodes.
+const NO_NODE: Node = Node(255);
+
+// Stands for an application whose name the cluster hasn't. No cluster has so many applications.
+const NO_APP: App = App(255);
 
 // The parts round each space.
 fn parts_of(alloc: Global, line: &str) -> Result<Vec<&str>, AllocError>
@@ -44,18 +50,18 @@ pub fn words_of(alloc: Global, line: &str) -> Result<Vec<&str>, OutOfMemory>
     Ok(words)
 }
 
-// The node of this name, or number 255.
+// The node of this name, or what stands for none.
 fn named(cluster: &Cluster, name: &str) -> Node
     ensures { result ≡ named cluster.now name.now }
 {
-    cluster.node_of(name).unwrap_or(Node(255))
+    cluster.node_of(name).unwrap_or(NO_NODE)
 }
 
-// The application of this name, or number 255.
+// The application of this name, or what stands for none.
 fn named_app(cluster: &Cluster, name: &str) -> App
     ensures { result ≡ named_app cluster.now name.now }
 {
-    cluster.app_of(name).unwrap_or(App(255))
+    cluster.app_of(name).unwrap_or(NO_APP)
 }
 
 // A command of one word.
@@ -92,18 +98,15 @@ fn milliseconds(word: &str) -> Option<u64>
     if begins_with(b'+', word.as_bytes()) {
         return None;
     }
-    match word.parse::<u64>() {
-        Ok(ms) => Some(ms),
-        Err(_) => None,
-    }
+    word.parse::<u64>().ok()
 }
 
-// The command of a number of milliseconds.
-fn tick_command(ms: Option<u64>) -> Line
-    ensures { result ≡ tick_command ms }
+// The command of an event, or none without one.
+fn step_command(event: Option<Event>) -> Line
+    ensures { result ≡ step_command event }
 {
-    match ms {
-        Some(ms) => Line::Asks(Call::Step(Event::Tick { ms })),
+    match event {
+        Some(event) => Line::Asks(Call::Step(event)),
         None => Line::Bad,
     }
 }
@@ -119,7 +122,7 @@ fn two_word_command(cluster: &Cluster, word: &str, name: &str) -> Line
         let node = named(cluster, name);
         Line::Asks(Call::Step(Event::Crash { node }))
     } else if word == "tick" {
-        tick_command(milliseconds(name))
+        step_command(milliseconds(name).map(|ms| Event::Tick { ms }))
     } else {
         Line::Bad
     }
@@ -129,11 +132,11 @@ fn two_word_command(cluster: &Cluster, word: &str, name: &str) -> Line
 fn restart_named(word: &str) -> Option<Restart>
     ensures { result ≡ restart_named word.now }
 {
-    if word == "permanent" {
+    if word == restart_word(Restart::Permanent) {
         Some(Restart::Permanent)
-    } else if word == "transient" {
+    } else if word == restart_word(Restart::Transient) {
         Some(Restart::Transient)
-    } else if word == "temporary" {
+    } else if word == restart_word(Restart::Temporary) {
         Some(Restart::Temporary)
     } else {
         None
@@ -153,46 +156,6 @@ fn first_of(yea: &str, nay: &str, word: &str) -> Option<bool>
     }
 }
 
-// The command that starts an application at a node.
-fn start_command(node: Node, app: App, restart: Option<Restart>) -> Line
-    ensures { result ≡ start_command node app restart }
-{
-    match restart {
-        Some(restart) => Line::Asks(Call::Step(Event::Start { node, app, restart })),
-        None => Line::Bad,
-    }
-}
-
-// The command that moves an application to a node.
-fn takeover_command(node: Node, app: App, restart: Option<Restart>) -> Line
-    ensures { result ≡ takeover_command node app restart }
-{
-    match restart {
-        Some(restart) => Line::Asks(Call::Step(Event::Takeover { node, app, restart })),
-        None => Line::Bad,
-    }
-}
-
-// The command that permits an application at a node, or forbids it.
-fn permit_command(node: Node, app: App, allow: Option<bool>) -> Line
-    ensures { result ≡ permit_command node app allow }
-{
-    match allow {
-        Some(allow) => Line::Asks(Call::Step(Event::Permit { node, app, allow })),
-        None => Line::Bad,
-    }
-}
-
-// The command by which an application ends of itself.
-fn exit_command(node: Node, app: App, normal: Option<bool>) -> Line
-    ensures { result ≡ exit_command node app normal }
-{
-    match normal {
-        Some(normal) => Line::Asks(Call::Step(Event::Exit { node, app, normal })),
-        None => Line::Bad,
-    }
-}
-
 // A command of three words.
 fn three_word_command(word: &str, node: Node, app: App) -> Line
     ensures { result ≡ three_word_command word.now node app }
@@ -205,17 +168,26 @@ fn three_word_command(word: &str, node: Node, app: App) -> Line
 }
 
 // A command of four words.
+#[tactic(auto, unfolding(crate::specs::Commands::four_word_command))]
 fn four_word_command(word: &str, node: Node, app: App, option: &str) -> Line
     ensures { result ≡ four_word_command word.now node app option.now }
 {
     if word == "start" {
-        start_command(node, app, restart_named(option))
+        step_command(restart_named(option).map(|restart| Event::Start { node, app, restart }))
     } else if word == "permit" {
-        permit_command(node, app, first_of("true", "false", option))
+        step_command(first_of("true", "false", option).map(|allow| Event::Permit {
+            node,
+            app,
+            allow,
+        }))
     } else if word == "takeover" {
-        takeover_command(node, app, restart_named(option))
+        step_command(restart_named(option).map(|restart| Event::Takeover { node, app, restart }))
     } else if word == "exit" {
-        exit_command(node, app, first_of("normal", "abnormal", option))
+        step_command(first_of("normal", "abnormal", option).map(|normal| Event::Exit {
+            node,
+            app,
+            normal,
+        }))
     } else {
         Line::Bad
     }
@@ -243,10 +215,7 @@ pub fn command_of(cluster: &Cluster, words: &[&str]) -> Line
 pub fn text_of(line: &[u8]) -> Option<&str>
     ensures { option_map (λ text. text.now) result ≡ (if is_utf8 line.now then Some line.now else None) }
 {
-    match str::from_utf8(line) {
-        Ok(text) => Some(text),
-        Err(_) => None,
-    }
+    str::from_utf8(line).ok()
 }
 
 /// What a line asks.

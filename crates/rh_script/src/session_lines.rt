@@ -4,15 +4,18 @@ ghost use Rattle.std.specs.Prelude.{◌≡◌, IfOk, map};
 ghost use Rattle.rh_script.specs.SessionLines.{session_named, asked_by, session_command, session_line_of};
 
 use crate::script::{Line, begins_with, command_of, text_of, words_of};
-use rh_cluster::Cluster;
 use rh_base::OutOfMemory;
+use rh_cluster::Cluster;
 use rh_trail::Call;
 use std::alloc::Global;
+
+/// The last session that a line can name.
+pub const LAST_SESSION: u8 = 8;
 
 /// A call, and the session that makes it.
 #[derive(Clone, Copy, Debug, PartialEq, Eq)]
 pub struct Command {
-    /// The number of the session, 1 to 8.
+    /// The number of the session, 1 to [`LAST_SESSION`].
     pub session: u8,
     /// The call.
     pub call: Call,
@@ -29,12 +32,12 @@ pub enum SessionLine {
     Bad,
 }
 
-// The session that a word names: one digit, 1 to 8.
+// The session that a word names: one digit, from 1 to the last one.
 fn session_named(word: &str) -> Option<u8>
     ensures { result ≡ session_named word.now }
 {
     match word.as_bytes() {
-        [digit] if *digit >= b'1' && *digit <= b'8' => Some(*digit - b'0'),
+        [digit] if *digit >= b'1' && *digit <= b'0' + LAST_SESSION => Some(*digit - b'0'),
         _ => None,
     }
 }
@@ -59,7 +62,7 @@ fn session_command(cluster: &Cluster, words: &[&str]) -> SessionLine
     }
 }
 
-/// What a line asks: its first word is the session, one digit 1 to 8, and behind it stands a command.
+/// What a line asks: its first word is the session, one digit 1 to [`LAST_SESSION`], and behind it stands a command.
 #[tactic(auto, unfolding(crate::specs::SessionLines::session_line_of))]
 pub fn session_line_of(
     alloc: Global,

@@ -1,4 +1,3 @@
 pub mod MemberNames
 pub mod InTurn
-pub mod Trees
 pub mod Unrepeated

@@ -23,13 +23,4 @@ cluster_fault_text fault.OutOfMemory = codes "C12 out_of_memory"
 abbrev pub is_memory : ClusterFault → Bool
 is_memory fault.OutOfMemory = true
 is_memory (fault.Term f) = is_term_memory f
-is_memory fault.NoNodes = false
-is_memory fault.TooMany = false
-is_memory fault.DuplicateName = false
-is_memory fault.UnknownName = false
-is_memory fault.DuplicateInList = false
-is_memory fault.DuplicateParameter = false
-is_memory (fault.Mismatch node) = false
-is_memory fault.BootNotListed = false
-is_memory fault.BadValue = false
-is_memory fault.BadName = false
+is_memory f = false

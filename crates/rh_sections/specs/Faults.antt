@@ -1,5 +1,6 @@
--- Faults in the order in which they are met; the first counts.
-use Rattle.std.specs.Prelude.{◌≡◌, ◌≢◌, List, [], ◌∷◌, ◌++◌, Bool, true, false, Option, Some, None, Result, Ok, Err}
+-- Faults in the order in which they are met; the first counts (ours).
+use Rattle.std.specs.Prelude.{◌≡◌, ◌≢◌, List, [], ◌∷◌, ◌++◌, Bool, true, false}
+use Rattle.std.specs.Prelude.{Option, Some, None, Result, Ok, Err}
 use Rattle.rh_base.specs.Tree.{Tree}
 use Rattle.rh_terms.specs.declared.fault.TermFault.TheVariants as terms
 use Rattle.rh_sections.specs.declared.fault.ClusterFault.{ClusterFault}
@@ -29,6 +30,7 @@ abbrev pub unless : {A : Type 0} → List ClusterFault → A → Result A Cluste
 unless [] x = Ok x
 unless (f ∷ fs) x = Err f
 
+-- the first fault, if there is one
 abbrev pub first : List ClusterFault → Option ClusterFault
 first [] = None
 first (f ∷ fs) = Some f

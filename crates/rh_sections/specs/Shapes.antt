@@ -1,12 +1,14 @@
--- What a term is seen as, where it has a certain shape.
-use Rattle.std.specs.Prelude.{ℕ, pos, ℤ, List, [], ◌∷◌, Option, Some, None, nat_le, codes, filter_map, if◌then◌else◌}
+-- What a term is seen as, where it has a certain shape (config(4), app(4)).
+use Rattle.std.specs.Prelude.{ℕ, pos, ℤ, List, [], ◌∷◌, nat_le, codes, filter_map, if◌then◌else◌}
+use Rattle.std.specs.Prelude.{Option, Some, None, option_and_then}
 use Rattle.std.specs.Str.{bytes_eq}
+use Rattle.rh_model.specs.Limits.{timeout_limit}
 use Rattle.rh_base.specs.Tree.{Tree, atom, int, list, tuple, list_of_trees}
 
+-- for `do`: what follows a value, if there is one
 infixl 10 ◌>>=◌
 abbrev pub ◌>>=◌ : {A B : Type 0} → Option A → (A → Option B) → Option B
-None >>= f = None
-(Some x) >>= f = f x
+o >>= f = option_and_then f o
 
 -- the name that an atom is
 unfoldable pub as_atom : Tree → Option (List ℕ)
@@ -28,10 +30,12 @@ unfoldable pub as_int : Tree → Option ℤ
 as_int (int n) = Some n
 as_int t = None
 
+-- a list of two
 abbrev pub pair_in : List Tree → Option (Tree × Tree)
 pair_in (a ∷ (b ∷ [])) = Some (a, b)
 pair_in ts = None
 
+-- a list of three
 abbrev pub triple_in : List Tree → Option (Tree × Tree × Tree)
 triple_in (a ∷ (b ∷ (c ∷ []))) = Some (a, b, c)
 triple_in ts = None
@@ -46,12 +50,17 @@ as_triple t = as_tuple t >>= triple_in
 
 -- the parts of {Atom, Value}
 unfoldable pub as_entry : Tree → Option (List ℕ × Tree)
-as_entry t = as_pair t >>= λ parts. as_atom parts.0 >>= λ key. Some (key, parts.1)
+as_entry t = do
+  (name, value) ← as_pair t
+  key ← as_atom name
+  Some (key, value)
 
 -- the name and the last part of {Word, Name, Part}
 unfoldable pub as_headed : List ℕ → Tree → Option (List ℕ × Tree)
-as_headed word t = as_triple t >>= λ parts. as_atom parts.0 >>= λ first. if bytes_eq first word then (as_atom parts.1 >>= λ name. Some (name, parts.2))
-    else None
+as_headed word t = do
+  (first, second, part) ← as_triple t
+  head ← as_atom first
+  if bytes_eq head word then (do name ← as_atom second; Some (name, part)) else None
 
 -- the name and SysConfig of {node, Name, SysConfig}
 abbrev pub as_node : Tree → Option (List ℕ × Tree)
@@ -65,10 +74,11 @@ as_app = as_headed (codes "application")
 abbrev pub atoms : List Tree → List (List ℕ)
 atoms = filter_map as_atom
 
+-- a number from 0 to the most
 abbrev pub if_within : ℕ → ℤ → Option ℕ
 if_within most (pos n) = if nat_le n most then Some n else None
 if_within most n = None
 
--- a time in milliseconds: 0 to 10^12
+-- a time in milliseconds, up to the longest timeout
 unfoldable pub as_time : Tree → Option ℕ
-as_time t = as_int t >>= if_within 1000000000000
+as_time t = as_int t >>= if_within timeout_limit

@@ -1,17 +1,19 @@
 //! The third stage: where a distributed application may run, as a list of groups.
 
-ghost use Rattle.std.specs.Prelude.{◌≡◌, [], ◌++◌, map, flat_map};
+ghost use Rattle.std.specs.Prelude.{◌≡◌, ◌++◌, map, flat_map};
 ghost use Rattle.rh_base.specs.Tree.{tree_of};
 ghost use Rattle.rh_sections.specs.Faults.{Finds, in_turn};
 ghost use Rattle.rh_model.specs.Names.{is_among};
 ghost use Rattle.rh_sections.specs.Shapes.{atoms};
 ghost use Rattle.rh_sections.specs.Sections.{node_name_faults, members, desc_faults};
 
-use crate::entries::{check_word, repeats_atom};
 use crate::fault::ClusterFault;
+use crate::names::{check_word, repeats_atom};
 use crate::shapes;
-use rh_model::Names;
+use crate::values::check_each;
 use rh_base::Term;
+use rh_model::Names;
+use std::slice;
 
 /// The names of a group: the parts of a tuple, or the term itself.
 #[tactic(auto, unfolding(crate::specs::Sections::members))]
@@ -19,14 +21,8 @@ pub fn members(term: &Term) -> &[Term]
     ensures { map tree_of result.now ≡ members (tree_of term.now) }
 {
     match shapes::tuple(term) {
-        Some(parts) => {
-            if parts.is_empty() {
-                std::slice::from_ref(term)
-            } else {
-                parts
-            }
-        }
-        None => std::slice::from_ref(term),
+        Some(parts) if !parts.is_empty() => parts,
+        _ => slice::from_ref(term),
     }
 }
 
@@ -60,27 +56,18 @@ fn check_member(
 ) -> Result<(), ClusterFault>
     ensures { Finds result (node_name_faults names.now (flat_map members (map tree_of before.now) ++ map tree_of earlier.now) (tree_of term.now)) }
 {
-    match shapes::atom(term) {
-        Some(name) => {
-            check_word(
-                name,
-                names.has_node(name),
-                is_named_before(name, before, earlier),
-            )
-        }
-        None => Err(ClusterFault::BadValue),
-    }
+    let name = shapes::atom(term).ok_or(ClusterFault::BadValue)?;
+    let is_repeated = is_named_before(name, before, earlier);
+    check_word(name, names.has_node(name), is_repeated)
 }
 
 // Tests a group, behind the groups before.
 fn check_group(names: &Names, before: &[Term], group: &Term) -> Result<(), ClusterFault>
     ensures { Finds result (in_turn (node_name_faults names.now) (flat_map members (map tree_of before.now)) (members (tree_of group.now))) }
 {
-    let terms = members(group);
-    for (index, term) in terms.iter().enumerate() {
-        check_member(names, before, &terms[..index], term)?;
-    }
-    Ok(())
+    check_each(members(group), |earlier, term| {
+        check_member(names, before, earlier, term)
+    })
 }
 
 /// Tests a list of groups.
@@ -94,8 +81,5 @@ pub fn check_description(names: &Names, value: &Term) -> Result<(), ClusterFault
     if groups.is_empty() {
         return Err(ClusterFault::BadValue);
     }
-    for (index, group) in groups.iter().enumerate() {
-        check_group(names, &groups[..index], group)?;
-    }
-    Ok(())
+    check_each(groups, |before, group| check_group(names, before, group))
 }

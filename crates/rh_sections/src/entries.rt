@@ -1,18 +1,15 @@
-//! Entries `{Atom, Value}` and names, each among the terms before it.
+//! Entries `{Key, Value}`, each among the terms before it.
 
-ghost use Rattle.std.specs.Prelude.{◌≡◌, map, filter_map};
+ghost use Rattle.std.specs.Prelude.{◌≡◌, map};
 ghost use Rattle.std.specs.List.{list_any};
-ghost use Rattle.std.specs.Option.{option_map};
 ghost use Rattle.rh_base.specs.Tree.{tree_of};
-ghost use Rattle.rh_sections.specs.Faults.{Finds};
-ghost use Rattle.rh_model.specs.Names.{is_among};
-ghost use Rattle.rh_sections.specs.Shapes.{atoms};
-ghost use Rattle.rh_sections.specs.Sections.{has_key, word_faults, node_name_faults, app_name_faults, app_in, first_atom};
+ghost use Rattle.rh_sections.specs.Faults.{Finds, list_faults};
+ghost use Rattle.rh_sections.specs.Tests.{FindsOfValues, TellsKeys};
+ghost use Rattle.rh_sections.specs.Sections.{has_key, entry_faults};
 
 use crate::fault::ClusterFault;
-use crate::name_rule::is_name;
 use crate::shapes;
-use rh_model::Names;
+use crate::values::check_list;
 use rh_base::Term;
 
 // Is it an entry of this key?
@@ -20,14 +17,11 @@ use rh_base::Term;
 fn has_key(key: &str, term: &Term) -> bool
     ensures { result ≡ has_key key.now (tree_of term.now) }
 {
-    match shapes::entry(term) {
-        Some((other, _)) => other == key,
-        None => false,
-    }
+    shapes::entry(term).is_some_and(|(other, _)| other == key)
 }
 
-/// Is one of these an entry of this key?
-pub fn repeats_key(key: &str, earlier: &[Term]) -> bool
+// Is one of these an entry of this key?
+fn repeats_key(key: &str, earlier: &[Term]) -> bool
     ensures { result ≡ list_any (has_key key.now) (map tree_of earlier.now) }
 {
     for term in earlier {
@@ -38,80 +32,38 @@ pub fn repeats_key(key: &str, earlier: &[Term]) -> bool
     false
 }
 
-/// Is one of these an atom of this name?
-pub fn repeats_atom(name: &str, earlier: &[Term]) -> bool
-    ensures { result ≡ is_among (atoms (map tree_of earlier.now)) name.now }
+// Tests an entry behind earlier terms: a key that is read doesn't come twice, and the value passes
+// its test.
+#[tactic(auto, unfolding(crate::specs::Sections::entry_faults))]
+fn check_entry<R: Fn(&str) -> bool, V: Fn(&str, &Term) -> Result<(), ClusterFault>>(
+    earlier: &[Term],
+    term: &Term,
+    is_read: &R,
+    check_value: &V,
+) -> Result<(), ClusterFault>
+    requires keys { R.IsAlwaysCallable is_read.now }
+    requires values { V.IsAlwaysCallable check_value.now }
+    ensures { (reads : _) (faults : _) → TellsKeys R.Fn is_read.now reads → FindsOfValues V.Fn check_value.now faults → Finds result (entry_faults reads faults (map tree_of earlier.now) (tree_of term.now)) }
 {
-    for term in earlier {
-        if let Some(other) = shapes::atom(term) {
-            if name == other {
-                return true;
-            }
-        }
+    let (key, value) = shapes::entry(term).ok_or(ClusterFault::BadValue)?;
+    if is_read(key) && repeats_key(key, earlier) {
+        return Err(ClusterFault::DuplicateParameter);
     }
-    false
+    check_value(key, value)
 }
 
-/// The application that a tuple begins with.
-#[tactic(auto, unfolding(crate::specs::Sections::app_in))]
-pub fn app_in(term: &Term) -> Option<&str>
-    ensures { option_map (λ name. name.now) result ≡ app_in (tree_of term.now) }
+/// Tests a value that must be a list of entries `{Key, Value}`, in which no key that is read comes
+/// twice.
+pub fn check_entries<R: Fn(&str) -> bool, V: Fn(&str, &Term) -> Result<(), ClusterFault>>(
+    value: &Term,
+    is_read: R,
+    check_value: V,
+) -> Result<(), ClusterFault>
+    requires keys { R.IsAlwaysCallable is_read }
+    requires values { V.IsAlwaysCallable check_value }
+    ensures { (reads : _) (faults : _) → TellsKeys R.Fn is_read reads → FindsOfValues V.Fn check_value faults → Finds result (list_faults (entry_faults reads faults) (tree_of value.now)) }
 {
-    match shapes::tuple(term)? {
-        [first, ..] => shapes::atom(first),
-        [] => None,
-    }
-}
-
-// Does one of these begin with this application?
-fn repeats_app(name: &str, earlier: &[Term]) -> bool
-    ensures { result ≡ is_among (filter_map app_in (map tree_of earlier.now)) name.now }
-{
-    for term in earlier {
-        if let Some(other) = app_in(term) {
-            if name == other {
-                return true;
-            }
-        }
-    }
-    false
-}
-
-/// Tests the name that stands in a value.
-#[tactic(auto, unfolding(crate::specs::Sections::word_faults))]
-pub fn check_word(name: &str, is_known: bool, is_repeated: bool) -> Result<(), ClusterFault>
-    ensures { Finds result (word_faults name.now is_known is_repeated) }
-{
-    if !is_name(name) {
-        return Err(ClusterFault::BadName);
-    }
-    if !is_known {
-        return Err(ClusterFault::UnknownName);
-    }
-    if is_repeated {
-        return Err(ClusterFault::DuplicateInList);
-    }
-    Ok(())
-}
-
-/// Tests a node's name in a list of them.
-#[tactic(auto, unfolding(crate::specs::Sections::node_name_faults, crate::specs::Sections::name_faults))]
-pub fn check_node_name(names: &Names, earlier: &[Term], term: &Term) -> Result<(), ClusterFault>
-    ensures { Finds result (node_name_faults names.now (map tree_of earlier.now) (tree_of term.now)) }
-{
-    match shapes::atom(term) {
-        Some(name) => check_word(name, names.has_node(name), repeats_atom(name, earlier)),
-        None => Err(ClusterFault::BadValue),
-    }
-}
-
-/// Tests the name of an application at the front of an entry, behind earlier entries.
-#[tactic(auto, unfolding(crate::specs::Sections::app_name_faults, crate::specs::Sections::name_faults))]
-pub fn check_app_name(names: &Names, earlier: &[Term], term: &Term) -> Result<(), ClusterFault>
-    ensures { Finds result (app_name_faults names.now (map tree_of earlier.now) (tree_of term.now)) }
-{
-    match shapes::atom(term) {
-        Some(name) => check_word(name, names.has_app(name), repeats_app(name, earlier)),
-        None => Err(ClusterFault::BadValue),
-    }
+    check_list(value, |earlier, term| {
+        check_entry(earlier, term, &is_read, &check_value)
+    })
 }

@@ -1,7 +1,10 @@
 //! Why a text is no cluster.
 
-ghost use Rattle.std.specs.Prelude.{◌≡◌};
+ghost use Rattle.std.specs.Prelude.{◌≡◌, ◌≢◌, false};
+ghost use Rattle.rh_terms.specs.declared.fault.TermFault.TheVariants as terms;
 ghost use Rattle.rh_sections.specs.declared.fault.ClusterFault.TheVariants as cluster;
+ghost use Rattle.rh_sections.specs.TermMemory.{is_term_memory};
+ghost use Rattle.rh_sections.specs.FaultTexts.{is_memory};
 
 use rh_base::{OutOfMemory, Str};
 use rh_terms::TermFault;
@@ -43,10 +46,6 @@ pub enum ClusterFault {
 }
 
 impl ClusterFault {
-    ghost use Rattle.std.specs.Prelude.{◌≢◌, false};
-    ghost use Rattle.rh_terms.specs.declared.fault.TermFault.TheVariants as terms;
-    ghost use Rattle.rh_sections.specs.FaultTexts.{is_memory};
-
     /// Whether a growth was refused. Any other fault is one of the text.
     pub fn is_memory(&self) -> bool
         ensures is { result ≡ is_memory self.now }
@@ -55,37 +54,17 @@ impl ClusterFault {
         match self {
             ClusterFault::OutOfMemory => true,
             ClusterFault::Term(fault) => is_term_memory(fault),
-            ClusterFault::NoNodes => false,
-            ClusterFault::TooMany => false,
-            ClusterFault::DuplicateName => false,
-            ClusterFault::UnknownName => false,
-            ClusterFault::DuplicateInList => false,
-            ClusterFault::DuplicateParameter => false,
-            ClusterFault::Mismatch { node: _ } => false,
-            ClusterFault::BootNotListed => false,
-            ClusterFault::BadValue => false,
-            ClusterFault::BadName => false,
+            _ => false,
         }
     }
 }
-
-ghost use Rattle.std.specs.Prelude.{◌≢◌, false};
-ghost use Rattle.rh_terms.specs.declared.fault.TermFault.TheVariants as terms;
-ghost use Rattle.rh_sections.specs.TermMemory.{is_term_memory};
 
 // Whether a growth was refused while terms were read.
 fn is_term_memory(fault: &TermFault) -> bool
     ensures is { result ≡ is_term_memory fault.now }
     ensures other { result ≡ false → fault.now ≢ terms.OutOfMemory }
 {
-    match fault {
-        TermFault::OutOfMemory => true,
-        TermFault::Syntax { line: _ } => false,
-        TermFault::Unsupported { line: _ } => false,
-        TermFault::NotUtf8 => false,
-        TermFault::TooDeep => false,
-        TermFault::IntRange => false,
-    }
+    matches!(fault, TermFault::OutOfMemory)
 }
 
 impl From<TermFault> for ClusterFault {

@@ -3,16 +3,18 @@
 ghost use Rattle.std.specs.Prelude.{◌≡◌, [], ◌∷◌, ◌++◌, map, is_some, OnOk};
 ghost use Rattle.std.specs.List.{list_all};
 ghost use Rattle.rh_base.specs.Tree.{tree_of};
-ghost use Rattle.rh_sections.specs.Faults.{Finds, in_turn, list_faults};
+ghost use Rattle.rh_sections.specs.Faults.{Finds};
 ghost use Rattle.rh_model.specs.Names.{is_among};
 ghost use Rattle.rh_sections.specs.Shapes.{atoms, as_entry};
-ghost use Rattle.rh_sections.specs.Sections.{dep_faults, is_start, are_phases, app_keys, key_faults, entry_faults};
+ghost use Rattle.rh_sections.specs.Sections.{dep_faults, deps_faults, is_start, are_phases, app_keys, key_faults, entries_faults};
 
-use crate::entries::{check_word, repeats_key};
+use crate::entries::check_entries;
 use crate::fault::ClusterFault;
+use crate::names::check_word;
 use crate::shapes;
-use rh_model::{NameSet, Names};
+use crate::values::check_shape;
 use rh_base::Term;
+use rh_model::{NameSet, Names};
 use std::alloc::Global;
 
 // Tests a name of `applications`, and adds it to the earlier ones.
@@ -28,9 +30,7 @@ fn check_dep(
     ensures faults { Finds result (dep_faults names.now platforms.now own.now earlier.old (tree_of term.now)) }
     ensures earlier { OnOk result (earlier.new ≡ earlier.old ++ atoms (tree_of term.now ∷ [])) }
 {
-    let Some(name) = shapes::atom(term) else {
-        return Err(ClusterFault::BadValue);
-    };
+    let name = shapes::atom(term).ok_or(ClusterFault::BadValue)?;
     let is_known = names.has_app(name) || platforms.contains(name);
     check_word(name, is_known, earlier.contains(name))?;
     if own == name {
@@ -49,7 +49,7 @@ fn check_deps(
     own: &str,
     value: &Term,
 ) -> Result<(), ClusterFault>
-    ensures { Finds result (list_faults (λ earlier t. dep_faults names.now platforms.now own.now (atoms earlier) t) (tree_of value.now)) }
+    ensures { Finds result (deps_faults names.now platforms.now own.now (tree_of value.now)) }
 {
     let Some(terms) = shapes::list(value) else {
         return Err(ClusterFault::BadValue);
@@ -66,15 +66,10 @@ fn check_deps(
 fn is_start(value: &Term) -> bool
     ensures { result ≡ is_start (tree_of value.now) }
 {
-    if shapes::entry(value).is_some() {
-        return true;
-    }
-    match shapes::list(value) {
-        Some(terms) => terms.is_empty(),
-        None => false,
-    }
+    shapes::entry(value).is_some() || shapes::list(value).is_some_and(|terms| terms.is_empty())
 }
 
+// Is each of them an entry `{Atom, Value}`?
 fn are_entries(terms: &[Term]) -> bool
     ensures { result ≡ list_all (λ t. is_some (as_entry t)) (map tree_of terms.now) }
 {
@@ -91,15 +86,7 @@ fn are_entries(terms: &[Term]) -> bool
 fn are_phases(value: &Term) -> bool
     ensures { result ≡ are_phases (tree_of value.now) }
 {
-    if let Some(word) = shapes::atom(value) {
-        if word == "undefined" {
-            return true;
-        }
-    }
-    match shapes::list(value) {
-        Some(terms) => are_entries(terms),
-        None => false,
-    }
+    shapes::atom(value) == Some("undefined") || shapes::list(value).is_some_and(are_entries)
 }
 
 // Is it a key that is read?
@@ -124,45 +111,15 @@ fn check_key_value(
     if key == "applications" {
         check_deps(alloc, names, platforms, own, value)
     } else if key == "mod" {
-        if is_start(value) {
-            Ok(())
-        } else {
-            Err(ClusterFault::BadValue)
-        }
+        check_shape(is_start(value))
     } else if key == "start_phases" {
-        if are_phases(value) {
-            Ok(())
-        } else {
-            Err(ClusterFault::BadValue)
-        }
+        check_shape(are_phases(value))
     } else {
         Ok(())
     }
 }
 
-// Tests a key, behind earlier ones.
-#[tactic(auto, unfolding(crate::specs::Sections::entry_faults))]
-fn check_key(
-    alloc: Global,
-    names: &Names,
-    platforms: &NameSet,
-    own: &str,
-    earlier: &[Term],
-    term: &Term,
-) -> Result<(), ClusterFault>
-    ensures { Finds result (entry_faults (is_among app_keys) (key_faults names.now platforms.now own.now) (map tree_of earlier.now) (tree_of term.now)) }
-{
-    let Some((key, value)) = shapes::entry(term) else {
-        return Err(ClusterFault::BadValue);
-    };
-    if is_app_key(key) && repeats_key(key, earlier) {
-        return Err(ClusterFault::DuplicateParameter);
-    }
-    check_key_value(alloc, names, platforms, own, key, value)
-}
-
 /// Tests the keys of an application.
-#[tactic(auto, unfolding(crate::specs::Faults::list_faults))]
 pub fn check_keys(
     alloc: Global,
     names: &Names,
@@ -170,13 +127,9 @@ pub fn check_keys(
     own: &str,
     value: &Term,
 ) -> Result<(), ClusterFault>
-    ensures { Finds result (list_faults (entry_faults (is_among app_keys) (key_faults names.now platforms.now own.now)) (tree_of value.now)) }
+    ensures { Finds result (entries_faults app_keys (key_faults names.now platforms.now own.now) (tree_of value.now)) }
 {
-    let Some(terms) = shapes::list(value) else {
-        return Err(ClusterFault::BadValue);
-    };
-    for (index, term) in terms.iter().enumerate() {
-        check_key(alloc, names, platforms, own, &terms[..index], term)?;
-    }
-    Ok(())
+    check_entries(value, is_app_key, |key, value| {
+        check_key_value(alloc, names, platforms, own, key, value)
+    })
 }

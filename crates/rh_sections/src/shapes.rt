@@ -7,6 +7,7 @@ ghost use Rattle.rh_model.specs.Limits.{timeout_limit};
 ghost use Rattle.rh_sections.specs.Shapes.{as_atom, as_list, as_tuple, as_int, as_pair, as_triple, as_entry, as_headed, as_node, as_app, as_time};
 
 use rh_base::Term;
+use rh_model::TIMEOUT_LIMIT;
 
 /// The name that an atom is.
 #[tactic(auto, unfolding(crate::specs::Shapes::as_atom))]
@@ -112,14 +113,14 @@ pub fn app(term: &Term) -> Option<(&str, &Term)>
     headed("application", term)
 }
 
-/// A time in milliseconds.
+/// A time in milliseconds, up to the longest.
 #[tactic(auto, unfolding(crate::specs::Shapes::as_time))]
 pub fn time(term: &Term) -> Option<u64>
     ensures time { result ≡ as_time (tree_of term.now) }
     ensures limit { IfSome result (λ time. time ≤ timeout_limit) }
 {
     let number = int(term)?;
-    if 0 <= number && number <= 1_000_000_000_000 {
+    if 0 <= number && number as u64 <= TIMEOUT_LIMIT {
         Some(number as u64)
     } else {
         None

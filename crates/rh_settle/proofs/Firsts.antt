@@ -105,7 +105,7 @@ pub firsts_range : {A : Type 0} (before : Move → Move → Bool) (g : ℕ → A
 firsts_range before g f E apart each start zero = firsts_nil before (Numbered E start zero) (λ m r. (let lo = r.1 in let hi = r.2 in absurd (omega arith)))
 firsts_range before g f E apart each start (suc len) =
     firsts_as before before (λ m. E start m ⊎ Numbered E (start + 1) len m) (Numbered E start (suc len))
-        (first_given f (map g (range_with_len start (suc len))))
+    (first_given f (map g (range_with_len start (suc len))))
     (λ m e. either_of e (λ k. (start, omega arith, omega arith, k)) (λ r. (r.0, (let lo = r.1 in omega arith), (let hi = r.2 in omega arith), r.3)))
     (λ m r. cases (nat_eq r.0 start)
     (λ t. inl (subst (λ k. E k m) (same_number r.0 start t) r.3))

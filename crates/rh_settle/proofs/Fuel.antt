@@ -1,6 +1,7 @@
 -- The limit on the moves is never met.
 use Rattle.std.proofs.Common.{◌≡◌, ℕ, ◌*◌, ◌<◌, ◌≤◌, zero, suc, Option, Some, None, refl, sym, ap, ◌∙◌, arith, subst}
 use Rattle.rh_model.specs.ClusterView.{ClusterView, node_count, app_count}
+use Rattle.rh_state.specs.Shape.{IsShaped}
 use Rattle.rh_state.specs.StateView.{StateView}
 use Rattle.rh_place.specs.declared.choosing.Pick.{Pick}
 use Rattle.rh_place.specs.Picks.{picked}
@@ -10,10 +11,9 @@ use Rattle.rh_settle.specs.Course.{Course}
 use Rattle.rh_settle.specs.Moves.{moved, moved_state}
 use Rattle.rh_settle.specs.Settling.{nexts, after_move, moved_by, pair_count, all_moved}
 use Rattle.rh_settle.proofs.Searches.{contains_picked}
-use Rattle.rh_settle.specs.Soundness.{IsSized}
 use Rattle.rh_settle.proofs.Points.{points, bounded}
 use Rattle.rh_settle.proofs.Falls.{Progresses, falls}
-use Rattle.rh_settle.proofs.Sized.{stays_sized}
+use Rattle.rh_settle.proofs.Shapes.{shaped_moved}
 use Rattle.rh_settle.proofs.NextMoves.{progresses}
 
 -- the state, the marks and the cluster after a move
@@ -32,16 +32,16 @@ cluster_moved o (Local n a) = refl
 cluster_moved o (Placement a f n) = refl
 cluster_moved o (Takeover a m n) = refl
 
-pub sized_moved : (o : Course) (m : Move) → IsSized o.state → Progresses o.state m → IsSized (moved o m).state
-sized_moved o m h p = subst IsSized (sym (state_moved o m)) (stays_sized o.state m h p)
+pub shaped_on : (o : Course) (m : Move) → IsShaped o.state → Progresses o.state m → IsShaped (moved o m).state
+shaped_on o m h p = subst IsShaped (sym (state_moved o m)) (shaped_moved o.state m h p)
 
-pub progress : (o : Course) (pick : Pick) (m : Move) → IsSized o.state → picked pick (nexts o) ≡ Some m → Progresses o.state m
+pub progress : (o : Course) (pick : Pick) (m : Move) → IsShaped o.state → picked pick (nexts o) ≡ Some m → Progresses o.state m
 progress o pick m h e = progresses o.state o.marked h m (contains_picked pick (nexts o) m e)
 
-pub sized_next : (o : Course) (pick : Pick) (m : Move) → IsSized o.state → picked pick (nexts o) ≡ Some m → IsSized (moved o m).state
-sized_next o pick m h e = sized_moved o m h (progress o pick m h e)
+pub shaped_next : (o : Course) (pick : Pick) (m : Move) → IsShaped o.state → picked pick (nexts o) ≡ Some m → IsShaped (moved o m).state
+shaped_next o pick m h e = shaped_on o m h (progress o pick m h e)
 
-pub falls_next : (o : Course) (pick : Pick) (m : Move) → IsSized o.state → picked pick (nexts o) ≡ Some m → points (moved o m).state < points o.state
+pub falls_next : (o : Course) (pick : Pick) (m : Move) → IsShaped o.state → picked pick (nexts o) ≡ Some m → points (moved o m).state < points o.state
 falls_next o pick m h e =
     let f = falls o.state m h (progress o pick m h e) in
     let g = ap points (state_moved o m) in omega arith
@@ -61,17 +61,17 @@ unfolding moved_by
 goes pick o m k e = ap (λ r. after_move o r (moved_by pick k)) e
 
 -- every limit that the points don't exceed gives the same
-enough : (pick : Pick) (k j : ℕ) (o : Course) → IsSized o.state → points o.state ≤ k → points o.state ≤ j → moved_by pick k o ≡ moved_by pick j o
-enough pick zero j o sized hk hj = by_option (picked pick (nexts o))
+enough : (pick : Pick) (k j : ℕ) (o : Course) → IsShaped o.state → points o.state ≤ k → points o.state ≤ j → moved_by pick k o ≡ moved_by pick j o
+enough pick zero j o shape hk hj = by_option (picked pick (nexts o))
     (λ e. stops pick o zero e ∙ sym (stops pick o j e))
-    (λ m e. let f = falls_next o pick m sized e in absurd (omega arith))
-enough pick (suc k) zero o sized hk hj = by_option (picked pick (nexts o))
+    (λ m e. let f = falls_next o pick m shape e in absurd (omega arith))
+enough pick (suc k) zero o shape hk hj = by_option (picked pick (nexts o))
     (λ e. stops pick o (suc k) e ∙ sym (stops pick o zero e))
-    (λ m e. let f = falls_next o pick m sized e in absurd (omega arith))
-enough pick (suc k) (suc j) o sized hk hj = by_option (picked pick (nexts o))
+    (λ m e. let f = falls_next o pick m shape e in absurd (omega arith))
+enough pick (suc k) (suc j) o shape hk hj = by_option (picked pick (nexts o))
     (λ e. stops pick o (suc k) e ∙ sym (stops pick o (suc j) e))
-    (λ m e. let f = falls_next o pick m sized e in
-    goes pick o m k e ∙ enough pick k j (moved o m) (sized_next o pick m sized e) (omega arith) (omega arith) ∙ sym (goes pick o m j e))
+    (λ m e. let f = falls_next o pick m shape e in
+    goes pick o m k e ∙ enough pick k j (moved o m) (shaped_next o pick m shape e) (omega arith) (omega arith) ∙ sym (goes pick o m j e))
 
 pub within : (s : StateView) → points s ≤ 2 * pair_count s.cluster
 within s = let h = bounded s in let e = swap (node_count s.cluster) (app_count s.cluster) in omega arith
@@ -80,14 +80,14 @@ within s = let h = bounded s in let e = swap (node_count s.cluster) (app_count s
     swap n a = omega arith
 
 -- all moves are those behind the next one
-pub unrolled : (pick : Pick) (o : Course) (m : Move) → IsSized o.state → picked pick (nexts o) ≡ Some m → all_moved pick o ≡ all_moved pick (moved o m)
+pub unrolled : (pick : Pick) (o : Course) (m : Move) → IsShaped o.state → picked pick (nexts o) ≡ Some m → all_moved pick o ≡ all_moved pick (moved o m)
 unfolding all_moved
-unrolled pick o m sized e =
+unrolled pick o m shape e =
     let limit : ℕ = 2 * pair_count o.state.cluster in
-    let f = falls_next o pick m sized e in
+    let f = falls_next o pick m shape e in
     let w = within o.state in
     let c : 2 * pair_count (moved o m).state.cluster ≡ limit = ap (λ (v : ClusterView). 2 * pair_count v) (cluster_moved o m) in
-    enough pick limit (suc limit) o sized w (omega arith)
+    enough pick limit (suc limit) o shape w (omega arith)
     ∙ goes pick o m limit e
     ∙ ap (λ k. moved_by pick k (moved o m)) (sym c)
 

@@ -195,7 +195,7 @@ among_here p g groups n any t first =
     let at : is_in n g ≡ true = cases (is_in n g) (λ h. h)
     (λ f. passing p g any (λ k i u. both (comes_before (place (g ∷ groups) k) (place (g ∷ groups) n))
     (ap (λ q. comes_before q (place (g ∷ groups) n)) (in_here g groups k i) ∙ ap (comes_before (Some 0)) (not_here g groups n f)
-        ∙ first_before (place groups n))
+    ∙ first_before (place groups n))
     (first k u))) in (
       ap (is_in n) e ∙ kept_in p g n t at,
       (λ k i. let r = of_filter p g k (sym (ap (is_in k) e) ∙ i) in (in_here g groups k r.0 ∙ sym (in_here g groups n at), r.1)),

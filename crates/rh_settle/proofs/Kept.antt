@@ -20,7 +20,6 @@ use Rattle.rh_settle.specs.declared.notice.Move.{Move}
 use Rattle.rh_settle.specs.declared.notice.Move.TheVariants.{Local, Placement, Takeover}
 use Rattle.rh_settle.specs.Moves.{comes_before, with_started, with_stopped, moved_state}
 use Rattle.rh_settle.specs.Validity.{RunsWhereItStands, OnceAtEachNode, CanBeMade}
-use Rattle.rh_settle.specs.Soundness.{IsSized}
 use Rattle.rh_settle.proofs.Places.{at_set_here, at_set_there, or_left, or_right, started_on}
 use Rattle.rh_settle.proofs.Entries.{same_number, other_number, is_false, both, taken, put, has, taken_has, taken_not, taken_keeps, there, put_has, put_keeps}
 use Rattle.rh_settle.proofs.Entries.{put_gives, once_taken, once_put, row_there, length_taken, length_put}
@@ -36,7 +35,7 @@ once_unlisted s n a h = record {
 }
 
 -- the pair (m, b) is (n, a)
-at_pair : (table : List (List App)) (n m : ℕ) (a b : App) → m ≡ n → same_app b a ≡ true → has table m b ≡ has table n a
+pub at_pair : (table : List (List App)) (n m : ℕ) (a b : App) → m ≡ n → same_app b a ≡ true → has table m b ≡ has table n a
 at_pair table n m a b e t = ap (λ k. has table k b) e ∙ ap (λ k. has table n (app_numbered k)) (same_number b.0 a.0 t)
 
 once_running : (s : StateView) (n : Node) (a : App) → runs_at s n a ≡ false → waits_at s n a ≡ false → OnceAtEachNode s → OnceAtEachNode (with_running s n a)
@@ -48,7 +47,8 @@ once_running s n a r w h = record {
       (λ e t. both (waits_at s n a) (sym (at_pair s.waiting n.0 m.0 a b e t) ∙ waits) w));
 }
 
-once_waiting : (s : StateView) (n : Node) (a : App) → runs_at s n a ≡ false → waits_at s n a ≡ false → OnceAtEachNode s → OnceAtEachNode (with_waiting s n a)
+pub once_waiting : (s : StateView) (n : Node) (a : App) → runs_at s n a ≡ false → waits_at s n a ≡ false → OnceAtEachNode s
+    → OnceAtEachNode (with_waiting s n a)
 once_waiting s n a r w h = record {
   running = h.running;
   waiting = λ m. once_put s.waiting n.0 m.0 a (h.waiting n) (h.waiting m) w;
@@ -71,7 +71,7 @@ started_runs : (s : StateView) (n m : Node) (a b : App) (k : Kind) → n.0 < len
 started_runs s n m a b k lt h = cases (same_app b a)
     (λ t. cases (nat_eq m.0 n.0)
     (λ e. ap (λ i. has (put (taken s.running n.0 a) n.0 a) i b) (same_number m.0 n.0 e)
-        ∙ put_gives (taken s.running n.0 a) n.0 a b (sized_taken s.running n.0 a lt) t)
+    ∙ put_gives (taken s.running n.0 a) n.0 a b (sized_taken s.running n.0 a lt) t)
     (λ d. there (taken s.running n.0 a) n.0 m.0 (row (taken s.running n.0 a) n.0 ++ a ∷ []) b (other_number m.0 n.0 d)
     ∙ there s.running n.0 m.0 (without_app (row s.running n.0) a) b (other_number m.0 n.0 d) ∙ h))
     (λ f. put_keeps (taken s.running n.0 a) n.0 m.0 a b (taken_keeps s.running n.0 m.0 a b f h))
@@ -134,15 +134,15 @@ module _ (s : StateView) (shape : IsShaped s) where
   )
 
 -- a move keeps all of this
-module _ (s : StateView) (sized : IsSized s) where
+module _ (s : StateView) (shape : IsShaped s) where
   in_running : (n : Node) → n.0 < node_count s.cluster → n.0 < length s.running
-  in_running n lt = let e = sized.running in omega (arith, e)
+  in_running n lt = let e = shape.running in omega (arith, e)
 
   in_waiting : (n : Node) → n.0 < node_count s.cluster → n.0 < length s.waiting
-  in_waiting n lt = let e = sized.waiting in omega (arith, e)
+  in_waiting n lt = let e = shape.waiting in omega (arith, e)
 
   in_standings : (a : App) → a.0 < app_count s.cluster → a.0 < length s.standings
-  in_standings a lt = let e = sized.standings in omega (arith, e)
+  in_standings a lt = let e = shape.standings in omega (arith, e)
 
   pub once_moved : RunsWhereItStands s → (m : Move) → Progresses s m → OnceAtEachNode s → OnceAtEachNode (moved_state s m)
   once_moved runs (Local n a) p h = once_started s n a Normal (in_running n p.0) (in_waiting n p.0) h
@@ -153,7 +153,7 @@ module _ (s : StateView) (sized : IsSized s) where
       let t : StateView = with_started s n a Normal in
       let l : m.0 < length s.running = row_there s.running m.0 a (runs.runs a m p.2) in
       let r : m.0 < length t.running = (let e = length_put (taken s.running n.0 a) n.0 a in let f = length_taken s.running n.0 a in omega (arith, e, f, l)) in
-      let w : m.0 < length t.waiting = (let e = length_taken s.waiting n.0 a in let f = sized.running in let g = sized.waiting in omega (arith, e, f, g, l)) in
+      let w : m.0 < length t.waiting = (let e = length_taken s.waiting n.0 a in let f = shape.running in let g = shape.waiting in omega (arith, e, f, g, l)) in
       let o = once_stopped t m a r w (once_started s n a Normal (in_running n p.0) (in_waiting n p.0) h) in
       record { running = o.running; waiting = o.waiting; apart = o.apart }
 
@@ -167,5 +167,5 @@ module _ (s : StateView) (sized : IsSized s) where
       let t : StateView = with_started s n a Normal in
       runs_after s (moved_state s (Takeover a m n)) n a refl (in_standings a p.1)
       (λ b f. there t.running m.0 n.0 (without_app (row t.running m.0) a) b (λ e. elsewhere s a m n p.3 (sym e))
-          ∙ started_here s n a b Normal (in_running n p.0) f)
+      ∙ started_here s n a b Normal (in_running n p.0) f)
       (λ k b d r. taken_keeps t.running m.0 k.0 a b d (started_runs s n k a b Normal (in_running n p.0) r)) h

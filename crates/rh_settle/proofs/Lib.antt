@@ -7,7 +7,7 @@ pub mod ListWalks
 pub mod Entries
 pub mod Points
 pub mod Falls
-pub mod Sized
+pub mod Shapes
 pub mod NextMoves
 pub mod Fuel
 pub mod SettlingLaws

@@ -24,8 +24,10 @@ absent a (b ∷ apps) h = cases (same_app a b)
 
 pub once_of : (apps : List App) → AllPairs (λ (a b : App). a.0 ≢ b.0) apps → Once apps
 once_of [] h = tt
-once_of (a ∷ apps) h = (absent a apps (λ k d l. h 0 (suc k) d (omega arith) (omega arith)),
-    once_of apps (λ i j d l m. h (suc i) (suc j) d (omega arith) (omega arith)))
+once_of (a ∷ apps) h = (
+  absent a apps (λ k d l. h 0 (suc k) d (omega arith) (omega arith)),
+  once_of apps (λ i j d l m. h (suc i) (suc j) d (omega arith) (omega arith)),
+)
 
 -- what is left of a list from an application on
 abbrev pub from_app : List App → App → List App

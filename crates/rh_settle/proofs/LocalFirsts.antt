@@ -79,7 +79,7 @@ in_line s n (x ∷ xs) =
     cases (can_start s n x)
     (λ t. subst (Firsts (line_before (x ∷ xs)) (InLine s n (x ∷ xs))) (sym (ap (λ b. or_else (cond b (Local n x ∷ []) []) ms) t)) (starts_here s n x xs t))
     (λ f. subst (Firsts (line_before (x ∷ xs)) (InLine s n (x ∷ xs))) (sym (ap (λ b. or_else (cond b (Local n x ∷ []) []) ms) f))
-        (starts_later s n x xs ms f rest))
+    (starts_later s n x xs ms f rest))
 
 -- ---- order of numbers
 pub less : (i j : ℕ) → i < j → nat_lt i j ≡ true
@@ -108,7 +108,7 @@ pub locals_at : (s : StateView) (k : ℕ) → Firsts (goes_before s) (LocalAt s 
 unfolding local_moves
 locals_at s k =
     firsts_as (line_before (waiting_at s (numbered k))) (goes_before s) (LocalAt s k) (LocalAt s k)
-        (first_given (local_move s (numbered k)) (waiting_at s (numbered k)))
+    (first_given (local_move s (numbered k)) (waiting_at s (numbered k)))
     (λ m l. l) (λ m l. l)
     (λ m o l h. sym (before_is s m o (Local (numbered k) (app_of m)) (Local (numbered k) (app_of o)) l.0 h.0
     ∙ here_before k (line_before (waiting_at s (numbered k)) m o)))

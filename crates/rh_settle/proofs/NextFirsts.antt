@@ -167,7 +167,7 @@ unfolding next_moves
 firsts s marked =
     firsts_as (goes_before s) (goes_before s) (AnyKind s marked) (IsEnabled s marked)
     (or_else (first_given (local_moves s) (nodes_of s.cluster))
-        (or_else (first_given (placements s) (apps_of s.cluster)) (first_given (takeovers s marked) (apps_of s.cluster))))
+    (or_else (first_given (placements s) (apps_of s.cluster)) (first_given (takeovers s marked) (apps_of s.cluster))))
     (enabled_kind s marked) (kind_of_enabled s marked) (λ m o e k. refl)
     (firsts_else (goes_before s) (Locals s) (λ m. Placed s m ⊎ Taken s marked m) (first_given (local_moves s) (nodes_of s.cluster))
     (or_else (first_given (placements s) (apps_of s.cluster)) (first_given (takeovers s marked) (apps_of s.cluster)))
@@ -182,7 +182,7 @@ firsts s marked =
     )))
     (locals s)
     (firsts_else (goes_before s) (Placed s) (Taken s marked) (first_given (placements s) (apps_of s.cluster))
-        (first_given (takeovers s marked) (apps_of s.cluster))
+    (first_given (takeovers s marked) (apps_of s.cluster))
     (λ m o p t. (
       before_is s m o (Placement (app_numbered p.0) p.3.0 p.3.1) (Takeover (app_numbered t.0) t.3.0 t.3.1) p.3.2 t.3.2,
       before_is s o m (Takeover (app_numbered t.0) t.3.0 t.3.1) (Placement (app_numbered p.0) p.3.0 p.3.1) t.3.2 p.3.2,

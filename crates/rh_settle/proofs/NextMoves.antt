@@ -9,6 +9,7 @@ use Rattle.rh_model.specs.declared.settings.Spread.{Spread}
 use Rattle.rh_model.specs.ClusterView.{ClusterView, node_count, spread_of, group_of, is_in}
 use Rattle.rh_state.specs.declared.status.Mode.{Mode}
 use Rattle.rh_state.specs.declared.status.Mode.TheVariants.{Down}
+use Rattle.rh_state.specs.Shape.{IsShaped}
 use Rattle.rh_state.specs.StateView.{StateView, mode_of, is_up, runs_at, is_started, is_allowed}
 use Rattle.rh_place.specs.Placing.{is_operational, deps_run}
 use Rattle.rh_base.proofs.Lists.{cases}
@@ -18,10 +19,10 @@ use Rattle.rh_settle.specs.declared.notice.Pair.{Pair}
 use Rattle.rh_settle.specs.Course.{is_fresh}
 use Rattle.rh_settle.specs.Moves.{is_local, comes_before, calls_away, next_moves}
 use Rattle.rh_settle.specs.Enabled.{IsEnabled}
-use Rattle.rh_settle.specs.Soundness.{IsSized}
 use Rattle.rh_settle.proofs.Places.{or_right}
 use Rattle.rh_settle.proofs.Entries.{both, is_below, is_above}
 use Rattle.rh_settle.proofs.Falls.{Progresses}
+use Rattle.rh_settle.proofs.Shapes.{started_within}
 use Rattle.rh_settle.proofs.NextFirsts.{next_are_first}
 
 pub left_true : (p q : Bool) → p && q ≡ true → p ≡ true
@@ -33,7 +34,7 @@ right_true true q h = h
 right_true false q h = both false h refl
 
 -- ---- where an application can run
-up_within : (s : StateView) (n : Node) → length s.modes ≡ node_count s.cluster → is_up (mode_of s n) ≡ true → n.0 < node_count s.cluster
+pub up_within : (s : StateView) (n : Node) → length s.modes ≡ node_count s.cluster → is_up (mode_of s n) ≡ true → n.0 < node_count s.cluster
 up_within s n sized h = cases (nat_lt n.0 (length s.modes))
     (λ t. let k = is_below n.0 (length s.modes) t in omega arith)
     (λ f. both (is_up (mode_of s n)) h (ap (λ (o : Option Mode). is_up (unwrap_or o Down)) (slice_get_past s.modes n.0 (is_above n.0 (length s.modes) f))))
@@ -63,13 +64,13 @@ not_local c a n p h = by (spread_of c a) h
     by (Some v) h = refl
 
 -- ---- what is known
-enabled_progresses : (s : StateView) (marked : List Pair) → IsSized s → (m : Move) → IsEnabled s marked m → Progresses s m
-enabled_progresses s marked sized (Local n a) e = (e.0, sized.apps n a (or_right (runs_at s n a) _ e.2), e.1, e.2)
-enabled_progresses s marked sized (Placement a from n) e =
-    let o = e.2.passes in (operational_within s a n sized.modes o, e.0, e.1, operational_started s a n o)
-enabled_progresses s marked sized (Takeover a m n) e =
+enabled_progresses : (s : StateView) (marked : List Pair) → IsShaped s → (m : Move) → IsEnabled s marked m → Progresses s m
+enabled_progresses s marked shape (Local n a) e = (e.0, started_within s n a shape (or_right (runs_at s n a) _ e.2), e.1, e.2)
+enabled_progresses s marked shape (Placement a from n) e =
+    let o = e.2.passes in (operational_within s a n shape.modes o, e.0, e.1, operational_started s a n o)
+enabled_progresses s marked shape (Takeover a m n) e =
     let c = all_called s marked a m n e.2.passes in
-    (operational_within s a n sized.modes c.2, e.0, e.1, c.0, not_local s.cluster a n (group_of s.cluster a m) c.0, operational_started s a n c.2)
+    (operational_within s a n shape.modes c.2, e.0, e.1, c.0, not_local s.cluster a n (group_of s.cluster a m) c.0, operational_started s a n c.2)
 
-pub progresses : (s : StateView) (marked : List Pair) → IsSized s → (m : Move) → Contains (next_moves s marked) m → Progresses s m
-progresses s marked sized m h = enabled_progresses s marked sized m ((next_are_first s marked m).0 h).enabled
+pub progresses : (s : StateView) (marked : List Pair) → IsShaped s → (m : Move) → Contains (next_moves s marked) m → Progresses s m
+progresses s marked shape m h = enabled_progresses s marked shape m ((next_are_first s marked m).0 h).enabled

@@ -63,10 +63,10 @@ unfolding points
 falls_by s t n a e lt_n lt_a each here =
     let P : ClusterView → Type 0 = λ c. sum_to (λ i. sum_to (λ j. points_at t (numbered i) (app_numbered j)) (app_count c)) (node_count c) < points s in
     subst P (sym e) (sum_lt (λ i. sum_to (λ j. points_at t (numbered i) (app_numbered j)) (app_count s.cluster))
-        (λ i. sum_to (λ j. points_at s (numbered i) (app_numbered j)) (app_count s.cluster))
+    (λ i. sum_to (λ j. points_at s (numbered i) (app_numbered j)) (app_count s.cluster))
     (node_count s.cluster) n.0
     (λ i. sum_le (λ j. points_at t (numbered i) (app_numbered j)) (λ j. points_at s (numbered i) (app_numbered j)) (app_count s.cluster)
-        (λ j. each (numbered i) (app_numbered j)))
+    (λ j. each (numbered i) (app_numbered j)))
     lt_n
     (sum_lt (λ j. points_at t n (app_numbered j)) (λ j. points_at s n (app_numbered j)) (app_count s.cluster) a.0 (λ j. each n (app_numbered j)) lt_a here))
 
@@ -84,8 +84,8 @@ unfolding points points_at
 bounded s = sum_bound _ (app_count s.cluster * 2) (node_count s.cluster)
     (λ i. sum_bound (λ j. points_at s (numbered i) (app_numbered j)) 2 (app_count s.cluster)
     (λ j. two (is_local s.cluster (app_numbered j) && waits_at s (numbered i) (app_numbered j))
-        (standing_point s.cluster (numbered i) (app_numbered j) (standing_of s (app_numbered j)))
-        (one s.cluster (numbered i) (app_numbered j) (standing_of s (app_numbered j)))))
+    (standing_point s.cluster (numbered i) (app_numbered j) (standing_of s (app_numbered j)))
+    (one s.cluster (numbered i) (app_numbered j) (standing_of s (app_numbered j)))))
   where
     two : (p : Bool) (k : ℕ) → k ≤ 1 → cond p 1 0 + k ≤ 2
     two true k h = omega arith

@@ -20,7 +20,7 @@ use Rattle.rh_settle.specs.declared.notice.Move.TheVariants.{Local, Placement}
 use Rattle.rh_settle.specs.declared.notice.Notice.{Notice}
 use Rattle.rh_settle.specs.declared.notice.Notice.TheVariants.{Started, Stopped, Waits}
 use Rattle.rh_settle.specs.declared.notice.Pair.{Pair}
-use Rattle.rh_settle.specs.Course.{course}
+use Rattle.rh_settle.specs.Course.{course_of}
 use Rattle.rh_settle.specs.Moves.{can_start, local_moves, placements, calls_away, takeovers, next_moves}
 use Rattle.rh_settle.specs.Enabled.{IsEnabled, goes_before}
 use Rattle.rh_settle.specs.Settling.{moved_by, all_moved, settled}
@@ -80,7 +80,7 @@ up phases running waiting standing = record (first (cluster phases)) {
 }
 
 abbrev told : StateView → List Pair → Pick → List Notice
-told s marked pick = (settled pick (course s [] marked)).notices
+told s marked pick = (settled pick (course_of s [] marked)).notices
 
 abbrev none : List (List App)
 none = [] ∷ [] ∷ [] ∷ []
@@ -98,7 +98,7 @@ unfolding nodes_of apps_of is_operational deps_run best candidates can_start loc
 starts_at_the_first = refl
 
 -- what it leads to: it runs at n1, and waits at the others
-leads_to : (settled First (course (up false none everywhere (Wanted None)) [] all_fresh)).state
+leads_to : (settled First (course_of (up false none everywhere (Wanted None)) [] all_fresh)).state
     ≡ record (up false ((app ∷ []) ∷ [] ∷ [] ∷ []) ([] ∷ (app ∷ []) ∷ (app ∷ []) ∷ []) (Running n1)) { kinds = (first (cluster false)).kinds }
 unfolding nodes_of apps_of is_operational deps_run best candidates can_start local_moves placements calls_away takeovers next_moves moved_by all_moved
 leads_to = refl
@@ -157,8 +157,16 @@ both_kinds = up false none ((app ∷ []) ∷ [] ∷ (helper ∷ []) ∷ []) (Wan
 
 enabled_too : IsEnabled both_kinds [] (Placement app None n1)
 unfolding is_operational deps_run
-enabled_too = (omega arith, refl, record { listed = refl; passes = refl; first = λ k h. none_before (group_of (cluster false) app k);
-    fewest = λ k h e. omega arith })
+enabled_too = (
+  omega arith,
+  refl,
+  record {
+    listed = refl;
+    passes = refl;
+    first = λ k h. none_before (group_of (cluster false) app k);
+    fewest = λ k h e. omega arith;
+  },
+)
 
 local_before : goes_before both_kinds (Local n3 helper) (Placement app None n1) ≡ true
 local_before = refl

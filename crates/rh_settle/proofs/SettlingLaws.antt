@@ -1,5 +1,6 @@
 -- What settling by the pick has to do with settling.
 use Rattle.std.proofs.Common.{◌≡◌, ℕ, ◌*◌, ◌≤◌, zero, suc, List, [], ◌∷◌, length, sym, ap, ◌∙◌, arith, fold}
+use Rattle.rh_state.specs.Shape.{IsShaped}
 use Rattle.rh_place.specs.declared.choosing.Pick.{Pick}
 use Rattle.rh_place.specs.Picks.{picked}
 use Rattle.rh_settle.proofs.Searches.{none_picked, contains_picked}
@@ -7,38 +8,37 @@ use Rattle.rh_settle.specs.declared.notice.Move.{Move}
 use Rattle.rh_settle.specs.Course.{Course}
 use Rattle.rh_settle.specs.Moves.{moved}
 use Rattle.rh_settle.specs.Settling.{nexts, AreNext, Settles, pair_count, all_moved, waits_told, settled}
-use Rattle.rh_settle.specs.Soundness.{IsSized}
 use Rattle.rh_settle.proofs.Points.{points}
 use Rattle.rh_settle.proofs.Falls.{falls}
 use Rattle.rh_settle.proofs.NextMoves.{progresses}
-use Rattle.rh_settle.proofs.Fuel.{state_moved, sized_moved, sized_next, falls_next, within, unrolled, ended, by_option}
+use Rattle.rh_settle.proofs.Fuel.{state_moved, shaped_on, shaped_next, falls_next, within, unrolled, ended, by_option}
 
 -- each move of a settling takes a point
-spent : (o : Course) (ms : List Move) → IsSized o.state → AreNext o ms → length ms ≤ points o.state
-spent o [] sized h = omega arith
-spent o (m ∷ ms) sized h =
-    let p = progresses o.state o.marked sized m h.0 in
-    let f = falls o.state m sized p in
+spent : (o : Course) (ms : List Move) → IsShaped o.state → AreNext o ms → length ms ≤ points o.state
+spent o [] shape h = omega arith
+spent o (m ∷ ms) shape h =
+    let p = progresses o.state o.marked shape m h.0 in
+    let f = falls o.state m shape p in
     let g = ap points (state_moved o m) in
-    let r = spent (moved o m) ms (sized_moved o m sized p) h.1 in omega arith
+    let r = spent (moved o m) ms (shaped_on o m shape p) h.1 in omega arith
 
 -- at most twice as many moves as pairs
-pub few_moves : (o p : Course) → IsSized o.state → (s : Settles o p) → length s.moves ≤ 2 * pair_count o.state.cluster
-few_moves o p sized s = let h = spent o s.moves sized s.are_next in let w = within o.state in omega arith
+pub few_moves : (o p : Course) → IsShaped o.state → (s : Settles o p) → length s.moves ≤ 2 * pair_count o.state.cluster
+few_moves o p shape s = let h = spent o s.moves shape s.are_next in let w = within o.state in omega arith
 
 -- settling where each tie goes to the pick makes next moves
-by_pick : (pick : Pick) (n : ℕ) (o : Course) → IsSized o.state → points o.state ≤ n → (ms : List Move) × AreNext o ms × (fold moved o ms ≡ all_moved pick o)
-by_pick pick zero o sized h = by_option (picked pick (nexts o))
+by_pick : (pick : Pick) (n : ℕ) (o : Course) → IsShaped o.state → points o.state ≤ n → (ms : List Move) × AreNext o ms × (fold moved o ms ≡ all_moved pick o)
+by_pick pick zero o shape h = by_option (picked pick (nexts o))
     (λ e. ([], none_picked pick (nexts o) e, sym (ended pick o e)))
-    (λ m e. let f = falls_next o pick m sized e in absurd (omega arith))
-by_pick pick (suc n) o sized h = by_option (picked pick (nexts o))
+    (λ m e. let f = falls_next o pick m shape e in absurd (omega arith))
+by_pick pick (suc n) o shape h = by_option (picked pick (nexts o))
     (λ e. ([], none_picked pick (nexts o) e, sym (ended pick o e)))
-    (λ m e. let f = falls_next o pick m sized e in
-    let r = by_pick pick n (moved o m) (sized_next o pick m sized e) (omega arith) in
-    (m ∷ r.0, (contains_picked pick (nexts o) m e, r.1), r.2 ∙ sym (unrolled pick o m sized e)))
+    (λ m e. let f = falls_next o pick m shape e in
+    let r = by_pick pick n (moved o m) (shaped_next o pick m shape e) (omega arith) in
+    (m ∷ r.0, (contains_picked pick (nexts o) m e, r.1), r.2 ∙ sym (unrolled pick o m shape e)))
 
 -- so it is one of those that settle
-pub settles_by_pick : (pick : Pick) (o : Course) → IsSized o.state → Settles o (settled pick o)
-settles_by_pick pick o sized =
-    let r = by_pick pick (points o.state) o sized (omega arith) in
+pub settles_by_pick : (pick : Pick) (o : Course) → IsShaped o.state → Settles o (settled pick o)
+settles_by_pick pick o shape =
+    let r = by_pick pick (points o.state) o shape (omega arith) in
     record { moves = r.0; are_next = r.1; outcome = ap waits_told (sym r.2) }

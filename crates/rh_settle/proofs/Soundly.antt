@@ -10,18 +10,19 @@ use Rattle.rh_state.specs.declared.status.Standing.TheVariants.{Quiet, Wanted, R
 use Rattle.rh_state.specs.Numbers.{same_app}
 use Rattle.rh_state.specs.Tables.{row}
 use Rattle.rh_state.specs.Lists.{has_app, without_app}
+use Rattle.rh_state.specs.Shape.{IsShaped}
 use Rattle.rh_state.specs.StateView.{StateView, mode_of, is_up, runs_at, waits_at, is_started, standing_of}
 use Rattle.rh_base.proofs.Lists.{cases}
 use Rattle.rh_settle.specs.declared.notice.Move.{Move}
 use Rattle.rh_settle.specs.declared.notice.Move.TheVariants.{Local, Placement, Takeover}
 use Rattle.rh_settle.specs.Moves.{is_local, with_started, with_stopped, moved_state}
 use Rattle.rh_settle.specs.Validity.{RunsWhereItStands}
-use Rattle.rh_settle.specs.Soundness.{IsSized, IdleUnlessUp, StandsWhereItRuns, TimersFit, IsSound, is_lost}
+use Rattle.rh_settle.specs.Soundness.{IdleUnlessUp, StandsWhereItRuns, TimersFit, IsSound, is_lost}
 use Rattle.rh_settle.proofs.Places.{at_set, at_set_here, at_set_there, or_left, or_right}
 use Rattle.rh_settle.proofs.Entries.{taken, put, has, taken_has, taken_not, put_has, either, both, same_number, other_number, row_there, length_taken}
 use Rattle.rh_settle.proofs.Entries.{length_put}
 use Rattle.rh_settle.proofs.Falls.{Progresses}
-use Rattle.rh_settle.proofs.Sized.{started_by_start, started_by_stop, stays_sized}
+use Rattle.rh_settle.proofs.Shapes.{shaped_moved}
 use Rattle.rh_settle.proofs.Kept.{same_running, once_moved, runs_moved}
 
 -- ---- idle
@@ -71,6 +72,19 @@ idle_moved s (Takeover a m n) p runs h =
     record { running = i.running; waiting = i.waiting; permissions = i.permissions }
 
 -- ---- where each stands
+-- what is started after a move was started before, or is what moves
+started_by_start : {P : Type 0} (s : StateView) (n : Node) (a : App) (k : Node) (b : App) → is_started (with_started s n a Normal) k b ≡ true
+    → (is_started s k b ≡ true → P) → (k.0 ≡ n.0 → same_app b a ≡ true → P) → P
+started_by_start s n a k b h before moves = either _ _ h
+    (λ r. put_has (taken s.running n.0 a) n.0 k.0 a b r (λ t. before (or_left (runs_at s k b) _ (taken_has s.running n.0 k.0 a b t))) moves)
+    (λ w. before (or_right (runs_at s k b) _ (taken_has s.waiting n.0 k.0 a b w)))
+
+started_by_stop : {P : Type 0} (s : StateView) (m : Node) (a : App) (k : Node) (b : App) → is_started (with_stopped s m a) k b ≡ true
+    → (is_started s k b ≡ true → P) → (k.0 ≡ m.0 → same_app b a ≡ true → P) → P
+started_by_stop s m a k b h before moves = either _ _ h
+    (λ r. before (or_left (runs_at s k b) _ (taken_has s.running m.0 k.0 a b r)))
+    (λ w. put_has (taken s.waiting m.0 a) m.0 k.0 a b w (λ t. before (or_right (runs_at s k b) _ (taken_has s.waiting m.0 k.0 a b t))) moves)
+
 -- a move starts nothing that wasn't started
 same_pair : (s : StateView) (n k : Node) (a b : App) → is_started s n a ≡ true → k.0 ≡ n.0 → same_app b a ≡ true → is_started s k b ≡ true
 same_pair s n k a b h e t = ap (λ i. is_started s (numbered i) b) e ∙ ap (λ j. is_started s n (app_numbered j)) (same_number b.0 a.0 t) ∙ h
@@ -110,27 +124,27 @@ runs_by_start s n a k b r before moves = put_has (taken s.running n.0 a) n.0 k.0
 at_node : (n k : Node) → k.0 ≡ n.0 → Running n ≡ Running k
 at_node n k e = ap (λ i. Running (numbered i)) (sym e)
 
-stands_moved : (s : StateView) (m : Move) → Progresses s m → IsSized s → RunsWhereItStands s → StandsWhereItRuns s
+stands_moved : (s : StateView) (m : Move) → Progresses s m → IsShaped s → RunsWhereItStands s → StandsWhereItRuns s
     → (k : Node) (b : App) → is_local s.cluster b ≡ false → runs_at (moved_state s m) k b ≡ true → standing_of (moved_state s m) b ≡ Running k
-stands_moved s (Local n a) p sized runs h k b d r = runs_by_start s n a k b r (h.stands k b d)
+stands_moved s (Local n a) p shape runs h k b d r = runs_by_start s n a k b r (h.stands k b d)
     (λ e t. both (is_local s.cluster a) p.2 (ap (λ j. is_local s.cluster (app_numbered j)) (sym (same_number b.0 a.0 t)) ∙ d))
-stands_moved s (Placement a from n) p sized runs h k b d r =
-    let lt : a.0 < length s.standings = (let e = sized.standings in let l = p.1 in omega arith) in
+stands_moved s (Placement a from n) p shape runs h k b d r =
+    let lt : a.0 < length s.standings = (let e = shape.standings in let l = p.1 in omega arith) in
     runs_by_start s n a k b r
     (λ u. cases (same_app b a)
     (λ t. no_wanted from k (sym p.2 ∙ sym (same_standing s a b t) ∙ h.stands k b d u))
     (λ f. stands_still s a n b f ∙ h.stands k b d u))
     (λ e t. stands_here s a n b lt t ∙ at_node n k e)
-stands_moved s (Takeover a m n) p sized runs h k b d r =
-    let lt : a.0 < length s.standings = (let e = sized.standings in let l = p.1 in omega arith) in
+stands_moved s (Takeover a m n) p shape runs h k b d r =
+    let lt : a.0 < length s.standings = (let e = shape.standings in let l = p.1 in omega arith) in
     let u : StateView = with_started s n a Normal in
     runs_by_start s n a k b (taken_has u.running m.0 k.0 a b r)
     (λ v. cases (same_app b a)
     (λ t. let at : m ≡ k = same_running m k (sym p.2 ∙ sym (same_standing s a b t) ∙ h.stands k b d v) in
     both (has (taken u.running m.0 a) m.0 a) (ap (λ i. has (taken u.running m.0 a) i a) (ap (λ (x : Node). x.0) at)
-        ∙ ap (λ j. has (taken u.running m.0 a) k.0 (app_numbered j)) (sym (same_number b.0 a.0 t)) ∙ r)
+    ∙ ap (λ j. has (taken u.running m.0 a) k.0 (app_numbered j)) (sym (same_number b.0 a.0 t)) ∙ r)
     (taken_not u.running m.0 a (let x = length_put (taken s.running n.0 a) n.0 a in let y = length_taken s.running n.0 a in
-        let z = row_there s.running m.0 a (runs.runs a m p.2) in omega (arith, x, y, z))))
+    let z = row_there s.running m.0 a (runs.runs a m p.2) in omega (arith, x, y, z))))
     (λ f. stands_still s a n b f ∙ h.stands k b d v))
     (λ e t. stands_here s a n b lt t ∙ at_node n k e)
 
@@ -148,15 +162,22 @@ listed_moved : (s : StateView) (m : Move) → Progresses s m → RunsWhereItStan
     → (k : Node) (b : App) → is_started (moved_state s m) k b ≡ true → is_listed_at s.cluster b k ≡ true
 listed_moved s m p runs h k b t = h.listed k b (started_before s m k b p runs t)
 
-standing_moved : (s : StateView) (m : Move) → Progresses s m → IsSized s → RunsWhereItStands s → StandsWhereItRuns s → StandsWhereItRuns (moved_state s m)
-standing_moved s (Local n a) p sized runs h = record { listed = listed_moved s (Local n a) p runs h; stands = stands_moved s (Local n a) p sized runs h;
-    local = local_moved s (Local n a) p h }
-standing_moved s (Placement a from n) p sized runs h =
-    record { listed = listed_moved s (Placement a from n) p runs h; stands = stands_moved s (Placement a from n) p sized runs h;
-    local = local_moved s (Placement a from n) p h }
-standing_moved s (Takeover a m n) p sized runs h =
-    record { listed = listed_moved s (Takeover a m n) p runs h; stands = stands_moved s (Takeover a m n) p sized runs h;
-    local = local_moved s (Takeover a m n) p h }
+standing_moved : (s : StateView) (m : Move) → Progresses s m → IsShaped s → RunsWhereItStands s → StandsWhereItRuns s → StandsWhereItRuns (moved_state s m)
+standing_moved s (Local n a) p shape runs h = record {
+  listed = listed_moved s (Local n a) p runs h;
+  stands = stands_moved s (Local n a) p shape runs h;
+  local = local_moved s (Local n a) p h;
+}
+standing_moved s (Placement a from n) p shape runs h = record {
+  listed = listed_moved s (Placement a from n) p runs h;
+  stands = stands_moved s (Placement a from n) p shape runs h;
+  local = local_moved s (Placement a from n) p h;
+}
+standing_moved s (Takeover a m n) p shape runs h = record {
+  listed = listed_moved s (Takeover a m n) p runs h;
+  stands = stands_moved s (Takeover a m n) p shape runs h;
+  local = local_moved s (Takeover a m n) p h;
+}
 
 -- ---- timers
 -- no application is lost or found again by a move
@@ -191,10 +212,10 @@ within_moved s (Takeover a m n) h = h
 pub sound_moved : (s : StateView) (m : Move) → Progresses s m → IsSound s → IsSound (moved_state s m)
 sound_moved s m p h = record {
   within = within_moved s m h.within;
-  sized = stays_sized s m h.sized p;
-  once = once_moved s h.sized h.runs m p h.once;
+  shaped = shaped_moved s m h.shaped p;
+  once = once_moved s h.shaped h.runs m p h.once;
   idle = idle_moved s m p h.runs h.idle;
-  standing = standing_moved s m p h.sized h.runs h.standing;
-  runs = runs_moved s h.sized m p h.runs;
+  standing = standing_moved s m p h.shaped h.runs h.standing;
+  runs = runs_moved s h.shaped m p h.runs;
   timers = timers_moved s m p h.timers;
 }

@@ -1,5 +1,6 @@
 -- Behind a settling nothing moves, and a sound state stays sound.
 use Rattle.std.proofs.Common.{◌≡◌, false, List, [], ◌∷◌, fold, refl, sym, ap, ◌∙◌, subst}
+use Rattle.rh_state.specs.Shape.{IsShaped}
 use Rattle.rh_state.specs.StateView.{StateView}
 use Rattle.rh_place.specs.declared.choosing.Pick.{Pick}
 use Rattle.rh_settle.specs.declared.notice.Move.{Move}
@@ -9,7 +10,7 @@ use Rattle.rh_settle.specs.Course.{Course}
 use Rattle.rh_settle.specs.Moves.{next_moves, moved}
 use Rattle.rh_settle.specs.Enabled.{IsEnabled}
 use Rattle.rh_settle.specs.Settling.{nexts, AreNext, settled, Settles}
-use Rattle.rh_settle.specs.Soundness.{IsSized, IsSound}
+use Rattle.rh_settle.specs.Soundness.{IsSound}
 use Rattle.rh_settle.proofs.Entries.{both}
 use Rattle.rh_settle.proofs.NextFirsts.{still_if_none_enabled}
 use Rattle.rh_settle.proofs.NextMoves.{all_called, progresses}
@@ -22,7 +23,7 @@ use Rattle.rh_settle.proofs.Soundly.{sound_moved}
 sound_next : (o : Course) (ms : List Move) → IsSound o.state → AreNext o ms → IsSound (fold moved o ms).state
 sound_next o [] sound h = sound
 sound_next o (m ∷ ms) sound h =
-    let p = progresses o.state o.marked sound.sized m h.0 in
+    let p = progresses o.state o.marked sound.shaped m h.0 in
     sound_next (moved o m) ms (subst IsSound (sym (state_moved o m)) (sound_moved o.state m p sound)) h.1
 
 pub settles_sound : (o p : Course) → IsSound o.state → Settles o p → IsSound p.state
@@ -31,7 +32,7 @@ settles_sound o p sound run =
     (sound_next o run.moves sound run.are_next)
 
 pub settled_sound : (pick : Pick) (o : Course) → IsSound o.state → IsSound (settled pick o).state
-settled_sound pick o sound = settles_sound o (settled pick o) sound (settles_by_pick pick o sound.sized)
+settled_sound pick o sound = settles_sound o (settled pick o) sound (settles_by_pick pick o sound.shaped)
 
 -- ---- nothing moves
 ends_still : (o : Course) (ms : List Move) → AreNext o ms → nexts (fold moved o ms) ≡ []
@@ -45,8 +46,8 @@ settles_still o p run =
     ∙ ap (next_moves q.state) (sym (moves_marked o run.moves))
     ∙ ends_still o run.moves run.are_next
 
-pub settled_still : (pick : Pick) (o : Course) → IsSized o.state → next_moves (settled pick o).state o.marked ≡ []
-settled_still pick o sized = settles_still o (settled pick o) (settles_by_pick pick o sized)
+pub settled_still : (pick : Pick) (o : Course) → IsShaped o.state → next_moves (settled pick o).state o.marked ≡ []
+settled_still pick o shape = settles_still o (settled pick o) (settles_by_pick pick o shape)
 
 -- ---- without marks nothing calls away
 -- what is enabled without marks is so with them

@@ -69,15 +69,20 @@ module _ {A : Type 0} (F : StateView → A) (each : (s : StateView) (m : Move) �
       ∙ by_moves (λ q. F q.state) each_course o run.moves
 
 -- ---- the marks
+pub all_moved_marked : (pick : Pick) (o : Course) → (all_moved pick o).marked ≡ o.marked
+all_moved_marked pick o = by_all (λ p. p.marked) marks_moved pick o
+
+pub waits_told_marked : (o : Course) → (waits_told o).marked ≡ o.marked
+waits_told_marked o = tells_marked o o.marked
+
 pub settled_marked : (pick : Pick) (o : Course) → (settled pick o).marked ≡ o.marked
-settled_marked pick o = tells_marked (all_moved pick o) (all_moved pick o).marked ∙ by_all (λ p. p.marked) marks_moved pick o
+settled_marked pick o = waits_told_marked (all_moved pick o) ∙ all_moved_marked pick o
 
 pub moves_marked : (o : Course) (ms : List Move) → (fold moved o ms).marked ≡ o.marked
 moves_marked o ms = by_moves (λ p. p.marked) marks_moved o ms
 
 pub settles_marked : (o p : Course) → Settles o p → p.marked ≡ o.marked
-settles_marked o p run = ap (λ (q : Course). q.marked) run.outcome ∙ tells_marked (fold moved o run.moves) (fold moved o run.moves).marked
-    ∙ moves_marked o run.moves
+settles_marked o p run = ap (λ (q : Course). q.marked) run.outcome ∙ waits_told_marked (fold moved o run.moves) ∙ moves_marked o run.moves
 
 -- ---- parts of the state
 cluster_same : (s : StateView) (m : Move) → (moved_state s m).cluster ≡ s.cluster

@@ -7,13 +7,25 @@ use Rattle.rh_state.specs.StateView.{StateView}
 use Rattle.rh_settle.specs.declared.notice.Notice.{Notice}
 use Rattle.rh_settle.specs.declared.notice.Pair.{Pair}
 
+-- what was told, and which pairs were marked
+pub record TraceView : Type 0 where
+  pub notices : List Notice
+  pub marked : List Pair
+
+abbrev pub trace_of : List Notice → List Pair → TraceView
+trace_of notices marked = record { notices = notices; marked = marked }
+
 pub record Course : Type 0 where
   pub state : StateView
   pub notices : List Notice
   pub marked : List Pair
 
-abbrev pub course : StateView → List Notice → List Pair → Course
-course s notices marked = record { state = s; notices = notices; marked = marked }
+abbrev pub course_of : StateView → List Notice → List Pair → Course
+course_of s notices marked = record { state = s; notices = notices; marked = marked }
+
+-- a state, seen with the trace that led to it
+abbrev pub course : StateView → TraceView → Course
+course s trace = course_of s trace.notices trace.marked
 
 abbrev pub told : Course → Notice → Course
 told o notice = record o { notices = o.notices ++ notice ∷ [] }

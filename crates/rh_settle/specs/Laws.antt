@@ -4,7 +4,7 @@ use Rattle.rh_model.specs.ClusterView.{group_of}
 use Rattle.rh_model.specs.declared.node.Node.{Node}
 use Rattle.rh_model.specs.declared.node.App.{App}
 use Rattle.rh_state.specs.declared.status.Standing.TheVariants.{Wanted}
-use Rattle.rh_state.specs.Shape.{IsNodeOf, IsAppOf}
+use Rattle.rh_state.specs.Shape.{IsShaped, IsNodeOf, IsAppOf}
 use Rattle.rh_state.specs.StateView.{StateView, runs_at, waits_at, is_allowed, standing_of}
 use Rattle.rh_place.specs.declared.choosing.Pick.{Pick}
 use Rattle.rh_place.specs.Placing.{deps_run, is_operational}
@@ -15,15 +15,15 @@ use Rattle.rh_settle.specs.Course.{Course, is_fresh}
 use Rattle.rh_settle.specs.Moves.{is_local, comes_before, next_moves}
 use Rattle.rh_settle.specs.Enabled.{IsBest, IsEnabled, IsFirst}
 use Rattle.rh_settle.specs.Settling.{Settles, settled, pair_count}
-use Rattle.rh_settle.specs.Soundness.{IsSized, IsSound}
+use Rattle.rh_settle.specs.Soundness.{IsSound}
 
 -- the settling that the pick takes is one of those that are allowed (ours)
 abbrev pub SettlesByPick : Type 0
-SettlesByPick = (pick : Pick) (o : Course) → IsSized o.state → Settles o (settled pick o)
+SettlesByPick = (pick : Pick) (o : Course) → IsShaped o.state → Settles o (settled pick o)
 
 -- every settling has at most twice as many moves as there are pairs (ours)
 abbrev pub FewMoves : Type 0
-FewMoves = (o p : Course) → IsSized o.state → (run : Settles o p) → length run.moves ≤ 2 * pair_count o.state.cluster
+FewMoves = (o p : Course) → IsShaped o.state → (run : Settles o p) → length run.moves ≤ 2 * pair_count o.state.cluster
 
 -- every settling keeps a sound state sound (ours)
 abbrev pub SettlingKeeps : Type 0
@@ -54,7 +54,7 @@ TakenOverByEarlierGroups =
 abbrev pub PlacedInFirstGroup : Type 0
 PlacedInFirstGroup =
     (s : StateView) (marked : List Pair) (a : App) (from : Option Node) (n : Node) → Contains (next_moves s marked) (Placement a from n)
-        → IsBest s a (is_operational s a) n
+    → IsBest s a (is_operational s a) n
 
 -- where nothing moves, an application that is to run can run at no node of its node list (Distributed Applications,
 -- Failover)

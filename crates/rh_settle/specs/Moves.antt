@@ -7,7 +7,7 @@ use Rattle.rh_model.specs.declared.node.App.{App}
 use Rattle.rh_state.specs.declared.status.Kind.{Kind}
 use Rattle.rh_state.specs.declared.status.Kind.TheVariants as kind
 use Rattle.rh_state.specs.declared.status.Standing.{Standing}
-use Rattle.rh_state.specs.declared.status.Standing.TheVariants.{Quiet, Wanted, Running, Lost}
+use Rattle.rh_state.specs.declared.status.Standing.TheVariants.{Wanted, Running}
 use Rattle.rh_state.specs.Numbers.{nodes_of, apps_of, same_node}
 use Rattle.rh_state.specs.StateView.{StateView, waiting_at, is_allowed, standing_of}
 use Rattle.rh_state.specs.Setters.{with_running, with_waiting, with_kind, with_standing, unlisted}
@@ -37,10 +37,8 @@ local_moves s n = first_given (local_move s n) (waiting_at s n)
 
 -- an application that is to run is placed at any candidate
 abbrev pub placements_from : StateView → App → Standing → List Move
-placements_from s a Quiet = []
 placements_from s a (Wanted from) = map (Placement a from) (candidates s a)
-placements_from s a (Running m) = []
-placements_from s a (Lost m) = []
+placements_from s a _ = []
 
 unfoldable pub placements : StateView → App → List Move
 placements s a = placements_from s a (standing_of s a)
@@ -57,10 +55,8 @@ calls_away s marked a m n = comes_before (group_of s.cluster a n) (group_of s.cl
 
 -- an application that runs is taken over by any of the best nodes that call it away
 abbrev pub takeovers_from : StateView → List Pair → App → Standing → List Move
-takeovers_from s marked a Quiet = []
-takeovers_from s marked a (Wanted from) = []
 takeovers_from s marked a (Running m) = map (Takeover a m) (best s a (calls_away s marked a m))
-takeovers_from s marked a (Lost m) = []
+takeovers_from s marked a _ = []
 
 unfoldable pub takeovers : StateView → List Pair → App → List Move
 takeovers s marked a = takeovers_from s marked a (standing_of s a)

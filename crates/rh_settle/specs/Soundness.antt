@@ -1,30 +1,21 @@
 -- What holds of the states that a cluster reaches, and at each moment on the way to them (ours).
-use Rattle.std.specs.Prelude.{◌≡◌, ◌≤◌, ◌&&◌, [], Bool, true, false, All, AllPairs, length, is_some}
+use Rattle.std.specs.Prelude.{◌≡◌, ◌≤◌, ◌&&◌, [], Bool, true, false, All, AllPairs, is_some}
 use Rattle.std.specs.List.Sorted.{IsNonDecreasingBy}
-use Rattle.rh_model.specs.ClusterView.{IsWithin, node_count, app_count, sync_wait_of, is_listed_at}
+use Rattle.rh_model.specs.ClusterView.{IsWithin, sync_wait_of, is_listed_at}
 use Rattle.rh_model.specs.declared.node.Node.{Node}
 use Rattle.rh_model.specs.declared.node.App.{App}
 use Rattle.rh_model.specs.declared.settings.SyncWait.{SyncWait}
-use Rattle.rh_model.specs.declared.settings.SyncWait.TheVariants.{Unset, After, Forever}
+use Rattle.rh_model.specs.declared.settings.SyncWait.TheVariants.{After}
 use Rattle.rh_state.specs.declared.status.Standing.{Standing}
-use Rattle.rh_state.specs.declared.status.Standing.TheVariants.{Quiet, Wanted, Running, Lost}
+use Rattle.rh_state.specs.declared.status.Standing.TheVariants.{Quiet, Running, Lost}
 use Rattle.rh_state.specs.declared.status.Timer.TheVariants.{Sync, Failover}
 use Rattle.rh_state.specs.First.{configured}
-use Rattle.rh_state.specs.Shape.{IsNodeOf, IsAppOf}
+use Rattle.rh_state.specs.Shape.{IsShaped, IsNodeOf}
 use Rattle.rh_state.specs.Tables.{row}
 use Rattle.rh_state.specs.Timers.{same_timer}
 use Rattle.rh_state.specs.StateView.{StateView, mode_of, is_up, is_waiting, running_at, waiting_at, runs_at, is_started, standing_of, due_of}
 use Rattle.rh_settle.specs.Moves.{is_local}
 use Rattle.rh_settle.specs.Validity.{RunsWhereItStands, OnceAtEachNode}
-
--- the lists have the size of the cluster, and what is started is an application of it
-pub record IsSized (s : StateView) : Type 0 where
-  pub modes : length s.modes ≡ node_count s.cluster
-  pub running : length s.running ≡ node_count s.cluster
-  pub waiting : length s.waiting ≡ node_count s.cluster
-  pub allowed : length s.allowed ≡ node_count s.cluster
-  pub standings : length s.standings ≡ app_count s.cluster
-  pub apps : (n : Node) (a : App) → is_started s n a ≡ true → IsAppOf s.cluster a
 
 -- at a node that isn't up nothing is started, and its permissions are as configured
 pub record IdleUnlessUp (s : StateView) : Type 0 where
@@ -41,15 +32,12 @@ pub record StandsWhereItRuns (s : StateView) : Type 0 where
 
 -- a wait that ends by itself
 abbrev pub is_timed : SyncWait → Bool
-is_timed Unset = false
 is_timed (After ms) = true
-is_timed Forever = false
+is_timed _ = false
 
 abbrev pub is_lost : Standing → Bool
-is_lost Quiet = false
-is_lost (Wanted from) = false
-is_lost (Running n) = false
 is_lost (Lost n) = true
+is_lost _ = false
 
 pub record TimersFit (s : StateView) : Type 0 where
   -- the timers are exactly one for each waiting node whose wait ends by itself, and one for each lost application
@@ -62,7 +50,8 @@ pub record TimersFit (s : StateView) : Type 0 where
 
 pub record IsSound (s : StateView) : Type 0 where
   pub within : IsWithin s.cluster
-  pub sized : IsSized s
+  -- its numbers are those of the cluster, and its lists and tables have their sizes
+  pub shaped : IsShaped s
   pub once : OnceAtEachNode s
   pub idle : IdleUnlessUp s
   pub standing : StandsWhereItRuns s

@@ -8,6 +8,7 @@ mod make;
 mod notice;
 mod search;
 mod settling;
+mod trace;
 
 pub use laws::{
     few_moves, never_left_wanted, next_are_first, placed_in_first_group, runs_at_one_node,
@@ -18,3 +19,4 @@ pub use make::make_move;
 pub use notice::{Move, Notice, Pair};
 pub use search::next_move;
 pub use settling::settle;
+pub use trace::Trace;

@@ -1,20 +1,19 @@
 //! What a move does.
 
-ghost use Rattle.std.specs.Prelude.{◌≡◌, ◌≢◌, ◌<◌, List, OnOk, OnErr};
-ghost use Rattle.rh_model.specs.ClusterView.{node_count, app_count};
+ghost use Rattle.std.specs.Prelude.{◌≡◌, OnOk, OnErr};
 ghost use Rattle.rh_state.specs.Shape.{IsKindOf};
 ghost use Rattle.rh_state.specs.Stored.{read};
-ghost use Rattle.rh_settle.specs.declared.notice.Pair.{Pair};
 ghost use Rattle.rh_settle.specs.declared.notice.Move.TheVariants.{Local, Placement, Takeover};
 ghost use Rattle.rh_settle.specs.Course.{course};
 ghost use Rattle.rh_settle.specs.Moves.{with_started, with_stopped, lost_elsewhere, moved};
 ghost use Rattle.rh_settle.specs.Validity.{IsStartedPair, CanBeMade};
 
 use crate::notice::{Move, Notice};
+use crate::trace::Trace;
+use rh_base::OutOfMemory;
 use rh_model::{App, Node};
 use rh_place::start_kind;
 use rh_state::{Kind, Standing, State};
-use rh_base::OutOfMemory;
 
 // A pair that is started runs from now on.
 fn start_at(state: &mut State, node: Node, app: App, kind: Kind)
@@ -53,13 +52,13 @@ fn start_locally(
     state: &mut State,
     node: Node,
     app: App,
-    notices: &mut Vec<Notice>,
+    trace: &mut Trace,
 ) -> Result<(), OutOfMemory>
     requires { IsStartedPair (read state.old) node app }
-    ensures course { OnOk result ((marked : List Pair) → course (read state.new) notices.new.items marked ≡ moved (course (read state.old) notices.old.items marked) (Local node app)) }
+    ensures course { OnOk result (course (read state.new) trace.new ≡ moved (course (read state.old) trace.old) (Local node app)) }
     ensures err { OnErr result (read state.new ≡ read state.old) }
 {
-    notices.push(Notice::Started {
+    trace.tell(Notice::Started {
         app,
         node,
         kind: Kind::Normal,
@@ -75,15 +74,15 @@ fn place(
     app: App,
     from: Option<Node>,
     node: Node,
-    notices: &mut Vec<Notice>,
+    trace: &mut Trace,
 ) -> Result<(), OutOfMemory>
     requires { CanBeMade (read state.old) (Placement app from node) }
-    ensures course { OnOk result ((marked : List Pair) → course (read state.new) notices.new.items marked ≡ moved (course (read state.old) notices.old.items marked) (Placement app from node)) }
+    ensures course { OnOk result (course (read state.new) trace.new ≡ moved (course (read state.old) trace.old) (Placement app from node)) }
     ensures err { OnErr result (read state.new ≡ read state.old) }
 {
     let kind = start_kind(state, app, from, node);
     let lost = lost_elsewhere(from, node);
-    notices.push(Notice::Started {
+    trace.tell(Notice::Started {
         app,
         node,
         kind,
@@ -100,19 +99,20 @@ fn take_over(
     app: App,
     from: Node,
     node: Node,
-    notices: &mut Vec<Notice>,
+    trace: &mut Trace,
 ) -> Result<(), OutOfMemory>
     requires { CanBeMade (read state.old) (Takeover app from node) }
-    ensures course { OnOk result ((marked : List Pair) → course (read state.new) notices.new.items marked ≡ moved (course (read state.old) notices.old.items marked) (Takeover app from node)) }
+    ensures course { OnOk result (course (read state.new) trace.new ≡ moved (course (read state.old) trace.old) (Takeover app from node)) }
     ensures err { OnErr result (read state.new ≡ read state.old) }
 {
-    notices.push(Notice::Started {
+    let started = Notice::Started {
         app,
         node,
         kind: Kind::Takeover(from),
         lost: None,
-    })?;
-    notices.push(Notice::Stopped { app, node: from })?;
+    };
+    trace.tell(started)?;
+    trace.tell(Notice::Stopped { app, node: from })?;
     start_at(state, node, app, Kind::Takeover(from));
     stop_at(state, from, app);
     state.set_standing(app, Standing::Running(node));
@@ -120,18 +120,14 @@ fn take_over(
 }
 
 /// Makes a move, and tells it. Where memory is refused it isn't made.
-pub fn make_move(
-    state: &mut State,
-    next: Move,
-    notices: &mut Vec<Notice>,
-) -> Result<(), OutOfMemory>
+pub fn make_move(state: &mut State, next: Move, trace: &mut Trace) -> Result<(), OutOfMemory>
     requires { CanBeMade (read state.old) next }
-    ensures course { OnOk result ((marked : List Pair) → course (read state.new) notices.new.items marked ≡ moved (course (read state.old) notices.old.items marked) next) }
+    ensures course { OnOk result (course (read state.new) trace.new ≡ moved (course (read state.old) trace.old) next) }
     ensures err { OnErr result (read state.new ≡ read state.old) }
 {
     match next {
-        Move::Local { node, app } => start_locally(state, node, app, notices),
-        Move::Placement { app, from, node } => place(state, app, from, node, notices),
-        Move::Takeover { app, from, node } => take_over(state, app, from, node, notices),
+        Move::Local { node, app } => start_locally(state, node, app, trace),
+        Move::Placement { app, from, node } => place(state, app, from, node, trace),
+        Move::Takeover { app, from, node } => take_over(state, app, from, node, trace),
     }
 }

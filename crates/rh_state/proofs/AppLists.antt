@@ -40,14 +40,18 @@ AreOnce-push a apps once absent = all_pairs_push (λ (b c : App). b.0 ≢ c.0) a
 
 differs : (a : App) (apps : List App) → All (λ (b : App). a.0 ≢ b.0) apps → AllByRecursion (λ n. eqb a.0 n ≡ false) (map (λ (b : App). b.0) apps)
 differs a [] h = tt
-differs a (b ∷ apps) h = (elim (eqb_tells a.0 b.0) [ inl e ↦ absurd (h 0 b (omega arith) e.1) | inr e ↦ e.0 ],
-    differs a apps (λ k d l. h (suc k) d (omega arith)))
+differs a (b ∷ apps) h = (
+  elim (eqb_tells a.0 b.0) [ inl e ↦ absurd (h 0 b (omega arith) e.1) | inr e ↦ e.0 ],
+  differs a apps (λ k d l. h (suc k) d (omega arith)),
+)
 
 distinct : (apps : List App) → AreOnce apps → IsDistinct eqb (map (λ (a : App). a.0) apps)
 unfolding IsDistinct
 distinct [] once = tt
-distinct (a ∷ apps) once = (differs a apps (λ k d l. once 0 (suc k) d (omega arith) (omega arith)),
-    distinct apps (λ i j d l m. once (suc i) (suc j) d (omega arith) (omega arith)))
+distinct (a ∷ apps) once = (
+  differs a apps (λ k d l. once 0 (suc k) d (omega arith) (omega arith)),
+  distinct apps (λ i j d l m. once (suc i) (suc j) d (omega arith) (omega arith)),
+)
 
 below : (n : ℕ) (apps : List App) → AreBelow n apps → (q : ℕ) → list_any (eqb q) (map (λ (a : App). a.0) apps) ≡ true → q < n
 below n [] h q e = absurd (cc)

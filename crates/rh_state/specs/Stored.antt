@@ -1,5 +1,4 @@
--- What a state keeps, and what that means (ours). Contracts speak of the meaning, `read`; "unchanged" and "copied" are
--- said of all that is kept.
+-- What a state keeps, and what that means (ours). Contracts speak of the meaning, `read`.
 use Rattle.std.specs.Prelude.{ℕ, List, Bool, map}
 use Rattle.rh_model.specs.ClusterView.{ClusterView}
 use Rattle.rh_model.specs.declared.node.App.{App}

@@ -4,8 +4,8 @@ ghost use Rattle.std.specs.Prelude.{◌≡◌, ◌<◌, ◌++◌, ◌∷◌, [],
 ghost use Rattle.rh_state.specs.Numbers.{same_app};
 ghost use Rattle.rh_state.specs.Lists.{has_app, without_app, next_app};
 
-use rh_model::App;
 use rh_base::OutOfMemory;
+use rh_model::{App, MAX_APPS};
 use std::alloc::Global;
 use std::marker::Model;
 
@@ -18,12 +18,13 @@ pub struct AppList {
 impl Model for AppList {
     ghost use Rattle.std.specs.Prelude.{◌≢◌, ◌<◌, ◌≤◌, List, All, AllPairs, vec_capacity};
     ghost use Rattle.rh_model.specs.declared.node.App.{App};
+    ghost use Rattle.rh_model.specs.declared.limits.TheConstants.{MAX_APPS};
 
     ghost Value = { List App };
 
     ghost view = { λ l. l.apps.items };
 
-    ghost invariant = { λ l. record { once : AllPairs (λ (a b : App). a.0 ≢ b.0) l.apps.items; few : All (λ (a : App). a.0 < 64) l.apps.items; room : 64 ≤ vec_capacity l.apps } };
+    ghost invariant = { λ l. record { once : AllPairs (λ (a b : App). a.0 ≢ b.0) l.apps.items; few : All (λ (a : App). a.0 < MAX_APPS) l.apps.items; room : MAX_APPS ≤ vec_capacity l.apps } };
 }
 
 impl AppList {
@@ -32,7 +33,7 @@ impl AppList {
         ensures { IfOk result (λ list. list ≡ []) }
     {
         Ok(AppList {
-            apps: Vec::with_capacity(alloc, 64)?,
+            apps: Vec::with_capacity(alloc, MAX_APPS)?,
         })
     }
 
@@ -40,7 +41,7 @@ impl AppList {
     pub fn copy(&self, alloc: Global) -> Result<AppList, OutOfMemory>
         ensures { IfOk result (λ copy. copy ≡ self.now) }
     {
-        let mut apps = Vec::with_capacity(alloc, 64)?;
+        let mut apps = Vec::with_capacity(alloc, MAX_APPS)?;
         apps.extend_from_slice(self.apps.as_slice())?;
         Ok(AppList { apps })
     }
@@ -92,7 +93,7 @@ impl AppList {
 
     /// Puts an application at the end.
     pub fn push(&mut self, app: App)
-        requires number { app.0 < 64 }
+        requires number { app.0 < MAX_APPS }
         requires absent { has_app self.old app ≡ false }
         ensures { self.new ≡ self.old ++ app ∷ [] }
     {

@@ -5,9 +5,9 @@
 #![tactic(auto)]
 
 mod apps;
-mod status;
 mod state;
+mod status;
 mod table;
 
+pub use state::{State, first_state, first_state_sharing};
 pub use status::{Kind, Mode, Place, Standing, Timer};
-pub use state::{State, first_state};

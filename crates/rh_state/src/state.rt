@@ -14,11 +14,12 @@ mod timers;
 use crate::apps::{AppList, copies_of as copies_of_lists, empty_lists};
 use crate::status::{Kind, Mode, Standing};
 use crate::table::{Row, copies_of as copies_of_rows, rows_of};
-use rh_model::{App, Cluster, Node, Restart};
 use rh_base::OutOfMemory;
+use rh_model::{App, Cluster, Node, Restart};
 use rh_wheel::Wheel;
 use std::alloc::Global;
 use std::marker::Model;
+use std::sync::Arc;
 
 /// The state of a cluster at one time.
 ///
@@ -26,7 +27,8 @@ use std::marker::Model;
 /// [`State::running`], [`State::waiting`] and [`State::timers`] take any.
 #[derive(Drop)]
 pub struct State {
-    cluster: Cluster,
+    // All states of a simulation share it.
+    cluster: Arc<Cluster>,
     time: u64,
     modes: Vec<Mode>,
     incarnations: Vec<u16>,
@@ -49,9 +51,9 @@ impl Model for State {
 
     ghost Value = { Stored };
 
-    ghost view = { λ s. record { cluster = s.cluster; time = s.time; modes = s.modes.items; incarnations = s.incarnations.items; running = s.running.items; waiting = s.waiting.items; restarts = s.restarts.items; kinds = s.kinds.items; allowed = s.allowed.items; standings = s.standings.items; wheel = s.wheel } };
+    ghost view = { λ s. record { cluster = s.cluster.value; time = s.time; modes = s.modes.items; incarnations = s.incarnations.items; running = s.running.items; waiting = s.waiting.items; restarts = s.restarts.items; kinds = s.kinds.items; allowed = s.allowed.items; standings = s.standings.items; wheel = s.wheel } };
 
-    ghost invariant = { λ s. record { shape : IsShaped (record { cluster = s.cluster; time = s.time; modes = s.modes.items; incarnations = s.incarnations.items; running = s.running.items; waiting = s.waiting.items; restarts = s.restarts.items; kinds = s.kinds.items; allowed = s.allowed.items; standings = s.standings.items; timers = [] }); timers : timer_count s.wheel ≡ node_count s.cluster + app_count s.cluster } };
+    ghost invariant = { λ s. record { shape : IsShaped (record { cluster = s.cluster.value; time = s.time; modes = s.modes.items; incarnations = s.incarnations.items; running = s.running.items; waiting = s.waiting.items; restarts = s.restarts.items; kinds = s.kinds.items; allowed = s.allowed.items; standings = s.standings.items; timers = [] }); timers : timer_count s.wheel ≡ node_count s.cluster.value + app_count s.cluster.value } };
 }
 
 impl State {
@@ -77,8 +79,7 @@ impl State {
         let (running, waiting) = self.copy_lists(alloc)?;
         let (restarts, kinds, allowed) = self.copy_tables(alloc)?;
         let wheel = self.wheel.copy(alloc)?;
-        // The cluster comes last: there is most to drop of it.
-        let cluster = self.cluster.copy(alloc)?;
+        let cluster = Arc::try_clone(&self.cluster)?;
         Ok(State {
             cluster,
             time: self.time,
@@ -133,10 +134,25 @@ impl State {
 }
 
 /// The state before any event: the time is 0, all nodes are down, nothing is started, and the permissions are those of the
-/// cluster file. It keeps a copy of the cluster.
-#[tactic(auto, unfolding(crate::specs::Stored::read, crate::specs::Stored::timers_of))]
+/// cluster file. The state keeps a copy of the cluster, which its own copies share.
 pub fn first_state(alloc: Global, cluster: &Cluster) -> Result<State, OutOfMemory>
     ensures { IfOk result (λ state. read state ≡ first cluster.now) }
+{
+    let shared = shared_copy(alloc, cluster)?;
+    first_state_sharing(alloc, &shared)
+}
+
+// A copy of a cluster that can be shared.
+fn shared_copy(alloc: Global, cluster: &Cluster) -> Result<Arc<Cluster>, OutOfMemory>
+    ensures { IfOk result (λ shared. shared.value ≡ cluster.now) }
+{
+    Ok(Arc::new(alloc, cluster.copy(alloc)?)?)
+}
+
+/// The [`first_state`] of a cluster that the caller keeps too: the state shares it, and so do its copies.
+#[tactic(auto, unfolding(crate::specs::Stored::read, crate::specs::Stored::timers_of))]
+pub fn first_state_sharing(alloc: Global, cluster: &Arc<Cluster>) -> Result<State, OutOfMemory>
+    ensures { IfOk result (λ state. read state ≡ first cluster.now.value) }
 {
     let nodes = cluster.node_count();
     let apps = cluster.app_count();
@@ -149,8 +165,7 @@ pub fn first_state(alloc: Global, cluster: &Cluster) -> Result<State, OutOfMemor
     let allowed = permissions_of(alloc, cluster)?;
     let standings = vec![in alloc; Standing::Quiet; apps]?;
     let wheel = Wheel::new(alloc, (nodes + apps) as u32)?;
-    // The cluster comes last: there is most to drop of it.
-    let cluster = cluster.copy(alloc)?;
+    let cluster = Arc::try_clone(cluster)?;
     Ok(State {
         cluster,
         time: 0,

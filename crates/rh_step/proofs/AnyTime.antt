@@ -10,7 +10,7 @@ use Rattle.rh_model.specs.declared.settings.SyncWait.{SyncWait}
 use Rattle.rh_model.specs.declared.settings.SyncWait.TheVariants.{Unset, After, Forever}
 use Rattle.rh_state.specs.declared.status.Mode.TheVariants.{Down}
 use Rattle.rh_state.specs.declared.status.Standing.{Standing}
-use Rattle.rh_state.specs.declared.status.Standing.TheVariants.{Quiet, Wanted, Running, Lost}
+use Rattle.rh_state.specs.declared.status.Standing.TheVariants.{Wanted, Running}
 use Rattle.rh_state.specs.Numbers.{nodes_of, apps_of}
 use Rattle.rh_state.specs.StateView.{StateView, mode_of, is_alive, is_up, is_waiting, is_started, is_allowed, waiting_at, standing_of}
 use Rattle.rh_state.specs.Setters.{with_time}
@@ -74,10 +74,8 @@ module _ (s : StateView) (time : ℕ) where
   placements_alike a = by (standing_of s a)
     where
       by : (standing : Standing) → placements_from moved_on a standing ≡ placements_from s a standing
-      by Quiet = refl
       by (Wanted from) = ap (map (Placement a from)) (candidates_alike a)
-      by (Running m) = refl
-      by (Lost m) = refl
+      by _ = refl
 
   calls_alike : (marked : List Pair) (a : App) (m n : Node) → calls_away moved_on marked a m n ≡ calls_away s marked a m n
   unfolding calls_away
@@ -88,10 +86,8 @@ module _ (s : StateView) (time : ℕ) where
   takeovers_alike marked a = by (standing_of s a)
     where
       by : (standing : Standing) → takeovers_from moved_on marked a standing ≡ takeovers_from s marked a standing
-      by Quiet = refl
-      by (Wanted from) = refl
       by (Running m) = ap (map (Takeover a m)) (best_alike a (calls_away moved_on marked a m) (calls_away s marked a m) (calls_alike marked a m))
-      by (Lost m) = refl
+      by _ = refl
 
   pub moves_alike : (marked : List Pair) → next_moves moved_on marked ≡ next_moves s marked
   unfolding next_moves

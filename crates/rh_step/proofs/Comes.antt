@@ -33,5 +33,5 @@ pub comes_of : (pick : Pick) (changed : Course) → IsSound changed.state → Co
 comes_of pick changed sound = record {
   risen = ready_come_up changed;
   rises = all_come_up changed;
-  settles = settles_by_pick pick (ready_come_up changed) (sound_ready_come_up changed sound).sized;
+  settles = settles_by_pick pick (ready_come_up changed) (sound_ready_come_up changed sound).shaped;
 }

@@ -1,31 +1,27 @@
--- One timer fires: what its effect asks, and what the loop over the due timers keeps.
-use Rattle.std.proofs.Common.{◌≡◌, ℕ, zero, suc, Bool, true, false, cond, List, [], length, Option, Some, None, IsNone, is_some, All, refl, sym, ap, ◌∙◌, subst}
+-- One timer fires: what its effect asks, and what that keeps.
+use Rattle.std.proofs.Common.{◌≡◌, ℕ, Bool, true, false, cond, List, [], Some, IsNone, is_some, All, refl, sym, ap, ◌∙◌, subst}
 use Rattle.rh_model.specs.ClusterView.{mandatory_of}
 use Rattle.rh_model.specs.declared.node.Node.{Node}
 use Rattle.rh_model.specs.declared.node.App.{App}
 use Rattle.rh_state.specs.declared.status.Standing.{Standing}
-use Rattle.rh_state.specs.declared.status.Standing.TheVariants.{Quiet, Wanted, Running, Lost}
+use Rattle.rh_state.specs.declared.status.Standing.TheVariants.{Running, Lost}
 use Rattle.rh_state.specs.declared.status.Timer.{Timer}
 use Rattle.rh_state.specs.declared.status.Timer.TheVariants.{Sync, Failover}
 use Rattle.rh_state.specs.Shape.{IsNodeOf, IsTimerOf}
 use Rattle.rh_state.specs.Setters.{with_time, without_due}
 use Rattle.rh_state.specs.StateView.{StateView, standing_of, due_of, earliest, running_at, waiting_at}
-use Rattle.rh_place.specs.declared.choosing.Pick.{Pick}
-use Rattle.rh_settle.specs.declared.notice.Notice.{Notice}
 use Rattle.rh_settle.specs.declared.notice.Pair.{Pair}
-use Rattle.rh_settle.specs.Course.{Course, course}
+use Rattle.rh_settle.specs.Course.{Course}
 use Rattle.rh_settle.specs.Soundness.{IsSound}
 use Rattle.rh_events.specs.Readiness.{all_alive}
 use Rattle.rh_events.specs.ComingUp.{come_up}
 use Rattle.rh_events.specs.Ending.{ended}
 use Rattle.rh_events.proofs.Losing.{due_without_sync}
-use Rattle.rh_events.proofs.Marked.{marked_come_up}
+use Rattle.rh_events.proofs.Marked.{marked_come_up, ended_marked}
 use Rattle.rh_events.proofs.SoundComingUp.{idle_waits, come_up_cluster}
 use Rattle.rh_events.proofs.Fields.{ended_cluster}
-use Rattle.rh_step.specs.Outcomes.{outcome_of}
-use Rattle.rh_step.specs.Ticks.{due_by, effect, wanted_if_lost, fired, go_on, fired_by, all_fired}
-use Rattle.rh_step.proofs.Requirements.{unset_failover}
-use Rattle.rh_step.proofs.SoundChange.{ended_marked}
+use Rattle.rh_step.specs.Ticks.{effect, wanted_if_lost}
+use Rattle.rh_events.proofs.Requirements.{unset_failover}
 use Rattle.rh_step.proofs.TakenOff.{waits_to_end}
 
 -- the state in which the first timer takes effect
@@ -56,10 +52,8 @@ effect_cluster o (Sync n) = by (all_alive o.state (mandatory_of o.state.cluster 
 effect_cluster o (Failover a) = by (standing_of o.state a)
   where
     by : (standing : Standing) → (wanted_if_lost o.state a standing).cluster ≡ o.state.cluster
-    by Quiet = refl
-    by (Wanted from) = refl
-    by (Running n) = refl
     by (Lost n) = refl
+    by _ = refl
 
 pub effect_marked : (o : Course) (t : Timer) → IsTimerOf o.state.cluster t → All (λ (p : Pair). IsNodeOf o.state.cluster p.node) o.marked
     → All (λ (p : Pair). IsNodeOf o.state.cluster p.node) (effect o t).marked
@@ -69,21 +63,3 @@ effect_marked o (Sync n) here before = by (all_alive o.state (mandatory_of o.sta
     by true = marked_come_up o.state.cluster o n here before
     by false = subst (λ (ps : List Pair). All (λ (p : Pair). IsNodeOf o.state.cluster p.node) ps) (sym (ended_marked o n)) before
 effect_marked o (Failover a) here before = before
-
--- what was marked before doesn't matter to the timers that fire
-fired_by_unmarked : (pick : Pick) (k limit : ℕ) (s : StateView) (notices : List Notice) (marked : List Pair)
-    → outcome_of (fired_by pick k limit (course s notices marked)) ≡ outcome_of (fired_by pick k limit (course s notices []))
-unfolding fired_by fired
-fired_by_unmarked pick zero limit s notices marked = refl
-fired_by_unmarked pick (suc k) limit s notices marked = by (due_by limit (earliest s))
-  where
-    by : (found : Option (ℕ × Timer)) → outcome_of
-        (go_on (course s notices marked) found (λ entry. fired_by pick k limit (fired pick (course s notices marked) entry)))
-        ≡ outcome_of (go_on (course s notices []) found (λ entry. fired_by pick k limit (fired pick (course s notices []) entry)))
-    by None = refl
-    by (Some entry) = refl
-
-pub all_fired_unmarked : (pick : Pick) (limit : ℕ) (o : Course) → outcome_of (all_fired pick limit o)
-    ≡ outcome_of (all_fired pick limit (course o.state o.notices []))
-unfolding all_fired
-all_fired_unmarked pick limit o = fired_by_unmarked pick (length o.state.timers) limit o.state o.notices o.marked

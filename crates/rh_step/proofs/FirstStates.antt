@@ -2,7 +2,7 @@
 use Rattle.std.proofs.Common.{◌≡◌, ◌≢◌, ◌||◌, ℕ, zero, suc, Bool, true, false, List, [], ◌∷◌, map, replicate, slice_get, unwrap_or, AllPairs, refl, sym, ap}
 use Rattle.std.proofs.Common.{◌∙◌, subst, arith}
 use Rattle.std.proofs.lemmas.Bool.{and_left}
-use Rattle.std.proofs.lemmas.List.{length-replicate, get_or-map}
+use Rattle.std.proofs.lemmas.List.{get_or-map}
 use Rattle.std.proofs.lemmas.Option.{unwrap_or-slice_get}
 use Rattle.rh_model.specs.ClusterView.{ClusterView, IsWithin, node_count, app_count}
 use Rattle.rh_model.specs.declared.node.Node.{Node}
@@ -20,7 +20,7 @@ use Rattle.rh_state.proofs.FirstStates.{IsShaped-first}
 use Rattle.rh_base.specs.Lists.{or_else, first_given}
 use Rattle.rh_settle.proofs.Searches.{length_nodes, node_there}
 use Rattle.rh_settle.specs.Moves.{local_move, local_moves, placements, placements_from, takeovers, takeovers_from, next_moves}
-use Rattle.rh_settle.specs.Soundness.{IsSized, TimersFit, IsSound, is_lost}
+use Rattle.rh_settle.specs.Soundness.{TimersFit, IsSound, is_lost}
 use Rattle.rh_events.specs.Readiness.{is_ready}
 use Rattle.rh_step.specs.Validity.{IsValid}
 
@@ -87,20 +87,10 @@ module _ (c : ClusterView) where
     due = λ k d l. absurd (omega arith);
   }
 
-  sized : IsSized (first c)
-  sized = record {
-    modes = length-replicate _ _;
-    running = length-replicate _ _;
-    waiting = length-replicate _ _;
-    allowed = (IsShaped-first c).allowed;
-    standings = length-replicate _ _;
-    apps = λ n a h. unstarted n a h;
-  }
-
   pub first_sound : IsWithin c → IsSound (first c)
   first_sound within = record {
     within = within;
-    sized = sized;
+    shaped = IsShaped-first c;
     once = record {
       running = λ n. subst (λ (apps : List App). AllPairs (λ (a b : App). a.0 ≢ b.0) apps) (sym (none_runs n)) (λ i j d l m. absurd (omega arith));
       waiting = λ n. subst (λ (apps : List App). AllPairs (λ (a b : App). a.0 ≢ b.0) apps) (sym (none_waits n)) (λ i j d l m. absurd (omega arith));
@@ -141,7 +131,7 @@ module _ (c : ClusterView) where
   unfolding next_moves
   first_still =
       ap (λ ms. or_else ms (or_else (first_given (placements (first c)) (apps_of c)) (first_given (takeovers (first c) []) (apps_of c))))
-          (none_given (local_moves (first c)) no_local (nodes_of c))
+      (none_given (local_moves (first c)) no_local (nodes_of c))
       ∙ ap (λ ms. or_else ms (first_given (takeovers (first c) []) (apps_of c))) (none_given (placements (first c)) no_placement (apps_of c))
       ∙ none_given (takeovers (first c) []) no_takeover (apps_of c)
 

@@ -9,10 +9,11 @@ use Rattle.rh_model.specs.declared.node.App.{App}
 use Rattle.rh_state.specs.declared.status.Mode.{Mode}
 use Rattle.rh_state.specs.declared.status.Mode.TheVariants.{Down, Waiting, Up}
 use Rattle.rh_state.specs.declared.status.Standing.{Standing}
-use Rattle.rh_state.specs.declared.status.Standing.TheVariants.{Quiet, Wanted, Running, Lost}
+use Rattle.rh_state.specs.declared.status.Standing.TheVariants.{Running, Lost}
 use Rattle.rh_state.specs.declared.status.Timer.{Timer}
 use Rattle.rh_state.specs.declared.status.Timer.TheVariants.{Sync, Failover}
 use Rattle.rh_state.specs.Lists.{has_app}
+use Rattle.rh_state.specs.Limits.{time_limit}
 use Rattle.rh_state.specs.Numbers.{same_node}
 use Rattle.rh_state.specs.Timers.{same_timer, without_timer}
 use Rattle.rh_state.specs.StateView.{StateView, mode_of, is_waiting, is_up, runs_at, standing_of, earliest}
@@ -82,10 +83,8 @@ effect_timers o (due, Sync n) h e = by (all_alive (taken_off o (due, Sync n)).st
 effect_timers o (due, Failover a) h e = by (standing_of o.state a)
   where
     by : (standing : Standing) → length (wanted_if_lost (taken_off o (due, Failover a)).state a standing).timers ≤ timer_count (taken_off o (due, Failover a))
-    by Quiet = omega arith
-    by (Wanted from) = omega arith
-    by (Running n) = omega arith
     by (Lost n) = omega arith
+    by _ = omega arith
 
 -- the timer that is due next stands first
 pub due_stands_first : (limit : ℕ) (entries : List (ℕ × Timer)) (entry : ℕ × Timer) → due_by limit (slice_get entries 0) ≡ Some entry
@@ -118,13 +117,32 @@ fired_fewer pick limit o entry sound h =
     let off = fewer_at_first entry first.0 in
     omega (arith, rising, settling, effective, without, all, off)
 
+-- it is due by the limit
+due_within : (limit : ℕ) (found : Option (ℕ × Timer)) (entry : ℕ × Timer) → due_by limit found ≡ Some entry → entry.0 ≤ limit
+due_within limit None entry h = absurd (cc h)
+due_within limit (Some x) entry h = by (nat_le x.0 limit) refl h
+  where
+    found : (x y : ℕ × Timer) → Some x ≡ Some y → x ≡ y
+    found x y e = cc e
+
+    below : (i j : ℕ) → nat_le i j ≡ true → i ≤ j
+    below i j t = grind (arith, nat_tests)
+
+    by : (b : Bool) → nat_le x.0 limit ≡ b → cond b (Some x) None ≡ Some entry → entry.0 ≤ limit
+    by true is h = subst (λ (y : ℕ × Timer). y.0 ≤ limit) (found x entry h) (below x.0 limit is)
+    by false is h = absurd (cc h)
+
+pub due_in_time : (limit : ℕ) (s : StateView) (entry : ℕ × Timer) → limit ≤ time_limit → due_by limit (earliest s) ≡ Some entry → entry.0 ≤ time_limit
+due_in_time limit s entry within h = let l = due_within limit (earliest s) entry h in omega (arith, l, within)
+
 -- and keeps a state sound
-pub sound_fired : (pick : Pick) (limit : ℕ) (o : Course) (entry : ℕ × Timer) → IsSound o.state → due_by limit (earliest o.state) ≡ Some entry
-    → IsSound (fired pick o entry).state
+pub sound_fired : (pick : Pick) (limit : ℕ) (o : Course) (entry : ℕ × Timer) → limit ≤ time_limit → IsSound o.state
+    → due_by limit (earliest o.state) ≡ Some entry → IsSound (fired pick o entry).state
 unfolding fired
-sound_fired pick limit o entry sound h =
+sound_fired pick limit o entry within sound h =
     let q = effect (taken_off o entry) entry.1 in
-    settled_sound pick (ready_come_up q) (sound_ready_come_up q (sound_effect o entry sound (due_is_first limit o.state entry h)))
+    settled_sound pick (ready_come_up q)
+    (sound_ready_come_up q (sound_effect o entry (due_in_time limit o.state entry within h) sound (due_is_first limit o.state entry h)))
 
 -- the firings where this is found due
 abbrev pub goes : Pick → ℕ → ℕ → Course → Option (ℕ × Timer) → Course
@@ -148,34 +166,35 @@ by_firing P pick limit each (suc most) o h = by_found (due_by limit (earliest o.
     (λ none. subst P (sym (ap (goes pick most limit o) none)) h)
     (λ entry is. subst P (sym (ap (goes pick most limit o) is)) (by_firing P pick limit each most (fired pick o entry) (each o entry h is)))
 
-pub sound_all_fired : (pick : Pick) (limit : ℕ) (o : Course) → IsSound o.state → IsSound (all_fired pick limit o).state
+pub sound_all_fired : (pick : Pick) (limit : ℕ) (o : Course) → limit ≤ time_limit → IsSound o.state → IsSound (all_fired pick limit o).state
 unfolding all_fired
-sound_all_fired pick limit o sound = by_firing (λ p. IsSound p.state) pick limit (λ p entry h is. sound_fired pick limit p entry h is) (timer_count o) o sound
+sound_all_fired pick limit o within sound = by_firing (λ p. IsSound p.state) pick limit (λ p entry h is. sound_fired pick limit p entry within h is)
+    (timer_count o) o sound
 
 -- with enough firings, more change nothing
-pub enough : (pick : Pick) (k j limit : ℕ) (o : Course) → IsSound o.state → timer_count o ≤ k → timer_count o ≤ j
+pub enough : (pick : Pick) (k j limit : ℕ) (o : Course) → limit ≤ time_limit → IsSound o.state → timer_count o ≤ k → timer_count o ≤ j
     → fired_by pick k limit o ≡ fired_by pick j limit o
 unfolding fired_by
-enough pick zero zero limit o sound a b = refl
-enough pick zero (suc j) limit o sound a b = sym (ap (goes pick j limit o) (nothing_due limit o.state.timers a))
-enough pick (suc k) zero limit o sound a b = ap (goes pick k limit o) (nothing_due limit o.state.timers b)
-enough pick (suc k) (suc j) limit o sound a b = by_found (due_by limit (earliest o.state))
+enough pick zero zero limit o within sound a b = refl
+enough pick zero (suc j) limit o within sound a b = sym (ap (goes pick j limit o) (nothing_due limit o.state.timers a))
+enough pick (suc k) zero limit o within sound a b = ap (goes pick k limit o) (nothing_due limit o.state.timers b)
+enough pick (suc k) (suc j) limit o within sound a b = by_found (due_by limit (earliest o.state))
     (λ none. ap (goes pick k limit o) none ∙ sym (ap (goes pick j limit o) none))
     (λ entry is. let fewer = fired_fewer pick limit o entry sound is in
     ap (goes pick k limit o) is
-    ∙ enough pick k j limit (fired pick o entry) (sound_fired pick limit o entry sound is) (omega (arith, a, fewer)) (omega (arith, b, fewer))
+    ∙ enough pick k j limit (fired pick o entry) within (sound_fired pick limit o entry within sound is) (omega (arith, a, fewer)) (omega (arith, b, fewer))
     ∙ sym (ap (goes pick j limit o) is))
 
 -- all firings are one and then all the others
-pub unrolled : (pick : Pick) (limit : ℕ) (o : Course) (entry : ℕ × Timer) → IsSound o.state → due_by limit (earliest o.state) ≡ Some entry
+pub unrolled : (pick : Pick) (limit : ℕ) (o : Course) (entry : ℕ × Timer) → limit ≤ time_limit → IsSound o.state → due_by limit (earliest o.state) ≡ Some entry
     → all_fired pick limit o ≡ all_fired pick limit (fired pick o entry)
 unfolding fired_by all_fired
-unrolled pick limit o entry sound is =
+unrolled pick limit o entry within sound is =
     let fewer = fired_fewer pick limit o entry sound is in
-    enough pick (timer_count o) (suc (timer_count o)) limit o sound (omega arith) (omega arith)
+    enough pick (timer_count o) (suc (timer_count o)) limit o within sound (omega arith) (omega arith)
     ∙ ap (goes pick (timer_count o) limit o) is
-    ∙ enough pick (timer_count o) (timer_count (fired pick o entry)) limit (fired pick o entry) (sound_fired pick limit o entry sound is) (omega (arith, fewer))
-        (omega arith)
+    ∙ enough pick (timer_count o) (timer_count (fired pick o entry)) limit (fired pick o entry) within (sound_fired pick limit o entry within sound is)
+    (omega (arith, fewer)) (omega arith)
 
 -- where none is due, none fires
 none_fires : (pick : Pick) (k limit : ℕ) (o : Course) → due_by limit (earliest o.state) ≡ None → fired_by pick k limit o ≡ o

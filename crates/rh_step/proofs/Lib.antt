@@ -1,7 +1,3 @@
-pub mod ByHand
-pub mod Accepted
-pub mod Requirements
-pub mod SoundChange
 pub mod Comes
 pub mod TakenOff
 pub mod Fuel
@@ -11,7 +7,6 @@ pub mod AnyTime
 pub mod TickedValid
 pub mod FiresAll
 pub mod TimeLaws
-pub mod ModesKept
 pub mod StayUp
 pub mod FirstStates
 pub mod Validity

@@ -3,15 +3,16 @@ use Rattle.std.proofs.Common.{◌≡◌, List, [], sym, ap, ◌∙◌, append-ni
 use Rattle.rh_state.specs.StateView.{StateView}
 use Rattle.rh_place.specs.declared.choosing.Pick.{Pick}
 use Rattle.rh_settle.specs.declared.notice.Notice.{Notice}
-use Rattle.rh_settle.specs.Course.{Course, course}
+use Rattle.rh_settle.specs.Course.{Course, course_of}
 use Rattle.rh_settle.specs.Settling.{settled}
 use Rattle.rh_events.specs.declared.event.Event.{Event}
-use Rattle.rh_events.specs.declared.event.Event.TheVariants.{Boot, Crash, Tick, Start, Stop, Permit, Takeover, Exit}
+use Rattle.rh_events.specs.declared.event.Event.TheVariants.{Tick}
 use Rattle.rh_events.specs.ComingUp.{ready_come_up}
 use Rattle.rh_events.specs.Changes.{change}
 use Rattle.rh_step.specs.Outcomes.{followed, next_from}
 use Rattle.rh_settle.proofs.Behind.{after_notices, settled_after}
-use Rattle.rh_events.proofs.Notices.{change_after, ready_come_up_after}
+use Rattle.rh_events.proofs.EachEvent.{change_after}
+use Rattle.rh_events.proofs.Notices.{ready_come_up_after}
 use Rattle.rh_step.proofs.TickLaws.{ticked_after}
 
 pub followed_after : (base : List Notice) (pick : Pick) (o : Course) (e : Event)
@@ -24,16 +25,10 @@ followed_after base pick o e =
 
 pub next_from_after : (base : List Notice) (o : Course) (e : Event) (pick : Pick)
     → next_from (after_notices base o) e pick ≡ after_notices base (next_from o e pick)
-next_from_after base o (Boot n) pick = followed_after base pick o (Boot n)
-next_from_after base o (Crash n) pick = followed_after base pick o (Crash n)
 next_from_after base o (Tick ms) pick = ticked_after base pick o ms
-next_from_after base o (Start n a r) pick = followed_after base pick o (Start n a r)
-next_from_after base o (Stop n a) pick = followed_after base pick o (Stop n a)
-next_from_after base o (Permit n a allow) pick = followed_after base pick o (Permit n a allow)
-next_from_after base o (Takeover n a r) pick = followed_after base pick o (Takeover n a r)
-next_from_after base o (Exit n a normal) pick = followed_after base pick o (Exit n a normal)
+next_from_after base o e pick = followed_after base pick o e
 
-pub next_after : (s : StateView) (base : List Notice) (e : Event) (pick : Pick) → next_from (course s base []) e pick
-    ≡ after_notices base (next_from (course s [] []) e pick)
-next_after s base e pick = ap (λ (told : List Notice). next_from (course s told []) e pick) (sym (append-nil base))
-    ∙ next_from_after base (course s [] []) e pick
+pub next_after : (s : StateView) (base : List Notice) (e : Event) (pick : Pick)
+    → next_from (course_of s base []) e pick ≡ after_notices base (next_from (course_of s [] []) e pick)
+next_after s base e pick =
+    ap (λ (told : List Notice). next_from (course_of s told []) e pick) (sym (append-nil base)) ∙ next_from_after base (course_of s [] []) e pick

@@ -26,8 +26,8 @@ use Rattle.rh_events.specs.ComingUp.{come_up, come_up_if_ready, ready_come_up}
 use Rattle.rh_events.specs.Ending.{cleared, lost_if_ran, all_lost, ended}
 use Rattle.rh_events.specs.ByHand.{stopped, is_started_anywhere, left_waiting, forbidden, permitted}
 use Rattle.rh_events.specs.Changes.{booted}
-use Rattle.rh_step.specs.declared.refusal.Refusal.TheVariants.{NodeNotUp, AlreadyStarted, DependencyNotStarted}
-use Rattle.rh_step.specs.Refusals.{refused}
+use Rattle.rh_events.specs.declared.refusal.Refusal.TheVariants.{NodeNotUp, AlreadyStarted, DependencyNotStarted}
+use Rattle.rh_events.specs.Refusals.{refused}
 use Rattle.rh_step.specs.Outcomes.{followed, next}
 
 abbrev pub state_after : StateView → List Event → StateView

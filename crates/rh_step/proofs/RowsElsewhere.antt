@@ -28,8 +28,14 @@ use Rattle.rh_step.specs.Outcomes.{followed, next}
 use Rattle.rh_step.proofs.Rows.{state_after, answers}
 
 abbrev node : List Node → List Node → SyncWait → List (App × Restart) → NodeView
-node mandatory optional wait boot = record { mandatory = mandatory; optional = optional; sync_wait = wait; boot = boot; permissions = true ∷ true ∷ [];
-    platforms = [] }
+node mandatory optional wait boot = record {
+  mandatory = mandatory;
+  optional = optional;
+  sync_wait = wait;
+  boot = boot;
+  permissions = true ∷ true ∷ [];
+  platforms = [];
+}
 
 abbrev p : Node
 p = numbered 0

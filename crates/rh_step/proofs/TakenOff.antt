@@ -3,7 +3,6 @@ use Rattle.std.proofs.Common.{◌≡◌, ◌<◌, ◌≤◌, ℕ, zero, suc, Boo
 use Rattle.std.proofs.Common.{refl, sym, ap, ◌∙◌, subst, inl, inr, arith}
 use Rattle.std.proofs.lemmas.Bool.{and_parts}
 use Rattle.std.proofs.lemmas.Bool.Decides.{eqb_tells}
-use Rattle.std.proofs.lemmas.List.{length-set}
 use Rattle.rh_model.specs.ClusterView.{mandatory_of, boot_of, app_numbered}
 use Rattle.rh_model.specs.declared.node.Node.{Node}
 use Rattle.rh_model.specs.declared.node.App.{App}
@@ -13,14 +12,16 @@ use Rattle.rh_state.specs.declared.status.Standing.{Standing}
 use Rattle.rh_state.specs.declared.status.Standing.TheVariants.{Quiet, Wanted, Running, Lost}
 use Rattle.rh_state.specs.declared.status.Timer.{Timer}
 use Rattle.rh_state.specs.declared.status.Timer.TheVariants.{Sync, Failover}
-use Rattle.rh_state.specs.Shape.{IsNodeOf}
+use Rattle.rh_state.specs.Limits.{time_limit}
+use Rattle.rh_state.specs.Shape.{IsNodeOf, IsStandingOf}
 use Rattle.rh_state.specs.Timers.{same_timer, without_timer}
 use Rattle.rh_state.specs.StateView.{StateView, mode_of, standing_of, earliest, is_waiting}
 use Rattle.rh_state.specs.Setters.{with_time, with_mode, with_standing, without_due}
 use Rattle.rh_settle.specs.declared.notice.Notice.TheVariants as notice
-use Rattle.rh_settle.specs.Course.{Course, course, told, now_in}
+use Rattle.rh_settle.specs.Course.{Course, course_of, told, now_in}
 use Rattle.rh_settle.specs.Soundness.{IsSound, TimersFit, is_lost}
 use Rattle.rh_settle.proofs.Every.{filter_yes}
+use Rattle.rh_settle.proofs.Shapes.{shaped_timers, shaped_time, shaped_standing, stands_known}
 use Rattle.rh_settle.proofs.Places.{at_set_here, at_set_there, at_set}
 use Rattle.rh_events.specs.Readiness.{all_alive}
 use Rattle.rh_events.specs.Marking.{mark_all}
@@ -33,11 +34,10 @@ use Rattle.rh_events.proofs.TimersToldApart.{is_set, same_self, set-cons, unset-
 use Rattle.rh_events.proofs.TimersToldApart.{least-first}
 
 -- time passes up to where no timer is due before it
-pub sound_at : (s : StateView) (due : ℕ) → IsSound s → All (λ entry. due ≤ entry.0) s.timers → IsSound (with_time s due)
-sound_at s due h late = record {
+pub sound_at : (s : StateView) (due : ℕ) → due ≤ time_limit → IsSound s → All (λ entry. due ≤ entry.0) s.timers → IsSound (with_time s due)
+sound_at s due within h late = record {
   within = h.within;
-  sized = record { modes = h.sized.modes; running = h.sized.running; waiting = h.sized.waiting; allowed = h.sized.allowed; standings = h.sized.standings;
-      apps = h.sized.apps };
+  shaped = shaped_time s due within h.shaped;
   once = record { running = h.once.running; waiting = h.once.waiting; apart = h.once.apart };
   idle = record { running = h.idle.running; waiting = h.idle.waiting; permissions = h.idle.permissions };
   standing = record { listed = h.standing.listed; stands = h.standing.stands; local = h.standing.local };
@@ -47,10 +47,10 @@ sound_at s due h late = record {
 
 -- so up to where the first is due
 abbrev pub later : Course → ℕ → Course
-later o due = course (with_time o.state due) o.notices []
+later o due = course_of (with_time o.state due) o.notices []
 
-pub sound_later : (o : Course) (entry : ℕ × Timer) → IsSound o.state → earliest o.state ≡ Some entry → IsSound (later o entry.0).state
-sound_later o entry h e = sound_at o.state entry.0 h (least-first entry o.state.timers e h.timers.order)
+pub sound_later : (o : Course) (entry : ℕ × Timer) → entry.0 ≤ time_limit → IsSound o.state → earliest o.state ≡ Some entry → IsSound (later o entry.0).state
+sound_later o entry within h e = sound_at o.state entry.0 within h (least-first entry o.state.timers e h.timers.order)
 
 -- a timer that is taken off isn't there to be taken off again
 pub off_once : (t : Timer) (xs : List (ℕ × Timer)) → without_timer t (without_timer t xs) ≡ without_timer t xs
@@ -66,15 +66,18 @@ off_once t (x ∷ xs) = by (same_timer t x.1) refl (off_once t xs)
 comes_up_alike : (o : Course) (due : ℕ) (n : Node) → come_up (taken_off o (due, Sync n)) n ≡ come_up (later o due) n
 unfolding come_up
 comes_up_alike o due n =
-    ap (λ (timers : List (ℕ × Timer)). mark_all (told (now_in (later o due) (record o.state { time = due; modes = slice_set o.state.modes n.0 Up;
-        timers = timers })) (notice.Up n)) n (boot_of o.state.cluster n))
+    ap (λ (timers : List (ℕ × Timer)). mark_all (told (now_in (later o due) (record o.state {
+      time = due;
+      modes = slice_set o.state.modes n.0 Up;
+      timers = timers;
+    })) (notice.Up n)) n (boot_of o.state.cluster n))
     (off_once (Sync n) o.state.timers)
 
 ends_alike : (o : Course) (due : ℕ) (n : Node) → ended (taken_off o (due, Sync n)) n ≡ ended (later o due) n
 unfolding ended cleared
 ends_alike o due n =
     ap (λ (timers : List (ℕ × Timer)). told (now_in (later o due) (all_lost (with_mode
-        (with_configured (emptied (record o.state { time = due; timers = timers }) n) n) n Down) n)) (notice.Ended n))
+    (with_configured (emptied (record o.state { time = due; timers = timers }) n) n) n Down) n)) (notice.Ended n))
     (off_once (Sync n) o.state.timers)
 
 pub sync_effect : (o : Course) (due : ℕ) (n : Node) → effect (taken_off o (due, Sync n)) (Sync n) ≡ effect (later o due) (Sync n)
@@ -99,7 +102,7 @@ pub waits_to_end : (s : StateView) (due : ℕ) (n : Node) → IsSound s → earl
 waits_to_end s due n h e = (and_parts _ _ (sym (h.timers.sync n) ∙ first_is_set (due, Sync n) s.timers e)).0
 
 pub waiting_node : (s : StateView) (n : Node) → IsSound s → is_waiting (mode_of s n) ≡ true → IsNodeOf s.cluster n
-waiting_node s n h w = let l = by s.modes n.0 w in let e = h.sized.modes in omega (arith, l, e)
+waiting_node s n h w = let l = by s.modes n.0 w in let e = h.shaped.modes in omega (arith, l, e)
   where
     by : (modes : List Mode) (k : ℕ) → is_waiting (unwrap_or (slice_get modes k) Down) ≡ true → k < length modes
     by [] k h = absurd (cc h)
@@ -107,12 +110,12 @@ waiting_node s n h w = let l = by s.modes n.0 w in let e = h.sized.modes in omeg
     by (m ∷ ms) (suc k) h = let l = by ms k h in omega (arith, l)
 
 -- at the end of its wait it comes up or ends
-sync_sound : (o : Course) (due : ℕ) (n : Node) → IsSound o.state → earliest o.state ≡ Some (due, Sync n)
+sync_sound : (o : Course) (due : ℕ) (n : Node) → due ≤ time_limit → IsSound o.state → earliest o.state ≡ Some (due, Sync n)
     → IsSound (effect (taken_off o (due, Sync n)) (Sync n)).state
-sync_sound o due n h e =
+sync_sound o due n within h e =
     let w = waits_to_end o.state due n h e in
     subst (λ (p : Course). IsSound p.state) (sym (sync_effect o due n))
-        (by (all_alive (later o due).state (mandatory_of o.state.cluster n)) (sound_later o (due, Sync n) h e) w (waiting_node o.state n h w))
+    (by (all_alive (later o due).state (mandatory_of o.state.cluster n)) (sound_later o (due, Sync n) within h e) w (waiting_node o.state n h w))
   where
     by : (b : Bool) → IsSound (later o due).state → is_waiting (mode_of o.state n) ≡ true → IsNodeOf o.state.cluster n
         → IsSound (cond b (come_up (later o due) n) (ended (later o due) n)).state
@@ -151,12 +154,12 @@ wanting_timers s due a m h e late = record {
     ]
 
 -- nothing else of the state is touched by that
-wanting_sound : (s : StateView) (due : ℕ) (a : App) (m : Node) → IsSound s → standing_of s a ≡ Lost m → All (λ entry. due ≤ entry.0) s.timers
+wanting_sound : (s : StateView) (due : ℕ) (a : App) (m : Node) → due ≤ time_limit → IsSound s → standing_of s a ≡ Lost m → All (λ entry. due ≤ entry.0) s.timers
     → IsSound (found_wanting s due a m)
-wanting_sound s due a m h e late = record {
+wanting_sound s due a m within h e late = record {
   within = h.within;
-  sized = record { modes = h.sized.modes; running = h.sized.running; waiting = h.sized.waiting; allowed = h.sized.allowed;
-      standings = length-set s.standings a.0 (Wanted (Some m)) ∙ h.sized.standings; apps = h.sized.apps };
+  shaped = shaped_standing (with_time (without_due s (Failover a)) due) a (Wanted (Some m)) (subst (IsStandingOf s.cluster) e (stands_known s a h.shaped))
+      (shaped_time (without_due s (Failover a)) due within (shaped_timers s (without_due s (Failover a)).timers h.shaped));
   once = record { running = h.once.running; waiting = h.once.waiting; apart = h.once.apart };
   idle = record { running = h.idle.running; waiting = h.idle.waiting; permissions = h.idle.permissions };
   standing = record {
@@ -185,17 +188,16 @@ wanting_sound s due a m h e late = record {
     wanted_runs : (n : Node) → Wanted (Some m) ≡ Running n → ⊥
     wanted_runs n f = cc f
 
-failover_sound : (s : StateView) (due : ℕ) (a : App) (st : Standing) → IsSound s → standing_of s a ≡ st → is_lost st ≡ true
+failover_sound : (s : StateView) (due : ℕ) (a : App) (st : Standing) → due ≤ time_limit → IsSound s → standing_of s a ≡ st → is_lost st ≡ true
     → All (λ entry. due ≤ entry.0) s.timers
     → IsSound (wanted_if_lost (with_time (without_due s (Failover a)) due) a st)
-failover_sound s due a Quiet h e lost late = absurd (cc lost)
-failover_sound s due a (Wanted from) h e lost late = absurd (cc lost)
-failover_sound s due a (Running n) h e lost late = absurd (cc lost)
-failover_sound s due a (Lost m) h e lost late = wanting_sound s due a m h e late
+failover_sound s due a (Lost m) within h e lost late = wanting_sound s due a m within h e late
+failover_sound s due a _ within h e lost late = absurd (cc lost)
 
 -- what the first timer does keeps a state sound
-pub sound_effect : (o : Course) (entry : ℕ × Timer) → IsSound o.state → earliest o.state ≡ Some entry → IsSound (effect (taken_off o entry) entry.1).state
-sound_effect o (due, Sync n) h e = sync_sound o due n h e
-sound_effect o (due, Failover a) h e =
-    failover_sound o.state due a (standing_of o.state a) h refl (sym (h.timers.failover a) ∙ first_is_set (due, Failover a) o.state.timers e)
-        (least-first (due, Failover a) o.state.timers e h.timers.order)
+pub sound_effect : (o : Course) (entry : ℕ × Timer) → entry.0 ≤ time_limit → IsSound o.state → earliest o.state ≡ Some entry
+    → IsSound (effect (taken_off o entry) entry.1).state
+sound_effect o (due, Sync n) within h e = sync_sound o due n within h e
+sound_effect o (due, Failover a) within h e =
+    failover_sound o.state due a (standing_of o.state a) within h refl (sym (h.timers.failover a) ∙ first_is_set (due, Failover a) o.state.timers e)
+    (least-first (due, Failover a) o.state.timers e h.timers.order)

@@ -10,18 +10,19 @@ use Rattle.rh_state.specs.StateView.{StateView, earliest}
 use Rattle.rh_state.specs.Setters.{with_time}
 use Rattle.rh_place.specs.declared.choosing.Pick.{Pick}
 use Rattle.rh_settle.specs.declared.notice.Notice.{Notice}
-use Rattle.rh_settle.specs.Course.{Course, course, now_in}
+use Rattle.rh_settle.specs.Course.{Course, course_of, now_in}
 use Rattle.rh_settle.specs.Settling.{settled}
 use Rattle.rh_settle.specs.Soundness.{IsSound}
 use Rattle.rh_events.specs.declared.event.Event.TheVariants.{Tick}
 use Rattle.rh_events.specs.Readiness.{all_alive}
 use Rattle.rh_events.specs.ComingUp.{come_up, ready_come_up}
 use Rattle.rh_events.specs.Ending.{ended}
-use Rattle.rh_step.specs.declared.refusal.Refusal.TheVariants.{ZeroTick, TimeLimit}
-use Rattle.rh_step.specs.Refusals.{first_that_applies, refused}
+use Rattle.rh_events.specs.declared.refusal.Refusal.TheVariants.{ZeroTick, TimeLimit}
+use Rattle.rh_events.specs.Refusals.{first_that_applies, refused}
 use Rattle.rh_step.specs.Ticks.{due_by, effect, taken_off, fired, fired_by, all_fired, ticked}
 use Rattle.rh_step.specs.Outcomes.{Outcome, outcome, outcome_of, next}
 use Rattle.rh_step.specs.Laws.{TicksAddUp}
+use Rattle.rh_events.proofs.Accepted.{accepted_tick}
 use Rattle.rh_settle.proofs.Behind.{after_notices, settled_after}
 use Rattle.rh_events.proofs.Notices.{come_up_after, ended_after, ready_come_up_after}
 use Rattle.rh_step.proofs.Fuel.{timer_count, goes, by_found, unrolled, all_fired_end, sound_fired}
@@ -80,46 +81,48 @@ later_due limit more entry (x ∷ xs) le h = by (nat_le x.0 limit) refl h
     by false is h = absurd (cc h)
 
 -- what is due later fires also after what is due first
-goes_on_later : (pick : Pick) (k limit more : ℕ) (o : Course) → IsSound o.state → limit ≤ more
+goes_on_later : (pick : Pick) (k limit more : ℕ) (o : Course) → more ≤ time_limit → IsSound o.state → limit ≤ more
     → all_fired pick more o ≡ all_fired pick more (fired_by pick k limit o)
 unfolding fired_by
-goes_on_later pick zero limit more o sound le = refl
-goes_on_later pick (suc k) limit more o sound le = by_found (due_by limit (earliest o.state))
+goes_on_later pick zero limit more o within sound le = refl
+goes_on_later pick (suc k) limit more o within sound le = by_found (due_by limit (earliest o.state))
     (λ none. sym (ap (λ found. all_fired pick more (goes pick k limit o found)) none))
-    (λ entry is. unrolled pick more o entry sound (later_due limit more entry o.state.timers le is)
-    ∙ goes_on_later pick k limit more (fired pick o entry) (sound_fired pick limit o entry sound is) le
+    (λ entry is. unrolled pick more o entry within sound (later_due limit more entry o.state.timers le is)
+    ∙ goes_on_later pick k limit more (fired pick o entry) within (sound_fired pick limit o entry (omega (arith, le, within)) sound is) le
     ∙ sym (ap (λ found. all_fired pick more (goes pick k limit o found)) is))
 
 -- the time at which the firing begins is of no matter at its end, nor what was marked before
 abbrev begun : ℕ → Course → Course
-begun time o = course (with_time o.state time) o.notices []
+begun time o = course_of (with_time o.state time) o.notices []
 
 abbrev seen_at : ℕ → Course → Outcome
 seen_at time o = outcome_of (at_end time o)
 
-begun_at : (pick : Pick) (limit time : ℕ) (o : Course) → IsSound o.state → IsSound (begun time o).state
+begun_at : (pick : Pick) (limit time : ℕ) (o : Course) → limit ≤ time_limit → IsSound o.state → IsSound (begun time o).state
     → seen_at limit (all_fired pick limit (begun time o)) ≡ seen_at limit (all_fired pick limit o)
 unfolding fired
-begun_at pick limit time o sound later = by_found (due_by limit (earliest o.state))
+begun_at pick limit time o within sound later = by_found (due_by limit (earliest o.state))
     (λ none. ap (seen_at limit) (all_fired_end pick limit (begun time o) none) ∙ sym (ap (seen_at limit) (all_fired_end pick limit o none)))
-    (λ entry is. ap (seen_at limit) (unrolled pick limit (begun time o) entry later is) ∙ sym (ap (seen_at limit) (unrolled pick limit o entry sound is)))
+    (λ entry is. ap (seen_at limit) (unrolled pick limit (begun time o) entry within later is)
+    ∙ sym (ap (seen_at limit) (unrolled pick limit o entry within sound is)))
 
-from_none : (s : StateView) (base : List Notice) → course s base [] ≡ after_notices base (course s [] [])
-from_none s base = ap (λ notices. course s notices []) (sym (append-nil base))
+from_none : (s : StateView) (base : List Notice) → course_of s base [] ≡ after_notices base (course_of s [] [])
+from_none s base = ap (λ notices. course_of s notices []) (sym (append-nil base))
 
-ticks_join : (s : StateView) (a b : ℕ) (pick : Pick) → IsSound s
+ticks_join : (s : StateView) (a b : ℕ) (pick : Pick) → s.time + a + b ≤ time_limit → IsSound s
     → next s (Tick (a + b)) pick ≡ outcome (next (next s (Tick a) pick).state (Tick b) pick).state
-        ((next s (Tick a) pick).notices ++ (next (next s (Tick a) pick).state (Tick b) pick).notices)
+    ((next s (Tick a) pick).notices ++ (next (next s (Tick a) pick).state (Tick b) pick).notices)
 unfolding next ticked all_fired
-ticks_join s a b pick sound =
-    let first = all_fired pick (s.time + a) (course s [] []) in
-    let fired_sound = sound_before_end pick (s.time + a) (course s [] []) sound in
+ticks_join s a b pick within sound =
+    let first = all_fired pick (s.time + a) (course_of s [] []) in
+    let fired_sound = sound_before_end pick (s.time + a) (course_of s [] []) (omega arith) sound in
     let same_end : s.time + (a + b) ≡ s.time + a + b = omega arith in
-    ap (λ time. seen_at time (all_fired pick time (course s [] []))) same_end
-    ∙ ap (seen_at (s.time + a + b)) (goes_on_later pick (timer_count (course s [] [])) (s.time + a) (s.time + a + b) (course s [] []) sound (omega arith))
-    ∙ sym (begun_at pick (s.time + a + b) (s.time + a) first fired_sound.0 fired_sound.1)
+    ap (λ time. seen_at time (all_fired pick time (course_of s [] []))) same_end
+    ∙ ap (seen_at (s.time + a + b))
+    (goes_on_later pick (timer_count (course_of s [] [])) (s.time + a) (s.time + a + b) (course_of s [] []) within sound (omega arith))
+    ∙ sym (begun_at pick (s.time + a + b) (s.time + a) first within fired_sound.0 fired_sound.1)
     ∙ ap (λ o. seen_at (s.time + a + b) (all_fired pick (s.time + a + b) o)) (from_none (with_time first.state (s.time + a)) first.notices)
-    ∙ ap (seen_at (s.time + a + b)) (all_fired_after first.notices pick (s.time + a + b) (course (with_time first.state (s.time + a)) [] []))
+    ∙ ap (seen_at (s.time + a + b)) (all_fired_after first.notices pick (s.time + a + b) (course_of (with_time first.state (s.time + a)) [] []))
 
 -- when a tick isn't refused
 accepted : (time ms : ℕ) → first_that_applies ((ms == 0, ZeroTick) ∷ (nat_lt time_limit (time + ms), TimeLimit) ∷ []) ≡ None
@@ -144,4 +147,7 @@ join_accepted s a b pick first second =
     ∙ ap (λ (late : Bool). cond late (Some TimeLimit) None) late_is
 
 pub ticks_add_up : TicksAddUp
-ticks_add_up s a b pick valid first second = (join_accepted s a b pick first second, ticks_join s a b pick valid.sound)
+ticks_add_up s a b pick valid first second =
+    let fine = join_accepted s a b pick first second in
+    let within = (accepted_tick s (a + b) fine).limit in
+    (fine, ticks_join s a b pick (omega (arith, within)) valid.sound)

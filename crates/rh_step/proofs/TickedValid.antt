@@ -1,10 +1,11 @@
 -- A state that a tick leads to is valid where the one before is.
-use Rattle.std.proofs.Common.{◌≡◌, ◌+◌, ℕ, [], Some, refl, ◌∙◌}
+use Rattle.std.proofs.Common.{◌≡◌, ◌≤◌, ◌+◌, ℕ, [], Some, refl, ◌∙◌}
 use Rattle.rh_state.specs.declared.status.Timer.{Timer}
+use Rattle.rh_state.specs.Limits.{time_limit}
 use Rattle.rh_state.specs.StateView.{StateView, earliest}
 use Rattle.rh_state.specs.Setters.{with_time}
 use Rattle.rh_place.specs.declared.choosing.Pick.{Pick}
-use Rattle.rh_settle.specs.Course.{Course, course}
+use Rattle.rh_settle.specs.Course.{Course, course_of}
 use Rattle.rh_settle.specs.Settling.{settled}
 use Rattle.rh_settle.specs.Soundness.{IsSound}
 use Rattle.rh_events.specs.ComingUp.{ready_come_up}
@@ -15,7 +16,7 @@ use Rattle.rh_settle.proofs.Unchanged.{settled_cluster, settled_modes}
 use Rattle.rh_events.proofs.SoundComingUp.{sound_ready_come_up}
 use Rattle.rh_events.proofs.NoneReady.{none_ready}
 use Rattle.rh_step.proofs.TakenOff.{sound_at, sound_effect}
-use Rattle.rh_step.proofs.Fuel.{timer_count, by_firing, due_is_first}
+use Rattle.rh_step.proofs.Fuel.{timer_count, by_firing, due_is_first, due_in_time}
 use Rattle.rh_step.proofs.FiredSound.{all_later}
 use Rattle.rh_step.proofs.AnyTime.{ready_alike, moves_alike}
 
@@ -26,20 +27,22 @@ comes_valid pick o sound =
     record {
       sound = settled_sound pick (ready_come_up o) risen;
       settled = λ n. ready_alike (ready_come_up o).state (settled pick (ready_come_up o)).state n (settled_cluster pick (ready_come_up o))
-          (settled_modes pick (ready_come_up o)) ∙ none_ready o n sound.sized.modes;
-      still = still_unmarked (settled pick (ready_come_up o)).state (ready_come_up o).marked (settled_still pick (ready_come_up o) risen.sized);
+          (settled_modes pick (ready_come_up o)) ∙ none_ready o n sound.shaped.modes;
+      still = still_unmarked (settled pick (ready_come_up o)).state (ready_come_up o).marked (settled_still pick (ready_come_up o) risen.shaped);
     }
 
 -- so behind a firing
-fired_valid : (pick : Pick) (limit : ℕ) (o : Course) (entry : ℕ × Timer) → IsValid o.state → due_by limit (earliest o.state) ≡ Some entry
+fired_valid : (pick : Pick) (limit : ℕ) (o : Course) (entry : ℕ × Timer) → limit ≤ time_limit → IsValid o.state → due_by limit (earliest o.state) ≡ Some entry
     → IsValid (fired pick o entry).state
 unfolding fired
-fired_valid pick limit o entry valid is = comes_valid pick (effect (taken_off o entry) entry.1)
-    (sound_effect o entry valid.sound (due_is_first limit o.state entry is))
+fired_valid pick limit o entry within valid is =
+    comes_valid pick (effect (taken_off o entry) entry.1)
+    (sound_effect o entry (due_in_time limit o.state entry within is) valid.sound (due_is_first limit o.state entry is))
 
-pub all_fired_valid : (pick : Pick) (limit : ℕ) (o : Course) → IsValid o.state → IsValid (all_fired pick limit o).state
+pub all_fired_valid : (pick : Pick) (limit : ℕ) (o : Course) → limit ≤ time_limit → IsValid o.state → IsValid (all_fired pick limit o).state
 unfolding all_fired
-all_fired_valid pick limit o valid = by_firing (λ p. IsValid p.state) pick limit (λ p entry h is. fired_valid pick limit p entry h is) (timer_count o) o valid
+all_fired_valid pick limit o within valid = by_firing (λ p. IsValid p.state) pick limit (λ p entry h is. fired_valid pick limit p entry within h is)
+    (timer_count o) o valid
 
 -- time that passes to where no timer is due before it changes nothing else
 valid_at : (s : StateView) (time : ℕ) → IsValid s → IsSound (with_time s time) → IsValid (with_time s time)
@@ -49,12 +52,12 @@ valid_at s time valid sound = record {
   still = moves_alike s time [] ∙ valid.still;
 }
 
-pub ticked_valid_from : (pick : Pick) (o : Course) (ms : ℕ) → IsValid o.state → IsValid (ticked pick o ms).state
+pub ticked_valid_from : (pick : Pick) (o : Course) (ms : ℕ) → o.state.time + ms ≤ time_limit → IsValid o.state → IsValid (ticked pick o ms).state
 unfolding ticked
-ticked_valid_from pick o ms valid =
-    let before = all_fired_valid pick (o.state.time + ms) o valid in
+ticked_valid_from pick o ms within valid =
+    let before = all_fired_valid pick (o.state.time + ms) o within valid in
     valid_at (all_fired pick (o.state.time + ms) o).state (o.state.time + ms) before
-    (sound_at (all_fired pick (o.state.time + ms) o).state (o.state.time + ms) before.sound (all_later pick (o.state.time + ms) o valid.sound))
+    (sound_at (all_fired pick (o.state.time + ms) o).state (o.state.time + ms) within before.sound (all_later pick (o.state.time + ms) o within valid.sound))
 
-pub ticked_valid : (pick : Pick) (s : StateView) (ms : ℕ) → IsValid s → IsValid (ticked pick (course s [] []) ms).state
-ticked_valid pick s ms valid = ticked_valid_from pick (course s [] []) ms valid
+pub ticked_valid : (pick : Pick) (s : StateView) (ms : ℕ) → s.time + ms ≤ time_limit → IsValid s → IsValid (ticked pick (course_of s [] []) ms).state
+ticked_valid pick s ms within valid = ticked_valid_from pick (course_of s [] []) ms within valid

@@ -2,15 +2,15 @@
 use Rattle.std.proofs.Common.{◌≡◌, ◌≤◌, [], ◌∙◌, arith}
 use Rattle.rh_state.specs.StateView.{StateView}
 use Rattle.rh_place.specs.declared.choosing.Pick.{Pick}
-use Rattle.rh_settle.specs.Course.{Course, course}
+use Rattle.rh_settle.specs.Course.{Course, course_of}
 use Rattle.rh_events.specs.declared.event.Event.{Event}
-use Rattle.rh_events.specs.declared.event.Event.TheVariants.{Boot, Crash, Tick, Start, Stop, Permit, Takeover, Exit}
+use Rattle.rh_events.specs.declared.event.Event.TheVariants.{Tick}
 use Rattle.rh_events.specs.ComingUp.{ready_come_up}
 use Rattle.rh_events.specs.Changes.{change}
 use Rattle.rh_step.specs.Ticks.{ticked}
 use Rattle.rh_step.specs.Outcomes.{followed, next}
 use Rattle.rh_step.specs.Laws.{TimeGoesOn}
-use Rattle.rh_events.proofs.Fields.{change_time}
+use Rattle.rh_events.proofs.EachEvent.{change_time}
 use Rattle.rh_events.proofs.SoundComingUp.{ready_come_up_time}
 use Rattle.rh_settle.proofs.Unchanged.{settled_time}
 
@@ -19,16 +19,10 @@ pub followed_time : (pick : Pick) (o : Course) (e : Event) → (followed pick o 
 unfolding followed
 followed_time pick o e = settled_time pick (ready_come_up (change o e)) ∙ ready_come_up_time (change o e) ∙ change_time o e
 
-at_once : (pick : Pick) (s : StateView) (e : Event) → s.time ≤ (followed pick (course s [] []) e).state.time
-at_once pick s e = let same = followed_time pick (course s [] []) e in omega (arith, same)
+at_once : (pick : Pick) (s : StateView) (e : Event) → s.time ≤ (followed pick (course_of s [] []) e).state.time
+at_once pick s e = let same = followed_time pick (course_of s [] []) e in omega (arith, same)
 
 pub time_goes_on : TimeGoesOn
 unfolding next ticked
-time_goes_on s (Boot n) pick fine = at_once pick s (Boot n)
-time_goes_on s (Crash n) pick fine = at_once pick s (Crash n)
 time_goes_on s (Tick ms) pick fine = omega arith
-time_goes_on s (Start n a r) pick fine = at_once pick s (Start n a r)
-time_goes_on s (Stop n a) pick fine = at_once pick s (Stop n a)
-time_goes_on s (Permit n a allow) pick fine = at_once pick s (Permit n a allow)
-time_goes_on s (Takeover n a r) pick fine = at_once pick s (Takeover n a r)
-time_goes_on s (Exit n a normal) pick fine = at_once pick s (Exit n a normal)
+time_goes_on s e pick fine = at_once pick s e

@@ -6,14 +6,14 @@ use Rattle.rh_state.specs.declared.status.Timer.{Timer}
 use Rattle.rh_state.specs.Numbers.{nodes_of}
 use Rattle.rh_state.specs.StateView.{StateView, earliest}
 use Rattle.rh_state.specs.Setters.{with_time}
-use Rattle.rh_settle.specs.Course.{Course, course}
+use Rattle.rh_settle.specs.Course.{Course, course_of}
 use Rattle.rh_settle.specs.Settling.{Settles}
 use Rattle.rh_events.specs.declared.event.Event.{Event}
-use Rattle.rh_events.specs.declared.event.Event.TheVariants.{Boot, Crash, Tick, Start, Stop, Permit, Takeover, Exit}
+use Rattle.rh_events.specs.declared.event.Event.TheVariants.{Tick}
 use Rattle.rh_events.specs.Readiness.{is_ready}
 use Rattle.rh_events.specs.ComingUp.{come_up}
 use Rattle.rh_events.specs.Changes.{change}
-use Rattle.rh_step.specs.Refusals.{refused}
+use Rattle.rh_events.specs.Refusals.{refused}
 use Rattle.rh_step.specs.Ticks.{due_by, taken_off, effect}
 use Rattle.rh_step.specs.Outcomes.{Outcome, outcome, outcome_of}
 
@@ -38,24 +38,19 @@ pub data Fires (limit : ℕ) : Course → Course → Type 0 where
 -- time passes to its end
 pub record Passes (s : StateView) (ms : ℕ) (p : Outcome) : Type 0 where
   pub before : Course
-  pub fires : Fires (s.time + ms) (course s [] []) before
+  pub fires : Fires (s.time + ms) (course_of s [] []) before
   pub end : p ≡ outcome (with_time before.state (s.time + ms)) before.notices
 
 -- an event that is no tick
 pub record Happens (s : StateView) (e : Event) (p : Outcome) : Type 0 where
   pub last : Course
-  pub comes : ComesOf (change (course s [] []) e) last
+  pub comes : ComesOf (change (course_of s [] []) e) last
   pub end : p ≡ outcome_of last
 
+-- time passes in a tick, and any other event happens
 abbrev pub Follows : StateView → Event → Outcome → Type 0
-Follows s (Boot n) p = Happens s (Boot n) p
-Follows s (Crash n) p = Happens s (Crash n) p
 Follows s (Tick ms) p = Passes s ms p
-Follows s (Start n a r) p = Happens s (Start n a r) p
-Follows s (Stop n a) p = Happens s (Stop n a) p
-Follows s (Permit n a allow) p = Happens s (Permit n a allow) p
-Follows s (Takeover n a r) p = Happens s (Takeover n a r) p
-Follows s (Exit n a normal) p = Happens s (Exit n a normal) p
+Follows s e p = Happens s e p
 
 -- the event isn't refused, and this follows from it
 pub record Allowed (s : StateView) (e : Event) (p : Outcome) : Type 0 where

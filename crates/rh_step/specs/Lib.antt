@@ -1,4 +1,3 @@
-pub mod Refusals
 pub mod Ticks
 pub mod Outcomes
 pub mod Allowed

@@ -3,10 +3,10 @@ use Rattle.std.specs.Prelude.{List, []}
 use Rattle.rh_state.specs.StateView.{StateView}
 use Rattle.rh_place.specs.declared.choosing.Pick.{Pick}
 use Rattle.rh_settle.specs.declared.notice.Notice.{Notice}
-use Rattle.rh_settle.specs.Course.{Course, course}
+use Rattle.rh_settle.specs.Course.{Course, course_of}
 use Rattle.rh_settle.specs.Settling.{settled}
 use Rattle.rh_events.specs.declared.event.Event.{Event}
-use Rattle.rh_events.specs.declared.event.Event.TheVariants.{Boot, Crash, Tick, Start, Stop, Permit, Takeover, Exit}
+use Rattle.rh_events.specs.declared.event.Event.TheVariants.{Tick}
 use Rattle.rh_events.specs.ComingUp.{ready_come_up}
 use Rattle.rh_events.specs.Changes.{change}
 use Rattle.rh_step.specs.Ticks.{ticked}
@@ -26,16 +26,10 @@ outcome_of o = outcome o.state o.notices
 unfoldable pub followed : Pick → Course → Event → Course
 followed pick o e = settled pick (ready_come_up (change o e))
 
--- a tick does so at each timer that fires
+-- a tick does so at each timer that fires, and any other event once
 abbrev pub next_from : Course → Event → Pick → Course
-next_from o (Boot n) pick = followed pick o (Boot n)
-next_from o (Crash n) pick = followed pick o (Crash n)
 next_from o (Tick ms) pick = ticked pick o ms
-next_from o (Start n a r) pick = followed pick o (Start n a r)
-next_from o (Stop n a) pick = followed pick o (Stop n a)
-next_from o (Permit n a allow) pick = followed pick o (Permit n a allow)
-next_from o (Takeover n a r) pick = followed pick o (Takeover n a r)
-next_from o (Exit n a normal) pick = followed pick o (Exit n a normal)
+next_from o e pick = followed pick o e
 
 unfoldable pub next : StateView → Event → Pick → Outcome
-next s e pick = outcome_of (next_from (course s [] []) e pick)
+next s e pick = outcome_of (next_from (course_of s [] []) e pick)

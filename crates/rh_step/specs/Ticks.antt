@@ -4,13 +4,13 @@ use Rattle.std.specs.Prelude.{ℕ, ◌+◌, zero, suc, [], length, Option, Some,
 use Rattle.rh_model.specs.ClusterView.{mandatory_of}
 use Rattle.rh_model.specs.declared.node.App.{App}
 use Rattle.rh_state.specs.declared.status.Standing.{Standing}
-use Rattle.rh_state.specs.declared.status.Standing.TheVariants.{Quiet, Wanted, Running, Lost}
+use Rattle.rh_state.specs.declared.status.Standing.TheVariants.{Wanted, Lost}
 use Rattle.rh_state.specs.declared.status.Timer.{Timer}
 use Rattle.rh_state.specs.declared.status.Timer.TheVariants.{Sync, Failover}
 use Rattle.rh_state.specs.StateView.{StateView, standing_of, earliest}
 use Rattle.rh_state.specs.Setters.{with_time, with_standing, without_due}
 use Rattle.rh_place.specs.declared.choosing.Pick.{Pick}
-use Rattle.rh_settle.specs.Course.{Course, course, now_in}
+use Rattle.rh_settle.specs.Course.{Course, course_of, now_in}
 use Rattle.rh_settle.specs.Settling.{settled}
 use Rattle.rh_events.specs.Readiness.{all_alive}
 use Rattle.rh_events.specs.ComingUp.{come_up, ready_come_up}
@@ -23,10 +23,8 @@ due_by limit (Some entry) = if nat_le entry.0 limit then Some entry else None
 
 -- a lost application that didn't come back in time is wanted
 abbrev pub wanted_if_lost : StateView → App → Standing → StateView
-wanted_if_lost s a Quiet = s
-wanted_if_lost s a (Wanted from) = s
-wanted_if_lost s a (Running n) = s
 wanted_if_lost s a (Lost n) = with_standing s a (Wanted (Some n))
+wanted_if_lost s a _ = s
 
 -- what a timer does: at the end of its wait a node comes up if its mandatory nodes are alive, and else it ends
 abbrev pub effect : Course → Timer → Course
@@ -35,7 +33,7 @@ effect o (Failover a) = now_in o (wanted_if_lost o.state a (standing_of o.state 
 
 -- the timer is taken off, it is as late as it was due, and what was marked before is no longer fresh
 abbrev pub taken_off : Course → ℕ × Timer → Course
-taken_off o entry = course (with_time (without_due o.state entry.1) entry.0) o.notices []
+taken_off o entry = course_of (with_time (without_due o.state entry.1) entry.0) o.notices []
 
 -- a timer fires
 unfoldable pub fired : Pick → Course → ℕ × Timer → Course

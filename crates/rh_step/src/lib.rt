@@ -5,7 +5,6 @@
 
 mod laws;
 mod notices;
-mod refusal;
 mod step;
 mod ticks;
 
@@ -13,8 +12,7 @@ pub use laws::{
     first_is_valid, next_is_allowed, next_is_valid, ticks_add_up, time_goes_on, up_until_ended,
 };
 pub use notices::Notices;
-pub use refusal::{Refusal, refusal_of};
-pub use rh_events::Event;
+pub use rh_events::{Event, Refusal, refusal_of};
 pub use rh_place::Pick;
 pub use rh_settle::Notice;
 pub use step::perform;

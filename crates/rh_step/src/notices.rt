@@ -2,8 +2,8 @@
 
 ghost use Rattle.std.specs.Prelude.{◌≡◌, ◌↔◌, IsTrue, IfOk};
 
-use rh_settle::Notice;
 use rh_base::OutOfMemory;
+use rh_settle::Notice;
 use std::alloc::Global;
 use std::marker::Model;
 

@@ -12,51 +12,42 @@ ghost use Rattle.rh_state.specs.declared.status.Standing.TheVariants.{Running};
 ghost use Rattle.rh_state.specs.declared.status.Timer.TheVariants.{Sync, Failover};
 ghost use Rattle.rh_settle.specs.Course.{course};
 ghost use Rattle.rh_settle.specs.Soundness.{IsSound};
-ghost use Rattle.rh_step.specs.Outcomes.{outcome, outcome_of};
-ghost use Rattle.rh_step.specs.Ticks.{due_by, wanted_if_lost, effect, fired, all_fired, ticked};
+ghost use Rattle.rh_step.specs.Ticks.{due_by, wanted_if_lost, effect, taken_off, fired, all_fired, ticked};
 
 use crate::step::follow;
+use rh_base::OutOfMemory;
 use rh_events::{all_alive, cancel_if_set, come_up, end};
 use rh_model::{App, Node};
 use rh_place::Pick;
-use rh_settle::{Notice, Pair};
+use rh_settle::Trace;
 use rh_state::{Standing, State, Timer};
-use rh_base::OutOfMemory;
-use std::alloc::Global;
 
 /// So many milliseconds pass.
 #[tactic(auto, unfolding(crate::specs::Ticks::ticked))]
 pub fn pass_time(
-    alloc: Global,
     state: &mut State,
     ms: u64,
     pick: Pick,
-    notices: &mut Vec<Notice>,
+    trace: &mut Trace,
 ) -> Result<(), OutOfMemory>
     requires end { (read state.old).time + ms ≤ time_limit }
     requires sound { IsSound (read state.old) }
-    ensures { OnOk result (outcome (read state.new) notices.new.items ≡ outcome_of (ticked pick (course (read state.old) notices.old.items []) ms)) }
+    ensures { OnOk result (course (read state.new) trace.new ≡ ticked pick (course (read state.old) trace.old) ms) }
 {
     let end = state.now() + ms;
-    fire_due(alloc, state, end, pick, notices)?;
+    fire_due(state, end, pick, trace)?;
     state.set_now(end);
     Ok(())
 }
 
 // The timers that are due by the limit fire, one after the other.
-fn fire_due(
-    alloc: Global,
-    state: &mut State,
-    limit: u64,
-    pick: Pick,
-    notices: &mut Vec<Notice>,
-) -> Result<(), OutOfMemory>
+fn fire_due(state: &mut State, limit: u64, pick: Pick, trace: &mut Trace) -> Result<(), OutOfMemory>
     requires limit { limit ≤ time_limit }
     requires sound { IsSound (read state.old) }
-    ensures { OnOk result (outcome (read state.new) notices.new.items ≡ outcome_of (all_fired pick limit (course (read state.old) notices.old.items []))) }
+    ensures { OnOk result (course (read state.new) trace.new ≡ all_fired pick limit (course (read state.old) trace.old)) }
 {
     'timers: while let Some((due, timer)) = due_by(state, limit) {
-        fire(alloc, state, due, timer, pick, notices)?;
+        fire(state, due, timer, pick, trace)?;
     }
     Ok(())
 }
@@ -73,44 +64,47 @@ fn due_by(state: &State, limit: u64) -> Option<(u64, Timer)>
     }
 }
 
+// The timer is taken off, it is as late as it was due, and what was marked before is no longer fresh.
+fn take_off(state: &mut State, due: u64, timer: Timer, trace: &mut Trace)
+    requires due { due ≤ time_limit }
+    requires timer { IsTimerOf (read state.old).cluster timer }
+    ensures { course (read state.new) trace.new ≡ taken_off (course (read state.old) trace.old) (due, timer) }
+{
+    cancel_if_set(state, timer);
+    state.set_now(due);
+    trace.forget_marks();
+}
+
 // The timer that is set first fires, and what follows from it happens.
 #[tactic(auto, unfolding(crate::specs::Ticks::fired))]
 fn fire(
-    alloc: Global,
     state: &mut State,
     due: u64,
     timer: Timer,
     pick: Pick,
-    notices: &mut Vec<Notice>,
+    trace: &mut Trace,
 ) -> Result<(), OutOfMemory>
     requires due { due ≤ time_limit }
     requires timer { IsTimerOf (read state.old).cluster timer }
     requires first { earliest (read state.old) ≡ Some (due, timer) }
     requires sound { IsSound (read state.old) }
-    ensures { OnOk result (outcome (read state.new) notices.new.items ≡ outcome_of (fired pick (course (read state.old) notices.old.items []) (due, timer))) }
+    ensures { OnOk result (course (read state.new) trace.new ≡ fired pick (course (read state.old) trace.old) (due, timer)) }
 {
-    let mut marked = Vec::new(alloc);
-    cancel_if_set(state, timer);
-    state.set_now(due);
-    take_effect(state, timer, notices, &mut marked)?;
-    follow(state, pick, notices, &mut marked)
+    take_off(state, due, timer, trace);
+    take_effect(state, timer, trace)?;
+    follow(state, pick, trace)
 }
 
 // What a timer does.
-fn take_effect(
-    state: &mut State,
-    timer: Timer,
-    notices: &mut Vec<Notice>,
-    marked: &mut Vec<Pair>,
-) -> Result<(), OutOfMemory>
+fn take_effect(state: &mut State, timer: Timer, trace: &mut Trace) -> Result<(), OutOfMemory>
     requires timer { IsTimerOf (read state.old).cluster timer }
     requires running { (n : Node) → timer ≡ Sync n → running_at (read state.old) n ≡ [] }
     requires waiting { (n : Node) → timer ≡ Sync n → waiting_at (read state.old) n ≡ [] }
     requires unset { (n : Node) (a : App) → timer ≡ Sync n → standing_of (read state.old) a ≡ Running n → IsNone (due_of (read state.old) (Failover a)) }
-    ensures { OnOk result (course (read state.new) notices.new.items marked.new.items ≡ effect (course (read state.old) notices.old.items marked.old.items) timer) }
+    ensures { OnOk result (course (read state.new) trace.new ≡ effect (course (read state.old) trace.old) timer) }
 {
     match timer {
-        Timer::Sync(node) => end_wait(state, node, notices, marked),
+        Timer::Sync(node) => end_wait(state, node, trace),
         Timer::Failover(app) => {
             want_if_lost(state, app);
             Ok(())
@@ -119,22 +113,17 @@ fn take_effect(
 }
 
 // A node's wait for others is over.
-fn end_wait(
-    state: &mut State,
-    node: Node,
-    notices: &mut Vec<Notice>,
-    marked: &mut Vec<Pair>,
-) -> Result<(), OutOfMemory>
+fn end_wait(state: &mut State, node: Node, trace: &mut Trace) -> Result<(), OutOfMemory>
     requires node { IsNodeOf (read state.old).cluster node }
     requires running { running_at (read state.old) node ≡ [] }
     requires waiting { waiting_at (read state.old) node ≡ [] }
     requires unset { (a : App) → standing_of (read state.old) a ≡ Running node → IsNone (due_of (read state.old) (Failover a)) }
-    ensures { OnOk result (course (read state.new) notices.new.items marked.new.items ≡ effect (course (read state.old) notices.old.items marked.old.items) (Sync node)) }
+    ensures { OnOk result (course (read state.new) trace.new ≡ effect (course (read state.old) trace.old) (Sync node)) }
 {
     if all_alive(state, state.cluster().mandatory(node)) {
-        come_up(state, node, notices, marked)
+        come_up(state, node, trace)
     } else {
-        end(state, node, notices)
+        end(state, node, trace)
     }
 }
 

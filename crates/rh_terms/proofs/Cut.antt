@@ -1,16 +1,16 @@
 -- Where a text in UTF-8 is cut, its parts are in UTF-8 again.
-use Rattle.std.proofs.Common.{◌≡◌, ◌<◌, ◌+◌, ◌-◌, ℕ, zero, suc, List, [], ◌∷◌, ◌++◌, Bool, true, false, cond, Ok, Some, length, take, drop, get_or, refl, sym}
-use Rattle.std.proofs.Common.{ap, subst, ◌∙◌, append_assoc, arith, length-append}
+use Rattle.std.proofs.Common.{◌≡◌, ◌<◌, ◌+◌, ◌-◌, ℕ, zero, suc, List, [], ◌∷◌, ◌++◌, Bool, true, false, cond, Ok, Some}
+use Rattle.std.proofs.Common.{length, take, drop, get_or, refl, sym, ap, subst, ◌∙◌, append_assoc, arith, length-append}
 use Rattle.std.specs.Prelude.{◌==◌, ◌&&◌}
 use Rattle.std.specs.Str.{IsUtf8}
 use Rattle.std.specs.List.{prefix_len, list_all}
 use Rattle.std.proofs.Math.Seq.{take-append_seam, drop-append-add, get_or-append_seam}
-use Rattle.std.proofs.lemmas.Str.{IsUtf8-nil, IsUtf8-take, IsUtf8-drop, IsUtf8-append, IsUtf8-from_ascii, IsCharBoundary-before_ascii}
-use Rattle.std.proofs.lemmas.Str.{IsCharBoundary-after_ascii}
+use Rattle.std.proofs.lemmas.Str.{IsUtf8-nil, IsUtf8-take, IsUtf8-drop, IsUtf8-append, IsUtf8-from_ascii}
+use Rattle.std.proofs.lemmas.Str.{IsCharBoundary-before_ascii, IsCharBoundary-after_ascii}
 use Rattle.std.proofs.lemmas.List.{take_rest}
 use Rattle.std.proofs.lemmas.Bool.{eqb-true}
 use Rattle.std.proofs.lemmas.Bool.Decides.{nat_tests}
-use Rattle.rh_terms.specs.Bytes.{past, past_blank, begins, is_lower, is_white, is_name, is_digit}
+use Rattle.rh_terms.specs.Bytes.{past, past_blank, begins, is_lower, is_white, is_atom_byte, is_digit}
 use Rattle.rh_terms.specs.Tokens.{escape, quoted}
 use Rattle.rh_base.specs.Tree.{Tree}
 use Rattle.rh_terms.specs.Grammar.{term_at, next_at, dot_at}
@@ -112,7 +112,7 @@ pub front_text : (p : ℕ → Bool) (ascii : (b : ℕ) → p b ≡ true → b < 
 front_text p ascii [] = IsUtf8-nil
 front_text p ascii (b ∷ bs) = front_cons p ascii b bs (p b) refl (front_text p ascii bs)
 
-pub name_ascii : (b : ℕ) → is_name b ≡ true → b < 128
+pub name_ascii : (b : ℕ) → is_atom_byte b ≡ true → b < 128
 name_ascii b e = grind (arith, nat_tests, e)
 
 pub digit_ascii : (b : ℕ) → is_digit b ≡ true → b < 128
@@ -140,9 +140,9 @@ all_ascii p ascii b (c ∷ s) all =
 closed : (b : ℕ) (s : List ℕ) (c : ℕ) → c < 128 → EndsInAscii (b ∷ (s ++ c ∷ []))
 closed b s c small = record { front = b ∷ s; last = c; parts = refl; ascii = small }
 
-name_end : (s : List ℕ) → begins is_lower s ≡ true → list_all is_name s ≡ true → EndsInAscii s
+name_end : (s : List ℕ) → begins is_lower s ≡ true → list_all is_atom_byte s ≡ true → EndsInAscii s
 name_end [] first all = absurd cc
-name_end (b ∷ s) first all = all_ascii is_name (λ b e. name_ascii b e) b s all
+name_end (b ∷ s) first all = all_ascii is_atom_byte (λ b e. name_ascii b e) b s all
 
 digits_end : (s : List ℕ) → 0 < length s → list_all is_digit s ≡ true → EndsInAscii s
 digits_end [] some all = absurd (omega arith)

@@ -1,5 +1,6 @@
 -- As many turns as bytes are enough: more of them change nothing.
 use Rattle.std.proofs.Common.{◌≡◌, ◌<◌, ◌≤◌, ℕ, zero, suc, List, [], ◌∷◌, Bool, false, cond, Result, Ok, Err, length, refl, ap, arith, length-append}
+use Rattle.rh_terms.specs.declared.nest.TheConstants.{MAX_DEPTH}
 use Rattle.rh_terms.specs.declared.fault.Fault.{Fault}
 use Rattle.rh_terms.specs.Bytes.{past_blank}
 use Rattle.rh_terms.specs.Faults.{◌>>=◌, Read, under, stuck}
@@ -35,19 +36,19 @@ no_term room = refl
 
 -- what stands behind a term of a list or a tuple, where so many turns are left
 abbrev pub behind_term : ℕ → ℕ → ℕ → Tree × List ℕ → Read Trees
-behind_term room close n x = next_at close (past_blank x.1) >>= λ next. cond next.0 (under (more x.0) (some_terms (term_at room) close n next.1))
-    (Ok (more x.0 none, next.1))
+behind_term room close n x =
+    next_at close (past_blank x.1) >>= λ next. cond next.0 (under (more x.0) (some_terms (term_at room) close n next.1)) (Ok (more x.0 none, next.1))
 
 abbrev Same : ℕ → ℕ → ℕ → ℕ → List ℕ → Type 0
 Same room close n m bs = some_terms (term_at room) close n bs ≡ some_terms (term_at room) close m bs
 
-behind_enough : (room close n m : ℕ) (bs : List ℕ) → ((l : List ℕ) → length l < length bs → Same room close n m l) → (read : Read Tree) → term_at room bs ≡ read
-    → (read >>= behind_term room close n) ≡ (read >>= behind_term room close m)
+behind_enough : (room close n m : ℕ) (bs : List ℕ) → ((l : List ℕ) → length l < length bs → Same room close n m l) → (read : Read Tree)
+    → term_at room bs ≡ read → (read >>= behind_term room close n) ≡ (read >>= behind_term room close m)
 behind_enough room close n m bs same (Err f) e = refl
 behind_enough room close n m bs same (Ok x) e = by_next (next_at close (past_blank x.1)) refl
   where
-    by_next : (next : Read Bool) → next_at close (past_blank x.1) ≡ next →
-        (next >>= λ y. cond y.0 (under (more x.0) (some_terms (term_at room) close n y.1)) (Ok (more x.0 none, y.1)))
+    by_next : (next : Read Bool) → next_at close (past_blank x.1) ≡ next
+        → (next >>= λ y. cond y.0 (under (more x.0) (some_terms (term_at room) close n y.1)) (Ok (more x.0 none, y.1)))
         ≡ (next >>= λ y. cond y.0 (under (more x.0) (some_terms (term_at room) close m y.1)) (Ok (more x.0 none, y.1)))
     by_next (Err f) h = refl
     by_next (Ok y) h =
@@ -61,24 +62,24 @@ some_enough room close zero (suc m) [] h k = rw (no_term room) refl
 some_enough room close zero (suc m) (b ∷ bs) h k = absurd (omega arith)
 some_enough room close (suc n) zero [] h k = rw (no_term room) refl
 some_enough room close (suc n) zero (b ∷ bs) h k = absurd (omega arith)
-some_enough room close (suc n) (suc m) bs h k = behind_enough room close n m bs
-    (λ l less. some_enough room close n m l (omega (arith, less, h)) (omega (arith, less, k))) (term_at room bs) refl
+some_enough room close (suc n) (suc m) bs h k =
+    behind_enough room close n m bs (λ l less. some_enough room close n m l (omega (arith, less, h)) (omega (arith, less, k))) (term_at room bs) refl
 
 -- the same for whole texts
 abbrev pub behind_whole : ℕ → Tree × List ℕ → Result Trees Fault
 behind_whole n x = dot_at (past_blank x.1) >>= λ rest. dotted n (past_blank rest) >>= λ ts. Ok (more x.0 ts)
 
-whole_enough : (n m : ℕ) (bs : List ℕ) → ((l : List ℕ) → length l < length bs → dotted n l ≡ dotted m l) → (read : Read Tree) → term_at 64 bs ≡ read
-    → (read >>= behind_whole n) ≡ (read >>= behind_whole m)
+whole_enough : (n m : ℕ) (bs : List ℕ) → ((l : List ℕ) → length l < length bs → dotted n l ≡ dotted m l) → (read : Read Tree)
+    → term_at MAX_DEPTH bs ≡ read → (read >>= behind_whole n) ≡ (read >>= behind_whole m)
 whole_enough n m bs same (Err f) e = refl
 whole_enough n m bs same (Ok x) e = by_dot (dot_at (past_blank x.1)) refl
   where
-    by_dot : (dot : Result (List ℕ) Fault) → dot_at (past_blank x.1) ≡ dot → (dot >>= λ rest. dotted n (past_blank rest) >>= λ ts. Ok (more x.0 ts))
-        ≡ (dot >>= λ rest. dotted m (past_blank rest) >>= λ ts. Ok (more x.0 ts))
+    by_dot : (dot : Result (List ℕ) Fault) → dot_at (past_blank x.1) ≡ dot
+        → (dot >>= λ rest. dotted n (past_blank rest) >>= λ ts. Ok (more x.0 ts)) ≡ (dot >>= λ rest. dotted m (past_blank rest) >>= λ ts. Ok (more x.0 ts))
     by_dot (Err f) h = refl
     by_dot (Ok rest) h =
-        let left : length (past_blank rest) < length bs = omega
-                (arith, term_length 64 bs x.0 x.1 e, dot_length (past_blank x.1) rest h, blank_length x.1, blank_length rest) in
+        let left : length (past_blank rest) < length bs =
+        omega (arith, term_length MAX_DEPTH bs x.0 x.1 e, dot_length (past_blank x.1) rest h, blank_length x.1, blank_length rest) in
         ap (λ (r : Result Trees Fault). r >>= λ ts. Ok (more x.0 ts)) (same (past_blank rest) left)
 
 pub dotted_enough : (n m : ℕ) (bs : List ℕ) → length bs ≤ n → length bs ≤ m → dotted n bs ≡ dotted m bs
@@ -86,5 +87,5 @@ unfolding dotted
 dotted_enough n m [] h k = refl
 dotted_enough zero m (b ∷ bs) h k = absurd (omega arith)
 dotted_enough (suc n) zero (b ∷ bs) h k = absurd (omega arith)
-dotted_enough (suc n) (suc m) (b ∷ bs) h k = whole_enough n m (b ∷ bs) (λ l less. dotted_enough n m l (omega (arith, less, h)) (omega (arith, less, k)))
-    (term_at 64 (b ∷ bs)) refl
+dotted_enough (suc n) (suc m) (b ∷ bs) h k =
+    whole_enough n m (b ∷ bs) (λ l less. dotted_enough n m l (omega (arith, less, h)) (omega (arith, less, k))) (term_at MAX_DEPTH (b ∷ bs)) refl

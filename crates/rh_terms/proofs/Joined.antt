@@ -31,7 +31,7 @@ pub with-trees-more : (front : Trees) (t : Tree) (read : Read Trees) → with_tr
 with-trees-more front t (Ok x) = ap (λ (ts : Trees). Ok (ts, x.1)) (sym (join-join front (more t none) x.0))
 with-trees-more front t (Err f) = refl
 
-pub after-trees-more : (front : Trees) (t : Tree) (read : Result Trees Fault) → after_trees front (read >>= λ ts. Ok (more t ts))
-    ≡ after_trees (join front (more t none)) read
+pub after-trees-more : (front : Trees) (t : Tree) (read : Result Trees Fault)
+    → after_trees front (read >>= λ ts. Ok (more t ts)) ≡ after_trees (join front (more t none)) read
 after-trees-more front t (Ok ts) = ap (λ (all : Trees). Ok all) (sym (join-join front (more t none) ts))
 after-trees-more front t (Err f) = refl

@@ -1,7 +1,8 @@
 -- How reading goes on while lists and tuples are open.
-use Rattle.std.proofs.Common.{◌≡◌, ◌<◌, ◌≤◌, ◌-◌, ℕ, zero, suc, List, [], ◌∷◌, ◌++◌, Bool, true, false, cond, Result, Ok, Err, length, drop, refl, sym, ap, ◌∙◌}
-use Rattle.std.proofs.Common.{arith, length-append}
+use Rattle.std.proofs.Common.{◌≡◌, ◌<◌, ◌≤◌, ◌-◌, ℕ, zero, suc, List, [], ◌∷◌, ◌++◌, Bool, true, false, cond, Result}
+use Rattle.std.proofs.Common.{Ok, Err, length, drop, refl, sym, ap, ◌∙◌, arith, length-append}
 use Rattle.std.specs.Prelude.{◌==◌, IfOk}
+use Rattle.rh_terms.specs.declared.nest.TheConstants.{MAX_DEPTH}
 use Rattle.rh_terms.specs.declared.fault.Fault.{Fault}
 use Rattle.rh_terms.specs.declared.fault.Fault.TheVariants.{TooDeep}
 use Rattle.rh_terms.specs.declared.fault.ReadError.{ReadError}
@@ -14,7 +15,7 @@ use Rattle.rh_terms.specs.Bytes.{past_blank, begins}
 use Rattle.rh_terms.specs.Faults.{◌>>=◌, Read, under, Fails, stuck}
 use Rattle.rh_base.specs.Tree.{Tree, Trees, none, more, trees_of, tree_of}
 use Rattle.rh_terms.specs.Grammar.{word_at, term_by, next_at, some_terms, terms_up_to, inside, term_at, dot_at, dotted, terms_from}
-use Rattle.rh_terms.specs.Nest.{opening, closing, tree_in, join, with_trees, after_trees, elements, in_bracket, climb, ended, going}
+use Rattle.rh_terms.specs.Nest.{opening, closing, tree_in, join, with_trees, after_trees, elements_ahead, in_bracket, climb, ended, going}
 use Rattle.rh_terms.proofs.Joined.{join-none, trees-push, with-trees-none, with-trees-more, after-trees-more}
 use Rattle.rh_terms.proofs.Enough.{behind_term, behind_whole, some_enough, dotted_enough, no_term, term_length, next_length, dot_length, blank_length}
 
@@ -26,14 +27,14 @@ read_of t rest = Ok (t, rest)
 -- what an element is read as, and what comes behind it
 abbrev element : ℕ → Shape → Trees → Tree × List ℕ → Read Tree
 element room shape front x = next_at (closing shape) (past_blank x.1) >>= λ next.
-    under (tree_in shape) (with_trees (join front (more x.0 none)) (cond next.0 (elements room (closing shape) next.1) (Ok (none, next.1))))
+    under (tree_in shape) (with_trees (join front (more x.0 none)) (cond next.0 (elements_ahead room (closing shape) next.1) (Ok (none, next.1))))
 
 by_choice : (room close n : ℕ) (shape : Shape) (front : Trees) (t : Tree) (goes_on : Bool) (rest : List ℕ) → length rest ≤ n
     → under (tree_in shape) (with_trees front (cond goes_on (under (more t) (some_terms (term_at room) close n rest)) (Ok (more t none, rest))))
-        ≡ under (tree_in shape) (with_trees (join front (more t none)) (cond goes_on (elements room close rest) (Ok (none, rest))))
+    ≡ under (tree_in shape) (with_trees (join front (more t none)) (cond goes_on (elements_ahead room close rest) (Ok (none, rest))))
 by_choice room close n shape front t true rest h =
-    let same : some_terms (term_at room) close n rest ≡ elements room close rest = some_enough room close n (length rest) rest h (omega arith) in
-    rw same (ap (λ (r : Read Trees). under (tree_in shape) r) (with-trees-more front t (elements room close rest)))
+    let same : some_terms (term_at room) close n rest ≡ elements_ahead room close rest = some_enough room close n (length rest) rest h (omega arith) in
+    rw same (ap (λ (r : Read Trees). under (tree_in shape) r) (with-trees-more front t (elements_ahead room close rest)))
 by_choice room close n shape front t false rest h = ap (λ (ts : Trees). Ok (tree_in shape ts, rest)) (sym (join-none (join front (more t none))))
 
 one_element : (room n : ℕ) (shape : Shape) (front : Trees) (bs : List ℕ) → length bs ≤ suc n → (read : Read Tree) → term_at room bs ≡ read
@@ -43,29 +44,33 @@ one_element room n shape front bs fuel (Ok x) e = by_next (next_at (closing shap
   where
     by_next : (next : Read Bool) → next_at (closing shape) (past_blank x.1) ≡ next
         → under (tree_in shape) (with_trees front (next >>= λ y. cond y.0 (under (more x.0) (some_terms (term_at room) (closing shape) n y.1))
-            (Ok (more x.0 none, y.1)))) ≡ (next >>= λ y. under (tree_in shape)
-            (with_trees (join front (more x.0 none)) (cond y.0 (elements room (closing shape) y.1) (Ok (none, y.1)))))
+        (Ok (more x.0 none, y.1)))) ≡ (next >>= λ y. under (tree_in shape)
+        (with_trees (join front (more x.0 none)) (cond y.0 (elements_ahead room (closing shape) y.1) (Ok (none, y.1)))))
     by_next (Err f) h = refl
-    by_next (Ok y) h = by_choice room (closing shape) n shape front x.0 y.0 y.1
+    by_next (Ok y) h =
+        by_choice room (closing shape) n shape front x.0 y.0 y.1
         (omega (arith, fuel, term_length room bs x.0 x.1 e, next_length (closing shape) (past_blank x.1) y.0 y.1 h, blank_length x.1))
 
 -- the elements from here on, as the next one and what comes behind it
-elements_from : (room : ℕ) (shape : Shape) (front : Trees) (bs : List ℕ) → under (tree_in shape) (with_trees front (elements room (closing shape) bs))
-    ≡ in_bracket room shape front (term_at room bs)
+elements_from : (room : ℕ) (shape : Shape) (front : Trees) (bs : List ℕ)
+    → under (tree_in shape) (with_trees front (elements_ahead room (closing shape) bs)) ≡ in_bracket room shape front (term_at room bs)
 unfolding some_terms in_bracket
 elements_from room shape front [] = rw (no_term room) refl
 elements_from room shape front (b ∷ bs) = one_element room (length bs) shape front (b ∷ bs) (omega arith) (term_at room (b ∷ bs)) refl
 
-goes_first : (room : ℕ) (shape : Shape) (front : Trees) (t : Tree) (rest after : List ℕ) → next_at (closing shape) (past_blank rest) ≡ Ok (true, after)
-    → in_bracket room shape front (Ok (t, rest)) ≡ under (tree_in shape) (with_trees (join front (more t none)) (elements room (closing shape) after))
+goes_first : (room : ℕ) (shape : Shape) (front : Trees) (t : Tree) (rest after : List ℕ)
+    → next_at (closing shape) (past_blank rest) ≡ Ok (true, after)
+    → in_bracket room shape front (Ok (t, rest)) ≡ under (tree_in shape) (with_trees (join front (more t none)) (elements_ahead room (closing shape) after))
 unfolding in_bracket
 goes_first room shape front t rest after next = rw next refl
 
-goes_on_in : (room : ℕ) (shape : Shape) (front : Trees) (t : Tree) (rest after : List ℕ) → next_at (closing shape) (past_blank rest) ≡ Ok (true, after)
+goes_on_in : (room : ℕ) (shape : Shape) (front : Trees) (t : Tree) (rest after : List ℕ)
+    → next_at (closing shape) (past_blank rest) ≡ Ok (true, after)
     → in_bracket room shape front (Ok (t, rest)) ≡ in_bracket room shape (join front (more t none)) (term_at room after)
 goes_on_in room shape front t rest after next = goes_first room shape front t rest after next ∙ elements_from room shape (join front (more t none)) after
 
-closes_in : (room : ℕ) (shape : Shape) (front : Trees) (t : Tree) (rest after : List ℕ) → next_at (closing shape) (past_blank rest) ≡ Ok (false, after)
+closes_in : (room : ℕ) (shape : Shape) (front : Trees) (t : Tree) (rest after : List ℕ)
+    → next_at (closing shape) (past_blank rest) ≡ Ok (false, after)
     → in_bracket room shape front (Ok (t, rest)) ≡ Ok (tree_in shape (join front (more t none)), after)
 unfolding in_bracket
 closes_in room shape front t rest after next = rw (next, join-none (join front (more t none))) refl
@@ -84,7 +89,7 @@ climb_last room [] b read = refl
 climb_last room (c ∷ brackets) b read =
     let r : room - 1 - suc (length brackets) ≡ room - suc (suc (length brackets)) = omega arith in
     let inner : climb (room - 1) (brackets ++ b ∷ []) read ≡ climb (room - 1) brackets
-            (in_bracket (room - suc (suc (length brackets))) b.shape (trees_of b.items.items) read) = rw (← r) (climb_last (room - 1) brackets b read) in
+    (in_bracket (room - suc (suc (length brackets))) b.shape (trees_of b.items.items) read) = rw (← r) (climb_last (room - 1) brackets b read) in
     ap (λ (x : Read Tree). in_bracket (room - 1) c.shape (trees_of c.items.items) x) inner
 
 climb_err : (room : ℕ) (brackets : List Bracket) (f : Fault) → climb room brackets (Err f) ≡ Err f
@@ -93,20 +98,20 @@ climb_err room [] f = refl
 climb_err room (b ∷ brackets) f = rw (climb_err (room - 1) brackets f) refl
 
 ended_last : (brackets : List Bracket) (b : Bracket) (terms : List Term) (read : Read Tree)
-    → ended (brackets ++ b ∷ []) terms read ≡ ended brackets terms (in_bracket (64 - suc (length brackets)) b.shape (trees_of b.items.items) read)
+    → ended (brackets ++ b ∷ []) terms read ≡ ended brackets terms (in_bracket (MAX_DEPTH - suc (length brackets)) b.shape (trees_of b.items.items) read)
 unfolding ended
-ended_last brackets b terms read = rw (climb_last 64 brackets b read) refl
+ended_last brackets b terms read = rw (climb_last MAX_DEPTH brackets b read) refl
 
 ended_err : (brackets : List Bracket) (terms : List Term) (f : Fault) → ended brackets terms (Err f) ≡ Err f
 unfolding ended
-ended_err brackets terms f = rw (climb_err 64 brackets f) refl
+ended_err brackets terms f = rw (climb_err MAX_DEPTH brackets f) refl
 
 pub ended_fails : (e : ReadError) (brackets : List Bracket) (terms : List Term) (read : Read Tree) → Fails e read → Fails e (ended brackets terms read)
 ended_fails errors.Memory brackets terms read h = tt
 ended_fails (errors.Fault f) brackets terms read h = rw h (ended_err brackets terms f)
 
 going_last : (brackets : List Bracket) (b : Bracket) (terms : List Term) (bs : List ℕ)
-    → going (brackets ++ b ∷ []) terms bs ≡ ended (brackets ++ b ∷ []) terms (term_at (64 - suc (length brackets)) bs)
+    → going (brackets ++ b ∷ []) terms bs ≡ ended (brackets ++ b ∷ []) terms (term_at (MAX_DEPTH - suc (length brackets)) bs)
 unfolding going
 going_last [] b terms bs = refl
 going_last (c ∷ brackets) b terms bs =
@@ -118,23 +123,23 @@ pub goes_on : (brackets : List Bracket) (b c : Bracket) (terms : List Term) (t :
     → c.items.items ≡ b.items.items ++ t ∷ [] → next_at (closing b.shape) (past_blank rest) ≡ Ok (true, after)
     → going (brackets ++ c ∷ []) terms after ≡ ended (brackets ++ b ∷ []) terms (read_of (tree_of t) rest)
 goes_on brackets b c terms t rest after shape items next =
-    let room = 64 - suc (length brackets) in
+    let room = MAX_DEPTH - suc (length brackets) in
     let front : trees_of c.items.items ≡ join (trees_of b.items.items) (more (tree_of t) none) = ap trees_of items ∙ trees-push b.items.items t in
-    let inner : in_bracket room c.shape (trees_of c.items.items) (term_at room after)
-            ≡ in_bracket room b.shape (trees_of b.items.items) (Ok (tree_of t, rest)) = rw (shape, front)
-            (sym (goes_on_in room b.shape (trees_of b.items.items) (tree_of t) rest after next)) in
+    let inner : in_bracket room c.shape (trees_of c.items.items) (term_at room after) ≡ in_bracket room b.shape (trees_of b.items.items)
+    (Ok (tree_of t, rest)) =
+    rw (shape, front) (sym (goes_on_in room b.shape (trees_of b.items.items) (tree_of t) rest after next)) in
     going_last brackets c terms after ∙ ended_last brackets c terms (term_at room after) ∙ ap (λ (r : Read Tree). ended brackets terms r) inner
-        ∙ sym (ended_last brackets b terms (Ok (tree_of t, rest)))
+    ∙ sym (ended_last brackets b terms (Ok (tree_of t, rest)))
 
 -- behind an element comes the closing byte
 pub closes : (brackets : List Bracket) (b : Bracket) (items : List Term) (terms : List Term) (t u : Term) (rest after : List ℕ)
     → items ≡ b.items.items ++ t ∷ [] → tree_of u ≡ tree_in b.shape (trees_of items) → next_at (closing b.shape) (past_blank rest) ≡ Ok (false, after)
     → ended brackets terms (read_of (tree_of u) after) ≡ ended (brackets ++ b ∷ []) terms (read_of (tree_of t) rest)
 closes brackets b items terms t u rest after is tree next =
-    let room = 64 - suc (length brackets) in
+    let room = MAX_DEPTH - suc (length brackets) in
     let front : trees_of items ≡ join (trees_of b.items.items) (more (tree_of t) none) = ap trees_of is ∙ trees-push b.items.items t in
-    let inner : read_of (tree_of u) after ≡ in_bracket room b.shape (trees_of b.items.items) (Ok (tree_of t, rest)) = rw (tree, front)
-            (sym (closes_in room b.shape (trees_of b.items.items) (tree_of t) rest after next)) in
+    let inner : read_of (tree_of u) after ≡ in_bracket room b.shape (trees_of b.items.items) (Ok (tree_of t, rest)) =
+    rw (tree, front) (sym (closes_in room b.shape (trees_of b.items.items) (tree_of t) rest after next)) in
     ap (λ (r : Read Tree). ended brackets terms r) inner ∙ sym (ended_last brackets b terms (Ok (tree_of t, rest)))
 
 -- behind an element comes something else
@@ -142,7 +147,7 @@ pub fails_next : (e : ReadError) (brackets : List Bracket) (b : Bracket) (terms 
     → Fails e (next_at (closing b.shape) (past_blank rest)) → Fails e (ended (brackets ++ b ∷ []) terms (read_of (tree_of t) rest))
 fails_next errors.Memory brackets b terms t rest h = tt
 fails_next (errors.Fault f) brackets b terms t rest h =
-    let inner = fails_in (64 - suc (length brackets)) b.shape (trees_of b.items.items) (tree_of t) rest f h in
+    let inner = fails_in (MAX_DEPTH - suc (length brackets)) b.shape (trees_of b.items.items) (tree_of t) rest f h in
     ended_last brackets b terms (Ok (tree_of t, rest)) ∙ ap (λ (r : Read Tree). ended brackets terms r) inner ∙ ended_err brackets terms f
 
 -- ---- outside of all brackets
@@ -162,35 +167,35 @@ top_fails (errors.Fault f) terms t rest h = rw h refl
 
 -- ---- where a term begins
 
-top_step : (terms : List Term) (b : ℕ) (bs : List ℕ) (read : Read Tree) → term_at 64 (b ∷ bs) ≡ read
-    → after_trees (trees_of terms) (read >>= behind_whole (length bs)) ≡
-        (read >>= λ x. dot_at (past_blank x.1) >>= λ rest. after_trees (join (trees_of terms) (more x.0 none)) (terms_from (past_blank rest)))
+top_step : (terms : List Term) (b : ℕ) (bs : List ℕ) (read : Read Tree) → term_at MAX_DEPTH (b ∷ bs) ≡ read
+    → after_trees (trees_of terms) (read >>= behind_whole (length bs))
+    ≡ (read >>= λ x. dot_at (past_blank x.1) >>= λ rest. after_trees (join (trees_of terms) (more x.0 none)) (terms_from (past_blank rest)))
 top_step terms b bs (Err f) e = refl
 top_step terms b bs (Ok x) e = by_dot (dot_at (past_blank x.1)) refl
   where
     by_dot : (dot : Result (List ℕ) Fault) → dot_at (past_blank x.1) ≡ dot
         → after_trees (trees_of terms) (dot >>= λ rest. dotted (length bs) (past_blank rest) >>= λ ts. Ok (more x.0 ts))
-            ≡ (dot >>= λ rest. after_trees (join (trees_of terms) (more x.0 none)) (terms_from (past_blank rest)))
+        ≡ (dot >>= λ rest. after_trees (join (trees_of terms) (more x.0 none)) (terms_from (past_blank rest)))
     by_dot (Err f) h = refl
     by_dot (Ok rest) h =
-        let left : length (past_blank rest) ≤ length bs = omega
-                (arith, term_length 64 (b ∷ bs) x.0 x.1 e, dot_length (past_blank x.1) rest h, blank_length x.1, blank_length rest) in
-        let same : dotted (length bs) (past_blank rest) ≡ terms_from (past_blank rest) = dotted_enough (length bs) (length (past_blank rest))
-                (past_blank rest) left (omega arith) in
+        let left : length (past_blank rest) ≤ length bs =
+        omega (arith, term_length MAX_DEPTH (b ∷ bs) x.0 x.1 e, dot_length (past_blank x.1) rest h, blank_length x.1, blank_length rest) in
+        let same : dotted (length bs) (past_blank rest) ≡ terms_from (past_blank rest) =
+        dotted_enough (length bs) (length (past_blank rest)) (past_blank rest) left (omega arith) in
         rw same (after-trees-more (trees_of terms) x.0 (terms_from (past_blank rest)))
 
 pub at_term : (brackets : List Bracket) (terms : List Term) (bs : List ℕ) → 0 < length bs
-    → going brackets terms bs ≡ ended brackets terms (term_at (64 - length brackets) bs)
+    → going brackets terms bs ≡ ended brackets terms (term_at (MAX_DEPTH - length brackets) bs)
 unfolding going ended climb dotted
 at_term [] terms [] some = absurd (omega arith)
-at_term [] terms (b ∷ bs) some = top_step terms b bs (term_at 64 (b ∷ bs)) refl
+at_term [] terms (b ∷ bs) some = top_step terms b bs (term_at MAX_DEPTH (b ∷ bs)) refl
 at_term (c ∷ brackets) terms bs some = refl
 
 -- The text ends while a list or a tuple is open, or else it ends well.
 pub at_end : (brackets : List Bracket) (terms : List Term) → 0 < length brackets → going brackets terms [] ≡ Err (stuck [])
 unfolding going
 at_end [] terms some = absurd (omega arith)
-at_end (c ∷ brackets) terms some = rw (no_term (64 - length (c ∷ brackets))) (ended_err (c ∷ brackets) terms (stuck []))
+at_end (c ∷ brackets) terms some = rw (no_term (MAX_DEPTH - length (c ∷ brackets))) (ended_err (c ∷ brackets) terms (stuck []))
 
 pub all_read : (terms : List Term) → going [] terms [] ≡ Ok (trees_of terms)
 unfolding going dotted
@@ -203,12 +208,12 @@ unfolding term_by
 opened room shapes.List inner = refl
 opened room shapes.Tuple inner = refl
 
-pub too_deep : (brackets : List Bracket) (terms : List Term) (shape : Shape) (inner : List ℕ) → 64 ≤ length brackets
-    → ended brackets terms (term_at (64 - length brackets) (opening shape ∷ inner)) ≡ Err TooDeep
+pub too_deep : (brackets : List Bracket) (terms : List Term) (shape : Shape) (inner : List ℕ) → MAX_DEPTH ≤ length brackets
+    → ended brackets terms (term_at (MAX_DEPTH - length brackets) (opening shape ∷ inner)) ≡ Err TooDeep
 unfolding inside
 too_deep brackets terms shape inner deep =
-    let r : 64 - length brackets ≡ 0 = omega arith in
-    let e : term_at (64 - length brackets) (opening shape ∷ inner) ≡ Err TooDeep = rw r (opened 0 shape inner) in
+    let r : MAX_DEPTH - length brackets ≡ 0 = omega arith in
+    let e : term_at (MAX_DEPTH - length brackets) (opening shape ∷ inner) ≡ Err TooDeep = rw r (opened 0 shape inner) in
     ap (λ (x : Read Tree). ended brackets terms x) e ∙ ended_err brackets terms TooDeep
 
 pub enters_empty : (room : ℕ) (shape : Shape) (inner : List ℕ) → 0 < room → begins (λ b. b == closing shape) (past_blank inner) ≡ true
@@ -222,20 +227,21 @@ enters_some : (room : ℕ) (shape : Shape) (inner : List ℕ) → begins (λ b. 
 unfolding inside terms_up_to
 enters_some room shape inner test =
     let one : under (tree_in shape) (inside (suc room) (closing shape) inner) ≡ under (tree_in shape)
-            (with_trees none (elements room (closing shape) (past_blank inner))) = rw test
-            (ap (λ (r : Read Trees). under (tree_in shape) r) (sym (with-trees-none (elements room (closing shape) (past_blank inner))))) in
+    (with_trees none (elements_ahead room (closing shape) (past_blank inner))) = rw test
+    (ap (λ (r : Read Trees). under (tree_in shape) r) (sym (with-trees-none (elements_ahead room (closing shape) (past_blank inner))))) in
     opened (suc room) shape inner ∙ one ∙ elements_from room shape none (past_blank inner)
 
-pub enters : (brackets : List Bracket) (b : Bracket) (terms : List Term) (inner : List ℕ) → b.items.items ≡ [] → length brackets < 64
+pub enters : (brackets : List Bracket) (b : Bracket) (terms : List Term) (inner : List ℕ) → b.items.items ≡ [] → length brackets < MAX_DEPTH
     → begins (λ c. c == closing b.shape) (past_blank inner) ≡ false
-    → going (brackets ++ b ∷ []) terms (past_blank inner) ≡ ended brackets terms (term_at (64 - length brackets) (opening b.shape ∷ inner))
+    → going (brackets ++ b ∷ []) terms (past_blank inner) ≡ ended brackets terms (term_at (MAX_DEPTH - length brackets) (opening b.shape ∷ inner))
 enters brackets b terms inner items room test =
-    let r : 64 - length brackets ≡ suc (64 - suc (length brackets)) = omega arith in
+    let r : MAX_DEPTH - length brackets ≡ suc (MAX_DEPTH - suc (length brackets)) = omega arith in
     let front : trees_of b.items.items ≡ none = ap trees_of items in
-    let term : in_bracket (64 - suc (length brackets)) b.shape (trees_of b.items.items) (term_at (64 - suc (length brackets)) (past_blank inner))
-            ≡ term_at (64 - length brackets) (opening b.shape ∷ inner) = rw (front, r) (sym (enters_some (64 - suc (length brackets)) b.shape inner test)) in
-    going_last brackets b terms (past_blank inner) ∙ ended_last brackets b terms (term_at (64 - suc (length brackets)) (past_blank inner))
-        ∙ ap (λ (x : Read Tree). ended brackets terms x) term
+    let term : in_bracket (MAX_DEPTH - suc (length brackets)) b.shape (trees_of b.items.items)
+    (term_at (MAX_DEPTH - suc (length brackets)) (past_blank inner)) ≡ term_at (MAX_DEPTH - length brackets) (opening b.shape ∷ inner) = rw
+    (front, r) (sym (enters_some (MAX_DEPTH - suc (length brackets)) b.shape inner test)) in
+    going_last brackets b terms (past_blank inner) ∙ ended_last brackets b terms (term_at (MAX_DEPTH - suc (length brackets)) (past_blank inner))
+    ∙ ap (λ (x : Read Tree). ended brackets terms x) term
 
 -- a term that is no list and no tuple
 pub word_term : (room : ℕ) (bs : List ℕ) → begins (λ b. b == 91) bs ≡ false → begins (λ b. b == 123) bs ≡ false → term_at room bs ≡ word_at bs

@@ -6,8 +6,8 @@ use Rattle.rh_terms.specs.Bytes.{begins}
 use Rattle.rh_terms.specs.Tokens.{is_plain, quoted}
 
 plain_cons : (quote b : ℕ) (bs : List ℕ) (is_quote is_slash : Bool) → (b == quote) ≡ is_quote → (b == 92) ≡ is_slash
-    → (begins (λ x. x == quote) (drop (prefix_len (is_plain quote) bs) bs) ≡ true
-        → quoted false quote bs ≡ Ok (take (prefix_len (is_plain quote) bs) bs, drop 1 (drop (prefix_len (is_plain quote) bs) bs)))
+    → (begins (λ x. x == quote) (drop (prefix_len (is_plain quote) bs) bs) ≡ true → quoted false quote bs ≡ Ok
+    (take (prefix_len (is_plain quote) bs) bs, drop 1 (drop (prefix_len (is_plain quote) bs) bs)))
     → begins (λ x. x == quote) (drop (prefix_len (is_plain quote) (b ∷ bs)) (b ∷ bs)) ≡ true
     → quoted false quote (b ∷ bs) ≡ Ok (take (prefix_len (is_plain quote) (b ∷ bs)) (b ∷ bs), drop 1 (drop (prefix_len (is_plain quote) (b ∷ bs)) (b ∷ bs)))
 unfolding quoted

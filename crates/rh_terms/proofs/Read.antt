@@ -1,14 +1,16 @@
 -- What is spelled is read.
-use Rattle.std.proofs.Common.{◌≡◌, ◌<◌, ◌≤◌, ◌+◌, ℕ, zero, suc, List, [], ◌∷◌, ◌++◌, Bool, true, false, cond, Result, Ok, Err, Option, Some, None, length, refl}
-use Rattle.std.proofs.Common.{sym, ap, subst, ◌∙◌, append_assoc, arith, inl, inr, length-append}
+use Rattle.std.proofs.Common.{◌≡◌, ◌<◌, ◌≤◌, ◌+◌, ℕ, zero, suc, List, [], ◌∷◌, ◌++◌, Bool, true, false, cond, Result}
+use Rattle.std.proofs.Common.{Ok, Err, Option, Some, None, length, refl, sym, ap, subst, ◌∙◌, append_assoc, arith, inl}
+use Rattle.std.proofs.Common.{inr, length-append}
 use Rattle.std.specs.Prelude.{◌==◌, ◌||◌, not, ◌⊎◌}
 use Rattle.std.specs.List.{prefix_len, list_all}
 use Rattle.std.proofs.Math.Seq.{take-append_seam, drop-append_seam}
 use Rattle.std.proofs.lemmas.List.{append-nil}
 use Rattle.std.proofs.lemmas.Bool.Decides.{nat_tests}
+use Rattle.rh_terms.specs.declared.nest.TheConstants.{MAX_DEPTH}
 use Rattle.rh_terms.specs.declared.fault.Fault.{Fault}
 use Rattle.rh_terms.specs.declared.fault.Fault.TheVariants.{Unsupported}
-use Rattle.rh_terms.specs.Bytes.{past, past_blank, begins, is_white, is_lower, is_name, is_digit, is_end}
+use Rattle.rh_terms.specs.Bytes.{past, past_blank, begins, is_white, is_lower, is_atom_byte, is_digit, is_end}
 use Rattle.rh_terms.specs.Faults.{Read, under, stuck}
 use Rattle.rh_terms.specs.Tokens.{escape, quoted, with_byte, number, fits, signed, is_other_number, digits_at, integer_at, name_at, quoted_atom_at, text_at}
 use Rattle.rh_base.specs.Tree.{Tree, Trees, atom, int, text, list, tuple, none, more}
@@ -54,22 +56,22 @@ blank_read a rest (IsBlank.comment line bs in_line h) = rw append_assoc (comment
 
 -- a byte that ends each word, and what stands behind it
 record IsMark (c : ℕ) (r : List ℕ) : Type 0 where
-  no_name : is_name c ≡ false
+  no_name : is_atom_byte c ≡ false
   no_number : is_other_number (c ∷ r) ≡ false
   no_quote : (c == 34) ≡ false
   no_blank : past_blank (c ∷ r) ≡ c ∷ r
 
 -- what may stand behind a word
 record IsStop (rest : List ℕ) : Type 0 where
-  no_name : begins is_name rest ≡ false
+  no_name : begins is_atom_byte rest ≡ false
   no_digit : begins is_digit rest ≡ false
   no_number : is_other_number rest ≡ false
   no_quote : begins (λ b. b == 34) (past_blank rest) ≡ false
 
-no_digit_of : (c : ℕ) → is_name c ≡ false → is_digit c ≡ false
+no_digit_of : (c : ℕ) → is_atom_byte c ≡ false → is_digit c ≡ false
 no_digit_of c e = grind (arith, nat_tests, e)
 
-white_is_no_name : (b : ℕ) → is_white b ≡ true → is_name b ≡ false
+white_is_no_name : (b : ℕ) → is_white b ≡ true → is_atom_byte b ≡ false
 white_is_no_name b w = grind (arith, nat_tests, w)
 
 white_is_no_number : (b : ℕ) (r : List ℕ) → is_white b ≡ true → is_other_number (b ∷ r) ≡ false
@@ -87,8 +89,14 @@ stop b c r blank mark =
   where
     by_blank : (b : List ℕ) → IsBlank b → begins (λ b. b == 34) (past_blank (b ++ c ∷ r)) ≡ false → IsStop (b ++ c ∷ r)
     by_blank b IsBlank.nothing q = record { no_name = mark.no_name; no_digit = no_digit_of c mark.no_name; no_number = mark.no_number; no_quote = q }
-    by_blank b (IsBlank.white w bs is h) q = record { no_name = white_is_no_name w is; no_digit = no_digit_of w (white_is_no_name w is);
-        no_number = white_is_no_number w (bs ++ c ∷ r) is; no_quote = q }
+    by_blank b (IsBlank.white w bs is h) q =
+        record {
+          no_name = white_is_no_name w is;
+          no_digit = no_digit_of w (white_is_no_name w is);
+          no_number = white_is_no_number w
+              (bs ++ c ∷ r) is;
+          no_quote = q;
+        }
     by_blank b (IsBlank.comment line bs in_line h) q = record { no_name = refl; no_digit = refl; no_number = refl; no_quote = q }
 
 comma_mark : (r : List ℕ) → IsMark 44 r
@@ -136,10 +144,10 @@ prefix_all p (b ∷ s) rest all ends =
     let h = and_is (p b) (list_all p s) all in
     prefix_step p b (s ++ rest) h.0 ∙ ap (λ (n : ℕ). suc n) (prefix_all p s rest h.1 ends)
 
-name_read : (s rest : List ℕ) → list_all is_name s ≡ true → IsStop rest → name_at (s ++ rest) ≡ Ok (atom s, rest)
+name_read : (s rest : List ℕ) → list_all is_atom_byte s ≡ true → IsStop rest → name_at (s ++ rest) ≡ Ok (atom s, rest)
 unfolding name_at
 name_read s rest all ends =
-    let n : prefix_len is_name (s ++ rest) ≡ length s = prefix_all is_name s rest all ends.no_name in
+    let n : prefix_len is_atom_byte (s ++ rest) ≡ length s = prefix_all is_atom_byte s rest all ends.no_name in
     rw (n, take-append_seam s rest, drop-append_seam s rest) refl
 
 digits_read : (minus : Bool) (s rest : List ℕ) → 0 < length s → list_all is_digit s ≡ true → fits minus (number s) ≡ true → IsStop rest
@@ -154,8 +162,12 @@ escaped_read : (quote b x : ℕ) (bs content rest : List ℕ) → escape b ≡ S
     → quoted true quote (b ∷ bs) ≡ Ok (x ∷ content, rest)
 unfolding quoted
 escaped_read quote b x bs content rest e read =
-    let P : Option ℕ → Type 0 = λ o. ◌≡◌ {A = Read (List ℕ)}
-            (elim o [ Some x ↦ with_byte x (quoted false quote bs) | None ↦ Err (Unsupported (1 + length (b ∷ bs))) ]) (Ok (x ∷ content, rest)) in
+    let P : Option ℕ → Type 0 =
+    λ o. ◌≡◌ {A = Read (List ℕ)} (elim o [
+      | Some x ↦
+          with_byte x (quoted false quote bs)
+      | None ↦ Err (Unsupported (1 + length (b ∷ bs)))
+    ]) (Ok (x ∷ content, rest)) in
     let one : ◌≡◌ {A = Read (List ℕ)} (with_byte x (quoted false quote bs)) (Ok (x ∷ content, rest)) = rw read refl in
     subst P (sym e) one
 
@@ -164,8 +176,8 @@ quoted_read : (quote : ℕ) (s content rest : List ℕ) → (quote == quote) ≡
 unfolding quoted
 quoted_read quote s content rest same other IsQuoted.nothing = rw same refl
 quoted_read quote s content rest same other (IsQuoted.plain b bs inner q e h) = rw (q, e, quoted_read quote bs inner rest same other h) refl
-quoted_read quote s content rest same other (IsQuoted.escaped b x bs inner e h) = rw other
-    (escaped_read quote b x (bs ++ quote ∷ rest) inner rest e (quoted_read quote bs inner rest same other h))
+quoted_read quote s content rest same other (IsQuoted.escaped b x bs inner e h) =
+    rw other (escaped_read quote b x (bs ++ quote ∷ rest) inner rest e (quoted_read quote bs inner rest same other h))
 
 atom_read : (s content rest : List ℕ) → IsQuoted 39 s content → quoted_atom_at ((s ++ 39 ∷ []) ++ rest) ≡ Ok (atom content, rest)
 unfolding quoted_atom_at
@@ -190,12 +202,24 @@ pub record Begins (s : List ℕ) : Type 0 where
   is : CanBegin first
 
 lower_begins : (b : ℕ) → is_lower b ≡ true → CanBegin b
-lower_begins b e = record { no_white = grind (arith, nat_tests, e); no_comment = grind (arith, nat_tests, e); no_list_end = grind (arith, nat_tests, e);
-    no_tuple_end = grind (arith, nat_tests, e) }
+lower_begins b e =
+    record {
+      no_white = grind (arith, nat_tests, e);
+      no_comment = grind (arith, nat_tests, e);
+      no_list_end = grind
+          (arith, nat_tests, e);
+      no_tuple_end = grind (arith, nat_tests, e);
+    }
 
 digit_begins : (b : ℕ) → is_digit b ≡ true → CanBegin b
-digit_begins b e = record { no_white = grind (arith, nat_tests, e); no_comment = grind (arith, nat_tests, e); no_list_end = grind (arith, nat_tests, e);
-    no_tuple_end = grind (arith, nat_tests, e) }
+digit_begins b e =
+    record {
+      no_white = grind (arith, nat_tests, e);
+      no_comment = grind (arith, nat_tests, e);
+      no_list_end = grind
+          (arith, nat_tests, e);
+      no_tuple_end = grind (arith, nat_tests, e);
+    }
 
 name_begins : (s : List ℕ) → begins is_lower s ≡ true → Begins s
 name_begins [] e = absurd cc
@@ -210,17 +234,17 @@ begins_with b s is = record { first = b; others = s; parts = refl; is = is }
 
 pub spelling_begins : (room : ℕ) (t : Tree) (s : List ℕ) → Spells room t s → Begins s
 spelling_begins room t s (Spells.name r name first all) = name_begins name first
-spelling_begins room t s (Spells.quoted_atom r q content h) = begins_with 39 (q ++ 39 ∷ [])
-    (record { no_white = refl; no_comment = refl; no_list_end = refl; no_tuple_end = refl })
-spelling_begins room t s (Spells.text_of r q content h) = begins_with 34 (q ++ 34 ∷ [])
-    (record { no_white = refl; no_comment = refl; no_list_end = refl; no_tuple_end = refl })
+spelling_begins room t s (Spells.quoted_atom r q content h) =
+    begins_with 39 (q ++ 39 ∷ []) (record { no_white = refl; no_comment = refl; no_list_end = refl; no_tuple_end = refl })
+spelling_begins room t s (Spells.text_of r q content h) =
+    begins_with 34 (q ++ 34 ∷ []) (record { no_white = refl; no_comment = refl; no_list_end = refl; no_tuple_end = refl })
 spelling_begins room t s (Spells.integer r d some all fit) = digits_begin d some all
-spelling_begins room t s (Spells.minus r d some all fit) = begins_with 45 d
-    (record { no_white = refl; no_comment = refl; no_list_end = refl; no_tuple_end = refl })
-spelling_begins room t s (Spells.list_of inner ts q h) = begins_with 91 (q ++ 93 ∷ [])
-    (record { no_white = refl; no_comment = refl; no_list_end = refl; no_tuple_end = refl })
-spelling_begins room t s (Spells.tuple_of inner ts q h) = begins_with 123 (q ++ 125 ∷ [])
-    (record { no_white = refl; no_comment = refl; no_list_end = refl; no_tuple_end = refl })
+spelling_begins room t s (Spells.minus r d some all fit) =
+    begins_with 45 d (record { no_white = refl; no_comment = refl; no_list_end = refl; no_tuple_end = refl })
+spelling_begins room t s (Spells.list_of inner ts q h) =
+    begins_with 91 (q ++ 93 ∷ []) (record { no_white = refl; no_comment = refl; no_list_end = refl; no_tuple_end = refl })
+spelling_begins room t s (Spells.tuple_of inner ts q h) =
+    begins_with 123 (q ++ 125 ∷ []) (record { no_white = refl; no_comment = refl; no_list_end = refl; no_tuple_end = refl })
 
 separated_begins : (room : ℕ) (ts : Trees) (s : List ℕ) → AreSeparated room ts s → Begins s
 separated_begins room ts s (AreSeparated.last r t u b h blank) =
@@ -301,8 +325,8 @@ list_term : (room : ℕ) (s rest : List ℕ) → term_at (suc room) (91 ∷ ((s 
 unfolding term_by inside
 list_term room s rest = rw (append_assoc s (93 ∷ []) rest) refl
 
-tuple_term : (room : ℕ) (s rest : List ℕ) → term_at (suc room) (123 ∷ ((s ++ 125 ∷ []) ++ rest))
-    ≡ under tuple (terms_up_to (term_at room) 125 (s ++ 125 ∷ rest))
+tuple_term : (room : ℕ) (s rest : List ℕ)
+    → term_at (suc room) (123 ∷ ((s ++ 125 ∷ []) ++ rest)) ≡ under tuple (terms_up_to (term_at room) 125 (s ++ 125 ∷ rest))
 unfolding term_by inside
 tuple_term room s rest = rw (append_assoc s (125 ∷ []) rest) refl
 
@@ -332,8 +356,8 @@ last_step term close (suc n) t s b rest some is blank read =
 
 comma_step : (term : List ℕ → Read Tree) (close n : ℕ) (t : Tree) (ts : Trees) (s b a q rest : List ℕ) → IsBlank b → IsBlank a → Begins q
     → term (s ++ (b ++ 44 ∷ (a ++ (q ++ close ∷ rest)))) ≡ Ok (t, b ++ 44 ∷ (a ++ (q ++ close ∷ rest)))
-    → some_terms term close n (q ++ close ∷ rest) ≡ Ok (ts, rest) → some_terms term close (suc n) ((s ++ (b ++ 44 ∷ (a ++ q))) ++ close ∷ rest)
-        ≡ Ok (more t ts, rest)
+    → some_terms term close n (q ++ close ∷ rest) ≡ Ok (ts, rest)
+    → some_terms term close (suc n) ((s ++ (b ++ 44 ∷ (a ++ q))) ++ close ∷ rest) ≡ Ok (more t ts, rest)
 unfolding some_terms
 comma_step term close n t ts s b a q rest blank after f read others =
     let e : (s ++ (b ++ 44 ∷ (a ++ q))) ++ close ∷ rest ≡ s ++ (b ++ 44 ∷ (a ++ (q ++ close ∷ rest))) = simp append_assoc in
@@ -350,20 +374,20 @@ mutual
   term_read room t s (Spells.text_of r q content h) rest ends = text_term (inside r) ((q ++ 34 ∷ []) ++ rest) ∙ text_read q content rest h ends
   term_read room t s (Spells.integer r d some all fit) rest ends = digits_term (inside r) d rest some all ∙ digits_read false d rest some all fit ends
   term_read room t s (Spells.minus r d some all fit) rest ends = minus_term (inside r) (d ++ rest) ∙ digits_read true d rest some all fit ends
-  term_read room t s (Spells.list_of inner ts q h) rest ends = list_term inner q rest
-      ∙ ap (λ (r : Read Trees). under list r) (inside_read inner ts q h 93 rest (inl refl))
-  term_read room t s (Spells.tuple_of inner ts q h) rest ends = tuple_term inner q rest
-      ∙ ap (λ (r : Read Trees). under tuple r) (inside_read inner ts q h 125 rest (inr refl))
+  term_read room t s (Spells.list_of inner ts q h) rest ends =
+      list_term inner q rest ∙ ap (λ (r : Read Trees). under list r) (inside_read inner ts q h 93 rest (inl refl))
+  term_read room t s (Spells.tuple_of inner ts q h) rest ends =
+      tuple_term inner q rest ∙ ap (λ (r : Read Trees). under tuple r) (inside_read inner ts q h 125 rest (inr refl))
 
   inside_read : (room : ℕ) (ts : Trees) (s : List ℕ) → IsInside room ts s → (close : ℕ) (rest : List ℕ) → list_or_tuple close
       → terms_up_to (term_at room) close (s ++ close ∷ rest) ≡ Ok (ts, rest)
   inside_read room ts s (IsInside.nothing r a blank) close rest is = empty_inside (term_at r) close a rest (is_close close is) blank
   inside_read room ts s (IsInside.some r us a q blank h) close rest is =
       some_inside (term_at r) close a q rest is blank (separated_begins r us q h)
-          ∙ separated_read r us q h close rest (length (q ++ close ∷ rest)) is (omega (arith, length-append q (close ∷ rest)))
+      ∙ separated_read r us q h close rest (length (q ++ close ∷ rest)) is (omega (arith, length-append q (close ∷ rest)))
 
-  separated_read : (room : ℕ) (ts : Trees) (s : List ℕ) → AreSeparated room ts s → (close : ℕ) (rest : List ℕ) (n : ℕ) → list_or_tuple close → length s ≤ n
-      → some_terms (term_at room) close n (s ++ close ∷ rest) ≡ Ok (ts, rest)
+  separated_read : (room : ℕ) (ts : Trees) (s : List ℕ) → AreSeparated room ts s → (close : ℕ) (rest : List ℕ) (n : ℕ) → list_or_tuple close
+      → length s ≤ n → some_terms (term_at room) close n (s ++ close ∷ rest) ≡ Ok (ts, rest)
   separated_read room ts s (AreSeparated.last r t u b h blank) close rest n is fuel =
       let some = some_byte u (spelling_begins r t u h) in
       let left : 0 < n = omega (arith, length-append u b) in
@@ -377,7 +401,7 @@ mutual
       let left : length q ≤ n = omega (arith, length-append u (b ++ 44 ∷ (a ++ q)), length-append b (44 ∷ (a ++ q)), length-append a q) in
       let behind : List ℕ = a ++ (q ++ close ∷ rest) in
       comma_step (term_at r) close n t us u b a q rest blank after (separated_begins r us q others)
-          (term_read r t u h (b ++ 44 ∷ behind) (stop b 44 behind blank (comma_mark behind))) (separated_read r us q others close rest n is left)
+      (term_read r t u h (b ++ 44 ∷ behind) (stop b 44 behind blank (comma_mark behind))) (separated_read r us q others close rest n is left)
 
 -- ---- whole texts
 
@@ -393,13 +417,13 @@ dot_read r (inr e) = by_test (length (46 ∷ r) == 1)
     by_test false = rw e refl
 
 dotted_step : (n : ℕ) (t : Tree) (ts : Trees) (s b r : List ℕ) → Begins s → IsBlank b → (length r ≡ 0) ⊎ (begins is_end r ≡ true)
-    → term_at 64 (s ++ (b ++ 46 ∷ r)) ≡ Ok (t, b ++ 46 ∷ r)
+    → term_at MAX_DEPTH (s ++ (b ++ 46 ∷ r)) ≡ Ok (t, b ++ 46 ∷ r)
     → dotted n (past_blank r) ≡ Ok ts → dotted (suc n) (s ++ (b ++ 46 ∷ r)) ≡ Ok (more t ts)
 unfolding dotted
 dotted_step n t ts s b r f blank ends read others =
     let behind : past_blank (b ++ 46 ∷ r) ≡ 46 ∷ r = blank_read b (46 ∷ r) blank ∙ (dot_mark r ends).no_blank in
     let whole : s ++ (b ++ 46 ∷ r) ≡ f.first ∷ (f.others ++ (b ++ 46 ∷ r)) = ap (λ (l : List ℕ). l ++ (b ++ 46 ∷ r)) f.parts in
-    let read_first : term_at 64 (f.first ∷ (f.others ++ (b ++ 46 ∷ r))) ≡ Ok (t, b ++ 46 ∷ r) = rw whole at read in
+    let read_first : term_at MAX_DEPTH (f.first ∷ (f.others ++ (b ++ 46 ∷ r))) ≡ Ok (t, b ++ 46 ∷ r) = rw whole at read in
     rw (whole, read_first, behind, dot_read r ends, others) refl
 
 nothing_past : past_blank [] ≡ []
@@ -414,12 +438,12 @@ no_terms : (n : ℕ) → dotted n [] ≡ Ok none
 unfolding dotted
 no_terms n = refl
 
-by_fuel : (n : ℕ) (t : Tree) (ts : Trees) (s b r : List ℕ) → 0 < length s → Begins s → Spells 64 t s → IsBlank b → (length r ≡ 0) ⊎ (begins is_end r ≡ true)
-    → ((m : ℕ) → length r ≤ m → dotted m (past_blank r) ≡ Ok ts)
+by_fuel : (n : ℕ) (t : Tree) (ts : Trees) (s b r : List ℕ) → 0 < length s → Begins s → Spells MAX_DEPTH t s → IsBlank b
+    → (length r ≡ 0) ⊎ (begins is_end r ≡ true) → ((m : ℕ) → length r ≤ m → dotted m (past_blank r) ≡ Ok ts)
     → length s + (length b + suc (length r)) ≤ n → dotted n (s ++ (b ++ 46 ∷ r)) ≡ Ok (more t ts)
 by_fuel zero t ts s b r some f h blank ends others fuel = absurd (omega arith)
 by_fuel (suc n) t ts s b r some f h blank ends others fuel =
-    dotted_step n t ts s b r f blank ends (term_read 64 t s h (b ++ 46 ∷ r) (stop b 46 r blank (dot_mark r ends))) (others n (omega arith))
+    dotted_step n t ts s b r f blank ends (term_read MAX_DEPTH t s h (b ++ 46 ∷ r) (stop b 46 r blank (dot_mark r ends))) (others n (omega arith))
 
 -- What is spelled is read, whatever it is spelled with.
 pub dotted_read : (ts : Trees) (bytes : List ℕ) → AreDotted ts bytes → (n : ℕ) → length bytes ≤ n → dotted n (past_blank bytes) ≡ Ok ts
@@ -430,11 +454,11 @@ dotted_read ts bytes (AreDotted.last_comment a line blank in_line) n fuel =
     let e : past_blank (a ++ 37 ∷ line) ≡ [] = blank_read a (37 ∷ line) blank ∙ comment_past line in_line in
     rw e (no_terms n)
 dotted_read ts bytes (AreDotted.term t us a s b r before h blank ends others) n fuel =
-    let f = spelling_begins 64 t s h in
+    let f = spelling_begins MAX_DEPTH t s h in
     let some = some_byte s f in
     let e : past_blank (a ++ (s ++ (b ++ 46 ∷ r))) ≡ s ++ (b ++ 46 ∷ r) = blank_read a (s ++ (b ++ 46 ∷ r)) before ∙ kept s (b ++ 46 ∷ r) f in
     rw e (by_fuel n t us s b r some f h blank ends (λ m left. dotted_read us r others m left)
-        (omega (arith, length-append a (s ++ (b ++ 46 ∷ r)), length-append s (b ++ 46 ∷ r), length-append b (46 ∷ r))))
+    (omega (arith, length-append a (s ++ (b ++ 46 ∷ r)), length-append s (b ++ 46 ∷ r), length-append b (46 ∷ r))))
 
 -- No text has two readings.
 pub one_reading : (ts us : Trees) (bytes : List ℕ) → AreDotted ts bytes → AreDotted us bytes → ts ≡ us

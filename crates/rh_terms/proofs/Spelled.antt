@@ -1,6 +1,7 @@
 -- What is read is in the grammar.
-use Rattle.std.proofs.Common.{◌≡◌, ℕ, zero, suc, ◌+◌, ◌<◌, List, [], ◌∷◌, ◌++◌, length, drop, take, Bool, true, false, cond, Result, Ok, Err, refl, sym, ap}
-use Rattle.std.proofs.Common.{subst, ◌∙◌, append_assoc, arith, inl, inr, Option, Some, None}
+use Rattle.std.proofs.Common.{◌≡◌, ℕ, zero, suc, ◌+◌, ◌<◌, List, [], ◌∷◌, ◌++◌, length, drop, take, Bool, true, false}
+use Rattle.std.proofs.Common.{cond, Result, Ok, Err, refl, sym, ap, subst, ◌∙◌, append_assoc, arith, inl, inr, Option}
+use Rattle.std.proofs.Common.{Some, None}
 use Rattle.std.specs.Prelude.{◌==◌, not, ◌⊎◌, ◌||◌}
 use Rattle.std.specs.List.{list_all}
 use Rattle.std.proofs.lemmas.Bool.{eqb-true}
@@ -14,7 +15,7 @@ use Rattle.std.specs.List.{prefix_len}
 use Rattle.std.proofs.lemmas.List.{take-append-drop}
 use Rattle.std.proofs.lemmas.List.Folds.{length-prefix_len}
 use Rattle.std.proofs.lemmas.Bool.Decides.{nat_tests}
-use Rattle.rh_terms.specs.Bytes.{is_lower, is_name, is_digit}
+use Rattle.rh_terms.specs.Bytes.{is_lower, is_atom_byte, is_digit}
 use Rattle.rh_base.specs.Tree.{atom, int, text}
 use Rattle.rh_terms.specs.Tokens.{escape, quoted, with_byte, number, fits, signed, is_other_number, digits_at, integer_at, name_at, quoted_atom_at, text_at}
 use Rattle.rh_terms.specs.Spelling.{IsQuoted, InLine, IsBlank, Spells, IsInside, AreSeparated}
@@ -62,16 +63,25 @@ past_is true [] x xs e = absurd cc
 past_is false [] x xs e = absurd cc
 past_is true (b ∷ bs) x xs e = elim (chosen (b == 10) (past false bs) (past true bs) (x ∷ xs) e) [
   | inl p ↦ let r = past_is false bs x xs p.1 in
-      record { line = []; blank = r.text; parts = ap (λ (y : ℕ). y ∷ bs) (eqb-true b 10 p.0) ∙ ap (λ (l : List ℕ). 10 ∷ l) r.parts; in_line = refl;
-          is_blank = r.is }
+      record {
+        line = [];
+        blank = r.text;
+        parts = ap (λ (y : ℕ). y ∷ bs) (eqb-true b 10 p.0) ∙ ap
+            (λ (l : List ℕ). 10 ∷ l) r.parts;
+        in_line = refl;
+        is_blank = r.is;
+      }
   | inr p ↦ let r = past_is true bs x xs p.1 in
       record { line = b ∷ r.line; blank = r.blank; parts = ap (λ (l : List ℕ). b ∷ l) r.parts; in_line = rw p.0 r.in_line; is_blank = r.is_blank }
 ]
 past_is false (b ∷ bs) x xs e = elim (chosen (b == 37) (past true bs) (cond (is_white b) (past false bs) (b ∷ bs)) (x ∷ xs) e) [
   | inl p ↦ let r = past_is true bs x xs p.1 in
-      record { text = 37 ∷ (r.line ++ 10 ∷ r.blank); parts = ap (λ (y : ℕ). y ∷ bs) (eqb-true b 37 p.0)
-          ∙ ap (λ (l : List ℕ). 37 ∷ l) (r.parts ∙ sym (append_assoc r.line (10 ∷ r.blank) (x ∷ xs)));
-          is = IsBlank.comment r.line r.blank r.in_line r.is_blank }
+      record {
+        text = 37 ∷ (r.line ++ 10 ∷ r.blank);
+        parts = ap (λ (y : ℕ). y ∷ bs) (eqb-true b 37 p.0) ∙ ap (λ (l : List ℕ). 37 ∷ l)
+            (r.parts ∙ sym (append_assoc r.line (10 ∷ r.blank) (x ∷ xs)));
+        is = IsBlank.comment r.line r.blank r.in_line r.is_blank;
+      }
   | inr p ↦ elim (chosen (is_white b) (past false bs) (b ∷ bs) (x ∷ xs) p.1) [
     | inl q ↦ let r = past_is false bs x xs q.1 in
         record { text = b ∷ r.text; parts = ap (λ (l : List ℕ). b ∷ l) r.parts; is = IsBlank.white b r.text q.0 r.is }
@@ -131,8 +141,8 @@ Separates read room close = (bs : List ℕ) (ts : Trees) (rest : List ℕ) → r
 regroup_comma : (s b a q tail : List ℕ) → s ++ (b ++ 44 ∷ (a ++ (q ++ tail))) ≡ (s ++ (b ++ 44 ∷ (a ++ q))) ++ tail
 regroup_comma s b a q tail = simp append_assoc
 
-after_next : (room close : ℕ) (read : List ℕ → Read Trees) (others : Separates read room close) (t : Tree) (s behind : List ℕ) (goes_on : Bool) (from : List ℕ)
-    (ts : Trees) (rest : List ℕ) → Spells room t s → next_at close (past_blank behind) ≡ Ok (goes_on, from)
+after_next : (room close : ℕ) (read : List ℕ → Read Trees) (others : Separates read room close) (t : Tree) (s behind : List ℕ) (goes_on : Bool)
+    (from : List ℕ) (ts : Trees) (rest : List ℕ) → Spells room t s → next_at close (past_blank behind) ≡ Ok (goes_on, from)
     → cond goes_on (under (more t) (read from)) (Ok (more t none, from)) ≡ Ok (ts, rest) → Front (AreSeparated room ts) (s ++ behind) (close ∷ rest)
 after_next room close read others t s behind true from ts rest spelled next e =
     let x = bind_ok (read from) (λ x. Ok (more t x.0, x.1)) (ts, rest) e in
@@ -142,49 +152,61 @@ after_next room close read others t s behind true from ts rest spelled next e =
     let a = blank_front (drop 1 (past_blank behind)) from r.text close x.0.1 n.1 r.parts in
     let whole : s ++ behind ≡ (s ++ (b.text ++ 44 ∷ (a.text ++ r.text))) ++ close ∷ x.0.1 =
     ap (λ (l : List ℕ). s ++ l) (b.parts ∙ ap (λ (l : List ℕ). b.text ++ 44 ∷ l) (a.parts ∙ ap (λ (l : List ℕ). a.text ++ l) r.parts))
-        ∙ regroup_comma s b.text a.text r.text (close ∷ x.0.1) in
+    ∙ regroup_comma s b.text a.text r.text (close ∷ x.0.1) in
     let made : Trees × List ℕ = (more t x.0.0, x.0.1) in
     let P : Trees × List ℕ → Type 0 = λ y. Front (AreSeparated room y.0) (s ++ behind) (close ∷ y.1) in
-    subst P (ok_is made (ts, rest) x.2) (record { text = s ++ (b.text ++ 44 ∷ (a.text ++ r.text)); parts = whole;
-        is = AreSeparated.comma room t x.0.0 s b.text a.text r.text spelled b.is a.is r.is })
+    subst P (ok_is made (ts, rest) x.2) (record {
+      text = s ++
+          (b.text ++ 44 ∷ (a.text ++ r.text));
+      parts = whole;
+      is = AreSeparated.comma room t x.0.0 s b.text a.text r.text spelled b.is a.is r.is;
+    })
 after_next room close read others t s behind false from ts rest spelled next e =
     let n = next_last close (past_blank behind) from next in
     let b = blank_is behind close from n in
     let made : Trees × List ℕ = (more t none, from) in
     let P : Trees × List ℕ → Type 0 = λ y. Front (AreSeparated room y.0) (s ++ behind) (close ∷ y.1) in
-    subst P (ok_is made (ts, rest) e) (record { text = s ++ b.text; parts = ap (λ (l : List ℕ). s ++ l) b.parts ∙ sym (append_assoc s b.text (close ∷ from));
-        is = AreSeparated.last room t s b.text spelled b.is })
+    subst P (ok_is made (ts, rest) e) (record {
+      text = s ++ b.text;
+      parts = ap (λ (l : List ℕ). s ++ l) b.parts ∙ sym
+          (append_assoc s b.text (close ∷ from));
+      is = AreSeparated.last room t s b.text spelled b.is;
+    })
 
 separated : (room close : ℕ) (term : List ℕ → Read Tree) (reads : Reads term room) (n : ℕ) → Separates (some_terms term close n) room close
 unfolding some_terms
 separated room close term reads zero bs ts rest e = absurd cc
 separated room close term reads (suc n) bs ts rest e =
     let x = bind_ok (term bs) (λ x. next_at close (past_blank x.1) >>= λ next. cond next.0 (under (more x.0) (some_terms term close n next.1))
-            (Ok (more x.0 none, next.1))) (ts, rest) e in
+    (Ok (more x.0 none, next.1))) (ts, rest) e in
     let next = bind_ok (next_at close (past_blank x.0.1))
-            (λ next. cond next.0 (under (more x.0.0) (some_terms term close n next.1)) (Ok (more x.0.0 none, next.1))) (ts, rest) x.2 in
+    (λ next. cond next.0 (under (more x.0.0) (some_terms term close n next.1)) (Ok (more x.0.0 none, next.1))) (ts, rest) x.2 in
     let front = reads bs x.0.0 x.0.1 x.1 in
     let P : List ℕ → Type 0 = λ l. Front (AreSeparated room ts) l (close ∷ rest) in
     subst P (sym front.parts) (after_next room close (some_terms term close n)
-        (separated room close term reads n) x.0.0 front.text x.0.1 next.0.0 next.0.1 ts rest front.is next.1 next.2)
+    (separated room close term reads n) x.0.0 front.text x.0.1 next.0.0 next.0.1 ts rest front.is next.1 next.2)
 
 inside_one : (room close : ℕ) (term : List ℕ → Read Tree) (reads : Reads term room) (bs : List ℕ) (ts : Trees) (rest : List ℕ)
     → terms_up_to term close bs ≡ Ok (ts, rest) → Front (IsInside room ts) bs (close ∷ rest)
 unfolding terms_up_to
-inside_one room close term reads bs ts rest e = elim
-    (chosen (begins (λ b. b == close) (past_blank bs)) (Ok (none, drop 1 (past_blank bs))) (some_terms term close (length (past_blank bs)) (past_blank bs))
-    (Ok (ts, rest)) e) [
-  | inl p ↦
-      let b = blank_is bs close (drop 1 (past_blank bs)) (begins_is close (past_blank bs) p.0) in
-      let made : Trees × List ℕ = (none, drop 1 (past_blank bs)) in
-      let P : Trees × List ℕ → Type 0 = λ y. Front (IsInside room y.0) bs (close ∷ y.1) in
-      subst P (ok_is made (ts, rest) p.1) (record { text = b.text; parts = b.parts; is = IsInside.nothing room b.text b.is })
-  | inr p ↦
-      let r = separated room close term reads (length (past_blank bs)) (past_blank bs) ts rest p.1 in
-      let a = blank_front bs (past_blank bs) r.text close rest refl r.parts in
-      record { text = a.text ++ r.text; parts = a.parts ∙ ap (λ (l : List ℕ). a.text ++ l) r.parts ∙ sym (append_assoc a.text r.text (close ∷ rest));
-          is = IsInside.some room ts a.text r.text a.is r.is }
-]
+inside_one room close term reads bs ts rest e =
+    elim (chosen (begins (λ b. b == close) (past_blank bs)) (Ok (none, drop 1 (past_blank bs)))
+    (some_terms term close (length (past_blank bs)) (past_blank bs)) (Ok (ts, rest)) e) [
+      | inl p ↦
+          let b = blank_is bs close (drop 1 (past_blank bs)) (begins_is close (past_blank bs) p.0) in
+          let made : Trees × List ℕ = (none, drop 1 (past_blank bs)) in
+          let P : Trees × List ℕ → Type 0 = λ y. Front (IsInside room y.0) bs (close ∷ y.1) in
+          subst P (ok_is made (ts, rest) p.1) (record { text = b.text; parts = b.parts; is = IsInside.nothing room b.text b.is })
+      | inr p ↦
+          let r = separated room close term reads (length (past_blank bs)) (past_blank bs) ts rest p.1 in
+          let a = blank_front bs (past_blank bs) r.text close rest refl r.parts in
+          record {
+            text = a.text ++ r.text;
+            parts = a.parts ∙ ap (λ (l : List ℕ). a.text ++ l) r.parts ∙ sym
+                (append_assoc a.text r.text (close ∷ rest));
+            is = IsInside.some room ts a.text r.text a.is r.is;
+          }
+    ]
 
 abbrev IsInner : ℕ → Trees → List ℕ → Type 0
 IsInner zero ts s = ⊥
@@ -213,16 +235,21 @@ under_is {A} {B} f read y rest e =
     (x.0.0, x.1 ∙ ap (λ (l : List ℕ). Ok (x.0.0, l)) last, ap (λ (r : B × List ℕ). r.0) h)
 
 abbrev bracketed : (room open_byte close : ℕ) (f : Trees → Tree) (bs : List ℕ) (t : Tree) (rest : List ℕ) → Type 0
-bracketed room open_byte close f bs t rest = ((ts : Trees) (s : List ℕ) → IsInner room ts s → Spells room (f ts) (open_byte ∷ (s ++ close ∷ [])))
-    → ReadsInner room → under f (inside room close bs) ≡ Ok (t, rest) → Front (Spells room t) (open_byte ∷ bs) rest
+bracketed room open_byte close f bs t rest =
+    ((ts : Trees) (s : List ℕ) → IsInner room ts s → Spells room (f ts) (open_byte ∷ (s ++ close ∷ []))) → ReadsInner room → under f
+    (inside room close bs) ≡ Ok (t, rest) → Front (Spells room t) (open_byte ∷ bs) rest
 
 bracketed_is : (room open_byte close : ℕ) (f : Trees → Tree) (bs : List ℕ) (t : Tree) (rest : List ℕ) → bracketed room open_byte close f bs t rest
 bracketed_is room open_byte close f bs t rest spells reads e =
     let x = under_is f (inside room close bs) t rest e in
     let r = reads close bs x.0 rest x.1 in
     let P : Tree → Type 0 = λ y. Front (Spells room y) (open_byte ∷ bs) rest in
-    subst P x.2 (record { text = open_byte ∷ (r.text ++ close ∷ []); parts = ap (λ (l : List ℕ). open_byte ∷ l) (r.parts ∙ simp append_assoc);
-        is = spells x.0 r.text r.is })
+    subst P x.2 (record {
+      text = open_byte ∷ (r.text ++ close ∷ []);
+      parts = ap (λ (l : List ℕ). open_byte ∷ l)
+          (r.parts ∙ simp append_assoc);
+      is = spells x.0 r.text r.is;
+    })
 
 -- ---- words
 
@@ -242,14 +269,18 @@ all_front p (x ∷ xs) = all_cons p x xs (p x) refl (all_front p xs)
 name_is : (room b : ℕ) (bs : List ℕ) (t : Tree) (rest : List ℕ) → is_lower b ≡ true → name_at (b ∷ bs) ≡ Ok (t, rest) → Front (Spells room t) (b ∷ bs) rest
 unfolding name_at
 name_is room b bs t rest low e =
-    let n = prefix_len is_name (b ∷ bs) in
-    let is : is_name b ≡ true = rw low refl in
-    let c : prefix_len is_name (b ∷ bs) ≡ suc (prefix_len is_name bs) = rw is (omega arith) in
+    let n = prefix_len is_atom_byte (b ∷ bs) in
+    let is : is_atom_byte b ≡ true = rw low refl in
+    let c : prefix_len is_atom_byte (b ∷ bs) ≡ suc (prefix_len is_atom_byte bs) = rw is (omega arith) in
     let first : begins is_lower (take n (b ∷ bs)) ≡ true = rw c low in
     let made : Tree × List ℕ = (atom (take n (b ∷ bs)), drop n (b ∷ bs)) in
     let P : Tree × List ℕ → Type 0 = λ y. Front (Spells room y.0) (b ∷ bs) y.1 in
-    subst P (ok_is made (t, rest) e) (record { text = take n (b ∷ bs); parts = sym (take-append-drop n (b ∷ bs));
-        is = Spells.name room (take n (b ∷ bs)) first (all_front is_name (b ∷ bs)) })
+    subst P (ok_is made (t, rest) e) (record {
+      text = take n (b ∷ bs);
+      parts = sym (take-append-drop n (b ∷ bs));
+      is = Spells.name room
+          (take n (b ∷ bs)) first (all_front is_atom_byte (b ∷ bs));
+    })
 
 -- what stands before a closing quote
 pub record Quoted (quote : ℕ) (bs content rest : List ℕ) : Type 0 where
@@ -274,7 +305,7 @@ QuotedAt false quote bs content rest = Quoted quote bs content rest
 by_escape : (quote b : ℕ) (bs content rest : List ℕ) (f : Fault) (o : Option ℕ)
     (others : (c r : List ℕ) → quoted false quote bs ≡ Ok (c, r) → Quoted quote bs c r) → escape b ≡ o
     → ◌≡◌ {A = Read (List ℕ)} (elim o [ Some x ↦ with_byte x (quoted false quote bs) | None ↦ Err f ]) (Ok (content, rest))
-        → Escaped quote (b ∷ bs) content rest
+    → Escaped quote (b ∷ bs) content rest
 by_escape quote b bs content rest f None others is e = absurd cc
 by_escape quote b bs content rest f (Some x) others is e =
     let r = under_is (λ (c : List ℕ). x ∷ c) (quoted false quote bs) content rest e in
@@ -284,8 +315,8 @@ pub quoted_is : (escaped : Bool) (quote : ℕ) (bs content rest : List ℕ) → 
 unfolding quoted
 quoted_is true quote [] content rest e = absurd cc
 quoted_is false quote [] content rest e = absurd cc
-quoted_is true quote (b ∷ bs) content rest e = by_escape quote b bs content rest (Unsupported (1 + length (b ∷ bs))) (escape b)
-    (λ c r h. quoted_is false quote bs c r h) refl e
+quoted_is true quote (b ∷ bs) content rest e =
+    by_escape quote b bs content rest (Unsupported (1 + length (b ∷ bs))) (escape b) (λ c r h. quoted_is false quote bs c r h) refl e
 quoted_is false quote (b ∷ bs) content rest e = elim (chosen (b == quote) (Ok ([], bs)) _ (Ok (content, rest)) e) [
   | inl p ↦
       let made : List ℕ × List ℕ = ([], bs) in
@@ -315,22 +346,31 @@ quoted_atom_is room bs t rest e =
     let r = under_is atom (quoted false 39 bs) t rest e in
     let i = quoted_is false 39 bs r.0 rest r.1 in
     let P : Tree → Type 0 = λ y. Front (Spells room y) (39 ∷ bs) rest in
-    subst P r.2 (record { text = 39 ∷ (i.inner ++ 39 ∷ []); parts = ap (λ (l : List ℕ). 39 ∷ l) (i.parts ∙ simp append_assoc);
-        is = Spells.quoted_atom room i.inner r.0 i.is })
+    subst P r.2 (record {
+      text = 39 ∷ (i.inner ++ 39 ∷ []);
+      parts = ap (λ (l : List ℕ). 39 ∷ l)
+          (i.parts ∙ simp append_assoc);
+      is = Spells.quoted_atom room i.inner r.0 i.is;
+    })
 
 text_is : (room : ℕ) (bs : List ℕ) (t : Tree) (rest : List ℕ) → text_at bs ≡ Ok (t, rest) → Front (Spells room t) (34 ∷ bs) rest
 unfolding text_at
 text_is room bs t rest e =
     let x = bind_ok (quoted false 34 bs) (λ x. cond (begins (λ b. b == 34) (past_blank x.1)) (Err (Unsupported (length (past_blank x.1)))) (Ok (text x.0, x.1)))
-            (t, rest) e in
+    (t, rest) e in
     elim (chosen (begins (λ b. b == 34) (past_blank x.0.1)) (Err (Unsupported (length (past_blank x.0.1)))) (Ok (text x.0.0, x.0.1)) (Ok (t, rest)) x.2) [
       | inl p ↦ let h : ◌≡◌ {A = Read Tree} (Err (Unsupported (length (past_blank x.0.1)))) (Ok (t, rest)) = p.1 in absurd cc
       | inr p ↦
           let i = quoted_is false 34 bs x.0.0 x.0.1 x.1 in
           let made : Tree × List ℕ = (text x.0.0, x.0.1) in
           let P : Tree × List ℕ → Type 0 = λ y. Front (Spells room y.0) (34 ∷ bs) y.1 in
-          subst P (ok_is made (t, rest) p.1) (record { text = 34 ∷ (i.inner ++ 34 ∷ []); parts = ap (λ (l : List ℕ). 34 ∷ l) (i.parts ∙ simp append_assoc);
-              is = Spells.text_of room i.inner x.0.0 i.is })
+          subst P (ok_is made (t, rest) p.1)
+          (record {
+            text = 34 ∷ (i.inner ++ 34 ∷ []);
+            parts = ap (λ (l : List ℕ). 34 ∷ l)
+                (i.parts ∙ simp append_assoc);
+            is = Spells.text_of room i.inner x.0.0 i.is;
+          })
     ]
 
 abbrev SpellsDigits : Bool → ℕ → Tree → List ℕ → Type 0
@@ -348,18 +388,19 @@ digits_is minus room bs t rest e =
       | inl p ↦ let h : ◌≡◌ {A = Read Tree} (Err (stuck bs)) (Ok (t, rest)) = p.1 in absurd cc
       | inr p ↦ elim (chosen (not (fits minus (number (take n bs)))) (Err IntRange) _ (Ok (t, rest)) p.1) [
         | inl q ↦ let h : ◌≡◌ {A = Read Tree} (Err IntRange) (Ok (t, rest)) = q.1 in absurd cc
-        | inr q ↦ elim (chosen (is_other_number (drop n bs)) (Err (Unsupported (length (drop n bs)))) (Ok (int (signed minus (number (take n bs))), drop n bs))
-            (Ok (t, rest)) q.1) [
-          | inl r ↦ let h : ◌≡◌ {A = Read Tree} (Err (Unsupported (length (drop n bs)))) (Ok (t, rest)) = r.1 in absurd cc
-          | inr r ↦
-              let len : length (take n bs) ≡ n = length-prefix_len is_digit bs in
-              let some : 0 < length (take n bs) = rw len (grind (arith, nat_tests, p.0)) in
-              let fit : fits minus (number (take n bs)) ≡ true = not_false _ q.0 in
-              let made : Tree × List ℕ = (int (signed minus (number (take n bs))), drop n bs) in
-              let P : Tree × List ℕ → Type 0 = λ y. Front (SpellsDigits minus room y.0) bs y.1 in
-              subst P (ok_is made (t, rest) r.1) (record { text = take n bs; parts = sym (take-append-drop n bs);
-                  is = (some, all_front is_digit bs, fit, refl) })
-        ]
+        | inr q ↦
+            elim (chosen (is_other_number (drop n bs)) (Err (Unsupported (length (drop n bs))))
+            (Ok (int (signed minus (number (take n bs))), drop n bs)) (Ok (t, rest)) q.1) [
+              | inl r ↦ let h : ◌≡◌ {A = Read Tree} (Err (Unsupported (length (drop n bs)))) (Ok (t, rest)) = r.1 in absurd cc
+              | inr r ↦
+                  let len : length (take n bs) ≡ n = length-prefix_len is_digit bs in
+                  let some : 0 < length (take n bs) = rw len (grind (arith, nat_tests, p.0)) in
+                  let fit : fits minus (number (take n bs)) ≡ true = not_false _ q.0 in
+                  let made : Tree × List ℕ = (int (signed minus (number (take n bs))), drop n bs) in
+                  let P : Tree × List ℕ → Type 0 = λ y. Front (SpellsDigits minus room y.0) bs y.1 in
+                  subst P (ok_is made (t, rest) r.1)
+                  (record { text = take n bs; parts = sym (take-append-drop n bs); is = (some, all_front is_digit bs, fit, refl) })
+            ]
       ]
     ]
 
@@ -369,8 +410,12 @@ integer_is room bs t rest e = elim (chosen (begins (λ b. b == 45) bs) (digits_a
   | inl p ↦
       let r = digits_is true room (drop 1 bs) t rest p.1 in
       let P : Tree → Type 0 = λ y. Spells room y (45 ∷ r.text) in
-      record { text = 45 ∷ r.text; parts = begins_is 45 bs p.0 ∙ ap (λ (l : List ℕ). 45 ∷ l) r.parts;
-          is = subst P r.is.3 (Spells.minus room r.text r.is.0 r.is.1 r.is.2) }
+      record {
+        text = 45 ∷ r.text;
+        parts = begins_is 45 bs p.0 ∙ ap (λ (l : List ℕ). 45 ∷ l) r.parts;
+        is = subst P r.is.3
+            (Spells.minus room r.text r.is.0 r.is.1 r.is.2);
+      }
   | inr p ↦
       let r = digits_is false room bs t rest p.1 in
       let P : Tree → Type 0 = λ y. Spells room y r.text in

@@ -2,7 +2,8 @@
 use Rattle.std.specs.Prelude.{ℕ, List, ◌++◌, codes}
 use Rattle.std.specs.Fmt.{decimal}
 use Rattle.rh_terms.specs.declared.fault.TermFault.{TermFault}
-use Rattle.rh_terms.specs.declared.fault.TermFault.TheVariants.{Syntax, Unsupported, NotUtf8, TooDeep, IntRange, OutOfMemory}
+use Rattle.rh_terms.specs.declared.fault.TermFault.TheVariants.{Syntax, Unsupported, NotUtf8, TooDeep, IntRange}
+use Rattle.rh_terms.specs.declared.fault.TermFault.TheVariants.{OutOfMemory}
 
 abbrev pub term_fault_text : TermFault → List ℕ
 term_fault_text (Syntax line) = codes "T1 syntax line " ++ decimal line

@@ -1,7 +1,8 @@
 -- Terms, and whole texts.
--- Bytes are written as numbers: 10 is LF, 34 `"`, 37 `%`, 39 `'`, 44 `,`, 45 `-`, 46 `.`, 91 `[`, 92 `\`, 93 `]`, 123 `{`, 124 `|`, 125 `}`.
-use Rattle.std.specs.Prelude.{◌≡◌, ℕ, zero, suc, ◌+◌, ◌-◌, List, [], ◌∷◌, length, take, drop, count_by, Bool, true, false, ◌&&◌, ◌||◌, ◌==◌, Result, Ok, Err}
-use Rattle.std.specs.Prelude.{if◌then◌else◌}
+-- Bytes are written as numbers: 10 is LF, 34 `"`, 37 `%`, 39 `'`, 44 `,`, 45 `-`, 46 `.`, 91 `[`, 92 `\`, 93 `]`,
+-- 123 `{`, 124 `|`, 125 `}`.
+use Rattle.std.specs.Prelude.{◌≡◌, ℕ, zero, suc, ◌+◌, ◌-◌, List, [], ◌∷◌, length, take, drop, count_by}
+use Rattle.std.specs.Prelude.{Bool, true, false, ◌&&◌, ◌||◌, ◌==◌, Result, Ok, Err, if◌then◌else◌}
 use Rattle.std.specs.Str.{is_utf8}
 use Rattle.rh_terms.specs.declared.fault.Fault.{Fault}
 use Rattle.rh_terms.specs.declared.fault.Fault.TheVariants.{Syntax, Unsupported, TooDeep, IntRange}
@@ -9,6 +10,7 @@ use Rattle.rh_terms.specs.declared.fault.ReadError.{ReadError}
 use Rattle.rh_terms.specs.declared.fault.ReadError.TheVariants as errors
 use Rattle.rh_terms.specs.declared.fault.TermFault.{TermFault}
 use Rattle.rh_terms.specs.declared.fault.TermFault.TheVariants as faults
+use Rattle.rh_terms.specs.declared.nest.TheConstants.{MAX_DEPTH}
 use Rattle.rh_terms.specs.Bytes.{is_lower, is_digit, is_end, begins, past_blank}
 use Rattle.rh_terms.specs.Faults.{◌>>=◌, Read, under, stuck}
 use Rattle.rh_terms.specs.Tokens.{name_at, quoted_atom_at, text_at, integer_at}
@@ -25,14 +27,16 @@ word_at (b ∷ bs) =
     else if (b == 45) || is_digit b then integer_at (b ∷ bs)
     else Err (stuck (b ∷ bs))
 
--- A term, where `inside` reads what stands in a list or a tuple, up to its closing byte (Data Types, List and Tuple).
+-- A term, where `inside` reads what stands in a list or a tuple, up to its closing byte (Data Types, List and
+-- Tuple).
 unfoldable pub term_by : (ℕ → List ℕ → Read Trees) → List ℕ → Read Tree
 term_by inside bs =
     if begins (λ b. b == 91) bs then under list (inside 93 (drop 1 bs))
     else if begins (λ b. b == 123) bs then under tuple (inside 125 (drop 1 bs))
     else word_at bs
 
--- Behind an element: a comma, and then another one comes, or the closing byte. The `|` of an improper list is left out (ours).
+-- Behind an element: a comma, and then another one comes, or the closing byte. The `|` of an improper list is left out
+-- (ours).
 unfoldable pub next_at : ℕ → List ℕ → Read Bool
 next_at close bs =
     if begins (λ b. b == 44) bs then Ok (true, past_blank (drop 1 bs))
@@ -43,8 +47,10 @@ next_at close bs =
 -- One element or more, separated by commas, and the closing byte; at most n elements.
 unfoldable pub some_terms : (List ℕ → Read Tree) → ℕ → ℕ → List ℕ → Read Trees
 some_terms term close zero bs = Err (stuck bs)
-some_terms term close (suc n) bs = term bs >>= λ x. next_at close (past_blank x.1) >>= λ next.
-    if next.0 then under (more x.0) (some_terms term close n next.1) else Ok (more x.0 none, next.1)
+some_terms term close (suc n) bs = do
+  x ← term bs
+  next ← next_at close (past_blank x.1)
+  if next.0 then under (more x.0) (some_terms term close n next.1) else Ok (more x.0 none, next.1)
 
 -- What stands in a list or a tuple: no element, or some; not more than there are bytes.
 unfoldable pub terms_up_to : (List ℕ → Read Tree) → ℕ → List ℕ → Read Trees
@@ -64,14 +70,19 @@ term_at room bs = term_by (inside room) bs
 -- What stands behind a dot, which white space, a comment or the end of the text must follow (kernel, file, consult/1).
 unfoldable pub dot_at : List ℕ → Result (List ℕ) Fault
 dot_at bs =
-    if begins (λ b. b == 46) bs then (if (length bs == 1) || begins is_end (drop 1 bs) then Ok (drop 1 bs) else Err (stuck (drop 1 bs)))
+    if begins (λ b. b == 46) bs then
+    (if (length bs == 1) || begins is_end (drop 1 bs) then Ok (drop 1 bs) else Err (stuck (drop 1 bs)))
     else Err (stuck bs)
 
 -- Terms, each followed by a dot, up to the end of the text; at most n terms.
 unfoldable pub dotted : ℕ → List ℕ → Result Trees Fault
 dotted n [] = Ok none
 dotted zero (b ∷ bs) = Err (stuck (b ∷ bs))
-dotted (suc n) (b ∷ bs) = term_at 64 (b ∷ bs) >>= λ x. dot_at (past_blank x.1) >>= λ rest. dotted n (past_blank rest) >>= λ ts. Ok (more x.0 ts)
+dotted (suc n) (b ∷ bs) = do
+  x ← term_at MAX_DEPTH (b ∷ bs)
+  rest ← dot_at (past_blank x.1)
+  ts ← dotted n (past_blank rest)
+  Ok (more x.0 ts)
 
 -- The same, not more terms than there are bytes.
 abbrev pub terms_from : List ℕ → Result Trees Fault
@@ -93,7 +104,8 @@ abbrev pub told : List ℕ → Result Trees Fault → Result Trees TermFault
 told bytes (Ok ts) = Ok ts
 told bytes (Err f) = Err (fault_in bytes f)
 
--- The terms of a text, or its first fault from left to right; a text that isn't UTF-8 has no other fault (kernel, file, consult/1; the faults are ours).
+-- The terms of a text, or its first fault from left to right; a text that isn't UTF-8 has no other fault (kernel, file,
+-- consult/1; the faults are ours).
 unfoldable pub terms_of : List ℕ → Result Trees TermFault
 terms_of bytes = if is_utf8 bytes then told bytes (terms_from (past_blank bytes)) else Err faults.NotUtf8
 

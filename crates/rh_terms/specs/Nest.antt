@@ -5,6 +5,7 @@ use Rattle.rh_base.specs.declared.term.Term.{Term}
 use Rattle.rh_terms.specs.declared.nest.Shape.{Shape}
 use Rattle.rh_terms.specs.declared.nest.Shape.TheVariants as shapes
 use Rattle.rh_terms.specs.declared.nest.Bracket.{Bracket}
+use Rattle.rh_terms.specs.declared.nest.TheConstants.{MAX_DEPTH}
 use Rattle.rh_terms.specs.declared.nest.Nest.{Nest}
 use Rattle.rh_terms.specs.Bytes.{past_blank}
 use Rattle.rh_terms.specs.Faults.{◌>>=◌, Read, under}
@@ -39,13 +40,17 @@ abbrev pub after_trees : Trees → Result Trees Fault → Result Trees Fault
 after_trees front read = read >>= λ ts. Ok (join front ts)
 
 -- the elements from here on, up to the closing byte
-abbrev pub elements : ℕ → ℕ → List ℕ → Read Trees
-elements room close bs = some_terms (term_at room) close (length bs) bs
+abbrev pub elements_ahead : ℕ → ℕ → List ℕ → Read Trees
+elements_ahead room close bs = some_terms (term_at room) close (length bs) bs
 
 -- A list or a tuple of which some elements were read, and the next one is read so.
 unfoldable pub in_bracket : ℕ → Shape → Trees → Read Tree → Read Tree
-in_bracket room shape front read = read >>= λ x. next_at (closing shape) (past_blank x.1) >>= λ next.
-    under (tree_in shape) (with_trees (join front (more x.0 none)) (if next.0 then elements room (closing shape) next.1 else Ok (none, next.1)))
+in_bracket room shape front read = do
+  x ← read
+  next ← next_at (closing shape) (past_blank x.1)
+  under (tree_in shape)
+      (with_trees (join front (more x.0 none))
+      (if next.0 then elements_ahead room (closing shape) next.1 else Ok (none, next.1)))
 
 -- The same for lists and tuples inside each other, the outermost first.
 unfoldable pub climb : ℕ → List Bracket → Read Tree → Read Tree
@@ -54,13 +59,15 @@ climb room (b ∷ bs) read = in_bracket (room - 1) b.shape (trees_of b.items.ite
 
 -- A whole text, where the term in the innermost of them is read so.
 unfoldable pub ended : List Bracket → List Term → Read Tree → Result Trees Fault
-ended brackets terms read = climb 64 brackets read >>= λ x. dot_at (past_blank x.1) >>= λ rest. after_trees (join (trees_of terms) (more x.0 none))
-    (terms_from (past_blank rest))
+ended brackets terms read = do
+  x ← climb MAX_DEPTH brackets read
+  rest ← dot_at (past_blank x.1)
+  after_trees (join (trees_of terms) (more x.0 none)) (terms_from (past_blank rest))
 
 -- A whole text, of which these bytes are left, where a term begins or the text ends.
 unfoldable pub going : List Bracket → List Term → List ℕ → Result Trees Fault
 going [] terms bs = after_trees (trees_of terms) (terms_from bs)
-going (b ∷ brackets) terms bs = ended (b ∷ brackets) terms (term_at (64 - length (b ∷ brackets)) bs)
+going (b ∷ brackets) terms bs = ended (b ∷ brackets) terms (term_at (MAX_DEPTH - length (b ∷ brackets)) bs)
 
 -- the two for a nest
 abbrev pub ended_in : Nest → Read Tree → Result Trees Fault

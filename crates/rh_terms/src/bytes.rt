@@ -1,37 +1,44 @@
+//! Kinds of bytes, and what stands between terms and marks.
+
 ghost use Rattle.std.specs.Prelude.{◌≡◌, ℕ, List, ◌==◌, ◌≤◌, length, IsTrue, ◌<◌};
-ghost use Rattle.rh_terms.specs.Bytes.{is_white, is_digit, is_name, is_lower, is_unsupported, past_blank, begins};
+ghost use Rattle.rh_terms.specs.Bytes.{is_white, is_digit, is_atom_byte, is_lower, is_unsupported, past_blank, begins};
 ghost use Rattle.rh_terms.specs.Faults.{stuck};
 
 use crate::fault::{Fault, ReadError};
 
+/// Is it a space, a tab, LF, VT, FF or CR?
 pub fn is_white_byte(b: u8) -> bool
     ensures { result ≡ is_white b }
 {
-    b == b' ' || (9 <= b && b <= 13)
+    b == b' ' || (b'\t' <= b && b <= b'\r')
 }
 
+/// Is it a decimal digit?
 pub fn is_digit_byte(b: u8) -> bool
     ensures { result ≡ is_digit b }
 {
-    48 <= b && b <= 57
+    b'0' <= b && b <= b'9'
 }
 
+/// Is it a small letter of ASCII, with which an atom without quotes begins?
 pub fn is_lower_byte(b: u8) -> bool
     ensures { result ≡ is_lower b }
 {
-    97 <= b && b <= 122
+    b'a' <= b && b <= b'z'
 }
 
-pub fn is_name_byte(b: u8) -> bool
-    ensures { result ≡ is_name b }
+/// Is it a letter of ASCII, a digit, `_` or `@`, with which an atom without quotes goes on?
+pub fn is_atom_byte(b: u8) -> bool
+    ensures { result ≡ is_atom_byte b }
 {
-    is_lower_byte(b) || (64 <= b && b <= 90) || is_digit_byte(b) || b == b'_'
+    is_lower_byte(b) || (b'@' <= b && b <= b'Z') || is_digit_byte(b) || b == b'_'
 }
 
+/// Is it `$`, `#`, `<`, `~`, `+` or a byte past ASCII, with which begins what is left out of Erlang?
 pub fn is_unsupported_byte(b: u8) -> bool
     ensures { result ≡ is_unsupported b }
 {
-    b == b'$' || b == b'#' || b == b'<' || b == b'~' || b == b'+' || 128 <= b
+    b == b'$' || b == b'#' || b == b'<' || b == b'~' || b == b'+' || !b.is_ascii()
 }
 
 /// Whether the bytes begin with this one.

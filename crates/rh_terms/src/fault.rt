@@ -1,3 +1,5 @@
+//! What is wrong with a text, and want of memory.
+
 ghost use Rattle.std.specs.Prelude.{◌≡◌};
 ghost use Rattle.rh_terms.specs.declared.fault.ReadError.TheVariants.{Memory};
 ghost use Rattle.rh_terms.specs.declared.fault.TermFault.TheVariants as faults;
@@ -15,7 +17,7 @@ pub enum TermFault {
     Unsupported { line: usize },
     /// The text isn't UTF-8. This is answered before any other fault.
     NotUtf8,
-    /// More than 64 lists and tuples stand inside each other.
+    /// More than [`MAX_DEPTH`](crate::MAX_DEPTH) lists and tuples stand inside each other.
     TooDeep,
     /// An integer is below -2^63 or above 2^63 - 1.
     IntRange,
@@ -26,6 +28,7 @@ pub enum TermFault {
 impl From<OutOfMemory> for TermFault {
     ghost from_gives = { λ _ fault. fault ≡ faults.OutOfMemory };
 
+    // Want of memory is a fault of its own.
     fn from(_error: OutOfMemory) -> TermFault {
         TermFault::OutOfMemory
     }
@@ -50,6 +53,7 @@ pub enum ReadError {
 impl From<AllocError> for ReadError {
     ghost from_gives = { λ _ e. e ≡ Memory };
 
+    // A refused growth is want of memory.
     fn from(_error: AllocError) -> ReadError {
         ReadError::Memory
     }
@@ -58,6 +62,7 @@ impl From<AllocError> for ReadError {
 impl<T: Drop> From<AllocFailed<T>> for ReadError {
     ghost from_gives = { λ _ e. e ≡ Memory };
 
+    // So it is where a value is given back.
     fn from(_error: AllocFailed<T>) -> ReadError {
         ReadError::Memory
     }

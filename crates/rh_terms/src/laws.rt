@@ -1,3 +1,5 @@
+//! Laws of the grammar. The functions do nothing: their contracts are the laws.
+
 ghost use Rattle.std.specs.Prelude.{◌≡◌, ◌≤◌, List, ℕ, length};
 ghost use Rattle.rh_terms.specs.Grammar.{dotted, some_terms, term_at};
 ghost use Rattle.rh_terms.specs.Spelling.{AreDotted};

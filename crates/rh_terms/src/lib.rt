@@ -2,8 +2,8 @@
 //! `file:consult/1` of Erlang's kernel reads.
 //!
 //! [`read_terms`] reads a whole text: terms, a dot behind each. It reads atoms, with quotes or without,
-//! integers of 64 bits, texts between double quotes, lists and tuples, at most 64 of them inside each other,
-//! white space and comments (Erlang Reference Manual, Data Types). The text is UTF-8.
+//! integers of 64 bits, texts between double quotes, lists and tuples, at most [`MAX_DEPTH`] of them inside
+//! each other, white space and comments (Erlang Reference Manual, Data Types). The text is UTF-8.
 //! All else of Erlang is refused as [`TermFault::Unsupported`]: floats, maps, records, binaries, characters
 //! after `$`, integers with a base or with underscores, improper lists, texts that are joined, sigils, other
 //! escapes, and characters past ASCII without quotes.
@@ -22,4 +22,5 @@ mod tokens;
 
 pub use fault::TermFault;
 pub use laws::{bounds_are_never_met, one_reading};
+pub use nest::MAX_DEPTH;
 pub use reading::read_terms;

@@ -1,6 +1,8 @@
+//! The lists and tuples that are open while a text is read.
+
 ghost use Rattle.std.specs.Prelude.{◌≡◌, ◌∷◌, [], ◌≤◌, ◌<◌, ◌-◌, length, Ok, IfOk, MatchResult};
 ghost use Rattle.std.specs.Str.{IsUtf8};
-ghost use Rattle.rh_terms.specs.Faults.{Fails, Gives};
+ghost use Rattle.rh_terms.specs.Faults.{Fails, ReadsAs};
 ghost use Rattle.rh_terms.specs.Grammar.{term_at};
 ghost use Rattle.rh_terms.specs.Nest.{opening, closing, tree_in, ended_in, going_in};
 ghost use Rattle.rh_base.specs.Tree.{tree_of, trees_of};
@@ -8,12 +10,12 @@ ghost use Rattle.rh_base.specs.Tree.{tree_of, trees_of};
 use crate::bytes::{begins_with, skip_blank};
 use crate::fault::{Fault, ReadError};
 use crate::marks::{dot_of, next_of};
-use rh_base::{Term, Terms};
 use crate::tokens::word_of;
+use rh_base::{Term, Terms};
 use std::alloc::Global;
 
-/// How many lists and tuples may stand inside each other.
-const DEPTH: usize = 64;
+/// How many lists and tuples may stand inside each other (ours).
+pub const MAX_DEPTH: usize = 64;
 
 /// A list or a tuple.
 #[derive(Clone, Copy)]
@@ -23,6 +25,7 @@ pub enum Shape {
 }
 
 impl Shape {
+    // The byte that closes it.
     fn closing_byte(self) -> u8
         ensures { result ≡ closing self }
     {
@@ -32,6 +35,7 @@ impl Shape {
         }
     }
 
+    // The list or the tuple of these elements.
     fn term_of(self, items: Vec<Term>) -> Term
         ensures { tree_of result ≡ tree_in self (trees_of items.items) }
     {
@@ -57,6 +61,7 @@ pub struct Nest {
 }
 
 impl Nest {
+    /// Nothing is read, and nothing is open.
     pub fn new(alloc: Global) -> Nest
         ensures brackets { result.brackets.items ≡ [] }
         ensures terms { result.terms.items ≡ [] }
@@ -67,7 +72,7 @@ impl Nest {
         }
     }
 
-    /// Puts a term in its place, closes what closes behind it, and gives the place of the next term.
+    // Puts a term in its place, closes what closes behind it, and gives the place of the next term.
     // It is inlined, as `enter` and `step` are, since a call would pass each term through memory.
     #[inline(always)]
     fn place<'a>(&mut self, term: Term, behind: &'a [u8]) -> Result<&'a [u8], ReadError>
@@ -95,7 +100,7 @@ impl Nest {
         Ok(skip_blank(after))
     }
 
-    /// Opens a list or a tuple, of which these bytes stand behind the opening one.
+    // Opens a list or a tuple, of which these bytes stand behind the opening one.
     #[inline(always)]
     fn enter<'a>(
         &mut self,
@@ -104,14 +109,15 @@ impl Nest {
         inner: &'a [u8],
     ) -> Result<&'a [u8], ReadError>
         requires { IsUtf8 inner.now }
-        ensures exact { let term = term_at (64 - length self.old.brackets.items) (opening shape ∷ inner.now) in
+        ensures exact { let term = term_at (MAX_DEPTH - length self.old.brackets.items) (opening shape ∷ inner.now) in
             MatchResult result
             (λ rest. going_in self.new rest.now ≡ ended_in self.old term)
             (λ e. Fails e (ended_in self.old term)) }
         ensures text { IfOk result (λ rest. IsUtf8 rest.now) }
         ensures shorter { IfOk result (λ rest. length rest.now ≤ length inner.now) }
     {
-        if self.brackets.len() >= DEPTH {
+        let depth = self.brackets.len();
+        if depth >= MAX_DEPTH {
             return Err(ReadError::Fault(Fault::TooDeep));
         }
         let rest = skip_blank(inner);
@@ -146,7 +152,7 @@ impl Nest {
 
     /// The terms, where the text ends here.
     pub fn finish(self) -> Result<Vec<Term>, ReadError>
-        ensures { Gives (λ terms. trees_of terms.items) result (going_in self []) }
+        ensures { ReadsAs (λ terms. trees_of terms.items) result (going_in self []) }
     {
         if self.brackets.is_empty() {
             Ok(self.terms)

@@ -1,7 +1,9 @@
+//! Reading a whole text.
+
 ghost use Rattle.std.specs.Prelude.{◌≡◌, ℕ, List, ◌==◌, ◌≤◌, length, Ok, Err, count_by, IfOk, IsTrue};
 ghost use Rattle.std.specs.Str.{is_utf8, IsUtf8};
 ghost use Rattle.rh_terms.specs.Constructs.{HasConstruct};
-ghost use Rattle.rh_terms.specs.Faults.{Gives};
+ghost use Rattle.rh_terms.specs.Faults.{ReadsAs};
 ghost use Rattle.rh_terms.specs.Grammar.{terms_from, line_at, terms_of, Tells, fault_told};
 ghost use Rattle.rh_terms.specs.Spelling.{AreDotted};
 ghost use Rattle.rh_base.specs.Tree.{Trees, trees_of, items_of};
@@ -12,10 +14,10 @@ use crate::nest::Nest;
 use rh_base::{Term, Terms};
 use std::alloc::Global;
 
-/// The terms from the first one on.
+// The terms from the first one on.
 fn terms_of_text(alloc: Global, bytes: &[u8]) -> Result<Vec<Term>, ReadError>
     requires { IsUtf8 bytes.now }
-    ensures { Gives (λ x. trees_of x.items) result (terms_from bytes.now) }
+    ensures { ReadsAs (λ x. trees_of x.items) result (terms_from bytes.now) }
 {
     let mut nest = Nest::new(alloc);
     let mut rest = bytes;
@@ -25,7 +27,7 @@ fn terms_of_text(alloc: Global, bytes: &[u8]) -> Result<Vec<Term>, ReadError>
     nest.finish()
 }
 
-/// The line of the place from which on so many bytes are left.
+// The line of the place from which on so many bytes are left.
 fn line_of(bytes: &[u8], left: usize) -> usize
     ensures { result ≡ line_at bytes.now left }
 {
@@ -33,6 +35,7 @@ fn line_of(bytes: &[u8], left: usize) -> usize
     line_feeds(front) + 1
 }
 
+// The number of LF bytes.
 fn line_feeds(bytes: &[u8]) -> usize
     ensures count { result ≡ count_by (λ b. b == 10) bytes.now }
     ensures most { result ≤ length bytes.now }
@@ -40,6 +43,7 @@ fn line_feeds(bytes: &[u8]) -> usize
     bytes.iter().filter(|b| **b == b'\n').count()
 }
 
+// Is it UTF-8?
 fn is_text(bytes: &[u8]) -> bool
     ensures { result ≡ is_utf8 bytes.now }
 {
@@ -49,6 +53,7 @@ fn is_text(bytes: &[u8]) -> bool
     }
 }
 
+// The fault that is answered for an error, with its line where it has one.
 fn fault_of(bytes: &[u8], error: ReadError) -> TermFault
     ensures { result ≡ fault_told bytes.now error }
 {

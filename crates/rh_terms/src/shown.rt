@@ -10,6 +10,7 @@ impl fmt::Display for TermFault {
 
     ghost output = { λ fault. Some (term_fault_text fault) };
 
+    // The words of the fault.
     fn fmt<W: fmt::Write>(&self, f: &mut fmt::Formatter<W>) -> fmt::Result {
         match self {
             TermFault::Syntax { line } => write!(f, "T1 syntax line {line}"),

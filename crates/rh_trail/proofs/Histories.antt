@@ -13,6 +13,7 @@ use Rattle.rh_step.specs.Validity.{IsValid}
 use Rattle.rh_step.proofs.FirstStates.{first_valid}
 use Rattle.rh_trail.specs.Runs.{step, after}
 use Rattle.rh_trail.specs.History.{IsHistory}
+use Rattle.rh_trail.specs.Lone.{trail_limit}
 
 module _ (c : ClusterView) (pick : Pick) (trail : List Event) (cursor : ℕ) (e : Event) (within : cursor ≤ length trail) where
   kept_trail : length (take cursor trail) ≡ cursor
@@ -44,23 +45,23 @@ pub opened_valid : (c : ClusterView) (pick : Pick) → IsWithin c → (k : ℕ) 
 opened_valid c pick within zero = first_valid c within
 opened_valid c pick within (suc k) = first_valid c within
 
-pub history_opens : (c : ClusterView) (pick : Pick) (trail : List Event) (states : List Stored) (s : Stored) → IsWithin c → trail ≡ [] → states ≡ s ∷ []
-    → read s ≡ first c → IsHistory c pick trail states 0
-history_opens c pick trail states s fits none one is = subst (λ (es : List Event). IsHistory c pick es states 0) (sym none)
-    (subst (λ (ss : List Stored). IsHistory c pick [] ss 0) (sym one) (record {
-  count = omega arith;
-  within = omega arith;
-  limited = omega arith;
-  each = λ k d bound. only k d bound;
-  valid = λ k bound. opened_valid c pick fits k;
-}))
+pub history_opens : (c : ClusterView) (pick : Pick) (trail : List Event) (states : List Stored) (s : Stored)
+    → IsWithin c → trail ≡ [] → states ≡ s ∷ [] → read s ≡ first c → IsHistory c pick trail states 0
+history_opens c pick trail states s fits none one is =
+    subst (λ (es : List Event). IsHistory c pick es states 0) (sym none) (subst (λ (ss : List Stored). IsHistory c pick [] ss 0) (sym one) (record {
+      count = omega arith;
+      within = omega arith;
+      limited = omega arith;
+      each = λ k d bound. only k d bound;
+      valid = λ k bound. opened_valid c pick fits k;
+    }))
   where
     only : (k : ℕ) (d : Stored) → k ≤ 0 → read (get_or (s ∷ []) k d) ≡ after c pick (take k [])
     only zero d bound = is
     only (suc k) d bound = absurd (omega (arith, bound))
 
 module _ (c : ClusterView) (pick : Pick) (trail : List Event) (states : List Stored) (cursor : ℕ) (e : Event) (s : Stored) where
-  pub history_goes_on : IsHistory c pick trail states cursor → cursor < 65535 → read s ≡ step pick (after c pick (take cursor trail)) e → IsValid (read s)
+  pub history_goes_on : IsHistory c pick trail states cursor → cursor < trail_limit → read s ≡ step pick (after c pick (take cursor trail)) e → IsValid (read s)
       → IsHistory c pick (take cursor trail ++ e ∷ []) (take (cursor + 1) states ++ s ∷ []) (cursor + 1)
   history_goes_on h room is valid = record {
     count = omega (arith, length_push (take cursor trail) e, length_push (take (cursor + 1) states) s, kept, kept_states);

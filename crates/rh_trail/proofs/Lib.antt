@@ -1,4 +1,4 @@
 pub mod Histories
 pub mod Reversals
 pub mod Rows
-pub mod Reasons
+pub mod Crossing

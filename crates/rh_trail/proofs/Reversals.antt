@@ -5,18 +5,18 @@ use Rattle.std.proofs.lemmas.Bool.Decides.{nat_tests}
 use Rattle.std.proofs.lemmas.List.{length-take-le, take_all, take_at, length_push}
 use Rattle.rh_events.specs.declared.event.Event.{Event}
 use Rattle.rh_settle.specs.declared.notice.Notice.{Notice}
-use Rattle.rh_step.specs.declared.refusal.Refusal.{Refusal}
-use Rattle.rh_step.specs.declared.refusal.Refusal.TheVariants.{TrailFull}
+use Rattle.rh_events.specs.declared.refusal.Refusal.{Refusal}
+use Rattle.rh_events.specs.declared.refusal.Refusal.TheVariants.{TrailFull}
 use Rattle.rh_trail.specs.declared.call.Call.{Call}
 use Rattle.rh_trail.specs.declared.call.Call.TheVariants as call
 use Rattle.rh_trail.specs.declared.call.Reply.{Reply}
 use Rattle.rh_trail.specs.declared.call.Reply.TheVariants as reply
-use Rattle.rh_step.specs.Refusals.{refused}
+use Rattle.rh_events.specs.Refusals.{refused}
 use Rattle.rh_step.specs.Outcomes.{Outcome, outcome, next}
 use Rattle.rh_step.specs.Allowed.{Allowed}
 use Rattle.rh_trail.specs.Runs.{step, after}
 use Rattle.rh_trail.specs.SimView.{SimView, state_of}
-use Rattle.rh_trail.specs.Lone.{Served, answered, served, stepped, with_event, opened, sim_after}
+use Rattle.rh_trail.specs.Lone.{Served, answered, served, stepped, with_event, opened, sim_after, trail_limit}
 use Rattle.rh_trail.specs.Laws.{is_refusal, next_sim, Accepts, IsReversible, CallsAreReversible}
 use Rattle.rh_step.specs.Validity.{IsValid}
 use Rattle.rh_step.proofs.Outcomes.{next_allowed}
@@ -26,7 +26,7 @@ use Rattle.rh_trail.proofs.Histories.{opened_valid, each_state, state_last}
 -- the cursor stands in the trail, and the trail keeps its limit
 pub record IsSound (s : SimView) : Type 0 where
   pub within : s.cursor ≤ length s.trail
-  pub limited : length s.trail ≤ 65535
+  pub limited : length s.trail ≤ trail_limit
   pub valid : (k : ℕ) → k ≤ length s.trail → IsValid (after s.cluster s.pick (take k s.trail))
 
 -- so the state is one that a cluster reaches
@@ -42,10 +42,10 @@ full s = answered (reply.Refused TrailFull) s
 kept_front : (s : SimView) → s.cursor ≤ length s.trail → length (take s.cursor s.trail) ≡ s.cursor
 kept_front s within = length-take-le s.cursor s.trail within
 
-event_sound : (s : SimView) (e : Event) → IsSound s → refused (state_of s) e ≡ None → (s.cursor == 65535) ≡ false → IsSound (with_event s e)
+event_sound : (s : SimView) (e : Event) → IsSound s → refused (state_of s) e ≡ None → (s.cursor == trail_limit) ≡ false → IsSound (with_event s e)
 unfolding step
 event_sound s e sound fine room =
-    let below : s.cursor < 65535 = grind (arith, nat_tests, sound.within, sound.limited) in
+    let below : s.cursor < trail_limit = grind (arith, nat_tests, sound.within, sound.limited) in
     record {
       within = omega (arith, length_push (take s.cursor s.trail) e, kept_front s sound.within);
       limited = omega (arith, length_push (take s.cursor s.trail) e, kept_front s sound.within);
@@ -54,9 +54,9 @@ event_sound s e sound fine room =
 
 step_sound : (s : SimView) (e : Event) (o : Option Refusal) → refused (state_of s) e ≡ o → IsSound s → IsSound (stepped s e o).sim
 step_sound s e (Some r) fine sound = sound
-step_sound s e None fine sound = by (s.cursor == 65535) refl
+step_sound s e None fine sound = by (s.cursor == trail_limit) refl
   where
-    by : (b : Bool) → (s.cursor == 65535) ≡ b → IsSound (cond b (full s) (done s e)).sim
+    by : (b : Bool) → (s.cursor == trail_limit) ≡ b → IsSound (cond b (full s) (done s e)).sim
     by true _ = sound
     by false room = event_sound s e sound fine room
 
@@ -98,7 +98,7 @@ notices_or ns _ = ns
 pub accepted : (s : SimView) (e : Event) (ns : List Notice) → Accepts s e ns → IsAccepted s e ns
 accepted s e ns is = by (refused (state_of s) e) refl is
   where
-    within : (b : Bool) → (s.cursor == 65535) ≡ b → refused (state_of s) e ≡ None → (cond b (full s) (done s e)).reply ≡ reply.Done ns → IsAccepted s e ns
+    within : (b : Bool) → (s.cursor == trail_limit) ≡ b → refused (state_of s) e ≡ None → (cond b (full s) (done s e)).reply ≡ reply.Done ns → IsAccepted s e ns
     within true _ _ h = absurd (cc (ap is_done h))
     within false room at h = record {
       fine = at;
@@ -108,7 +108,7 @@ accepted s e ns is = by (refused (state_of s) e) refl is
 
     by : (o : Option Refusal) → refused (state_of s) e ≡ o → (stepped s e o).reply ≡ reply.Done ns → IsAccepted s e ns
     by (Some r) at h = absurd (cc (ap is_done h))
-    by None at h = within (s.cursor == 65535) refl at h
+    by None at h = within (s.cursor == trail_limit) refl at h
 
 -- the state after one more event
 pub state_of-with_event : (s : SimView) (e : Event) → s.cursor ≤ length s.trail → state_of (with_event s e) ≡ step s.pick (state_of s) e
@@ -168,7 +168,7 @@ module _ (s : SimView) (sound : IsSound s) (e : Event) (ns : List Notice) (is : 
       let a = accepted s e ns is in
       let state_is : state_of (next_sim s (call.Step e)) ≡ (next (state_of s) e s.pick).state = ap state_of a.sim ∙ state_of-with_event s e sound.within in
       subst (λ (o : Outcome). Allowed (state_of s) e o) (λ i. outcome (sym state_is i) (sym a.told i))
-          (next_allowed (state_of s) e s.pick (state_valid s sound) a.fine)
+      (next_allowed (state_of s) e s.pick (state_valid s sound) a.fine)
 
   is_undone_to : state_of (next_sim (next_sim s (call.Step e)) call.Undo) ≡ state_of s
   is_undone_to =
@@ -191,7 +191,7 @@ module _ (s : SimView) (sound : IsSound s) (e : Event) (ns : List Notice) (is : 
 -- a call whose reply is a refusal
 step_kept : (s : SimView) (e : Event) (o : Option Refusal) → is_refusal (stepped s e o).reply ≡ true → (stepped s e o).sim ≡ s
 step_kept s e (Some r) h = refl
-step_kept s e None h = by (s.cursor == 65535) h
+step_kept s e None h = by (s.cursor == trail_limit) h
   where
     by : (b : Bool) → is_refusal (cond b (full s) (done s e)).reply ≡ true → (cond b (full s) (done s e)).sim ≡ s
     by true _ = refl

@@ -6,7 +6,7 @@ use Rattle.rh_model.specs.declared.settings.Restart.TheVariants.{Permanent, Tran
 use Rattle.rh_events.specs.declared.event.Event.TheVariants.{Boot, Crash}
 use Rattle.rh_settle.specs.declared.notice.Notice.TheVariants.{Up, Ended}
 use Rattle.rh_place.specs.declared.choosing.Pick.TheVariants.{First}
-use Rattle.rh_step.specs.declared.refusal.Refusal.TheVariants.{UnknownNode, AlreadyAlive, IncarnationLimit, NotAlive, TrailFull}
+use Rattle.rh_events.specs.declared.refusal.Refusal.TheVariants.{UnknownNode, AlreadyAlive, IncarnationLimit, NotAlive, TrailFull}
 use Rattle.rh_trail.specs.declared.call.Call.TheVariants.{Step, Undo, Redo, UndoAll, RedoAll, Look}
 use Rattle.rh_trail.specs.declared.call.Reply.TheVariants.{Done, Refused, Undone, Redone, AtStart, AtEnd, Moved, Seen}
 use Rattle.rh_state.specs.declared.status.Mode.TheVariants as mode
@@ -14,7 +14,7 @@ use Rattle.rh_state.specs.declared.status.Kind.TheVariants.{Normal, Failover}
 use Rattle.rh_state.specs.declared.status.Standing.TheVariants.{Quiet, Running, Lost}
 use Rattle.rh_state.specs.declared.status.Timer.TheVariants as timer
 use Rattle.rh_state.specs.StateView.{StateView}
-use Rattle.rh_step.specs.Refusals.{refused}
+use Rattle.rh_events.specs.Refusals.{refused}
 use Rattle.rh_state.specs.Numbers.{nodes_of, apps_of}
 use Rattle.rh_state.specs.First.{first, configured}
 use Rattle.rh_settle.specs.Settling.{moved_by, all_moved}
@@ -91,8 +91,13 @@ unfolding nodes_of apps_of node_line running_line waiting_line forbidden_line li
 report_row = refl
 
 -- where a distributed application stands that doesn't run
-lost_row : report_text (record failed_over { running = [] ∷ [] ∷ []; waiting = [] ∷ [] ∷ []; allowed = (true ∷ true ∷ []) ∷ (true ∷ true ∷ []) ∷ [];
-    standings = Lost (numbered 0) ∷ Quiet ∷ []; timers = (9, timer.Failover (app_numbered 0)) ∷ [] })
+lost_row : report_text (record failed_over {
+  running = [] ∷ [] ∷ [];
+  waiting = [] ∷ [] ∷ [];
+  allowed = (true ∷ true ∷ []) ∷ (true ∷ true ∷ []) ∷ [];
+  standings = Lost (numbered 0) ∷ Quiet ∷ [];
+  timers = (9, timer.Failover (app_numbered 0)) ∷ [];
+})
     ≡ codes "now 7\nnode n1 up 2\nnode n2 up 1\napp job lost n1\ntimer failover job 9\n"
 unfolding nodes_of apps_of node_line running_line waiting_line forbidden_line line_if_forbidden app_line timer_line node_lines digits
 lost_row = refl

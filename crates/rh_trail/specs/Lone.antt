@@ -3,15 +3,16 @@ use Rattle.std.specs.Prelude.{ℕ, ◌+◌, ◌-◌, List, [], ◌∷◌, ◌++�
 use Rattle.rh_model.specs.ClusterView.{ClusterView}
 use Rattle.rh_events.specs.declared.event.Event.{Event}
 use Rattle.rh_place.specs.declared.choosing.Pick.{Pick}
-use Rattle.rh_step.specs.declared.refusal.Refusal.{Refusal}
-use Rattle.rh_step.specs.declared.refusal.Refusal.TheVariants.{TrailFull}
+use Rattle.rh_events.specs.declared.refusal.Refusal.{Refusal}
+use Rattle.rh_events.specs.declared.refusal.Refusal.TheVariants.{TrailFull}
 use Rattle.rh_trail.specs.declared.call.Call.{Call}
 use Rattle.rh_trail.specs.declared.call.Call.TheVariants as call
 use Rattle.rh_trail.specs.declared.call.Reply.{Reply}
 use Rattle.rh_trail.specs.declared.call.Reply.TheVariants as reply
 use Rattle.rh_trail.specs.declared.sim.AtStart.{AtStart}
 use Rattle.rh_trail.specs.declared.sim.AtEnd.{AtEnd}
-use Rattle.rh_step.specs.Refusals.{refused}
+use Rattle.rh_events.specs.Refusals.{refused}
+use Rattle.rh_trail.specs.declared.sim.TheConstants.Sim.{TRAIL_LIMIT}
 use Rattle.rh_step.specs.Outcomes.{next}
 use Rattle.rh_trail.specs.SimView.{SimView, state_of}
 use Rattle.rh_trail.specs.Report.{report_text}
@@ -30,7 +31,7 @@ opened c pick = record { cluster = c; pick = pick; trail = []; cursor = 0 }
 
 -- most events of a trail
 abbrev pub trail_limit : ℕ
-trail_limit = 65535
+trail_limit = TRAIL_LIMIT
 
 -- an accepted event drops what could be made again, and becomes the last that stands
 abbrev pub with_event : SimView → Event → SimView

@@ -2,7 +2,7 @@
 use Rattle.std.specs.Prelude.{ℕ, List, [], ◌++◌, codes, slice_get, unwrap_or, Some, None, if◌then◌else◌}
 use Rattle.std.specs.List.{flat_map}
 use Rattle.std.specs.Fmt.{decimal}
-use Rattle.rh_model.specs.ClusterView.{ClusterView, name_of}
+use Rattle.rh_model.specs.ClusterView.{ClusterView}
 use Rattle.rh_model.specs.declared.node.Node.{Node}
 use Rattle.rh_model.specs.declared.node.App.{App}
 use Rattle.rh_model.specs.declared.settings.Restart.{Restart}
@@ -19,9 +19,16 @@ use Rattle.rh_state.specs.Numbers.{nodes_of, apps_of}
 use Rattle.rh_state.specs.StateView.{StateView, mode_of, incarnation_of, running_at, waiting_at, restart_of, kind_of, is_allowed, standing_of}
 use Rattle.rh_settle.specs.Moves.{is_local}
 
--- the name of an application, or nothing for a number that no application has
-abbrev pub app_name_of : ClusterView → App → List ℕ
-app_name_of c a = unwrap_or (slice_get c.app_names a.0) []
+-- what is shown for a name that is missing
+abbrev pub no_name : List ℕ
+no_name = codes "?"
+
+-- the name of a node or of an application, or that for a number that none has
+abbrev pub node_word : ClusterView → Node → List ℕ
+node_word c n = unwrap_or (slice_get c.node_names n.0) no_name
+
+abbrev pub app_word : ClusterView → App → List ℕ
+app_word c a = unwrap_or (slice_get c.app_names a.0) no_name
 
 -- ---- the parts of a state in words
 
@@ -40,21 +47,21 @@ restart_words Temporary = codes "temporary"
 -- how an application was started, with the node that it came from (application(3), the start type of `start/2`)
 abbrev pub kind_words : ClusterView → Kind → List ℕ
 kind_words c kind.Normal = codes "normal"
-kind_words c (kind.Failover m) = codes "failover " ++ name_of c m
-kind_words c (kind.Takeover m) = codes "takeover " ++ name_of c m
+kind_words c (kind.Failover m) = codes "failover " ++ node_word c m
+kind_words c (kind.Takeover m) = codes "takeover " ++ node_word c m
 
 -- where a distributed application stands, with the node where it runs or with which it was lost
 abbrev pub standing_words : ClusterView → Standing → List ℕ
 standing_words c standing.Quiet = codes "quiet"
 standing_words c (standing.Wanted None) = codes "wanted"
-standing_words c (standing.Wanted (Some m)) = codes "wanted " ++ name_of c m
-standing_words c (standing.Running n) = codes "running " ++ name_of c n
-standing_words c (standing.Lost n) = codes "lost " ++ name_of c n
+standing_words c (standing.Wanted (Some m)) = codes "wanted " ++ node_word c m
+standing_words c (standing.Running n) = codes "running " ++ node_word c n
+standing_words c (standing.Lost n) = codes "lost " ++ node_word c n
 
 -- what a timer is for
 abbrev pub timer_words : ClusterView → Timer → List ℕ
-timer_words c (timer.Sync n) = codes "sync " ++ name_of c n
-timer_words c (timer.Failover a) = codes "failover " ++ app_name_of c a
+timer_words c (timer.Sync n) = codes "sync " ++ node_word c n
+timer_words c (timer.Failover a) = codes "failover " ++ app_word c a
 
 -- ---- the lines
 
@@ -62,27 +69,27 @@ abbrev pub time_line : StateView → List ℕ
 time_line s = codes "now " ++ decimal s.time ++ codes "\n"
 
 unfoldable pub node_line : StateView → Node → List ℕ
-node_line s n = codes "node " ++ name_of s.cluster n ++ codes " " ++ mode_words (mode_of s n) ++ codes " " ++ decimal (incarnation_of s n) ++ codes "\n"
+node_line s n = codes "node " ++ node_word s.cluster n ++ codes " " ++ mode_words (mode_of s n) ++ codes " " ++ decimal (incarnation_of s n) ++ codes "\n"
 
 -- an application that runs at a node
 unfoldable pub running_line : StateView → Node → App → List ℕ
-running_line s n a = codes "  running " ++ app_name_of s.cluster a ++ codes " " ++ restart_words (restart_of s n a) ++ codes " "
+running_line s n a = codes "  running " ++ app_word s.cluster a ++ codes " " ++ restart_words (restart_of s n a) ++ codes " "
     ++ kind_words s.cluster (kind_of s n a) ++ codes "\n"
 
 -- one that waits there
 unfoldable pub waiting_line : StateView → Node → App → List ℕ
-waiting_line s n a = codes "  waiting " ++ app_name_of s.cluster a ++ codes " " ++ restart_words (restart_of s n a) ++ codes "\n"
+waiting_line s n a = codes "  waiting " ++ app_word s.cluster a ++ codes " " ++ restart_words (restart_of s n a) ++ codes "\n"
 
 -- one that may not run there
 unfoldable pub forbidden_line : ClusterView → App → List ℕ
-forbidden_line c a = codes "  forbidden " ++ app_name_of c a ++ codes "\n"
+forbidden_line c a = codes "  forbidden " ++ app_word c a ++ codes "\n"
 
 unfoldable pub line_if_forbidden : StateView → Node → App → List ℕ
 line_if_forbidden s n a = if is_allowed s n a then [] else forbidden_line s.cluster a
 
 -- a distributed application; nothing for a local one
 unfoldable pub app_line : StateView → App → List ℕ
-app_line s a = if is_local s.cluster a then [] else codes "app " ++ app_name_of s.cluster a ++ codes " " ++ standing_words s.cluster (standing_of s a)
+app_line s a = if is_local s.cluster a then [] else codes "app " ++ app_word s.cluster a ++ codes " " ++ standing_words s.cluster (standing_of s a)
     ++ codes "\n"
 
 unfoldable pub timer_line : ClusterView → ℕ × Timer → List ℕ

@@ -2,8 +2,8 @@
 
 ghost use Rattle.std.specs.Prelude.{◌≡◌, ◌↔◌, IsTrue, IfOk};
 
-use rh_step::{Event, Notices, Refusal};
 use rh_base::OutOfMemory;
+use rh_step::{Event, Notices, Refusal};
 use std::alloc::Global;
 use std::marker::Model;
 

@@ -5,12 +5,13 @@ ghost use Rattle.rh_state.specs.Stored.{read};
 
 mod moves;
 
-use rh_model::Cluster;
-use rh_state::{State, first_state};
-use rh_step::{Event, Pick};
 use rh_base::OutOfMemory;
+use rh_model::Cluster;
+use rh_state::{State, first_state_sharing};
+use rh_step::{Event, Pick};
 use std::alloc::Global;
 use std::marker::Model;
+use std::sync::Arc;
 
 /// There is no step to take back.
 #[derive(Clone, Copy, Debug, PartialEq, Eq)]
@@ -23,7 +24,8 @@ pub struct AtEnd;
 /// A simulation of a cluster, with undo and redo.
 #[derive(Drop)]
 pub struct Sim {
-    cluster: Cluster,
+    // All states share it.
+    cluster: Arc<Cluster>,
     pick: Pick,
     trail: Vec<Event>,
     states: Vec<State>,
@@ -36,9 +38,9 @@ impl Model for Sim {
 
     ghost Value = { Held };
 
-    ghost view = { λ s. record { seen = record { cluster = s.cluster; pick = s.pick; trail = s.trail.items; cursor = s.cursor } } };
+    ghost view = { λ s. record { seen = record { cluster = s.cluster.value; pick = s.pick; trail = s.trail.items; cursor = s.cursor } } };
 
-    ghost invariant = { λ s. IsHistory s.cluster s.pick s.trail.items s.states.items s.cursor };
+    ghost invariant = { λ s. IsHistory s.cluster.value s.pick s.trail.items s.states.items s.cursor };
 }
 
 impl Sim {
@@ -55,7 +57,8 @@ impl Sim {
         ensures { IfOk result (λ sim. sim.seen ≡ opened cluster pick) }
     {
         cluster.is_within();
-        let first = first_state(alloc, &cluster)?;
+        let cluster = Arc::new(alloc, cluster)?;
+        let first = first_state_sharing(alloc, &cluster)?;
         let mut states = Vec::new(alloc);
         states.push(first)?;
         Ok(Sim {
@@ -67,14 +70,13 @@ impl Sim {
         })
     }
 
-    /// An equal simulation, with an equal trail and equal states.
+    /// An equal simulation, with an equal trail and equal states. The two share the cluster.
     pub fn copy(&self, alloc: Global) -> Result<Sim, OutOfMemory>
         ensures { IfOk result (λ copy. copy ≡ self.now) }
     {
         let states = copies_of(alloc, self.states.as_slice())?;
         let trail = Vec::from_slice(alloc, self.trail.as_slice())?;
-        // The cluster comes last: there is most to drop of it.
-        let cluster = self.cluster.copy(alloc)?;
+        let cluster = Arc::try_clone(&self.cluster)?;
         Ok(Sim {
             cluster,
             pick: self.pick,

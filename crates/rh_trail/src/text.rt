@@ -15,9 +15,10 @@ mod words;
 
 use crate::text::apps::push_apps;
 use crate::text::nodes::push_node_lines;
+pub use crate::text::words::{NO_NAME, app_word, node_word, push_kind, restart_word};
+use rh_base::OutOfMemory;
 use rh_model::{Cluster, Node};
 use rh_state::{State, Timer};
-use rh_base::OutOfMemory;
 use std::alloc::Global;
 
 /// The report: a line with the time in milliseconds; for each node in node order its line, and below it what runs there,

@@ -18,9 +18,9 @@ insert-at_point new zero (x ∷ xs) l p = let e : nat_le x.0 new.0 ≡ false = p
 insert-at_point new (suc i) (x ∷ xs) l p =
     let e : nat_le x.0 new.0 ≡ true = p.0 0 x (omega arith) (omega arith) in
     simp e (ap (λ l. x ∷ l) (insert-at_point new i xs (omega arith)
-        (λ k d a b. p.0 (suc k) d (omega arith) (omega arith), λ k d a b. p.1 (suc k) d (omega arith) (omega arith))))
+    (λ k d a b. p.0 (suc k) d (omega arith) (omega arith), λ k d a b. p.1 (suc k) d (omega arith) (omega arith))))
 
-pub All-behind : (P : ℕ × ℕ → Type 0) (new : ℕ × ℕ) (xs : List (ℕ × ℕ)) → P new → All P xs → All P (behind new xs)
+pub All-behind : {A : Type 0} (P : ℕ × A → Type 0) (new : ℕ × A) (xs : List (ℕ × A)) → P new → All P xs → All P (behind new xs)
 All-behind P new [] here all = All-cons P new [] here all
 All-behind P new (x ∷ xs) here all = by (nat_le x.0 new.0) (All-behind P new xs here (λ k d l. all (suc k) d (omega arith)))
   where

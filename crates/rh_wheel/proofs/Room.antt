@@ -13,8 +13,10 @@ differs t (x ∷ xs) h = (elim (eqb_tells t x.1) [ inl a ↦ absurd (h 0 x (omeg
 distinct : (xs : List (ℕ × ℕ)) → AllPairs (λ x y. x.1 ≢ y.1) xs → IsDistinct eqb (timers_of xs)
 unfolding IsDistinct
 distinct [] once = tt
-distinct (x ∷ xs) once = (differs x.1 xs (λ k d l. once 0 (suc k) d (omega arith) (omega arith)),
-    distinct xs (λ i j d l m. once (suc i) (suc j) d (omega arith) (omega arith)))
+distinct (x ∷ xs) once = (
+  differs x.1 xs (λ k d l. once 0 (suc k) d (omega arith) (omega arith)),
+  distinct xs (λ i j d l m. once (suc i) (suc j) d (omega arith) (omega arith)),
+)
 
 below : (n : ℕ) (xs : List (ℕ × ℕ)) → All (λ x. x.1 < n) xs → (q : ℕ) → list_any (eqb q) (timers_of xs) ≡ true → q < n
 below n [] h q e = absurd (cc)

@@ -5,10 +5,10 @@ ghost use Rattle.rh_script.specs.Lines.{raw_lines, content};
 ghost use Rattle.rh_app.specs.Histories.{session_lines_asked, command_in, fits};
 ghost use Rattle.rh_app.specs.Scripts.{IsScriptOf, AreNumbered};
 
+use rh_base::OutOfMemory;
 use rh_cluster::Cluster;
 use rh_room::Room;
 use rh_script::{Command, SessionLine, content, session_line_of, split_line};
-use rh_base::OutOfMemory;
 use std::alloc::Global;
 
 /// The commands of a script.

@@ -9,13 +9,13 @@ ghost use Rattle.rh_app.specs.Histories.{entry_text, history_text};
 ghost use Rattle.rh_app.specs.RunText.{Broke};
 
 use crate::device::write_text;
-use crate::fault::RunFault;
+use crate::fault::WriteFault;
 use crate::watched::Watched;
+use rh_base::OutOfMemory;
 use rh_cluster::Cluster;
 use rh_room::{Closed, Entry};
 use rh_script::{answer_text, command_text};
 use rh_state::State;
-use rh_base::OutOfMemory;
 use rh_trail::report;
 use std::alloc::Global;
 use std::io::Write;
@@ -26,7 +26,7 @@ pub fn write_history<W: Write>(
     cluster: &Cluster,
     closed: &Closed,
     writer: &mut Watched<W>,
-) -> Result<(), RunFault>
+) -> Result<(), WriteFault>
     requires { writer.old.failed ≡ false }
     ensures { Broke result (history_text cluster.now closed.now.log.items (state_of closed.now.sim.seen)) (W.contents writer.old.inner) (W.contents writer.new.inner) writer.new.failed }
 {
@@ -40,7 +40,7 @@ fn write_entries<W: Write>(
     cluster: &Cluster,
     log: &[Entry],
     writer: &mut Watched<W>,
-) -> Result<(), RunFault>
+) -> Result<(), WriteFault>
     requires { writer.old.failed ≡ false }
     ensures { Broke result (flat_map (entry_text cluster.now) log.now) (W.contents writer.old.inner) (W.contents writer.new.inner) writer.new.failed }
 {
@@ -56,14 +56,12 @@ fn write_entry<W: Write>(
     cluster: &Cluster,
     entry: &Entry,
     writer: &mut Watched<W>,
-) -> Result<(), RunFault>
+) -> Result<(), WriteFault>
     requires { writer.old.failed ≡ false }
     ensures { Broke result (entry_text cluster.now entry.now) (W.contents writer.old.inner) (W.contents writer.new.inner) writer.new.failed }
 {
-    match entry_text(alloc, cluster, entry) {
-        Err(OutOfMemory) => Err(RunFault::OutOfMemory),
-        Ok(text) => write_text(writer, text.as_slice()),
-    }
+    let text = entry_text(alloc, cluster, entry)?;
+    write_text(writer, text.as_slice())
 }
 
 // The text of an entry: the session and its command, and then the answer.
@@ -85,14 +83,12 @@ fn write_final<W: Write>(
     alloc: Global,
     state: &State,
     writer: &mut Watched<W>,
-) -> Result<(), RunFault>
+) -> Result<(), WriteFault>
     requires { writer.old.failed ≡ false }
     ensures { Broke result (codes "final\n" ++ report_text (read state.now)) (W.contents writer.old.inner) (W.contents writer.new.inner) writer.new.failed }
 {
-    match final_text(alloc, state) {
-        Err(OutOfMemory) => Err(RunFault::OutOfMemory),
-        Ok(text) => write_text(writer, text.as_slice()),
-    }
+    let text = final_text(alloc, state)?;
+    write_text(writer, text.as_slice())
 }
 
 // The text of the last state.

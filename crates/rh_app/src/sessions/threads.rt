@@ -4,17 +4,17 @@
 //! session was told with the log, and the log is compared with the commands: what is answered then is a history of them,
 //! whatever the threads did.
 
-ghost use Rattle.std.specs.Prelude.{◌≡◌, ◌≤◌, ◌⊎◌, ◌↔◌, ℕ, map, All, IsTrue, IfOk, IfErr};
+ghost use Rattle.std.specs.Prelude.{◌≡◌, ◌↔◌, ℕ, map, All, IsTrue, IfOk};
 ghost use Rattle.rh_trail.specs.Lone.{opened, sim_after};
-ghost use Rattle.rh_room.specs.Legal.{IsSession, calls};
+ghost use Rattle.rh_room.specs.Legal.{IsSession, calls, session_limit};
 ghost use Rattle.rh_app.specs.Histories.{IsHistory, session_count, asked, by_session};
 
-use crate::fault::RunFault;
+use crate::fault::HistoryFault;
+use rh_base::OutOfMemory;
 use rh_cluster::Cluster;
 use rh_room::{Closed, Entry, Pass, Room, RoomFault, Shared, close, open_room};
 use rh_script::Command;
 use rh_step::Pick;
-use rh_base::OutOfMemory;
 use std::alloc::Global;
 use std::sync::{Mutex, Wait};
 use std::thread;
@@ -34,17 +34,14 @@ pub fn history_of<T: Threads + Wait + Sync>(
     cluster: &Cluster,
     commands: &[Command],
     pick: Pick,
-) -> Result<Closed, RunFault>
-    requires { All (λ c. IsSession 8 c.session) commands.now }
+) -> Result<Closed, HistoryFault>
+    requires { All (λ c. IsSession session_limit c.session) commands.now }
     ensures history { IfOk result (λ closed. IsHistory cluster.now pick commands.now closed.log.items) }
     ensures sim { IfOk result (λ closed. closed.sim.seen ≡ sim_after (opened cluster.now pick) (calls closed.log.items)) }
-    ensures only { IfErr result (λ fault. (fault ≡ RunFault.OutOfMemory) ⊎ (fault ≡ RunFault.Room)) }
 {
     let (room, passes) = opened(alloc, cluster, commands, pick)?;
-    match served(rt, alloc, room, passes, commands) {
-        Err(fault) => Err(fault),
-        Ok((room, passes)) => history_in(alloc, cluster, commands, pick, room, passes),
-    }
+    let (room, passes) = served(rt, alloc, room, passes, commands)?;
+    history_in(alloc, cluster, commands, pick, room, passes)
 }
 
 // The closed room, if it closes on the cluster and has the commands.
@@ -55,19 +52,18 @@ fn history_in(
     pick: Pick,
     room: Room,
     passes: Vec<Pass>,
-) -> Result<Closed, RunFault>
-    requires { All (λ c. IsSession 8 c.session) commands.now }
+) -> Result<Closed, HistoryFault>
+    requires { All (λ c. IsSession session_limit c.session) commands.now }
     ensures history { IfOk result (λ closed. IsHistory cluster.now pick commands.now closed.log.items) }
     ensures sim { IfOk result (λ closed. closed.sim.seen ≡ sim_after (opened cluster.now pick) (calls closed.log.items)) }
-    ensures only { IfErr result (λ fault. (fault ≡ RunFault.OutOfMemory) ⊎ (fault ≡ RunFault.Room)) }
 {
     let Ok(closed) = close(room, passes, cluster, pick) else {
-        return Err(RunFault::Room);
+        return Err(HistoryFault::Room);
     };
-    match are_interleaved(alloc, commands, closed.log.as_slice()) {
-        Err(OutOfMemory) => Err(RunFault::OutOfMemory),
-        Ok(false) => Err(RunFault::Room),
-        Ok(true) => Ok(closed),
+    if are_interleaved(alloc, commands, closed.log.as_slice())? {
+        Ok(closed)
+    } else {
+        Err(HistoryFault::Room)
     }
 }
 
@@ -78,20 +74,17 @@ fn opened(
     commands: &[Command],
     pick: Pick,
 ) -> Result<(Room, Vec<Pass>), OutOfMemory>
-    requires { All (λ c. IsSession 8 c.session) commands.now }
+    requires { All (λ c. IsSession session_limit c.session) commands.now }
 {
     let copy = cluster.copy(alloc)?;
-    match open_room(alloc, copy, pick, session_count(commands)) {
-        Ok(opening) => Ok(opening),
-        Err(_) => Err(OutOfMemory),
-    }
+    open_room(alloc, copy, pick, session_count(commands)).map_err(|_| OutOfMemory)
 }
 
 // The greatest number of a session, and 1 without commands.
 fn session_count(commands: &[Command]) -> u8
-    requires { All (λ c. IsSession 8 c.session) commands.now }
+    requires { All (λ c. IsSession session_limit c.session) commands.now }
     ensures count { result ≡ session_count commands.now }
-    ensures few { IsSession 8 result }
+    ensures few { IsSession session_limit result }
 {
     let mut count = 1;
     for command in commands {
@@ -109,16 +102,11 @@ fn served<T: Threads + Wait + Sync>(
     room: Room,
     passes: Vec<Pass>,
     commands: &[Command],
-) -> Result<(Room, Vec<Pass>), RunFault>
-    ensures { IfErr result (λ fault. (fault ≡ RunFault.OutOfMemory) ⊎ (fault ≡ RunFault.Room)) }
-{
+) -> Result<(Room, Vec<Pass>), HistoryFault> {
     let shared = Mutex::new(room);
     let passes = in_threads(rt, alloc, &shared, passes, commands);
     let room = shared.into_inner();
-    match passes {
-        Err(fault) => Err(fault),
-        Ok(passes) => Ok((room, passes)),
-    }
+    Ok((room, passes?))
 }
 
 // The passes, when each session has made its commands in a thread of its own.
@@ -128,13 +116,9 @@ fn in_threads<T: Threads + Wait + Sync>(
     shared: &Shared,
     passes: Vec<Pass>,
     commands: &[Command],
-) -> Result<Vec<Pass>, RunFault>
-    ensures { IfErr result (λ fault. (fault ≡ RunFault.OutOfMemory) ⊎ (fault ≡ RunFault.Room)) }
-{
-    match thread::map_vec(rt, passes, &|pass| work(rt, alloc, shared, pass, commands)) {
-        Err(_) => Err(RunFault::OutOfMemory),
-        Ok(ended) => passes_of(alloc, ended),
-    }
+) -> Result<Vec<Pass>, HistoryFault> {
+    let ended = thread::map_vec(rt, passes, &|pass| work(rt, alloc, shared, pass, commands))?;
+    passes_of(alloc, ended)
 }
 
 // Makes the commands of a session, in order, as far as there is no fault.
@@ -167,34 +151,31 @@ fn lacked_memory(ended: &[Ended]) -> bool {
 }
 
 // The passes of the sessions, if none had a fault. Want of memory is the first fault that is told.
-fn passes_of(alloc: Global, ended: Vec<Ended>) -> Result<Vec<Pass>, RunFault>
-    ensures { IfErr result (λ fault. (fault ≡ RunFault.OutOfMemory) ⊎ (fault ≡ RunFault.Room)) }
-{
+fn passes_of(alloc: Global, ended: Vec<Ended>) -> Result<Vec<Pass>, HistoryFault> {
     if lacked_memory(ended.as_slice()) {
-        return Err(RunFault::OutOfMemory);
+        return Err(HistoryFault::OutOfMemory);
     }
     let mut passes = Vec::new(alloc);
     for one in ended {
         if one.fault.is_some() {
-            return Err(RunFault::Room);
+            return Err(HistoryFault::Room);
         }
-        if passes.push(one.pass).is_err() {
-            return Err(RunFault::OutOfMemory);
-        }
+        passes.push(one.pass)?;
     }
     Ok(passes)
 }
 
 // Does the log have each session's commands, all and in their order, and no others?
 fn are_interleaved(alloc: Global, commands: &[Command], log: &[Entry]) -> Result<bool, OutOfMemory>
-    requires commands { All (λ c. IsSession 8 c.session) commands.now }
-    requires log { All (λ e. IsSession 8 e.session) log.now }
+    requires commands { All (λ c. IsSession session_limit c.session) commands.now }
+    requires log { All (λ e. IsSession session_limit e.session) log.now }
     ensures { IfOk result (λ are. IsTrue are ↔ ((session : ℕ) → by_session session (map asked log.now) ≡ by_session session commands.now)) }
 {
+    let logged = commands_in_log(alloc, log)?;
     for before in 0..Room::SESSION_LIMIT {
-        let logged = logged_by(alloc, before + 1, log)?;
-        let asked = commands_by(alloc, before + 1, commands)?;
-        if !are_same(logged.as_slice(), asked.as_slice()) {
+        let these = commands_by(alloc, before + 1, logged.as_slice())?;
+        let those = commands_by(alloc, before + 1, commands)?;
+        if !are_same(these.as_slice(), those.as_slice()) {
             return Ok(false);
         }
     }
@@ -224,25 +205,24 @@ fn commands_by(
 ) -> Result<Vec<Command>, OutOfMemory>
     ensures { IfOk result (λ found. found.items ≡ by_session session commands.now) }
 {
-    let mut found = Vec::new(alloc);
-    for command in commands {
-        if command.session == session {
-            found.push(*command)?;
-        }
-    }
+    let found = commands
+        .iter()
+        .filter(|command| command.session == session)
+        .copied()
+        .collect(alloc)?;
     Ok(found)
 }
 
-// The commands of a session that the log has.
-fn logged_by(alloc: Global, session: u8, log: &[Entry]) -> Result<Vec<Command>, OutOfMemory>
-    ensures { IfOk result (λ found. found.items ≡ by_session session (map asked log.now)) }
+// The commands of a log.
+fn commands_in_log(alloc: Global, log: &[Entry]) -> Result<Vec<Command>, OutOfMemory>
+    ensures { IfOk result (λ found. found.items ≡ map asked log.now) }
 {
-    let mut found = Vec::new(alloc);
-    for entry in log {
-        if entry.session == session {
-            let call = entry.call;
-            found.push(Command { session, call })?;
-        }
-    }
+    let found = log
+        .iter()
+        .map(|entry| Command {
+            session: entry.session,
+            call: entry.call,
+        })
+        .collect(alloc)?;
     Ok(found)
 }

@@ -8,23 +8,22 @@ ghost use Rattle.rh_state.specs.Shape.{IsAppOf, IsKindOf, IsStandingOf};
 ghost use Rattle.rh_state.specs.Stored.{read};
 ghost use Rattle.std.specs.Prelude.{slice_get};
 
-use crate::status::{Kind, Mode, Place, Standing};
 use crate::state::State;
-use rh_model::{App, Cluster, Node, Restart};
+use crate::status::{Kind, Mode, Place, Standing};
 use rh_base::OutOfMemory;
+use rh_model::{App, Cluster, Node, Restart};
 use std::alloc::Global;
 
+#[tactic(auto, unfolding(crate::specs::Stored::read))]
 impl State {
     /// The cluster.
-    #[tactic(auto, unfolding(crate::specs::Stored::read))]
     pub fn cluster(&self) -> &Cluster
         ensures { result.now ≡ (read self.now).cluster }
     {
         &self.cluster
     }
 
-    /// The time in milliseconds since the first state: at most 10^12.
-    #[tactic(auto, unfolding(crate::specs::Stored::read))]
+    /// The time in milliseconds since the first state: at most [`State::TIME_LIMIT`].
     pub fn now(&self) -> u64
         ensures time { result ≡ (read self.now).time }
         ensures limit { result ≤ time_limit }
@@ -33,7 +32,6 @@ impl State {
     }
 
     /// What a node does.
-    #[tactic(auto, unfolding(crate::specs::Stored::read))]
     pub fn mode(&self, node: Node) -> Mode
         requires { node.0 < node_count (read self.now).cluster }
         ensures { result ≡ mode_of (read self.now) node }
@@ -41,8 +39,7 @@ impl State {
         self.modes[node.0 as usize]
     }
 
-    /// How often a node was started: 0 to 9,999.
-    #[tactic(auto, unfolding(crate::specs::Stored::read))]
+    /// How often a node was started: at most [`State::INCARNATION_LIMIT`] times.
     pub fn incarnation(&self, node: Node) -> u16
         requires { node.0 < node_count (read self.now).cluster }
         ensures incarnation { result ≡ incarnation_of (read self.now) node }
@@ -52,7 +49,6 @@ impl State {
     }
 
     /// In which list of a node an application stands.
-    #[tactic(auto, unfolding(crate::specs::Stored::read))]
     pub fn place_of(&self, node: Node, app: App) -> Place
         requires { node.0 < node_count (read self.now).cluster }
         ensures { result ≡ place_of (read self.now) node app }
@@ -68,7 +64,6 @@ impl State {
     }
 
     /// The application that stands first among those that run at a node.
-    #[tactic(auto, unfolding(crate::specs::Stored::read))]
     pub fn first_running(&self, node: Node) -> Option<App>
         requires { node.0 < node_count (read self.now).cluster }
         ensures first { result ≡ slice_get (running_at (read self.now) node) 0 }
@@ -78,7 +73,6 @@ impl State {
     }
 
     /// The application that stands first among those that wait at a node.
-    #[tactic(auto, unfolding(crate::specs::Stored::read))]
     pub fn first_waiting(&self, node: Node) -> Option<App>
         requires { node.0 < node_count (read self.now).cluster }
         ensures first { result ≡ slice_get (waiting_at (read self.now) node) 0 }
@@ -89,7 +83,6 @@ impl State {
 
     /// The application that stands behind this one in its list at a node; `None` for the last one of a list, and for one that
     /// stands in none.
-    #[tactic(auto, unfolding(crate::specs::Stored::read))]
     pub fn next_in_list(&self, node: Node, app: App) -> Option<App>
         requires { node.0 < node_count (read self.now).cluster }
         ensures next { result ≡ next_in_list (read self.now) node app }
@@ -104,7 +97,6 @@ impl State {
     }
 
     /// The applications that run at a node, in their order.
-    #[tactic(auto, unfolding(crate::specs::Stored::read))]
     pub fn running(&self, alloc: Global, node: Node) -> Result<Vec<App>, OutOfMemory>
         requires { node.0 < node_count (read self.now).cluster }
         ensures apps { IfOk result (λ apps. apps.items ≡ running_at (read self.now) node) }
@@ -114,7 +106,6 @@ impl State {
     }
 
     /// The applications that wait at a node, in their order.
-    #[tactic(auto, unfolding(crate::specs::Stored::read))]
     pub fn waiting(&self, alloc: Global, node: Node) -> Result<Vec<App>, OutOfMemory>
         requires { node.0 < node_count (read self.now).cluster }
         ensures apps { IfOk result (λ apps. apps.items ≡ waiting_at (read self.now) node) }
@@ -124,7 +115,6 @@ impl State {
     }
 
     /// How many applications run at a node.
-    #[tactic(auto, unfolding(crate::specs::Stored::read))]
     pub fn running_count(&self, node: Node) -> usize
         requires { node.0 < node_count (read self.now).cluster }
         ensures { result ≡ running_count (read self.now) node }
@@ -134,7 +124,6 @@ impl State {
 
     /// The restart type that an application was last given at a node, also where it isn't started: temporary at first
     /// (application(3)).
-    #[tactic(auto, unfolding(crate::specs::Stored::read))]
     pub fn restart_of(&self, node: Node, app: App) -> Restart
         requires node { node.0 < node_count (read self.now).cluster }
         requires app { app.0 < app_count (read self.now).cluster }
@@ -144,7 +133,6 @@ impl State {
     }
 
     /// How an application was last started at a node, also where it doesn't run: normally at first (application(3)).
-    #[tactic(auto, unfolding(crate::specs::Stored::read))]
     pub fn kind_of(&self, node: Node, app: App) -> Kind
         requires node { node.0 < node_count (read self.now).cluster }
         requires app { app.0 < app_count (read self.now).cluster }
@@ -155,7 +143,6 @@ impl State {
     }
 
     /// May an application run at a node (kernel(6), `permissions`)?
-    #[tactic(auto, unfolding(crate::specs::Stored::read))]
     pub fn allowed(&self, node: Node, app: App) -> bool
         requires node { node.0 < node_count (read self.now).cluster }
         requires app { app.0 < app_count (read self.now).cluster }
@@ -165,7 +152,6 @@ impl State {
     }
 
     /// Where an application stands; a local one is always quiet.
-    #[tactic(auto, unfolding(crate::specs::Stored::read))]
     pub fn standing(&self, app: App) -> Standing
         requires { app.0 < app_count (read self.now).cluster }
         ensures standing { result ≡ standing_of (read self.now) app }

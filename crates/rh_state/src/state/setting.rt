@@ -9,13 +9,13 @@ ghost use Rattle.rh_state.specs.Shape.{IsKindOf, IsStandingOf};
 ghost use Rattle.rh_state.specs.Stored.{read};
 ghost use Rattle.rh_state.specs.declared.status.Place.TheVariants.{Off};
 
-use crate::status::{Kind, Mode, Standing};
 use crate::state::State;
+use crate::status::{Kind, Mode, Standing};
 use rh_model::{App, Node, Restart};
 
+#[tactic(auto, unfolding(crate::specs::Stored::read))]
 impl State {
-    /// Sets the time, in milliseconds: at most 10^12.
-    #[tactic(auto, unfolding(crate::specs::Stored::read))]
+    /// Sets the time, in milliseconds: at most [`State::TIME_LIMIT`].
     pub fn set_now(&mut self, time: u64)
         requires { time ≤ time_limit }
         ensures { read self.new ≡ with_time (read self.old) time }
@@ -24,7 +24,6 @@ impl State {
     }
 
     /// Says what a node does from now on.
-    #[tactic(auto, unfolding(crate::specs::Stored::read))]
     pub fn set_mode(&mut self, node: Node, mode: Mode)
         requires { node.0 < node_count (read self.old).cluster }
         ensures { read self.new ≡ with_mode (read self.old) node mode }
@@ -33,8 +32,7 @@ impl State {
         self.modes[index] = mode;
     }
 
-    /// Says how often a node was started: at most 9,999 times.
-    #[tactic(auto, unfolding(crate::specs::Stored::read))]
+    /// Says how often a node was started: at most [`State::INCARNATION_LIMIT`] times.
     pub fn set_incarnation(&mut self, node: Node, incarnation: u16)
         requires node { node.0 < node_count (read self.old).cluster }
         requires incarnation { incarnation ≤ incarnation_limit }
@@ -45,7 +43,6 @@ impl State {
     }
 
     /// Says whether an application may run at a node.
-    #[tactic(auto, unfolding(crate::specs::Stored::read))]
     pub fn set_allowed(&mut self, node: Node, app: App, allow: bool)
         requires node { node.0 < node_count (read self.old).cluster }
         requires app { app.0 < app_count (read self.old).cluster }
@@ -55,7 +52,6 @@ impl State {
     }
 
     /// Gives an application a restart type at a node.
-    #[tactic(auto, unfolding(crate::specs::Stored::read))]
     pub fn set_restart(&mut self, node: Node, app: App, restart: Restart)
         requires node { node.0 < node_count (read self.old).cluster }
         requires app { app.0 < app_count (read self.old).cluster }
@@ -65,7 +61,6 @@ impl State {
     }
 
     /// Says how an application was started at a node.
-    #[tactic(auto, unfolding(crate::specs::Stored::read))]
     pub fn set_kind(&mut self, node: Node, app: App, kind: Kind)
         requires node { node.0 < node_count (read self.old).cluster }
         requires app { app.0 < app_count (read self.old).cluster }
@@ -76,7 +71,6 @@ impl State {
     }
 
     /// Says where an application stands.
-    #[tactic(auto, unfolding(crate::specs::Stored::read))]
     pub fn set_standing(&mut self, app: App, standing: Standing)
         requires app { app.0 < app_count (read self.old).cluster }
         requires standing { IsStandingOf (read self.old).cluster standing }
@@ -87,7 +81,6 @@ impl State {
     }
 
     /// Puts an application that isn't started at a node at the end of those that run there.
-    #[tactic(auto, unfolding(crate::specs::Stored::read))]
     pub fn push_running(&mut self, node: Node, app: App)
         requires node { node.0 < node_count (read self.old).cluster }
         requires app { app.0 < app_count (read self.old).cluster }
@@ -99,7 +92,6 @@ impl State {
     }
 
     /// Puts an application that isn't started at a node at the end of those that wait there.
-    #[tactic(auto, unfolding(crate::specs::Stored::read))]
     pub fn push_waiting(&mut self, node: Node, app: App)
         requires node { node.0 < node_count (read self.old).cluster }
         requires app { app.0 < app_count (read self.old).cluster }
@@ -111,7 +103,6 @@ impl State {
     }
 
     /// Takes an application that is started at a node out of its list.
-    #[tactic(auto, unfolding(crate::specs::Stored::read))]
     pub fn unlink(&mut self, node: Node, app: App)
         requires node { node.0 < node_count (read self.old).cluster }
         requires on { place_of (read self.old) node app ≢ Off }

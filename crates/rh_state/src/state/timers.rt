@@ -8,12 +8,13 @@ ghost use Rattle.rh_state.specs.Setters.{with_timer, without_due};
 ghost use Rattle.rh_state.specs.Shape.{IsTimerOf};
 ghost use Rattle.rh_state.specs.Stored.{read};
 
-use crate::status::Timer;
 use crate::state::State;
-use rh_model::{App, Node};
+use crate::status::Timer;
 use rh_base::OutOfMemory;
+use rh_model::{App, Node};
 use std::alloc::Global;
 
+#[tactic(auto, unfolding(crate::specs::Stored::read))]
 impl State {
     // The number of a timer in the wheel.
     fn number_of(&self, timer: Timer) -> u32
@@ -44,7 +45,6 @@ impl State {
     }
 
     /// When a timer is due, in milliseconds; `None` exactly if it isn't set.
-    #[tactic(auto, unfolding(crate::specs::Stored::read))]
     pub fn due_of(&self, timer: Timer) -> Option<u64>
         requires { IsTimerOf (read self.now).cluster timer }
         ensures { result ≡ due_of (read self.now) timer }
@@ -53,7 +53,6 @@ impl State {
     }
 
     /// The timer that fires first, behind its due time; `None` exactly if none is set.
-    #[tactic(auto, unfolding(crate::specs::Stored::read))]
     pub fn earliest(&self) -> Option<(u64, Timer)>
         ensures first { result ≡ earliest (read self.now) }
         ensures number { IfSome result (λ entry. IsTimerOf (read self.now).cluster entry.1) }
@@ -79,7 +78,6 @@ impl State {
     }
 
     /// Sets a timer that isn't set, with its due time in milliseconds. It fires behind all that aren't due later.
-    #[tactic(auto, unfolding(crate::specs::Stored::read))]
     pub fn arm_timer(&mut self, timer: Timer, due: u64)
         requires timer { IsTimerOf (read self.old).cluster timer }
         requires unset { IsNone (due_of (read self.old) timer) }
@@ -90,7 +88,6 @@ impl State {
     }
 
     /// Cancels a timer that is set.
-    #[tactic(auto, unfolding(crate::specs::Stored::read))]
     pub fn cancel_timer(&mut self, timer: Timer)
         requires timer { IsTimerOf (read self.old).cluster timer }
         requires set { IsSome (due_of (read self.old) timer) }

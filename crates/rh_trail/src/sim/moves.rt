@@ -3,7 +3,7 @@
 ghost use Rattle.std.specs.Prelude.{◌≡◌, ◌≢◌, ◌<◌, ◌≤◌, List, replicate, Err, IfOk, IfErr, OnOk, OnErr, None};
 ghost use Rattle.rh_settle.specs.declared.notice.Notice.{Notice};
 ghost use Rattle.rh_state.specs.Stored.{read};
-ghost use Rattle.rh_step.specs.Refusals.{refused};
+ghost use Rattle.rh_events.specs.Refusals.{refused};
 ghost use Rattle.rh_step.specs.Outcomes.{next};
 ghost use Rattle.rh_step.specs.Validity.{IsValid};
 ghost use Rattle.rh_trail.specs.Runs.{step};
@@ -15,9 +15,9 @@ ghost use Rattle.rh_trail.specs.declared.call.Reply.TheVariants as reply;
 use crate::call::{Bytes, Call, Reply};
 use crate::sim::{AtEnd, AtStart, Sim};
 use crate::text::report;
+use rh_base::OutOfMemory;
 use rh_state::State;
 use rh_step::{Event, Notice, Notices, Pick, Refusal, perform, refusal_of};
-use rh_base::OutOfMemory;
 use std::alloc::Global;
 
 impl Sim {

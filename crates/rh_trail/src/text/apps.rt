@@ -8,9 +8,9 @@ ghost use Rattle.rh_state.specs.Stored.{read};
 ghost use Rattle.rh_trail.specs.Report.{app_line, app_lines};
 
 use crate::text::words::push_standing;
+use rh_base::OutOfMemory;
 use rh_model::App;
 use rh_state::State;
-use rh_base::OutOfMemory;
 
 // Adds the line of each distributed application.
 #[tactic(auto, unfolding(rh_state::specs::Numbers::apps_of))]

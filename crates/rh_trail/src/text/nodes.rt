@@ -10,9 +10,9 @@ ghost use Rattle.rh_state.specs.Stored.{read};
 ghost use Rattle.rh_trail.specs.Report.{node_line, running_line, waiting_line, forbidden_line, line_if_forbidden, node_lines};
 
 use crate::text::words::{mode_word, push_kind, restart_word};
+use rh_base::OutOfMemory;
 use rh_model::{App, Cluster, Node};
 use rh_state::State;
-use rh_base::OutOfMemory;
 use std::alloc::Global;
 
 // Adds the lines of a node.

@@ -2,12 +2,37 @@
 
 ghost use Rattle.std.specs.Prelude.{◌≡◌, ◌++◌, OnOk};
 ghost use Rattle.std.specs.String.{string_bytes};
-ghost use Rattle.rh_state.specs.Shape.{IsKindOf, IsStandingOf};
-ghost use Rattle.rh_trail.specs.Report.{mode_words, restart_words, kind_words, standing_words};
+ghost use Rattle.rh_state.specs.Shape.{IsStandingOf};
+ghost use Rattle.rh_trail.specs.Report.{node_word, app_word, mode_words, restart_words, kind_words, standing_words};
 
-use rh_model::{Cluster, Restart};
-use rh_state::{Kind, Mode, Standing};
 use rh_base::OutOfMemory;
+use rh_model::{App, Cluster, Node, Restart};
+use rh_state::{Kind, Mode, Standing};
+
+/// What is shown for a name that is missing.
+pub const NO_NAME: &str = "?";
+
+/// The name of a node, or a question mark for a number that no node has.
+pub fn node_word<'a>(cluster: &'a Cluster, node: Node) -> &'a str
+    ensures { result.now ≡ node_word cluster.now node }
+{
+    if (node.0 as usize) < cluster.node_count() {
+        cluster.node_name(node)
+    } else {
+        NO_NAME
+    }
+}
+
+/// The name of an application, or a question mark for a number that no application has.
+pub fn app_word<'a>(cluster: &'a Cluster, app: App) -> &'a str
+    ensures { result.now ≡ app_word cluster.now app }
+{
+    if (app.0 as usize) < cluster.app_count() {
+        cluster.app_name(app)
+    } else {
+        NO_NAME
+    }
+}
 
 // A mode as a word.
 pub(crate) fn mode_word(mode: Mode) -> &'static str
@@ -20,8 +45,8 @@ pub(crate) fn mode_word(mode: Mode) -> &'static str
     }
 }
 
-// A restart type as a word.
-pub(crate) fn restart_word(restart: Restart) -> &'static str
+/// A restart type as a word.
+pub fn restart_word(restart: Restart) -> &'static str
     ensures { result.now ≡ restart_words restart }
 {
     match restart {
@@ -31,19 +56,18 @@ pub(crate) fn restart_word(restart: Restart) -> &'static str
     }
 }
 
-// Adds how an application was started.
-pub(crate) fn push_kind(text: &mut String, cluster: &Cluster, kind: Kind) -> Result<(), OutOfMemory>
-    requires { IsKindOf cluster.now kind }
+/// Adds how an application was started, with the node that it came from.
+pub fn push_kind(text: &mut String, cluster: &Cluster, kind: Kind) -> Result<(), OutOfMemory>
     ensures { OnOk result (string_bytes text.new ≡ string_bytes text.old ++ kind_words cluster.now kind) }
 {
     match kind {
         Kind::Normal => write!(text, "normal")?,
         Kind::Failover(node) => {
-            let name = cluster.node_name(node);
+            let name = node_word(cluster, node);
             write!(text, "failover {name}")?;
         }
         Kind::Takeover(node) => {
-            let name = cluster.node_name(node);
+            let name = node_word(cluster, node);
             write!(text, "takeover {name}")?;
         }
     }

@@ -13,6 +13,6 @@ returns c =
     let cluster = c.args.cluster.now in
     c.in_ok-format.ensures.ok
     ∙ (λ i. codes "ok " ++ (decimal (c.node_count-nodes.ensures.count i) ++
-        (codes " nodes " ++ (decimal (c.app_count-apps.ensures.count i) ++ codes " applications\n"))))
+    (codes " nodes " ++ (decimal (c.app_count-apps.ensures.count i) ++ codes " applications\n"))))
     ∙ ap (λ (t : List ℕ). codes "ok " ++ t) (sym (regrouped (decimal (node_count cluster)) (codes " nodes ") (decimal (app_count cluster))
-        (codes " applications\n")))
+    (codes " applications\n")))

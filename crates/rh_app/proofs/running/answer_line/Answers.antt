@@ -1,15 +1,19 @@
-use Rattle.std.proofs.Common.{◌∙◌, sym, ap, subst}
+use Rattle.std.proofs.Common.{◌∙◌, Err, sym, ap, subst}
+use Rattle.std.proofs.lemmas.Result.{err_from_is_err_and}
 use Rattle.rh_script.specs.Commands.{line_of}
 use Rattle.rh_app.specs.RunText.{Turns}
-use Rattle.rh_app.proofs.Turns.{turn_of_call}
+use Rattle.rh_app.proofs.Turns.{call_breaks}
 use Rattle.rh_app.proofs.running.answer_line.Goals as goal
 
-pub returns-in-Ok-Asks : goal.returns-in-Ok-Asks
-returns-in-Ok-Asks g c = λ lines.
+pub returns-in_err-answer_call-in-Asks : goal.returns-in_err-answer_call-in-Asks
+returns-in_err-answer_call-in-Asks g c = λ lines.
     let held = g.W.Write.contents in
-    let asked = sym c.in-Ok-Asks.field-0-is ∙ c.in-Ok-Asks.ensures ∙ ap (line_of c.args.cluster.now) c.content.ensures in
-    subst (λ line. Turns c.answer_call.result c.args.cluster.now c.args.sim.now.seen c.answer_call.new.sim.seen c.args.number line lines
-        (held c.args.writer.now.inner) (held c.answer_call.new.writer.inner) c.answer_call.new.writer.failed)
-    asked (turn_of_call c.answer_call.result c.args.cluster.now c.args.sim.now.seen c.answer_call.new.sim.seen c.args.number c.in-Ok-Asks.call lines
-        (held c.args.writer.now.inner) (held c.answer_call.new.writer.inner) c.answer_call.new.writer.failed c.answer_call.ensures.sim
-        c.answer_call.ensures.text)
+    let p = err_from_is_err_and c.from_residual-in_err-answer_call-in-Asks.result c.from_residual-in_err-answer_call-in-Asks.ensures.1 in
+    let f = c.in_err-answer_call-in-Asks.field-0.0 in
+    let asked = sym c.in-Asks.is ∙ c.in_ok-line_of.ensures ∙ ap (line_of c.args.cluster.now) c.content.ensures in
+    rw (p.1, p.2)
+    (subst (λ line. Turns (Err f) c.args.cluster.now c.args.sim.now.seen c.answer_call.new.sim.seen c.args.number line lines
+    (held c.args.writer.now.inner) (held c.answer_call.new.writer.inner) c.answer_call.new.writer.failed)
+    asked
+    (call_breaks c.args.cluster.now c.args.sim.now.seen c.answer_call.new.sim.seen c.args.number c.in-Asks.call lines
+    (held c.args.writer.now.inner) (held c.answer_call.new.writer.inner) c.answer_call.new.writer.failed f c.in_err-answer_call-in-Asks.ensures.text))

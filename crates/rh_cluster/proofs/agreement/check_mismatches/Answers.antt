@@ -2,7 +2,8 @@ use Rattle.std.proofs.Common.{◌∙◌, ap, length, arith}
 use Rattle.std.proofs.lemmas.Result.{err_from_is_err_and}
 use Rattle.rh_sections.specs.Faults.{first}
 use Rattle.rh_cluster.specs.Agreement.{mismatch_faults}
-use Rattle.rh_cluster.proofs.Agreed.{number_passes, number_fails, mismatches_are}
+use Rattle.rh_cluster.proofs.Agreed.{number_fails, mismatches_are}
+use Rattle.rh_base.proofs.Elements.{number_passes}
 use Rattle.rh_cluster.proofs.agreement.check_mismatches.Goals as goal
 
 pub returns-in_err-check_mismatch : goal.returns-in_err-check_mismatch
@@ -11,7 +12,7 @@ returns-in_err-check_mismatch c =
     let f = mismatch_faults c.args.names.now c.args.nodes.now c.args.all.now c.in-Some.first in
     rw (p.1, p.2) (λ n. ap first (mismatches_are c.args.names.now c.args.nodes.now c.args.all.now c.in-Some.first c.in-Some.ensures)
     ∙ number_fails f c.loop-node.node (length c.args.all.now) c.in_err-check_mismatch.field-0.0 _ (omega arith)
-        (c.in_err-check_mismatch.ensures n) c.loop-node.invariant)
+    (c.in_err-check_mismatch.ensures n) c.loop-node.invariant)
 
 pub loop-node-preserved : goal.loop-node-preserved
 loop-node-preserved c =

@@ -1,11 +1,12 @@
 use Rattle.std.proofs.Common.{◌≡◌, ◌≤◌, map, take, length, fold}
 use Rattle.std.specs.Prelude.{flat_map}
 use Rattle.rh_base.specs.Tree.{tree_of}
+use Rattle.rh_model.specs.declared.limits.TheConstants.{MAX_PLATFORMS}
 use Rattle.rh_cluster.specs.Values.{with_platforms, platform_in_entry}
 use Rattle.rh_cluster.proofs.gathering.add_entries.Given as goal
 
 abbrev pub invariant-loop-entry : goal.invariant-loop-entry
 invariant-loop-entry l = record {
   names : l.platforms ≡ fold with_platforms l.initial.platforms (flat_map platform_in_entry (map tree_of (take l.entry-index l.entries)));
-  few : length l.initial.platforms.first ≤ 256 → length l.platforms.first ≤ 256;
+  few : length l.initial.platforms.first ≤ MAX_PLATFORMS → length l.platforms.first ≤ MAX_PLATFORMS;
 }

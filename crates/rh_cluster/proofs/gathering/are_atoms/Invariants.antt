@@ -5,5 +5,5 @@ use Rattle.rh_sections.specs.Shapes.{as_atom}
 use Rattle.rh_cluster.proofs.gathering.are_atoms.Given as goal
 
 abbrev pub invariant-loop-term : goal.invariant-loop-term
-invariant-loop-term l = list_all (λ t. is_some (as_atom t)) (map tree_of (drop l.term-index l.terms))
-    ≡ list_all (λ t. is_some (as_atom t)) (map tree_of l.terms)
+invariant-loop-term l =
+    list_all (λ t. is_some (as_atom t)) (map tree_of (drop l.term-index l.terms)) ≡ list_all (λ t. is_some (as_atom t)) (map tree_of l.terms)

@@ -2,7 +2,7 @@ use Rattle.std.proofs.Common.{◌≡◌, ◌∙◌, ◌++◌, ◌∷◌, [], Lis
 use Rattle.std.proofs.lemmas.Result.{err_from_is_err_and}
 use Rattle.rh_base.specs.Tree.{Tree, tree_of}
 use Rattle.rh_sections.specs.declared.fault.ClusterFault.{ClusterFault}
-use Rattle.rh_cluster.specs.Headers.{header_faults, node_names, app_names, headers_pass}
+use Rattle.rh_cluster.specs.Headers.{header_faults, node_names, app_names, headers_stage}
 use Rattle.rh_cluster.proofs.OneHeader.{node_names-append, app_names-append}
 use Rattle.rh_sections.proofs.InTurn.{passes, fails, trees_more, first-append}
 use Rattle.rh_cluster.proofs.headers.headers.Goals as goal
@@ -21,13 +21,13 @@ loop-term-init c = record {
 }
 
 pub returns-in_err-add_header-clause-faults : goal.returns-in_err-add_header-clause-faults
-unfolding headers_pass
+unfolding headers_stage
 returns-in_err-add_header-clause-faults c =
     let p = err_from_is_err_and c.from_residual.result c.from_residual.ensures.1 in
     rw (p.1, p.2) (λ n.
     first-append _ _ c.in_err-add_header.field-0.0
-        (fails faults_of c.args.terms.now c.loop-term.term-index c.term-item.result c.loop-term-test.true c.term-item.is c.in_err-add_header.field-0.0
-        c.loop-term.invariant.passed
+    (fails faults_of c.args.terms.now c.loop-term.term-index c.term-item.result c.loop-term-test.true c.term-item.is
+    c.in_err-add_header.field-0.0 c.loop-term.invariant.passed
     (rw (← c.loop-term.invariant.nodes, ← c.loop-term.invariant.apps) (c.in_err-add_header.ensures.faults n))))
 
 pub loop-term-preserved : goal.loop-term-preserved
@@ -39,9 +39,11 @@ loop-term-preserved c =
     let here : header_faults (node_names before) (app_names before) (tree_of c.term-item.result) ≡ [] = rw (← inv.nodes, ← inv.apps) done.faults in
     record {
       passed = passes faults_of c.args.terms.now c.loop-term.term-index c.term-item.result c.loop-term-test.true c.term-item.is inv.passed here;
-      nodes = done.nodes ∙ (λ i. inv.nodes i ++ node_names (tree_of c.term-item.result ∷ []))
+      nodes =
+          done.nodes ∙ (λ i. inv.nodes i ++ node_names (tree_of c.term-item.result ∷ []))
           ∙ sym (ap node_names more ∙ node_names-append before (tree_of c.term-item.result));
-      apps = done.apps ∙ (λ i. inv.apps i ++ app_names (tree_of c.term-item.result ∷ []))
+      apps =
+          done.apps ∙ (λ i. inv.apps i ++ app_names (tree_of c.term-item.result ∷ []))
           ∙ sym (ap app_names more ∙ app_names-append before (tree_of c.term-item.result));
       few_nodes = done.few_nodes inv.few_nodes;
       few_apps = done.few_apps inv.few_apps;

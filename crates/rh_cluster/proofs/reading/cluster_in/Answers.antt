@@ -25,7 +25,7 @@ pub of-requires-clause-apps : goal.of-requires-clause-apps
 of-requires-clause-apps c =
     let ts = map tree_of c.args.terms.now in
     ap length c.in_ok-nodes.ensures.apps ∙ length-app_views (names_of ts) (agreed_shares (all_shares (names_of ts) ts)) ts
-        ∙ sym (ap (λ (n : NamesView). length n.apps) c.in_ok-names.ensures.names)
+    ∙ sym (ap (λ (n : NamesView). length n.apps) c.in_ok-names.ensures.names)
 
 pub returns-clause-cluster : goal.returns-clause-cluster
 unfolding cluster_view names_of

@@ -7,6 +7,6 @@ use Rattle.rh_events.proofs.by_hand.move_by_hand.Goals as goal
 pub returns : goal.returns
 returns c =
     on_ok_weaker c.make_move.result
-    (λ h marked. h marked ∙ same_takeover (read c.args.state.now)
-        (read c.start_if_off.new.state) c.args.app c.args.from c.args.node c.args.notices.now.items marked c.start_if_off.ensures.others)
+    (λ made. made
+    ∙ same_takeover (read c.args.state.now) (read c.start_if_off.new.state) c.args.app c.args.from c.args.node c.args.trace.now c.start_if_off.ensures.others)
     c.make_move.ensures.course

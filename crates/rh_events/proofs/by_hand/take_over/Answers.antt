@@ -12,7 +12,7 @@ unfolding taken_over
 returns-in-Running c =
     let s = read c.args.state.now in
     on_ok_weaker c.move_by_hand.result
-    (λ h marked. h marked
-    ∙ ap (λ t. moved (course t c.args.notices.now.items marked) (Takeover c.args.app c.in-Running.from c.args.node)) c.set_restart.ensures
-    ∙ ap (taken_from (course s c.args.notices.now.items marked) c.args.node c.args.app c.args.restart) (sym c.in-Running.is ∙ c.standing.ensures.standing))
+    (λ made. made
+    ∙ ap (λ t. moved (course t c.args.trace.now) (Takeover c.args.app c.in-Running.from c.args.node)) c.set_restart.ensures
+    ∙ ap (taken_from (course s c.args.trace.now) c.args.node c.args.app c.args.restart) (sym c.in-Running.is ∙ c.standing.ensures.standing))
     c.move_by_hand.ensures

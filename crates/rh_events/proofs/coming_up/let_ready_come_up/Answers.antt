@@ -12,14 +12,12 @@ pub nodes-preserved : goal.nodes-preserved
 nodes-preserved c =
     let s = read c.args.state.now in
     let n = numbered c.nodes.number in
-    let o = course (read c.nodes.state) c.nodes.notices.items c.nodes.marked.items in
+    let o = course (read c.nodes.state) c.nodes.trace in
     let made = c.in_ok-let_come_up_if_ready.ensures in
-    let counted = c.node_count-count.ensures.count ∙ ap (λ (v : ClusterView). node_count v) c.cluster.ensures
-            ∙ sym (ap (λ (v : ClusterView). node_count v) c.nodes.invariant.cluster) in
+    let counted = c.node_count-count.ensures.count ∙ ap (λ (v : ClusterView). node_count v) (c.cluster.ensures ∙ sym c.nodes.invariant.cluster) in
     let is_node : IsNodeOf o.state.cluster n = omega (arith, counted, c.nodes-test.true) in
     record {
-      same = made ∙ ap (λ p. come_up_if_ready p n) c.nodes.invariant.same ∙ sym
-          (come_up_more (course s c.args.notices.now.items c.args.marked.now.items) c.nodes.number);
+      same = made ∙ ap (λ p. come_up_if_ready p n) c.nodes.invariant.same ∙ sym (come_up_more (course s c.args.trace.now) c.nodes.number);
       cluster = ap (λ (p : Course). p.state.cluster) made ∙ come_up_if_ready_cluster o n ∙ c.nodes.invariant.cluster;
       sound = subst (λ (p : Course). IsSound p.state) (sym made) (sound_come_up_if_ready o n c.nodes.invariant.sound is_node);
     }

@@ -7,7 +7,7 @@ use Rattle.rh_events.proofs.coming_up.let_ready_come_up.Given as goal
 
 abbrev pub invariant-nodes : goal.invariant-nodes
 invariant-nodes l = record {
-  same : course (read l.state) l.notices.items l.marked.items ≡ come_up_below (course (read l.fn.state) l.fn.notices.items l.fn.marked.items) l.number;
+  same : course (read l.state) l.trace ≡ come_up_below (course (read l.fn.state) l.fn.trace) l.number;
   cluster : (read l.state).cluster ≡ (read l.fn.state).cluster;
   sound : IsSound (read l.state);
 }

@@ -11,59 +11,56 @@ use Rattle.rh_events.proofs.marking.mark_booted.Goals as goal
 pub mark-requires-clause-app : goal.mark-requires-clause-app
 mark-requires-clause-app c =
     let s = read c.args.state.now in
-    let t = read c.booted.state in
+    let o = course (read c.booted.state) c.booted.trace in
     let within : IsWithin s.cluster = subst IsWithin c.cluster.ensures c.is_within.ensures in
-    let here : c.boot.result.now ≡ boot_of t.cluster c.args.node = c.boot.ensures
-            ∙ ap (λ (v : ClusterView). boot_of v c.args.node) c.cluster-in-booted.ensures in
+    let here : c.boot.result.now ≡ boot_of o.state.cluster c.args.node =
+    c.boot.ensures ∙ ap (λ (v : ClusterView). boot_of v c.args.node) c.cluster-in-booted.ensures in
     let whole = c.boot-count.ensures ∙ ap (λ (v : ClusterView). boot_of v c.args.node) c.cluster-2.ensures in
     let count = ap (λ (xs : List (App × Restart)). length xs) whole in
     let lt : c.booted.place < length (boot_of s.cluster c.args.node) = omega (arith, count, c.booted-test.true) in
-    next_app_within s t c.args.node c.booted.place within c.booted.invariant.cluster c.boot.result.now here lt c.booted.invariant.rest
-        (app_numbered 0, Permanent)
+    next_app_within s o c.args.node c.booted.place within c.booted.invariant.cluster c.boot.result.now here lt c.booted.invariant.rest
+    (app_numbered 0, Permanent)
 
 pub mark-requires-clause-off : goal.mark-requires-clause-off
 mark-requires-clause-off c =
     let s = read c.args.state.now in
-    let t = read c.booted.state in
+    let o = course (read c.booted.state) c.booted.trace in
     let within : IsWithin s.cluster = subst IsWithin c.cluster.ensures c.is_within.ensures in
-    let here : c.boot.result.now ≡ boot_of t.cluster c.args.node = c.boot.ensures
-            ∙ ap (λ (v : ClusterView). boot_of v c.args.node) c.cluster-in-booted.ensures in
+    let here : c.boot.result.now ≡ boot_of o.state.cluster c.args.node =
+    c.boot.ensures ∙ ap (λ (v : ClusterView). boot_of v c.args.node) c.cluster-in-booted.ensures in
     let whole = c.boot-count.ensures ∙ ap (λ (v : ClusterView). boot_of v c.args.node) c.cluster-2.ensures in
     let count = ap (λ (xs : List (App × Restart)). length xs) whole in
     let lt : c.booted.place < length (boot_of s.cluster c.args.node) = omega (arith, count, c.booted-test.true) in
-    next_is_off s t c.args.node c.booted.place within c.booted.invariant.cluster c.boot.result.now here lt c.booted.invariant.rest (app_numbered 0, Permanent)
+    next_is_off s o c.args.node c.booted.place within c.booted.invariant.cluster c.boot.result.now here lt c.booted.invariant.rest
+    (app_numbered 0, Permanent)
 
 pub booted-preserved : goal.booted-preserved
 booted-preserved c =
     let s = read c.args.state.now in
-    let t = read c.booted.state in
-    let u = read c.mark.new.state in
+    let o = course (read c.booted.state) c.booted.trace in
+    let p = course (read c.mark.new.state) c.mark.new.trace in
     let n = c.args.node in
     let i = c.booted.place in
     let d : App × Restart = (app_numbered 0, Permanent) in
     let within : IsWithin s.cluster = subst IsWithin c.cluster.ensures c.is_within.ensures in
-    let here : c.boot.result.now ≡ boot_of t.cluster n = c.boot.ensures ∙ ap (λ (v : ClusterView). boot_of v n) c.cluster-in-booted.ensures in
+    let here : c.boot.result.now ≡ boot_of o.state.cluster n = c.boot.ensures ∙ ap (λ (v : ClusterView). boot_of v n) c.cluster-in-booted.ensures in
     let whole = c.boot-count.ensures ∙ ap (λ (v : ClusterView). boot_of v n) c.cluster-2.ensures in
     let count = ap (λ (xs : List (App × Restart)). length xs) whole in
     let lt : i < length (boot_of s.cluster n) = omega (arith, count, c.booted-test.true) in
-    let before = c.booted.marked.items in
-    let after = c.mark.new.marked.items in
     let made = c.in_ok-mark.ensures in
     let cluster = c.booted.invariant.cluster in
     let rest = c.booted.invariant.rest in
     let boot = c.boot.result.now in
     record {
-      same = one_more s t n i within cluster boot here lt rest u d before after made
-          (λ notices. course s notices c.args.marked.now.items) c.booted.invariant.same;
-      cluster = same_cluster s t n i within cluster boot here lt rest u d before after made;
-      rest = others_off s t n i within cluster boot here lt rest u d before after made;
+      same = one_more s o n i within cluster boot here lt rest p d made (course s c.args.trace.now) c.booted.invariant.same;
+      cluster = same_cluster s o n i within cluster boot here lt rest p d made;
+      rest = others_off s o n i within cluster boot here lt rest p d made;
     }
 
 pub returns : goal.returns
-returns c = λ notices.
+returns c =
     let s = read c.args.state.now in
     let whole = c.boot-count.ensures ∙ ap (λ (v : ClusterView). boot_of v c.args.node) c.cluster-2.ensures in
     let count = ap (λ (xs : List (App × Restart)). length xs) whole in
-    c.booted.invariant.same notices
-    ∙ all_marked (course s notices c.args.marked.now.items) c.args.node (boot_of s.cluster c.args.node) c.booted.place
-        (omega (arith, count, c.booted-test.false))
+    c.booted.invariant.same
+    ∙ all_marked (course s c.args.trace.now) c.args.node (boot_of s.cluster c.args.node) c.booted.place (omega (arith, count, c.booted-test.false))

@@ -1,18 +1,17 @@
-use Rattle.std.proofs.Common.{◌≡◌, ◌≤◌, ◌<◌, ℕ, false, List, length, get_or, take, fold}
+use Rattle.std.proofs.Common.{◌≡◌, ◌≤◌, ◌<◌, ℕ, false, length, get_or, take, fold}
 use Rattle.rh_model.specs.declared.node.App.{App}
 use Rattle.rh_model.specs.declared.settings.Restart.{Restart}
 use Rattle.rh_model.specs.ClusterView.{boot_of}
 use Rattle.rh_state.specs.StateView.{is_started}
 use Rattle.rh_state.specs.Stored.{read}
-use Rattle.rh_settle.specs.declared.notice.Notice.{Notice}
 use Rattle.rh_settle.specs.Course.{course}
 use Rattle.rh_events.specs.Marking.{mark_booted}
 use Rattle.rh_events.proofs.marking.mark_booted.Given as goal
 
 abbrev pub invariant-booted : goal.invariant-booted
 invariant-booted l = record {
-  same : (notices : List Notice) → course (read l.state) notices l.marked.items
-      ≡ fold (mark_booted l.node) (course (read l.fn.state) notices l.fn.marked.items) (take l.place (boot_of (read l.fn.state).cluster l.node));
+  same : course (read l.state) l.trace
+      ≡ fold (mark_booted l.node) (course (read l.fn.state) l.fn.trace) (take l.place (boot_of (read l.fn.state).cluster l.node));
   cluster : (read l.state).cluster ≡ (read l.fn.state).cluster;
   rest : (k : ℕ) (d : App × Restart) → l.place ≤ k → k < length (boot_of (read l.fn.state).cluster l.node)
       → is_started (read l.state) l.node (get_or (boot_of (read l.fn.state).cluster l.node) k d).0 ≡ false;

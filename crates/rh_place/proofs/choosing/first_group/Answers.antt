@@ -16,7 +16,7 @@ returns-in-Some-place_meeting-clause-first c =
     c.as_slice-groups.ensures ∙ ap (λ (o : Option Spread). unwrap_or (option_map (λ (v : Spread). v.groups) o) []) c.in-Some.ensures in
     ap (filter p) c.as_slice.ensures
     ∙ first_meeting p c.as_slice-groups.result.now c.in-Some-place_meeting.place c.index-groups-place.result
-        (sym c.place_meeting.ensures ∙ c.in-Some-place_meeting.is) c.index-groups-place.is
+    (sym c.place_meeting.ensures ∙ c.in-Some-place_meeting.is) c.index-groups-place.is
     ∙ ap (first_given (filter p)) (groups ∙ ap (λ (v : ClusterView). groups_of v c.args.app) c.cluster-2.ensures)
 
 pub returns-in-None-place_meeting-clause-first : goal.returns-in-None-place_meeting-clause-first

@@ -11,6 +11,8 @@ loop-pass-preserved c =
 
 pub returns : goal.returns
 returns c =
-    let P : PassView → Type 0 = λ p. IsSession c.args.sessions p.session in
-    (λ _. All-same P c.args.passes.now (take c.loop-pass.pass-index c.args.passes.now)
-        (sym (take_all c.loop-pass.pass-index c.args.passes.now (omega arith))) c.loop-pass.invariant, λ _. refl)
+    let P : PassView → Type 0 = λ p. IsSession c.args.sessions p.session in (
+      λ _. All-same P c.args.passes.now (take c.loop-pass.pass-index c.args.passes.now)
+          (sym (take_all c.loop-pass.pass-index c.args.passes.now (omega arith))) c.loop-pass.invariant,
+      λ _. refl,
+    )

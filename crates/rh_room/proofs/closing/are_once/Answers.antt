@@ -10,8 +10,11 @@ each_more P n each last k low high = elim (cases_lt k n) [
 ]
 
 pub returns-then-count_of-ne1 : goal.returns-then-count_of-ne1
-returns-then-count_of-ne1 c = (λ t. absurd (cc), λ all. absurd
-    (c.if-count_of-ne1.true (c.count_of.ensures ∙ all c.loop-session.session (omega arith, omega arith))))
+returns-then-count_of-ne1 c = (
+  λ t. absurd (cc),
+  λ all. absurd
+      (c.if-count_of-ne1.true (c.count_of.ensures ∙ all c.loop-session.session (omega arith, omega arith))),
+)
 
 pub loop-session-preserved : goal.loop-session-preserved
 loop-session-preserved c = λ session low high. each_more
@@ -19,6 +22,9 @@ loop-session-preserved c = λ session low high. each_more
     (sym c.count_of.ensures ∙ c.if-count_of-ne1.false) session low (omega arith)
 
 pub returns-else-count_of-ne1 : goal.returns-else-count_of-ne1
-returns-else-count_of-ne1 c = (λ _. λ session is. each_more
-    (λ k. count_by (λ (p : PassView). p.session == k) c.args.passes.now ≡ 1) c.loop-session.session c.loop-session.invariant
-    (sym c.count_of.ensures ∙ c.if-count_of-ne1.false) session is.0 (omega arith), λ _. refl)
+returns-else-count_of-ne1 c = (
+  λ _. λ session is. each_more
+      (λ k. count_by (λ (p : PassView). p.session == k) c.args.passes.now ≡ 1) c.loop-session.session c.loop-session.invariant
+      (sym c.count_of.ensures ∙ c.if-count_of-ne1.false) session is.0 (omega arith),
+  λ _. refl,
+)

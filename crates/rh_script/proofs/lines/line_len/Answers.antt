@@ -15,4 +15,4 @@ returns-clause-line c = λ filled.
     let all : c.loop-at.at ≡ length c.args.bytes.now = omega (arith, c.loop-at.invariant.within) in
     line_is_all c.args.bytes.now filled (λ k h. c.loop-at.invariant.none k (omega (arith, h, all)))
     ∙ (λ i. sym (take_all c.loop-at.at c.args.bytes.now (omega (arith, all))) i ∷ raw_lines
-        (sym (drop_all c.loop-at.at c.args.bytes.now (omega (arith, all))) i))
+    (sym (drop_all c.loop-at.at c.args.bytes.now (omega (arith, all))) i))

@@ -1,17 +1,20 @@
-use Rattle.std.proofs.lemmas.Result.{err_from_is_err_and}
-use Rattle.rh_sections.specs.Sections.{node_name_faults}
-use Rattle.rh_sections.proofs.MemberNames.{group_passes, group_fails, desc_fails}
+use Rattle.std.proofs.Common.{List, [], map, rules, sym}
+use Rattle.std.specs.Prelude.{flat_map}
+use Rattle.rh_base.specs.Tree.{Tree, tree_of}
+use Rattle.rh_sections.specs.declared.fault.ClusterFault.{ClusterFault}
+use Rattle.rh_sections.specs.Faults.{in_turn}
+use Rattle.rh_sections.specs.Sections.{node_name_faults, members}
+use Rattle.rh_sections.proofs.InTurn.{in_turn-groups}
+use Rattle.rh_sections.proofs.MemberNames.{desc_faults-groups}
 use Rattle.rh_sections.proofs.descriptions.check_description.Goals as goal
 
-pub returns-in_err-check_group : goal.returns-in_err-check_group
-returns-in_err-check_group c =
-    let p = err_from_is_err_and c.from_residual.result c.from_residual.ensures.1 in
-    rw (p.1, p.2) (λ n. desc_fails c.args.names.now _ c.in-Some.groups.now c.loop-index.index c.in_err-check_group.field-0.0 c.loop-index-test.true
-        c.in-Some.ensures
-    (group_fails (node_name_faults c.args.names.now) c.in-Some.groups.now c.loop-index.index c.index-groups-index.result c.loop-index-test.true
-        c.index-groups-index.is c.in_err-check_group.field-0.0 c.loop-index.invariant (c.in_err-check_group.ensures n)))
-
-pub loop-index-preserved : goal.loop-index-preserved
-loop-index-preserved c =
-    group_passes (node_name_faults c.args.names.now) c.in-Some.groups.now c.loop-index.index c.index-groups-index.result c.loop-index-test.true
-        c.index-groups-index.is c.loop-index.invariant c.in_ok-check_group.ensures
+pub returns : goal.returns
+returns c =
+    let names = c.args.names.now in
+    let groups = c.in-Some.groups.now in
+    let faults : List Tree → Tree → List ClusterFault = λ before g. in_turn (node_name_faults names) (flat_map members before) (members g) in
+    rw (
+      ← desc_faults-groups names (tree_of c.args.value.now) groups (sym c.if-is_empty.ensures) c.in-Some.ensures,
+      ← in_turn-groups (node_name_faults names) members [] (map tree_of groups),
+    )
+    (c.check_each.ensures faults (search rules))

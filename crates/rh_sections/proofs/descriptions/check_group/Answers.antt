@@ -1,20 +1,14 @@
-use Rattle.std.proofs.Common.{map}
+use Rattle.std.proofs.Common.{List, ◌++◌, map, rules}
 use Rattle.std.specs.Prelude.{flat_map}
-use Rattle.std.proofs.lemmas.Result.{err_from_is_err_and}
-use Rattle.rh_base.specs.Tree.{tree_of}
+use Rattle.rh_base.specs.Tree.{Tree, tree_of}
+use Rattle.rh_sections.specs.declared.fault.ClusterFault.{ClusterFault}
 use Rattle.rh_sections.specs.Sections.{node_name_faults, members}
-use Rattle.rh_sections.proofs.InTurn.{passes_behind, fails_behind}
+use Rattle.rh_sections.proofs.InTurn.{in_turn-behind}
 use Rattle.rh_sections.proofs.descriptions.check_group.Goals as goal
 
-pub returns-in_err-check_member : goal.returns-in_err-check_member
-returns-in_err-check_member c =
-    let p = err_from_is_err_and c.from_residual.result c.from_residual.ensures.1 in
-    rw (p.1, p.2, ← c.members-terms.ensures) (λ n. fails_behind (node_name_faults c.args.names.now)
-        (flat_map members (map tree_of c.args.before.now)) c.members-terms.result.now c.loop-index.index c.index-terms-index.result c.loop-index-test.true
-        c.index-terms-index.is c.in_err-check_member.field-0.0 c.loop-index.invariant (c.in_err-check_member.ensures n))
-
-pub loop-index-preserved : goal.loop-index-preserved
-loop-index-preserved c =
-    passes_behind (node_name_faults c.args.names.now)
-        (flat_map members (map tree_of c.args.before.now)) c.members-terms.result.now c.loop-index.index c.index-terms-index.result c.loop-index-test.true
-        c.index-terms-index.is c.loop-index.invariant c.in_ok-check_member.ensures
+pub returns : goal.returns
+returns c =
+    let before = flat_map members (map tree_of c.args.before.now) in
+    let faults : List Tree → Tree → List ClusterFault = λ earlier t. node_name_faults c.args.names.now (before ++ earlier) t in
+    rw (← in_turn-behind (node_name_faults c.args.names.now) before (members (tree_of c.args.group.now)), ← c.members.ensures)
+    (c.check_each.ensures faults (search rules))

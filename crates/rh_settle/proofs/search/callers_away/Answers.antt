@@ -31,6 +31,6 @@ returns c = λ n. cases (nat_lt n.0 c.nodes.number)
     (λ t. c.nodes.invariant.below n (is_below n.0 c.nodes.number t))
     (λ f. let above = is_above n.0 c.nodes.number f in
     let counted : c.node_count-number-end.result ≡ node_count (read c.args.state.now).cluster = c.node_count-number-end.ensures.count
-            ∙ ap (λ (v : ClusterView). node_count v) c.cluster.ensures in
+    ∙ ap (λ (v : ClusterView). node_count v) c.cluster.ensures in
     c.nodes.invariant.above n above ∙ sym (beyond (read c.args.state.now) c.args.marked.now c.args.app c.args.from n c.shape.ensures.modes
-        (omega (arith, c.nodes-test.false))))
+    (omega (arith, c.nodes-test.false))))

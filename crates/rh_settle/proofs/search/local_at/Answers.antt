@@ -82,7 +82,7 @@ waiting-preserved c =
     record {
       same = ap (λ o. first_given (local_move s n) (left_of apps o)) behind
           ∙ later_on_walk (local_move s n) apps c.waiting.waiting c.waiting.invariant.same a (once_of apps (c.requires.once.waiting n)) there c.in-Some.is
-              (no_move_of s n a (sym c.can_start.ensures ∙ c.if-can_start.false));
+          (no_move_of s n a (sym c.can_start.ensures ∙ c.if-can_start.false));
       next = subst (λ o. IfSome o (λ b. has_app apps b ≡ true)) (sym behind) (next_is_next apps a);
       number = c.next_in_list-waiting.ensures.number;
     }
@@ -92,4 +92,4 @@ unfolding local_moves
 returns c = λ pick.
     let s = read c.args.state.now in
     none_of_none pick ∙ ap (picked pick) (sym (end_of_walk (local_move s c.args.node)
-        (waiting_at s c.args.node) c.waiting.waiting c.waiting.invariant.same c.in_default.is))
+    (waiting_at s c.args.node) c.waiting.waiting c.waiting.invariant.same c.in_default.is))

@@ -10,13 +10,13 @@ pub returns-in-Some : goal.returns-in-Some
 returns-in-Some c = λ pick.
     let e = c.node_count-count.ensures.count ∙ ap (λ (v : ClusterView). node_count v) c.cluster.ensures in
     found_node pick (read c.args.state.now).cluster (local_moves (read c.args.state.now)) c.nodes.number c.nodes.invariant c.in-Some.next
-        (omega (arith, c.nodes-test.true)) (c.in-Some.ensures pick)
+    (omega (arith, c.nodes-test.true)) (c.in-Some.ensures pick)
 
 pub nodes-preserved : goal.nodes-preserved
 nodes-preserved c =
     let e = c.node_count-count.ensures.count ∙ ap (λ (v : ClusterView). node_count v) c.cluster.ensures in
     later_node First (read c.args.state.now).cluster (local_moves (read c.args.state.now)) c.nodes.number c.nodes.invariant (omega (arith, c.nodes-test.true))
-        (c.in_default.ensures First)
+    (c.in_default.ensures First)
 
 pub returns : goal.returns
 returns c = λ pick.

@@ -8,7 +8,7 @@ use Rattle.rh_settle.proofs.settling.make_moves.Given as goal
 
 abbrev pub invariant-moves : goal.invariant-moves
 invariant-moves l = record {
-  same : all_moved l.pick (course (read l.state) l.notices.items l.marked) ≡ all_moved l.pick (course (read l.fn.state) l.fn.notices.items l.marked);
+  same : all_moved l.pick (course (read l.state) l.trace) ≡ all_moved l.pick (course (read l.fn.state) l.fn.trace);
   cluster : (read l.state).cluster ≡ (read l.fn.state).cluster;
   runs : RunsWhereItStands (read l.state);
   once : OnceAtEachNode (read l.state);

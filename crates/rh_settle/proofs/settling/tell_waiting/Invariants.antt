@@ -5,5 +5,7 @@ use Rattle.rh_settle.specs.Settling.{tell_waiting}
 use Rattle.rh_settle.proofs.settling.tell_waiting.Given as goal
 
 abbrev pub invariant-marked : goal.invariant-marked
-invariant-marked l = course (read l.state) l.notices.items l.marked ≡ fold tell_waiting (course (read l.state) l.fn.notices.items l.marked)
-    (take l.pair-index l.marked)
+invariant-marked l = record {
+  same : course (read l.state) l.trace ≡ fold tell_waiting (course (read l.state) l.fn.trace) (take l.index l.fn.trace.marked);
+  marked : l.trace.marked ≡ l.fn.trace.marked;
+}

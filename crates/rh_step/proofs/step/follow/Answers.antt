@@ -11,20 +11,19 @@ use Rattle.rh_step.proofs.step.follow.Goals as goal
 
 pub settle-requires-clause-marked : goal.settle-requires-clause-marked
 settle-requires-clause-marked c =
-    let o = course (read c.args.state.now) c.args.notices.now.items c.args.marked.now.items in
+    let o = course (read c.args.state.now) c.args.trace.now in
     let made = c.in_ok-let_ready_come_up.ensures in
     let cluster = ap (λ (p : Course). p.state.cluster) made ∙ ready_come_up_cluster o in
-    let marked = c.as_slice.ensures.value ∙ ap (λ (p : Course). p.marked) made in
-    subst (λ (v : ClusterView). All (λ (p : Pair). IsNodeOf v p.node) c.as_slice.result.now) (sym cluster)
-    (subst (λ (ps : List Pair). All (λ (p : Pair). IsNodeOf (read c.args.state.now).cluster p.node) ps) (sym marked)
+    subst (λ (v : ClusterView). All (λ (p : Pair). IsNodeOf v p.node) c.let_ready_come_up.new.trace.marked) (sym cluster)
+    (subst (λ (ps : List Pair). All (λ (p : Pair). IsNodeOf o.state.cluster p.node) ps) (sym (ap (λ (p : Course). p.marked) made))
     (marked_ready_come_up o c.requires.sound.within c.requires.marked))
 
 pub settle-requires-clause-runs : goal.settle-requires-clause-runs
 settle-requires-clause-runs c =
-    let o = course (read c.args.state.now) c.args.notices.now.items c.args.marked.now.items in
-    subst RunsWhereItStands (sym (ap (λ (p : Course). p.state) c.in_ok-let_ready_come_up.ensures)) (sound_ready_come_up o c.requires.sound).runs
+    let o = course (read c.args.state.now) c.args.trace.now in
+    subst (λ (p : Course). RunsWhereItStands p.state) (sym c.in_ok-let_ready_come_up.ensures) (sound_ready_come_up o c.requires.sound).runs
 
 pub settle-requires-clause-once : goal.settle-requires-clause-once
 settle-requires-clause-once c =
-    let o = course (read c.args.state.now) c.args.notices.now.items c.args.marked.now.items in
-    subst OnceAtEachNode (sym (ap (λ (p : Course). p.state) c.in_ok-let_ready_come_up.ensures)) (sound_ready_come_up o c.requires.sound).once
+    let o = course (read c.args.state.now) c.args.trace.now in
+    subst (λ (p : Course). OnceAtEachNode p.state) (sym c.in_ok-let_ready_come_up.ensures) (sound_ready_come_up o c.requires.sound).once

@@ -1,7 +1,7 @@
 use Rattle.std.proofs.Common.{sym, ap, ◌∙◌}
 use Rattle.rh_state.specs.Stored.{read}
-use Rattle.rh_step.specs.Refusals.{refused}
-use Rattle.rh_step.proofs.Accepted.{accepted_tick}
+use Rattle.rh_events.specs.Refusals.{refused}
+use Rattle.rh_events.proofs.Accepted.{accepted_tick}
 use Rattle.rh_step.proofs.step.make.Goals as goal
 
 pub pass_time-requires-clause-end : goal.pass_time-requires-clause-end

@@ -1,16 +1,15 @@
-use Rattle.std.proofs.Common.{◌≡◌, [], length}
+use Rattle.std.proofs.Common.{◌≡◌, length}
 use Rattle.rh_state.specs.Stored.{read}
 use Rattle.rh_settle.specs.Course.{course}
 use Rattle.rh_settle.specs.Soundness.{IsSound}
-use Rattle.rh_step.specs.Outcomes.{outcome_of}
 use Rattle.rh_step.specs.Ticks.{all_fired}
 use Rattle.rh_step.proofs.ticks.fire_due.Given as goal
 
 abbrev pub invariant-timers : goal.invariant-timers
-invariant-timers l =
-    (outcome_of (all_fired l.pick l.limit (course (read l.state) l.notices.items []))
-        ≡ outcome_of (all_fired l.pick l.limit (course (read l.fn.state) l.fn.notices.items [])))
-    × IsSound (read l.state)
+invariant-timers l = record {
+  same : all_fired l.pick l.limit (course (read l.state) l.trace) ≡ all_fired l.pick l.limit (course (read l.fn.state) l.fn.trace);
+  sound : IsSound (read l.state);
+}
 
 abbrev pub decreases-timers : goal.decreases-timers
 decreases-timers l = length (read l.state).timers

@@ -22,8 +22,8 @@ returns-in-Err-clause-exact c =
     rw c.fault_of.ensures (told_fault c.args.bytes.now c.in-Err.error text (rw (sym c.skip_blank.ensures.behind) c.in-Err.ensures))
 
 pub returns-in-Ok-clause-spelled : goal.returns-in-Ok-clause-spelled
-returns-in-Ok-clause-spelled c = rw c.of.ensures (text_spelled c.args.bytes.now (length (past_blank c.args.bytes.now)) _
-    (rw (sym c.skip_blank.ensures.behind) c.in-Ok.ensures))
+returns-in-Ok-clause-spelled c =
+    rw c.of.ensures (text_spelled c.args.bytes.now (length (past_blank c.args.bytes.now)) _ (rw (sym c.skip_blank.ensures.behind) c.in-Ok.ensures))
 
 pub terms_of_text-requires : goal.terms_of_text-requires
 terms_of_text-requires c =
@@ -38,13 +38,13 @@ returns-in-Ok-clause-read c = λ ts h text.
 
 pub returns-in-Err-clause-read : goal.returns-in-Err-clause-read
 returns-in-Err-clause-read c = λ ts h text.
-    let fault : FaultIs (fault_told c.args.bytes.now c.in-Err.error) (terms_of c.args.bytes.now) = told_fault c.args.bytes.now c.in-Err.error text
-            (rw (sym c.skip_blank.ensures.behind) c.in-Err.ensures) in
+    let fault : FaultIs (fault_told c.args.bytes.now c.in-Err.error) (terms_of c.args.bytes.now) =
+    told_fault c.args.bytes.now c.in-Err.error text (rw (sym c.skip_blank.ensures.behind) c.in-Err.ensures) in
     rw c.fault_of.ensures (fault_read c.args.bytes.now ts _ fault (told_read c.args.bytes.now ts h text))
 
 pub returns-in-Err-clause-unsupported : goal.returns-in-Err-clause-unsupported
 returns-in-Err-clause-unsupported c = λ line e.
     let text : is_utf8 c.args.bytes.now ≡ true = cc (c.is_text.ensures, c.if-not-is_text.false) in
-    let fault : FaultIs (fault_told c.args.bytes.now c.in-Err.error) (terms_of c.args.bytes.now) = told_fault c.args.bytes.now c.in-Err.error text
-            (rw (sym c.skip_blank.ensures.behind) c.in-Err.ensures) in
+    let fault : FaultIs (fault_told c.args.bytes.now c.in-Err.error) (terms_of c.args.bytes.now) =
+    told_fault c.args.bytes.now c.in-Err.error text (rw (sym c.skip_blank.ensures.behind) c.in-Err.ensures) in
     fault_there c.args.bytes.now _ line fault (rw c.fault_of.ensures at e)

@@ -7,4 +7,4 @@ pub returns-clause-place : goal.returns-clause-place
 returns-clause-place c timer =
     insert-at_point (c.args.due, timer) _ _ c.partition_point.ensures.bound
     (IsPartitionPoint-from_clause (λ x. leb x.0 c.args.due) _ _ c.partition_point.ensures.partitioned (IsPartitionedBy-leb (λ x. x.0) _ _ c.requires)
-        (λ a r f t. search rules))
+    (λ a r f t. search rules))

@@ -18,6 +18,6 @@ map_vec-requires-sync-F g c κs within =
     let a : (ℓ : _) (κ : _) → IsSync (ShrRef ℓ κ (param 0 g.row.T)) = λ ℓ κ. shr_sync ℓ κ (param 0 g.row.T) handle in
     let b : (ℓ : _) (κ : _) → IsSync (ShrRef ℓ κ Global.the_row) = λ ℓ κ. shr_sync ℓ κ Global.the_row global.the_sync in
     let d : (ℓ : _) (κ : _) → IsSync (ShrRef ℓ κ (Mutex.the_row Room.the_row)) = λ ℓ κ. shr_sync ℓ κ (Mutex.the_row Room.the_row)
-            (mutex.the_sync Room.the_row room_send) in
+    (mutex.the_sync Room.the_row room_send) in
     let e : (ℓ : _) (κ : _) → IsSync (ShrSlice ℓ κ Command.the_row) = λ ℓ κ. shr_slice_sync ℓ κ Command.the_row command.the_sync in
     search (a, b, d, e, sendable) depth 64 fits 20000

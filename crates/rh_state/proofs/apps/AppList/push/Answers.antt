@@ -1,5 +1,6 @@
 use Rattle.std.proofs.Common.{◌≡◌, ◌<◌, ◌++◌, ◌∷◌, [], false, arith}
 use Rattle.std.proofs.lemmas.List.Elements.{All-push}
+use Rattle.rh_model.specs.declared.limits.TheConstants.{MAX_APPS}
 use Rattle.rh_model.specs.declared.node.App.{App}
 use Rattle.rh_state.specs.Lists.{has_app}
 use Rattle.rh_state.proofs.AppLists.{AreOnce-push, length-lt_numbers}
@@ -11,7 +12,7 @@ absent c = rw (← c.self.view_is) at c.requires.absent
 -- there is room for one more
 pub unwrap-requires : goal.unwrap-requires
 unwrap-requires c =
-    let few = length-lt_numbers 64 c.args.app _ c.self.invariant.once c.self.invariant.few c.requires.number (absent c) in
+    let few = length-lt_numbers MAX_APPS c.args.app _ c.self.invariant.once c.self.invariant.few c.requires.number (absent c) in
     c.push.ensures.succeeds (omega (arith, few, c.self.invariant.room))
 
 pub invariant_of-self : goal.invariant_of-self
@@ -20,6 +21,6 @@ invariant_of-self c =
     let absent : has_app c.self.inside.apps.items c.args.app ≡ false = rw (← c.self.view_is) at c.requires.absent in
     record {
       once = rw grown (AreOnce-push c.args.app _ c.self.invariant.once absent);
-      few = rw grown (All-push (λ (a : App). a.0 < 64) _ c.args.app c.self.invariant.few c.requires.number);
+      few = rw grown (All-push (λ (a : App). a.0 < MAX_APPS) _ c.args.app c.self.invariant.few c.requires.number);
       room = omega (arith, c.push.ensures.capacity, c.self.invariant.room);
     }

@@ -7,14 +7,14 @@ use Rattle.rh_state.proofs.state.State.arm_timer.Goals as goal
 pub arm-requires-clause-unarmed : goal.arm-requires-clause-unarmed
 unfolding read
 arm-requires-clause-unarmed c =
-    let numbered : timer_numbered c.self.inside.cluster c.number_of-number.result
-            ≡ c.args.timer = rw (← c.self.view_is) at c.number_of-number.ensures.numbered in
-    let unset : IsNone (due_among c.args.timer (timers_of c.self.inside.cluster c.self.inside.wheel)) = rw (← c.self.view_is) at c.requires.unset in
-    rw (due_numbered c.self.inside.cluster c.self.inside.wheel _ _ numbered) unset
+    let cluster = c.self.inside.cluster.value in
+    let numbered : timer_numbered cluster c.number_of-number.result ≡ c.args.timer = rw (← c.self.view_is) at c.number_of-number.ensures.numbered in
+    let unset : IsNone (due_among c.args.timer (timers_of cluster c.self.inside.wheel)) = rw (← c.self.view_is) at c.requires.unset in
+    rw (due_numbered cluster c.self.inside.wheel _ _ numbered) unset
 
 pub returns : goal.returns
 unfolding read
 returns c =
-    let numbered : timer_numbered c.self.inside.cluster c.number_of-number.result
-            ≡ c.args.timer = rw (← c.self.view_is) at c.number_of-number.ensures.numbered in
-    rw (← c.self.view_is, behind_numbered c.self.inside.cluster c.self.inside.wheel c.arm.new.self c.args.due _ _ numbered c.arm.ensures.list)
+    let cluster = c.self.inside.cluster.value in
+    let numbered : timer_numbered cluster c.number_of-number.result ≡ c.args.timer = rw (← c.self.view_is) at c.number_of-number.ensures.numbered in
+    rw (← c.self.view_is, behind_numbered cluster c.self.inside.wheel c.arm.new.self c.args.due _ _ numbered c.arm.ensures.list)

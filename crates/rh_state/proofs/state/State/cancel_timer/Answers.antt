@@ -7,14 +7,14 @@ use Rattle.rh_state.proofs.state.State.cancel_timer.Goals as goal
 pub cancel-requires : goal.cancel-requires
 unfolding read
 cancel-requires c =
-    let numbered : timer_numbered c.self.inside.cluster c.number_of-number.result
-            ≡ c.args.timer = rw (← c.self.view_is) at c.number_of-number.ensures.numbered in
-    let set : IsSome (due_among c.args.timer (timers_of c.self.inside.cluster c.self.inside.wheel)) = rw (← c.self.view_is) at c.requires.set in
-    rw (due_numbered c.self.inside.cluster c.self.inside.wheel _ _ numbered) set
+    let cluster = c.self.inside.cluster.value in
+    let numbered : timer_numbered cluster c.number_of-number.result ≡ c.args.timer = rw (← c.self.view_is) at c.number_of-number.ensures.numbered in
+    let set : IsSome (due_among c.args.timer (timers_of cluster c.self.inside.wheel)) = rw (← c.self.view_is) at c.requires.set in
+    rw (due_numbered cluster c.self.inside.wheel _ _ numbered) set
 
 pub returns : goal.returns
 unfolding read
 returns c =
-    let numbered : timer_numbered c.self.inside.cluster c.number_of-number.result
-            ≡ c.args.timer = rw (← c.self.view_is) at c.number_of-number.ensures.numbered in
-    rw (← c.self.view_is, without_numbered c.self.inside.cluster c.self.inside.wheel c.cancel.new.self _ _ numbered c.cancel.ensures.list)
+    let cluster = c.self.inside.cluster.value in
+    let numbered : timer_numbered cluster c.number_of-number.result ≡ c.args.timer = rw (← c.self.view_is) at c.number_of-number.ensures.numbered in
+    rw (← c.self.view_is, without_numbered cluster c.self.inside.wheel c.cancel.new.self _ _ numbered c.cancel.ensures.list)

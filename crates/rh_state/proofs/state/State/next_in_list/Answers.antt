@@ -10,10 +10,10 @@ pub returns-then-has-clause-number : goal.returns-then-has-clause-number
 unfolding read
 returns-then-has-clause-number c =
     let node = rw (← c.self.view_is) at c.requires in
-    let P = IsAppOf c.self.inside.cluster in
+    let P = IsAppOf c.self.inside.cluster.value in
     let within : c.args.node.0 < length c.self.inside.running.items = omega (arith, node, c.self.invariant.shape.running) in
-    rw (← c.self.view_is, c.behind.ensures) (IfSome-next_app P c.args.app _ (All-row P _ _ _ within c.index-then-has.ensures
-        c.self.invariant.shape.running_apps))
+    rw (← c.self.view_is, c.behind.ensures)
+    (IfSome-next_app P c.args.app _ (All-row P _ _ _ within c.index-then-has.ensures c.self.invariant.shape.running_apps))
 
 pub returns-else-has-clause-next : goal.returns-else-has-clause-next
 unfolding read
@@ -30,7 +30,7 @@ pub returns-else-has-clause-number : goal.returns-else-has-clause-number
 unfolding read
 returns-else-has-clause-number c =
     let node = rw (← c.self.view_is) at c.requires in
-    let P = IsAppOf c.self.inside.cluster in
+    let P = IsAppOf c.self.inside.cluster.value in
     let within : c.args.node.0 < length c.self.inside.waiting.items = omega (arith, node, c.self.invariant.shape.waiting) in
     rw (← c.self.view_is, c.behind-else-has.ensures)
-        (IfSome-next_app P c.args.app _ (All-row P _ _ _ within c.index-else-has.ensures c.self.invariant.shape.waiting_apps))
+    (IfSome-next_app P c.args.app _ (All-row P _ _ _ within c.index-else-has.ensures c.self.invariant.shape.waiting_apps))

@@ -20,7 +20,7 @@ loop-place-preserved c = elim c.match-entry.branch [
         meant = rw (w.timers-is) (pushed ∙ sym more);
         numbers = rw (w.timers-is, w.in_ok-push.ensures.items)
             (All-push (λ (entry : ℕ × Timer). IsTimerOf c.args.self.now.cluster entry.1) c.loop-place.timers.items
-                (w.in-Some.due, w.timer_of.result) c.loop-place.invariant.numbers w.timer_of.ensures.within);
+            (w.in-Some.due, w.timer_of.result) c.loop-place.invariant.numbers w.timer_of.ensures.within);
       })
   | in_default w ↦ (let past : length (listed c.self.inside.wheel) ≤ c.loop-place.place = w.in_default.ensures.none.0 refl in
       absurd (omega (arith, past, c.armed_count-place-end.ensures.count, c.loop-place-test.true)))
@@ -33,7 +33,7 @@ returns-clause-timers c =
     let count = rw same at c.armed_count-place-end.ensures.count in
     let all : length (listed c.args.self.now.wheel) ≤ c.loop-place.place = omega (arith, count, c.loop-place-test.false) in
     c.loop-place.invariant.meant ∙ ap (λ (entries : List (ℕ × ℕ)). map (meant c.args.self.now.cluster) entries)
-        (take_all c.loop-place.place (listed c.args.self.now.wheel) all)
+    (take_all c.loop-place.place (listed c.args.self.now.wheel) all)
 
 pub returns-clause-numbers : goal.returns-clause-numbers
 unfolding read

@@ -1,4 +1,4 @@
-use Rattle.std.proofs.Common.{◌<◌, not, length, All, arith}
+use Rattle.std.proofs.Common.{◌<◌, Bool, not, length, All, arith}
 use Rattle.std.proofs.lemmas.List.Elements.{All-filter}
 use Rattle.rh_model.specs.declared.node.App.{App}
 use Rattle.rh_state.specs.Numbers.{same_app}
@@ -17,13 +17,12 @@ within_waiting c = let node = rw (← c.self.view_is) at c.requires.node in omeg
 
 pub invariant_of-self : goal.invariant_of-self
 invariant_of-self c =
-    let P = IsAppOf c.self.inside.cluster in
+    let P = IsAppOf c.self.inside.cluster.value in
+    let stays : App → Bool = λ b. not (same_app c.args.app b) in
     let run : All P c.remove.new.self =
-    rw c.remove.ensures (All-filter (λ (b : App). not (same_app c.args.app b)) P _
-        (All-row P _ _ _ (within c) c.index_mut.ensures.value c.self.invariant.shape.running_apps)) in
+    rw c.remove.ensures (All-filter stays P _ (All-row P _ _ _ (within c) c.index_mut.ensures.value c.self.invariant.shape.running_apps)) in
     let wait : All P c.remove-2.new.self =
-    rw c.remove-2.ensures (All-filter (λ (b : App). not (same_app c.args.app b)) P _
-        (All-row P _ _ _ (within_waiting c) c.index_mut-2.ensures.value c.self.invariant.shape.waiting_apps)) in
+    rw c.remove-2.ensures (All-filter stays P _ (All-row P _ _ _ (within_waiting c) c.index_mut-2.ensures.value c.self.invariant.shape.waiting_apps)) in
     record {
       shape = IsShaped-waiting _ _ _ (IsShaped-running _ _ _ c.self.invariant.shape run) wait;
       timers = c.self.invariant.timers;

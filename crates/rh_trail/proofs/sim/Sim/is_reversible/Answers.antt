@@ -8,5 +8,5 @@ pub returns : goal.returns
 returns c =
     let s = c.self.invariant in
     subst (λ (v : Held). IsReversible v.seen) c.self.view_is
-    (reversible (record { cluster = c.self.inside.cluster; pick = c.self.inside.pick; trail = c.self.inside.trail.items; cursor = c.self.inside.cursor })
+    (reversible (record { cluster = c.self.inside.cluster.value; pick = c.self.inside.pick; trail = c.self.inside.trail.items; cursor = c.self.inside.cursor })
     (record { within = s.within; limited = s.limited; valid = s.valid }))

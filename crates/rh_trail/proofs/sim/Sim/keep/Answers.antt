@@ -4,6 +4,7 @@ use Rattle.rh_events.specs.declared.event.Event.{Event}
 use Rattle.rh_state.specs.Stored.{Stored, read}
 use Rattle.rh_trail.specs.SimView.{Held, state_of}
 use Rattle.rh_trail.specs.Runs.{step}
+use Rattle.rh_trail.specs.Lone.{trail_limit}
 use Rattle.rh_trail.proofs.Histories.{history_goes_on}
 use Rattle.rh_trail.proofs.sim.Sim.keep.Goals as goal
 
@@ -19,7 +20,7 @@ invariant_of-self-2 c =
     ∙ (λ i. if is_ok (c.unwrap-2.ensures i) then c.truncate-2.new.self.items ++ c.args.state ∷ [] else c.truncate-2.new.self.items)
     ∙ ap (λ (ss : List Stored). ss ++ c.args.state ∷ []) (c.truncate-2.ensures.items ∙ ap (take (s.cursor + 1)) c.in_ok-reserve-2.ensures.items) in
     rw (trail_is, states_is)
-    (history_goes_on s.cluster s.pick s.trail.items s.states.items s.cursor c.args.event c.args.state c.self.invariant
-    (subst (λ (v : Held). v.seen.cursor < 65535) (sym c.self.view_is) c.requires.room)
+    (history_goes_on s.cluster.value s.pick s.trail.items s.states.items s.cursor c.args.event c.args.state c.self.invariant
+    (subst (λ (v : Held). v.seen.cursor < trail_limit) (sym c.self.view_is) c.requires.room)
     (subst (λ (v : Held). read c.args.state ≡ step v.seen.pick (state_of v.seen) c.args.event) (sym c.self.view_is) c.requires.state)
     c.requires.valid)

@@ -1,9 +1,9 @@
 use Rattle.std.proofs.Common.{◌≡◌, Bool, true, false, Result, Ok, Err, sym, ap, ◌∙◌}
 use Rattle.rh_state.specs.Stored.{read}
-use Rattle.rh_step.specs.declared.refusal.Refusal.{Refusal}
+use Rattle.rh_events.specs.declared.refusal.Refusal.{Refusal}
 use Rattle.rh_step.specs.Outcomes.{next}
 use Rattle.rh_trail.specs.Runs.{step}
-use Rattle.rh_trail.proofs.Reasons.{is_memory, never_memory}
+use Rattle.rh_events.proofs.Reasons.{is_memory, never_memory}
 use Rattle.rh_trail.proofs.sim.Sim.next.Goals as goal
 
 pub returns-in-Ok-clause-state : goal.returns-in-Ok-clause-state

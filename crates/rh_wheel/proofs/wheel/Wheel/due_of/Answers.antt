@@ -12,7 +12,7 @@ due : (c : goal.After-map) → c.map.result ≡ due_in c.args.timer (listed c.ar
 unfolding listed
 due c =
     let found = find_from_yields_List (λ x. x.1 == c.args.timer) _ _ c.find.result c.find.ensures.ran
-            (YieldsList-from_slice c.self.inside.entries.items (search rules)) (λ x b q k. search (rules, tests)) in
+    (YieldsList-from_slice c.self.inside.entries.items (search rules)) (λ x b q k. search (rules, tests)) in
     let mapped : c.map.result ≡ option_map (λ x. x.0) (option_map (λ x. x.now) c.find.result) = grind (arith, common_steps) in
     rw (← c.self.view_is) (mapped ∙ ap (option_map (λ x. x.0)) found)
 

@@ -1,0 +1,145 @@
+-- What the change of each event keeps, in an equation for each event.
+use Rattle.std.proofs.Common.{◌≡◌, ◌||◌, ◌&&◌, Bool, true, false, cond, not, List, [], All, None, refl, sym, ◌∙◌, subst, inl}
+use Rattle.std.proofs.lemmas.List.Elements.{All-push}
+use Rattle.rh_model.specs.declared.node.Node.{Node}
+use Rattle.rh_state.specs.declared.status.Mode.TheVariants.{Up}
+use Rattle.rh_state.specs.declared.status.Standing.{Standing}
+use Rattle.rh_state.specs.declared.status.Standing.TheVariants.{Running}
+use Rattle.rh_state.specs.Numbers.{same_node}
+use Rattle.rh_state.specs.Shape.{IsNodeOf}
+use Rattle.rh_state.specs.StateView.{StateView, mode_of, is_allowed, runs_at, restart_of, standing_of}
+use Rattle.rh_state.specs.Setters.{with_allowed}
+use Rattle.rh_base.proofs.Lists.{cases}
+use Rattle.rh_settle.specs.declared.notice.Notice.{Notice}
+use Rattle.rh_settle.specs.declared.notice.Pair.{Pair}
+use Rattle.rh_settle.specs.Course.{Course, course_of, now_in}
+use Rattle.rh_settle.specs.Soundness.{IsSound}
+use Rattle.rh_settle.proofs.Behind.{after_notices}
+use Rattle.rh_events.specs.declared.event.Event.{Event}
+use Rattle.rh_events.specs.declared.event.Event.TheVariants.{Boot, Crash, Tick, Start, Stop, Permit, Takeover, Exit}
+use Rattle.rh_events.specs.Marking.{pair, with_mark}
+use Rattle.rh_events.specs.Ending.{ended}
+use Rattle.rh_events.specs.ByHand.{stopped, left_waiting, forbidden, permitted, taken_from, taken_over, ends_node, exited}
+use Rattle.rh_events.specs.Changes.{change}
+use Rattle.rh_events.specs.Refusals.{refused}
+use Rattle.rh_events.proofs.Accepted.{same_standing, accepted_boot, accepted_crash, accepted_start, accepted_stop, accepted_permit, accepted_takeover}
+use Rattle.rh_events.proofs.Accepted.{accepted_exit}
+use Rattle.rh_events.proofs.Fields.{SameTime, in_time, booted_same, ended_same, marked_same, stopped_same, left_waiting_same, permitted_same}
+use Rattle.rh_events.proofs.Fields.{taken_over_same, exited_same}
+use Rattle.rh_events.proofs.Notices.{mark_after, ended_after, stopped_after, left_waiting_after, permitted_after, taken_over_after, exited_after}
+use Rattle.rh_events.proofs.SoundBooting.{sound_booted}
+use Rattle.rh_events.proofs.SoundMarks.{sound_mark}
+use Rattle.rh_events.proofs.SoundEnding.{sound_ended}
+use Rattle.rh_events.proofs.SoundByHand.{sound_stopped, sound_left_waiting, sound_permitted, sound_exited}
+use Rattle.rh_events.proofs.SoundByHandTakeover.{sound_taken_over}
+use Rattle.rh_events.proofs.StaysUp.{StaysUp, ended_stays, booted_stays, still_up, stopped_stays, exited_stays}
+
+-- ---- the cluster and the time are as they were
+pub change_same : (o : Course) (e : Event) → SameTime o.state (change o e).state
+change_same o (Boot n) = booted_same o.state n
+change_same o (Crash n) = ended_same o n
+change_same o (Tick ms) = record { cluster = refl; time = refl }
+change_same o (Start n a r) = in_time o.state (with_mark o.state n a r) (marked_same o.state n a r)
+change_same o (Stop n a) = by (runs_at o.state n a)
+  where
+    by : (b : Bool) → SameTime o.state (cond b (stopped o n a) (left_waiting o n a)).state
+    by true = in_time o.state (stopped o n a).state (stopped_same o n a)
+    by false = in_time o.state (left_waiting o n a).state (left_waiting_same o n a)
+change_same o (Permit n a allow) = in_time o.state (permitted o n a allow).state (permitted_same o n a allow)
+change_same o (Takeover n a r) = in_time o.state (taken_over o n a r).state (taken_over_same o n a r)
+change_same o (Exit n a normal) = exited_same o n a normal
+
+pub change_cluster : (o : Course) (e : Event) → (change o e).state.cluster ≡ o.state.cluster
+change_cluster o e = (change_same o e).cluster
+
+pub change_time : (o : Course) (e : Event) → (change o e).state.time ≡ o.state.time
+change_time o e = (change_same o e).time
+
+-- ---- earlier notices don't matter
+pub change_after : (base : List Notice) (o : Course) (e : Event) → change (after_notices base o) e ≡ after_notices base (change o e)
+change_after base o (Boot n) = refl
+change_after base o (Crash n) = ended_after base o n
+change_after base o (Tick ms) = refl
+change_after base o (Start n a r) = mark_after base o n a r
+change_after base o (Stop n a) = by (runs_at o.state n a)
+  where
+    by : (b : Bool) → cond b (stopped (after_notices base o) n a) (left_waiting (after_notices base o) n a)
+        ≡ after_notices base (cond b (stopped o n a) (left_waiting o n a))
+    by true = stopped_after base o n a
+    by false = left_waiting_after base o n a
+change_after base o (Permit n a allow) = permitted_after base o n a allow
+change_after base o (Takeover n a r) = taken_over_after base o n a r
+change_after base o (Exit n a normal) = exited_after base o n a normal
+
+-- ---- a sound state stays sound
+-- what is started and doesn't run waits
+waits_there : (p q : Bool) → (p || q) ≡ true → p ≡ false → q ≡ true
+waits_there true q h k = absurd (cc k)
+waits_there false q h k = h
+
+pub sound_changed : (o : Course) (e : Event) → IsSound o.state → refused o.state e ≡ None → IsSound (change o e).state
+sound_changed o (Boot n) sound fine = let h = accepted_boot o.state n fine in sound_booted o.state n sound h.node h.down h.incarnation
+sound_changed o (Crash n) sound fine = sound_ended o n sound (accepted_crash o.state n fine).node
+sound_changed o (Tick ms) sound fine = sound
+sound_changed o (Start n a r) sound fine =
+    let h = accepted_start o.state n a r fine in sound_mark o.state n a r sound h.hand.node h.hand.app h.hand.up h.listed h.unstarted
+sound_changed o (Stop n a) sound fine =
+    let h = accepted_stop o.state n a fine in
+    cases (runs_at o.state n a)
+    (λ t. subst (λ (b : Bool). IsSound (cond b (stopped o n a) (left_waiting o n a)).state) (sym t)
+    (sound_stopped o n a sound h.hand.node h.hand.app t))
+    (λ f. subst (λ (b : Bool). IsSound (cond b (stopped o n a) (left_waiting o n a)).state) (sym f)
+    (sound_left_waiting o n a sound h.hand.node h.hand.app (waits_there _ _ h.started f) f))
+sound_changed o (Permit n a allow) sound fine = let h = accepted_permit o.state n a allow fine in sound_permitted o n a allow sound h.node h.app h.up
+sound_changed o (Takeover n a r) sound fine =
+    let h = accepted_takeover o.state n a r fine in
+    sound_taken_over o n a r sound h.hand.node h.hand.app h.hand.up h.listed
+    (λ m is. subst (λ (k : Node). same_node k n ≡ false) (same_standing h.from m (sym h.stands ∙ is)) h.elsewhere)
+sound_changed o (Exit n a normal) sound fine =
+    let h = accepted_exit o.state n a normal fine in sound_exited o n a normal sound h.hand.node h.hand.app h.runs
+
+-- ---- only nodes of the cluster are marked
+abbrev AreNodes : StateView → List Pair → Type 0
+AreNodes s ps = All (λ (p : Pair). IsNodeOf s.cluster p.node) ps
+
+pub marked_changed : (o : Course) (e : Event) → refused o.state e ≡ None → All (λ (p : Pair). IsNodeOf o.state.cluster p.node) o.marked
+    → All (λ (p : Pair). IsNodeOf o.state.cluster p.node) (change o e).marked
+unfolding ended stopped left_waiting forbidden permitted taken_over exited
+marked_changed o (Boot n) fine before = before
+marked_changed o (Crash n) fine before = before
+marked_changed o (Tick ms) fine before = before
+marked_changed o (Start n a r) fine before =
+    All-push (λ (p : Pair). IsNodeOf o.state.cluster p.node) o.marked (pair n a) before (accepted_start o.state n a r fine).hand.node
+marked_changed o (Stop n a) fine before = by (runs_at o.state n a)
+  where
+    by : (b : Bool) → AreNodes o.state (cond b (stopped o n a) (left_waiting o n a)).marked
+    by true = before
+    by false = before
+marked_changed o (Permit n a allow) fine before = by (not allow && (is_allowed o.state n a && runs_at o.state n a))
+  where
+    by : (b : Bool) → AreNodes o.state (cond b (forbidden o n a) (now_in o (with_allowed o.state n a allow))).marked
+    by true = before
+    by false = before
+marked_changed o (Takeover n a r) fine before = by (standing_of o.state a)
+  where
+    by : (standing : Standing) → AreNodes o.state (taken_from o n a r standing).marked
+    by (Running m) = before
+    by _ = before
+marked_changed o (Exit n a normal) fine before = by (ends_node (restart_of o.state n a) normal)
+  where
+    by : (b : Bool) → AreNodes o.state (cond b (ended o n) (stopped o n a)).marked
+    by true = before
+    by false = before
+
+-- ---- a node that is up stays up, unless its end is told
+pub change_stays : (s : StateView) (e : Event) (n : Node) → refused s e ≡ None → mode_of s n ≡ Up → StaysUp n (change (course_of s [] []) e)
+change_stays s (Boot m) n fine up = inl (booted_stays s m n fine up)
+change_stays s (Crash m) n fine up = ended_stays n m (course_of s [] []) (inl up)
+change_stays s (Tick ms) n fine up = inl up
+change_stays s (Start m a r) n fine up = still_up n (course_of s [] []) (change (course_of s [] []) (Start m a r)) up (marked_same s m a r).modes
+change_stays s (Stop m a) n fine up = stopped_stays n m a (course_of s [] []) up
+change_stays s (Permit m a allow) n fine up =
+    still_up n (course_of s [] []) (change (course_of s [] []) (Permit m a allow)) up (permitted_same (course_of s [] []) m a allow).modes
+change_stays s (Takeover m a r) n fine up =
+    still_up n (course_of s [] []) (change (course_of s [] []) (Takeover m a r)) up (taken_over_same (course_of s [] []) m a r).modes
+change_stays s (Exit m a normal) n fine up = exited_stays n m a normal (course_of s [] []) up

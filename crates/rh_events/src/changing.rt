@@ -1,0 +1,39 @@
+//! What an event changes of itself.
+
+ghost use Rattle.std.specs.Prelude.{◌≡◌, None, OnOk};
+ghost use Rattle.rh_state.specs.Stored.{read};
+ghost use Rattle.rh_settle.specs.Course.{course};
+ghost use Rattle.rh_settle.specs.Soundness.{IsSound};
+ghost use Rattle.rh_events.specs.Changes.{change};
+ghost use Rattle.rh_events.specs.Refusals.{refused};
+
+use crate::booting::boot;
+use crate::by_hand::{exit, permit, stop, take_over};
+use crate::ending::end;
+use crate::event::Event;
+use crate::marking::mark;
+use rh_base::OutOfMemory;
+use rh_settle::Trace;
+use rh_state::State;
+
+/// The change of an event that isn't refused, before nodes come up and applications settle. That of a tick is what its
+/// timers do, and none of it is made here. Where memory is refused, nothing is said of the state and the trace.
+pub fn change(state: &mut State, event: &Event, trace: &mut Trace) -> Result<(), OutOfMemory>
+    requires accepted { refused (read state.old) event.now ≡ None }
+    requires sound { IsSound (read state.old) }
+    ensures { OnOk result (course (read state.new) trace.new ≡ change (course (read state.old) trace.old) event.now) }
+{
+    match *event {
+        Event::Boot { node } => {
+            boot(state, node);
+            Ok(())
+        }
+        Event::Crash { node } => end(state, node, trace),
+        Event::Tick { .. } => Ok(()),
+        Event::Start { node, app, restart } => mark(state, node, app, restart, trace),
+        Event::Stop { node, app } => stop(state, node, app, trace),
+        Event::Permit { node, app, allow } => permit(state, node, app, allow, trace),
+        Event::Takeover { node, app, restart } => take_over(state, node, app, restart, trace),
+        Event::Exit { node, app, normal } => exit(state, node, app, normal, trace),
+    }
+}

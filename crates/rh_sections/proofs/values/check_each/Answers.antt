@@ -1,0 +1,16 @@
+use Rattle.std.proofs.Common.{Err}
+use Rattle.std.proofs.lemmas.Result.{err_from_is_err_and}
+use Rattle.rh_sections.proofs.InTurn.{passes, fails}
+use Rattle.rh_sections.proofs.values.check_each.Goals as goal
+
+pub returns-in_err-test : goal.returns-in_err-test
+returns-in_err-test g c =
+    let p = err_from_is_err_and c.from_residual.result c.from_residual.ensures.1 in
+    rw (p.1, p.2) (λ faults finds memory.
+    fails faults c.args.terms.now c.loop-index.index c.index-terms-index.result c.loop-index-test.true c.index-terms-index.is
+    c.in_err-test.field-0.0 (c.loop-index.invariant faults finds) (finds _ _ (Err c.in_err-test.field-0.0) c.in_err-test.ensures memory))
+
+pub loop-index-preserved : goal.loop-index-preserved
+loop-index-preserved g c faults finds =
+    passes faults c.args.terms.now c.loop-index.index c.index-terms-index.result c.loop-index-test.true c.index-terms-index.is
+    (c.loop-index.invariant faults finds) (finds _ _ _ c.in_ok-test.ensures)

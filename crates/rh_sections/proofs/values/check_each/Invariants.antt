@@ -1,0 +1,8 @@
+use Rattle.std.proofs.Common.{◌≡◌, [], map, take}
+use Rattle.rh_base.specs.Tree.{tree_of}
+use Rattle.rh_sections.specs.Faults.{in_turn}
+use Rattle.rh_sections.specs.Tests.{FindsOfEach}
+use Rattle.rh_sections.proofs.values.check_each.Given as goal
+
+abbrev pub invariant-loop-index : goal.invariant-loop-index
+invariant-loop-index g l = (faults : _) → FindsOfEach g.F.Fn l.test faults → in_turn faults [] (map tree_of (take l.index l.terms)) ≡ []

@@ -1,0 +1,80 @@
+"""What the tests of the built program share: running it, what is wrong with a finished run, and counting.
+
+A group of tests is a function of the program's path that gives pairs: the name of a test, and what is wrong, or None.
+"""
+import difflib
+import os
+import subprocess
+import sys
+import traceback
+
+TOP = os.path.dirname(os.path.dirname(os.path.abspath(__file__)))
+LONGEST_RUN = 300
+
+
+def read(path):
+    """The bytes of a file."""
+    with open(path, "rb") as file:
+        return file.read()
+
+
+def files_below(folder):
+    """The paths of all files in a folder and its folders, in order."""
+    return sorted(os.path.join(where, name) for where, _, names in os.walk(folder) for name in names)
+
+
+def run(program, words, **options):
+    """A finished run of the program, by default with no input and with its output kept."""
+    if "input" not in options:
+        options.setdefault("stdin", subprocess.DEVNULL)
+    options.setdefault("stdout", subprocess.PIPE)
+    return subprocess.run([program] + words, stderr=subprocess.PIPE, timeout=LONGEST_RUN, **options)
+
+
+def difference(want, have):
+    """The lines in which two texts that aren't the same differ, at most 40."""
+    lines = difflib.unified_diff(
+        want.decode("utf-8", "replace").splitlines(), have.decode("utf-8", "replace").splitlines(),
+        "want", "have", lineterm="")
+    shown = "\n".join(list(lines)[:40])
+    return shown or f"their line ends differ, or bytes that aren't UTF-8: want {want[-80:]} at the end, have {have[-80:]}"
+
+
+def fault_of(done, status, out):
+    """What is wrong with a finished run, or None. Where `out` is None, any output will do; where the status is 1, any
+    text on standard error."""
+    if done.returncode != status:
+        return f"status {done.returncode}, want {status}"
+    if out is not None and done.stdout != out:
+        return difference(out, done.stdout)
+    if status != 1 and done.stderr:
+        return f"standard error: {done.stderr[:200]}"
+    return None
+
+
+def chain(count):
+    """The names of applications that each need the next one, and a cluster file, with the line behind it, of one node z
+    that boots them in the worst order: the last one has to start first."""
+    names = [b"a%d" % number for number in range(count)]
+    boot = b", ".join(b"{%s, permanent}" % name for name in names)
+    needs = [b"[%s]" % name for name in names[1:]] + [b"[]"]
+    apps = b" ".join(b"{application, %s, [{applications, %s}]}." % pair for pair in zip(names, needs))
+    return names, b"{node, z, [{rehearse, [{boot, [%s]}]}]}. %s\n===\n" % (boot, apps)
+
+
+def finish(groups, program):
+    """Runs groups of tests, prints each that failed and the line 'N passed, M failed', and ends this program, with status
+    1 where something failed. A group that can't go on counts as one failed test."""
+    passed = failed = 0
+    for group in groups:
+        try:
+            for name, wrong in group(program):
+                passed += wrong is None
+                failed += wrong is not None
+                if wrong is not None:
+                    print(f"FAILED {name}: {wrong}")
+        except Exception:
+            failed += 1
+            print(f"FAILED {group.__name__} can't go on: {traceback.format_exc()}")
+    print(f"{passed} passed, {failed} failed")
+    sys.exit(1 if failed else 0)
