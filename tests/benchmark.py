@@ -3,9 +3,11 @@
 
 First `check` reads a cluster file of one bare node with a long section that is skipped, in four shapes, at 1, 4 and 16 MiB.
 Then `run` rehearses: 64 applications in one chain that settle in one step, in the worst order; 2,000 steps of 32 nodes and 64
-applications; and a cluster of that size that is shown 200 times. Nothing is asserted: the times depend on the machine.
+applications; and a cluster of that size that is shown 200 times. At last `sweep` tries 20,000 plans of 10 to 30 events from a
+base of 100 steps of that cluster, by 1, 2 and 4 workers. Nothing is asserted: the times depend on the machine.
 """
 import os
+import random
 import resource
 import subprocess
 import sys
@@ -58,10 +60,29 @@ def steps(nodes, count):
     return b"\n".join(script[:count]) + b"\n"
 
 
-def run(program, text, word="check"):
+def plans(nodes, count):
+    """Each plan has 10 to 30 events, none of which is refused: nodes crash, time passes, and they boot again."""
+    chance = random.Random(1)
+    lines = []
+    for number in range(count):
+        lines.append(b"plan p%d" % number)
+        left, down = chance.randint(10, 30), []
+        for _ in range(left):
+            turn = chance.randrange(3)
+            if turn == 0 and down:
+                lines.append(b"boot %s" % down.pop())
+            elif turn == 1 and len(down) < 8:
+                down.append(chance.choice([node for node in nodes if node not in down]))
+                lines.append(b"crash %s" % down[-1])
+            else:
+                lines.append(b"tick %d" % chance.randint(1, 700))
+    return b"\n".join(lines) + b"\n"
+
+
+def run(program, text, *words):
     """Seconds."""
     begin = time.monotonic()
-    process = subprocess.Popen([program, word], stdin=subprocess.PIPE, stdout=subprocess.PIPE)
+    process = subprocess.Popen([program, *words], stdin=subprocess.PIPE, stdout=subprocess.PIPE)
     out, _ = process.communicate(text)
     seconds = time.monotonic() - begin
     if process.returncode != 0:
@@ -81,7 +102,7 @@ def main():
     print(f"{os.cpu_count()} processors")
     for name, shape in SHAPES.items():
         for size in (1, 4, 16):
-            seconds = run(program, shape(size * MIB - 1))
+            seconds = run(program, shape(size * MIB - 1), "check")
             print(f"{name:22} {size:3} MiB  {seconds:7.3f} s  peak so far {peak():7.1f} MiB")
     nodes, text = large()
     for name, script in {
@@ -90,6 +111,11 @@ def main():
         "200 times show of that cluster": text + steps(nodes, 32) + b"show\n" * 200,
     }.items():
         print(f"{name:40} {run(program, script, 'run'):7.3f} s  peak so far {peak():7.1f} MiB")
+    # Behind 100 steps all nodes are up.
+    swept = text + steps(nodes, 100) + plans(nodes, 20_000)
+    for workers in ("1", "2", "4"):
+        seconds = run(program, swept, "sweep", "--workers", workers)
+        print(f"{'20,000 plans by ' + workers + ' workers':40} {seconds:7.3f} s  peak so far {peak():7.1f} MiB")
 
 
 main()

@@ -22,9 +22,10 @@ from support import LONGEST_RUN, TOP, finish, run
 
 ANSWERS = "docs/ANSWERS.md"
 # The definitions of what the program prints.
-PRINTED = ["rh_trail/specs/Report", "rh_script/specs/Answers", "rh_app/specs/CheckText", "rh_app/specs/Histories",
+PRINTED = ["rh_trail/specs/Report", "rh_script/specs/Answers", "rh_script/specs/SweepAnswers", "rh_sweep/specs/Sweeping",
+           "rh_app/specs/CheckText", "rh_app/specs/Histories",
            "rh_events/specs/Refusals", "rh_sections/specs/FaultTexts", "rh_terms/specs/FaultTexts"]
-HELPS = [["--help"], ["run", "--help"], ["check", "--help"], ["sessions", "--help"]]
+HELPS = [["--help"], ["run", "--help"], ["check", "--help"], ["sessions", "--help"], ["sweep", "--help"]]
 
 
 def text_of(name):

@@ -4,7 +4,7 @@
 The worked rows are the files GROUP/NAME.row in tests/rows (row_files.py says what stands in one). Each example of the
 repository, examples/NAME.txt, has its row tests/examples/NAME.row, without an input: that is the example. A file in these
 folders that is no such row is a failed test. Then come inputs that are too large for a file, which are made here, devices
-and memory that fail, texts that are no terms (term_faults.py) and the documents (check_docs.py). The last line is
+and memory that fail, sweeps (sweeps.py), texts that are no terms (term_faults.py) and the documents (check_docs.py). The last line is
 'N passed, M failed'. Where paths of rows are given, these alone are run.
 """
 import os
@@ -14,6 +14,8 @@ import sys
 import tempfile
 
 import check_docs
+import sweeps
+from no_threads import without_threads
 from row_files import RowFault, read_row
 from support import TOP, chain, fault_of, files_below, finish, read, run
 from term_faults import term_faults
@@ -131,6 +133,8 @@ def command_lines(program):
                                    b"sync_nodes_timeout", b"permissions", b"boot", b"platform", b"0 to 10^12 milliseconds",
                                    b"docs/CLUSTER_FILES.md"]),
             (["sessions", "--help"], [b"--pick", b"entry S COMMAND", b"final", b"1 boot a@x", b"docs/ANSWERS.md"]),
+            (["sweep", "--help"], [b"--pick", b"--workers", b"plan NAME accepted K failovers K takeovers K", b"bad line K", b"V2", b"V3",
+                                   b"docs/ANSWERS.md"]),
             (["--version"], [b"rehearse 0.1.0"])]:
         done = run(program, words, input=b"")
         missing = [text for text in texts if text not in done.stderr]
@@ -247,7 +251,8 @@ def refused_memory(program):
     """Each allocation of whole runs refused in turn: the whole text, or status 5 and a front of it."""
     runs = [row_at(os.path.join(TOP, "tests", name + ".row")) for name in (
         "rows/bare-nodes/two-bare-nodes", "rows/sessions/one-session-all-calls", "examples/waiting-nodes",
-        "examples/local-applications", "examples/failover-and-takeover", "examples/three-nodes")]
+        "examples/local-applications", "examples/failover-and-takeover", "examples/three-nodes",
+        "rows/sweep/plans-by-1-workers", "rows/sweep/plans-by-2-workers")]
     with tempfile.TemporaryDirectory() as folder:
         code, library, counted = (os.path.join(folder, name) for name in ("refusing.c", "refusing.so", "count"))
         with open(code, "w") as file:
@@ -261,6 +266,20 @@ def refused_memory(program):
             yield f"{row.words[0]}: each of {count} allocations refused in turn", wrong
 
 
+def no_threads(program):
+    """Sessions and sweeps where each thread is refused: one part of the work is done after the other, with the same text."""
+    with tempfile.TemporaryDirectory() as folder:
+        alone, refused = without_threads(program, folder)
+        wrong = history_fault(alone, read(BY_CHANCE))
+        yield "sessions without threads", wrong or (None if refused() else "no thread was asked for")
+        for path in files_below(os.path.join(ROWS, "sweep")):
+            row = row_at(path)
+            if "--workers" in row.words and row.status in (0, 6):
+                done = run(alone, row.words, input=row.input)
+                yield f"{os.path.relpath(path, ROWS)} without threads", fault_of(done, row.status, row.output)
+        yield "sweeps without threads", None if refused() else "no thread was asked for"
+
+
 def main():
     if len(sys.argv) < 2:
         sys.exit(__doc__)
@@ -270,7 +289,7 @@ def main():
             yield path, row_fault(program, path)
 
     all_groups = (rows, examples, term_faults, command_lines, large_inputs, long_chains, several_sessions, failing_devices,
-                  refused_memory, *check_docs.TESTS)
+                  refused_memory, no_threads, *sweeps.TESTS, *check_docs.TESTS)
     finish((named_rows,) if sys.argv[2:] else all_groups, os.path.abspath(sys.argv[1]))
 
 

@@ -4,6 +4,7 @@ use clap::builder::ValueParser;
 use clap::error::ErrorKind;
 use clap::{Arg, ArgAction, Command, Error};
 use rh_step::Pick;
+use rh_sweep::MAX_WORKERS;
 use std::alloc::Global;
 
 // The choices at a tie.
@@ -28,14 +29,16 @@ show
 EOF
 
 `rehearse run --help` lists the commands of a script, `rehearse check --help`
-says what a cluster file holds, and `rehearse sessions --help` how several
-operators share one cluster. Each line that is printed is explained in
-docs/ANSWERS.md; what a live OTP does otherwise is in docs/LIVE_OTP.md.
+says what a cluster file holds, `rehearse sessions --help` how several operators
+share one cluster, and `rehearse sweep --help` how many failures are tried from
+one state. Each line that is printed is explained in docs/ANSWERS.md; what a
+live OTP does otherwise is in docs/LIVE_OTP.md.
 
 Exit status: 0 done, 1 the command line was refused (or help was asked for),
 2 the cluster file was refused, 3 a line of the script is no command,
 4 the input can't be read or the output can't be written, 5 out of memory,
-6 the sessions made no one history. A refused command leaves 0.";
+6 the sweep was refused, or the sessions made no one history. A refused command
+leaves 0.";
 
 static RUN_ABOUT: &str = "Reads a cluster file and a script, and answers each command";
 
@@ -170,6 +173,57 @@ Examples:
   ./rehearse sessions < examples/two-operators.txt
   ./rehearse sessions < examples/one-operator.txt";
 
+static SWEEP_ABOUT: &str = "Reads a cluster file, a base and plans, and says what comes of each";
+
+static SWEEP_AFTER_HELP: &str = "\
+The input is that of `rehearse run` on standard input. Behind its script, which
+is the base, stand plans: a line `plan NAME`, and then the events of the plan:
+
+./rehearse sweep << 'EOF'
+{node, a@x, [{kernel, [{distributed, [{web, 5000, [a@x, b@x]}]}]},
+  {rehearse, [{boot, [{web, permanent}]}]}]}.
+{node, b@x, [{kernel, [{distributed, [{web, 5000, [a@x, b@x]}]}]},
+  {rehearse, [{boot, [{web, permanent}]}]}]}.
+{application, web, []}.
+===
+boot a@x
+boot b@x
+plan a-is-lost
+crash a@x
+tick 5000
+plan both-are-lost
+crash a@x
+crash b@x
+EOF
+
+The base is answered as in `rehearse run`. Each plan begins from the state that
+is reached then, whatever the other plans do, and ends behind its last event or
+at the first that is refused. Its lines are events, the commands from `boot` to
+`exit` of `rehearse run --help`, and blank lines and comments. NAME is one word,
+and several plans may have the same. For each plan is told
+
+  plan NAME accepted K failovers K takeovers K
+  refused J ..               if event J of the plan was refused: why, as in
+                             `rehearse run`; J counts events from 1
+  app A ..                   where each distributed application stands then, as
+                             `show` tells it
+
+`failovers` counts the starts of applications that were lost with another node,
+`takeovers` those in place of one that ran at another node. The plans are shared
+among as many threads as `--workers` says; what is told is the same for any.
+
+All lines are read first. A line that is no command, or a line of a plan that is
+no event, is told alone: `bad line K`. K counts lines from 1 behind `===`, with
+blank lines and comments. The last line is `sweep refused V2 base_not_at_end`
+where the base ends with steps taken back, and `sweep refused V3 trail_room`
+where the base and a plan have more than 65535 events together.
+
+docs/ANSWERS.md explains each line.
+
+Example:
+
+  ./rehearse sweep --workers 4 < examples/five-nodes-sweep.txt";
+
 /// A program of the command line.
 #[derive(Clone, Copy)]
 pub enum Program {
@@ -177,6 +231,8 @@ pub enum Program {
     Run(Pick),
     /// The log of several sessions.
     Sessions(Pick),
+    /// The outcomes of plans, by so many workers.
+    Sweep(Pick, usize),
     /// Whether a cluster file is one.
     Check,
 }
@@ -233,6 +289,10 @@ fn program_of(alloc: Global, words: &[String]) -> Result<Program, Error> {
         Some(("run", matches)) => Ok(Program::Run(pick_of(matches.get_str("pick")))),
         Some(("check", _)) => Ok(Program::Check),
         Some(("sessions", matches)) => Ok(Program::Sessions(pick_of(matches.get_str("pick")))),
+        Some(("sweep", matches)) => {
+            let workers = matches.get_one::<usize>("workers").unwrap_or(1);
+            Ok(Program::Sweep(pick_of(matches.get_str("pick")), workers))
+        }
         _ => {
             let error = refusal(
                 alloc,
@@ -253,7 +313,8 @@ fn whole_command<'a>(alloc: Global) -> Result<Command<'a>, Error> {
         .subcommand_required(true)
         .subcommand(run_command(alloc)?)?
         .subcommand(check_command(alloc))?
-        .subcommand(sessions_command(alloc)?)?;
+        .subcommand(sessions_command(alloc)?)?
+        .subcommand(sweep_command(alloc)?)?;
     Ok(command)
 }
 
@@ -290,6 +351,26 @@ fn sessions_command<'a>(alloc: Global) -> Result<Command<'a>, Error> {
         .about(SESSIONS_ABOUT)
         .after_help(SESSIONS_AFTER_HELP)
         .arg(pick_argument(alloc))?;
+    Ok(command)
+}
+
+// The number of workers, as an argument.
+fn workers_argument<'a>(alloc: Global) -> Arg<'a> {
+    Arg::new(alloc, "workers")
+        .long("workers")
+        .action(ArgAction::Set)
+        .value_parser(ValueParser::Unsigned(1, MAX_WORKERS as u64))
+        .default_value("1")
+        .help("Shares the plans among so many threads, 1 to 16")
+}
+
+// The subcommand `sweep`.
+fn sweep_command<'a>(alloc: Global) -> Result<Command<'a>, Error> {
+    let command = Command::new(alloc, "sweep")
+        .about(SWEEP_ABOUT)
+        .after_help(SWEEP_AFTER_HELP)
+        .arg(pick_argument(alloc))?
+        .arg(workers_argument(alloc))?;
     Ok(command)
 }
 

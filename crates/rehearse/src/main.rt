@@ -1,10 +1,13 @@
 //! The program: what the command line asks, and the exit status.
 #![tactic(auto)]
 
+ghost use Rattle.rh_sweep.specs.Sweeping.{AreWorkers};
+
 mod command_line;
 
 use command_line::{Asked, Program, asked_of, not_utf8};
-use rh_app::{RunFault, Watched, run, run_check, run_sessions};
+use rh_app::{RunFault, Watched, run, run_check, run_sessions, run_sweep};
+use rh_sweep::MAX_WORKERS;
 use std::alloc::Global;
 use std::io::{BufWriter, Write};
 use std::process::ExitCode;
@@ -21,7 +24,18 @@ fn status_of(ended: &Result<(), RunFault>) -> u8 {
         Err(RunFault::BadLine(_)) => 3,
         Err(RunFault::Read | RunFault::Write) => 4,
         Err(RunFault::OutOfMemory) => 5,
-        Err(RunFault::Room) => 6,
+        Err(RunFault::Sweep(_) | RunFault::Room) => 6,
+    }
+}
+
+// The number of workers, which the command line has checked.
+fn checked(workers: usize) -> usize
+    ensures { AreWorkers result }
+{
+    if workers >= 1 && workers <= MAX_WORKERS {
+        workers
+    } else {
+        1
     }
 }
 
@@ -35,6 +49,16 @@ fn rehearse<T: Runtime<A = Global> + Threads + Wait + Sync>(rt: &T, program: Pro
     let ended = match program {
         Program::Run(pick) => run(rt.alloc(), &mut reader, &mut writer, pick),
         Program::Sessions(pick) => run_sessions(rt, rt.alloc(), &mut reader, &mut writer, pick),
+        Program::Sweep(pick, workers) => {
+            run_sweep(
+                rt,
+                rt.alloc(),
+                &mut reader,
+                &mut writer,
+                pick,
+                checked(workers),
+            )
+        }
         Program::Check => run_check(rt.alloc(), &mut reader, &mut writer),
     };
     match writer.flush() {

@@ -1,5 +1,5 @@
 -- Worked rows: the definitions of the texts compute to what an operator sees.
-use Rattle.std.proofs.Common.{◌≡◌, [], ◌∷◌, Some, codes, refl}
+use Rattle.std.proofs.Common.{◌≡◌, [], ◌∷◌, Some, None, codes, refl}
 use Rattle.std.specs.Fmt.{digits}
 use Rattle.std.specs.Str.{is_utf8, chars}
 use lib.Utf8.{encode}
@@ -13,14 +13,20 @@ use Rattle.rh_events.specs.Readiness.{all_alive, is_ready}
 use Rattle.rh_events.specs.Marking.{mark_all}
 use Rattle.rh_events.specs.ComingUp.{come_up, come_up_if_ready, ready_come_up}
 use Rattle.rh_events.specs.Changes.{booted}
+use Rattle.rh_events.specs.Ending.{cleared, lost_if_ran, all_lost, ended}
 use Rattle.rh_events.specs.Refusals.{refused}
 use Rattle.rh_step.specs.Outcomes.{followed, next}
 use Rattle.rh_trail.specs.Runs.{step}
+use Rattle.rh_trail.specs.Report.{standing_line}
+use Rattle.rh_sweep.specs.Outcomes.{standing_in}
 use Rattle.rh_script.specs.Lines.{content, script_lines}
 use Rattle.rh_script.specs.Commands.{line_of}
 use Rattle.rh_script.specs.Answers.{notice_line, answer_text, bad_text}
 use Rattle.rh_app.specs.RunText.{script_text, bad_line, lines_asked}
+use Rattle.rh_script.specs.SweepLines.{sweep_line_of, sweep_lines_asked, bad_sweep_line}
+use Rattle.rh_script.specs.SweepAnswers.{plan_line, refused_line, outcome_text}
 use Rattle.rh_app.specs.CheckText.{count_text}
+use Rattle.rh_app.specs.SweepText.{lines_text}
 use Rattle.rh_trail.specs.Lone.{opened}
 use Rattle.rh_trail.specs.Lone.{trail_limit}
 use Rattle.rh_room.specs.Legal.{session_limit, log_limit}
@@ -47,3 +53,14 @@ bad_line_row = refl
 count_row : count_text one_node ≡ codes "ok 1 nodes 0 applications\n"
 unfolding count_text digits
 count_row = refl
+
+sweep_row : lines_text one_node First (sweep_lines_asked one_node (script_lines (codes "===\nboot a\nplan p\ncrash a\ncrash a\n"))) None
+    ≡ codes "ok\nup a\nplan p accepted 1 failovers 0 takeovers 0\nrefused 2 S5 not_alive\n"
+unfolding content sweep_line_of answer_text notice_line outcome_text plan_line refused_line standing_line standing_in nodes_of apps_of configured moved_by
+    all_moved all_alive is_ready mark_all come_up come_up_if_ready ready_come_up booted cleared lost_if_ran all_lost ended followed refused next step digits
+    is_utf8 chars encode
+sweep_row = refl
+
+sweep_bad_line_row : bad_sweep_line (sweep_lines_asked one_node (script_lines (codes "===\nundo\nplan p\ncrash a\nundo\n"))) ≡ Some 4
+unfolding content sweep_line_of is_utf8 chars encode
+sweep_bad_line_row = refl

@@ -18,6 +18,7 @@ abbrev pub ended : Option Told → Result (Unit {0}) RunFault
 ended None = Ok tt
 ended (Some (told.Cluster f)) = Err (end.Cluster f)
 ended (Some (told.BadLine k)) = Err (end.BadLine k)
+ended (Some (told.Sweep f)) = Err (end.Sweep f)
 
 -- a program whose input was not read
 abbrev pub reading_fault : ReadFault → RunFault

@@ -1,19 +1,22 @@
 -- The commands of sessions, and the histories that they make (ours).
-use Rattle.std.specs.Prelude.{◌≡◌, ℕ, ◌+◌, List, [], ◌∷◌, ◌++◌, length, map, filter, fold, Bool, true, false, ◌==◌, nat_lt, if◌then◌else◌, Option, Some, None}
+use Rattle.std.specs.Prelude.{◌≡◌, ℕ, ◌+◌, List, [], ◌∷◌, ◌++◌, length, map, filter, fold, Bool, true, false, ◌==◌, nat_lt, if◌then◌else◌, Option}
 use Rattle.std.specs.Prelude.{codes}
 use Rattle.std.specs.List.{flat_map}
 use Rattle.std.specs.Fmt.{decimal}
 use Rattle.rh_model.specs.ClusterView.{ClusterView}
 use Rattle.rh_place.specs.declared.choosing.Pick.{Pick}
 use Rattle.rh_state.specs.StateView.{StateView}
+use Rattle.rh_trail.specs.declared.call.Call.{Call}
 use Rattle.rh_trail.specs.Lone.{opened, sim_after}
 use Rattle.rh_trail.specs.SimView.{state_of}
 use Rattle.rh_trail.specs.Report.{report_text}
 use Rattle.rh_room.specs.declared.pass.Entry.{Entry}
-use Rattle.rh_room.specs.Legal.{IsLegal, calls, log_limit}
+use Rattle.rh_room.specs.declared.pass.Receipt.{Receipt}
+use Rattle.rh_room.specs.Legal.{IsLegal, PassView, calls, log_limit}
 use Rattle.rh_script.specs.declared.session_lines.Command.{Command}
 use Rattle.rh_script.specs.declared.session_lines.SessionLine.{SessionLine}
 use Rattle.rh_script.specs.declared.session_lines.SessionLine.TheVariants.{Nothing, Asks, Bad}
+use Rattle.rh_script.specs.Fitting.{first_unfit}
 use Rattle.rh_script.specs.SessionLines.{command, session_line_of}
 use Rattle.rh_script.specs.CommandWords.{command_words}
 use Rattle.rh_script.specs.Answers.{answer_text}
@@ -37,11 +40,13 @@ fits count Nothing = true
 fits count (Asks command) = nat_lt count log_limit
 fits count Bad = false
 
+-- how many commands there are with this line
+abbrev pub counted : ℕ → SessionLine → ℕ
+counted count line = count + length (command_in line)
+
 -- the number of the first line that doesn't fit, where the first one has number k and so many commands came before it
 abbrev pub bad_session_line : ℕ → ℕ → List SessionLine → Option ℕ
-bad_session_line k count [] = None
-bad_session_line k count (line ∷ lines) =
-    if fits count line then bad_session_line (k + 1) (count + length (command_in line)) lines else Some k
+bad_session_line k count lines = first_unfit fits counted k count lines
 
 -- the greatest number of a session, and 1 without commands
 abbrev pub greater : ℕ → Command → ℕ
@@ -57,6 +62,14 @@ asked e = command e.session e.call
 -- those of one session
 abbrev pub by_session : ℕ → List Command → List Command
 by_session session commands = filter (λ c. c.session == session) commands
+
+-- the calls that a session was answered, in order
+abbrev pub answered : PassView → List Call
+answered pass = map (λ (r : Receipt). r.call) pass.receipts
+
+-- the calls of a session's commands
+abbrev pub calls_by : ℕ → List Command → List Call
+calls_by session commands = map (λ (c : Command). c.call) (by_session session commands)
 
 -- a history of the commands: a legal log in which each session's commands stand, all and in their order, and no others
 pub record IsHistory (c : ClusterView) (pick : Pick) (commands : List Command) (log : List Entry) : Type 0 where

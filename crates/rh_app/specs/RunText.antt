@@ -16,16 +16,9 @@ use Rattle.rh_app.specs.declared.fault.Told.{Told}
 use Rattle.rh_app.specs.declared.fault.Told.TheVariants as told
 use Rattle.rh_app.specs.declared.fault.WriteFault.{WriteFault}
 use Rattle.rh_script.specs.Lines.{cluster_text, script_lines}
-use Rattle.rh_script.specs.Commands.{line_of}
+use Rattle.rh_script.specs.Commands.{line_of, calls_of}
 use Rattle.rh_script.specs.Answers.{answer_text, fault_text, bad_text}
 use Rattle.rh_app.specs.Devices.{WroteFront}
-
--- the commands up to the first bad line
-abbrev pub calls_of : List Line → List Call
-calls_of [] = []
-calls_of (Nothing ∷ lines) = calls_of lines
-calls_of (Asks call ∷ lines) = call ∷ calls_of lines
-calls_of (Bad ∷ lines) = []
 
 -- the number of the first bad line, where the first line has number k
 abbrev pub bad_line : ℕ → List Line → Option ℕ
@@ -43,9 +36,13 @@ end_text (Some k) = bad_text k
 abbrev pub script_end : Option ℕ → Option Told
 script_end bad = option_map (λ k. told.BadLine k) bad
 
+-- the answers to commands that are made one after the other
+abbrev pub answers_text : ClusterView → SimView → List Call → List ℕ
+answers_text c sim calls = flat_map (answer_text c) (replies sim calls)
+
 -- the answers to the commands, and then the bad line
 abbrev pub script_text : ClusterView → SimView → ℕ → List Line → List ℕ
-script_text c sim k lines = flat_map (answer_text c) (replies sim (calls_of lines)) ++ end_text (bad_line k lines)
+script_text c sim k lines = answers_text c sim (calls_of lines) ++ end_text (bad_line k lines)
 
 -- what the lines ask
 abbrev pub lines_asked : ClusterView → List (List ℕ) → List Line

@@ -9,6 +9,7 @@ ghost use Rattle.rh_app.specs.declared.fault.SessionsFault.TheVariants as sessio
 
 use rh_base::OutOfMemory;
 use rh_cluster::ClusterFault;
+use rh_sweep::SweepFault;
 use std::alloc::{AllocError, AllocFailed};
 use thiserror::Error;
 
@@ -30,6 +31,9 @@ pub enum RunFault {
     /// A growth was refused: the front of the text was written.
     #[error("out of memory")]
     OutOfMemory,
+    /// The plans can't be swept. That was written.
+    #[error("sweep refused {0}")]
+    Sweep(SweepFault),
     /// The sessions' threads made no one history of their commands. Nothing was written.
     #[error("the sessions made no one history")]
     Room,
@@ -42,6 +46,8 @@ pub enum Told {
     Cluster(ClusterFault),
     /// The line of this number is no command.
     BadLine(u64),
+    /// The plans can't be swept.
+    Sweep(SweepFault),
 }
 
 /// Why an input was not read.
@@ -90,6 +96,7 @@ pub fn ended(told: Option<Told>) -> Result<(), RunFault>
         None => Ok(()),
         Some(Told::Cluster(fault)) => Err(RunFault::Cluster(fault)),
         Some(Told::BadLine(number)) => Err(RunFault::BadLine(number)),
+        Some(Told::Sweep(fault)) => Err(RunFault::Sweep(fault)),
     }
 }
 

@@ -2,7 +2,7 @@
 //!
 //! [`run`] reads a cluster file, a line `===` and a script, and answers the commands of the script. [`run_check`] reads the
 //! cluster file alone, and says whether it is one. [`run_sessions`] has several sessions share one cluster, each in a thread
-//! of its own.
+//! of its own. [`run_sweep`] tries plans from the simulation behind a base, by several workers.
 #![tactic(auto)]
 
 mod checking;
@@ -11,6 +11,7 @@ mod fault;
 mod laws;
 mod running;
 mod sessions;
+mod sweeping;
 mod watched;
 
 pub use checking::run_check;
@@ -19,4 +20,5 @@ pub use laws::rehearsals_are_reversible;
 pub use rh_trail::report;
 pub use running::run;
 pub use sessions::run_sessions;
+pub use sweeping::run_sweep;
 pub use watched::Watched;

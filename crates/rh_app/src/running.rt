@@ -172,7 +172,7 @@ pub fn answer_bad<W: Write>(
 }
 
 // Gives a call to the simulation, and writes the answer.
-fn answer_call<W: Write>(
+pub fn answer_call<W: Write>(
     alloc: Global,
     cluster: &Cluster,
     sim: &mut Sim,

@@ -1,3 +1,4 @@
 pub mod LineLemmas
 pub mod Numerals
 pub mod Rows
+pub mod SweepReading

@@ -13,6 +13,7 @@ use Rattle.rh_model.specs.declared.settings.Restart.{Restart}
 use Rattle.rh_model.specs.declared.settings.Restart.TheVariants.{Permanent, Transient, Temporary}
 use Rattle.rh_events.specs.declared.event.Event.{Event}
 use Rattle.rh_events.specs.declared.event.Event.TheVariants.{Boot, Crash, Tick, Start, Stop, Permit, Takeover, Exit}
+use Rattle.rh_trail.specs.declared.call.Call.{Call}
 use Rattle.rh_trail.specs.declared.call.Call.TheVariants as call
 use Rattle.rh_trail.specs.Report.{restart_words}
 use Rattle.rh_script.specs.declared.script.TheConstants.{NO_NODE, NO_APP}
@@ -107,3 +108,10 @@ line_of c line =
     if begins_with 35 line then Nothing
     else if is_utf8 line then command_of c (words_of line)
     else Bad
+
+-- the commands of lines up to the first bad one
+abbrev pub calls_of : List Line → List Call
+calls_of [] = []
+calls_of (Nothing ∷ lines) = calls_of lines
+calls_of (Asks call ∷ lines) = call ∷ calls_of lines
+calls_of (Bad ∷ lines) = []

@@ -3,3 +3,7 @@ pub mod Commands
 pub mod SessionLines
 pub mod Answers
 pub mod CommandWords
+pub mod Fitting
+pub mod SweepLines
+pub mod SweepReading
+pub mod SweepAnswers

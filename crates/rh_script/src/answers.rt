@@ -94,7 +94,11 @@ fn push_notices(text: &mut String, cluster: &Cluster, notices: &[Notice]) -> Res
 }
 
 // Adds the name of the dependency that isn't started, where one is told.
-fn push_reason(text: &mut String, cluster: &Cluster, refusal: Refusal) -> Result<(), OutOfMemory>
+pub fn push_reason(
+    text: &mut String,
+    cluster: &Cluster,
+    refusal: Refusal,
+) -> Result<(), OutOfMemory>
     ensures { OnOk result (string_bytes text.new ≡ string_bytes text.old ++ reason_words cluster.now refusal) }
 {
     if let Refusal::DependencyNotStarted { dep } = refusal {

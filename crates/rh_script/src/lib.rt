@@ -1,7 +1,8 @@
 //! The texts of rehearsals: the lines of a script, what they ask, and what is answered.
 //!
 //! [`cut`] parts an input at its line `===`, [`line_of`] says what a line of a script asks, and [`session_line_of`] what one
-//! asks that names its session. [`answer_text`] is the text of a reply, and [`command_text`] that of a call.
+//! asks that names its session; [`sweep_in`] reads the base and the plans of a sweep. [`answer_text`] is the text of a reply,
+//! [`command_text`] that of a call, and [`outcome_text`] that of a plan.
 #![tactic(auto)]
 
 mod answers;
@@ -9,9 +10,13 @@ mod command_words;
 mod lines;
 mod script;
 mod session_lines;
+mod sweep_answers;
+mod sweep_lines;
 
 pub use answers::{answer_text, bad_text, fault_text};
 pub use command_words::command_text;
 pub use lines::{content, cut, split_line};
 pub use script::{Line, line_of};
 pub use session_lines::{Command, LAST_SESSION, SessionLine, session_line_of};
+pub use sweep_answers::{outcome_text, sweep_fault_text};
+pub use sweep_lines::{SweepScript, sweep_in};

@@ -4,7 +4,7 @@ ghost use Rattle.std.specs.Prelude.{◌≡◌, IfOk, map};
 ghost use Rattle.rh_script.specs.SessionLines.{session_named, asked_by, session_command, session_line_of};
 
 use crate::script::{Line, begins_with, command_of, text_of, words_of};
-use rh_base::OutOfMemory;
+use rh_base::{OutOfMemory, Same};
 use rh_cluster::Cluster;
 use rh_trail::Call;
 use std::alloc::Global;
@@ -19,6 +19,16 @@ pub struct Command {
     pub session: u8,
     /// The call.
     pub call: Call,
+}
+
+impl Same for Command {
+    ghost use Rattle.std.specs.Prelude.{◌↔◌, IsTrue};
+
+    fn same(&self, other: &Command) -> bool
+        ensures { IsTrue result ↔ (self.now ≡ other.now) }
+    {
+        *self == *other
+    }
 }
 
 /// What a line of a script asks that names its session.

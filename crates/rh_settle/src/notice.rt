@@ -1,5 +1,6 @@
 //! What follows from an event.
 
+use rh_base::Same;
 use rh_model::{App, Node};
 use rh_state::Kind;
 
@@ -31,6 +32,16 @@ pub enum Notice {
         app: App,
         node: Node,
     },
+}
+
+impl Same for Notice {
+    ghost use Rattle.std.specs.Prelude.{◌≡◌, ◌↔◌, IsTrue};
+
+    fn same(&self, other: &Notice) -> bool
+        ensures { IsTrue result ↔ (self.now ≡ other.now) }
+    {
+        *self == *other
+    }
 }
 
 /// A node and an application.

@@ -4,7 +4,7 @@ ghost use Rattle.std.specs.Prelude.{◌≡◌, ◌<◌, ◌++◌, ◌∷◌, [],
 ghost use Rattle.rh_state.specs.Numbers.{same_app};
 ghost use Rattle.rh_state.specs.Lists.{has_app, without_app, next_app};
 
-use rh_base::OutOfMemory;
+use rh_base::{Duplicate, OutOfMemory};
 use rh_model::{App, MAX_APPS};
 use std::alloc::Global;
 use std::marker::Model;
@@ -35,15 +35,6 @@ impl AppList {
         Ok(AppList {
             apps: Vec::with_capacity(alloc, MAX_APPS)?,
         })
-    }
-
-    /// The same ones in the same order.
-    pub fn copy(&self, alloc: Global) -> Result<AppList, OutOfMemory>
-        ensures { IfOk result (λ copy. copy ≡ self.now) }
-    {
-        let mut apps = Vec::with_capacity(alloc, MAX_APPS)?;
-        apps.extend_from_slice(self.apps.as_slice())?;
-        Ok(AppList { apps })
     }
 
     /// The same ones in the same order, as a vector.
@@ -119,13 +110,12 @@ pub fn empty_lists(alloc: Global, count: usize) -> Result<Vec<AppList>, OutOfMem
     Ok(lists)
 }
 
-/// Equal lists.
-pub fn copies_of(alloc: Global, lists: &[AppList]) -> Result<Vec<AppList>, OutOfMemory>
-    ensures { IfOk result (λ copies. copies.items ≡ lists.now) }
-{
-    let mut copies = Vec::new(alloc);
-    for list in lists {
-        copies.push(list.copy(alloc)?)?;
+impl Duplicate for AppList {
+    fn copy(&self, alloc: Global) -> Result<AppList, OutOfMemory>
+        ensures { IfOk result (λ copy. copy ≡ self.now) }
+    {
+        let mut apps = Vec::with_capacity(alloc, MAX_APPS)?;
+        apps.extend_from_slice(self.apps.as_slice())?;
+        Ok(AppList { apps })
     }
-    Ok(copies)
 }

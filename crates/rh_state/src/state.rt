@@ -11,10 +11,10 @@ mod reading;
 mod setting;
 mod timers;
 
-use crate::apps::{AppList, copies_of as copies_of_lists, empty_lists};
+use crate::apps::{AppList, empty_lists};
 use crate::status::{Kind, Mode, Standing};
-use crate::table::{Row, copies_of as copies_of_rows, rows_of};
-use rh_base::OutOfMemory;
+use crate::table::{Row, rows_of};
+use rh_base::{Duplicate, OutOfMemory, copies_of};
 use rh_model::{App, Cluster, Node, Restart};
 use rh_wheel::Wheel;
 use std::alloc::Global;
@@ -112,8 +112,8 @@ impl State {
         ensures running { IfOk result (λ lists. lists.0.items ≡ self.now.running) }
         ensures waiting { IfOk result (λ lists. lists.1.items ≡ self.now.waiting) }
     {
-        let running = copies_of_lists(alloc, self.running.as_slice())?;
-        let waiting = copies_of_lists(alloc, self.waiting.as_slice())?;
+        let running = copies_of(alloc, self.running.as_slice())?;
+        let waiting = copies_of(alloc, self.waiting.as_slice())?;
         Ok((running, waiting))
     }
 
@@ -126,9 +126,9 @@ impl State {
         ensures kinds { IfOk result (λ tables. tables.1.items ≡ self.now.kinds) }
         ensures allowed { IfOk result (λ tables. tables.2.items ≡ self.now.allowed) }
     {
-        let restarts = copies_of_rows(alloc, self.restarts.as_slice())?;
-        let kinds = copies_of_rows(alloc, self.kinds.as_slice())?;
-        let allowed = copies_of_rows(alloc, self.allowed.as_slice())?;
+        let restarts = copies_of(alloc, self.restarts.as_slice())?;
+        let kinds = copies_of(alloc, self.kinds.as_slice())?;
+        let allowed = copies_of(alloc, self.allowed.as_slice())?;
         Ok((restarts, kinds, allowed))
     }
 }
@@ -204,4 +204,12 @@ fn permissions_at(alloc: Global, cluster: &Cluster, node: Node) -> Result<Row<bo
         permissions.push(cluster.permitted(node, App(number as u8)))?;
     }
     Ok(Row::of(permissions))
+}
+
+impl Duplicate for State {
+    fn copy(&self, alloc: Global) -> Result<State, OutOfMemory>
+        ensures { IfOk result (λ copy. copy ≡ self.now) }
+    {
+        State::copy(self, alloc)
+    }
 }

@@ -2,7 +2,7 @@
 
 ghost use Rattle.std.specs.Prelude.{◌≡◌, ◌<◌, length, slice_get, slice_set, Some, IfOk, replicate};
 
-use rh_base::OutOfMemory;
+use rh_base::{Duplicate, OutOfMemory};
 use std::alloc::Global;
 use std::marker::Model;
 
@@ -57,15 +57,6 @@ impl<T: Copy> Row<T> {
         let index = app as usize;
         self.items[index] = value;
     }
-
-    /// An equal row.
-    pub fn copy(&self, alloc: Global) -> Result<Row<T>, OutOfMemory>
-        ensures { IfOk result (λ copy. copy ≡ self.now) }
-    {
-        Ok(Row {
-            items: Vec::from_slice(alloc, self.items.as_slice())?,
-        })
-    }
 }
 
 /// So many rows of so many cells, with this in each.
@@ -84,13 +75,12 @@ pub fn rows_of<T: Copy>(
     Ok(table)
 }
 
-/// Equal rows.
-pub fn copies_of<T: Copy>(alloc: Global, rows: &[Row<T>]) -> Result<Vec<Row<T>>, OutOfMemory>
-    ensures { IfOk result (λ copies. copies.items ≡ rows.now) }
-{
-    let mut copies = Vec::new(alloc);
-    for row in rows {
-        copies.push(row.copy(alloc)?)?;
+impl<T: Copy> Duplicate for Row<T> {
+    fn copy(&self, alloc: Global) -> Result<Row<T>, OutOfMemory>
+        ensures { IfOk result (λ copy. copy ≡ self.now) }
+    {
+        Ok(Row {
+            items: Vec::from_slice(alloc, self.items.as_slice())?,
+        })
     }
-    Ok(copies)
 }

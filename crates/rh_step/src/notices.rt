@@ -2,7 +2,7 @@
 
 ghost use Rattle.std.specs.Prelude.{◌≡◌, ◌↔◌, IsTrue, IfOk};
 
-use rh_base::OutOfMemory;
+use rh_base::{OutOfMemory, are_same};
 use rh_settle::Notice;
 use std::alloc::Global;
 use std::marker::Model;
@@ -49,14 +49,6 @@ impl Notices {
     pub fn same(&self, other: &Notices) -> bool
         ensures { IsTrue result ↔ (self.now ≡ other.now) }
     {
-        if self.items.len() != other.items.len() {
-            return false;
-        }
-        for index in 0..self.items.len() {
-            if self.items[index] != other.items[index] {
-                return false;
-            }
-        }
-        true
+        are_same(self.as_slice(), other.as_slice())
     }
 }

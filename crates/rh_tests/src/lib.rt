@@ -19,6 +19,8 @@ mod states;
 #[cfg(test)]
 mod support;
 #[cfg(test)]
+mod sweeps;
+#[cfg(test)]
 mod told;
 #[cfg(test)]
 mod trees;

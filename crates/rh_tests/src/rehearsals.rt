@@ -47,6 +47,7 @@ fn said(ended: Result<(), RunFault>) -> &'static str {
         Err(RunFault::Read) => "read",
         Err(RunFault::Write) => "write",
         Err(RunFault::OutOfMemory) => "memory",
+        Err(RunFault::Sweep(_)) => "sweep",
         Err(RunFault::Room) => "room",
     }
 }

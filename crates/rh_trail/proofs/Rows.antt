@@ -25,7 +25,8 @@ use Rattle.rh_events.specs.Changes.{booted}
 use Rattle.rh_events.specs.Ending.{cleared, lost_if_ran, all_lost, ended}
 use Rattle.rh_step.specs.Outcomes.{followed, next}
 use Rattle.rh_trail.specs.Runs.{step}
-use Rattle.rh_trail.specs.Report.{report_text, node_line, running_line, waiting_line, forbidden_line, line_if_forbidden, app_line, timer_line, node_lines}
+use Rattle.rh_trail.specs.Report.{report_text, node_line, running_line, waiting_line, forbidden_line, line_if_forbidden}
+use Rattle.rh_trail.specs.Report.{standing_line, app_line, timer_line, node_lines}
 use Rattle.rh_trail.specs.Lone.{opened, replies, served}
 
 abbrev two_nodes : ClusterView
@@ -39,7 +40,7 @@ two_nodes_row : replies (opened two_nodes First) (Step (Boot (numbered 0)) ∷ S
     ≡ Done (Up (numbered 0) ∷ []) ∷ Done (Ended (numbered 0) ∷ []) ∷ Undone ∷ Seen 1 2 (codes "now 0\nnode a@x up 1\nnode b@x down 0\n")
     ∷ Redone ∷ Moved 2 ∷ AtStart ∷ Moved 2 ∷ []
 unfolding nodes_of apps_of configured moved_by all_moved all_alive is_ready mark_all come_up come_up_if_ready ready_come_up booted cleared lost_if_ran all_lost
-    ended followed refused next step node_line line_if_forbidden app_line timer_line node_lines digits
+    ended followed refused next step node_line line_if_forbidden standing_line app_line timer_line node_lines digits
 two_nodes_row = refl
 
 -- a refused step leaves what can be made again
@@ -87,7 +88,7 @@ failed_over = record (first with_apps) {
 
 report_row : report_text failed_over
     ≡ codes "now 7\nnode n1 up 2\n  waiting load temporary\n  forbidden job\nnode n2 up 1\n  running load transient normal\n  running job permanent failover n1\napp job running n2\n"
-unfolding nodes_of apps_of node_line running_line waiting_line forbidden_line line_if_forbidden app_line timer_line node_lines digits
+unfolding nodes_of apps_of node_line running_line waiting_line forbidden_line line_if_forbidden standing_line app_line timer_line node_lines digits
 report_row = refl
 
 -- where a distributed application stands that doesn't run
@@ -99,5 +100,5 @@ lost_row : report_text (record failed_over {
   timers = (9, timer.Failover (app_numbered 0)) ∷ [];
 })
     ≡ codes "now 7\nnode n1 up 2\nnode n2 up 1\napp job lost n1\ntimer failover job 9\n"
-unfolding nodes_of apps_of node_line running_line waiting_line forbidden_line line_if_forbidden app_line timer_line node_lines digits
+unfolding nodes_of apps_of node_line running_line waiting_line forbidden_line line_if_forbidden standing_line app_line timer_line node_lines digits
 lost_row = refl

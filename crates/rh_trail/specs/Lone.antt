@@ -37,6 +37,10 @@ trail_limit = TRAIL_LIMIT
 abbrev pub with_event : SimView → Event → SimView
 with_event s e = record s { trail = take s.cursor s.trail ++ e ∷ []; cursor = s.cursor + 1 }
 
+-- the simulation without what could be made again
+abbrev pub cut : SimView → SimView
+cut s = record s { trail = take s.cursor s.trail }
+
 abbrev pub stepped : SimView → Event → Option Refusal → Served
 stepped s e (Some refusal) = answered (reply.Refused refusal) s
 stepped s e None =

@@ -87,10 +87,13 @@ forbidden_line c a = codes "  forbidden " ++ app_word c a ++ codes "\n"
 unfoldable pub line_if_forbidden : StateView → Node → App → List ℕ
 line_if_forbidden s n a = if is_allowed s n a then [] else forbidden_line s.cluster a
 
--- a distributed application; nothing for a local one
+-- a distributed application, and where it stands
+unfoldable pub standing_line : ClusterView → App → Standing → List ℕ
+standing_line c a at = codes "app " ++ app_word c a ++ codes " " ++ standing_words c at ++ codes "\n"
+
+-- nothing for a local one
 unfoldable pub app_line : StateView → App → List ℕ
-app_line s a = if is_local s.cluster a then [] else codes "app " ++ app_word s.cluster a ++ codes " " ++ standing_words s.cluster (standing_of s a)
-    ++ codes "\n"
+app_line s a = if is_local s.cluster a then [] else standing_line s.cluster a (standing_of s a)
 
 unfoldable pub timer_line : ClusterView → ℕ × Timer → List ℕ
 timer_line c entry = codes "timer " ++ timer_words c entry.1 ++ codes " " ++ decimal entry.0 ++ codes "\n"

@@ -1,7 +1,8 @@
 //! A simulation of a cluster: a trail of events with a cursor in it, undo and redo.
 //!
 //! [`Sim`] keeps the trail of the events that were accepted and the state at each place of it. [`report`] is a state as
-//! text; [`node_word`], [`app_word`], [`restart_word`] and [`push_kind`] are parts of it that other texts have too.
+//! text; [`node_word`], [`app_word`], [`restart_word`], [`push_kind`] and [`push_standing_line`] are parts of it that other
+//! texts have too.
 #![tactic(auto)]
 
 mod call;
@@ -12,4 +13,4 @@ mod text;
 pub use call::{Bytes, Call, Reply};
 pub use laws::calls_are_reversible;
 pub use sim::{AtEnd, AtStart, Sim};
-pub use text::{NO_NAME, app_word, node_word, push_kind, report, restart_word};
+pub use text::{NO_NAME, app_word, node_word, push_kind, push_standing_line, report, restart_word};

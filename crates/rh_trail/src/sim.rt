@@ -5,7 +5,7 @@ ghost use Rattle.rh_state.specs.Stored.{read};
 
 mod moves;
 
-use rh_base::OutOfMemory;
+use rh_base::{OutOfMemory, copies_of};
 use rh_model::Cluster;
 use rh_state::{State, first_state_sharing};
 use rh_step::{Event, Pick};
@@ -131,15 +131,4 @@ impl Sim {
     {
         self.trail.as_slice()
     }
-}
-
-// An equal list of states.
-fn copies_of(alloc: Global, states: &[State]) -> Result<Vec<State>, OutOfMemory>
-    ensures { IfOk result (λ copies. copies.items ≡ states.now) }
-{
-    let mut copies = Vec::new(alloc);
-    for state in states {
-        copies.push(state.copy(alloc)?)?;
-    }
-    Ok(copies)
 }

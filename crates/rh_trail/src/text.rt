@@ -14,6 +14,7 @@ mod nodes;
 mod words;
 
 use crate::text::apps::push_apps;
+pub use crate::text::apps::push_standing_line;
 use crate::text::nodes::push_node_lines;
 pub use crate::text::words::{NO_NAME, app_word, node_word, push_kind, restart_word};
 use rh_base::OutOfMemory;

@@ -4,17 +4,18 @@
 //! session was told with the log, and the log is compared with the commands: what is answered then is a history of them,
 //! whatever the threads did.
 
-ghost use Rattle.std.specs.Prelude.{◌≡◌, ◌↔◌, ℕ, map, All, IsTrue, IfOk};
+ghost use Rattle.std.specs.Prelude.{◌≡◌, ◌↔◌, ◌++◌, ◌∷◌, [], ℕ, map, All, IsNone, IsTrue, IfOk, OnOk};
 ghost use Rattle.rh_trail.specs.Lone.{opened, sim_after};
 ghost use Rattle.rh_room.specs.Legal.{IsSession, calls, session_limit};
-ghost use Rattle.rh_app.specs.Histories.{IsHistory, session_count, asked, by_session};
+ghost use Rattle.rh_app.specs.Histories.{IsHistory, answered, calls_by, session_count, asked, by_session};
 
 use crate::fault::HistoryFault;
-use rh_base::OutOfMemory;
+use rh_base::{OutOfMemory, are_same};
 use rh_cluster::Cluster;
 use rh_room::{Closed, Entry, Pass, Room, RoomFault, Shared, close, open_room};
 use rh_script::Command;
 use rh_step::Pick;
+use rh_trail::Call;
 use std::alloc::Global;
 use std::sync::{Mutex, Wait};
 use std::thread;
@@ -121,26 +122,61 @@ fn in_threads<T: Threads + Wait + Sync>(
     passes_of(alloc, ended)
 }
 
-// Makes the commands of a session, in order, as far as there is no fault.
-fn work<T: Wait>(
+// Makes the commands of a session, in order, as far as there is no fault. Without one, the session was answered all of them.
+fn work<T: Wait>(rt: &T, alloc: Global, shared: &Shared, given: Pass, commands: &[Command]) -> Ended
+    ensures session { result.pass.session ≡ given.session }
+    ensures answered { IsNone result.fault → answered result.pass ≡ answered given ++ calls_by given.session commands.now }
+{
+    let mut pass = given;
+    let fault = make_own(rt, alloc, shared, &mut pass, commands).err();
+    Ended { pass, fault }
+}
+
+// Makes those of the commands that are the session's.
+fn make_own<T: Wait>(
     rt: &T,
     alloc: Global,
     shared: &Shared,
-    given: Pass,
+    pass: &mut Pass,
     commands: &[Command],
-) -> Ended {
-    let mut pass = given;
-    let session = pass.session();
+) -> Result<(), RoomFault>
+    ensures session { pass.new.session ≡ pass.old.session }
+    ensures answered { OnOk result (answered pass.new ≡ answered pass.old ++ calls_by pass.old.session commands.now) }
+{
+    let own = commands_by(alloc, pass.session(), commands).map_err(|_| RoomFault::OutOfMemory)?;
+    make_all(rt, alloc, shared, pass, own.as_slice())
+}
+
+// Makes these commands, each under the lock.
+fn make_all<T: Wait>(
+    rt: &T,
+    alloc: Global,
+    shared: &Shared,
+    pass: &mut Pass,
+    commands: &[Command],
+) -> Result<(), RoomFault>
+    ensures session { pass.new.session ≡ pass.old.session }
+    ensures answered { OnOk result (answered pass.new ≡ answered pass.old ++ map (λ c. c.call) commands.now) }
+{
     for command in commands {
-        if command.session == session {
-            let answer = shared.lock(rt).serve(alloc, &mut pass, command.call);
-            if let Err(fault) = answer {
-                let fault = Some(fault);
-                return Ended { pass, fault };
-            }
-        }
+        make_one(rt, alloc, shared, pass, command.call)?;
     }
-    Ended { pass, fault: None }
+    Ok(())
+}
+
+// Makes a call under the lock.
+fn make_one<T: Wait>(
+    rt: &T,
+    alloc: Global,
+    shared: &Shared,
+    pass: &mut Pass,
+    call: Call,
+) -> Result<(), RoomFault>
+    ensures session { pass.new.session ≡ pass.old.session }
+    ensures answered { OnOk result (answered pass.new ≡ answered pass.old ++ call ∷ []) }
+{
+    shared.lock(rt).serve(alloc, pass, call)?;
+    Ok(())
 }
 
 // Did a session lack memory?
@@ -180,21 +216,6 @@ fn are_interleaved(alloc: Global, commands: &[Command], log: &[Entry]) -> Result
         }
     }
     Ok(true)
-}
-
-// Are these the same commands?
-fn are_same(these: &[Command], those: &[Command]) -> bool
-    ensures { IsTrue result ↔ (these.now ≡ those.now) }
-{
-    if these.len() != those.len() {
-        return false;
-    }
-    for index in 0..these.len() {
-        if these[index] != those[index] {
-            return false;
-        }
-    }
-    true
 }
 
 // The commands of a session.

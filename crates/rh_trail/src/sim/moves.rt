@@ -8,7 +8,7 @@ ghost use Rattle.rh_step.specs.Outcomes.{next};
 ghost use Rattle.rh_step.specs.Validity.{IsValid};
 ghost use Rattle.rh_trail.specs.Runs.{step};
 ghost use Rattle.rh_trail.specs.SimView.{state_of};
-ghost use Rattle.rh_trail.specs.Lone.{served, answered, with_event, undo_reply, redo_reply, trail_limit};
+ghost use Rattle.rh_trail.specs.Lone.{served, answered, with_event, undo_reply, redo_reply, trail_limit, cut};
 ghost use Rattle.rh_trail.specs.declared.call.Call.TheVariants as call;
 ghost use Rattle.rh_trail.specs.declared.call.Reply.TheVariants as reply;
 
@@ -146,6 +146,16 @@ impl Sim {
         let count = self.trail.len() - self.cursor;
         self.cursor = self.trail.len();
         count as u32
+    }
+
+    /// Drops what could be made again. What stands stays, and so does the state.
+    pub fn cut_redo(&mut self)
+        ensures cut { self.new.seen ≡ cut self.old.seen }
+        ensures state { state_of self.new.seen ≡ state_of self.old.seen }
+    {
+        let standing = self.cursor;
+        self.trail.truncate(standing);
+        self.states.truncate(standing + 1);
     }
 
     /// Serves a call of any kind, and gives the reply. Want of memory changes nothing.

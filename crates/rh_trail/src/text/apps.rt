@@ -5,12 +5,12 @@ ghost use Rattle.std.specs.List.{flat_map};
 ghost use Rattle.std.specs.String.{string_bytes};
 ghost use Rattle.rh_model.specs.ClusterView.{app_count};
 ghost use Rattle.rh_state.specs.Stored.{read};
-ghost use Rattle.rh_trail.specs.Report.{app_line, app_lines};
+ghost use Rattle.rh_trail.specs.Report.{standing_line, app_line, app_lines};
 
-use crate::text::words::push_standing;
+use crate::text::words::{app_word, push_standing};
 use rh_base::OutOfMemory;
-use rh_model::App;
-use rh_state::State;
+use rh_model::{App, Cluster};
+use rh_state::{Standing, State};
 
 // Adds the line of each distributed application.
 #[tactic(auto, unfolding(rh_state::specs::Numbers::apps_of))]
@@ -32,10 +32,25 @@ fn push_app_line(text: &mut String, state: &State, app: App) -> Result<(), OutOf
 {
     let cluster = state.cluster();
     if cluster.spread(app).is_some() {
-        let name = cluster.app_name(app);
-        write!(text, "app {name} ")?;
-        push_standing(text, cluster, state.standing(app))?;
-        writeln!(text)?;
+        push_standing_line(text, cluster, app, state.standing(app))?;
     }
+    Ok(())
+}
+
+/// Adds the line of a distributed application that stands so. A number that no application or no node has is shown as a
+/// question mark.
+#[tactic(auto, unfolding(crate::specs::Report::standing_line))]
+pub fn push_standing_line(
+    text: &mut String,
+    cluster: &Cluster,
+    app: App,
+    standing: Standing,
+) -> Result<(), OutOfMemory>
+    ensures { OnOk result (string_bytes text.new ≡ string_bytes text.old ++ standing_line cluster.now app standing) }
+{
+    let name = app_word(cluster, app);
+    write!(text, "app {name} ")?;
+    push_standing(text, cluster, standing)?;
+    writeln!(text)?;
     Ok(())
 }

@@ -2,7 +2,6 @@
 
 ghost use Rattle.std.specs.Prelude.{◌≡◌, ◌++◌, OnOk};
 ghost use Rattle.std.specs.String.{string_bytes};
-ghost use Rattle.rh_state.specs.Shape.{IsStandingOf};
 ghost use Rattle.rh_trail.specs.Report.{node_word, app_word, mode_words, restart_words, kind_words, standing_words};
 
 use rh_base::OutOfMemory;
@@ -80,22 +79,21 @@ pub(crate) fn push_standing(
     cluster: &Cluster,
     standing: Standing,
 ) -> Result<(), OutOfMemory>
-    requires { IsStandingOf cluster.now standing }
     ensures { OnOk result (string_bytes text.new ≡ string_bytes text.old ++ standing_words cluster.now standing) }
 {
     match standing {
         Standing::Quiet => write!(text, "quiet")?,
         Standing::Wanted(None) => write!(text, "wanted")?,
         Standing::Wanted(Some(node)) => {
-            let name = cluster.node_name(node);
+            let name = node_word(cluster, node);
             write!(text, "wanted {name}")?;
         }
         Standing::Running(node) => {
-            let name = cluster.node_name(node);
+            let name = node_word(cluster, node);
             write!(text, "running {name}")?;
         }
         Standing::Lost(node) => {
-            let name = cluster.node_name(node);
+            let name = node_word(cluster, node);
             write!(text, "lost {name}")?;
         }
     }

@@ -1,0 +1,37 @@
+use Rattle.std.proofs.Common.{get_or, arith}
+use Rattle.std.proofs.lemmas.Result.{err_from_is_err_and}
+use Rattle.rh_events.specs.declared.event.Event.TheVariants.{Boot}
+use Rattle.rh_model.specs.ClusterView.{numbered}
+use Rattle.rh_trail.specs.declared.call.Call.TheVariants.{Step}
+use Rattle.rh_app.proofs.Sweeps.{sim_goes_on, answers_go_on, answer_breaks, next_call}
+use Rattle.rh_app.proofs.sweeping.answer_calls.Goals as goal
+
+pub loop-call-preserved : goal.loop-call-preserved
+loop-call-preserved g c =
+    let held = g.W.Write.contents in
+    let calls = c.args.calls.now in
+    let i = c.loop-call.call-index in
+    let first = Step (Boot (numbered 0)) in
+    let at = next_call calls i first (omega arith) in
+    let before = c.loop-call.invariant in
+    record {
+      sim = sim_goes_on c.args.cluster.now c.args.sim.now.seen c.loop-call.sim.seen c.answer_call.new.sim.seen calls i (get_or calls i first) at
+          c.in_ok-answer_call.ensures.sim before.sim;
+      text = answers_go_on c.args.cluster.now c.args.sim.now.seen c.loop-call.sim.seen c.answer_call.new.sim.seen calls i (get_or calls i first) at
+          c.in_ok-answer_call.ensures.sim (held c.args.writer.now.inner) (held c.loop-call.writer.inner) (held c.answer_call.new.writer.inner)
+          before.text.0 c.answer_call.new.writer.failed before.text.1 before.text.2 c.in_ok-answer_call.ensures.text;
+      watch = c.in_ok-answer_call.ensures.text.1;
+    }
+
+pub returns-in_err-answer_call-clause-text : goal.returns-in_err-answer_call-clause-text
+returns-in_err-answer_call-clause-text g c =
+    let held = g.W.Write.contents in
+    let calls = c.args.calls.now in
+    let i = c.loop-call.call-index in
+    let first = Step (Boot (numbered 0)) in
+    let before = c.loop-call.invariant in
+    let p = err_from_is_err_and c.from_residual.result c.from_residual.ensures.1 in
+    rw (p.1, p.2)
+    (answer_breaks c.args.cluster.now c.args.sim.now.seen c.loop-call.sim.seen calls i (get_or calls i first) (next_call calls i first (omega arith))
+    (held c.args.writer.now.inner) (held c.loop-call.writer.inner) (held c.answer_call.new.writer.inner) before.text.0 c.answer_call.new.writer.failed
+    before.text.1 before.text.2 c.in_err-answer_call.field-0.0 c.in_err-answer_call.ensures.text)

@@ -1,0 +1,217 @@
+//! The program `sweep`: plans are tried from the simulation behind a base, by several workers.
+
+ghost use Rattle.std.specs.Prelude.{◌≡◌, false, map, OnOk, IfSome, None};
+ghost use Rattle.std.specs.List.{flat_map};
+ghost use Rattle.rh_trail.specs.Lone.{sim_after};
+ghost use Rattle.rh_sweep.specs.Outcomes.{outcome_of};
+ghost use Rattle.rh_sweep.specs.Sweeping.{AreWorkers};
+ghost use Rattle.rh_script.specs.Lines.{raw_lines, content};
+ghost use Rattle.rh_script.specs.SweepAnswers.{outcome_text, sweep_fault_text};
+ghost use Rattle.rh_script.specs.SweepLines.{sweep_lines_asked, bad_sweep_line, plan_text};
+ghost use Rattle.rh_app.specs.Programs.{ProgramGives};
+ghost use Rattle.rh_app.specs.RunText.{answers_text, Wrote, Broke};
+ghost use Rattle.rh_app.specs.SweepText.{why_not_swept, plan_outcome, plans_text, plans_end, lines_text, lines_end, sweep_text, sweep_end};
+
+use crate::device::{read_input, write_text};
+use crate::fault::{RunFault, Told, WriteFault, ended};
+use crate::running::{answer_bad, answer_call, write_fault};
+use crate::watched::Watched;
+use rh_base::Str;
+use rh_cluster::{Cluster, read_cluster};
+use rh_script::{SweepScript, cut, outcome_text, sweep_fault_text, sweep_in};
+use rh_step::Pick;
+use rh_sweep::{FreeGate, Outcome, Plan, SweepFault, sweep};
+use rh_trail::{Call, Sim};
+use std::alloc::Global;
+use std::io::{Read, Write};
+use std::sync::Wait;
+use std::thread::Threads;
+
+/// Reads all of the input, a cluster file, a line `===` and a script of a base and plans, and then writes the answers to the
+/// base's commands, as [`crate::run`] does, and for each plan what comes of its events behind the base.
+///
+/// The plans are shared among so many workers, each in a thread of its own where one can be made. What is written doesn't
+/// depend on their number. The input has at most 16,777,216 bytes. Neither device is flushed.
+///
+/// The contract speaks of the bytes of a reader that tells them; of one that doesn't, as standard input, it says nothing.
+///
+/// # Errors
+/// `Cluster` and `BadLine` (a line that is no command, or a line of a plan that is no event) are told alone. `Sweep` is the
+/// end of the text that was written: the base has steps that could be made again, or a plan has more events than the base's
+/// trail has room for. `Read` comes where the reader has failed or the input is too long: nothing was written. `Write` comes
+/// where the writer has failed, and `OutOfMemory` where a growth was refused: a front of the text was written.
+pub fn run_sweep<T: Threads + Wait + Sync, R: Read, W: Write>(
+    rt: &T,
+    alloc: Global,
+    reader: &mut Watched<R>,
+    writer: &mut Watched<W>,
+    pick: Pick,
+    workers: usize,
+) -> Result<(), RunFault>
+    requires reader { reader.old.failed ≡ false }
+    requires writer { writer.old.failed ≡ false }
+    requires workers { AreWorkers workers }
+    ensures { IfSome (R.remaining reader.old.inner) (λ bytes. ProgramGives result bytes (sweep_text bytes pick) (sweep_end bytes pick)
+        (W.contents writer.old.inner) (W.contents writer.new.inner) reader.new.failed writer.new.failed) }
+{
+    let input = read_input(alloc, reader)?;
+    let told = sweep_input(rt, alloc, input.as_slice(), writer, pick, workers)?;
+    ended(told)
+}
+
+// Writes what comes of an input.
+#[tactic(auto, unfolding(crate::specs::SweepText::sweep_text, crate::specs::SweepText::sweep_end))]
+fn sweep_input<T: Threads + Wait + Sync, W: Write>(
+    rt: &T,
+    alloc: Global,
+    input: &[u8],
+    writer: &mut Watched<W>,
+    pick: Pick,
+    workers: usize,
+) -> Result<Option<Told>, WriteFault>
+    requires writer { writer.old.failed ≡ false }
+    requires workers { AreWorkers workers }
+    ensures { Wrote result (sweep_text input.now pick) (sweep_end input.now pick) (W.contents writer.old.inner) (W.contents writer.new.inner) writer.new.failed }
+{
+    let (text, script) = cut(input);
+    match read_cluster(alloc, text) {
+        Err(fault) => {
+            if fault.is_memory() {
+                return Err(WriteFault::OutOfMemory);
+            }
+            write_fault(alloc, &fault, writer)?;
+            Ok(Some(Told::Cluster(fault)))
+        }
+        Ok(cluster) => sweep_script(rt, alloc, &cluster, script, writer, pick, workers),
+    }
+}
+
+// Writes what comes of a script.
+fn sweep_script<T: Threads + Wait + Sync, W: Write>(
+    rt: &T,
+    alloc: Global,
+    cluster: &Cluster,
+    script: &[u8],
+    writer: &mut Watched<W>,
+    pick: Pick,
+    workers: usize,
+) -> Result<Option<Told>, WriteFault>
+    requires writer { writer.old.failed ≡ false }
+    requires workers { AreWorkers workers }
+    ensures { Wrote result
+        (lines_text cluster.now pick (sweep_lines_asked cluster.now (map content (raw_lines script.now)))
+        (bad_sweep_line (sweep_lines_asked cluster.now (map content (raw_lines script.now)))))
+        (lines_end cluster.now pick (sweep_lines_asked cluster.now (map content (raw_lines script.now)))
+        (bad_sweep_line (sweep_lines_asked cluster.now (map content (raw_lines script.now)))))
+        (W.contents writer.old.inner) (W.contents writer.new.inner) writer.new.failed }
+{
+    match sweep_in(alloc, cluster, script)? {
+        SweepScript::BadLine(number) => {
+            answer_bad(alloc, number, writer)?;
+            Ok(Some(Told::BadLine(number)))
+        }
+        SweepScript::Sweep { base, plans } => {
+            let mut sim = Sim::open(alloc, cluster.copy(alloc)?, pick)?;
+            answer_calls(alloc, cluster, &mut sim, base.as_slice(), writer)?;
+            sweep_plans(rt, alloc, cluster, &sim, plans.as_slice(), writer, workers)
+        }
+    }
+}
+
+// Writes the answers to calls that are made one after the other.
+fn answer_calls<W: Write>(
+    alloc: Global,
+    cluster: &Cluster,
+    sim: &mut Sim,
+    calls: &[Call],
+    writer: &mut Watched<W>,
+) -> Result<(), WriteFault>
+    requires { writer.old.failed ≡ false }
+    ensures sim { OnOk result (sim.new.seen ≡ sim_after sim.old.seen calls.now) }
+    ensures text { Broke result (answers_text cluster.now sim.old.seen calls.now) (W.contents writer.old.inner) (W.contents writer.new.inner) writer.new.failed }
+{
+    for call in calls {
+        answer_call(alloc, cluster, sim, *call, writer)?;
+    }
+    Ok(())
+}
+
+// Writes what comes of plans from a base.
+fn sweep_plans<T: Threads + Wait + Sync, W: Write>(
+    rt: &T,
+    alloc: Global,
+    cluster: &Cluster,
+    base: &Sim,
+    plans: &[Plan],
+    writer: &mut Watched<W>,
+    workers: usize,
+) -> Result<Option<Told>, WriteFault>
+    requires writer { writer.old.failed ≡ false }
+    requires workers { AreWorkers workers }
+    ensures { Wrote result
+        (plans_text cluster.now base.now.seen (map plan_text plans.now) (why_not_swept base.now.seen (map plan_text plans.now)))
+        (plans_end base.now.seen (map plan_text plans.now))
+        (W.contents writer.old.inner) (W.contents writer.new.inner) writer.new.failed }
+{
+    match sweep(rt, alloc, base, plans, workers, &FreeGate) {
+        Ok(outcomes) => {
+            write_outcomes(alloc, cluster, base, plans, outcomes.as_slice(), writer)?;
+            Ok(None)
+        }
+        Err(fault) => match fault {
+            SweepFault::OutOfMemory => Err(WriteFault::OutOfMemory),
+            _ => {
+                write_sweep_fault(alloc, fault, writer)?;
+                Ok(Some(Told::Sweep(fault)))
+            }
+        },
+    }
+}
+
+// Writes the outcomes of plans that were tried from a base.
+fn write_outcomes<W: Write>(
+    alloc: Global,
+    cluster: &Cluster,
+    base: &Sim,
+    plans: &[Plan],
+    outcomes: &[Outcome],
+    writer: &mut Watched<W>,
+) -> Result<(), WriteFault>
+    requires writer { writer.old.failed ≡ false }
+    requires outcomes { outcomes.now ≡ map (outcome_of base.now.seen) plans.now }
+    ensures { Broke result (flat_map (plan_outcome cluster.now base.now.seen) (map plan_text plans.now)) (W.contents writer.old.inner) (W.contents writer.new.inner) writer.new.failed }
+{
+    let _ = base;
+    for place in 0..plans.len() {
+        write_outcome(alloc, cluster, &plans[place].name, &outcomes[place], writer)?;
+    }
+    Ok(())
+}
+
+// Writes the outcome of the plan of this name.
+fn write_outcome<W: Write>(
+    alloc: Global,
+    cluster: &Cluster,
+    name: &Str,
+    outcome: &Outcome,
+    writer: &mut Watched<W>,
+) -> Result<(), WriteFault>
+    requires { writer.old.failed ≡ false }
+    ensures { Broke result (outcome_text cluster.now name.now outcome.now) (W.contents writer.old.inner) (W.contents writer.new.inner) writer.new.failed }
+{
+    let text = outcome_text(alloc, cluster, name, outcome)?;
+    write_text(writer, text.as_bytes())
+}
+
+// Writes why there is no sweep.
+fn write_sweep_fault<W: Write>(
+    alloc: Global,
+    fault: SweepFault,
+    writer: &mut Watched<W>,
+) -> Result<(), WriteFault>
+    requires { writer.old.failed ≡ false }
+    ensures { Broke result (sweep_fault_text fault) (W.contents writer.old.inner) (W.contents writer.new.inner) writer.new.failed }
+{
+    let text = sweep_fault_text(alloc, fault)?;
+    write_text(writer, text.as_bytes())
+}

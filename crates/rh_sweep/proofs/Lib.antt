@@ -1,0 +1,3 @@
+pub mod Trying
+pub mod Strides
+pub mod Rows

@@ -1,0 +1,20 @@
+use Rattle.std.proofs.Common.{◌≡◌, ap, subst, length, List, arith, refl, ℕ, ◌<◌, slice_index_or}
+use Rattle.std.proofs.lemmas.List.{take_all}
+use Rattle.std.proofs.lemmas.List.Elements.{All-more}
+use Rattle.rh_events.specs.declared.event.Event.{Event}
+use Rattle.rh_sweep.specs.declared.plan.Plan.{Plan}
+use Rattle.rh_sweep.specs.Sweeping.{HasRoom}
+use Rattle.rh_sweep.proofs.shares.have_room.Goals as goal
+
+pub loop-plan-preserved : goal.loop-plan-preserved
+loop-plan-preserved c =
+    let length_is : length c.trail.result.now ≡ length c.args.base.now.seen.trail = ap (λ (es : List Event). length es) c.trail.ensures.trail in
+    All-more (HasRoom c.args.base.now.seen) c.args.plans.now c.loop-plan.plan-index c.plan-item.result c.loop-plan-test.true c.loop-plan.invariant
+    (subst (HasRoom c.args.base.now.seen) c.plan-item.is (omega (arith, c.if-len-room.false, c.len.ensures, c.trail.ensures.limit, length_is, c.requires)))
+
+pub returns : goal.returns
+returns c = (
+  (λ _. subst (λ (ps : List Plan). (k : ℕ) (d : Plan) → k < length ps → HasRoom c.args.base.now.seen (slice_index_or ps k d))
+      (take_all c.loop-plan.plan-index c.args.plans.now (omega (arith, c.loop-plan-test.false))) c.loop-plan.invariant),
+  (λ _. refl),
+)

@@ -1,0 +1,6 @@
+use Rattle.std.proofs.Common.{◌≡◌, take, count_by}
+use Rattle.rh_sweep.specs.Outcomes.{is_failover}
+use Rattle.rh_sweep.proofs.trial.failovers_in.Given as goal
+
+abbrev pub invariant-loop-notice : goal.invariant-loop-notice
+invariant-loop-notice l = l.found ≡ count_by is_failover (take l.notice-index l.notices)

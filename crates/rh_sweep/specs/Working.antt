@@ -1,0 +1,31 @@
+-- What is said within a sweep, where a plan or the work is done in part (ours).
+use Rattle.std.specs.Prelude.{◌≡◌, ◌≤◌, ◌<◌, ◌+◌, ◌*◌, ℕ, List, length, take, Option, slice_get}
+use Rattle.std.specs.Option.{option_map}
+use Rattle.rh_events.specs.declared.refusal.Refusal.{Refusal}
+use Rattle.rh_state.specs.StateView.{StateView}
+use Rattle.rh_trail.specs.SimView.{SimView}
+use Rattle.rh_sweep.specs.declared.plan.Outcome.{Outcome}
+use Rattle.rh_sweep.specs.declared.plan.Plan.{Plan}
+use Rattle.rh_sweep.specs.Outcomes.{outcome_of, standings_in}
+
+-- the outcome of a plan that ends in this state
+abbrev pub ended : StateView → ℕ → Option (ℕ × Refusal) → ℕ → ℕ → Outcome
+ended s accepted refused failovers takeovers = record {
+  accepted = accepted;
+  refused = refused;
+  standings = standings_in s;
+  failovers = failovers;
+  takeovers = takeovers;
+}
+
+-- a simulation that went on from another, which was at its end
+pub record IsAhead (s t : SimView) : Type 0 where
+  pub cluster : t.cluster ≡ s.cluster
+  pub pick : t.pick ≡ s.pick
+  pub begins : take s.cursor t.trail ≡ s.trail
+  pub further : s.cursor ≤ t.cursor
+
+-- the outcomes of the plans first, first + k, first + 2k and so on
+abbrev pub AreOutcomes : SimView → List Plan → ℕ → ℕ → List Outcome → Type 0
+AreOutcomes base plans k first outcomes =
+    (j : ℕ) → first + j * k < length plans → slice_get outcomes j ≡ option_map (outcome_of base) (slice_get plans (first + j * k))

@@ -1,0 +1,17 @@
+//! Plans that are tried from one simulation by several threads, with the outcomes that one caller would get.
+//!
+//! A [`Plan`] is a list of events, and its [`Outcome`] is what comes of them from a base simulation, up to the first that
+//! is refused. [`try_plan`] gives the outcome of one plan and leaves the simulation as it was. [`sweep`] gives those of
+//! many, each worker on a copy of its own, with a [`Gate`] round each plan.
+#![tactic(auto)]
+
+mod fault;
+mod plan;
+mod shares;
+mod trial;
+mod workers;
+
+pub use fault::{MAX_WORKERS, SweepFault};
+pub use plan::{Outcome, Plan, Standings};
+pub use trial::try_plan;
+pub use workers::{FreeGate, Gate, sweep};

@@ -1,0 +1,182 @@
+//! One plan, tried and taken back.
+
+ghost use Rattle.std.specs.Prelude.{◌≡◌, ◌≤◌, ◌<◌, ◌++◌, IfOk, OnOk, count_by};
+ghost use Rattle.rh_model.specs.ClusterView.{app_count};
+ghost use Rattle.rh_settle.specs.declared.notice.Notice.{Notice};
+ghost use Rattle.rh_state.specs.Stored.{read};
+ghost use Rattle.rh_trail.specs.SimView.{state_of};
+ghost use Rattle.rh_sweep.specs.Outcomes.{outcome_in, outcome_of, standing_in, standings_in, is_failover, is_takeover};
+ghost use Rattle.rh_sweep.specs.Sweeping.{HasRoom, HasRoomFor, IsAtEnd};
+ghost use Rattle.rh_sweep.specs.Working.{IsAhead, ended};
+
+use crate::plan::{Outcome, Plan, Standings};
+use rh_base::OutOfMemory;
+use rh_model::App;
+use rh_state::{Kind, Standing, State};
+use rh_step::{Event, Notice, Refusal};
+use rh_trail::Sim;
+use std::alloc::Global;
+
+// How a plan ended, and what was counted in it.
+#[derive(Clone, Copy)]
+struct Count {
+    accepted: u32,
+    refused: Option<(usize, Refusal)>,
+    failovers: u128,
+    takeovers: u128,
+}
+
+/// The outcome of a plan, tried on this simulation, which is left as it was, also where memory is wanting.
+///
+/// The simulation has no step that could be made again, and its trail has room for the plan's events. Nothing is copied but
+/// what each step keeps.
+pub fn try_plan(alloc: Global, sim: &mut Sim, plan: &Plan) -> Result<Outcome, OutOfMemory>
+    requires end { IsAtEnd sim.old.seen }
+    requires room { HasRoom sim.old.seen plan.now }
+    ensures outcome { IfOk result (λ outcome. outcome ≡ outcome_of sim.old.seen plan.now) }
+    ensures kept { sim.new ≡ sim.old }
+{
+    let start = sim.cursor();
+    let outcome = tried(alloc, sim, plan.events.as_slice());
+    go_back(sim, start);
+    sim.cut_redo();
+    outcome
+}
+
+// The outcome of these events, with the simulation where they lead.
+fn tried(alloc: Global, sim: &mut Sim, events: &[Event]) -> Result<Outcome, OutOfMemory>
+    requires end { IsAtEnd sim.old.seen }
+    requires room { HasRoomFor sim.old.seen events.now }
+    ensures outcome { IfOk result (λ outcome. outcome ≡ outcome_in sim.old.seen events.now) }
+    ensures ahead { IsAhead sim.old.seen sim.new.seen }
+{
+    let count = go_ahead(alloc, sim, events)?;
+    let standings = standings_in(alloc, sim.state())?;
+    Ok(Outcome {
+        accepted: count.accepted,
+        refused: count.refused,
+        standings,
+        failovers: count.failovers,
+        takeovers: count.takeovers,
+    })
+}
+
+// Makes the events up to the first refused one.
+fn go_ahead(alloc: Global, sim: &mut Sim, events: &[Event]) -> Result<Count, OutOfMemory>
+    requires end { IsAtEnd sim.old.seen }
+    requires room { HasRoomFor sim.old.seen events.now }
+    ensures outcome { IfOk result (λ c. ended (state_of sim.new.seen) c.accepted c.refused c.failovers c.takeovers ≡ outcome_in sim.old.seen events.now) }
+    ensures ahead { IsAhead sim.old.seen sim.new.seen }
+{
+    let mut failovers = 0;
+    let mut takeovers = 0;
+    for index in 0..events.len() {
+        match sim.step(alloc, events[index]) {
+            Ok(notices) => {
+                failovers += failovers_in(notices.as_slice()) as u128;
+                takeovers += takeovers_in(notices.as_slice()) as u128;
+            }
+            Err(refusal) => {
+                if refusal.is_memory() {
+                    return Err(OutOfMemory);
+                }
+                return Ok(Count {
+                    accepted: index as u32,
+                    refused: Some((index, refusal)),
+                    failovers,
+                    takeovers,
+                });
+            }
+        }
+    }
+    Ok(Count {
+        accepted: events.len() as u32,
+        refused: None,
+        failovers,
+        takeovers,
+    })
+}
+
+// How many applications were started that were lost with another node.
+fn failovers_in(notices: &[Notice]) -> usize
+    ensures { result ≡ count_by is_failover notices.now }
+{
+    let mut found = 0;
+    for notice in notices {
+        if is_failover(notice) {
+            found += 1;
+        }
+    }
+    found
+}
+
+// How many were started in place of one that ran elsewhere.
+fn takeovers_in(notices: &[Notice]) -> usize
+    ensures { result ≡ count_by is_takeover notices.now }
+{
+    let mut found = 0;
+    for notice in notices {
+        if is_takeover(notice) {
+            found += 1;
+        }
+    }
+    found
+}
+
+// Was an application started that was lost with another node?
+fn is_failover(notice: &Notice) -> bool
+    ensures { result ≡ is_failover notice.now }
+{
+    matches!(notice, Notice::Started { lost: Some(_), .. })
+}
+
+// Was one started in place of one that ran elsewhere?
+fn is_takeover(notice: &Notice) -> bool
+    ensures { result ≡ is_takeover notice.now }
+{
+    matches!(
+        notice,
+        Notice::Started {
+            kind: Kind::Takeover(_),
+            ..
+        }
+    )
+}
+
+// The distributed applications of a state, and where they stand.
+#[tactic(auto, unfolding(rh_state::specs::Numbers::apps_of))]
+fn standings_in(alloc: Global, state: &State) -> Result<Standings, OutOfMemory>
+    ensures { IfOk result (λ standings. standings ≡ standings_in (read state.now)) }
+{
+    let mut standings = Vec::new(alloc);
+    for number in 0..state.cluster().app_count() {
+        push_standing(&mut standings, state, App(number as u8))?;
+    }
+    Ok(Standings::of(standings))
+}
+
+// Adds an application and where it stands, if it is distributed.
+#[tactic(auto, unfolding(crate::specs::Outcomes::standing_in))]
+fn push_standing(
+    standings: &mut Vec<(App, Standing)>,
+    state: &State,
+    app: App,
+) -> Result<(), OutOfMemory>
+    requires { app.0 < app_count (read state.now).cluster }
+    ensures { OnOk result (standings.new.items ≡ standings.old.items ++ standing_in (read state.now) app) }
+{
+    if state.cluster().spread(app).is_some() {
+        standings.push((app, state.standing(app)))?;
+    }
+    Ok(())
+}
+
+// Takes steps back to this place of the trail.
+fn go_back(sim: &mut Sim, cursor: usize)
+    requires { cursor ≤ sim.old.seen.cursor }
+    ensures { sim.new.seen ≡ record sim.old.seen { cursor = cursor } }
+{
+    'back: while sim.cursor() > cursor {
+        let _ = sim.undo();
+    }
+}

@@ -1,0 +1,289 @@
+//! Sweeps: two workers that are at work at once, outcomes for any number of workers, faults, and a simulation that a plan
+//! leaves as it was.
+
+use crate::support::{CAVE, ONE_NODE, make_all, sim_on};
+use rh_base::Str;
+use rh_cluster::{App, Node, Restart};
+use rh_step::Event;
+use rh_sweep::{FreeGate, Gate, Outcome, Plan, SweepFault, sweep, try_plan};
+use rh_trail::{Reply, Sim};
+use std::alloc::{AllocError, Global};
+use std::process::Abort;
+use std::sync::Wait;
+use std::sync::atomic::{AtomicBool, AtomicU64, Ordering};
+use std::thread;
+use std::thread::Threads;
+
+// The three nodes boot, and the application runs at the first.
+static BOOTS: [Event; 3] = [
+    Event::Boot { node: Node(0) },
+    Event::Boot { node: Node(1) },
+    Event::Boot { node: Node(2) },
+];
+
+// The first node ends, and stays away.
+static DOWN: [Event; 2] = [Event::Crash { node: Node(0) }, Event::Tick { ms: 5_000 }];
+
+// It ends twice.
+static TWICE: [Event; 2] = [
+    Event::Crash { node: Node(0) },
+    Event::Crash { node: Node(0) },
+];
+
+// The second node takes the application over.
+static HAND: [Event; 1] = [Event::Takeover {
+    node: Node(1),
+    app: App(0),
+    restart: Restart::Permanent,
+}];
+
+// One millisecond passes.
+static TICK: [Event; 1] = [Event::Tick { ms: 1 }];
+
+// What comes of these plans after the boots.
+static TOLD: &str = "\
+accepted 2 failovers 1 takeovers 0
+app 0 Running(Node(1))
+accepted 1 failovers 0 takeovers 0
+refused 1 S5 not_alive
+app 0 Lost(Node(0))
+accepted 2 failovers 1 takeovers 0
+app 0 Running(Node(1))
+accepted 0 failovers 0 takeovers 0
+app 0 Running(Node(0))
+accepted 1 failovers 0 takeovers 1
+app 0 Running(Node(1))
+";
+
+// A plan of these events.
+fn plan_of(alloc: Global, events: &[Event]) -> Result<Plan, AllocError> {
+    let name = Str::of(String::from_str(alloc, "plan")?);
+    let events = Vec::from_slice(alloc, events)?;
+    Ok(Plan { name, events })
+}
+
+fn plans_of(alloc: Global, all: &[&[Event]]) -> Result<Vec<Plan>, AllocError> {
+    let mut plans = Vec::new(alloc);
+    for events in all {
+        plans.push(plan_of(alloc, events)?)?;
+    }
+    Ok(plans)
+}
+
+// Five plans, the third as the first, and the fourth without events.
+fn plans(rt: &impl Abort, alloc: Global) -> Vec<Plan> {
+    let all = [
+        DOWN.as_slice(),
+        TWICE.as_slice(),
+        DOWN.as_slice(),
+        &[],
+        HAND.as_slice(),
+    ];
+    plans_of(alloc, all.as_slice()).ok().expect(rt, "memory")
+}
+
+fn tell_outcome(text: &mut String, outcome: &Outcome) -> Result<(), AllocError> {
+    let Outcome {
+        accepted,
+        failovers,
+        takeovers,
+        ..
+    } = outcome;
+    writeln!(
+        text,
+        "accepted {accepted} failovers {failovers} takeovers {takeovers}"
+    )?;
+    if let Some((number, refusal)) = outcome.refused {
+        writeln!(text, "refused {number} {refusal}")?;
+    }
+    for (app, standing) in outcome.standings.as_slice() {
+        writeln!(text, "app {} {standing:?}", app.0)?;
+    }
+    Ok(())
+}
+
+// The outcomes as text.
+fn told(rt: &impl Abort, alloc: Global, outcomes: &[Outcome]) -> String {
+    let mut text = String::new(alloc);
+    for outcome in outcomes {
+        assert!(rt; tell_outcome(&mut text, outcome).is_ok());
+    }
+    text
+}
+
+// A simulation in which the application runs.
+fn booted(rt: &impl Abort, alloc: Global) -> Sim {
+    let mut base = sim_on(rt, alloc, CAVE);
+    make_all(rt, alloc, &mut base, BOOTS.as_slice());
+    base
+}
+
+// Two workers wait for one another here, each before its first plan, for 10,000,000 turns at most.
+#[derive(Drop)]
+struct Meeting {
+    first: AtomicBool,
+    second: AtomicBool,
+    missed: AtomicU64,
+}
+
+impl Meeting {
+    fn new() -> Meeting {
+        Meeting {
+            first: AtomicBool::new(false),
+            second: AtomicBool::new(false),
+            missed: AtomicU64::new(0),
+        }
+    }
+
+    fn meet(&self, mine: &AtomicBool, other: &AtomicBool) {
+        mine.store(true, Ordering::SeqCst);
+        for _ in 0..10_000_000 {
+            if other.load(Ordering::SeqCst) {
+                return;
+            }
+            thread::yield_now();
+        }
+        self.missed.fetch_add(1, Ordering::SeqCst);
+    }
+}
+
+impl Gate for Meeting {
+    fn enter<R: Wait>(&self, _rt: &R, plan: usize) {
+        if plan == 0 {
+            self.meet(&self.first, &self.second);
+        } else if plan == 1 {
+            self.meet(&self.second, &self.first);
+        }
+    }
+
+    fn leave<R: Wait>(&self, _rt: &R, _plan: usize) {}
+}
+
+// Do two workers meet, and give what one gives?
+fn meet<R: Threads + Wait + Abort + Sync>(rt: &R, alloc: Global, base: &Sim, plans: &[Plan]) {
+    let gate = Meeting::new();
+    let outcomes = sweep(rt, alloc, base, plans, 2, &gate)
+        .ok()
+        .expect(rt, "outcomes");
+    assert!(rt; gate.missed.load(Ordering::SeqCst) == 0);
+    let text = told(rt, alloc, outcomes.as_slice());
+    assert_eq!(rt; text.as_str(), TOLD);
+}
+
+#[test]
+fn two_workers_are_at_work_at_once(rt: HostRuntime) {
+    let base = booted(&rt, rt.alloc());
+    let plans = plans(&rt, rt.alloc());
+    meet(&rt, rt.alloc(), &base, plans.as_slice());
+}
+
+// What so many workers give.
+fn given<R: Threads + Wait + Sync>(
+    rt: &R,
+    alloc: Global,
+    base: &Sim,
+    plans: &[Plan],
+    workers: usize,
+) -> Result<Vec<Outcome>, SweepFault> {
+    sweep(rt, alloc, base, plans, workers, &FreeGate)
+}
+
+fn give_the_same<R: Threads + Wait + Abort + Sync>(
+    rt: &R,
+    alloc: Global,
+    base: &Sim,
+    plans: &[Plan],
+) {
+    for workers in [1, 2, 4, 16] {
+        let outcomes = given(rt, alloc, base, plans, workers)
+            .ok()
+            .expect(rt, "outcomes");
+        let text = told(rt, alloc, outcomes.as_slice());
+        assert_eq!(rt; text.as_str(), TOLD);
+    }
+}
+
+#[test]
+fn the_number_of_workers_has_no_effect(rt: HostRuntime) {
+    let base = booted(&rt, rt.alloc());
+    let plans = plans(&rt, rt.alloc());
+    give_the_same(&rt, rt.alloc(), &base, plans.as_slice());
+}
+
+// Is this sweep refused so?
+fn is_refused<R: Threads + Wait + Abort + Sync>(
+    rt: &R,
+    alloc: Global,
+    base: &Sim,
+    plans: &[Plan],
+    workers: usize,
+    want: &str,
+) {
+    let fault = given(rt, alloc, base, plans, workers)
+        .err()
+        .expect(rt, "a fault");
+    let text = format!(in alloc; "{fault}").ok().expect(rt, "memory");
+    assert_eq!(rt; text.as_str(), want);
+}
+
+#[test]
+fn a_sweep_has_1_to_16_workers(rt: HostRuntime) {
+    let base = sim_on(&rt, rt.alloc(), ONE_NODE);
+    is_refused(&rt, rt.alloc(), &base, &[], 0, "V1 worker_count");
+    is_refused(&rt, rt.alloc(), &base, &[], 17, "V1 worker_count");
+    assert!(rt; given(&rt, rt.alloc(), &base, &[], 16).is_ok());
+}
+
+#[test]
+fn the_base_has_a_step_to_make_again(rt: HostRuntime) {
+    let mut base = booted(&rt, rt.alloc());
+    assert!(rt; base.undo().is_ok());
+    is_refused(&rt, rt.alloc(), &base, &[], 1, "V2 base_not_at_end");
+}
+
+// A simulation with a full trail.
+fn filled(rt: &impl Abort, alloc: Global) -> Sim {
+    let mut base = sim_on(rt, alloc, ONE_NODE);
+    for _ in 0..Sim::TRAIL_LIMIT {
+        make_all(rt, alloc, &mut base, TICK.as_slice());
+    }
+    base
+}
+
+#[test]
+fn the_base_has_no_room(rt: HostRuntime) {
+    let base = filled(&rt, rt.alloc());
+    let plans = plans_of(rt.alloc(), &[TICK.as_slice()])
+        .ok()
+        .expect(&rt, "memory");
+    is_refused(&rt, rt.alloc(), &base, plans.as_slice(), 1, "V3 trail_room");
+}
+
+// What a look at the simulation shows.
+fn seen(rt: &impl Abort, alloc: Global, sim: &Sim) -> Reply {
+    sim.look(alloc).ok().expect(rt, "memory")
+}
+
+// Tries a plan.
+fn tried(rt: &impl Abort, alloc: Global, sim: &mut Sim, plan: &Plan) -> Outcome {
+    assert!(rt; sim.cursor() == sim.trail().len());
+    assert!(rt; plan.events.len() <= Sim::TRAIL_LIMIT - sim.trail().len());
+    try_plan(alloc, sim, plan).ok().expect(rt, "an outcome")
+}
+
+// Does each of these plans leave it as it was?
+fn stays(rt: &impl Abort, alloc: Global, sim: &mut Sim, plans: &[Plan]) {
+    let before = seen(rt, alloc, sim);
+    for plan in plans {
+        let outcome = tried(rt, alloc, sim, plan);
+        assert!(rt; outcome.accepted <= 2);
+        assert!(rt; before.same(&seen(rt, alloc, sim)));
+    }
+}
+
+#[test]
+fn a_plan_leaves_the_simulation_as_it_was(rt: HostRuntime) {
+    let mut sim = booted(&rt, rt.alloc());
+    let plans = plans(&rt, rt.alloc());
+    stays(&rt, rt.alloc(), &mut sim, plans.as_slice());
+}
