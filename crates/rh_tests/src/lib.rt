@@ -19,6 +19,8 @@ mod states;
 #[cfg(test)]
 mod support;
 #[cfg(test)]
+mod sweep_runs;
+#[cfg(test)]
 mod sweeps;
 #[cfg(test)]
 mod told;

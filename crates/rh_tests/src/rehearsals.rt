@@ -38,8 +38,8 @@ refused at_start
 ok 2
 ";
 
-// How a run ended, in a word.
-fn said(ended: Result<(), RunFault>) -> &'static str {
+/// How a run ended, in a word.
+pub fn said(ended: Result<(), RunFault>) -> &'static str {
     match ended {
         Ok(()) => "done",
         Err(RunFault::Cluster(_)) => "cluster",
