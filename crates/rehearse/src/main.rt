@@ -1,6 +1,7 @@
 //! The program: what the command line asks, and the exit status.
 #![tactic(auto)]
 
+ghost use Rattle.std.specs.Prelude.{◌≡◌};
 ghost use Rattle.rh_sweep.specs.Sweeping.{AreWorkers};
 
 mod command_line;
@@ -30,7 +31,8 @@ fn status_of(ended: &Result<(), RunFault>) -> u8 {
 
 // The number of workers, which the command line has checked.
 fn checked(workers: usize) -> usize
-    ensures { AreWorkers result }
+    ensures workers { AreWorkers result }
+    ensures same { AreWorkers workers → result ≡ workers }
 {
     if workers >= 1 && workers <= MAX_WORKERS {
         workers
