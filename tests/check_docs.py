@@ -115,8 +115,11 @@ def commands(lines):
 
 def shell(program, command):
     """Runs a command as an operator would who stands at the top of the repository."""
-    line = command.replace("./rehearse", shlex.quote(os.path.abspath(program)))
-    return subprocess.run(["bash", "-c", line], cwd=TOP, stdin=subprocess.DEVNULL, capture_output=True, timeout=LONGEST_RUN)
+    path = os.path.abspath(program)
+    line = command.replace("./rehearse", shlex.quote(path))
+    # By REHEARSE the companions are told the program.
+    return subprocess.run(["bash", "-c", line], cwd=TOP, stdin=subprocess.DEVNULL, capture_output=True, timeout=LONGEST_RUN,
+                          env={**os.environ, "REHEARSE": path})
 
 
 def shown_fault(done, lines):

@@ -4,7 +4,9 @@
 The worked rows are the files GROUP/NAME.row in tests/rows (row_files.py says what stands in one). Each example of the
 repository, examples/NAME.txt, has its row tests/examples/NAME.row, without an input: that is the example. A file in these
 folders that is no such row is a failed test. Then come inputs that are too large for a file, which are made here, devices
-and memory that fail, sweeps (sweeps.py), texts that are no terms (term_faults.py) and the documents (check_docs.py). The last line is
+and memory that fail, cut inputs and more devices (hostile.py), sweeps (sweeps.py), texts that are no terms (term_faults.py),
+cluster files at the limits (cluster_limits.py) and the documents (check_docs.py). Calls that the program `rh_growths` beside
+PROGRAM makes have each growth of memory refused in turn, and have to leave all as it was (growths.py). The last line is
 'N passed, M failed'. Where paths of rows are given, these alone are run.
 """
 import os
@@ -14,7 +16,10 @@ import sys
 import tempfile
 
 import check_docs
+import growths
+import hostile
 import sweeps
+from cluster_limits import cluster_limits
 from no_threads import without_threads
 from row_files import RowFault, read_row
 from support import TOP, chain, fault_of, files_below, finish, read, run
@@ -288,8 +293,8 @@ def main():
         for path in sys.argv[2:]:
             yield path, row_fault(program, path)
 
-    all_groups = (rows, examples, term_faults, command_lines, large_inputs, long_chains, several_sessions, failing_devices,
-                  refused_memory, no_threads, *sweeps.TESTS, *check_docs.TESTS)
+    all_groups = (rows, examples, term_faults, cluster_limits, command_lines, large_inputs, long_chains, several_sessions,
+                  failing_devices, refused_memory, no_threads, *growths.TESTS, *sweeps.TESTS, *hostile.TESTS, *check_docs.TESTS)
     finish((named_rows,) if sys.argv[2:] else all_groups, os.path.abspath(sys.argv[1]))
 
 

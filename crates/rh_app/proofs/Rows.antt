@@ -9,7 +9,7 @@ use Rattle.rh_state.specs.Numbers.{nodes_of, apps_of}
 use Rattle.rh_state.specs.First.{configured}
 use Rattle.rh_place.specs.declared.choosing.Pick.TheVariants.{First}
 use Rattle.rh_settle.specs.Settling.{moved_by, all_moved}
-use Rattle.rh_events.specs.Readiness.{all_alive, is_ready}
+use Rattle.rh_settle.specs.Readiness.{all_alive, is_ready}
 use Rattle.rh_events.specs.Marking.{mark_all}
 use Rattle.rh_events.specs.ComingUp.{come_up, come_up_if_ready, ready_come_up}
 use Rattle.rh_events.specs.Changes.{booted}

@@ -1,3 +1,4 @@
 pub mod Letters
 pub mod Tree
 pub mod Lists
+pub mod Exchanges

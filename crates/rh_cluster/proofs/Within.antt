@@ -18,12 +18,13 @@ use Rattle.rh_model.specs.declared.settings.Restart.{Restart}
 use Rattle.rh_model.specs.declared.settings.Spread.{Spread}
 use Rattle.rh_model.specs.ClusterView.{NodeView, AppView, IsWithin, numbered, app_numbered, dep_name}
 use Rattle.rh_model.specs.Names.{NamesView, is_among}
-use Rattle.rh_model.specs.Limits.{timeout_limit}
+use Rattle.rh_model.specs.Limits.{timeout_limit, IsWithinLimit}
+use Rattle.rh_model.specs.declared.settings.SyncWait.TheVariants.{Unset}
 use Rattle.rh_sections.specs.Shapes.{as_atom, as_pair, atoms, ◌>>=◌}
 use Rattle.rh_sections.specs.Sections.{as_share, as_restart, members, parts_stage}
 use Rattle.rh_cluster.specs.declared.shares.Share.{Share}
 use Rattle.rh_cluster.specs.Headers.{every_platform, nodes_in, apps_in, headers_stage}
-use Rattle.rh_cluster.specs.Values.{node_named, app_named, boot_entry, dep_named, dep_by, elements, elements_under}
+use Rattle.rh_cluster.specs.Values.{node_named, app_named, boot_entry, dep_named, dep_by, elements, value_under, elements_under}
 use Rattle.rh_cluster.specs.Values.{kernel_of, rehearse_of, node_view, app_view, group_in, share_of, shares_in}
 use Rattle.rh_cluster.specs.Values.{spread_for, spread_named, permissions_in, platforms_of, forbids, time_or_zero}
 use Rattle.rh_cluster.specs.Values.{platforms_in}
@@ -31,7 +32,8 @@ use Rattle.rh_cluster.specs.Agreement.{shares_at, first_involved, agreed_shares}
 use Rattle.rh_cluster.specs.ClusterOf.{names_of, node_views, all_shares, app_views, faults_behind_headers, cluster_view}
 use Rattle.rh_cluster.proofs.Counts.{length-node_views, length-app_views}
 use Rattle.rh_base.proofs.Elements.{none_left, none_right, All-filter_map, at_position, at_mapped, in_mapped, at_place, some_inside, one_of}
-use Rattle.rh_cluster.proofs.Timeouts.{time_within}
+use Rattle.rh_cluster.proofs.Timeouts.{time_within, wait_within}
+use Rattle.rh_cluster.proofs.NamesOnce.{headers_few, platforms_few, some_node}
 use Rattle.rh_cluster.proofs.BootLists.{IsInOrder, boot_once_in, in_order}
 use Rattle.rh_cluster.proofs.Listing.{boots_listed}
 
@@ -178,6 +180,16 @@ module _ (ts : List Tree) where
   optional_within n = in_mapped node_at (λ (v : NodeView). v.optional) (λ (m : Node). m.0 < length (names_of ts).nodes)
       (λ x. nodes_within (names_of ts) (elements_under (codes "sync_nodes_optional") (kernel_of x.1))) (nodes_in ts) n
 
+  waits_within : (n : ℕ) → IsWithinLimit (unwrap_or (option_map (λ (v : NodeView). v.sync_wait) (slice_get (map node_at (nodes_in ts)) n)) Unset)
+  unfolding node_view
+  waits_within n =
+      subst (λ o. IsWithinLimit (unwrap_or (option_map (λ (v : NodeView). v.sync_wait) o) Unset)) (sym (slice_get-map node_at (nodes_in ts) n))
+      (by (slice_get (nodes_in ts) n))
+    where
+      by : (o : Option (List ℕ × Tree)) → IsWithinLimit (unwrap_or (option_map (λ (v : NodeView). v.sync_wait) (option_map node_at o)) Unset)
+      by None = tt
+      by (Some x) = wait_within (value_under (codes "sync_nodes_timeout") (kernel_of x.1))
+
   boots_within : (n : ℕ) → All (λ (e : App × Restart). e.0.0 < length (names_of ts).apps)
       (unwrap_or (option_map (λ (v : NodeView). v.boot) (slice_get (map node_at (nodes_in ts)) n)) [])
   unfolding node_view
@@ -227,10 +239,18 @@ module _ (ts : List Tree) where
   pub view_is_within : headers_stage ts ≡ [] → faults_behind_headers ts ≡ [] → IsWithin (cluster_view ts)
   unfolding cluster_view names_of node_views app_views faults_behind_headers
   view_is_within headers behind = record {
+    some_node = some_node ts headers;
+    few_nodes = (headers_few ts headers).0.0;
+    few_apps = (headers_few ts headers).1.0;
+    few_platforms = (platforms_few ts).0;
+    node_names = (headers_few ts headers).0.1;
+    app_names = (headers_few ts headers).1.1;
+    platform_names = (platforms_few ts).1;
     nodes = length-node_views (names_of ts) ts;
     apps = length-app_views (names_of ts) (agreed_shares (all_shares (names_of ts) ts)) ts;
     mandatory = λ n. mandatory_within n.0;
     optional = λ n. optional_within n.0;
+    sync_wait = λ n. waits_within n.0;
     boot = λ n. boots_within n.0;
     boot_once = λ n. boots_once (none_left _ _ behind) n.0;
     boot_listed = boots_listed ts headers (node_views (names_of ts) ts) (none_right _ _ behind);

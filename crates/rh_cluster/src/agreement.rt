@@ -4,7 +4,7 @@ ghost use Rattle.std.specs.Prelude.{◌≡◌, ◌<◌, ◌≤◌, map, flat_map
 ghost use Rattle.std.specs.List.{list_any, list_all};
 ghost use Rattle.std.specs.Option.{option_map};
 ghost use Rattle.rh_model.specs.ClusterView.{is_in, numbered};
-ghost use Rattle.rh_sections.specs.Faults.{Finds};
+ghost use Rattle.rh_sections.specs.Faults.{Finds, FindsFirst};
 ghost use Rattle.rh_cluster.specs.Values.{spread_for};
 ghost use Rattle.rh_cluster.specs.Agreement.{same_group, same_groups, same_share, same_shares, same_wait, shares_at};
 ghost use Rattle.rh_cluster.specs.Agreement.{wait_at, lists_node, names_node, is_involved, first_involved};
@@ -276,7 +276,7 @@ fn check_mismatches(
 #[tactic(auto, unfolding(crate::specs::Agreement::boot_entry_faults))]
 fn check_boot_entry(shares: &[Share], node: usize, app: App) -> Result<(), ClusterFault>
     requires { node ≤ u8.MAX }
-    ensures { Finds result (boot_entry_faults shares.now node app) }
+    ensures { FindsFirst result (boot_entry_faults shares.now node app) }
 {
     match spread_for(shares, app) {
         Some(spread) => {
@@ -298,7 +298,7 @@ fn check_boot_list(
     node: usize,
 ) -> Result<(), ClusterFault>
     requires { node ≤ u8.MAX }
-    ensures { Finds result (boot_list_faults shares.now nodes.now node) }
+    ensures { FindsFirst result (boot_list_faults shares.now nodes.now node) }
 {
     let boot = boot_at(nodes, node);
     for entry in boot {
@@ -310,7 +310,7 @@ fn check_boot_list(
 // Tests the boot list of each node, in node order.
 fn check_boot_lists(shares: &[Share], nodes: &[NodeSettings]) -> Result<(), ClusterFault>
     requires { length nodes.now ≤ MAX_NODES }
-    ensures { Finds result (flat_map (boot_list_faults shares.now nodes.now) (numbers_below (length nodes.now))) }
+    ensures { FindsFirst result (flat_map (boot_list_faults shares.now nodes.now) (numbers_below (length nodes.now))) }
 {
     for node in 0..nodes.len() {
         check_boot_list(shares, nodes, node)?;

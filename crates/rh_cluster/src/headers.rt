@@ -2,7 +2,7 @@
 
 ghost use Rattle.std.specs.Prelude.{◌≡◌, ◌<◌, ◌≤◌, ℕ, [], ◌∷◌, ◌++◌, map, length, IfOk, OnOk};
 ghost use Rattle.rh_base.specs.Tree.{tree_of};
-ghost use Rattle.rh_sections.specs.Faults.{Finds};
+ghost use Rattle.rh_sections.specs.Faults.{Finds, WantsLast};
 ghost use Rattle.rh_model.specs.Names.{is_among};
 ghost use Rattle.rh_cluster.specs.Headers.{every_platform, new_name_faults, header_faults, headers_stage, node_names, app_names};
 
@@ -28,6 +28,7 @@ fn add_name(
     name: &str,
 ) -> Result<(), ClusterFault>
     ensures faults { Finds result (new_name_faults most reserved names.old name.now) }
+    ensures last { WantsLast result (new_name_faults most reserved names.old name.now) }
     ensures added { OnOk result (names.new ≡ names.old ++ name.now ∷ []) }
     ensures room { OnOk result (length names.old < most) }
 {
@@ -53,6 +54,7 @@ fn add_header(
     term: &Term,
 ) -> Result<(), ClusterFault>
     ensures faults { Finds result (header_faults nodes.old apps.old (tree_of term.now)) }
+    ensures last { WantsLast result (header_faults nodes.old apps.old (tree_of term.now)) }
     ensures nodes { OnOk result (nodes.new ≡ nodes.old ++ node_names (tree_of term.now ∷ [])) }
     ensures apps { OnOk result (apps.new ≡ apps.old ++ app_names (tree_of term.now ∷ [])) }
     ensures few_nodes { OnOk result (length nodes.old ≤ MAX_NODES → length nodes.new ≤ MAX_NODES) }

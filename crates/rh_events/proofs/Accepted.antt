@@ -18,7 +18,8 @@ use Rattle.rh_settle.specs.Moves.{is_local}
 use Rattle.rh_events.specs.declared.event.Event.TheVariants.{Boot, Crash, Tick, Start, Stop, Permit, Takeover, Exit}
 use Rattle.rh_events.specs.declared.refusal.Refusal.{Refusal}
 use Rattle.rh_events.specs.declared.refusal.Refusal.TheVariants.{NotListed, AlreadyStarted, NeverStarted, NotRunningHere}
-use Rattle.rh_events.specs.Refusals.{refused, tests, tests_by_hand, first_that_applies, dep_tests, stands_running, stands_running_at}
+use Rattle.rh_events.specs.Refusals.{refused, tests, tests_by_hand, first_that_applies, dep_tests}
+use Rattle.rh_state.specs.Standings.{is_running, is_running_at}
 
 -- ---- no test applied
 abbrev NoneApplies : List (Bool × Refusal) → Type 0
@@ -62,7 +63,7 @@ differs k l e = λ same. clash (sym e ∙ ap (λ j. j == l) same ∙ equal l)
 pub same_standing : (m k : Node) → Running m ≡ Running k → m ≡ k
 same_standing m k e = cc
 
-stands_at : (standing : Standing) → stands_running standing ≡ true → (m : Node) × (standing ≡ Running m)
+stands_at : (standing : Standing) → is_running standing ≡ true → (m : Node) × (standing ≡ Running m)
 stands_at (Running m) e = (m, refl)
 stands_at _ e = absurd (cc e)
 
@@ -164,7 +165,7 @@ accepted_takeover s n a r e =
       listed = holds _ own.1.0;
       from = at.0;
       stands = at.1;
-      elsewhere = sym (ap (stands_running_at n) at.1) ∙ own.1.1.1.0;
+      elsewhere = sym (ap (is_running_at n) at.1) ∙ own.1.1.1.0;
       allowed = holds _ own.1.1.1.1.0;
       deps = no_dep _ own.1.1.1.1.1;
     }

@@ -6,14 +6,13 @@ use Rattle.rh_state.specs.declared.status.Mode.TheVariants.{Up}
 use Rattle.rh_state.specs.declared.status.Standing.{Standing}
 use Rattle.rh_state.specs.declared.status.Standing.TheVariants.{Running}
 use Rattle.rh_state.specs.Numbers.{same_node}
-use Rattle.rh_state.specs.Shape.{IsNodeOf}
 use Rattle.rh_state.specs.StateView.{StateView, mode_of, is_allowed, runs_at, restart_of, standing_of}
 use Rattle.rh_state.specs.Setters.{with_allowed}
 use Rattle.rh_base.proofs.Lists.{cases}
 use Rattle.rh_settle.specs.declared.notice.Notice.{Notice}
 use Rattle.rh_settle.specs.declared.notice.Pair.{Pair}
-use Rattle.rh_settle.specs.Course.{Course, course_of, now_in}
-use Rattle.rh_settle.specs.Soundness.{IsSound}
+use Rattle.rh_settle.specs.Course.{Course, IsPairOf, course_of, now_in}
+use Rattle.rh_settle.specs.Validity.{IsSound}
 use Rattle.rh_settle.proofs.Behind.{after_notices}
 use Rattle.rh_events.specs.declared.event.Event.{Event}
 use Rattle.rh_events.specs.declared.event.Event.TheVariants.{Boot, Crash, Tick, Start, Stop, Permit, Takeover, Exit}
@@ -98,36 +97,37 @@ sound_changed o (Takeover n a r) sound fine =
 sound_changed o (Exit n a normal) sound fine =
     let h = accepted_exit o.state n a normal fine in sound_exited o n a normal sound h.hand.node h.hand.app h.runs
 
--- ---- only nodes of the cluster are marked
-abbrev AreNodes : StateView → List Pair → Type 0
-AreNodes s ps = All (λ (p : Pair). IsNodeOf s.cluster p.node) ps
+-- ---- only pairs of the cluster are marked
+abbrev ArePairs : StateView → List Pair → Type 0
+ArePairs s ps = All (IsPairOf s.cluster) ps
 
-pub marked_changed : (o : Course) (e : Event) → refused o.state e ≡ None → All (λ (p : Pair). IsNodeOf o.state.cluster p.node) o.marked
-    → All (λ (p : Pair). IsNodeOf o.state.cluster p.node) (change o e).marked
+pub marked_changed : (o : Course) (e : Event) → refused o.state e ≡ None → All (IsPairOf o.state.cluster) o.marked
+    → All (IsPairOf o.state.cluster) (change o e).marked
 unfolding ended stopped left_waiting forbidden permitted taken_over exited
 marked_changed o (Boot n) fine before = before
 marked_changed o (Crash n) fine before = before
 marked_changed o (Tick ms) fine before = before
 marked_changed o (Start n a r) fine before =
-    All-push (λ (p : Pair). IsNodeOf o.state.cluster p.node) o.marked (pair n a) before (accepted_start o.state n a r fine).hand.node
+    let h = (accepted_start o.state n a r fine).hand in
+    All-push (IsPairOf o.state.cluster) o.marked (pair n a) before (record { node = h.node; app = h.app })
 marked_changed o (Stop n a) fine before = by (runs_at o.state n a)
   where
-    by : (b : Bool) → AreNodes o.state (cond b (stopped o n a) (left_waiting o n a)).marked
+    by : (b : Bool) → ArePairs o.state (cond b (stopped o n a) (left_waiting o n a)).marked
     by true = before
     by false = before
 marked_changed o (Permit n a allow) fine before = by (not allow && (is_allowed o.state n a && runs_at o.state n a))
   where
-    by : (b : Bool) → AreNodes o.state (cond b (forbidden o n a) (now_in o (with_allowed o.state n a allow))).marked
+    by : (b : Bool) → ArePairs o.state (cond b (forbidden o n a) (now_in o (with_allowed o.state n a allow))).marked
     by true = before
     by false = before
 marked_changed o (Takeover n a r) fine before = by (standing_of o.state a)
   where
-    by : (standing : Standing) → AreNodes o.state (taken_from o n a r standing).marked
+    by : (standing : Standing) → ArePairs o.state (taken_from o n a r standing).marked
     by (Running m) = before
     by _ = before
 marked_changed o (Exit n a normal) fine before = by (ends_node (restart_of o.state n a) normal)
   where
-    by : (b : Bool) → AreNodes o.state (cond b (ended o n) (stopped o n a)).marked
+    by : (b : Bool) → ArePairs o.state (cond b (ended o n) (stopped o n a)).marked
     by true = before
     by false = before
 

@@ -22,7 +22,7 @@ use Rattle.rh_base.proofs.Lists.{cases}
 use Rattle.rh_settle.specs.declared.notice.Notice.TheVariants as notice
 use Rattle.rh_settle.specs.Course.{Course, told, now_in}
 use Rattle.rh_settle.proofs.Places.{at_set_here, at_set_there}
-use Rattle.rh_events.specs.Readiness.{all_alive, has_others, is_ready}
+use Rattle.rh_settle.specs.Readiness.{all_alive, has_others, is_ready}
 use Rattle.rh_events.specs.Marking.{mark_all}
 use Rattle.rh_events.specs.ComingUp.{come_up, come_up_if_ready, ready_come_up}
 use Rattle.rh_settle.proofs.Entries.{same_number, other_number}

@@ -17,7 +17,7 @@ use Rattle.rh_settle.specs.declared.notice.Notice.TheVariants as notice
 use Rattle.rh_settle.specs.Course.{Course, told, now_in}
 use Rattle.rh_settle.specs.Moves.{with_stopped}
 use Rattle.rh_settle.proofs.Behind.{after_notices, told_after, fold_after, moved_after}
-use Rattle.rh_events.specs.Readiness.{is_ready}
+use Rattle.rh_settle.specs.Readiness.{is_ready}
 use Rattle.rh_events.specs.Marking.{with_distributed_standing, mark, mark_booted, mark_all}
 use Rattle.rh_events.specs.ComingUp.{come_up, come_up_if_ready, ready_come_up}
 use Rattle.rh_events.specs.Ending.{cleared, all_lost, ended}

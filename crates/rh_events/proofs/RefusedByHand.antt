@@ -16,7 +16,8 @@ use Rattle.rh_events.specs.declared.event.Event.TheVariants.{Start, Stop, Permit
 use Rattle.rh_events.specs.declared.refusal.Refusal.{Refusal}
 use Rattle.rh_events.specs.declared.refusal.Refusal.TheVariants.{NotDistributed, NotListed, AlreadyStarted, NeverStarted, NotRunning, RunsHere, NotRunningHere}
 use Rattle.rh_events.specs.declared.refusal.Refusal.TheVariants.{NotPermitted}
-use Rattle.rh_events.specs.Refusals.{refused, tests, tests_by_hand, dep_tests, stands_running, stands_running_at, first_that_applies}
+use Rattle.rh_events.specs.Refusals.{refused, tests, tests_by_hand, dep_tests, first_that_applies}
+use Rattle.rh_state.specs.Standings.{is_running, is_running_at}
 
 -- what the tests that all have give, for any others behind them
 abbrev pub TestsBy : StateView → Node → App → Option Refusal → Type 0
@@ -38,8 +39,8 @@ module _ (s : StateView) (n : Node) (a : App) (r : Option Refusal) (by : TestsBy
 
   abbrev taking : List (Bool × Refusal)
   taking =
-      (is_local s.cluster a, NotDistributed) ∷ (not (is_listed_at s.cluster a n), NotListed) ∷ (not (stands_running (standing_of s a)), NotRunning)
-      ∷ (stands_running_at n (standing_of s a), RunsHere) ∷ (not (is_allowed s n a), NotPermitted) ∷ dep_tests (missing_dep s n a)
+      (is_local s.cluster a, NotDistributed) ∷ (not (is_listed_at s.cluster a n), NotListed) ∷ (not (is_running (standing_of s a)), NotRunning)
+      ∷ (is_running_at n (standing_of s a), RunsHere) ∷ (not (is_allowed s n a), NotPermitted) ∷ dep_tests (missing_dep s n a)
 
   pub exit_some : (normal : Bool) (x : Refusal) → r ≡ Some x → Some x ≡ refused s (Exit n a normal)
   exit_some normal x is = one_of_them x ((not (runs_at s n a), NotRunningHere) ∷ []) is ∙ shown s (Exit n a normal)
@@ -73,7 +74,7 @@ module _ (s : StateView) (n : Node) (a : App) (r : Option Refusal) (by : TestsBy
   takeover_none restart is = none_of_them taking is ∙ shown s (Takeover n a restart)
 
   abbrev standing_tests : Standing → List (Bool × Refusal) → List (Bool × Refusal)
-  standing_tests standing others = (not (stands_running standing), NotRunning) ∷ (stands_running_at n standing, RunsHere) ∷ others
+  standing_tests standing others = (not (is_running standing), NotRunning) ∷ (is_running_at n standing, RunsHere) ∷ others
 
   abbrev behind : List (Bool × Refusal)
   behind = (not (is_allowed s n a), NotPermitted) ∷ dep_tests (missing_dep s n a)

@@ -15,7 +15,7 @@ use Rattle.rh_state.specs.Shape.{IsNodeOf}
 use Rattle.rh_state.specs.StateView.{StateView, mode_of, incarnation_of, is_up, is_alive, is_waiting}
 use Rattle.rh_state.specs.Setters.{with_mode, with_incarnation, with_timer}
 use Rattle.rh_base.proofs.Lists.{cases}
-use Rattle.rh_settle.specs.Soundness.{TimersFit, IsSound, is_timed}
+use Rattle.rh_settle.specs.Validity.{TimersFit, IsSound, is_timed}
 use Rattle.rh_settle.proofs.Shapes.{shaped_timers, shaped_mode, shaped_incarnation}
 use Rattle.rh_settle.proofs.Places.{at_set_here, at_set_there}
 use Rattle.rh_events.specs.Changes.{with_sync_timer, booted}

@@ -15,7 +15,8 @@ use Rattle.rh_state.specs.StateView.{StateView, mode_of, is_up, runs_at, waits_a
 use Rattle.rh_state.specs.Setters.{with_allowed, with_standing, without_due, unlisted}
 use Rattle.rh_settle.specs.Course.{Course}
 use Rattle.rh_settle.specs.Moves.{is_local, with_stopped}
-use Rattle.rh_settle.specs.Soundness.{TimersFit, IsSound, is_lost}
+use Rattle.rh_settle.specs.Validity.{TimersFit, IsSound}
+use Rattle.rh_state.specs.Standings.{is_lost}
 use Rattle.rh_base.proofs.Lists.{cases}
 use Rattle.rh_settle.proofs.Places.{or_left}
 use Rattle.rh_events.specs.Marking.{with_distributed_standing}

@@ -17,7 +17,8 @@ use Rattle.rh_state.specs.Setters.{with_running, with_restart, unlisted}
 use Rattle.rh_settle.specs.Course.{Course}
 use Rattle.rh_settle.specs.Moves.{is_local, with_started, with_stopped, moved_state}
 use Rattle.rh_settle.specs.declared.notice.Move.TheVariants.{Takeover}
-use Rattle.rh_settle.specs.Soundness.{IsSound, is_lost}
+use Rattle.rh_settle.specs.Validity.{IsSound}
+use Rattle.rh_state.specs.Standings.{is_lost}
 use Rattle.rh_base.proofs.Lists.{cases}
 use Rattle.rh_settle.proofs.Shapes.{shaped_standing, shaped_restart, shaped_started, shaped_stopped}
 use Rattle.rh_settle.proofs.Places.{or_left}

@@ -20,10 +20,10 @@ use Rattle.rh_state.specs.Setters.{with_mode, without_due}
 use Rattle.rh_base.proofs.Lists.{cases}
 use Rattle.rh_settle.specs.declared.notice.Notice.TheVariants as notice
 use Rattle.rh_settle.specs.Course.{Course, told, now_in}
-use Rattle.rh_settle.specs.Soundness.{TimersFit, IsSound, is_timed}
+use Rattle.rh_settle.specs.Validity.{TimersFit, IsSound, is_timed}
 use Rattle.rh_settle.proofs.Shapes.{shaped_timers, shaped_mode}
 use Rattle.rh_settle.proofs.Places.{at_set_here, at_set_there}
-use Rattle.rh_events.specs.Readiness.{is_ready}
+use Rattle.rh_settle.specs.Readiness.{is_ready}
 use Rattle.rh_events.specs.Marking.{mark, mark_booted, mark_all}
 use Rattle.rh_events.specs.ComingUp.{come_up, come_up_if_ready, ready_come_up}
 use Rattle.rh_settle.proofs.Entries.{same_number, other_number}

@@ -21,7 +21,8 @@ use Rattle.rh_state.specs.StateView.{StateView, mode_of, is_up, runs_at, waits_a
 use Rattle.rh_state.specs.Setters.{with_standing, with_timer, without_due}
 use Rattle.rh_settle.specs.Course.{Course}
 use Rattle.rh_settle.specs.Moves.{is_local}
-use Rattle.rh_settle.specs.Soundness.{TimersFit, IsSound, is_lost}
+use Rattle.rh_settle.specs.Validity.{TimersFit, IsSound}
+use Rattle.rh_state.specs.Standings.{is_lost}
 use Rattle.rh_base.proofs.Lists.{cases}
 use Rattle.rh_state.proofs.FirstStates.{length-configured}
 use Rattle.rh_state.proofs.Listings.{IsShaped-running, IsShaped-waiting}

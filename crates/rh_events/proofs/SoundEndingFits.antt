@@ -12,7 +12,8 @@ use Rattle.rh_state.specs.declared.status.Timer.TheVariants.{Sync, Failover}
 use Rattle.rh_state.specs.Numbers.{same_app, same_node}
 use Rattle.rh_state.specs.StateView.{StateView, mode_of, standing_of, is_waiting}
 use Rattle.rh_state.specs.Setters.{with_mode, with_standing, with_timer, without_due}
-use Rattle.rh_settle.specs.Soundness.{TimersFit, is_timed, is_lost}
+use Rattle.rh_settle.specs.Validity.{TimersFit, is_timed}
+use Rattle.rh_state.specs.Standings.{is_lost}
 use Rattle.rh_base.proofs.Lists.{cases}
 use Rattle.rh_settle.proofs.Places.{at_set, at_set_here, at_set_there}
 use Rattle.rh_settle.proofs.Entries.{same_number, other_number}

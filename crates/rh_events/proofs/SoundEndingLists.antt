@@ -7,12 +7,11 @@ use Rattle.rh_model.specs.declared.node.App.{App}
 use Rattle.rh_state.specs.declared.status.Mode.TheVariants.{Down}
 use Rattle.rh_state.specs.declared.status.Standing.{Standing}
 use Rattle.rh_state.specs.declared.status.Timer.{Timer}
-use Rattle.rh_state.specs.Shape.{IsShaped, IsAppOf, IsStandingOf}
+use Rattle.rh_state.specs.Shape.{IsShaped, IsAppOf, IsStandingOf, OnceAtEachNode}
 use Rattle.rh_state.specs.Tables.{row}
 use Rattle.rh_state.specs.StateView.{StateView, mode_of, is_up, running_at, runs_at, waits_at, is_started}
 use Rattle.rh_state.specs.Setters.{with_running, with_waiting, with_allowed, with_standing, unlisted}
-use Rattle.rh_settle.specs.Soundness.{IdleUnlessUp, IsSound}
-use Rattle.rh_settle.specs.Validity.{OnceAtEachNode}
+use Rattle.rh_settle.specs.Validity.{IdleUnlessUp, IsSound}
 use Rattle.rh_base.proofs.Lists.{cases}
 use Rattle.rh_settle.proofs.Places.{at_set_there, or_left, or_right}
 use Rattle.rh_settle.proofs.Entries.{same_number, is_false, both, taken_has, put_has, once_taken, once_put, either}

@@ -14,7 +14,8 @@ use Rattle.rh_state.specs.StateView.{StateView, mode_of, is_up, waiting_at, runs
 use Rattle.rh_state.specs.Setters.{with_restart, with_standing, with_waiting, without_due}
 use Rattle.rh_base.proofs.Lists.{cases}
 use Rattle.rh_settle.specs.Moves.{is_local}
-use Rattle.rh_settle.specs.Soundness.{IdleUnlessUp, StandsWhereItRuns, TimersFit, IsSound, is_lost}
+use Rattle.rh_settle.specs.Validity.{IdleUnlessUp, StandsWhereItRuns, TimersFit, IsSound}
+use Rattle.rh_state.specs.Standings.{is_lost}
 use Rattle.rh_settle.proofs.Shapes.{shaped_timers, shaped_standing, shaped_restart, shaped_waiting}
 use Rattle.rh_settle.proofs.Places.{at_set_here, at_set_there, or_left, or_right}
 use Rattle.rh_events.specs.Marking.{with_distributed_standing, wanted_by_mark, with_mark}

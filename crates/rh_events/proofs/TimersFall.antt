@@ -17,7 +17,7 @@ use Rattle.rh_state.specs.Setters.{with_mode, with_standing, with_restart, with_
 use Rattle.rh_settle.specs.declared.notice.Notice.TheVariants as notice
 use Rattle.rh_settle.specs.Course.{Course, told, now_in}
 use Rattle.rh_settle.specs.Moves.{is_local}
-use Rattle.rh_events.specs.Readiness.{is_ready}
+use Rattle.rh_settle.specs.Readiness.{is_ready}
 use Rattle.rh_events.specs.Marking.{with_distributed_standing, wanted_by_mark, with_mark, mark, mark_booted, mark_all}
 use Rattle.rh_events.specs.ComingUp.{come_up, come_up_if_ready, ready_come_up}
 use Rattle.rh_events.specs.Ending.{cleared, lost_at, lost_from, lost_if_ran, all_lost, ended}

@@ -8,7 +8,7 @@ use Rattle.rh_state.specs.Numbers.{nodes_of}
 use Rattle.rh_state.specs.Setters.{with_mode, without_due}
 use Rattle.rh_settle.specs.declared.notice.Notice.TheVariants as notice
 use Rattle.rh_settle.specs.Course.{Course, told, now_in}
-use Rattle.rh_events.specs.Readiness.{is_ready}
+use Rattle.rh_settle.specs.Readiness.{is_ready}
 use Rattle.rh_events.specs.Marking.{mark_all}
 
 -- a node comes up: it waits no longer, and what it boots is marked

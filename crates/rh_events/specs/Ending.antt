@@ -7,10 +7,11 @@ use Rattle.rh_model.specs.declared.node.App.{App}
 use Rattle.rh_model.specs.declared.settings.Spread.{Spread}
 use Rattle.rh_state.specs.declared.status.Mode.TheVariants.{Down}
 use Rattle.rh_state.specs.declared.status.Standing.{Standing}
-use Rattle.rh_state.specs.declared.status.Standing.TheVariants.{Wanted, Running, Lost}
+use Rattle.rh_state.specs.declared.status.Standing.TheVariants.{Wanted, Lost}
 use Rattle.rh_state.specs.declared.status.Timer.TheVariants.{Sync, Failover}
 use Rattle.rh_state.specs.First.{configured}
-use Rattle.rh_state.specs.Numbers.{apps_of, same_node}
+use Rattle.rh_state.specs.Numbers.{apps_of}
+use Rattle.rh_state.specs.Standings.{is_running_at}
 use Rattle.rh_state.specs.StateView.{StateView, standing_of}
 use Rattle.rh_state.specs.Setters.{with_mode, with_standing, with_timer, without_due}
 use Rattle.rh_settle.specs.declared.notice.Notice.TheVariants as notice
@@ -39,8 +40,7 @@ lost_at s n a =
     else with_timer (with_standing s a (Lost n)) (s.time + timeout_of s.cluster a) (Failover a)
 
 abbrev pub lost_from : StateView → Node → App → Standing → StateView
-lost_from s n a (Running m) = if same_node m n then lost_at s n a else s
-lost_from s n a _ = s
+lost_from s n a standing = if is_running_at n standing then lost_at s n a else s
 
 unfoldable pub lost_if_ran : Node → StateView → App → StateView
 lost_if_ran n s a = lost_from s n a (standing_of s a)

@@ -1,4 +1,3 @@
-pub mod Readiness
 pub mod Marking
 pub mod ComingUp
 pub mod Ending

@@ -5,9 +5,9 @@ use Rattle.rh_model.specs.declared.node.Node.{Node}
 use Rattle.rh_model.specs.declared.node.App.{App}
 use Rattle.rh_model.specs.declared.settings.Restart.{Restart}
 use Rattle.rh_state.specs.declared.status.Standing.{Standing}
-use Rattle.rh_state.specs.declared.status.Standing.TheVariants.{Quiet, Wanted, Lost}
+use Rattle.rh_state.specs.declared.status.Standing.TheVariants.{Wanted}
 use Rattle.rh_state.specs.declared.status.Timer.TheVariants.{Failover}
-use Rattle.rh_state.specs.Numbers.{same_node}
+use Rattle.rh_state.specs.Standings.{is_quiet, is_lost_at}
 use Rattle.rh_state.specs.StateView.{StateView, standing_of}
 use Rattle.rh_state.specs.Setters.{with_restart, with_standing, with_waiting, without_due}
 use Rattle.rh_settle.specs.declared.notice.Pair.{Pair}
@@ -20,9 +20,9 @@ with_distributed_standing s a standing = if is_local s.cluster a then s else wit
 
 -- a quiet application is wanted now, and so is one that was lost at this very node; another stays as it stands
 abbrev pub wanted_by_mark : StateView → Node → App → Standing → StateView
-wanted_by_mark s n a Quiet = with_distributed_standing s a (Wanted None)
-wanted_by_mark s n a (Lost m) = if same_node m n then without_due (with_standing s a (Wanted (Some n))) (Failover a) else s
-wanted_by_mark s n a _ = s
+wanted_by_mark s n a standing =
+    if is_quiet standing then with_distributed_standing s a (Wanted None)
+    else (if is_lost_at n standing then without_due (with_standing s a (Wanted (Some n))) (Failover a) else s)
 
 -- the pair waits behind all others of its node, with its restart type
 unfoldable pub with_mark : StateView → Node → App → Restart → StateView

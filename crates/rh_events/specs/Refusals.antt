@@ -1,13 +1,11 @@
 -- When a step is refused: of the tests of its event, in their order, the first that applies counts (ours).
-use Rattle.std.specs.Prelude.{ℕ, ◌+◌, List, [], ◌∷◌, Bool, true, false, not, nat_lt, ◌==◌, if◌then◌else◌, Option, Some, None, codes}
+use Rattle.std.specs.Prelude.{ℕ, ◌+◌, List, [], ◌∷◌, Bool, true, not, nat_lt, ◌==◌, if◌then◌else◌, Option, Some, None, codes}
 use Rattle.rh_model.specs.ClusterView.{node_count, app_count, is_listed_at}
 use Rattle.rh_model.specs.declared.node.Node.{Node}
 use Rattle.rh_model.specs.declared.node.App.{App}
 use Rattle.rh_model.specs.declared.settings.Dep.{Dep}
-use Rattle.rh_state.specs.declared.status.Standing.{Standing}
-use Rattle.rh_state.specs.declared.status.Standing.TheVariants.{Running}
 use Rattle.rh_state.specs.Limits.{time_limit, incarnation_limit}
-use Rattle.rh_state.specs.Numbers.{same_node}
+use Rattle.rh_state.specs.Standings.{is_running, is_running_at}
 use Rattle.rh_state.specs.StateView.{StateView, mode_of, incarnation_of, is_alive, is_up, is_started, is_allowed, runs_at, standing_of}
 use Rattle.rh_place.specs.Placing.{missing_dep}
 use Rattle.rh_settle.specs.Moves.{is_local}
@@ -24,15 +22,6 @@ is_unknown s n = not (nat_lt n.0 (node_count s.cluster))
 
 abbrev pub is_unknown_app : StateView → App → Bool
 is_unknown_app s a = not (nat_lt a.0 (app_count s.cluster))
-
--- the application stands as running somewhere, or at this node
-abbrev pub stands_running : Standing → Bool
-stands_running (Running m) = true
-stands_running _ = false
-
-abbrev pub stands_running_at : Node → Standing → Bool
-stands_running_at n (Running m) = same_node m n
-stands_running_at n _ = false
 
 -- the first dependency that doesn't run there, if there is one
 abbrev pub dep_tests : Option Dep → List (Bool × Refusal)
@@ -52,8 +41,8 @@ tests s (Start n a r) = tests_by_hand s n a (
 tests s (Stop n a) = tests_by_hand s n a ((not (is_started s n a), NeverStarted) ∷ [])
 tests s (Permit n a allow) = tests_by_hand s n a []
 tests s (Takeover n a r) = tests_by_hand s n a (
-    (is_local s.cluster a, NotDistributed) ∷ (not (is_listed_at s.cluster a n), NotListed) ∷ (not (stands_running (standing_of s a)), NotRunning)
-    ∷ (stands_running_at n (standing_of s a), RunsHere) ∷ (not (is_allowed s n a), NotPermitted) ∷ dep_tests (missing_dep s n a))
+    (is_local s.cluster a, NotDistributed) ∷ (not (is_listed_at s.cluster a n), NotListed) ∷ (not (is_running (standing_of s a)), NotRunning)
+    ∷ (is_running_at n (standing_of s a), RunsHere) ∷ (not (is_allowed s n a), NotPermitted) ∷ dep_tests (missing_dep s n a))
 tests s (Exit n a normal) = tests_by_hand s n a ((not (runs_at s n a), NotRunningHere) ∷ [])
 
 abbrev pub first_that_applies : List (Bool × Refusal) → Option Refusal

@@ -10,9 +10,9 @@ ghost use Rattle.rh_state.specs.declared.status.Place.TheVariants.{Off, InRunnin
 ghost use Rattle.rh_state.specs.declared.status.Standing.TheVariants.{Running};
 ghost use Rattle.rh_settle.specs.declared.notice.Move.TheVariants.{Takeover};
 ghost use Rattle.rh_settle.specs.Course.{course};
+ghost use Rattle.rh_settle.specs.Ways.{Goes};
 ghost use Rattle.rh_settle.specs.Moves.{moved};
-ghost use Rattle.rh_settle.specs.Soundness.{IsSound};
-ghost use Rattle.rh_settle.specs.Validity.{RunsWhereItStands};
+ghost use Rattle.rh_settle.specs.Validity.{RunsWhereItStands, IsSound};
 ghost use Rattle.rh_events.specs.ByHand.{stopped, is_started_anywhere, quiet_if_nowhere, left_waiting, forbidden, permitted, taken_over, ends_node, exited};
 ghost use Rattle.rh_events.specs.Changes.{change};
 ghost use Rattle.rh_events.specs.declared.event.Event.TheVariants.{Stop};
@@ -22,11 +22,11 @@ use crate::marking::set_distributed_standing;
 use crate::readiness::cancel_if_set;
 use rh_base::OutOfMemory;
 use rh_model::{App, Node, Restart};
-use rh_settle::{Move, Notice, Trace, make_move};
+use rh_settle::{Move, Notice, Trace, make_move, recording};
 use rh_state::{Place, Standing, State, Timer};
 
 // An application that runs at a node stops there.
-#[tactic(auto, unfolding(crate::specs::ByHand::stopped))]
+#[tactic(auto, unfolding(crate::specs::ByHand::stopped), using(rh_settle::proofs::Ways::goes_none, rh_settle::proofs::Ways::goes_told, rh_settle::proofs::Ways::goes_more))]
 fn stop_running(
     state: &mut State,
     node: Node,
@@ -36,17 +36,18 @@ fn stop_running(
     requires node { IsNodeOf (read state.old).cluster node }
     requires app { IsAppOf (read state.old).cluster app }
     requires started { place_of (read state.old) node app ≢ Off }
-    ensures { OnOk result (course (read state.new) trace.new ≡ stopped (course (read state.old) trace.old) node app) }
+    ensures course { OnOk result (course (read state.new) trace.new ≡ stopped (course (read state.old) trace.old) node app) }
+    ensures way { Goes state.old trace.old state.new trace.new }
 {
     trace.tell(Notice::Stopped { app, node })?;
-    state.unlink(node, app);
-    set_distributed_standing(state, app, Standing::Quiet);
-    Ok(())
+    recording::unlink(state, node, app, trace)?;
+    set_distributed_standing(state, app, Standing::Quiet, trace)
 }
 
 // Is an application started at a node?
 fn is_started_at(state: &State, node: Node, app: App) -> bool
-    requires { IsNodeOf (read state.now).cluster node }
+    requires node { IsNodeOf (read state.now).cluster node }
+    requires app { IsAppOf (read state.now).cluster app }
     ensures { result ≡ is_started (read state.now) node app }
 {
     match state.place_of(node, app) {
@@ -58,6 +59,7 @@ fn is_started_at(state: &State, node: Node, app: App) -> bool
 // Is an application started at some node?
 #[tactic(auto, unfolding(crate::specs::ByHand::is_started_anywhere, rh_state::specs::Numbers::nodes_of))]
 fn is_started_anywhere(state: &State, app: App) -> bool
+    requires { IsAppOf (read state.now).cluster app }
     ensures { result ≡ is_started_anywhere (read state.now) app }
 {
     let count = state.cluster().node_count();
@@ -70,35 +72,47 @@ fn is_started_anywhere(state: &State, app: App) -> bool
 }
 
 // An application that is to run, but is started nowhere, is quiet.
-fn quieten_if_nowhere(state: &mut State, app: App)
+#[tactic(auto, using(rh_settle::proofs::Ways::goes_none, rh_settle::proofs::Ways::goes_more))]
+fn quieten_if_nowhere(state: &mut State, app: App, trace: &mut Trace) -> Result<(), OutOfMemory>
     requires { IsAppOf (read state.old).cluster app }
-    ensures { read state.new ≡ quiet_if_nowhere (read state.old) app (standing_of (read state.old) app) }
+    ensures part { OnOk result (read state.new ≡ quiet_if_nowhere (read state.old) app (standing_of (read state.old) app)) }
+    ensures told { trace.new.notices ≡ trace.old.notices }
+    ensures marked { trace.new.marked ≡ trace.old.marked }
+    ensures way { Goes state.old trace.old state.new trace.new }
 {
     match state.standing(app) {
         Standing::Wanted(_) | Standing::Lost(_) => {}
-        Standing::Quiet | Standing::Running(_) => return,
+        Standing::Quiet | Standing::Running(_) => return Ok(()),
     }
     if is_started_anywhere(state, app) {
-        return;
+        return Ok(());
     }
     if let Standing::Lost(_) = state.standing(app) {
-        state.set_standing(app, Standing::Quiet);
-        cancel_if_set(state, Timer::Failover(app));
+        recording::set_standing(state, app, Standing::Quiet, trace)?;
+        cancel_if_set(state, Timer::Failover(app), trace)
     } else {
-        state.set_standing(app, Standing::Quiet);
+        recording::set_standing(state, app, Standing::Quiet, trace)
     }
 }
 
 // An application that waits at a node is stopped there.
-#[tactic(auto, unfolding(crate::specs::ByHand::left_waiting))]
-fn leave_waiting(state: &mut State, node: Node, app: App)
+#[tactic(auto, unfolding(crate::specs::ByHand::left_waiting), using(rh_settle::proofs::Ways::goes_more))]
+fn leave_waiting(
+    state: &mut State,
+    node: Node,
+    app: App,
+    trace: &mut Trace,
+) -> Result<(), OutOfMemory>
     requires node { IsNodeOf (read state.old).cluster node }
     requires app { IsAppOf (read state.old).cluster app }
     requires started { place_of (read state.old) node app ≢ Off }
-    ensures { read state.new ≡ quiet_if_nowhere (unlisted (read state.old) node app) app (standing_of (read state.old) app) }
+    ensures part { OnOk result (read state.new ≡ quiet_if_nowhere (unlisted (read state.old) node app) app (standing_of (read state.old) app)) }
+    ensures told { trace.new.notices ≡ trace.old.notices }
+    ensures marked { trace.new.marked ≡ trace.old.marked }
+    ensures way { Goes state.old trace.old state.new trace.new }
 {
-    state.unlink(node, app);
-    quieten_if_nowhere(state, app);
+    recording::unlink(state, node, app, trace)?;
+    quieten_if_nowhere(state, app, trace)
 }
 
 /// An application that is started at a node is stopped there (application(3), `stop/1`).
@@ -107,30 +121,30 @@ pub fn stop(state: &mut State, node: Node, app: App, trace: &mut Trace) -> Resul
     requires node { IsNodeOf (read state.old).cluster node }
     requires app { IsAppOf (read state.old).cluster app }
     requires started { place_of (read state.old) node app ≢ Off }
-    ensures { OnOk result (course (read state.new) trace.new ≡ change (course (read state.old) trace.old) (Stop node app)) }
+    ensures course { OnOk result (course (read state.new) trace.new ≡ change (course (read state.old) trace.old) (Stop node app)) }
+    ensures way { Goes state.old trace.old state.new trace.new }
 {
     if state.place_of(node, app) == Place::InRunning {
         return stop_running(state, node, app, trace);
     }
-    leave_waiting(state, node, app);
-    Ok(())
+    leave_waiting(state, node, app, trace)
 }
 
 // An application that runs at a node may do so no longer: it stops there, waits, and is wanted.
-#[tactic(auto, unfolding(crate::specs::ByHand::forbidden))]
+#[tactic(auto, unfolding(crate::specs::ByHand::forbidden), using(rh_settle::proofs::Ways::goes_none, rh_settle::proofs::Ways::goes_told, rh_settle::proofs::Ways::goes_more))]
 fn forbid(state: &mut State, node: Node, app: App, trace: &mut Trace) -> Result<(), OutOfMemory>
     requires node { IsNodeOf (read state.old).cluster node }
     requires app { IsAppOf (read state.old).cluster app }
     requires started { place_of (read state.old) node app ≢ Off }
-    ensures { OnOk result (course (read state.new) trace.new ≡ forbidden (course (read state.old) trace.old) node app) }
+    ensures course { OnOk result (course (read state.new) trace.new ≡ forbidden (course (read state.old) trace.old) node app) }
+    ensures way { Goes state.old trace.old state.new trace.new }
 {
-    state.shape();
+    state.formed();
     trace.tell(Notice::Stopped { app, node })?;
-    state.set_allowed(node, app, false);
-    state.unlink(node, app);
-    state.push_waiting(node, app);
-    set_distributed_standing(state, app, Standing::Wanted(None));
-    Ok(())
+    recording::set_allowed(state, node, app, false, trace)?;
+    recording::unlink(state, node, app, trace)?;
+    recording::push_waiting(state, node, app, trace)?;
+    set_distributed_standing(state, app, Standing::Wanted(None), trace)
 }
 
 /// An application may run at a node from now on, or may not (application(3), `permit/2`).
@@ -144,31 +158,42 @@ pub fn permit(
 ) -> Result<(), OutOfMemory>
     requires node { IsNodeOf (read state.old).cluster node }
     requires app { IsAppOf (read state.old).cluster app }
-    ensures { OnOk result (course (read state.new) trace.new ≡ permitted (course (read state.old) trace.old) node app allow) }
+    ensures course { OnOk result (course (read state.new) trace.new ≡ permitted (course (read state.old) trace.old) node app allow) }
+    ensures way { Goes state.old trace.old state.new trace.new }
 {
     if !allow && state.allowed(node, app) && state.place_of(node, app) == Place::InRunning {
         return forbid(state, node, app, trace);
     }
-    state.set_allowed(node, app, allow);
-    Ok(())
+    recording::set_allowed(state, node, app, allow, trace)
 }
 
 // An application that isn't started at a node is started there, and waits.
-fn start_if_off(state: &mut State, node: Node, app: App)
+#[tactic(auto, using(rh_settle::proofs::Ways::goes_none))]
+fn start_if_off(
+    state: &mut State,
+    node: Node,
+    app: App,
+    trace: &mut Trace,
+) -> Result<(), OutOfMemory>
     requires node { IsNodeOf (read state.old).cluster node }
     requires app { IsAppOf (read state.old).cluster app }
-    ensures cluster { (read state.new).cluster ≡ (read state.old).cluster }
-    ensures running { (read state.new).running ≡ (read state.old).running }
-    ensures started { place_of (read state.new) node app ≢ Off }
-    ensures others { unlisted (read state.new) node app ≡ unlisted (read state.old) node app }
+    ensures cluster { OnOk result ((read state.new).cluster ≡ (read state.old).cluster) }
+    ensures running { OnOk result ((read state.new).running ≡ (read state.old).running) }
+    ensures started { OnOk result (place_of (read state.new) node app ≢ Off) }
+    ensures others { OnOk result (unlisted (read state.new) node app ≡ unlisted (read state.old) node app) }
+    ensures told { trace.new.notices ≡ trace.old.notices }
+    ensures marked { trace.new.marked ≡ trace.old.marked }
+    ensures way { Goes state.old trace.old state.new trace.new }
 {
-    state.shape();
+    state.formed();
     if state.place_of(node, app) == Place::Off {
-        state.push_waiting(node, app);
+        recording::push_waiting(state, node, app, trace)?;
     }
+    Ok(())
 }
 
 // An application that runs at a node moves to another.
+#[tactic(auto, using(rh_settle::proofs::Ways::goes_more))]
 fn move_by_hand(
     state: &mut State,
     app: App,
@@ -181,15 +206,16 @@ fn move_by_hand(
     requires from { IsNodeOf (read state.old).cluster from }
     requires other { from.0 ≢ node.0 }
     requires runs { runs_at (read state.old) from app ≡ true }
-    ensures { OnOk result (course (read state.new) trace.new ≡ moved (course (read state.old) trace.old) (Takeover app from node)) }
+    ensures course { OnOk result (course (read state.new) trace.new ≡ moved (course (read state.old) trace.old) (Takeover app from node)) }
+    ensures way { Goes state.old trace.old state.new trace.new }
 {
-    start_if_off(state, node, app);
+    start_if_off(state, node, app, trace)?;
     make_move(state, Move::Takeover { app, from, node }, trace)
 }
 
 /// A distributed application that runs elsewhere moves to a node, and has the given restart type there (application(3),
 /// `takeover/2`).
-#[tactic(auto, unfolding(crate::specs::ByHand::taken_over))]
+#[tactic(auto, unfolding(crate::specs::ByHand::taken_over), using(rh_settle::proofs::Ways::goes_none, rh_settle::proofs::Ways::goes_more))]
 pub fn take_over(
     state: &mut State,
     node: Node,
@@ -201,11 +227,12 @@ pub fn take_over(
     requires app { IsAppOf (read state.old).cluster app }
     requires elsewhere { (m : Node) → standing_of (read state.old) app ≡ Running m → m.0 ≢ node.0 }
     requires runs { RunsWhereItStands (read state.old) }
-    ensures { OnOk result (course (read state.new) trace.new ≡ taken_over (course (read state.old) trace.old) node app restart) }
+    ensures course { OnOk result (course (read state.new) trace.new ≡ taken_over (course (read state.old) trace.old) node app restart) }
+    ensures way { Goes state.old trace.old state.new trace.new }
 {
     match state.standing(app) {
         Standing::Running(from) => {
-            state.set_restart(node, app, restart);
+            recording::set_restart(state, node, app, restart, trace)?;
             move_by_hand(state, app, from, node, trace)
         }
         Standing::Quiet | Standing::Wanted(_) | Standing::Lost(_) => Ok(()),
@@ -236,7 +263,8 @@ pub fn exit(
     requires app { IsAppOf (read state.old).cluster app }
     requires runs { runs_at (read state.old) node app ≡ true }
     requires sound { IsSound (read state.old) }
-    ensures { OnOk result (course (read state.new) trace.new ≡ exited (course (read state.old) trace.old) node app normal) }
+    ensures course { OnOk result (course (read state.new) trace.new ≡ exited (course (read state.old) trace.old) node app normal) }
+    ensures way { Goes state.old trace.old state.new trace.new }
 {
     if ends_node(state.restart_of(node, app), normal) {
         end(state, node, trace)

@@ -3,7 +3,8 @@
 ghost use Rattle.std.specs.Prelude.{◌≡◌, None, OnOk};
 ghost use Rattle.rh_state.specs.Stored.{read};
 ghost use Rattle.rh_settle.specs.Course.{course};
-ghost use Rattle.rh_settle.specs.Soundness.{IsSound};
+ghost use Rattle.rh_settle.specs.Ways.{Goes};
+ghost use Rattle.rh_settle.specs.Validity.{IsSound};
 ghost use Rattle.rh_events.specs.Changes.{change};
 ghost use Rattle.rh_events.specs.Refusals.{refused};
 
@@ -17,17 +18,16 @@ use rh_settle::Trace;
 use rh_state::State;
 
 /// The change of an event that isn't refused, before nodes come up and applications settle. That of a tick is what its
-/// timers do, and none of it is made here. Where memory is refused, nothing is said of the state and the trace.
+/// timers do, and none of it is made here. Where memory is refused, the state is one on the way.
+#[tactic(auto, using(rh_settle::proofs::Ways::goes_none))]
 pub fn change(state: &mut State, event: &Event, trace: &mut Trace) -> Result<(), OutOfMemory>
     requires accepted { refused (read state.old) event.now ≡ None }
     requires sound { IsSound (read state.old) }
-    ensures { OnOk result (course (read state.new) trace.new ≡ change (course (read state.old) trace.old) event.now) }
+    ensures course { OnOk result (course (read state.new) trace.new ≡ change (course (read state.old) trace.old) event.now) }
+    ensures way { Goes state.old trace.old state.new trace.new }
 {
     match *event {
-        Event::Boot { node } => {
-            boot(state, node);
-            Ok(())
-        }
+        Event::Boot { node } => boot(state, node, trace),
         Event::Crash { node } => end(state, node, trace),
         Event::Tick { .. } => Ok(()),
         Event::Start { node, app, restart } => mark(state, node, app, restart, trace),

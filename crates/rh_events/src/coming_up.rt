@@ -5,36 +5,39 @@ ghost use Rattle.rh_state.specs.Shape.{IsNodeOf};
 ghost use Rattle.rh_state.specs.StateView.{running_at, waiting_at};
 ghost use Rattle.rh_state.specs.Stored.{read};
 ghost use Rattle.rh_settle.specs.Course.{course};
-ghost use Rattle.rh_settle.specs.Soundness.{IsSound};
+ghost use Rattle.rh_settle.specs.Ways.{Goes};
+ghost use Rattle.rh_settle.specs.Validity.{IsSound};
 ghost use Rattle.rh_events.specs.ComingUp.{come_up, come_up_if_ready, ready_come_up};
 
 use crate::marking::mark_booted;
 use crate::readiness::{cancel_if_set, is_ready};
 use rh_base::OutOfMemory;
 use rh_model::Node;
-use rh_settle::{Notice, Trace};
+use rh_settle::{Notice, Trace, recording};
 use rh_state::{Mode, State, Timer};
 
 /// A node at which nothing is started comes up, and what it boots is started.
-#[tactic(auto, unfolding(crate::specs::ComingUp::come_up))]
+#[tactic(auto, unfolding(crate::specs::ComingUp::come_up), using(rh_settle::proofs::Ways::goes_none, rh_settle::proofs::Ways::goes_told, rh_settle::proofs::Ways::goes_more))]
 pub fn come_up(state: &mut State, node: Node, trace: &mut Trace) -> Result<(), OutOfMemory>
     requires node { IsNodeOf (read state.old).cluster node }
     requires running { running_at (read state.old) node ≡ [] }
     requires waiting { waiting_at (read state.old) node ≡ [] }
-    ensures { OnOk result (course (read state.new) trace.new ≡ come_up (course (read state.old) trace.old) node) }
+    ensures course { OnOk result (course (read state.new) trace.new ≡ come_up (course (read state.old) trace.old) node) }
+    ensures way { Goes state.old trace.old state.new trace.new }
 {
     trace.tell(Notice::Up { node })?;
-    cancel_if_set(state, Timer::Sync(node));
-    state.set_mode(node, Mode::Up);
+    cancel_if_set(state, Timer::Sync(node), trace)?;
+    recording::set_mode(state, node, Mode::Up, trace)?;
     mark_booted(state, node, trace)
 }
 
 // The node comes up if it is ready.
-#[tactic(auto, unfolding(crate::specs::ComingUp::come_up_if_ready))]
+#[tactic(auto, unfolding(crate::specs::ComingUp::come_up_if_ready), using(rh_settle::proofs::Ways::goes_none))]
 fn let_come_up_if_ready(state: &mut State, node: Node, trace: &mut Trace) -> Result<(), OutOfMemory>
     requires node { IsNodeOf (read state.old).cluster node }
     requires sound { IsSound (read state.old) }
-    ensures { OnOk result (course (read state.new) trace.new ≡ come_up_if_ready (course (read state.old) trace.old) node) }
+    ensures course { OnOk result (course (read state.new) trace.new ≡ come_up_if_ready (course (read state.old) trace.old) node) }
+    ensures way { Goes state.old trace.old state.new trace.new }
 {
     if is_ready(state, node) {
         come_up(state, node, trace)?;
@@ -43,10 +46,11 @@ fn let_come_up_if_ready(state: &mut State, node: Node, trace: &mut Trace) -> Res
 }
 
 /// The ready nodes come up, in node order.
-#[tactic(auto, unfolding(crate::specs::ComingUp::ready_come_up, rh_state::specs::Numbers::nodes_of))]
+#[tactic(auto, unfolding(crate::specs::ComingUp::ready_come_up, rh_state::specs::Numbers::nodes_of), using(rh_settle::proofs::Ways::goes_none))]
 pub fn let_ready_come_up(state: &mut State, trace: &mut Trace) -> Result<(), OutOfMemory>
     requires { IsSound (read state.old) }
-    ensures { OnOk result (course (read state.new) trace.new ≡ ready_come_up (course (read state.old) trace.old)) }
+    ensures course { OnOk result (course (read state.new) trace.new ≡ ready_come_up (course (read state.old) trace.old)) }
+    ensures way { Goes state.old trace.old state.new trace.new }
 {
     let count = state.cluster().node_count();
     'nodes: for number in 0..count {

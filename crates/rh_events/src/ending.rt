@@ -1,20 +1,23 @@
 //! How a node ends.
 
 ghost use Rattle.std.specs.Prelude.{◌≡◌, ◌≤◌, ◌↔◌, [], true, IsNone, IfSome, OnOk};
+ghost use Rattle.rh_model.specs.ClusterView.{is_permitted};
 ghost use Rattle.rh_model.specs.declared.node.App.{App};
 ghost use Rattle.rh_model.specs.Limits.{timeout_limit};
 ghost use Rattle.rh_state.specs.Shape.{IsNodeOf, IsAppOf};
 ghost use Rattle.rh_state.specs.StateView.{running_at, waiting_at, is_started, standing_of, due_of};
+ghost use Rattle.rh_state.specs.Setters.{with_allowed};
 ghost use Rattle.rh_state.specs.Stored.{read};
 ghost use Rattle.rh_state.specs.declared.status.Standing.TheVariants.{Running};
 ghost use Rattle.rh_state.specs.declared.status.Timer.TheVariants.{Failover};
 ghost use Rattle.rh_settle.specs.Course.{course};
+ghost use Rattle.rh_settle.specs.Ways.{Goes};
 ghost use Rattle.rh_events.specs.Ending.{timeout_of, emptied, with_configured, cleared, lost_at, lost_if_ran, all_lost, ended};
 
 use crate::readiness::cancel_if_set;
 use rh_base::OutOfMemory;
 use rh_model::{App, Cluster, Node};
-use rh_settle::{Notice, Trace};
+use rh_settle::{Notice, Trace, recording};
 use rh_state::{Mode, Standing, State, Timer};
 
 // An application that is started at a node, if there is one.
@@ -22,6 +25,7 @@ fn first_started(state: &State, node: Node) -> Option<App>
     requires { IsNodeOf (read state.now).cluster node }
     ensures none { IsNone result ↔ ((running_at (read state.now) node ≡ []) × (waiting_at (read state.now) node ≡ [])) }
     ensures started { IfSome result (λ app. is_started (read state.now) node app ≡ true) }
+    ensures number { IfSome result (λ app. IsAppOf (read state.now).cluster app) }
 {
     match state.first_running(node) {
         Some(app) => Some(app),
@@ -30,39 +34,72 @@ fn first_started(state: &State, node: Node) -> Option<App>
 }
 
 // Each application that is started at a node leaves its list.
-fn empty(state: &mut State, node: Node)
+#[tactic(auto, using(rh_settle::proofs::Ways::goes_none, rh_settle::proofs::Ways::goes_more))]
+fn empty(state: &mut State, node: Node, trace: &mut Trace) -> Result<(), OutOfMemory>
     requires { IsNodeOf (read state.old).cluster node }
-    ensures { read state.new ≡ emptied (read state.old) node }
+    ensures part { OnOk result (read state.new ≡ emptied (read state.old) node) }
+    ensures told { trace.new.notices ≡ trace.old.notices }
+    ensures marked { trace.new.marked ≡ trace.old.marked }
+    ensures way { Goes state.old trace.old state.new trace.new }
 {
     'started: while let Some(app) = first_started(state, node) {
-        state.unlink(node, app);
+        recording::unlink(state, node, app, trace)?;
     }
+    Ok(())
+}
+
+// An application may run at a node as configured. What is so already isn't set again.
+#[tactic(auto, using(rh_settle::proofs::Ways::goes_none))]
+fn configure_app(
+    state: &mut State,
+    node: Node,
+    app: App,
+    trace: &mut Trace,
+) -> Result<(), OutOfMemory>
+    requires node { IsNodeOf (read state.old).cluster node }
+    requires app { IsAppOf (read state.old).cluster app }
+    ensures part { OnOk result (read state.new ≡ with_allowed (read state.old) node app (is_permitted (read state.old).cluster node app)) }
+    ensures told { trace.new.notices ≡ trace.old.notices }
+    ensures marked { trace.new.marked ≡ trace.old.marked }
+    ensures way { Goes state.old trace.old state.new trace.new }
+{
+    let allow = state.cluster().permitted(node, app);
+    if state.allowed(node, app) != allow {
+        recording::set_allowed(state, node, app, allow, trace)?;
+    }
+    Ok(())
 }
 
 // What may run at a node is as configured again (kernel(6), `permissions`).
-fn configure(state: &mut State, node: Node)
+#[tactic(auto, using(rh_settle::proofs::Ways::goes_none, rh_settle::proofs::Ways::goes_more))]
+fn configure(state: &mut State, node: Node, trace: &mut Trace) -> Result<(), OutOfMemory>
     requires { IsNodeOf (read state.old).cluster node }
-    ensures { read state.new ≡ with_configured (read state.old) node }
+    ensures part { OnOk result (read state.new ≡ with_configured (read state.old) node) }
+    ensures told { trace.new.notices ≡ trace.old.notices }
+    ensures marked { trace.new.marked ≡ trace.old.marked }
+    ensures way { Goes state.old trace.old state.new trace.new }
 {
-    state.shape();
+    state.formed();
     let count = state.cluster().app_count();
     'apps: for number in 0..count {
-        let app = App(number as u8);
-        let allow = state.cluster().permitted(node, app);
-        state.set_allowed(node, app, allow);
+        configure_app(state, node, App(number as u8), trace)?;
     }
+    Ok(())
 }
 
 // A node is down: nothing is started there, it waits no longer, and its permissions are as configured.
-#[tactic(auto, unfolding(crate::specs::Ending::cleared))]
-fn clear(state: &mut State, node: Node)
+#[tactic(auto, unfolding(crate::specs::Ending::cleared), using(rh_settle::proofs::Ways::goes_more))]
+fn clear(state: &mut State, node: Node, trace: &mut Trace) -> Result<(), OutOfMemory>
     requires { IsNodeOf (read state.old).cluster node }
-    ensures { read state.new ≡ cleared (read state.old) node }
+    ensures part { OnOk result (read state.new ≡ cleared (read state.old) node) }
+    ensures told { trace.new.notices ≡ trace.old.notices }
+    ensures marked { trace.new.marked ≡ trace.old.marked }
+    ensures way { Goes state.old trace.old state.new trace.new }
 {
-    cancel_if_set(state, Timer::Sync(node));
-    empty(state, node);
-    configure(state, node);
-    state.set_mode(node, Mode::Down);
+    cancel_if_set(state, Timer::Sync(node), trace)?;
+    empty(state, node, trace)?;
+    configure(state, node, trace)?;
+    recording::set_mode(state, node, Mode::Down, trace)
 }
 
 // How long an application's other nodes wait for one that was lost (kernel(6), `distributed`), in milliseconds.
@@ -79,58 +116,73 @@ fn timeout_of(cluster: &Cluster, app: App) -> u64
 }
 
 // An application that ran at a node that ended is lost until its timeout, or wanted at once where that is 0.
-fn lose_at(state: &mut State, node: Node, app: App)
+#[tactic(auto, using(rh_settle::proofs::Ways::goes_more))]
+fn lose_at(state: &mut State, node: Node, app: App, trace: &mut Trace) -> Result<(), OutOfMemory>
     requires node { IsNodeOf (read state.old).cluster node }
     requires app { IsAppOf (read state.old).cluster app }
     requires unset { IsNone (due_of (read state.old) (Failover app)) }
-    ensures { read state.new ≡ lost_at (read state.old) node app }
+    ensures part { OnOk result (read state.new ≡ lost_at (read state.old) node app) }
+    ensures told { trace.new.notices ≡ trace.old.notices }
+    ensures marked { trace.new.marked ≡ trace.old.marked }
+    ensures way { Goes state.old trace.old state.new trace.new }
 {
     let timeout = timeout_of(state.cluster(), app);
     if timeout == 0 {
-        state.set_standing(app, Standing::Wanted(Some(node)));
-        return;
+        return recording::set_standing(state, app, Standing::Wanted(Some(node)), trace);
     }
     let due = state.now() + timeout;
-    state.set_standing(app, Standing::Lost(node));
-    state.arm_timer(Timer::Failover(app), due);
+    recording::set_standing(state, app, Standing::Lost(node), trace)?;
+    recording::arm_timer(state, Timer::Failover(app), due, trace)
 }
 
 // An application is lost so if it stands as running at the node.
-#[tactic(auto, unfolding(crate::specs::Ending::lost_if_ran))]
-fn lose_if_ran(state: &mut State, node: Node, app: App)
+#[tactic(auto, unfolding(crate::specs::Ending::lost_if_ran), using(rh_settle::proofs::Ways::goes_none))]
+fn lose_if_ran(
+    state: &mut State,
+    node: Node,
+    app: App,
+    trace: &mut Trace,
+) -> Result<(), OutOfMemory>
     requires node { IsNodeOf (read state.old).cluster node }
     requires app { IsAppOf (read state.old).cluster app }
     requires unset { standing_of (read state.old) app ≡ Running node → IsNone (due_of (read state.old) (Failover app)) }
-    ensures { read state.new ≡ lost_if_ran node (read state.old) app }
+    ensures part { OnOk result (read state.new ≡ lost_if_ran node (read state.old) app) }
+    ensures told { trace.new.notices ≡ trace.old.notices }
+    ensures marked { trace.new.marked ≡ trace.old.marked }
+    ensures way { Goes state.old trace.old state.new trace.new }
 {
     match state.standing(app) {
-        Standing::Running(other) if other.0 == node.0 => lose_at(state, node, app),
-        _ => {}
+        Standing::Running(other) if other.0 == node.0 => lose_at(state, node, app, trace),
+        _ => Ok(()),
     }
 }
 
 // Each application that stands as running at the node is lost so, in order.
-#[tactic(auto, unfolding(crate::specs::Ending::all_lost, rh_state::specs::Numbers::apps_of))]
-fn lose_all(state: &mut State, node: Node)
+#[tactic(auto, unfolding(crate::specs::Ending::all_lost, rh_state::specs::Numbers::apps_of), using(rh_settle::proofs::Ways::goes_none, rh_settle::proofs::Ways::goes_more))]
+fn lose_all(state: &mut State, node: Node, trace: &mut Trace) -> Result<(), OutOfMemory>
     requires node { IsNodeOf (read state.old).cluster node }
     requires unset { (a : App) → standing_of (read state.old) a ≡ Running node → IsNone (due_of (read state.old) (Failover a)) }
-    ensures { read state.new ≡ all_lost (read state.old) node }
+    ensures part { OnOk result (read state.new ≡ all_lost (read state.old) node) }
+    ensures told { trace.new.notices ≡ trace.old.notices }
+    ensures marked { trace.new.marked ≡ trace.old.marked }
+    ensures way { Goes state.old trace.old state.new trace.new }
 {
     let count = state.cluster().app_count();
     'apps: for number in 0..count {
-        lose_if_ran(state, node, App(number as u8));
+        lose_if_ran(state, node, App(number as u8), trace)?;
     }
+    Ok(())
 }
 
 /// A node ends (Distributed Applications, "Failover"): nothing is started there any more, and what ran there is lost.
-#[tactic(auto, unfolding(crate::specs::Ending::ended))]
+#[tactic(auto, unfolding(crate::specs::Ending::ended), using(rh_settle::proofs::Ways::goes_told, rh_settle::proofs::Ways::goes_more))]
 pub fn end(state: &mut State, node: Node, trace: &mut Trace) -> Result<(), OutOfMemory>
     requires node { IsNodeOf (read state.old).cluster node }
     requires unset { (a : App) → standing_of (read state.old) a ≡ Running node → IsNone (due_of (read state.old) (Failover a)) }
-    ensures { OnOk result (course (read state.new) trace.new ≡ ended (course (read state.old) trace.old) node) }
+    ensures course { OnOk result (course (read state.new) trace.new ≡ ended (course (read state.old) trace.old) node) }
+    ensures way { Goes state.old trace.old state.new trace.new }
 {
     trace.tell(Notice::Ended { node })?;
-    clear(state, node);
-    lose_all(state, node);
-    Ok(())
+    clear(state, node, trace)?;
+    lose_all(state, node, trace)
 }

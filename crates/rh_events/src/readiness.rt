@@ -1,28 +1,36 @@
 //! Which nodes are alive, and which are ready.
 
-ghost use Rattle.std.specs.Prelude.{◌≡◌, ◌++◌};
+ghost use Rattle.std.specs.Prelude.{◌≡◌, ◌++◌, OnOk};
 ghost use Rattle.rh_model.specs.ClusterView.{mandatory_of, optional_of};
 ghost use Rattle.rh_state.specs.StateView.{is_alive, mode_of};
 ghost use Rattle.rh_state.specs.Setters.{without_due};
 ghost use Rattle.rh_state.specs.Shape.{IsNodeOf, IsTimerOf};
 ghost use Rattle.rh_state.specs.Stored.{read};
-ghost use Rattle.rh_events.specs.Readiness.{all_alive, is_ready};
+ghost use Rattle.rh_settle.specs.Ways.{Goes};
+ghost use Rattle.rh_settle.specs.Readiness.{all_alive, is_ready};
 
+use rh_base::OutOfMemory;
 use rh_model::{Node, SyncWait};
+use rh_settle::{Trace, recording};
 use rh_state::{Mode, State, Timer};
 
 /// Cancels a timer, if it is set.
-pub fn cancel_if_set(state: &mut State, timer: Timer)
+#[tactic(auto, using(rh_settle::proofs::Ways::goes_none))]
+pub fn cancel_if_set(state: &mut State, timer: Timer, trace: &mut Trace) -> Result<(), OutOfMemory>
     requires { IsTimerOf (read state.old).cluster timer }
-    ensures { read state.new ≡ without_due (read state.old) timer }
+    ensures part { OnOk result (read state.new ≡ without_due (read state.old) timer) }
+    ensures told { trace.new.notices ≡ trace.old.notices }
+    ensures marked { trace.new.marked ≡ trace.old.marked }
+    ensures way { Goes state.old trace.old state.new trace.new }
 {
     if state.due_of(timer).is_some() {
-        state.cancel_timer(timer);
+        recording::cancel_timer(state, timer, trace)?;
     }
+    Ok(())
 }
 
 /// Are these nodes alive?
-#[tactic(auto, unfolding(crate::specs::Readiness::all_alive))]
+#[tactic(auto, unfolding(rh_settle::specs::Readiness::all_alive))]
 pub fn all_alive(state: &State, nodes: &[Node]) -> bool
     ensures { result ≡ all_alive (read state.now) nodes.now }
 {
@@ -33,7 +41,7 @@ pub fn all_alive(state: &State, nodes: &[Node]) -> bool
 fn is_alive(state: &State, node: Node) -> bool
     ensures { result ≡ is_alive (mode_of (read state.now) node) }
 {
-    state.shape();
+    state.formed();
     if node.0 as usize >= state.cluster().node_count() {
         return false;
     }
@@ -45,7 +53,7 @@ fn is_alive(state: &State, node: Node) -> bool
 
 /// Is a node ready to come up (kernel(6), sync_nodes_mandatory, sync_nodes_optional, sync_nodes_timeout)? It is if it waits, and
 /// either none of its mandatory and optional nodes is missing or it awaits none.
-#[tactic(auto, unfolding(crate::specs::Readiness::is_ready))]
+#[tactic(auto, unfolding(rh_settle::specs::Readiness::is_ready))]
 pub fn is_ready(state: &State, node: Node) -> bool
     requires { IsNodeOf (read state.now).cluster node }
     ensures { result ≡ is_ready (read state.now) node }

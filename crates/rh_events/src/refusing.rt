@@ -9,7 +9,8 @@ ghost use Rattle.rh_place.specs.Placing.{missing_dep};
 ghost use Rattle.rh_events.specs.declared.event.Event.TheVariants.{Boot, Crash, Tick, Start, Stop, Permit, Takeover, Exit};
 ghost use Rattle.rh_events.specs.declared.refusal.Refusal.{Refusal};
 ghost use Rattle.rh_events.specs.declared.refusal.Refusal.TheVariants.{NotRunning, RunsHere};
-ghost use Rattle.rh_events.specs.Refusals.{refused, tests_by_hand, first_that_applies, dep_tests, stands_running, stands_running_at};
+ghost use Rattle.rh_events.specs.Refusals.{refused, tests_by_hand, first_that_applies, dep_tests};
+ghost use Rattle.rh_state.specs.Standings.{is_running, is_running_at};
 
 use crate::event::Event;
 use crate::refusal::Refusal;
@@ -162,7 +163,7 @@ fn permit_refusal(state: &State, node: Node, app: App, allow: bool) -> Option<Re
 
 // Why it can't be taken over by the node from where it stands.
 fn standing_refusal(node: Node, standing: Standing) -> Option<Refusal>
-    ensures { (others : List (Bool × Refusal)) → first_that_applies ((not (stands_running standing), NotRunning) ∷ (stands_running_at node standing, RunsHere) ∷ others) ≡ option_or result (first_that_applies others) }
+    ensures { (others : List (Bool × Refusal)) → first_that_applies ((not (is_running standing), NotRunning) ∷ (is_running_at node standing, RunsHere) ∷ others) ≡ option_or result (first_that_applies others) }
 {
     match standing {
         Standing::Running(from) if from.0 == node.0 => Some(Refusal::RunsHere),

@@ -1,5 +1,5 @@
 -- The words of a term tell which term it is.
-use Rattle.std.proofs.Common.{◌≡◌, List, [], ◌++◌, length, sym, ap, ◌∙◌, append_assoc, arith}
+use Rattle.std.proofs.Common.{◌≡◌, List, [], ◌++◌, length, refl, sym, ap, ◌∙◌, append_assoc, arith}
 use Rattle.rh_base.specs.Tree.{Tree, Trees, atom, int, text, list, tuple, none, more, list_of_trees}
 use Rattle.rh_model.specs.TermSymbols.{TermSymbol, symbols_of, symbols_of_all}
 
@@ -26,3 +26,23 @@ mutual
 -- equal words are of equal terms
 pub symbols_told : (t u : Tree) → symbols_of t ≡ symbols_of u → t ≡ u
 symbols_told t u e = (same_front t u [] [] (ap (λ ws. ws ++ []) e)).0
+
+abbrev none_yet : List TermSymbol
+none_yet = []
+
+-- a term has a symbol at least
+some_symbol : (u : Tree) (s : List TermSymbol) → none_yet ≡ symbols_of u ++ s → ⊥
+some_symbol (atom a) s e = cc
+some_symbol (int n) s e = cc
+some_symbol (text a) s e = cc
+some_symbol (list ts) s e = cc
+some_symbol (tuple ts) s e = cc
+
+-- equal words of lists are of equal lists
+pub all_told : (ts us : Trees) → symbols_of_all ts ≡ symbols_of_all us → ts ≡ us
+all_told none none e = refl
+all_told none (more u us) e = absurd (some_symbol u (symbols_of_all us) e)
+all_told (more t ts) none e = absurd (some_symbol t (symbols_of_all ts) (sym e))
+all_told (more t ts) (more u us) e =
+    let first = same_front t u (symbols_of_all ts) (symbols_of_all us) e in
+    cc (first.0, all_told ts us first.1)

@@ -13,7 +13,8 @@ use Rattle.rh_model.specs.declared.settings.SyncWait.{SyncWait}
 use Rattle.rh_model.specs.declared.settings.SyncWait.TheVariants.{Unset}
 use Rattle.rh_model.specs.declared.settings.Spread.{Spread}
 use Rattle.rh_model.specs.TermSymbols.{TermSymbol}
-use Rattle.rh_model.specs.Limits.{timeout_limit}
+use Rattle.rh_model.specs.declared.limits.TheConstants.{MAX_NODES, MAX_APPS, MAX_PLATFORMS}
+use Rattle.rh_model.specs.Limits.{timeout_limit, IsWithinLimit}
 
 -- what a cluster file says of one node; permissions by application, platforms by platform name
 pub record NodeView : Type 0 where
@@ -123,13 +124,22 @@ abbrev pub is_listed_at : ClusterView → App → Node → Bool
 is_listed_at c a n = is_none (spread_of c a) || is_some (group_of c a n)
 
 -- The lists of a cluster fit together: there are parts for each name, as many tests as what they are of, and each
--- number is that of a node, of an application or of a platform name of the cluster. What a node boots, it boots once,
--- and may start; and each timeout of `distributed` is within its limit.
+-- number is that of a node, of an application or of a platform name of the cluster. There are 1 to 32 nodes, and at most
+-- 64 applications and 256 platform names, and no two of a kind have one name. What a node boots, it boots once, and may
+-- start; and each wait and each timeout of `distributed` is within the limit.
 pub record IsWithin (c : ClusterView) : Type 0 where
+  pub some_node : 1 ≤ node_count c
+  pub few_nodes : node_count c ≤ MAX_NODES
+  pub few_apps : app_count c ≤ MAX_APPS
+  pub few_platforms : length c.platform_names ≤ MAX_PLATFORMS
+  pub node_names : AllPairs (λ (name later : List ℕ). name ≢ later) c.node_names
+  pub app_names : AllPairs (λ (name later : List ℕ). name ≢ later) c.app_names
+  pub platform_names : AllPairs (λ (name later : List ℕ). name ≢ later) c.platform_names
   pub nodes : length c.nodes ≡ node_count c
   pub apps : length c.apps ≡ app_count c
   pub mandatory : (n : Node) → All (λ (m : Node). m.0 < node_count c) (mandatory_of c n)
   pub optional : (n : Node) → All (λ (m : Node). m.0 < node_count c) (optional_of c n)
+  pub sync_wait : (n : Node) → IsWithinLimit (sync_wait_of c n)
   pub boot : (n : Node) → All (λ (e : App × Restart). e.0.0 < app_count c) (boot_of c n)
   pub boot_once : (n : Node) → AllPairs (λ (e later : App × Restart). e.0.0 ≢ later.0.0) (boot_of c n)
   pub boot_listed : (n : Node) → All (λ (e : App × Restart). is_listed_at c e.0 n ≡ true) (boot_of c n)

@@ -76,9 +76,9 @@ impl Cluster {
         Cluster { names, nodes, apps }
     }
 
-    /// The lists of each cluster fit together, and each number in them is one of the cluster's; a node boots no
-    /// application twice, and none that doesn't list it; timeouts are within their limit. (It does nothing: its
-    /// contract is what it is for.)
+    /// The lists of each cluster fit together, and each number in them is one of the cluster's; names are few, and
+    /// those of a kind differ; a node boots no application twice, and none that doesn't list it; waits and timeouts
+    /// are within their limit. (It does nothing: its contract is what it is for.)
     pub fn is_within(&self)
         ensures { IsWithin self.now }
     {

@@ -4,6 +4,7 @@
 mod app_settings;
 mod cluster;
 mod groups;
+mod laws;
 mod limits;
 mod name_set;
 mod names;
@@ -15,6 +16,7 @@ mod settings;
 pub use app_settings::{AppSettings, Start, copy_of_spread, copy_of_start};
 pub use cluster::Cluster;
 pub use groups::{Group, Groups, is_in};
+pub use laws::symbols_tell_terms;
 pub use limits::{MAX_APPS, MAX_NODES, MAX_PLATFORMS, TIMEOUT_LIMIT};
 pub use name_set::NameSet;
 pub use names::Names;

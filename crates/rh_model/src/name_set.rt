@@ -1,6 +1,6 @@
 //! Names in the order in which they were met, each once.
 
-ghost use Rattle.std.specs.Prelude.{◌≡◌, ◌↔◌, ◌<◌, [], ◌∷◌, ◌++◌, false, length, position, slice_get, Some, IfOk, IfSome, OnOk, IsTrue};
+ghost use Rattle.std.specs.Prelude.{◌≡◌, ◌↔◌, ◌<◌, [], ◌∷◌, ◌++◌, false, length, position, slice_get, Some, IfOk, IfSome, OnOk, OnErr, IsTrue};
 ghost use Rattle.std.specs.List.{list_any};
 ghost use Rattle.std.specs.Str.{bytes_eq};
 
@@ -68,13 +68,14 @@ impl NameSet {
     /// Adds a name that isn't there.
     pub fn add(&mut self, alloc: Global, name: &str) -> Result<(), OutOfMemory>
         requires { list_any (bytes_eq name.now) self.old ≡ false }
-        ensures { OnOk result (self.new ≡ self.old ++ name.now ∷ []) }
+        ensures added { OnOk result (self.new ≡ self.old ++ name.now ∷ []) }
+        ensures kept { OnErr result (self.new ≡ self.old) }
     {
         self.names.insert(String::from_str(alloc, name)?)?;
         Ok(())
     }
 
-    /// The same names in memory of their own.
+    /// The same names in memory of their own. A set keeps the allocator that it was made with, so none is lent here.
     pub fn copy(&self) -> Result<NameSet, OutOfMemory>
         ensures { IfOk result (λ copy. copy ≡ self.now) }
     {

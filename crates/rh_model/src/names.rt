@@ -109,7 +109,7 @@ impl Names {
         Some(App(index as u8))
     }
 
-    /// The same names in memory of their own.
+    /// The same names in memory of their own, from the allocators that the sets were made with.
     pub fn copy(&self) -> Result<Names, OutOfMemory>
         ensures { IfOk result (λ copy. copy ≡ self.now) }
     {

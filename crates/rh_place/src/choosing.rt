@@ -72,7 +72,7 @@ fn operational_nodes(state: &State, app: App) -> NodeSet
     requires { app.0 < app_count (read state.now).cluster }
     ensures { (n : Node) → has result n ≡ is_operational (read state.now) app n }
 {
-    state.shape();
+    state.formed();
     let mut nodes = NodeSet::empty();
     'nodes: for number in 0..state.cluster().node_count() {
         let node = Node(number as u8);

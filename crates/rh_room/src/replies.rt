@@ -1,8 +1,9 @@
 //! The reply to a call, once for the log, once for the pass and once for the caller.
 
-ghost use Rattle.std.specs.Prelude.{◌≡◌, IfOk, OnErr};
+ghost use Rattle.std.specs.Prelude.{◌≡◌, true, IfOk, OnErr};
 ghost use Rattle.rh_trail.specs.declared.call.Call.TheVariants as call;
 ghost use Rattle.rh_trail.specs.declared.call.Reply.TheVariants as reply;
+ghost use Rattle.rh_trail.specs.Laws.{is_refusal};
 ghost use Rattle.rh_trail.specs.Lone.{served, answered};
 
 use rh_base::OutOfMemory;
@@ -23,6 +24,7 @@ pub fn replies_to(alloc: Global, sim: &mut Sim, call: Call) -> Result<Replies, O
     ensures logged { IfOk result (λ r. served sim.old.seen call ≡ answered r.logged sim.new.seen) }
     ensures kept { IfOk result (λ r. r.kept ≡ r.logged) }
     ensures told { IfOk result (λ r. r.told ≡ r.logged) }
+    ensures refused { IfOk result (λ r. is_refusal r.logged ≡ true → sim.new ≡ sim.old) }
     ensures same { OnErr result (sim.new ≡ sim.old) }
 {
     match call {
@@ -40,6 +42,7 @@ fn step(alloc: Global, sim: &mut Sim, event: Event) -> Result<Replies, OutOfMemo
     ensures logged { IfOk result (λ r. served sim.old.seen (call.Step event) ≡ answered r.logged sim.new.seen) }
     ensures kept { IfOk result (λ r. r.kept ≡ r.logged) }
     ensures told { IfOk result (λ r. r.told ≡ r.logged) }
+    ensures refused { IfOk result (λ r. is_refusal r.logged ≡ true → sim.new ≡ sim.old) }
     ensures same { OnErr result (sim.new ≡ sim.old) }
 {
     match sim.step_copies(alloc, event, 3) {
@@ -74,6 +77,7 @@ fn refused(refusal: Refusal) -> Replies
 // Takes the last step back.
 fn undo(sim: &mut Sim) -> Replies
     ensures logged { served sim.old.seen call.Undo ≡ answered result.logged sim.new.seen }
+    ensures refused { is_refusal result.logged ≡ true → sim.new ≡ sim.old }
     ensures kept { result.kept ≡ result.logged }
     ensures told { result.told ≡ result.logged }
 {
@@ -94,6 +98,7 @@ fn undo(sim: &mut Sim) -> Replies
 // Makes the next step again.
 fn redo(sim: &mut Sim) -> Replies
     ensures logged { served sim.old.seen call.Redo ≡ answered result.logged sim.new.seen }
+    ensures refused { is_refusal result.logged ≡ true → sim.new ≡ sim.old }
     ensures kept { result.kept ≡ result.logged }
     ensures told { result.told ≡ result.logged }
 {

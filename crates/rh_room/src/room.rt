@@ -1,9 +1,9 @@
 //! The room.
 
-ghost use Rattle.std.specs.Prelude.{◌≡◌, ◌<◌, ◌↔◌, ◌++◌, ◌∷◌, [], IsTrue, length, IfOk, IfErr, OnOk, OnErr};
+ghost use Rattle.std.specs.Prelude.{◌≡◌, ◌<◌, ◌↔◌, ◌++◌, ◌∷◌, [], IsTrue, true, length, IfOk, IfErr, OnOk, OnErr};
 ghost use Rattle.std.specs.Option.{option_map};
 ghost use Rattle.rh_trail.specs.Lone.{served, opened};
-ghost use Rattle.rh_trail.specs.Laws.{IsReversible};
+ghost use Rattle.rh_trail.specs.Laws.{IsReversible, is_refusal};
 ghost use Rattle.rh_room.specs.Legal.{IsSession, IsRoom, entry, session_limit, log_limit};
 ghost use Rattle.rh_room.specs.Serving.{last_of, place_of, IsPassOf, receipt_of, WhyNot};
 
@@ -114,6 +114,7 @@ impl Room {
     ) -> Result<Receipt, RoomFault>
         ensures receipt { IfOk result (λ receipt. receipt ≡ receipt_of self.old call) }
         ensures sim { OnOk result (self.new.sim.seen ≡ (served self.old.sim.seen call).sim) }
+        ensures whole { IfOk result (λ receipt. is_refusal receipt.reply ≡ true → self.new.sim ≡ self.old.sim) }
         ensures sessions { self.new.sessions ≡ self.old.sessions }
         ensures log { IfOk result (λ receipt. self.new.log ≡ self.old.log ++ entry pass.old.session call receipt.reply ∷ []) }
         ensures session { pass.new.session ≡ pass.old.session }
@@ -146,6 +147,7 @@ impl Room {
         requires room { length self.old.log < log_limit }
         ensures receipt { IfOk result (λ receipt. receipt ≡ receipt_of self.old call) }
         ensures sim { OnOk result (self.new.sim.seen ≡ (served self.old.sim.seen call).sim) }
+        ensures whole { IfOk result (λ receipt. is_refusal receipt.reply ≡ true → self.new.sim ≡ self.old.sim) }
         ensures sessions { self.new.sessions ≡ self.old.sessions }
         ensures log { IfOk result (λ receipt. self.new.log ≡ self.old.log ++ entry pass.old.session call receipt.reply ∷ []) }
         ensures session { pass.new.session ≡ pass.old.session }

@@ -35,10 +35,20 @@ abbrev pub first : List ClusterFault → Option ClusterFault
 first [] = None
 first (f ∷ fs) = Some f
 
+-- What a test that takes no memory returned is the first of these faults.
+abbrev pub FindsFirst : {X : Type 0} → Result X ClusterFault → List ClusterFault → Type 0
+FindsFirst (Ok x) faults = faults ≡ []
+FindsFirst (Err f) faults = first faults ≡ Some f
+
 -- What a test returned is the first of these faults, unless memory ran out.
 abbrev pub Finds : {X : Type 0} → Result X ClusterFault → List ClusterFault → Type 0
 Finds (Ok x) faults = faults ≡ []
 Finds (Err f) faults = f ≢ fault.OutOfMemory → first faults ≡ Some f
+
+-- Want of memory is told only where there is none of these faults.
+abbrev pub WantsLast : {X : Type 0} → Result X ClusterFault → List ClusterFault → Type 0
+WantsLast (Ok x) faults = Unit {0}
+WantsLast (Err f) faults = f ≡ fault.OutOfMemory → faults ≡ []
 
 -- What a reader returned, seen by view, is this, unless memory ran out.
 abbrev pub Gives : {X Y : Type 0} → (X → Y) → Result X ClusterFault → Result Y ClusterFault → Type 0

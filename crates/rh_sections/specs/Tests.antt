@@ -5,25 +5,39 @@ use Rattle.std.specs.Fn.{Shared}
 use Rattle.rh_base.specs.declared.term.Term.{Term}
 use Rattle.rh_base.specs.Tree.{Tree, tree_of}
 use Rattle.rh_sections.specs.declared.fault.ClusterFault.{ClusterFault}
-use Rattle.rh_sections.specs.Faults.{Finds}
+use Rattle.rh_sections.specs.Faults.{Finds, FindsFirst}
 
 -- what a test returns
 abbrev pub Found : Type 0
 Found = Result (Unit {0}) ClusterFault
 
--- the test finds the first of the faults that a term has behind earlier ones
+-- the test finds the first of the faults that a term has behind earlier ones, unless memory runs out
 abbrev pub FindsOfEach : {F : Type 0} → Shared F (Bor (List Term) × (Bor Term × Unit {0})) Found
     → F → (List Tree → Tree → List ClusterFault) → Type 0
 FindsOfEach calls test faults =
     (earlier : Bor (List Term)) (t : Bor Term) (r : Found) → calls.post test (earlier, (t, tt)) r
     → Finds r (faults (map tree_of earlier.now) (tree_of t.now))
 
--- the test finds the first of the faults that the value of a key has
+-- the same of a test that takes no memory
+abbrev pub FindsFirstOfEach : {F : Type 0} → Shared F (Bor (List Term) × (Bor Term × Unit {0})) Found
+    → F → (List Tree → Tree → List ClusterFault) → Type 0
+FindsFirstOfEach calls test faults =
+    (earlier : Bor (List Term)) (t : Bor Term) (r : Found) → calls.post test (earlier, (t, tt)) r
+    → FindsFirst r (faults (map tree_of earlier.now) (tree_of t.now))
+
+-- the test finds the first of the faults that the value of a key has, unless memory runs out
 abbrev pub FindsOfValues : {F : Type 0} → Shared F (Bor (List ℕ) × (Bor Term × Unit {0})) Found
     → F → (List ℕ → Tree → List ClusterFault) → Type 0
 FindsOfValues calls test faults =
     (key : Bor (List ℕ)) (v : Bor Term) (r : Found) → calls.post test (key, (v, tt)) r
     → Finds r (faults key.now (tree_of v.now))
+
+-- the same of a test that takes no memory
+abbrev pub FindsFirstOfValues : {F : Type 0} → Shared F (Bor (List ℕ) × (Bor Term × Unit {0})) Found
+    → F → (List ℕ → Tree → List ClusterFault) → Type 0
+FindsFirstOfValues calls test faults =
+    (key : Bor (List ℕ)) (v : Bor Term) (r : Found) → calls.post test (key, (v, tt)) r
+    → FindsFirst r (faults key.now (tree_of v.now))
 
 -- the test tells whether a key is read
 abbrev pub TellsKeys : {F : Type 0} → Shared F (Bor (List ℕ) × Unit {0}) Bool → F → (List ℕ → Bool) → Type 0

@@ -2,7 +2,7 @@
 
 ghost use Rattle.std.specs.Prelude.{◌≡◌, ◌++◌, map, flat_map};
 ghost use Rattle.rh_base.specs.Tree.{tree_of};
-ghost use Rattle.rh_sections.specs.Faults.{Finds, in_turn};
+ghost use Rattle.rh_sections.specs.Faults.{FindsFirst, in_turn};
 ghost use Rattle.rh_model.specs.Names.{is_among};
 ghost use Rattle.rh_sections.specs.Shapes.{atoms};
 ghost use Rattle.rh_sections.specs.Sections.{node_name_faults, members, desc_faults};
@@ -54,7 +54,7 @@ fn check_member(
     earlier: &[Term],
     term: &Term,
 ) -> Result<(), ClusterFault>
-    ensures { Finds result (node_name_faults names.now (flat_map members (map tree_of before.now) ++ map tree_of earlier.now) (tree_of term.now)) }
+    ensures { FindsFirst result (node_name_faults names.now (flat_map members (map tree_of before.now) ++ map tree_of earlier.now) (tree_of term.now)) }
 {
     let name = shapes::atom(term).ok_or(ClusterFault::BadValue)?;
     let is_repeated = is_named_before(name, before, earlier);
@@ -63,7 +63,7 @@ fn check_member(
 
 // Tests a group, behind the groups before.
 fn check_group(names: &Names, before: &[Term], group: &Term) -> Result<(), ClusterFault>
-    ensures { Finds result (in_turn (node_name_faults names.now) (flat_map members (map tree_of before.now)) (members (tree_of group.now))) }
+    ensures { FindsFirst result (in_turn (node_name_faults names.now) (flat_map members (map tree_of before.now)) (members (tree_of group.now))) }
 {
     check_each(members(group), |earlier, term| {
         check_member(names, before, earlier, term)
@@ -73,7 +73,7 @@ fn check_group(names: &Names, before: &[Term], group: &Term) -> Result<(), Clust
 /// Tests a list of groups.
 #[tactic(auto, unfolding(crate::specs::Sections::desc_faults))]
 pub fn check_description(names: &Names, value: &Term) -> Result<(), ClusterFault>
-    ensures { Finds result (desc_faults names.now (tree_of value.now)) }
+    ensures { FindsFirst result (desc_faults names.now (tree_of value.now)) }
 {
     let Some(groups) = shapes::list(value) else {
         return Err(ClusterFault::BadValue);

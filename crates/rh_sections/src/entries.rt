@@ -3,8 +3,8 @@
 ghost use Rattle.std.specs.Prelude.{◌≡◌, map};
 ghost use Rattle.std.specs.List.{list_any};
 ghost use Rattle.rh_base.specs.Tree.{tree_of};
-ghost use Rattle.rh_sections.specs.Faults.{Finds, list_faults};
-ghost use Rattle.rh_sections.specs.Tests.{FindsOfValues, TellsKeys};
+ghost use Rattle.rh_sections.specs.Faults.{Finds, FindsFirst, list_faults};
+ghost use Rattle.rh_sections.specs.Tests.{FindsOfValues, FindsFirstOfValues, TellsKeys};
 ghost use Rattle.rh_sections.specs.Sections.{has_key, entry_faults};
 
 use crate::fault::ClusterFault;
@@ -43,7 +43,8 @@ fn check_entry<R: Fn(&str) -> bool, V: Fn(&str, &Term) -> Result<(), ClusterFaul
 ) -> Result<(), ClusterFault>
     requires keys { R.IsAlwaysCallable is_read.now }
     requires values { V.IsAlwaysCallable check_value.now }
-    ensures { (reads : _) (faults : _) → TellsKeys R.Fn is_read.now reads → FindsOfValues V.Fn check_value.now faults → Finds result (entry_faults reads faults (map tree_of earlier.now) (tree_of term.now)) }
+    ensures finds { (reads : _) (faults : _) → TellsKeys R.Fn is_read.now reads → FindsOfValues V.Fn check_value.now faults → Finds result (entry_faults reads faults (map tree_of earlier.now) (tree_of term.now)) }
+    ensures exact { (reads : _) (faults : _) → TellsKeys R.Fn is_read.now reads → FindsFirstOfValues V.Fn check_value.now faults → FindsFirst result (entry_faults reads faults (map tree_of earlier.now) (tree_of term.now)) }
 {
     let (key, value) = shapes::entry(term).ok_or(ClusterFault::BadValue)?;
     if is_read(key) && repeats_key(key, earlier) {
@@ -61,7 +62,8 @@ pub fn check_entries<R: Fn(&str) -> bool, V: Fn(&str, &Term) -> Result<(), Clust
 ) -> Result<(), ClusterFault>
     requires keys { R.IsAlwaysCallable is_read }
     requires values { V.IsAlwaysCallable check_value }
-    ensures { (reads : _) (faults : _) → TellsKeys R.Fn is_read reads → FindsOfValues V.Fn check_value faults → Finds result (list_faults (entry_faults reads faults) (tree_of value.now)) }
+    ensures finds { (reads : _) (faults : _) → TellsKeys R.Fn is_read reads → FindsOfValues V.Fn check_value faults → Finds result (list_faults (entry_faults reads faults) (tree_of value.now)) }
+    ensures exact { (reads : _) (faults : _) → TellsKeys R.Fn is_read reads → FindsFirstOfValues V.Fn check_value faults → FindsFirst result (list_faults (entry_faults reads faults) (tree_of value.now)) }
 {
     check_list(value, |earlier, term| {
         check_entry(earlier, term, &is_read, &check_value)

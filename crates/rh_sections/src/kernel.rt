@@ -3,7 +3,7 @@
 ghost use Rattle.std.specs.Prelude.{◌≡◌, map, IfSome};
 ghost use Rattle.std.specs.Option.{option_map};
 ghost use Rattle.rh_base.specs.Tree.{tree_of};
-ghost use Rattle.rh_sections.specs.Faults.{Finds};
+ghost use Rattle.rh_sections.specs.Faults.{FindsFirst};
 ghost use Rattle.rh_model.specs.Limits.{IsWithinLimit};
 ghost use Rattle.rh_model.specs.Names.{is_among};
 ghost use Rattle.rh_sections.specs.Sections.{as_share, time_faults, share_faults, as_truth, permission_faults, as_sync_wait, kernel_keys, kernel_faults, entries_faults};
@@ -65,7 +65,7 @@ pub fn sync_wait(term: &Term) -> Option<SyncWait>
 // Tests an entry of `permissions`, behind earlier entries.
 #[tactic(auto, unfolding(crate::specs::Sections::permission_faults))]
 fn check_permission(names: &Names, earlier: &[Term], term: &Term) -> Result<(), ClusterFault>
-    ensures { Finds result (permission_faults names.now (map tree_of earlier.now) (tree_of term.now)) }
+    ensures { FindsFirst result (permission_faults names.now (map tree_of earlier.now) (tree_of term.now)) }
 {
     check_pair(names, earlier, term, |value| truth(value).is_some())
 }
@@ -73,7 +73,7 @@ fn check_permission(names: &Names, earlier: &[Term], term: &Term) -> Result<(), 
 // Tests an entry of `distributed`, behind earlier entries.
 #[tactic(auto, unfolding(crate::specs::Sections::share_faults))]
 fn check_share(names: &Names, earlier: &[Term], term: &Term) -> Result<(), ClusterFault>
-    ensures { Finds result (share_faults names.now (map tree_of earlier.now) (tree_of term.now)) }
+    ensures { FindsFirst result (share_faults names.now (map tree_of earlier.now) (tree_of term.now)) }
 {
     let (app, timeout, groups) = share(term).ok_or(ClusterFault::BadValue)?;
     check_app_name(names, earlier, app)?;
@@ -83,7 +83,7 @@ fn check_share(names: &Names, earlier: &[Term], term: &Term) -> Result<(), Clust
 
 // Tests the timeout of an entry of `distributed`, if it has one.
 fn check_timeout(timeout: Option<&Term>) -> Result<(), ClusterFault>
-    ensures { Finds result (time_faults (option_map (λ t. tree_of t.now) timeout.entry)) }
+    ensures { FindsFirst result (time_faults (option_map (λ t. tree_of t.now) timeout.entry)) }
 {
     match timeout {
         Some(term) => check_shape(shapes::time(term).is_some()),
@@ -105,7 +105,7 @@ fn is_kernel_key(key: &str) -> bool
 // Tests the value of a parameter.
 #[tactic(auto, unfolding(crate::specs::Sections::kernel_faults))]
 fn check_kernel_value(names: &Names, key: &str, value: &Term) -> Result<(), ClusterFault>
-    ensures { Finds result (kernel_faults names.now key.now (tree_of value.now)) }
+    ensures { FindsFirst result (kernel_faults names.now key.now (tree_of value.now)) }
 {
     if key == "distributed" {
         check_list(value, |earlier, term| check_share(names, earlier, term))
@@ -126,7 +126,7 @@ fn check_kernel_value(names: &Names, key: &str, value: &Term) -> Result<(), Clus
 
 /// Tests the section `kernel`.
 pub fn check_kernel(names: &Names, value: &Term) -> Result<(), ClusterFault>
-    ensures { Finds result (entries_faults kernel_keys (kernel_faults names.now) (tree_of value.now)) }
+    ensures { FindsFirst result (entries_faults kernel_keys (kernel_faults names.now) (tree_of value.now)) }
 {
     check_entries(value, is_kernel_key, |key, value| {
         check_kernel_value(names, key, value)

@@ -3,7 +3,7 @@
 ghost use Rattle.std.specs.Prelude.{◌≡◌, [], ◌∷◌, ◌++◌, map, is_some, OnOk};
 ghost use Rattle.std.specs.List.{list_all};
 ghost use Rattle.rh_base.specs.Tree.{tree_of};
-ghost use Rattle.rh_sections.specs.Faults.{Finds};
+ghost use Rattle.rh_sections.specs.Faults.{Finds, WantsLast};
 ghost use Rattle.rh_model.specs.Names.{is_among};
 ghost use Rattle.rh_sections.specs.Shapes.{atoms, as_entry};
 ghost use Rattle.rh_sections.specs.Sections.{dep_faults, deps_faults, is_start, are_phases, app_keys, key_faults, entries_faults};
@@ -28,6 +28,7 @@ fn check_dep(
     term: &Term,
 ) -> Result<(), ClusterFault>
     ensures faults { Finds result (dep_faults names.now platforms.now own.now earlier.old (tree_of term.now)) }
+    ensures last { WantsLast result (dep_faults names.now platforms.now own.now earlier.old (tree_of term.now)) }
     ensures earlier { OnOk result (earlier.new ≡ earlier.old ++ atoms (tree_of term.now ∷ [])) }
 {
     let name = shapes::atom(term).ok_or(ClusterFault::BadValue)?;

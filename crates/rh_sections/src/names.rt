@@ -3,7 +3,7 @@
 ghost use Rattle.std.specs.Prelude.{◌≡◌, map, filter_map};
 ghost use Rattle.std.specs.Option.{option_map};
 ghost use Rattle.rh_base.specs.Tree.{tree_of};
-ghost use Rattle.rh_sections.specs.Faults.{Finds};
+ghost use Rattle.rh_sections.specs.Faults.{FindsFirst};
 ghost use Rattle.rh_sections.specs.Tests.{TellsValues};
 ghost use Rattle.rh_model.specs.Names.{is_among};
 ghost use Rattle.rh_sections.specs.Shapes.{atoms};
@@ -54,7 +54,7 @@ fn repeats_app(name: &str, earlier: &[Term]) -> bool
 /// Tests the name that stands in a value.
 #[tactic(auto, unfolding(crate::specs::Sections::word_faults))]
 pub fn check_word(name: &str, is_known: bool, is_repeated: bool) -> Result<(), ClusterFault>
-    ensures { Finds result (word_faults name.now is_known is_repeated) }
+    ensures { FindsFirst result (word_faults name.now is_known is_repeated) }
 {
     if !is_name(name) {
         return Err(ClusterFault::BadName);
@@ -71,7 +71,7 @@ pub fn check_word(name: &str, is_known: bool, is_repeated: bool) -> Result<(), C
 /// Tests a node's name in a list of them.
 #[tactic(auto, unfolding(crate::specs::Sections::node_name_faults, crate::specs::Sections::name_faults))]
 pub fn check_node_name(names: &Names, earlier: &[Term], term: &Term) -> Result<(), ClusterFault>
-    ensures { Finds result (node_name_faults names.now (map tree_of earlier.now) (tree_of term.now)) }
+    ensures { FindsFirst result (node_name_faults names.now (map tree_of earlier.now) (tree_of term.now)) }
 {
     let name = shapes::atom(term).ok_or(ClusterFault::BadValue)?;
     check_word(name, names.has_node(name), repeats_atom(name, earlier))
@@ -80,7 +80,7 @@ pub fn check_node_name(names: &Names, earlier: &[Term], term: &Term) -> Result<(
 /// Tests the name of an application at the front of an entry, behind earlier entries.
 #[tactic(auto, unfolding(crate::specs::Sections::app_name_faults, crate::specs::Sections::name_faults))]
 pub fn check_app_name(names: &Names, earlier: &[Term], term: &Term) -> Result<(), ClusterFault>
-    ensures { Finds result (app_name_faults names.now (map tree_of earlier.now) (tree_of term.now)) }
+    ensures { FindsFirst result (app_name_faults names.now (map tree_of earlier.now) (tree_of term.now)) }
 {
     let name = shapes::atom(term).ok_or(ClusterFault::BadValue)?;
     check_word(name, names.has_app(name), repeats_app(name, earlier))
@@ -94,7 +94,7 @@ pub fn check_pair<F: Fn(&Term) -> bool>(
     is_value: F,
 ) -> Result<(), ClusterFault>
     requires { F.IsAlwaysCallable is_value }
-    ensures { (values : _) → TellsValues F.Fn is_value values → Finds result (pair_faults names.now values (map tree_of earlier.now) (tree_of term.now)) }
+    ensures { (values : _) → TellsValues F.Fn is_value values → FindsFirst result (pair_faults names.now values (map tree_of earlier.now) (tree_of term.now)) }
 {
     let (app, value) = shapes::pair(term).ok_or(ClusterFault::BadValue)?;
     check_app_name(names, earlier, app)?;

@@ -2,7 +2,7 @@
 
 ghost use Rattle.std.specs.Prelude.{◌≡◌, map};
 ghost use Rattle.rh_base.specs.Tree.{tree_of};
-ghost use Rattle.rh_sections.specs.Faults.{Finds};
+ghost use Rattle.rh_sections.specs.Faults.{FindsFirst};
 ghost use Rattle.rh_model.specs.Names.{is_among};
 ghost use Rattle.rh_sections.specs.Sections.{as_restart, boot_faults, platform_faults, rehearse_keys, rehearse_faults, entries_faults};
 
@@ -34,7 +34,7 @@ pub fn restart(term: &Term) -> Option<Restart>
 // Tests an entry of `boot`, behind earlier entries.
 #[tactic(auto, unfolding(crate::specs::Sections::boot_faults))]
 fn check_boot_entry(names: &Names, earlier: &[Term], term: &Term) -> Result<(), ClusterFault>
-    ensures { Finds result (boot_faults names.now (map tree_of earlier.now) (tree_of term.now)) }
+    ensures { FindsFirst result (boot_faults names.now (map tree_of earlier.now) (tree_of term.now)) }
 {
     check_pair(names, earlier, term, |value| restart(value).is_some())
 }
@@ -42,7 +42,7 @@ fn check_boot_entry(names: &Names, earlier: &[Term], term: &Term) -> Result<(), 
 // Tests a platform name, behind earlier ones of its list.
 #[tactic(auto, unfolding(crate::specs::Sections::platform_faults, crate::specs::Sections::name_faults))]
 fn check_platform_name(names: &Names, earlier: &[Term], term: &Term) -> Result<(), ClusterFault>
-    ensures { Finds result (platform_faults names.now (map tree_of earlier.now) (tree_of term.now)) }
+    ensures { FindsFirst result (platform_faults names.now (map tree_of earlier.now) (tree_of term.now)) }
 {
     let name = shapes::atom(term).ok_or(ClusterFault::BadValue)?;
     check_word(name, true, repeats_atom(name, earlier))?;
@@ -65,7 +65,7 @@ fn is_rehearse_key(key: &str) -> bool
 // Tests the value of a parameter.
 #[tactic(auto, unfolding(crate::specs::Sections::rehearse_faults))]
 fn check_rehearse_value(names: &Names, key: &str, value: &Term) -> Result<(), ClusterFault>
-    ensures { Finds result (rehearse_faults names.now key.now (tree_of value.now)) }
+    ensures { FindsFirst result (rehearse_faults names.now key.now (tree_of value.now)) }
 {
     if key == "boot" {
         check_list(value, |earlier, term| {
@@ -82,7 +82,7 @@ fn check_rehearse_value(names: &Names, key: &str, value: &Term) -> Result<(), Cl
 
 /// Tests the section `rehearse`.
 pub fn check_rehearse(names: &Names, value: &Term) -> Result<(), ClusterFault>
-    ensures { Finds result (entries_faults rehearse_keys (rehearse_faults names.now) (tree_of value.now)) }
+    ensures { FindsFirst result (entries_faults rehearse_keys (rehearse_faults names.now) (tree_of value.now)) }
 {
     check_entries(value, is_rehearse_key, |key, value| {
         check_rehearse_value(names, key, value)

@@ -2,7 +2,7 @@
 
 ghost use Rattle.std.specs.Prelude.{◌≡◌, map};
 ghost use Rattle.rh_base.specs.Tree.{tree_of};
-ghost use Rattle.rh_sections.specs.Faults.{Finds};
+ghost use Rattle.rh_sections.specs.Faults.{Finds, FindsFirst};
 ghost use Rattle.rh_model.specs.Names.{is_among};
 ghost use Rattle.rh_sections.specs.Sections.{section_keys, section_faults, entries_faults, parts_faults, parts_stage};
 
@@ -20,7 +20,7 @@ use std::alloc::Global;
 // Tests what a section holds.
 #[tactic(auto, unfolding(crate::specs::Sections::section_faults))]
 fn check_section_value(names: &Names, key: &str, value: &Term) -> Result<(), ClusterFault>
-    ensures { Finds result (section_faults names.now key.now (tree_of value.now)) }
+    ensures { FindsFirst result (section_faults names.now key.now (tree_of value.now)) }
 {
     if key == "kernel" {
         check_kernel(names, value)
@@ -40,7 +40,7 @@ fn is_section_key(key: &str) -> bool
 
 // Tests the configuration of a node.
 fn check_sections(names: &Names, value: &Term) -> Result<(), ClusterFault>
-    ensures { Finds result (entries_faults section_keys (section_faults names.now) (tree_of value.now)) }
+    ensures { FindsFirst result (entries_faults section_keys (section_faults names.now) (tree_of value.now)) }
 {
     check_entries(value, is_section_key, |key, value| {
         check_section_value(names, key, value)

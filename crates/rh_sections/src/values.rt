@@ -2,9 +2,9 @@
 
 ghost use Rattle.std.specs.Prelude.{[], map, not};
 ghost use Rattle.rh_base.specs.Tree.{tree_of};
-ghost use Rattle.rh_sections.specs.Faults.{Finds, when, in_turn, list_faults};
+ghost use Rattle.rh_sections.specs.Faults.{Finds, FindsFirst, when, in_turn, list_faults};
 ghost use Rattle.rh_sections.specs.declared.fault.ClusterFault.TheVariants as cluster;
-ghost use Rattle.rh_sections.specs.Tests.{FindsOfEach};
+ghost use Rattle.rh_sections.specs.Tests.{FindsOfEach, FindsFirstOfEach};
 
 use crate::fault::ClusterFault;
 use crate::shapes;
@@ -12,7 +12,7 @@ use rh_base::Term;
 
 /// Tests a value, of which it is known whether its shape is right.
 pub fn check_shape(is_right: bool) -> Result<(), ClusterFault>
-    ensures { Finds result (when (not is_right) cluster.BadValue) }
+    ensures { FindsFirst result (when (not is_right) cluster.BadValue) }
 {
     if is_right {
         Ok(())
@@ -28,7 +28,8 @@ pub fn check_each<F: Fn(&[Term], &Term) -> Result<(), ClusterFault>>(
     test: F,
 ) -> Result<(), ClusterFault>
     requires { F.IsAlwaysCallable test }
-    ensures { (faults : _) → FindsOfEach F.Fn test faults → Finds result (in_turn faults [] (map tree_of terms.now)) }
+    ensures finds { (faults : _) → FindsOfEach F.Fn test faults → Finds result (in_turn faults [] (map tree_of terms.now)) }
+    ensures exact { (faults : _) → FindsFirstOfEach F.Fn test faults → FindsFirst result (in_turn faults [] (map tree_of terms.now)) }
 {
     for (index, term) in terms.iter().enumerate() {
         test(&terms[..index], term)?;
@@ -43,7 +44,8 @@ pub fn check_list<F: Fn(&[Term], &Term) -> Result<(), ClusterFault>>(
     test: F,
 ) -> Result<(), ClusterFault>
     requires { F.IsAlwaysCallable test }
-    ensures { (faults : _) → FindsOfEach F.Fn test faults → Finds result (list_faults faults (tree_of value.now)) }
+    ensures finds { (faults : _) → FindsOfEach F.Fn test faults → Finds result (list_faults faults (tree_of value.now)) }
+    ensures exact { (faults : _) → FindsFirstOfEach F.Fn test faults → FindsFirst result (list_faults faults (tree_of value.now)) }
 {
     match shapes::list(value) {
         Some(terms) => check_each(terms, test),

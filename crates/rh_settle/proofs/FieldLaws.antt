@@ -17,7 +17,7 @@ use Rattle.rh_settle.specs.declared.notice.Pair.{Pair}
 use Rattle.rh_settle.specs.Course.{is_fresh}
 use Rattle.rh_settle.specs.Moves.{is_local, comes_before, next_moves}
 use Rattle.rh_settle.specs.Enabled.{IsBest}
-use Rattle.rh_settle.specs.Soundness.{IsSound}
+use Rattle.rh_settle.specs.Validity.{IsSound}
 use Rattle.rh_settle.proofs.Kept.{same_running}
 use Rattle.rh_settle.proofs.Firsts.{every_in, empty_of}
 use Rattle.rh_settle.proofs.Best.{each_best}

@@ -12,14 +12,14 @@ use Rattle.rh_state.specs.declared.status.Standing.TheVariants.{Quiet, Wanted, R
 use Rattle.rh_state.specs.Numbers.{same_app}
 use Rattle.rh_state.specs.Tables.{row}
 use Rattle.rh_state.specs.Lists.{without_app}
-use Rattle.rh_state.specs.Shape.{IsShaped, IsNodeOf, IsStandingOf}
+use Rattle.rh_state.specs.Shape.{IsShaped, IsNodeOf, IsStandingOf, OnceAtEachNode}
 use Rattle.rh_state.specs.StateView.{StateView, runs_at, waits_at, standing_of}
 use Rattle.rh_state.specs.Setters.{unlisted, with_running, with_waiting}
 use Rattle.rh_base.proofs.Lists.{cases}
 use Rattle.rh_settle.specs.declared.notice.Move.{Move}
 use Rattle.rh_settle.specs.declared.notice.Move.TheVariants.{Local, Placement, Takeover}
-use Rattle.rh_settle.specs.Moves.{comes_before, with_started, with_stopped, moved_state}
-use Rattle.rh_settle.specs.Validity.{RunsWhereItStands, OnceAtEachNode, CanBeMade}
+use Rattle.rh_settle.specs.Moves.{comes_before, with_started, with_stopped, moved_state, CanBeMade}
+use Rattle.rh_settle.specs.Validity.{RunsWhereItStands}
 use Rattle.rh_settle.proofs.Places.{at_set_here, at_set_there, or_left, or_right, started_on}
 use Rattle.rh_settle.proofs.Entries.{same_number, other_number, is_false, both, taken, put, has, taken_has, taken_not, taken_keeps, there, put_has, put_keeps}
 use Rattle.rh_settle.proofs.Entries.{put_gives, once_taken, once_put, row_there, length_taken, length_put}

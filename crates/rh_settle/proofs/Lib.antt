@@ -1,4 +1,5 @@
 pub mod Every
+pub mod Ways
 pub mod Firsts
 pub mod Sums
 pub mod Searches

@@ -2,9 +2,12 @@
 use Rattle.std.proofs.Common.{◌≡◌, ◌≢◌, ◌<◌, ◌||◌, ℕ, suc, true, false, cond, Option, Some, None, List, [], ◌∷◌, length, slice_get, All, AllPairs, IfSome, refl}
 use Rattle.std.proofs.Common.{sym, ap, ◌∙◌, arith, subst}
 use Rattle.rh_model.specs.declared.node.App.{App}
+use Rattle.rh_model.specs.declared.node.Node.{Node}
 use Rattle.rh_model.specs.ClusterView.{app_numbered}
 use Rattle.rh_state.specs.Numbers.{same_app}
 use Rattle.rh_state.specs.Lists.{has_app, next_app}
+use Rattle.rh_state.specs.Shape.{OnceAtEachNode}
+use Rattle.rh_state.specs.StateView.{StateView, running_at, waiting_at, runs_at, waits_at, next_in_list}
 use Rattle.rh_base.proofs.Lists.{cases}
 use Rattle.rh_base.specs.Lists.{or_else, first_given}
 use Rattle.rh_settle.proofs.Entries.{both, same_number}
@@ -108,3 +111,10 @@ shorter_walk apps a once h = let e = ap length (left_more apps a once h) in omeg
 pub is_in_list : (P : App → Type 0) (next : Option App) (a : App) → IfSome next P → next ≡ Some a → P a
 is_in_list P None a h e = cc
 is_in_list P (Some b) a h e = subst P (same_some b a e) h
+
+-- ---- the lists of a node
+pub behind_running : (s : StateView) (n : Node) (a : App) → runs_at s n a ≡ true → next_in_list s n a ≡ next_app (running_at s n) a
+behind_running s n a h = ap (λ b. cond b (next_app (running_at s n) a) (next_app (waiting_at s n) a)) h
+
+pub behind_waiting : (s : StateView) (n : Node) (a : App) → OnceAtEachNode s → waits_at s n a ≡ true → next_in_list s n a ≡ next_app (waiting_at s n) a
+behind_waiting s n a once h = ap (λ b. cond b (next_app (running_at s n) a) (next_app (waiting_at s n) a)) (once.apart n a h)

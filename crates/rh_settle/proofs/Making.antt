@@ -1,18 +1,21 @@
 -- One turn of settling.
-use Rattle.std.proofs.Common.{◌≡◌, ◌<◌, [], Some, None, sym, ap, ◌∙◌, arith, subst}
+use Rattle.std.proofs.Common.{◌≡◌, ◌<◌, ◌+◌, ℕ, List, [], Some, None, length, get_or, take, fold, sym, ap, ◌∙◌, arith, subst}
+use Rattle.std.proofs.lemmas.List.Sums.{fold_more}
 use Rattle.rh_state.specs.Shape.{IsShaped}
 use Rattle.rh_place.specs.declared.choosing.Pick.{Pick}
 use Rattle.rh_place.specs.Picks.{picked}
 use Rattle.rh_settle.specs.declared.notice.Move.{Move}
+use Rattle.rh_settle.specs.declared.notice.Pair.{Pair}
 use Rattle.rh_settle.specs.Course.{Course}
-use Rattle.rh_settle.specs.Moves.{moved, moved_state}
-use Rattle.rh_settle.specs.Settling.{nexts, all_moved}
-use Rattle.rh_settle.specs.Validity.{RunsWhereItStands, OnceAtEachNode, CanBeMade}
+use Rattle.rh_settle.specs.Moves.{moved, moved_state, CanBeMade}
+use Rattle.rh_settle.specs.Settling.{nexts, all_moved, tell_waiting}
+use Rattle.rh_settle.specs.Validity.{RunsWhereItStands}
 use Rattle.rh_settle.proofs.Searches.{none_picked}
 use Rattle.rh_settle.proofs.Points.{points}
+use Rattle.rh_settle.proofs.Unchanged.{tell_marked}
 use Rattle.rh_settle.proofs.Falls.{Progresses}
-use Rattle.rh_settle.proofs.Fuel.{state_moved, cluster_moved, progress, falls_next, unrolled, ended}
-use Rattle.rh_settle.proofs.Kept.{can_be_made, once_moved, runs_moved}
+use Rattle.rh_settle.proofs.Fuel.{state_moved, progress, falls_next, unrolled, ended}
+use Rattle.rh_settle.proofs.Kept.{can_be_made, runs_moved}
 
 module _ (o : Course) (pick : Pick) (m : Move) (shape : IsShaped o.state) (next : Some m ≡ picked pick (nexts o)) where
   known : Progresses o.state m
@@ -33,15 +36,21 @@ module _ (o : Course) (pick : Pick) (m : Move) (shape : IsShaped o.state) (next 
     pub same : all_moved pick p ≡ all_moved pick o
     same = ap (all_moved pick) made ∙ sym (unrolled pick o m shape (sym next))
 
-    pub same_cluster : p.state.cluster ≡ o.state.cluster
-    same_cluster = ap (λ (q : Course). q.state.cluster) made ∙ cluster_moved o m
-
     pub runs_still : RunsWhereItStands o.state → RunsWhereItStands p.state
     runs_still runs = subst RunsWhereItStands (sym is_moved) (runs_moved o.state shape m known runs)
-
-    pub once_still : RunsWhereItStands o.state → OnceAtEachNode o.state → OnceAtEachNode p.state
-    once_still runs once = subst OnceAtEachNode (sym is_moved) (once_moved o.state shape runs m known once)
 
 -- the end
 pub none_left : (o : Course) (pick : Pick) → None ≡ picked pick (nexts o) → (all_moved pick o ≡ o) × (nexts o ≡ [])
 none_left o pick h = (ended pick o (sym h), none_picked pick (nexts o) (sym h))
+
+-- one marked pair more is told, if it waits
+module _ (first o p : Course) (seen : List Pair) (i : ℕ) (d : Pair) (is : seen ≡ first.marked) (made : p ≡ tell_waiting o (get_or seen i d)) where
+  pub one_told : i < length first.marked → o ≡ fold tell_waiting first (take i first.marked) → p ≡ fold tell_waiting first (take (i + 1) first.marked)
+  one_told lt same =
+      made
+      ∙ ap (λ (ps : List Pair). tell_waiting o (get_or ps i d)) is
+      ∙ ap (λ (q : Course). tell_waiting q (get_or first.marked i d)) same
+      ∙ sym (fold_more tell_waiting first first.marked i d lt)
+
+  pub same_marks : o.marked ≡ first.marked → p.marked ≡ first.marked
+  same_marks same = ap (λ (q : Course). q.marked) made ∙ tell_marked o (get_or seen i d) ∙ same

@@ -16,8 +16,8 @@ use Rattle.rh_base.proofs.Lists.{cases}
 use Rattle.rh_settle.specs.declared.notice.Move.{Move}
 use Rattle.rh_settle.specs.declared.notice.Move.TheVariants.{Local, Placement, Takeover}
 use Rattle.rh_settle.specs.Moves.{is_local, with_started, with_stopped, moved_state}
-use Rattle.rh_settle.specs.Validity.{RunsWhereItStands}
-use Rattle.rh_settle.specs.Soundness.{IdleUnlessUp, StandsWhereItRuns, TimersFit, IsSound, is_lost}
+use Rattle.rh_settle.specs.Validity.{RunsWhereItStands, IdleUnlessUp, StandsWhereItRuns, TimersFit, IsSound}
+use Rattle.rh_state.specs.Standings.{is_lost}
 use Rattle.rh_settle.proofs.Places.{at_set, at_set_here, at_set_there, or_left, or_right}
 use Rattle.rh_settle.proofs.Entries.{taken, put, has, taken_has, taken_not, put_has, either, both, same_number, other_number, row_there, length_taken}
 use Rattle.rh_settle.proofs.Entries.{length_put}

@@ -10,7 +10,7 @@ use Rattle.rh_settle.specs.Course.{Course}
 use Rattle.rh_settle.specs.Moves.{next_moves, moved}
 use Rattle.rh_settle.specs.Enabled.{IsEnabled}
 use Rattle.rh_settle.specs.Settling.{nexts, AreNext, settled, Settles}
-use Rattle.rh_settle.specs.Soundness.{IsSound}
+use Rattle.rh_settle.specs.Validity.{IsSound}
 use Rattle.rh_settle.proofs.Entries.{both}
 use Rattle.rh_settle.proofs.NextFirsts.{still_if_none_enabled}
 use Rattle.rh_settle.proofs.NextMoves.{all_called, progresses}

@@ -20,7 +20,7 @@ tell_state o p = by (waits_at o.state p.node p.app)
     by true = refl
     by false = refl
 
-tell_marked : (o : Course) (p : Pair) → (tell_waiting o p).marked ≡ o.marked
+pub tell_marked : (o : Course) (p : Pair) → (tell_waiting o p).marked ≡ o.marked
 tell_marked o p = by (waits_at o.state p.node p.app)
   where
     by : (b : Bool) → (cond b (told o (notice.Waits p.app p.node)) o).marked ≡ o.marked

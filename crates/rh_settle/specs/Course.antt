@@ -3,17 +3,21 @@ use Rattle.std.specs.Prelude.{List, [], ◌∷◌, ◌++◌, Bool, ◌&&◌, ◌
 use Rattle.std.specs.List.{list_any}
 use Rattle.rh_model.specs.declared.node.Node.{Node}
 use Rattle.rh_model.specs.declared.node.App.{App}
+use Rattle.rh_model.specs.ClusterView.{ClusterView}
+use Rattle.rh_state.specs.declared.edit.Edit.{Edit}
+use Rattle.rh_state.specs.Shape.{IsNodeOf, IsAppOf}
 use Rattle.rh_state.specs.StateView.{StateView}
 use Rattle.rh_settle.specs.declared.notice.Notice.{Notice}
 use Rattle.rh_settle.specs.declared.notice.Pair.{Pair}
 
--- what was told, and which pairs were marked
+-- what was told, which pairs were marked, and what was changed
 pub record TraceView : Type 0 where
   pub notices : List Notice
   pub marked : List Pair
+  pub edits : List Edit
 
-abbrev pub trace_of : List Notice → List Pair → TraceView
-trace_of notices marked = record { notices = notices; marked = marked }
+abbrev pub trace_of : List Notice → List Pair → List Edit → TraceView
+trace_of notices marked edits = record { notices = notices; marked = marked; edits = edits }
 
 pub record Course : Type 0 where
   pub state : StateView
@@ -36,3 +40,8 @@ now_in o s = record o { state = s }
 -- a pair is fresh if the event has marked it
 abbrev pub is_fresh : List Pair → Node → App → Bool
 is_fresh marked n a = list_any (λ (p : Pair). (n.0 == p.node.0) && (a.0 == p.app.0)) marked
+
+-- the node and the application of a pair are the cluster's
+pub record IsPairOf (c : ClusterView) (p : Pair) : Type 0 where
+  pub node : IsNodeOf c p.node
+  pub app : IsAppOf c p.app

@@ -15,7 +15,7 @@ use Rattle.rh_settle.specs.Course.{Course, is_fresh}
 use Rattle.rh_settle.specs.Moves.{is_local, comes_before, next_moves}
 use Rattle.rh_settle.specs.Enabled.{IsBest, IsEnabled, IsFirst}
 use Rattle.rh_settle.specs.Settling.{Settles, settled, pair_count}
-use Rattle.rh_settle.specs.Soundness.{IsSound}
+use Rattle.rh_settle.specs.Validity.{IsSound}
 
 -- the settling that the pick takes is one of those that are allowed (ours)
 abbrev pub SettlesByPick : Type 0

@@ -1,6 +1,6 @@
 -- The moves of applications that follow of themselves: which come next, and what each does (Distributed Applications;
 -- application(3); ours for their order).
-use Rattle.std.specs.Prelude.{ℕ, ◌&&◌, List, [], ◌∷◌, map, Bool, true, false, Option, Some, None, nat_lt, if◌then◌else◌, is_none}
+use Rattle.std.specs.Prelude.{ℕ, ◌≢◌, ◌&&◌, List, [], ◌∷◌, map, Bool, true, false, Option, Some, None, nat_lt, if◌then◌else◌, is_none, IfSome}
 use Rattle.rh_model.specs.ClusterView.{ClusterView, spread_of, group_of}
 use Rattle.rh_model.specs.declared.node.Node.{Node}
 use Rattle.rh_model.specs.declared.node.App.{App}
@@ -8,8 +8,10 @@ use Rattle.rh_state.specs.declared.status.Kind.{Kind}
 use Rattle.rh_state.specs.declared.status.Kind.TheVariants as kind
 use Rattle.rh_state.specs.declared.status.Standing.{Standing}
 use Rattle.rh_state.specs.declared.status.Standing.TheVariants.{Wanted, Running}
+use Rattle.rh_state.specs.declared.status.Place.TheVariants.{Off}
 use Rattle.rh_state.specs.Numbers.{nodes_of, apps_of, same_node}
-use Rattle.rh_state.specs.StateView.{StateView, waiting_at, is_allowed, standing_of}
+use Rattle.rh_state.specs.Shape.{IsNodeOf, IsAppOf}
+use Rattle.rh_state.specs.StateView.{StateView, waiting_at, place_of, is_allowed, standing_of}
 use Rattle.rh_state.specs.Setters.{with_running, with_waiting, with_kind, with_standing, unlisted}
 use Rattle.rh_base.specs.Lists.{or_else, first_given}
 use Rattle.rh_place.specs.Placing.{deps_run, is_operational, best, candidates}
@@ -68,6 +70,18 @@ next_moves s marked =
     or_else (first_given (local_moves s) (nodes_of s.cluster))
     (or_else (first_given (placements s) (apps_of s.cluster))
     (first_given (takeovers s marked) (apps_of s.cluster)))
+
+-- a pair of the cluster that is started
+pub record IsStartedPair (s : StateView) (n : Node) (a : App) : Type 0 where
+  pub node : IsNodeOf s.cluster n
+  pub app : IsAppOf s.cluster a
+  pub started : place_of s n a ≢ Off
+
+-- a move names nodes and applications of the cluster, and what it moves is started
+abbrev pub CanBeMade : StateView → Move → Type 0
+CanBeMade s (Local n a) = IsStartedPair s n a
+CanBeMade s (Placement a from n) = IsStartedPair s n a × IfSome from (IsNodeOf s.cluster)
+CanBeMade s (Takeover a m n) = IsStartedPair s n a × IsStartedPair s m a × (m.0 ≢ n.0)
 
 -- a pair that is started goes to the end of those that run at its node, or of those that wait there
 abbrev pub with_started : StateView → Node → App → Kind → StateView

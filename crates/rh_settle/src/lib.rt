@@ -6,6 +6,7 @@
 mod laws;
 mod make;
 mod notice;
+pub mod recording;
 mod search;
 mod settling;
 mod trace;

@@ -1,14 +1,17 @@
 //! What a move does.
 
-ghost use Rattle.std.specs.Prelude.{◌≡◌, OnOk, OnErr};
+ghost use Rattle.std.specs.Prelude.{◌≡◌, ◌++◌, ◌∷◌, [], None, OnOk};
 ghost use Rattle.rh_state.specs.Shape.{IsKindOf};
 ghost use Rattle.rh_state.specs.Stored.{read};
 ghost use Rattle.rh_settle.specs.declared.notice.Move.TheVariants.{Local, Placement, Takeover};
+ghost use Rattle.rh_state.specs.declared.status.Kind.TheVariants as kind;
+ghost use Rattle.rh_settle.specs.declared.notice.Notice.TheVariants.{Started, Stopped};
 ghost use Rattle.rh_settle.specs.Course.{course};
-ghost use Rattle.rh_settle.specs.Moves.{with_started, with_stopped, lost_elsewhere, moved};
-ghost use Rattle.rh_settle.specs.Validity.{IsStartedPair, CanBeMade};
+ghost use Rattle.rh_settle.specs.Ways.{Goes, Tells};
+ghost use Rattle.rh_settle.specs.Moves.{with_started, with_stopped, lost_elsewhere, moved, IsStartedPair, CanBeMade};
 
 use crate::notice::{Move, Notice};
+use crate::recording;
 use crate::trace::Trace;
 use rh_base::OutOfMemory;
 use rh_model::{App, Node};
@@ -16,25 +19,39 @@ use rh_place::start_kind;
 use rh_state::{Kind, Standing, State};
 
 // A pair that is started runs from now on.
-fn start_at(state: &mut State, node: Node, app: App, kind: Kind)
+#[tactic(auto, using(crate::proofs::Ways::goes_none, crate::proofs::Ways::goes_more))]
+fn start_at(
+    state: &mut State,
+    node: Node,
+    app: App,
+    kind: Kind,
+    trace: &mut Trace,
+) -> Result<(), OutOfMemory>
     requires pair { IsStartedPair (read state.old) node app }
     requires kind { IsKindOf (read state.old).cluster kind }
-    ensures { read state.new ≡ with_started (read state.old) node app kind }
+    ensures part { OnOk result (read state.new ≡ with_started (read state.old) node app kind) }
+    ensures told { trace.new.notices ≡ trace.old.notices }
+    ensures marked { trace.new.marked ≡ trace.old.marked }
+    ensures way { Goes state.old trace.old state.new trace.new }
 {
-    state.shape();
-    state.unlink(node, app);
-    state.push_running(node, app);
-    state.set_kind(node, app, kind);
+    state.formed();
+    recording::unlink(state, node, app, trace)?;
+    recording::push_running(state, node, app, trace)?;
+    recording::set_kind(state, node, app, kind, trace)
 }
 
 // A pair that is started waits from now on.
-fn stop_at(state: &mut State, node: Node, app: App)
+#[tactic(auto, using(crate::proofs::Ways::goes_none, crate::proofs::Ways::goes_more))]
+fn stop_at(state: &mut State, node: Node, app: App, trace: &mut Trace) -> Result<(), OutOfMemory>
     requires { IsStartedPair (read state.old) node app }
-    ensures { read state.new ≡ with_stopped (read state.old) node app }
+    ensures part { OnOk result (read state.new ≡ with_stopped (read state.old) node app) }
+    ensures told { trace.new.notices ≡ trace.old.notices }
+    ensures marked { trace.new.marked ≡ trace.old.marked }
+    ensures way { Goes state.old trace.old state.new trace.new }
 {
-    state.shape();
-    state.unlink(node, app);
-    state.push_waiting(node, app);
+    state.formed();
+    recording::unlink(state, node, app, trace)?;
+    recording::push_waiting(state, node, app, trace)
 }
 
 // The node with which an application was lost, if it is another one.
@@ -56,7 +73,7 @@ fn start_locally(
 ) -> Result<(), OutOfMemory>
     requires { IsStartedPair (read state.old) node app }
     ensures course { OnOk result (course (read state.new) trace.new ≡ moved (course (read state.old) trace.old) (Local node app)) }
-    ensures err { OnErr result (read state.new ≡ read state.old) }
+    ensures way { Goes state.old trace.old state.new trace.new }
 {
     trace.tell(Notice::Started {
         app,
@@ -64,8 +81,7 @@ fn start_locally(
         kind: Kind::Normal,
         lost: None,
     })?;
-    start_at(state, node, app, Kind::Normal);
-    Ok(())
+    start_at(state, node, app, Kind::Normal, trace)
 }
 
 // An application that is to run starts at a node.
@@ -78,7 +94,7 @@ fn place(
 ) -> Result<(), OutOfMemory>
     requires { CanBeMade (read state.old) (Placement app from node) }
     ensures course { OnOk result (course (read state.new) trace.new ≡ moved (course (read state.old) trace.old) (Placement app from node)) }
-    ensures err { OnErr result (read state.new ≡ read state.old) }
+    ensures way { Goes state.old trace.old state.new trace.new }
 {
     let kind = start_kind(state, app, from, node);
     let lost = lost_elsewhere(from, node);
@@ -88,9 +104,25 @@ fn place(
         kind,
         lost,
     })?;
-    start_at(state, node, app, kind);
-    state.set_standing(app, Standing::Running(node));
-    Ok(())
+    start_at(state, node, app, kind, trace)?;
+    recording::set_standing(state, app, Standing::Running(node), trace)
+}
+
+// An application has started at a node in place of another.
+fn tell_takeover(app: App, from: Node, node: Node, trace: &mut Trace) -> Result<(), OutOfMemory>
+    ensures told { OnOk result (trace.new.notices ≡ (trace.old.notices ++ Started app node (kind.Takeover from) None ∷ []) ++ Stopped app from ∷ []) }
+    ensures marked { trace.new.marked ≡ trace.old.marked }
+    ensures edits { trace.new.edits ≡ trace.old.edits }
+    ensures grows { Tells trace.old.notices trace.new.notices }
+{
+    let started = Notice::Started {
+        app,
+        node,
+        kind: Kind::Takeover(from),
+        lost: None,
+    };
+    trace.tell(started)?;
+    trace.tell(Notice::Stopped { app, node: from })
 }
 
 // An application moves from a node to another.
@@ -103,27 +135,19 @@ fn take_over(
 ) -> Result<(), OutOfMemory>
     requires { CanBeMade (read state.old) (Takeover app from node) }
     ensures course { OnOk result (course (read state.new) trace.new ≡ moved (course (read state.old) trace.old) (Takeover app from node)) }
-    ensures err { OnErr result (read state.new ≡ read state.old) }
+    ensures way { Goes state.old trace.old state.new trace.new }
 {
-    let started = Notice::Started {
-        app,
-        node,
-        kind: Kind::Takeover(from),
-        lost: None,
-    };
-    trace.tell(started)?;
-    trace.tell(Notice::Stopped { app, node: from })?;
-    start_at(state, node, app, Kind::Takeover(from));
-    stop_at(state, from, app);
-    state.set_standing(app, Standing::Running(node));
-    Ok(())
+    tell_takeover(app, from, node, trace)?;
+    start_at(state, node, app, Kind::Takeover(from), trace)?;
+    stop_at(state, from, app, trace)?;
+    recording::set_standing(state, app, Standing::Running(node), trace)
 }
 
-/// Makes a move, and tells it. Where memory is refused it isn't made.
+/// Makes a move, and tells it. Where memory is refused, the state is one on the way.
 pub fn make_move(state: &mut State, next: Move, trace: &mut Trace) -> Result<(), OutOfMemory>
     requires { CanBeMade (read state.old) next }
     ensures course { OnOk result (course (read state.new) trace.new ≡ moved (course (read state.old) trace.old) next) }
-    ensures err { OnErr result (read state.new ≡ read state.old) }
+    ensures way { Goes state.old trace.old state.new trace.new }
 {
     match next {
         Move::Local { node, app } => start_locally(state, node, app, trace),

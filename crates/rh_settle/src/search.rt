@@ -11,7 +11,6 @@ ghost use Rattle.rh_place.specs.Picks.{picked};
 ghost use Rattle.rh_place.specs.Sets.{has};
 ghost use Rattle.rh_settle.specs.Course.{is_fresh};
 ghost use Rattle.rh_settle.specs.Moves.{is_local, can_start, local_moves, placements, comes_before, calls_away, takeovers, next_moves};
-ghost use Rattle.rh_settle.specs.Validity.{OnceAtEachNode};
 
 use crate::notice::{Move, Pair};
 use rh_model::{App, Cluster, Node};
@@ -38,10 +37,10 @@ fn can_start(state: &State, node: Node, app: App) -> bool
 
 // The local move that comes next at a node.
 fn local_at(state: &State, node: Node) -> Option<Move>
-    requires node { node.0 < node_count (read state.now).cluster }
-    requires once { OnceAtEachNode (read state.now) }
+    requires { node.0 < node_count (read state.now).cluster }
     ensures { (pick : Pick) → result ≡ picked pick (local_moves (read state.now) node) }
 {
+    state.formed();
     let mut waiting = state.first_waiting(node);
     'waiting: while let Some(app) = waiting {
         if can_start(state, node, app) {
@@ -54,7 +53,6 @@ fn local_at(state: &State, node: Node) -> Option<Move>
 
 // The local move that comes next.
 fn next_local(state: &State) -> Option<Move>
-    requires { OnceAtEachNode (read state.now) }
     ensures { (pick : Pick) → result ≡ picked pick (first_given (local_moves (read state.now)) (nodes_of (read state.now).cluster)) }
 {
     let count = state.cluster().node_count();
@@ -132,7 +130,7 @@ fn callers_away(state: &State, marked: &[Pair], app: App, from: Node) -> NodeSet
     requires { app.0 < app_count (read state.now).cluster }
     ensures { (n : Node) → has result n ≡ calls_away (read state.now) marked.now app from n }
 {
-    state.shape();
+    state.formed();
     let mut nodes = NodeSet::empty();
     'nodes: for number in 0..state.cluster().node_count() {
         let node = Node(number as u8);
@@ -176,7 +174,6 @@ fn next_takeover(state: &State, marked: &[Pair], pick: Pick) -> Option<Move>
 /// one can; else one that is to run is placed; else one that runs is taken over by a marked pair's node. Of several equally
 /// good ones it is the one that the pick takes, and `None` exactly if there is none. Takes no memory.
 pub fn next_move(state: &State, marked: &[Pair], pick: Pick) -> Option<Move>
-    requires { OnceAtEachNode (read state.now) }
     ensures { result ≡ picked pick (next_moves (read state.now) marked.now) }
 {
     if let Some(next) = next_local(state) {

@@ -1,14 +1,13 @@
 //! Moves until none is left.
 
 ghost use Rattle.std.specs.Prelude.{◌≡◌, ◌≤◌, ◌*◌, [], length, All, OnOk};
-ghost use Rattle.rh_state.specs.Shape.{IsNodeOf};
 ghost use Rattle.rh_state.specs.StateView.{waits_at};
 ghost use Rattle.rh_state.specs.Stored.{read};
-ghost use Rattle.rh_settle.specs.declared.notice.Pair.{Pair};
-ghost use Rattle.rh_settle.specs.Course.{Course, course};
+ghost use Rattle.rh_settle.specs.Course.{Course, IsPairOf, course};
 ghost use Rattle.rh_settle.specs.Moves.{next_moves};
+ghost use Rattle.rh_settle.specs.Ways.{Goes};
 ghost use Rattle.rh_settle.specs.Settling.{all_moved, tell_waiting, waits_told, settled, Settles, pair_count};
-ghost use Rattle.rh_settle.specs.Validity.{RunsWhereItStands, OnceAtEachNode};
+ghost use Rattle.rh_settle.specs.Validity.{RunsWhereItStands};
 
 use crate::make::make_move;
 use crate::notice::{Notice, Pair};
@@ -19,17 +18,17 @@ use rh_place::Pick;
 use rh_state::{Place, State};
 
 // Makes next moves until there is none.
+#[tactic(auto, using(crate::proofs::Ways::goes_none))]
 fn make_moves(state: &mut State, pick: Pick, trace: &mut Trace) -> Result<(), OutOfMemory>
     requires runs { RunsWhereItStands (read state.old) }
-    requires once { OnceAtEachNode (read state.old) }
     ensures moved { OnOk result (course (read state.new) trace.new ≡ all_moved pick (course (read state.old) trace.old)) }
     ensures still { OnOk result (next_moves (read state.new) trace.new.marked ≡ []) }
     ensures cluster { (read state.new).cluster ≡ (read state.old).cluster }
-    ensures runs { RunsWhereItStands (read state.new) }
-    ensures once { OnceAtEachNode (read state.new) }
+    ensures runs { OnOk result (RunsWhereItStands (read state.new)) }
+    ensures way { Goes state.old trace.old state.new trace.new }
 {
     'moves: while let Some(next) = next_move(state, trace.marked(), pick) {
-        state.shape();
+        state.formed();
         make_move(state, next, trace)?;
     }
     Ok(())
@@ -37,18 +36,18 @@ fn make_moves(state: &mut State, pick: Pick, trace: &mut Trace) -> Result<(), Ou
 
 // Does an application wait at a node?
 fn waits(state: &State, pair: Pair) -> bool
-    requires node { IsNodeOf (read state.now).cluster pair.node }
-    requires once { OnceAtEachNode (read state.now) }
+    requires { IsPairOf (read state.now).cluster pair }
     ensures { result ≡ waits_at (read state.now) pair.node pair.app }
 {
+    state.formed();
     matches!(state.place_of(pair.node, pair.app), Place::InWaiting)
 }
 
 // A pair is told if it waits.
 fn tell_if_waiting(state: &State, pair: Pair, trace: &mut Trace) -> Result<(), OutOfMemory>
-    requires node { IsNodeOf (read state.now).cluster pair.node }
-    requires once { OnceAtEachNode (read state.now) }
-    ensures { OnOk result (course (read state.now) trace.new ≡ tell_waiting (course (read state.now) trace.old) pair) }
+    requires { IsPairOf (read state.now).cluster pair }
+    ensures course { OnOk result (course (read state.now) trace.new ≡ tell_waiting (course (read state.now) trace.old) pair) }
+    ensures way { Goes state.now trace.old state.now trace.new }
 {
     if waits(state, pair) {
         trace.tell(Notice::Waits {
@@ -60,10 +59,11 @@ fn tell_if_waiting(state: &State, pair: Pair, trace: &mut Trace) -> Result<(), O
 }
 
 // Tells each marked pair that waits.
+#[tactic(auto, using(crate::proofs::Ways::goes_none))]
 fn tell_waiting(state: &State, trace: &mut Trace) -> Result<(), OutOfMemory>
-    requires marked { All (λ (p : Pair). IsNodeOf (read state.now).cluster p.node) trace.old.marked }
-    requires once { OnceAtEachNode (read state.now) }
-    ensures { OnOk result (course (read state.now) trace.new ≡ waits_told (course (read state.now) trace.old)) }
+    requires { All (IsPairOf (read state.now).cluster) trace.old.marked }
+    ensures course { OnOk result (course (read state.now) trace.new ≡ waits_told (course (read state.now) trace.old)) }
+    ensures way { Goes state.now trace.old state.now trace.new }
 {
     let count = trace.marked().len();
     'marked: for index in 0..count {
@@ -76,18 +76,17 @@ fn tell_waiting(state: &State, trace: &mut Trace) -> Result<(), OutOfMemory>
 /// Makes the [`next_move`], one after the other, until there is none; then tells which of the marked pairs wait, in marking
 /// order. Where memory is refused, the state is one on the way.
 pub fn settle(state: &mut State, pick: Pick, trace: &mut Trace) -> Result<(), OutOfMemory>
-    requires marked { All (λ (p : Pair). IsNodeOf (read state.old).cluster p.node) trace.old.marked }
+    requires marked { All (IsPairOf (read state.old).cluster) trace.old.marked }
     requires runs { RunsWhereItStands (read state.old) }
-    requires once { OnceAtEachNode (read state.old) }
     ensures settled { OnOk result (course (read state.new) trace.new ≡ settled pick (course (read state.old) trace.old)) }
     ensures allowed { OnOk result (Settles (course (read state.old) trace.old) (course (read state.new) trace.new)) }
     ensures few { (p : Course) (run : Settles (course (read state.old) trace.old) p) → length run.moves ≤ 2 * pair_count (read state.old).cluster }
     ensures still { OnOk result (next_moves (read state.new) trace.new.marked ≡ []) }
     ensures cluster { (read state.new).cluster ≡ (read state.old).cluster }
-    ensures runs { RunsWhereItStands (read state.new) }
-    ensures once { OnceAtEachNode (read state.new) }
+    ensures runs { OnOk result (RunsWhereItStands (read state.new)) }
+    ensures way { Goes state.old trace.old state.new trace.new }
 {
-    state.shape();
+    state.formed();
     make_moves(state, pick, trace)?;
     tell_waiting(state, trace)
 }

@@ -5,14 +5,16 @@ ghost use Rattle.rh_settle.specs.Course.{trace_of};
 
 use crate::notice::{Notice, Pair};
 use rh_base::OutOfMemory;
+use rh_state::Edit;
 use std::alloc::Global;
 use std::marker::Model;
 
-/// What was told on the way through an event, and which pairs it marked, each in order.
+/// What was told on the way through an event, which pairs it marked, and what it changed in the state, each in order.
 #[derive(Drop)]
 pub struct Trace {
     notices: Vec<Notice>,
     marked: Vec<Pair>,
+    pub(crate) edits: Vec<Edit>,
 }
 
 impl Model for Trace {
@@ -20,25 +22,27 @@ impl Model for Trace {
 
     ghost Value = { TraceView };
 
-    ghost view = { λ t. record { notices = t.notices.items; marked = t.marked.items } };
+    ghost view = { λ t. record { notices = t.notices.items; marked = t.marked.items; edits = t.edits.items } };
 }
 
 impl Trace {
-    /// A trace that told these notices, and marked nothing yet.
-    pub fn of(notices: Vec<Notice>, alloc: Global) -> Trace
-        ensures { result ≡ trace_of notices.items [] }
+    /// A trace that told these notices and has these edits, and marked nothing yet.
+    pub fn of(notices: Vec<Notice>, edits: Vec<Edit>, alloc: Global) -> Trace
+        ensures { result ≡ trace_of notices.items [] edits.items }
     {
         Trace {
             notices,
             marked: Vec::new(alloc),
+            edits,
         }
     }
 
-    /// The notices alone.
-    pub fn into_notices(self) -> Vec<Notice>
-        ensures { result.items ≡ self.notices }
+    /// The notices and the edits.
+    pub fn into_parts(self) -> (Vec<Notice>, Vec<Edit>)
+        ensures notices { result.0.items ≡ self.notices }
+        ensures edits { result.1.items ≡ self.edits }
     {
-        self.notices
+        (self.notices, self.edits)
     }
 
     /// The notices, in the order in which they were told.
@@ -57,7 +61,7 @@ impl Trace {
 
     /// Tells a notice. Where memory is refused nothing is told.
     pub fn tell(&mut self, notice: Notice) -> Result<(), OutOfMemory>
-        ensures told { OnOk result (self.new ≡ trace_of (self.old.notices ++ notice ∷ []) self.old.marked) }
+        ensures told { OnOk result (self.new ≡ trace_of (self.old.notices ++ notice ∷ []) self.old.marked self.old.edits) }
         ensures err { OnErr result (self.new ≡ self.old) }
     {
         self.notices.push(notice)?;
@@ -66,7 +70,7 @@ impl Trace {
 
     /// Marks a pair. Where memory is refused nothing is marked.
     pub fn mark(&mut self, pair: Pair) -> Result<(), OutOfMemory>
-        ensures marked { OnOk result (self.new ≡ trace_of self.old.notices (self.old.marked ++ pair ∷ [])) }
+        ensures marked { OnOk result (self.new ≡ trace_of self.old.notices (self.old.marked ++ pair ∷ []) self.old.edits) }
         ensures err { OnErr result (self.new ≡ self.old) }
     {
         self.marked.push(pair)?;
@@ -75,7 +79,7 @@ impl Trace {
 
     /// From now on no pair is marked.
     pub fn forget_marks(&mut self)
-        ensures { self.new ≡ trace_of self.old.notices [] }
+        ensures { self.new ≡ trace_of self.old.notices [] self.old.edits }
     {
         self.marked.clear();
     }

@@ -4,7 +4,7 @@ use Rattle.std.proofs.Crossing.{crosses}
 use Rattle.rh_model.proofs.settings.Restart.TheSendSync as restart
 use Rattle.rh_model.proofs.Crossing.{cluster_send, cluster_sync}
 use Rattle.rh_wheel.proofs.wheel.Wheel.TheSendSync as wheel
-use Rattle.rh_state.proofs.apps.AppList.TheSendSync as app_list
+use Rattle.rh_arena.proofs.lists.Lists.TheSendSync as links
 use Rattle.rh_state.proofs.status.Kind.TheSendSync as kind
 use Rattle.rh_state.proofs.status.Mode.TheSendSync as mode
 use Rattle.rh_state.proofs.status.Standing.TheSendSync as standing
@@ -16,7 +16,7 @@ state_send =
     search (
       cluster_send,
       cluster_sync,
-      app_list.the_send,
+      links.the_send,
       kind.the_send,
       mode.the_send,
       standing.the_send,
@@ -32,7 +32,7 @@ state_sync =
     search (
       cluster_send,
       cluster_sync,
-      app_list.the_sync,
+      links.the_sync,
       kind.the_sync,
       mode.the_sync,
       standing.the_sync,

@@ -1,11 +1,11 @@
 -- Timers by their numbers: what a wheel keeps of numbers, it means of timers.
-use Rattle.std.proofs.Common.{◌≡◌, ◌+◌, ◌-◌, ◌==◌, ℕ, Bool, true, false, not, cond, nat_le, Some, List, [], ◌∷◌, ◌++◌, map, take, find, slice_get, refl, sym}
+use Rattle.std.proofs.Common.{◌≡◌, ◌≢◌, ◌-◌, ◌==◌, ℕ, suc, Bool, true, false, not, cond}
+use Rattle.std.proofs.Common.{nat_le, Some, List, [], ◌∷◌, map, find, slice_get, All, AllPairs, refl, sym}
 use Rattle.std.proofs.Common.{ap, ◌∙◌, inl, inr, arith}
 use Rattle.std.specs.Option.{option_map}
 use Rattle.std.proofs.lemmas.Bool.{cases_lt, eq-eqb, lt-ltb, le-ltb}
 use Rattle.std.proofs.lemmas.Bool.Decides.{eqb_tells}
-use Rattle.std.proofs.lemmas.List.{map_more}
-use Rattle.std.proofs.lemmas.Option.{slice_get-map, slice_get_within, get_or_from_slice_get}
+use Rattle.std.proofs.lemmas.Option.{slice_get-map, same_Some}
 use Rattle.rh_model.specs.ClusterView.{ClusterView, node_count}
 use Rattle.rh_wheel.specs.Firing.{behind, without, due_in}
 use Rattle.rh_wheel.specs.Stored as wheel
@@ -17,7 +17,8 @@ use Rattle.rh_state.specs.Stored.{timers_of}
 abbrev pub meant : ClusterView → ℕ × ℕ → ℕ × Timer
 meant c e = (e.0, timer_numbered c e.1)
 
-same_number : (j k m n : ℕ) → (j ≡ k → m ≡ n) → (m ≡ n → j ≡ k) → j == k ≡ (m == n)
+-- two tests of numbers that are equal together
+pub same_number : (j k m n : ℕ) → (j ≡ k → m ≡ n) → (m ≡ n → j ≡ k) → j == k ≡ (m == n)
 same_number j k m n to from = elim (eqb_tells j k) [
   | inl a ↦ a.0 ∙ sym (eq-eqb m n (to a.1))
   | inr a ↦ elim (eqb_tells m n) [ inl b ↦ absurd (a.1 (from b.1)) | inr b ↦ a.0 ∙ sym b.0 ]
@@ -88,10 +89,19 @@ pub first_numbered : (c : ClusterView) (w : wheel.Stored) → slice_get (timers_
 unfolding timers_of
 first_numbered c w = slice_get-map (meant c) (wheel.listed w) 0
 
--- one entry more
-pub meant_more : (c : ClusterView) (es : List (ℕ × ℕ)) (i due k : ℕ) → slice_get es i ≡ Some (due, k)
-    → map (meant c) (take (i + 1) es) ≡ map (meant c) (take i es) ++ (due, timer_numbered c k) ∷ []
-meant_more c es i due k h =
-    let within = slice_get_within es i (due, k) h in
-    let here = get_or_from_slice_get es i (due, k) (due, k) h in
-    rw (map_more (meant c) es i (due, k) within, here)
+kept_without : (k : ℕ) (es : List (ℕ × ℕ)) → All (λ (e : ℕ × ℕ). k ≢ e.1) es → without k es ≡ es
+kept_without k [] all = refl
+kept_without k (e ∷ es) all = elim (eqb_tells e.1 k) [
+  | inl a ↦ absurd (all 0 e (omega arith) (sym a.1))
+  | inr a ↦ rw a.0 (ap (λ (l : List (ℕ × ℕ)). e ∷ l) (kept_without k es (λ i d l. all (suc i) d (omega (arith, l)))))
+]
+
+-- the timers that are left once the first one is taken out stand behind it
+pub first_and_rest : (es : List (ℕ × ℕ)) (due k : ℕ) → slice_get es 0 ≡ Some (due, k) → AllPairs (λ (e f : ℕ × ℕ). e.1 ≢ f.1) es → es ≡ (due, k) ∷ without k es
+first_and_rest [] due k first once = absurd (cc)
+first_and_rest (e ∷ es) due k first once =
+    let is : e ≡ (due, k) = same_Some e (due, k) first in
+    let apart : All (λ (f : ℕ × ℕ). k ≢ f.1) es =
+    λ i d l same. once 0 (suc i) d (omega arith) (omega (arith, l)) (ap (λ (f : ℕ × ℕ). f.1) is ∙ same) in
+    let here : e.1 == k ≡ true = eq-eqb e.1 k (ap (λ (f : ℕ × ℕ). f.1) is) in
+    rw (here, kept_without k es apart) (ap (λ (f : ℕ × ℕ). f ∷ es) is)

@@ -4,7 +4,12 @@ pub mod Tables
 pub mod Lists
 pub mod Timers
 pub mod StateView
+pub mod Standings
 pub mod Setters
 pub mod First
 pub mod Shape
+pub mod Pairs
 pub mod Stored
+pub mod Formed
+pub mod Edits
+pub mod Records

@@ -1,5 +1,5 @@
 -- What holds of every state that is kept: each number is one of the cluster's, and each list and table has its size (ours).
-use Rattle.std.specs.Prelude.{◌≡◌, ◌<◌, ◌≤◌, List, length, All, Some, None}
+use Rattle.std.specs.Prelude.{◌≡◌, ◌≢◌, ◌<◌, ◌≤◌, List, length, true, false, All, AllPairs, Some, None}
 use Rattle.rh_model.specs.ClusterView.{ClusterView, node_count, app_count}
 use Rattle.rh_model.specs.declared.node.Node.{Node}
 use Rattle.rh_model.specs.declared.node.App.{App}
@@ -10,7 +10,7 @@ use Rattle.rh_state.specs.declared.status.Standing.TheVariants as standing
 use Rattle.rh_state.specs.declared.status.Timer.{Timer}
 use Rattle.rh_state.specs.declared.status.Timer.TheVariants.{Sync, Failover}
 use Rattle.rh_state.specs.Limits.{time_limit, incarnation_limit}
-use Rattle.rh_state.specs.StateView.{StateView}
+use Rattle.rh_state.specs.StateView.{StateView, running_at, waiting_at, runs_at, waits_at}
 
 abbrev pub IsNodeOf : ClusterView → Node → Type 0
 IsNodeOf c n = n.0 < node_count c
@@ -54,3 +54,9 @@ pub record IsShaped (s : StateView) : Type 0 where
   pub allowed_rows : All (λ cells. length cells ≡ app_count s.cluster) s.allowed
   pub standings : length s.standings ≡ app_count s.cluster
   pub standing_nodes : All (IsStandingOf s.cluster) s.standings
+
+-- no application stands twice at a node
+pub record OnceAtEachNode (s : StateView) : Type 0 where
+  pub running : (n : Node) → AllPairs (λ (a b : App). a.0 ≢ b.0) (running_at s n)
+  pub waiting : (n : Node) → AllPairs (λ (a b : App). a.0 ≢ b.0) (waiting_at s n)
+  pub apart : (n : Node) (a : App) → waits_at s n a ≡ true → runs_at s n a ≡ false

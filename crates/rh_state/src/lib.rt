@@ -4,10 +4,13 @@
 //! each, where each distributed application stands, which timers are set. What may happen to it is not said here.
 #![tactic(auto)]
 
-mod apps;
+mod edit;
+mod record;
 mod state;
 mod status;
 mod table;
 
+pub use edit::{Change, Edit};
+pub use record::{go_back, go_forth};
 pub use state::{State, first_state, first_state_sharing};
 pub use status::{Kind, Mode, Place, Standing, Timer};

@@ -3,17 +3,21 @@
 ghost use Rattle.std.specs.Prelude.{◌≡◌, ◌<◌, IfOk, map};
 ghost use Rattle.rh_model.specs.ClusterView.{node_count};
 ghost use Rattle.rh_state.specs.Numbers.{nodes_of};
-ghost use Rattle.rh_state.specs.First.{first, configured};
-ghost use Rattle.rh_state.specs.Shape.{IsShaped};
+ghost use Rattle.rh_state.specs.First.{first, first_words, configured};
+ghost use Rattle.rh_state.specs.Shape.{IsShaped, OnceAtEachNode};
+ghost use Rattle.rh_state.specs.Formed.{IsFormed};
 ghost use Rattle.rh_state.specs.Stored.{read};
 
+mod comparing;
+mod exchanging;
+mod pairs;
 mod reading;
 mod setting;
 mod timers;
 
-use crate::apps::{AppList, empty_lists};
 use crate::status::{Kind, Mode, Standing};
 use crate::table::{Row, rows_of};
+use rh_arena::Lists;
 use rh_base::{Duplicate, OutOfMemory, copies_of};
 use rh_model::{App, Cluster, Node, Restart};
 use rh_wheel::Wheel;
@@ -24,7 +28,7 @@ use std::sync::Arc;
 /// The state of a cluster at one time.
 ///
 /// [`first_state`] and [`State::copy`] take all the memory that a state needs; of the other calls only
-/// [`State::running`], [`State::waiting`] and [`State::timers`] take any.
+/// [`State::timers`] takes any.
 #[derive(Drop)]
 pub struct State {
     // All states of a simulation share it.
@@ -32,8 +36,9 @@ pub struct State {
     time: u64,
     modes: Vec<Mode>,
     incarnations: Vec<u16>,
-    running: Vec<AppList>,
-    waiting: Vec<AppList>,
+    // What runs and what waits at each node. The entry of a pair has the number node * applications + application; what
+    // runs at node n is list n, what waits there is list nodes + n.
+    links: Lists,
     restarts: Vec<Row<Restart>>,
     kinds: Vec<Row<Kind>>,
     allowed: Vec<Row<bool>>,
@@ -43,17 +48,14 @@ pub struct State {
 }
 
 impl Model for State {
-    ghost use Rattle.std.specs.Prelude.{◌≡◌, ◌+◌, []};
-    ghost use Rattle.rh_model.specs.ClusterView.{node_count, app_count};
-    ghost use Rattle.rh_wheel.specs.Stored.{timer_count};
-    ghost use Rattle.rh_state.specs.Shape.{IsShaped};
-    ghost use Rattle.rh_state.specs.Stored.{Stored, read};
+    ghost use Rattle.rh_state.specs.Formed.{IsFormed};
+    ghost use Rattle.rh_state.specs.Stored.{Stored};
 
     ghost Value = { Stored };
 
-    ghost view = { λ s. record { cluster = s.cluster.value; time = s.time; modes = s.modes.items; incarnations = s.incarnations.items; running = s.running.items; waiting = s.waiting.items; restarts = s.restarts.items; kinds = s.kinds.items; allowed = s.allowed.items; standings = s.standings.items; wheel = s.wheel } };
+    ghost view = { λ s. record { cluster = s.cluster.value; time = s.time; modes = s.modes.items; incarnations = s.incarnations.items; links = s.links; restarts = s.restarts.items; kinds = s.kinds.items; allowed = s.allowed.items; standings = s.standings.items; wheel = s.wheel } };
 
-    ghost invariant = { λ s. record { shape : IsShaped (record { cluster = s.cluster.value; time = s.time; modes = s.modes.items; incarnations = s.incarnations.items; running = s.running.items; waiting = s.waiting.items; restarts = s.restarts.items; kinds = s.kinds.items; allowed = s.allowed.items; standings = s.standings.items; timers = [] }); timers : timer_count s.wheel ≡ node_count s.cluster.value + app_count s.cluster.value } };
+    ghost invariant = { λ s. IsFormed (record { cluster = s.cluster.value; time = s.time; modes = s.modes.items; incarnations = s.incarnations.items; links = s.links; restarts = s.restarts.items; kinds = s.kinds.items; allowed = s.allowed.items; standings = s.standings.items; wheel = s.wheel }) };
 }
 
 impl State {
@@ -63,10 +65,12 @@ impl State {
     /// The last incarnation that a node may have.
     pub const INCARNATION_LIMIT: u16 = 9_999;
 
-    /// A state has a place for each node and each application of its cluster, and names no others.
-    #[tactic(auto, unfolding(crate::specs::Stored::read))]
-    pub fn shape(&self)
-        ensures { IsShaped (read self.now) }
+    /// What holds of a state at all times. It has a place for each node and each application of its cluster, and names no
+    /// others; and no application stands twice at a node.
+    pub fn formed(&self)
+        ensures words { IsFormed self.now }
+        ensures shape { IsShaped (read self.now) }
+        ensures once { OnceAtEachNode (read self.now) }
     {
         let _ = &self.cluster;
     }
@@ -76,7 +80,7 @@ impl State {
         ensures { IfOk result (λ copy. copy ≡ self.now) }
     {
         let (modes, incarnations, standings) = self.copy_marks(alloc)?;
-        let (running, waiting) = self.copy_lists(alloc)?;
+        let links = self.links.copy(alloc)?;
         let (restarts, kinds, allowed) = self.copy_tables(alloc)?;
         let wheel = self.wheel.copy(alloc)?;
         let cluster = Arc::try_clone(&self.cluster)?;
@@ -85,8 +89,7 @@ impl State {
             time: self.time,
             modes,
             incarnations,
-            running,
-            waiting,
+            links,
             restarts,
             kinds,
             allowed,
@@ -105,16 +108,6 @@ impl State {
         let incarnations = Vec::from_slice(alloc, self.incarnations.as_slice())?;
         let standings = Vec::from_slice(alloc, self.standings.as_slice())?;
         Ok((modes, incarnations, standings))
-    }
-
-    // What runs and what waits at each node.
-    fn copy_lists(&self, alloc: Global) -> Result<(Vec<AppList>, Vec<AppList>), OutOfMemory>
-        ensures running { IfOk result (λ lists. lists.0.items ≡ self.now.running) }
-        ensures waiting { IfOk result (λ lists. lists.1.items ≡ self.now.waiting) }
-    {
-        let running = copies_of(alloc, self.running.as_slice())?;
-        let waiting = copies_of(alloc, self.waiting.as_slice())?;
-        Ok((running, waiting))
     }
 
     // The tables over pairs.
@@ -136,7 +129,8 @@ impl State {
 /// The state before any event: the time is 0, all nodes are down, nothing is started, and the permissions are those of the
 /// cluster file. The state keeps a copy of the cluster, which its own copies share.
 pub fn first_state(alloc: Global, cluster: &Cluster) -> Result<State, OutOfMemory>
-    ensures { IfOk result (λ state. read state ≡ first cluster.now) }
+    ensures words { IfOk result (λ state. state ≡ first_words cluster.now) }
+    ensures state { IfOk result (λ state. read state ≡ first cluster.now) }
 {
     let shared = shared_copy(alloc, cluster)?;
     first_state_sharing(alloc, &shared)
@@ -150,29 +144,30 @@ fn shared_copy(alloc: Global, cluster: &Cluster) -> Result<Arc<Cluster>, OutOfMe
 }
 
 /// The [`first_state`] of a cluster that the caller keeps too: the state shares it, and so do its copies.
-#[tactic(auto, unfolding(crate::specs::Stored::read, crate::specs::Stored::timers_of))]
 pub fn first_state_sharing(alloc: Global, cluster: &Arc<Cluster>) -> Result<State, OutOfMemory>
-    ensures { IfOk result (λ state. read state ≡ first cluster.now.value) }
+    ensures words { IfOk result (λ state. state ≡ first_words cluster.now.value) }
+    ensures state { IfOk result (λ state. read state ≡ first cluster.now.value) }
 {
     let nodes = cluster.node_count();
     let apps = cluster.app_count();
     let modes = vec![in alloc; Mode::Down; nodes]?;
     let incarnations = vec![in alloc; 0; nodes]?;
-    let running = empty_lists(alloc, nodes)?;
-    let waiting = empty_lists(alloc, nodes)?;
+    // With 32 nodes and 64 applications at most there are 2,048 pairs, 64 lists and 96 timers at most: 16 bits number them.
+    let links = Lists::new(alloc, (nodes * apps) as u16, 2 * nodes as u16)?;
+    links.formed();
     let restarts = rows_of(alloc, nodes, apps, Restart::Temporary)?;
     let kinds = rows_of(alloc, nodes, apps, Kind::Normal)?;
     let allowed = permissions_of(alloc, cluster)?;
     let standings = vec![in alloc; Standing::Quiet; apps]?;
-    let wheel = Wheel::new(alloc, (nodes + apps) as u32)?;
+    let wheel = Wheel::new(alloc, (nodes + apps) as u16)?;
+    wheel.formed();
     let cluster = Arc::try_clone(cluster)?;
     Ok(State {
         cluster,
         time: 0,
         modes,
         incarnations,
-        running,
-        waiting,
+        links,
         restarts,
         kinds,
         allowed,

@@ -1,8 +1,8 @@
 //! Rows of a table.
 
-ghost use Rattle.std.specs.Prelude.{◌≡◌, ◌<◌, length, slice_get, slice_set, Some, IfOk, replicate};
+ghost use Rattle.std.specs.Prelude.{◌≡◌, ◌<◌, unwrap_or, ◌↔◌, length, slice_get, slice_set, Some, IfOk, IsTrue, replicate};
 
-use rh_base::{Duplicate, OutOfMemory};
+use rh_base::{Duplicate, OutOfMemory, Same, are_same};
 use std::alloc::Global;
 use std::marker::Model;
 
@@ -49,13 +49,19 @@ impl<T: Copy> Row<T> {
         self.items[app as usize]
     }
 
-    /// Writes into a cell.
-    pub fn set(&mut self, app: u8, value: T)
-        requires { app < length self.old }
-        ensures { self.new ≡ slice_set self.old app value }
+    /// Writes into a cell, and says what stood there; where there is no such cell, nothing is written, and the value is given back.
+    pub fn exchange(&mut self, app: u8, value: T) -> T
+        ensures cells { self.new ≡ slice_set self.old app value }
+        ensures value { result ≡ unwrap_or (slice_get self.old app) value }
     {
-        let index = app as usize;
-        self.items[index] = value;
+        match self.items.get_mut(app as usize) {
+            Some(cell) => {
+                let before = *cell;
+                *cell = value;
+                before
+            }
+            None => value,
+        }
     }
 }
 
@@ -82,5 +88,13 @@ impl<T: Copy> Duplicate for Row<T> {
         Ok(Row {
             items: Vec::from_slice(alloc, self.items.as_slice())?,
         })
+    }
+}
+
+impl<T: Same> Same for Row<T> {
+    fn same(&self, other: &Row<T>) -> bool
+        ensures { IsTrue result ↔ (self.now ≡ other.now) }
+    {
+        are_same(self.items.as_slice(), other.items.as_slice())
     }
 }

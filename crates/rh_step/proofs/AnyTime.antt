@@ -21,7 +21,7 @@ use Rattle.rh_settle.specs.declared.notice.Pair.{Pair}
 use Rattle.rh_settle.specs.Course.{is_fresh}
 use Rattle.rh_settle.specs.Moves.{is_local, can_start, local_moves, placements_from, placements, comes_before, calls_away, takeovers_from, takeovers}
 use Rattle.rh_settle.specs.Moves.{next_moves}
-use Rattle.rh_events.specs.Readiness.{all_alive, has_others, is_ready}
+use Rattle.rh_settle.specs.Readiness.{all_alive, has_others, is_ready}
 
 -- whether a node is ready hangs on the cluster and the modes alone
 others_alike : (s t : StateView) (n : Node) (wait : SyncWait) → t.cluster ≡ s.cluster → t.modes ≡ s.modes → has_others t n wait ≡ has_others s n wait

@@ -7,7 +7,7 @@ use Rattle.rh_state.specs.StateView.{earliest}
 use Rattle.rh_state.specs.Setters.{with_time}
 use Rattle.rh_place.specs.declared.choosing.Pick.{Pick}
 use Rattle.rh_settle.specs.Course.{Course}
-use Rattle.rh_settle.specs.Soundness.{IsSound}
+use Rattle.rh_settle.specs.Validity.{IsSound}
 use Rattle.rh_step.specs.Ticks.{due_by, fired, fired_by, all_fired}
 use Rattle.rh_events.proofs.TimersToldApart.{IsInOrder}
 use Rattle.rh_step.proofs.TakenOff.{sound_at}

@@ -5,7 +5,7 @@ use Rattle.rh_state.specs.Limits.{time_limit}
 use Rattle.rh_state.specs.StateView.{earliest}
 use Rattle.rh_place.specs.declared.choosing.Pick.{Pick}
 use Rattle.rh_settle.specs.Course.{Course}
-use Rattle.rh_settle.specs.Soundness.{IsSound}
+use Rattle.rh_settle.specs.Validity.{IsSound}
 use Rattle.rh_step.specs.Ticks.{due_by, effect, taken_off, fired, fired_by, all_fired}
 use Rattle.rh_step.specs.Allowed.{ComesOf, Fires, none_due, one_due}
 use Rattle.rh_step.proofs.Comes.{comes_of}

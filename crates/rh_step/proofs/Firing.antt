@@ -1,19 +1,19 @@
 -- One timer fires: what its effect asks, and what that keeps.
 use Rattle.std.proofs.Common.{◌≡◌, ℕ, Bool, true, false, cond, List, [], Some, IsNone, is_some, All, refl, sym, ap, ◌∙◌, subst}
-use Rattle.rh_model.specs.ClusterView.{mandatory_of}
+use Rattle.rh_model.specs.ClusterView.{IsWithin, mandatory_of}
 use Rattle.rh_model.specs.declared.node.Node.{Node}
 use Rattle.rh_model.specs.declared.node.App.{App}
 use Rattle.rh_state.specs.declared.status.Standing.{Standing}
 use Rattle.rh_state.specs.declared.status.Standing.TheVariants.{Running, Lost}
 use Rattle.rh_state.specs.declared.status.Timer.{Timer}
 use Rattle.rh_state.specs.declared.status.Timer.TheVariants.{Sync, Failover}
-use Rattle.rh_state.specs.Shape.{IsNodeOf, IsTimerOf}
+use Rattle.rh_state.specs.Shape.{IsTimerOf}
 use Rattle.rh_state.specs.Setters.{with_time, without_due}
 use Rattle.rh_state.specs.StateView.{StateView, standing_of, due_of, earliest, running_at, waiting_at}
 use Rattle.rh_settle.specs.declared.notice.Pair.{Pair}
-use Rattle.rh_settle.specs.Course.{Course}
-use Rattle.rh_settle.specs.Soundness.{IsSound}
-use Rattle.rh_events.specs.Readiness.{all_alive}
+use Rattle.rh_settle.specs.Course.{Course, IsPairOf}
+use Rattle.rh_settle.specs.Validity.{IsSound}
+use Rattle.rh_settle.specs.Readiness.{all_alive}
 use Rattle.rh_events.specs.ComingUp.{come_up}
 use Rattle.rh_events.specs.Ending.{ended}
 use Rattle.rh_events.proofs.Losing.{due_without_sync}
@@ -55,11 +55,11 @@ effect_cluster o (Failover a) = by (standing_of o.state a)
     by (Lost n) = refl
     by _ = refl
 
-pub effect_marked : (o : Course) (t : Timer) → IsTimerOf o.state.cluster t → All (λ (p : Pair). IsNodeOf o.state.cluster p.node) o.marked
-    → All (λ (p : Pair). IsNodeOf o.state.cluster p.node) (effect o t).marked
-effect_marked o (Sync n) here before = by (all_alive o.state (mandatory_of o.state.cluster n))
+pub effect_marked : (o : Course) (t : Timer) → IsTimerOf o.state.cluster t → IsWithin o.state.cluster → All (IsPairOf o.state.cluster) o.marked
+    → All (IsPairOf o.state.cluster) (effect o t).marked
+effect_marked o (Sync n) here within before = by (all_alive o.state (mandatory_of o.state.cluster n))
   where
-    by : (b : Bool) → All (λ (p : Pair). IsNodeOf o.state.cluster p.node) (cond b (come_up o n) (ended o n)).marked
-    by true = marked_come_up o.state.cluster o n here before
-    by false = subst (λ (ps : List Pair). All (λ (p : Pair). IsNodeOf o.state.cluster p.node) ps) (sym (ended_marked o n)) before
-effect_marked o (Failover a) here before = before
+    by : (b : Bool) → All (IsPairOf o.state.cluster) (cond b (come_up o n) (ended o n)).marked
+    by true = marked_come_up o.state.cluster o n refl within here before
+    by false = subst (λ (ps : List Pair). All (IsPairOf o.state.cluster) ps) (sym (ended_marked o n)) before
+effect_marked o (Failover a) here within before = before

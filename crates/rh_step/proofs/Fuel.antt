@@ -20,8 +20,8 @@ use Rattle.rh_state.specs.StateView.{StateView, mode_of, is_waiting, is_up, runs
 use Rattle.rh_place.specs.declared.choosing.Pick.{Pick}
 use Rattle.rh_base.proofs.Lists.{cases}
 use Rattle.rh_settle.specs.Course.{Course}
-use Rattle.rh_settle.specs.Soundness.{IsSound}
-use Rattle.rh_events.specs.Readiness.{all_alive}
+use Rattle.rh_settle.specs.Validity.{IsSound}
+use Rattle.rh_settle.specs.Readiness.{all_alive}
 use Rattle.rh_events.specs.ComingUp.{come_up, ready_come_up}
 use Rattle.rh_events.specs.Ending.{ended}
 use Rattle.rh_step.specs.Ticks.{due_by, wanted_if_lost, effect, taken_off, fired, go_on, fired_by, all_fired}

@@ -1,6 +1,7 @@
 -- A step behind earlier notices: what it makes of them and of the state.
 use Rattle.std.proofs.Common.{◌≡◌, List, [], ◌++◌, None, refl, sym, ap, ◌∙◌, subst}
 use Rattle.rh_state.specs.StateView.{StateView}
+use Rattle.rh_state.specs.declared.edit.Edit.{Edit}
 use Rattle.rh_place.specs.declared.choosing.Pick.{Pick}
 use Rattle.rh_settle.specs.declared.notice.Notice.{Notice}
 use Rattle.rh_settle.specs.Course.{TraceView, trace_of, course_of, course}
@@ -8,7 +9,7 @@ use Rattle.rh_events.specs.declared.event.Event.{Event}
 use Rattle.rh_events.specs.Refusals.{refused}
 use Rattle.rh_step.specs.Outcomes.{Outcome, outcome, outcome_of, next_from, next}
 use Rattle.rh_step.specs.Allowed.{Allowed}
-use Rattle.rh_step.specs.Validity.{IsValid}
+use Rattle.rh_settle.specs.Validity.{IsValid}
 use Rattle.rh_settle.proofs.Behind.{after_notices}
 use Rattle.rh_step.proofs.NextAfter.{next_after}
 use Rattle.rh_step.proofs.Outcomes.{next_allowed}
@@ -18,9 +19,10 @@ next_is : (s : StateView) (e : Event) (pick : Pick) → next s e pick ≡ outcom
 unfolding next
 next_is s e pick = refl
 
--- a step from s, with these earlier notices, led to the state t and told this
+-- a step from s, with these earlier notices and edits, led to the state t and told this
 module _ (s t : StateView) (earlier told : List Notice) (begun trace : TraceView) (e : Event) (pick : Pick)
-    (begins : begun ≡ trace_of earlier []) (made : course t trace ≡ next_from (course s begun) e pick) (gives : told ≡ trace.notices) where
+    (edits : List Edit)
+    (begins : begun ≡ trace_of earlier [] edits) (made : course t trace ≡ next_from (course s begun) e pick) (gives : told ≡ trace.notices) where
   from_nothing : outcome t told ≡ outcome_of (after_notices earlier (next_from (course_of s [] []) e pick))
   from_nothing =
       ap (outcome t) gives ∙ ap outcome_of made

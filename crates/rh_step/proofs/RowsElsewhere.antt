@@ -17,7 +17,7 @@ use Rattle.rh_settle.specs.declared.notice.Notice.TheVariants.{Up, Ended, Starte
 use Rattle.rh_settle.specs.Moves.{can_start, local_moves, placements, calls_away, takeovers, next_moves}
 use Rattle.rh_settle.specs.Settling.{moved_by, all_moved}
 use Rattle.rh_events.specs.declared.event.Event.TheVariants.{Boot, Crash, Tick, Stop, Takeover, Exit}
-use Rattle.rh_events.specs.Readiness.{all_alive, is_ready}
+use Rattle.rh_settle.specs.Readiness.{all_alive, is_ready}
 use Rattle.rh_events.specs.Marking.{with_mark, mark_all}
 use Rattle.rh_events.specs.ComingUp.{come_up, come_up_if_ready, ready_come_up}
 use Rattle.rh_events.specs.Ending.{cleared, lost_if_ran, all_lost, ended}

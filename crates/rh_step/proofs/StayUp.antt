@@ -15,7 +15,7 @@ use Rattle.rh_settle.specs.Course.{Course, course_of}
 use Rattle.rh_settle.specs.Settling.{settled}
 use Rattle.rh_events.specs.declared.event.Event.{Event}
 use Rattle.rh_events.specs.declared.event.Event.TheVariants.{Tick}
-use Rattle.rh_events.specs.Readiness.{all_alive, is_ready}
+use Rattle.rh_settle.specs.Readiness.{all_alive, is_ready}
 use Rattle.rh_events.specs.ComingUp.{come_up, come_up_if_ready, ready_come_up}
 use Rattle.rh_events.specs.Ending.{ended}
 use Rattle.rh_events.specs.Changes.{change}

@@ -12,9 +12,9 @@ use Rattle.rh_place.specs.declared.choosing.Pick.{Pick}
 use Rattle.rh_settle.specs.declared.notice.Notice.{Notice}
 use Rattle.rh_settle.specs.Course.{Course, course_of, now_in}
 use Rattle.rh_settle.specs.Settling.{settled}
-use Rattle.rh_settle.specs.Soundness.{IsSound}
+use Rattle.rh_settle.specs.Validity.{IsSound}
 use Rattle.rh_events.specs.declared.event.Event.TheVariants.{Tick}
-use Rattle.rh_events.specs.Readiness.{all_alive}
+use Rattle.rh_settle.specs.Readiness.{all_alive}
 use Rattle.rh_events.specs.ComingUp.{come_up, ready_come_up}
 use Rattle.rh_events.specs.Ending.{ended}
 use Rattle.rh_events.specs.declared.refusal.Refusal.TheVariants.{ZeroTick, TimeLimit}

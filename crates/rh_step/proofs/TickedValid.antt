@@ -7,10 +7,9 @@ use Rattle.rh_state.specs.Setters.{with_time}
 use Rattle.rh_place.specs.declared.choosing.Pick.{Pick}
 use Rattle.rh_settle.specs.Course.{Course, course_of}
 use Rattle.rh_settle.specs.Settling.{settled}
-use Rattle.rh_settle.specs.Soundness.{IsSound}
+use Rattle.rh_settle.specs.Validity.{IsSound, IsValid}
 use Rattle.rh_events.specs.ComingUp.{ready_come_up}
 use Rattle.rh_step.specs.Ticks.{due_by, effect, taken_off, fired, all_fired, ticked}
-use Rattle.rh_step.specs.Validity.{IsValid}
 use Rattle.rh_settle.proofs.Still.{settled_sound, settled_still, still_unmarked}
 use Rattle.rh_settle.proofs.Unchanged.{settled_cluster, settled_modes}
 use Rattle.rh_events.proofs.SoundComingUp.{sound_ready_come_up}

@@ -10,7 +10,7 @@ use Rattle.rh_settle.specs.Course.{Course, course_of}
 use Rattle.rh_settle.specs.Settling.{Settles}
 use Rattle.rh_events.specs.declared.event.Event.{Event}
 use Rattle.rh_events.specs.declared.event.Event.TheVariants.{Tick}
-use Rattle.rh_events.specs.Readiness.{is_ready}
+use Rattle.rh_settle.specs.Readiness.{is_ready}
 use Rattle.rh_events.specs.ComingUp.{come_up}
 use Rattle.rh_events.specs.Changes.{change}
 use Rattle.rh_events.specs.Refusals.{refused}

@@ -12,7 +12,7 @@ use Rattle.rh_events.specs.declared.event.Event.TheVariants.{Tick}
 use Rattle.rh_events.specs.Refusals.{refused}
 use Rattle.rh_step.specs.Allowed.{Allowed}
 use Rattle.rh_step.specs.Outcomes.{next, outcome}
-use Rattle.rh_step.specs.Validity.{IsValid}
+use Rattle.rh_settle.specs.Validity.{IsValid}
 
 -- the first state of a cluster is valid
 abbrev pub FirstIsValid : Type 0

@@ -1,5 +1,4 @@
 pub mod Ticks
 pub mod Outcomes
 pub mod Allowed
-pub mod Validity
 pub mod Laws

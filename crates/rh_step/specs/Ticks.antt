@@ -12,7 +12,7 @@ use Rattle.rh_state.specs.Setters.{with_time, with_standing, without_due}
 use Rattle.rh_place.specs.declared.choosing.Pick.{Pick}
 use Rattle.rh_settle.specs.Course.{Course, course_of, now_in}
 use Rattle.rh_settle.specs.Settling.{settled}
-use Rattle.rh_events.specs.Readiness.{all_alive}
+use Rattle.rh_settle.specs.Readiness.{all_alive}
 use Rattle.rh_events.specs.ComingUp.{come_up, ready_come_up}
 use Rattle.rh_events.specs.Ending.{ended}
 

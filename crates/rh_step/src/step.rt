@@ -1,36 +1,53 @@
 //! One step of a cluster.
 
-ghost use Rattle.std.specs.Prelude.{List, ◌≡◌, ◌++◌, All, OnOk, None};
-ghost use Rattle.rh_state.specs.Shape.{IsNodeOf};
+ghost use Rattle.std.specs.Prelude.{List, ◌≡◌, ◌≤◌, ◌++◌, length, take, drop, All, OnOk, OnErr, None};
+ghost use Rattle.rh_base.specs.Exchanges.{back, AllBack};
+ghost use Rattle.rh_state.specs.Edits.{exchange};
+ghost use Rattle.rh_state.specs.Records.{CanGoBack, Grows};
 ghost use Rattle.rh_state.specs.Stored.{read};
 ghost use Rattle.rh_settle.specs.declared.notice.Notice.{Notice};
-ghost use Rattle.rh_settle.specs.declared.notice.Pair.{Pair};
-ghost use Rattle.rh_settle.specs.Course.{course};
+ghost use Rattle.rh_settle.specs.Course.{IsPairOf, course};
 ghost use Rattle.rh_settle.specs.Settling.{settled};
-ghost use Rattle.rh_settle.specs.Soundness.{IsSound};
+ghost use Rattle.rh_settle.specs.Validity.{IsSound, IsValid};
+ghost use Rattle.rh_settle.specs.Ways.{Goes};
 ghost use Rattle.rh_events.specs.declared.event.Event.TheVariants.{Tick};
 ghost use Rattle.rh_events.specs.ComingUp.{ready_come_up};
 ghost use Rattle.rh_events.specs.Refusals.{refused};
 ghost use Rattle.rh_step.specs.Outcomes.{outcome, followed, next_from, next};
 ghost use Rattle.rh_step.specs.Allowed.{Allowed};
-ghost use Rattle.rh_step.specs.Validity.{IsValid};
 
 use crate::ticks::pass_time;
 use rh_base::OutOfMemory;
 use rh_events::{Event, change, let_ready_come_up};
 use rh_place::Pick;
 use rh_settle::{Notice, Trace, settle};
-use rh_state::State;
+use rh_state::{Edit, State, go_back};
 use std::alloc::Global;
 use std::mem;
 
-/// Makes an event that isn't refused, and adds what follows from it behind the earlier notices. Each tie goes to the pick.
-/// Where memory is refused, nothing is said of the state and the notices.
+/// Makes an event that isn't refused, and adds what follows from it behind the earlier notices, and what it changed in the
+/// state behind the earlier edits. Each tie goes to the pick. Where memory is refused, state and both lists are as before.
+///
+/// A state needs no simulation for that. The first one is valid by [`first_is_valid`](crate::first_is_valid), and so is each
+/// that `perform` leads to:
+///
+/// ```
+/// cluster.is_within();
+/// first_is_valid();
+/// let mut state = first_state(alloc, &cluster)?;
+/// let mut edits = Vec::new(alloc);
+/// let mut notices = Vec::new(alloc);
+/// let boot = Event::Boot { node: Node(0) };
+/// if refusal_of(&state, &boot).is_none() {
+///     perform(alloc, &mut state, &boot, Pick::First, &mut edits, &mut notices)?;
+/// }
+/// ```
 pub fn perform(
     alloc: Global,
     state: &mut State,
     event: &Event,
     pick: Pick,
+    edits: &mut Vec<Edit>,
     notices: &mut Vec<Notice>,
 ) -> Result<(), OutOfMemory>
     requires accepted { refused (read state.old) event.now ≡ None }
@@ -42,20 +59,47 @@ pub fn perform(
     ensures allowed { OnOk result ((told : List Notice) × (notices.new.items ≡ notices.old.items ++ told)
         × Allowed (read state.old) event.now (outcome (read state.new) told)) }
     ensures valid { OnOk result (IsValid (read state.new)) }
+
+    // The edits that were added lead back to the state before, word for word, over states that are well formed.
+    ensures edits { OnOk result (Grows state.old edits.old.items state.new edits.new.items) }
+
+    // Want of memory changes nothing.
+    ensures kept_state { OnErr result (state.new ≡ state.old) }
+    ensures kept_edits { OnErr result (edits.new.items ≡ edits.old.items) }
+    ensures kept_notices { OnErr result (notices.new.items ≡ notices.old.items) }
 {
     let earlier = mem::replace(notices, Vec::new(alloc));
-    let mut trace = Trace::of(earlier, alloc);
+    let before = mem::replace(edits, Vec::new(alloc));
+    let told = earlier.len();
+    let kept = before.len();
+    let mut trace = Trace::of(earlier, before, alloc);
     let made = make(state, event, pick, &mut trace);
-    *notices = trace.into_notices();
+    (*notices, *edits) = trace.into_parts();
+    if made.is_err() {
+        take_back(state, edits, kept);
+        notices.truncate(told);
+    }
     made
+}
+
+// The edits behind the first so many are taken back, and dropped.
+fn take_back(state: &mut State, edits: &mut Vec<Edit>, kept: usize)
+    requires within { kept ≤ length edits.old.items }
+    requires back { AllBack exchange CanGoBack state.old (drop kept edits.old.items) }
+    ensures state { state.new ≡ back exchange state.old (drop kept edits.old.items) }
+    ensures edits { edits.new.items ≡ take kept edits.old.items }
+{
+    go_back(&mut edits[kept..], state);
+    edits.truncate(kept);
 }
 
 // The event, and what follows from it.
 fn make(state: &mut State, event: &Event, pick: Pick, trace: &mut Trace) -> Result<(), OutOfMemory>
     requires accepted { refused (read state.old) event.now ≡ None }
     requires sound { IsSound (read state.old) }
-    requires marked { All (λ (p : Pair). IsNodeOf (read state.old).cluster p.node) trace.old.marked }
-    ensures { OnOk result (course (read state.new) trace.new ≡ next_from (course (read state.old) trace.old) event.now pick) }
+    requires marked { All (IsPairOf (read state.old).cluster) trace.old.marked }
+    ensures course { OnOk result (course (read state.new) trace.new ≡ next_from (course (read state.old) trace.old) event.now pick) }
+    ensures way { Goes state.old trace.old state.new trace.new }
 {
     match *event {
         Event::Tick { ms } => pass_time(state, ms, pick, trace),
@@ -73,8 +117,9 @@ fn happen(
 ) -> Result<(), OutOfMemory>
     requires accepted { refused (read state.old) event.now ≡ None }
     requires sound { IsSound (read state.old) }
-    requires marked { All (λ (p : Pair). IsNodeOf (read state.old).cluster p.node) trace.old.marked }
-    ensures { OnOk result (course (read state.new) trace.new ≡ followed pick (course (read state.old) trace.old) event.now) }
+    requires marked { All (IsPairOf (read state.old).cluster) trace.old.marked }
+    ensures course { OnOk result (course (read state.new) trace.new ≡ followed pick (course (read state.old) trace.old) event.now) }
+    ensures way { Goes state.old trace.old state.new trace.new }
 {
     change(state, event, trace)?;
     follow(state, pick, trace)
@@ -83,8 +128,9 @@ fn happen(
 /// What follows of itself: the ready nodes come up, and the applications settle.
 pub fn follow(state: &mut State, pick: Pick, trace: &mut Trace) -> Result<(), OutOfMemory>
     requires sound { IsSound (read state.old) }
-    requires marked { All (λ (p : Pair). IsNodeOf (read state.old).cluster p.node) trace.old.marked }
-    ensures { OnOk result (course (read state.new) trace.new ≡ settled pick (ready_come_up (course (read state.old) trace.old))) }
+    requires marked { All (IsPairOf (read state.old).cluster) trace.old.marked }
+    ensures course { OnOk result (course (read state.new) trace.new ≡ settled pick (ready_come_up (course (read state.old) trace.old))) }
+    ensures way { Goes state.old trace.old state.new trace.new }
 {
     let_ready_come_up(state, trace)?;
     settle(state, pick, trace)

@@ -11,7 +11,8 @@ ghost use Rattle.rh_state.specs.Stored.{read};
 ghost use Rattle.rh_state.specs.declared.status.Standing.TheVariants.{Running};
 ghost use Rattle.rh_state.specs.declared.status.Timer.TheVariants.{Sync, Failover};
 ghost use Rattle.rh_settle.specs.Course.{course};
-ghost use Rattle.rh_settle.specs.Soundness.{IsSound};
+ghost use Rattle.rh_settle.specs.Validity.{IsSound};
+ghost use Rattle.rh_settle.specs.Ways.{Goes};
 ghost use Rattle.rh_step.specs.Ticks.{due_by, wanted_if_lost, effect, taken_off, fired, all_fired, ticked};
 
 use crate::step::follow;
@@ -19,11 +20,11 @@ use rh_base::OutOfMemory;
 use rh_events::{all_alive, cancel_if_set, come_up, end};
 use rh_model::{App, Node};
 use rh_place::Pick;
-use rh_settle::Trace;
+use rh_settle::{Trace, recording};
 use rh_state::{Standing, State, Timer};
 
 /// So many milliseconds pass.
-#[tactic(auto, unfolding(crate::specs::Ticks::ticked))]
+#[tactic(auto, unfolding(crate::specs::Ticks::ticked), using(rh_settle::proofs::Ways::goes_more))]
 pub fn pass_time(
     state: &mut State,
     ms: u64,
@@ -32,19 +33,21 @@ pub fn pass_time(
 ) -> Result<(), OutOfMemory>
     requires end { (read state.old).time + ms ≤ time_limit }
     requires sound { IsSound (read state.old) }
-    ensures { OnOk result (course (read state.new) trace.new ≡ ticked pick (course (read state.old) trace.old) ms) }
+    ensures course { OnOk result (course (read state.new) trace.new ≡ ticked pick (course (read state.old) trace.old) ms) }
+    ensures way { Goes state.old trace.old state.new trace.new }
 {
     let end = state.now() + ms;
     fire_due(state, end, pick, trace)?;
-    state.set_now(end);
-    Ok(())
+    recording::set_now(state, end, trace)
 }
 
 // The timers that are due by the limit fire, one after the other.
+#[tactic(auto, using(rh_settle::proofs::Ways::goes_none))]
 fn fire_due(state: &mut State, limit: u64, pick: Pick, trace: &mut Trace) -> Result<(), OutOfMemory>
     requires limit { limit ≤ time_limit }
     requires sound { IsSound (read state.old) }
-    ensures { OnOk result (course (read state.new) trace.new ≡ all_fired pick limit (course (read state.old) trace.old)) }
+    ensures course { OnOk result (course (read state.new) trace.new ≡ all_fired pick limit (course (read state.old) trace.old)) }
+    ensures way { Goes state.old trace.old state.new trace.new }
 {
     'timers: while let Some((due, timer)) = due_by(state, limit) {
         fire(state, due, timer, pick, trace)?;
@@ -65,18 +68,21 @@ fn due_by(state: &State, limit: u64) -> Option<(u64, Timer)>
 }
 
 // The timer is taken off, it is as late as it was due, and what was marked before is no longer fresh.
-fn take_off(state: &mut State, due: u64, timer: Timer, trace: &mut Trace)
+#[tactic(auto, using(rh_settle::proofs::Ways::goes_marked, rh_settle::proofs::Ways::goes_more))]
+fn take_off(state: &mut State, due: u64, timer: Timer, trace: &mut Trace) -> Result<(), OutOfMemory>
     requires due { due ≤ time_limit }
     requires timer { IsTimerOf (read state.old).cluster timer }
-    ensures { course (read state.new) trace.new ≡ taken_off (course (read state.old) trace.old) (due, timer) }
+    ensures course { OnOk result (course (read state.new) trace.new ≡ taken_off (course (read state.old) trace.old) (due, timer)) }
+    ensures way { Goes state.old trace.old state.new trace.new }
 {
-    cancel_if_set(state, timer);
-    state.set_now(due);
+    cancel_if_set(state, timer, trace)?;
+    recording::set_now(state, due, trace)?;
     trace.forget_marks();
+    Ok(())
 }
 
 // The timer that is set first fires, and what follows from it happens.
-#[tactic(auto, unfolding(crate::specs::Ticks::fired))]
+#[tactic(auto, unfolding(crate::specs::Ticks::fired), using(rh_settle::proofs::Ways::goes_more))]
 fn fire(
     state: &mut State,
     due: u64,
@@ -88,9 +94,10 @@ fn fire(
     requires timer { IsTimerOf (read state.old).cluster timer }
     requires first { earliest (read state.old) ≡ Some (due, timer) }
     requires sound { IsSound (read state.old) }
-    ensures { OnOk result (course (read state.new) trace.new ≡ fired pick (course (read state.old) trace.old) (due, timer)) }
+    ensures course { OnOk result (course (read state.new) trace.new ≡ fired pick (course (read state.old) trace.old) (due, timer)) }
+    ensures way { Goes state.old trace.old state.new trace.new }
 {
-    take_off(state, due, timer, trace);
+    take_off(state, due, timer, trace)?;
     take_effect(state, timer, trace)?;
     follow(state, pick, trace)
 }
@@ -101,14 +108,12 @@ fn take_effect(state: &mut State, timer: Timer, trace: &mut Trace) -> Result<(),
     requires running { (n : Node) → timer ≡ Sync n → running_at (read state.old) n ≡ [] }
     requires waiting { (n : Node) → timer ≡ Sync n → waiting_at (read state.old) n ≡ [] }
     requires unset { (n : Node) (a : App) → timer ≡ Sync n → standing_of (read state.old) a ≡ Running n → IsNone (due_of (read state.old) (Failover a)) }
-    ensures { OnOk result (course (read state.new) trace.new ≡ effect (course (read state.old) trace.old) timer) }
+    ensures course { OnOk result (course (read state.new) trace.new ≡ effect (course (read state.old) trace.old) timer) }
+    ensures way { Goes state.old trace.old state.new trace.new }
 {
     match timer {
         Timer::Sync(node) => end_wait(state, node, trace),
-        Timer::Failover(app) => {
-            want_if_lost(state, app);
-            Ok(())
-        }
+        Timer::Failover(app) => want_if_lost(state, app, trace),
     }
 }
 
@@ -118,7 +123,8 @@ fn end_wait(state: &mut State, node: Node, trace: &mut Trace) -> Result<(), OutO
     requires running { running_at (read state.old) node ≡ [] }
     requires waiting { waiting_at (read state.old) node ≡ [] }
     requires unset { (a : App) → standing_of (read state.old) a ≡ Running node → IsNone (due_of (read state.old) (Failover a)) }
-    ensures { OnOk result (course (read state.new) trace.new ≡ effect (course (read state.old) trace.old) (Sync node)) }
+    ensures course { OnOk result (course (read state.new) trace.new ≡ effect (course (read state.old) trace.old) (Sync node)) }
+    ensures way { Goes state.old trace.old state.new trace.new }
 {
     if all_alive(state, state.cluster().mandatory(node)) {
         come_up(state, node, trace)
@@ -128,12 +134,18 @@ fn end_wait(state: &mut State, node: Node, trace: &mut Trace) -> Result<(), OutO
 }
 
 // An application that is lost is wanted.
-fn want_if_lost(state: &mut State, app: App)
+#[tactic(auto, using(rh_settle::proofs::Ways::goes_none))]
+fn want_if_lost(state: &mut State, app: App, trace: &mut Trace) -> Result<(), OutOfMemory>
     requires { app.0 < app_count (read state.old).cluster }
-    ensures { read state.new ≡ wanted_if_lost (read state.old) app (standing_of (read state.old) app) }
+    ensures part { OnOk result (read state.new ≡ wanted_if_lost (read state.old) app (standing_of (read state.old) app)) }
+    ensures told { trace.new.notices ≡ trace.old.notices }
+    ensures marked { trace.new.marked ≡ trace.old.marked }
+    ensures way { Goes state.old trace.old state.new trace.new }
 {
     match state.standing(app) {
-        Standing::Lost(node) => state.set_standing(app, Standing::Wanted(Some(node))),
-        Standing::Quiet | Standing::Wanted(_) | Standing::Running(_) => {}
+        Standing::Lost(node) => {
+            recording::set_standing(state, app, Standing::Wanted(Some(node)), trace)
+        }
+        Standing::Quiet | Standing::Wanted(_) | Standing::Running(_) => Ok(()),
     }
 }

@@ -1,3 +1,4 @@
+pub mod Chained
 pub mod Trying
 pub mod Strides
 pub mod Rows

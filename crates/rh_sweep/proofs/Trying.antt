@@ -1,5 +1,5 @@
 -- The events of a plan, made one after the other.
-use Rattle.std.proofs.Common.{◌≡◌, ℕ, suc, ◌+◌, ◌<◌, Bool, cond, List, [], ◌∷◌, ◌++◌, length, take, drop, count_by, get_or, slice_get}
+use Rattle.std.proofs.Common.{◌≡◌, ℕ, suc, ◌+◌, ◌<◌, ◌≤◌, Bool, cond, List, [], ◌∷◌, ◌++◌, length, take, drop, count_by, get_or, slice_get}
 use Rattle.std.proofs.Common.{sym, ap, ◌∙◌, arith}
 use Rattle.std.specs.List.{flat_map, prefix_len}
 use Rattle.std.proofs.lemmas.List.{length-take-le, length_push, take-append-le, take-take}
@@ -12,7 +12,8 @@ use Rattle.rh_trail.specs.declared.call.Call.{Call}
 use Rattle.rh_trail.specs.declared.call.Call.TheVariants.{Step}
 use Rattle.rh_trail.specs.declared.call.Reply.{Reply}
 use Rattle.rh_trail.specs.declared.call.Reply.TheVariants.{Done}
-use Rattle.rh_trail.specs.SimView.{SimView, state_of}
+use Rattle.rh_trail.specs.Chain.{chain}
+use Rattle.rh_trail.specs.SimView.{SimView, Held, state_of}
 use Rattle.rh_trail.specs.Lone.{Served, answered, served, replies, sim_after, with_event}
 use Rattle.rh_trail.proofs.Reversals.{accepted}
 use Rattle.rh_sweep.specs.declared.plan.Outcome.{Outcome}
@@ -26,14 +27,22 @@ use Rattle.rh_sweep.specs.Working.{IsAhead}
 pub made-event : (t u : SimView) (e : Event) (ns : List Notice) → served t (Step e) ≡ answered (Done ns) u → u ≡ with_event t e
 made-event t u e ns is = sym (ap (λ (v : Served). v.sim) is) ∙ (accepted t e ns (ap (λ (v : Served). v.reply) is)).sim
 
-pub ahead-event : (s t : SimView) (e : Event) → IsAtEnd t → IsAhead s t → IsAhead s (with_event t e)
-ahead-event s t e end a = record {
-  cluster = a.cluster;
-  pick = a.pick;
-  begins = take-append-le s.cursor (take t.cursor t.trail) (e ∷ []) (omega (arith, a.further, length-take-le t.cursor t.trail (omega (arith, end))))
-      ∙ take-take s.cursor t.cursor t.trail a.further
+pub ahead-event : (s t u : Held) (e : Event) → IsAtEnd t.seen → IsAhead s t → u.seen ≡ with_event t.seen e
+    → ((k : ℕ) → k ≤ t.seen.cursor → chain u k ≡ chain t k) → take t.seen.cursor u.records ≡ take t.seen.cursor t.records → IsAhead s u
+ahead-event s t u e end a made chains records = record {
+  cluster = ap (λ (v : SimView). v.cluster) made ∙ a.cluster;
+  pick = ap (λ (v : SimView). v.pick) made ∙ a.pick;
+  begins = ap (λ (v : SimView). take s.seen.cursor v.trail) made
+      ∙ take-append-le s.seen.cursor (take t.seen.cursor t.seen.trail) (e ∷ [])
+      (omega (arith, a.further, length-take-le t.seen.cursor t.seen.trail (omega (arith, end))))
+      ∙ take-take s.seen.cursor t.seen.cursor t.seen.trail a.further
       ∙ a.begins;
-  further = omega (arith, a.further);
+  further = let cursor : u.seen.cursor ≡ t.seen.cursor + 1 = ap (λ (v : SimView). v.cursor) made in omega (arith, cursor, a.further);
+  chain = λ k within. chains k (omega (arith, within, a.further)) ∙ a.chain k within;
+  records = sym (take-take s.seen.cursor t.seen.cursor u.records a.further)
+      ∙ ap (take s.seen.cursor) records
+      ∙ take-take s.seen.cursor t.seen.cursor t.records a.further
+      ∙ a.records;
 }
 
 pub end-event : (t : SimView) (e : Event) → IsAtEnd t → IsAtEnd (with_event t e)

@@ -3,7 +3,8 @@ use Rattle.std.specs.Prelude.{◌≡◌, ◌≤◌, ◌<◌, ◌+◌, ◌*◌, �
 use Rattle.std.specs.Option.{option_map}
 use Rattle.rh_events.specs.declared.refusal.Refusal.{Refusal}
 use Rattle.rh_state.specs.StateView.{StateView}
-use Rattle.rh_trail.specs.SimView.{SimView}
+use Rattle.rh_trail.specs.Chain.{chain}
+use Rattle.rh_trail.specs.SimView.{SimView, Held}
 use Rattle.rh_sweep.specs.declared.plan.Outcome.{Outcome}
 use Rattle.rh_sweep.specs.declared.plan.Plan.{Plan}
 use Rattle.rh_sweep.specs.Outcomes.{outcome_of, standings_in}
@@ -18,12 +19,14 @@ ended s accepted refused failovers takeovers = record {
   takeovers = takeovers;
 }
 
--- a simulation that went on from another, which was at its end
-pub record IsAhead (s t : SimView) : Type 0 where
-  pub cluster : t.cluster ≡ s.cluster
-  pub pick : t.pick ≡ s.pick
-  pub begins : take s.cursor t.trail ≡ s.trail
-  pub further : s.cursor ≤ t.cursor
+-- a simulation that went on from another, which was at its end: what stood there stands, with its records and its words
+pub record IsAhead (s t : Held) : Type 0 where
+  pub cluster : t.seen.cluster ≡ s.seen.cluster
+  pub pick : t.seen.pick ≡ s.seen.pick
+  pub begins : take s.seen.cursor t.seen.trail ≡ s.seen.trail
+  pub further : s.seen.cursor ≤ t.seen.cursor
+  pub chain : (k : ℕ) → k ≤ s.seen.cursor → chain t k ≡ chain s k
+  pub records : take s.seen.cursor t.records ≡ take s.seen.cursor s.records
 
 -- the outcomes of the plans first, first + k, first + 2k and so on
 abbrev pub AreOutcomes : SimView → List Plan → ℕ → ℕ → List Outcome → Type 0

@@ -1,9 +1,10 @@
 //! One plan, tried and taken back.
 
-ghost use Rattle.std.specs.Prelude.{◌≡◌, ◌≤◌, ◌<◌, ◌++◌, IfOk, OnOk, count_by};
+ghost use Rattle.std.specs.Prelude.{◌≡◌, ◌≤◌, ◌<◌, ◌++◌, take, IfOk, OnOk, count_by};
 ghost use Rattle.rh_model.specs.ClusterView.{app_count};
 ghost use Rattle.rh_settle.specs.declared.notice.Notice.{Notice};
 ghost use Rattle.rh_state.specs.Stored.{read};
+ghost use Rattle.rh_trail.specs.Chain.{chain};
 ghost use Rattle.rh_trail.specs.SimView.{state_of};
 ghost use Rattle.rh_sweep.specs.Outcomes.{outcome_in, outcome_of, standing_in, standings_in, is_failover, is_takeover};
 ghost use Rattle.rh_sweep.specs.Sweeping.{HasRoom, HasRoomFor, IsAtEnd};
@@ -36,6 +37,8 @@ pub fn try_plan(alloc: Global, sim: &mut Sim, plan: &Plan) -> Result<Outcome, Ou
     ensures outcome { IfOk result (λ outcome. outcome ≡ outcome_of sim.old.seen plan.now) }
     ensures kept { sim.new ≡ sim.old }
 {
+    // As many records as events stand.
+    sim.is_chained();
     let start = sim.cursor();
     let outcome = tried(alloc, sim, plan.events.as_slice());
     go_back(sim, start);
@@ -48,7 +51,7 @@ fn tried(alloc: Global, sim: &mut Sim, events: &[Event]) -> Result<Outcome, OutO
     requires end { IsAtEnd sim.old.seen }
     requires room { HasRoomFor sim.old.seen events.now }
     ensures outcome { IfOk result (λ outcome. outcome ≡ outcome_in sim.old.seen events.now) }
-    ensures ahead { IsAhead sim.old.seen sim.new.seen }
+    ensures ahead { IsAhead sim.old sim.new }
 {
     let count = go_ahead(alloc, sim, events)?;
     let standings = standings_in(alloc, sim.state())?;
@@ -66,7 +69,7 @@ fn go_ahead(alloc: Global, sim: &mut Sim, events: &[Event]) -> Result<Count, Out
     requires end { IsAtEnd sim.old.seen }
     requires room { HasRoomFor sim.old.seen events.now }
     ensures outcome { IfOk result (λ c. ended (state_of sim.new.seen) c.accepted c.refused c.failovers c.takeovers ≡ outcome_in sim.old.seen events.now) }
-    ensures ahead { IsAhead sim.old.seen sim.new.seen }
+    ensures ahead { IsAhead sim.old sim.new }
 {
     let mut failovers = 0;
     let mut takeovers = 0;
@@ -174,7 +177,9 @@ fn push_standing(
 // Takes steps back to this place of the trail.
 fn go_back(sim: &mut Sim, cursor: usize)
     requires { cursor ≤ sim.old.seen.cursor }
-    ensures { sim.new.seen ≡ record sim.old.seen { cursor = cursor } }
+    ensures seen { sim.new.seen ≡ record sim.old.seen { cursor = cursor } }
+    ensures words { sim.new.words ≡ chain sim.old cursor }
+    ensures records { take cursor sim.new.records ≡ take cursor sim.old.records }
 {
     'back: while sim.cursor() > cursor {
         let _ = sim.undo();

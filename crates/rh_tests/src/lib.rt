@@ -7,7 +7,11 @@ mod clusters;
 #[cfg(test)]
 mod devices;
 #[cfg(test)]
+mod lists;
+#[cfg(test)]
 mod places;
+#[cfg(test)]
+mod records;
 #[cfg(test)]
 mod rehearsals;
 #[cfg(test)]
@@ -16,6 +20,8 @@ mod rooms;
 mod sims;
 #[cfg(test)]
 mod states;
+#[cfg(test)]
+mod steps;
 #[cfg(test)]
 mod support;
 #[cfg(test)]

@@ -3,7 +3,7 @@
 use crate::support::{ONE_NODE, cluster_of};
 use rh_app::report;
 use rh_cluster::{App, Node};
-use rh_state::{State, Timer, first_state};
+use rh_state::{Mode, Place, State, Timer, first_state};
 use std::alloc::Global;
 use std::process::Abort;
 
@@ -68,4 +68,44 @@ fn the_first_state_and_its_copy_report_the_same(rt: HostRuntime) {
     is_reported(&rt, rt.alloc(), &state);
     reports_in_copy(&rt, rt.alloc(), &state);
     assert!(rt; state.earliest().is_none());
+}
+
+// A part that was set has its old value again.
+fn a_mode_is_taken_back(rt: &impl Abort, state: &mut State) {
+    assert!(rt; state.cluster().node_count() == 2);
+    state.formed();
+    let mut edit = state.set_mode(Node(1), Mode::Up);
+    assert!(rt; state.mode(Node(1)) == Mode::Up);
+    state.back(&mut edit);
+}
+
+// An application that was started waits no longer, and its links are as they were.
+fn a_start_is_taken_back(rt: &impl Abort, state: &mut State) {
+    assert!(rt; state.cluster().node_count() == 2 && state.cluster().app_count() == 1);
+    assert!(rt; state.place_of(Node(0), App(0)) == Place::Off);
+    state.formed();
+    let mut edit = state.push_waiting(Node(0), App(0));
+    assert!(rt; state.first_waiting(Node(0)) == Some(App(0)));
+    state.back(&mut edit);
+}
+
+// A timer that was set isn't any more.
+fn a_timer_is_taken_back(rt: &impl Abort, state: &mut State) {
+    assert!(rt; state.cluster().node_count() == 2);
+    let timer = Timer::Sync(Node(1));
+    assert!(rt; state.due_of(timer).is_none());
+    state.formed();
+    let mut edit = state.arm_timer(timer, 36);
+    assert!(rt; state.earliest() == Some((36, timer)));
+    state.back(&mut edit);
+}
+
+#[test]
+fn what_setters_changed_is_taken_back(rt: HostRuntime) {
+    let mut state = begun(&rt, rt.alloc(), TWO_NODES);
+    let before = state.copy(rt.alloc()).ok().expect(&rt, "memory");
+    a_mode_is_taken_back(&rt, &mut state);
+    a_start_is_taken_back(&rt, &mut state);
+    a_timer_is_taken_back(&rt, &mut state);
+    assert!(rt; state.same_words(&before));
 }

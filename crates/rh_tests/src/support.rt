@@ -1,6 +1,7 @@
 //! The clusters of these tests, and simulations on them.
 
 use rh_cluster::{Cluster, read_cluster};
+use rh_state::State;
 use rh_step::{Event, Pick};
 use rh_trail::Sim;
 use std::alloc::Global;
@@ -61,4 +62,9 @@ pub fn make_all(rt: &impl Abort, alloc: Global, sim: &mut Sim, events: &[Event])
     for event in events {
         assert!(rt; sim.step(alloc, *event).is_ok());
     }
+}
+
+/// A copy of the state that a simulation has.
+pub fn copied(rt: &impl Abort, alloc: Global, sim: &Sim) -> State {
+    sim.state().copy(alloc).ok().expect(rt, "memory")
 }

@@ -1,7 +1,7 @@
 //! Sweeps: two workers that are at work at once, outcomes for any number of workers, faults, and a simulation that a plan
 //! leaves as it was.
 
-use crate::support::{CAVE, ONE_NODE, make_all, sim_on};
+use crate::support::{CAVE, ONE_NODE, copied, make_all, sim_on};
 use rh_base::Str;
 use rh_cluster::{App, Node, Restart};
 use rh_step::Event;
@@ -274,16 +274,26 @@ fn tried(rt: &impl Abort, alloc: Global, sim: &mut Sim, plan: &Plan) -> Outcome 
 // Does each of these plans leave it as it was?
 fn stays(rt: &impl Abort, alloc: Global, sim: &mut Sim, plans: &[Plan]) {
     let before = seen(rt, alloc, sim);
+    let words = copied(rt, alloc, sim);
     for plan in plans {
         let outcome = tried(rt, alloc, sim, plan);
         assert!(rt; outcome.accepted <= 2);
         assert!(rt; before.same(&seen(rt, alloc, sim)));
+        assert!(rt; sim.state().same_words(&words));
     }
+}
+
+// How many edits the last of the three boots made.
+fn edits_of_last(rt: &impl Abort, sim: &Sim) -> usize {
+    assert!(rt; sim.trail().len() == 3);
+    sim.record(2).len()
 }
 
 #[test]
 fn a_plan_leaves_the_simulation_as_it_was(rt: HostRuntime) {
     let mut sim = booted(&rt, rt.alloc());
     let plans = plans(&rt, rt.alloc());
+    let edits = edits_of_last(&rt, &sim);
     stays(&rt, rt.alloc(), &mut sim, plans.as_slice());
+    assert!(rt; sim.undo().ok() == Some(edits));
 }

@@ -1,4 +1,9 @@
 pub mod Histories
+pub mod Cuts
+pub mod Chains
+pub mod Moves
+pub mod Rewinding
 pub mod Reversals
 pub mod Rows
 pub mod Crossing
+pub mod Walks

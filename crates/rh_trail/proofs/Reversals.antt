@@ -1,5 +1,5 @@
 -- Undo and redo after any list of calls.
-use Rattle.std.proofs.Common.{◌≡◌, ℕ, ◌+◌, ◌-◌, ◌<◌, ◌≤◌, ◌==◌, List, [], ◌∷◌, ◌++◌, length, take, Option, Some, None, Bool, true, false, cond, refl, sym, ap}
+use Rattle.std.proofs.Common.{◌≡◌, ℕ, zero, suc, replicate, ◌+◌, ◌-◌, ◌<◌, ◌≤◌, ◌==◌, List, [], ◌∷◌, ◌++◌, length, take, Option, Some, None, Bool, true, false, cond, refl, sym, ap}
 use Rattle.std.proofs.Common.{subst, ◌∙◌, arith}
 use Rattle.std.proofs.lemmas.Bool.Decides.{nat_tests}
 use Rattle.std.proofs.lemmas.List.{length-take-le, take_all, take_at, length_push}
@@ -18,7 +18,7 @@ use Rattle.rh_trail.specs.Runs.{step, after}
 use Rattle.rh_trail.specs.SimView.{SimView, state_of}
 use Rattle.rh_trail.specs.Lone.{Served, answered, served, stepped, with_event, opened, sim_after, trail_limit}
 use Rattle.rh_trail.specs.Laws.{is_refusal, next_sim, Accepts, IsReversible, CallsAreReversible}
-use Rattle.rh_step.specs.Validity.{IsValid}
+use Rattle.rh_settle.specs.Validity.{IsValid}
 use Rattle.rh_step.proofs.Outcomes.{next_allowed}
 use Rattle.rh_step.proofs.Validity.{next_valid}
 use Rattle.rh_trail.proofs.Histories.{opened_valid, each_state, state_last}
@@ -215,19 +215,44 @@ call_kept s call.UndoAll h = absurd (cc h)
 call_kept s call.RedoAll h = absurd (cc h)
 call_kept s call.Look h = refl
 
+-- so many steps back, and so many forth
+undos_lead : (k : ℕ) (s : SimView) → k ≤ s.cursor → sim_after s (replicate k call.Undo) ≡ at_cursor s (s.cursor - k)
+undos_lead zero s within = ap (at_cursor s) (omega arith)
+undos_lead (suc k) s within =
+    let not_start : (s.cursor == 0) ≡ false = grind (arith, nat_tests, within) in
+    let rest : s.cursor - 1 - k ≡ s.cursor - suc k = omega (arith, within) in
+    ap (λ (t : SimView). sim_after t (replicate k call.Undo)) (undo_sim s not_start)
+    ∙ undos_lead k (at_cursor s (s.cursor - 1)) (omega (arith, within))
+    ∙ ap (at_cursor s) rest
+
+redos_lead : (k : ℕ) (s : SimView) → s.cursor + k ≤ length s.trail → sim_after s (replicate k call.Redo) ≡ at_cursor s (s.cursor + k)
+redos_lead zero s within = ap (at_cursor s) (omega arith)
+redos_lead (suc k) s within =
+    let not_end : (s.cursor == length s.trail) ≡ false = grind (arith, nat_tests, within) in
+    let rest : s.cursor + 1 + k ≡ s.cursor + suc k = omega arith in
+    ap (λ (t : SimView). sim_after t (replicate k call.Redo)) (redo_sim s not_end)
+    ∙ redos_lead k (at_cursor s (s.cursor + 1)) (omega (arith, within))
+    ∙ ap (at_cursor s) rest
+
 pub reversible : (s : SimView) → IsSound s → IsReversible s
 reversible s sound = record {
   within = sound.within;
   limited = sound.limited;
   valid = state_valid s sound;
-  allowed = λ e ns is. is_allowed s sound e ns is;
-  undone = λ e ns is. is_undone_to s sound e ns is;
-  redone = λ e ns is. is_redone_to s sound e ns is;
-  back = λ is. back_forth s sound (moved_back s is);
-  forth = λ is. forth_back s (moved_forth s is);
+  steps = λ e ns is. record {
+    allowed = is_allowed s sound e ns is;
+    undone = is_undone_to s sound e ns is;
+    redone = is_redone_to s sound e ns is;
+  };
+  moves = record {
+    back_to = λ k within. ap state_of (undos_lead k s within);
+    forth_to = λ k within. ap state_of (redos_lead k s within);
+    back = λ is. back_forth s sound (moved_back s is);
+    forth = λ is. forth_back s (moved_forth s is);
+    all_undone = refl;
+    all_redone = ap (after s.cluster s.pick) (take_all (length s.trail) s.trail (omega arith));
+  };
   refused = call_kept s;
-  all_undone = refl;
-  all_redone = ap (after s.cluster s.pick) (take_all (length s.trail) s.trail (omega arith));
 }
 
 pub calls_reversible : CallsAreReversible

@@ -1,6 +1,7 @@
 pub mod Runs
 pub mod SimView
-pub mod History
+pub mod Records
+pub mod Chain
 pub mod Report
 pub mod Lone
 pub mod Laws

@@ -1,12 +1,13 @@
 //! A simulation of a cluster: a trail of events with a cursor in it, undo and redo.
 //!
-//! [`Sim`] keeps the trail of the events that were accepted and the state at each place of it. [`report`] is a state as
+//! [`Sim`] keeps the trail of the events that were accepted, with what each changed, and one state. [`report`] is a state as
 //! text; [`node_word`], [`app_word`], [`restart_word`], [`push_kind`] and [`push_standing_line`] are parts of it that other
 //! texts have too.
 #![tactic(auto)]
 
 mod call;
 mod laws;
+mod records;
 mod sim;
 mod text;
 

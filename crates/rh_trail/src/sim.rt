@@ -1,13 +1,14 @@
-//! A simulation: the trail of the accepted events, with a state after each, and a cursor in it.
+//! A simulation: the trail of the accepted events, with what each changed, and a cursor in it.
 
-ghost use Rattle.std.specs.Prelude.{◌≡◌, ◌≤◌, length, IfOk};
+ghost use Rattle.std.specs.Prelude.{◌≡◌, ◌≤◌, ◌<◌, [], length, slice_get, Some, IfOk};
 ghost use Rattle.rh_state.specs.Stored.{read};
 
 mod moves;
 
-use rh_base::{OutOfMemory, copies_of};
+use crate::records::Records;
+use rh_base::OutOfMemory;
 use rh_model::Cluster;
-use rh_state::{State, first_state_sharing};
+use rh_state::{Edit, State, first_state_sharing};
 use rh_step::{Event, Pick};
 use std::alloc::Global;
 use std::marker::Model;
@@ -24,66 +25,82 @@ pub struct AtEnd;
 /// A simulation of a cluster, with undo and redo.
 #[derive(Drop)]
 pub struct Sim {
-    // All states share it.
-    cluster: Arc<Cluster>,
     pick: Pick,
+    // The state behind the events that stand.
+    state: State,
     trail: Vec<Event>,
-    states: Vec<State>,
+    // What each event of the trail changed.
+    records: Records,
     cursor: usize,
+    // The edits of a step that is being made: empty between calls.
+    spare: Vec<Edit>,
 }
 
 impl Model for Sim {
+    ghost use Rattle.std.specs.Prelude.{◌≡◌, []};
     ghost use Rattle.rh_trail.specs.SimView.{Held};
-    ghost use Rattle.rh_trail.specs.History.{IsHistory};
+    ghost use Rattle.rh_trail.specs.Chain.{IsChain};
 
     ghost Value = { Held };
 
-    ghost view = { λ s. record { seen = record { cluster = s.cluster.value; pick = s.pick; trail = s.trail.items; cursor = s.cursor } } };
+    ghost view = { λ s. record { seen = record { cluster = s.state.cluster; pick = s.pick; trail = s.trail.items; cursor = s.cursor }; words = s.state; records = s.records } };
 
-    ghost invariant = { λ s. IsHistory s.cluster.value s.pick s.trail.items s.states.items s.cursor };
+    ghost invariant = { λ s. record { chain : IsChain (record { seen = record { cluster = s.state.cluster; pick = s.pick; trail = s.trail.items; cursor = s.cursor }; words = s.state; records = s.records }); spare : s.spare.items ≡ [] } };
 }
 
 impl Sim {
+    ghost use Rattle.rh_state.specs.First.{first_words};
+    ghost use Rattle.rh_trail.specs.Chain.{IsChain};
     ghost use Rattle.rh_trail.specs.SimView.{state_of};
     ghost use Rattle.rh_trail.specs.Lone.{opened, trail_limit};
     ghost use Rattle.rh_trail.specs.Laws.{IsReversible};
-    ghost use Rattle.rh_step.specs.Validity.{IsValid};
+    ghost use Rattle.rh_settle.specs.Validity.{IsValid};
 
     /// The greatest number of events in a trail.
     pub const TRAIL_LIMIT: usize = 65_535;
 
     /// A simulation in the first state, with an empty trail. The cluster is dropped if memory is wanting.
     pub fn open(alloc: Global, cluster: Cluster, pick: Pick) -> Result<Sim, OutOfMemory>
-        ensures { IfOk result (λ sim. sim.seen ≡ opened cluster pick) }
+        ensures seen { IfOk result (λ sim. sim.seen ≡ opened cluster pick) }
+        ensures words { IfOk result (λ sim. sim.words ≡ first_words cluster) }
+        ensures records { IfOk result (λ sim. sim.records ≡ []) }
     {
         cluster.is_within();
         let cluster = Arc::new(alloc, cluster)?;
-        let first = first_state_sharing(alloc, &cluster)?;
-        let mut states = Vec::new(alloc);
-        states.push(first)?;
+        let state = first_state_sharing(alloc, &cluster)?;
         Ok(Sim {
-            cluster,
             pick,
+            state,
             trail: Vec::new(alloc),
-            states,
+            records: Records::new(alloc),
             cursor: 0,
+            spare: Vec::new(alloc),
         })
     }
 
-    /// An equal simulation, with an equal trail and equal states. The two share the cluster.
+    /// An equal simulation, with an equal trail, equal words and equal records. The two share the cluster.
     pub fn copy(&self, alloc: Global) -> Result<Sim, OutOfMemory>
         ensures { IfOk result (λ copy. copy ≡ self.now) }
     {
-        let states = copies_of(alloc, self.states.as_slice())?;
+        let state = self.state.copy(alloc)?;
+        let records = self.records.copy(alloc)?;
         let trail = Vec::from_slice(alloc, self.trail.as_slice())?;
-        let cluster = Arc::try_clone(&self.cluster)?;
         Ok(Sim {
-            cluster,
             pick: self.pick,
+            state,
             trail,
-            states,
+            records,
             cursor: self.cursor,
+            spare: Vec::new(alloc),
         })
+    }
+
+    /// A law: undo and redo lead, edit by edit, over states that are well formed, to the state behind each number of events of
+    /// the trail, and back to the words that [`Sim::open`] made.
+    pub fn is_chained(&self)
+        ensures { IsChain self.now }
+    {
+        let _ = &self.state;
     }
 
     /// A law: in each simulation an accepted step is one that the rules allow; undoing it restores the whole earlier state,
@@ -91,14 +108,14 @@ impl Sim {
     pub fn is_reversible(&self)
         ensures { IsReversible self.now.seen }
     {
-        let _ = &self.cluster;
+        let _ = &self.state;
     }
 
     /// The cluster.
     pub fn cluster(&self) -> &Cluster
         ensures { result.now ≡ self.now.seen.cluster }
     {
-        &self.cluster
+        self.state.cluster()
     }
 
     /// Which of several nodes of equal rank is taken.
@@ -110,10 +127,11 @@ impl Sim {
 
     /// The state after the events up to the cursor.
     pub fn state(&self) -> &State
+        ensures words { result.now ≡ self.now.words }
         ensures state { read result.now ≡ state_of self.now.seen }
         ensures valid { IsValid (read result.now) }
     {
-        &self.states[self.cursor]
+        &self.state
     }
 
     /// How many events of the trail stand.
@@ -130,5 +148,14 @@ impl Sim {
         ensures limit { length result.now ≤ trail_limit }
     {
         self.trail.as_slice()
+    }
+
+    /// What an event of the trail changed, in order: done edits for one that stands, and undone ones for one that can be made
+    /// again.
+    pub fn record(&self, index: usize) -> &[Edit]
+        requires { index < length self.now.seen.trail }
+        ensures { slice_get self.now.records index ≡ Some result.now }
+    {
+        self.records.at(index)
     }
 }

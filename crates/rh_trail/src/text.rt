@@ -31,7 +31,7 @@ pub fn report(alloc: Global, state: &State) -> Result<Vec<u8>, OutOfMemory>
     let mut text = String::new(alloc);
     let now = state.now();
     writeln!(text, "now {now}")?;
-    push_nodes(&mut text, alloc, state)?;
+    push_nodes(&mut text, state)?;
     push_apps(&mut text, state)?;
     let timers = state.timers(alloc)?;
     push_timers(&mut text, state.cluster(), timers.as_slice())?;
@@ -40,12 +40,12 @@ pub fn report(alloc: Global, state: &State) -> Result<Vec<u8>, OutOfMemory>
 
 // Adds the lines of each node.
 #[tactic(auto, unfolding(rh_state::specs::Numbers::nodes_of))]
-fn push_nodes(text: &mut String, alloc: Global, state: &State) -> Result<(), OutOfMemory>
+fn push_nodes(text: &mut String, state: &State) -> Result<(), OutOfMemory>
     ensures { OnOk result (string_bytes text.new ≡ string_bytes text.old ++ flat_map (node_lines (read state.now)) (nodes_of (read state.now).cluster)) }
 {
     let count = state.cluster().node_count();
     for number in 0..count {
-        push_node_lines(text, alloc, state, Node(number as u8))?;
+        push_node_lines(text, state, Node(number as u8))?;
     }
     Ok(())
 }

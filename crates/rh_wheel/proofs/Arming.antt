@@ -1,24 +1,13 @@
 -- Arming: an entry put behind the last one that isn't due later.
-use Rattle.std.proofs.Common.{◌≡◌, ◌≢◌, ◌<◌, ◌≤◌, ◌==◌, ◌+◌, ℕ, zero, suc, Bool, true, false, cond, nat_le, Some, List, [], ◌∷◌, ◌++◌, length, insert, All}
+use Rattle.std.proofs.Common.{◌≡◌, ◌≢◌, ◌<◌, ◌≤◌, ◌==◌, ℕ, zero, suc, Bool, true, false, cond, nat_le, Some, List, [], ◌∷◌, ◌++◌, All}
 use Rattle.std.proofs.Common.{AllPairs, IsNone, refl, sym, ap, ◌∙◌, inl, inr, arith}
-use Rattle.std.specs.List.Sorted.{IsNonDecreasingBy, IsPartitionPoint}
+use Rattle.std.specs.List.Sorted.{IsNonDecreasingBy}
 use Rattle.std.proofs.lemmas.Bool.Decides.{eqb_tells, leb_tells}
 use Rattle.std.proofs.lemmas.Bool.{eq-eqb}
 use Rattle.std.proofs.lemmas.List.Elements.{All-cons}
 use Rattle.std.proofs.lemmas.List.Kept.{AllPairs-cons}
 use Rattle.rh_wheel.specs.Firing.{behind, without, due_in, due_at, IsFiringOrder}
 use Rattle.rh_wheel.proofs.Finding.{unarmed-cons, differs_from_unarmed}
-
--- the place between the entries that aren't due later and those that are
-pub insert-at_point : (new : ℕ × ℕ) (i : ℕ) (xs : List (ℕ × ℕ)) → i ≤ length xs → IsPartitionPoint (λ x. nat_le x.0 new.0 ≡ true)
-    (λ x. nat_le x.0 new.0 ≡ false) xs i → insert xs i new ≡ behind new xs
-insert-at_point new zero [] l p = refl
-insert-at_point new (suc i) [] l p = absurd (omega arith)
-insert-at_point new zero (x ∷ xs) l p = let e : nat_le x.0 new.0 ≡ false = p.1 0 x (omega arith) (omega arith) in simp e refl
-insert-at_point new (suc i) (x ∷ xs) l p =
-    let e : nat_le x.0 new.0 ≡ true = p.0 0 x (omega arith) (omega arith) in
-    simp e (ap (λ l. x ∷ l) (insert-at_point new i xs (omega arith)
-    (λ k d a b. p.0 (suc k) d (omega arith) (omega arith), λ k d a b. p.1 (suc k) d (omega arith) (omega arith))))
 
 pub All-behind : {A : Type 0} (P : ℕ × A → Type 0) (new : ℕ × A) (xs : List (ℕ × A)) → P new → All P xs → All P (behind new xs)
 All-behind P new [] here all = All-cons P new [] here all
@@ -46,7 +35,7 @@ IsNonDecreasingBy-cons x xs least o zero (suc j) d l m = least j d (omega arith)
 IsNonDecreasingBy-cons x xs least o (suc i) zero d l m = absurd (omega arith)
 IsNonDecreasingBy-cons x xs least o (suc i) (suc j) d l m = o i j d (omega arith) (omega arith)
 
-by_due-behind : (new : ℕ × ℕ) (xs : List (ℕ × ℕ)) → IsNonDecreasingBy (λ y. y.0) xs → IsNonDecreasingBy (λ y. y.0) (behind new xs)
+pub by_due-behind : (new : ℕ × ℕ) (xs : List (ℕ × ℕ)) → IsNonDecreasingBy (λ y. y.0) xs → IsNonDecreasingBy (λ y. y.0) (behind new xs)
 by_due-behind new [] o = IsNonDecreasingBy-cons new [] (λ k d l. absurd (omega arith)) o
 by_due-behind new (x ∷ xs) o = elim (leb_tells x.0 new.0) [
   | inl a ↦ simp a.0 (IsNonDecreasingBy-cons x (behind new xs)
@@ -63,14 +52,6 @@ IsFiringOrder-behind n new xs o numbered none = record {
   once = once-behind new xs (differs_from_unarmed new.1 xs none) o.once;
   numbered = All-behind (λ y. y.1 < n) new xs numbered o.numbered;
 }
-
-pub length-behind : (new : ℕ × ℕ) (xs : List (ℕ × ℕ)) → length (behind new xs) ≡ length xs + 1
-length-behind new [] = refl
-length-behind new (x ∷ xs) = by (nat_le x.0 new.0) (length-behind new xs)
-  where
-    by : (b : Bool) → length (behind new xs) ≡ length xs + 1 → length (cond b (x ∷ behind new xs) (new ∷ x ∷ xs)) ≡ length (x ∷ xs) + 1
-    by true later = omega (arith, later)
-    by false later = omega arith
 
 -- the timer is armed
 pub due_in-behind_same : (new : ℕ × ℕ) (xs : List (ℕ × ℕ)) → IsNone (due_in new.1 xs) → due_in new.1 (behind new xs) ≡ Some new.0

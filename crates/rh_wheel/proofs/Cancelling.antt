@@ -1,19 +1,9 @@
 -- Cancelling: the entries without that of a timer.
-use Rattle.std.proofs.Common.{◌≡◌, ◌≢◌, ◌<◌, ◌==◌, ◌+◌, ℕ, suc, not, List, [], ◌∷◌, length, AllPairs, IsNone, IsSome, refl, sym, ap, ◌∙◌, inl, inr, arith}
+use Rattle.std.proofs.Common.{◌≡◌, ◌≢◌, ◌+◌, ℕ, suc, List, [], ◌∷◌, length, AllPairs, IsNone, IsSome, refl, sym, ap, ◌∙◌, inl, inr, arith}
 use Rattle.std.proofs.lemmas.Bool.Decides.{eqb_tells}
-use Rattle.std.proofs.lemmas.List.Elements.{All-filter}
-use Rattle.std.proofs.lemmas.List.Kept.{AllPairs-filter, IsNonDecreasingBy-filter}
-use Rattle.rh_wheel.specs.Firing.{without, due_in, IsFiringOrder}
+use Rattle.rh_wheel.specs.Firing.{without, due_in}
 use Rattle.rh_wheel.proofs.Finding.{unarmed_from_differs}
 use Rattle.rh_wheel.proofs.Arming.{without-unarmed}
-
--- cancelling keeps the firing order
-pub IsFiringOrder-without : (n t : ℕ) (xs : List (ℕ × ℕ)) → IsFiringOrder n xs → IsFiringOrder n (without t xs)
-IsFiringOrder-without n t xs o = record {
-  by_due = IsNonDecreasingBy-filter (λ x. x.0) (λ x. not (x.1 == t)) xs o.by_due;
-  once = AllPairs-filter (λ x y. x.1 ≢ y.1) (λ x. not (x.1 == t)) xs o.once;
-  numbered = All-filter (λ x. not (x.1 == t)) (λ x. x.1 < n) xs o.numbered;
-}
 
 -- the timer isn't armed
 pub unarmed-without : (t : ℕ) (xs : List (ℕ × ℕ)) → IsNone (due_in t (without t xs))

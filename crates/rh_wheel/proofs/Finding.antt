@@ -75,7 +75,7 @@ numbered_from_armed n t (x ∷ xs) all h = elim (eqb_tells x.1 t) [
   | inr a ↦ numbered_from_armed n t xs (λ k d l. all (suc k) d (omega arith)) (simp a.0 at h)
 ]
 
-IfSome-slice_get : (P : ℕ × ℕ → Type 0) (xs : List (ℕ × ℕ)) (k : ℕ) → All P xs → IfSome (slice_get xs k) P
+pub IfSome-slice_get : (P : ℕ × ℕ → Type 0) (xs : List (ℕ × ℕ)) (k : ℕ) → All P xs → IfSome (slice_get xs k) P
 IfSome-slice_get P [] k all = tt
 IfSome-slice_get P (x ∷ xs) zero all = all 0 x (omega arith)
 IfSome-slice_get P (x ∷ xs) (suc k) all = IfSome-slice_get P xs k (λ i d l. all (suc i) d (omega arith))

@@ -1,6 +1,6 @@
 -- Armed timers in the order in which they fire. An entry is a due time in milliseconds and a timer's number.
 -- All of it is ours: the manual says when a timer is due, and nothing of the order of those that are due together.
-use Rattle.std.specs.Prelude.{◌≢◌, ◌<◌, ◌==◌, ℕ, not, nat_le, if◌then◌else◌, Option, List, [], ◌∷◌, All, AllPairs, find, filter, map}
+use Rattle.std.specs.Prelude.{◌≢◌, ◌<◌, ◌==◌, ℕ, not, nat_le, if◌then◌else◌, Option, List, [], ◌∷◌, All, AllPairs, find, filter, fold, map}
 use Rattle.std.specs.Option.{option_map}
 use Rattle.std.specs.List.Sorted.{IsNonDecreasingBy}
 
@@ -13,6 +13,10 @@ abbrev pub behind : {A : Type 0} → ℕ × A → List (ℕ × A) → List (ℕ 
 behind armed [] = armed ∷ []
 behind armed (entry ∷ entries) =
     if nat_le entry.0 armed.0 then entry ∷ behind armed entries else armed ∷ (entry ∷ entries)
+
+-- entries by due, where those that are due together keep their order
+abbrev pub in_firing_order : List (ℕ × ℕ) → List (ℕ × ℕ)
+in_firing_order entries = fold (λ order entry. behind entry order) [] entries
 
 -- the entries without that of a timer
 abbrev pub without : ℕ → List (ℕ × ℕ) → List (ℕ × ℕ)

@@ -1,2 +1,4 @@
 pub mod Firing
 pub mod Stored
+pub mod Formed
+pub mod Edits

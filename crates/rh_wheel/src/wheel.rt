@@ -1,45 +1,56 @@
 //! The timers and their due times.
 
-ghost use Rattle.std.specs.Prelude.{◌≡◌, ◌≢◌, ◌<◌, ◌≤◌, ◌+◌, ◌↔◌, ℕ, [], ◌∷◌, ◌++◌, length, slice_get, insert, All, Contains, IsSome, IsNone, IfSome, IfOk};
-ghost use Rattle.std.specs.List.Sorted.{IsNonDecreasingBy};
+ghost use Rattle.std.specs.Prelude.{◌≡◌, ◌≢◌, ◌<◌, ◌≤◌, ◌+◌, ◌%◌, ◌↔◌, ℕ, [], ◌∷◌, ◌++◌, length, slice_get, slice_set, slice_index_or, min, true, false, All, Contains, IsSome, IsNone, IfSome, IfOk};
+ghost use Rattle.std.specs.List.{reduce, filter_map};
 ghost use Rattle.rh_wheel.specs.Firing.{behind, without, due_in, due_at, timers_of, IsFiringOrder};
-ghost use Rattle.rh_wheel.specs.Stored.{listed, timer_count};
+ghost use Rattle.rh_wheel.specs.Stored.{unarmed, listed, timer_count, in_slot};
+ghost use Rattle.rh_wheel.specs.Formed.{IsFormed};
+ghost use Rattle.rh_wheel.specs.Edits.{exchange, turned};
 
+use crate::edit::TimerEdit;
+use rh_arena::Lists;
 use std::alloc::{AllocError, Global};
 use std::marker::Model;
+use std::mem;
 
 /// Timers, numbered from 0, each armed with a due time in milliseconds or not armed.
 ///
-/// `new` and `copy` take the memory for all timers at once; no other call takes any.
+/// `new` and `copy` take the memory for all timers at once; no other call takes any. Arming and cancelling a timer, and
+/// taking that back, take the same time however many timers there are.
 #[derive(Drop)]
 pub struct Wheel {
-    timers: u32,
-    // The armed timers in firing order, each as its due time and its number.
-    entries: Vec<(u64, u32)>,
+    // The timers of each slot, in the order in which they were armed.
+    slots: Lists,
+    dues: Vec<Option<u64>>,
 }
 
 impl Model for Wheel {
-    ghost use Rattle.std.specs.Prelude.{◌≤◌, vec_capacity};
-    ghost use Rattle.rh_wheel.specs.Firing.{IsFiringOrder};
+    ghost use Rattle.std.specs.Prelude.{◌≤◌, length};
+    ghost use Rattle.rh_wheel.specs.Formed.{IsFormed};
     ghost use Rattle.rh_wheel.specs.Stored.{Stored};
 
     ghost Value = { Stored };
 
-    ghost view = { λ wheel. record { timers = wheel.timers; entries = wheel.entries.items } };
+    ghost view = { λ wheel. record { links = wheel.slots; dues = wheel.dues.items } };
 
-    ghost invariant = { λ wheel. record { order : IsFiringOrder wheel.timers wheel.entries.items; room : wheel.timers ≤ vec_capacity wheel.entries } };
+    ghost invariant = { λ wheel. record { formed : IsFormed (record { links = wheel.slots; dues = wheel.dues.items }); few : length wheel.dues.items ≤ 65535 } };
 }
 
 impl Wheel {
+    /// How many slots there are. An armed timer is in the slot of its due time modulo this number.
+    pub const SLOTS: u64 = 64;
+
     /// Timers numbered from 0 to `timers - 1`, none of them armed. The error says that memory was refused.
-    #[tactic(auto, unfolding(crate::specs::Stored::listed, crate::specs::Stored::timer_count))]
-    pub fn new(alloc: Global, timers: u32) -> Result<Wheel, AllocError>
+    pub fn new(alloc: Global, timers: u16) -> Result<Wheel, AllocError>
         ensures count { IfOk result (λ wheel. timer_count wheel ≡ timers) }
+        ensures words { IfOk result (λ wheel. wheel ≡ unarmed timers) }
         ensures unarmed { IfOk result (λ wheel. listed wheel ≡ []) }
     {
+        let slots = Lists::new(alloc, timers, Wheel::SLOTS as u16)?;
+        slots.formed();
         Ok(Wheel {
-            timers,
-            entries: Vec::with_capacity(alloc, timers as usize)?,
+            slots,
+            dues: vec![in alloc; None; timers as usize]?,
         })
     }
 
@@ -47,12 +58,24 @@ impl Wheel {
     pub fn copy(&self, alloc: Global) -> Result<Wheel, AllocError>
         ensures { IfOk result (λ wheel. wheel ≡ self.now) }
     {
-        let mut entries = Vec::with_capacity(alloc, self.timers as usize)?;
-        entries.extend_from_slice(self.entries.as_slice())?;
         Ok(Wheel {
-            timers: self.timers,
-            entries,
+            slots: self.slots.copy(alloc)?,
+            dues: Vec::from_slice(alloc, self.dues.as_slice())?,
         })
+    }
+
+    /// Is all that is kept of the two equal, also the links that timers which aren't armed have kept?
+    pub fn same_words(&self, other: &Wheel) -> bool
+        ensures { (result ≡ true) ↔ (self.now ≡ other.now) }
+    {
+        self.slots.same_words(&other.slots) && self.dues.as_slice() == other.dues.as_slice()
+    }
+
+    /// What holds of all that is kept at all times.
+    pub fn formed(&self)
+        ensures { IsFormed self.now }
+    {
+        let _ = &self.slots;
     }
 
     /// How many timers there are, armed or not.
@@ -60,22 +83,12 @@ impl Wheel {
     pub fn timer_count(&self) -> u32
         ensures { result ≡ timer_count self.now }
     {
-        self.timers
-    }
-
-    /// How many timers are armed: at most all.
-    #[tactic(auto, unfolding(crate::specs::Stored::listed, crate::specs::Stored::timer_count))]
-    pub fn armed_count(&self) -> usize
-        ensures count { result ≡ length (listed self.now) }
-        ensures at_most { result ≤ timer_count self.now }
-    {
-        self.entries.len()
+        self.dues.len() as u32
     }
 
     /// Arms a timer that isn't armed, with a due time in milliseconds. It fires behind all that aren't due later, and
     /// before all that are.
-    #[tactic(auto, unfolding(crate::specs::Stored::listed, crate::specs::Stored::timer_count))]
-    pub fn arm(&mut self, timer: u32, due: u64)
+    pub fn arm(&mut self, timer: u32, due: u64) -> TimerEdit
         requires numbered { timer < timer_count self.old }
         requires unarmed { IsNone (due_in timer (listed self.old)) }
         ensures list { listed self.new ≡ behind (due, timer) (listed self.old) }
@@ -87,14 +100,23 @@ impl Wheel {
         ensures others { (t : ℕ) → t ≢ timer → due_in t (listed self.new) ≡ due_in t (listed self.old) }
         ensures cancelled { without timer (listed self.new) ≡ listed self.old }
         ensures last_of_equals { due_at due (listed self.new) ≡ due_at due (listed self.old) ++ (due, timer) ∷ [] }
+
+        // The edit takes it back, to the last word.
+        ensures done { result.is_done ≡ true }
+        ensures exact { exchange self.new result ≡ self.old }
     {
-        let place = place_behind(self.entries.as_slice(), due);
-        self.entries.insert(place, (due, timer)).unwrap();
+        self.dues[timer as usize] = Some(due);
+        let links = self.slots.push_back((due % Wheel::SLOTS) as u32, timer);
+        self.slots.formed();
+        TimerEdit {
+            links,
+            timer: timer as u16,
+            due: None,
+        }
     }
 
     /// Cancels a timer that is armed.
-    #[tactic(auto, unfolding(crate::specs::Stored::listed, crate::specs::Stored::timer_count))]
-    pub fn cancel(&mut self, timer: u32)
+    pub fn cancel(&mut self, timer: u32) -> TimerEdit
         requires { IsSome (due_in timer (listed self.old)) }
         ensures list { listed self.new ≡ without timer (listed self.old) }
         ensures count { timer_count self.new ≡ timer_count self.old }
@@ -103,12 +125,49 @@ impl Wheel {
         ensures unarmed { IsNone (due_in timer (listed self.new)) }
         ensures others { (t : ℕ) → t ≢ timer → due_in t (listed self.new) ≡ due_in t (listed self.old) }
         ensures one_less { length (listed self.new) + 1 ≡ length (listed self.old) }
+
+        // The edit takes it back, to the last word.
+        ensures done { result.is_done ≡ true }
+        ensures exact { exchange self.new result ≡ self.old }
     {
-        self.entries.retain(|entry| entry.1 != timer);
+        let due = self.dues[timer as usize];
+        self.dues[timer as usize] = None;
+        let links = self.slots.remove(timer);
+        self.slots.formed();
+        TimerEdit {
+            links,
+            timer: timer as u16,
+            due,
+        }
+    }
+
+    /// Takes the change of a done edit back, or whatever exchange of it leaves timers; the edit is undone then.
+    pub fn revert(&mut self, edit: &mut TimerEdit)
+        requires done { edit.old.is_done ≡ true }
+        requires formed { IsFormed (exchange self.old edit.old) }
+        ensures words { self.new ≡ exchange self.old edit.old }
+        ensures edit { edit.new ≡ turned self.old edit.old }
+        ensures exact { exchange self.new edit.new ≡ self.old }
+        ensures again { turned self.new edit.new ≡ edit.old }
+    {
+        self.slots.revert(&mut edit.links);
+        edit.due = exchanged(&mut self.dues, edit.timer, edit.due);
+    }
+
+    /// Makes the change of an undone edit again, or whatever exchange of it leaves timers; the edit is done then.
+    pub fn reapply(&mut self, edit: &mut TimerEdit)
+        requires undone { edit.old.is_done ≡ false }
+        requires formed { IsFormed (exchange self.old edit.old) }
+        ensures words { self.new ≡ exchange self.old edit.old }
+        ensures edit { edit.new ≡ turned self.old edit.old }
+        ensures exact { exchange self.new edit.new ≡ self.old }
+        ensures again { turned self.new edit.new ≡ edit.old }
+    {
+        self.slots.reapply(&mut edit.links);
+        edit.due = exchanged(&mut self.dues, edit.timer, edit.due);
     }
 
     /// The due time and the number of the timer that fires first; `None` exactly if no timer is armed.
-    #[tactic(auto, unfolding(crate::specs::Stored::listed, crate::specs::Stored::timer_count))]
     pub fn earliest(&self) -> Option<(u64, u32)>
         ensures first { result ≡ slice_get (listed self.now) 0 }
         ensures none { IsNone result ↔ (listed self.now ≡ []) }
@@ -119,41 +178,50 @@ impl Wheel {
         // What holds of the armed timers at all times.
         ensures order { IsFiringOrder (timer_count self.now) (listed self.now) }
     {
-        self.entries.first().copied()
+        least_due(self.dues.as_slice()).and_then(|due| self.first_due_at(due))
     }
 
-    /// The due time and the number of the timer at a place of the firing order, the first of which is 0; `None` from
-    /// [`Wheel::armed_count`] on.
-    #[tactic(auto, unfolding(crate::specs::Stored::listed, crate::specs::Stored::timer_count))]
-    pub fn entry(&self, place: usize) -> Option<(u64, u32)>
-        ensures entry { result ≡ slice_get (listed self.now) place }
-        ensures none { IsNone result ↔ (length (listed self.now) ≤ place) }
-        ensures armed { IfSome result (λ entry. due_in entry.1 (listed self.now) ≡ Some entry.0) }
-        ensures numbered { IfSome result (λ entry. entry.1 < timer_count self.now) }
+    // The first timer of a due time's slot that is due at it.
+    fn first_due_at(&self, due: u64) -> Option<(u64, u32)>
+        ensures { result ≡ slice_get (due_at due (in_slot self.now (due % Self.SLOTS))) 0 }
     {
-        self.entries.get(place).copied()
+        let slot = (due % Wheel::SLOTS) as u32;
+        let mut next = self.slots.first(slot);
+        'timers: for step in 0..self.slots.count(slot) {
+            let timer = next?;
+            if self.dues[timer as usize] == Some(due) {
+                return Some((due, timer));
+            }
+            next = self.slots.next(timer);
+        }
+        None
     }
 
     /// When a timer is due, in milliseconds; `None` exactly if it isn't armed, as is a number that no timer has.
-    #[tactic(auto, unfolding(crate::specs::Stored::listed, crate::specs::Stored::timer_count))]
     pub fn due_of(&self, timer: u32) -> Option<u64>
         ensures due { result ≡ due_in timer (listed self.now) }
         ensures armed { IsSome result ↔ Contains (timers_of (listed self.now)) timer }
         ensures entry { IfSome result (λ due. Contains (listed self.now) (due, timer)) }
         ensures numbered { IsSome result → timer < timer_count self.now }
     {
-        self.entries
-            .iter()
-            .find(|entry| entry.1 == timer)
-            .map(|entry| entry.0)
+        self.dues.get(timer as usize).copied().flatten()
     }
 }
 
-// The place behind the last entry that isn't due later.
-fn place_behind(entries: &[(u64, u32)], due: u64) -> usize
-    requires { IsNonDecreasingBy (λ entry. entry.0) entries.now }
-    ensures within { result ≤ length entries.now }
-    ensures place { (timer : ℕ) → insert entries.now result (due, timer) ≡ behind (due, timer) entries.now }
+// The least of the due times.
+fn least_due(dues: &[Option<u64>]) -> Option<u64>
+    ensures { result ≡ reduce min (filter_map (λ due. due) dues.now) }
 {
-    entries.partition_point(|entry| entry.0 <= due)
+    dues.iter().filter_map(|due| *due).min()
+}
+
+// Writes a due time, and says which was there.
+fn exchanged(dues: &mut Vec<Option<u64>>, timer: u16, due: Option<u64>) -> Option<u64>
+    ensures dues { dues.new.items ≡ slice_set dues.old.items timer due }
+    ensures due { result ≡ slice_index_or dues.old.items timer due }
+{
+    match dues.get_mut(usize::from(timer)) {
+        Some(kept) => mem::replace(kept, due),
+        None => due,
+    }
 }

@@ -1,18 +1,15 @@
 //! The readers of a state.
 
-ghost use Rattle.std.specs.Prelude.{◌≡◌, ◌<◌, ◌≤◌, IfSome, IfOk, All};
+ghost use Rattle.std.specs.Prelude.{◌≡◌, ◌<◌, ◌≤◌, IfSome, slice_get};
 ghost use Rattle.rh_model.specs.ClusterView.{node_count, app_count};
 ghost use Rattle.rh_state.specs.Limits.{time_limit, incarnation_limit};
 ghost use Rattle.rh_state.specs.StateView.{mode_of, incarnation_of, running_at, waiting_at, running_count, place_of, next_in_list, restart_of, kind_of, is_allowed, standing_of};
 ghost use Rattle.rh_state.specs.Shape.{IsAppOf, IsKindOf, IsStandingOf};
 ghost use Rattle.rh_state.specs.Stored.{read};
-ghost use Rattle.std.specs.Prelude.{slice_get};
 
 use crate::state::State;
 use crate::status::{Kind, Mode, Place, Standing};
-use rh_base::OutOfMemory;
 use rh_model::{App, Cluster, Node, Restart};
-use std::alloc::Global;
 
 #[tactic(auto, unfolding(crate::specs::Stored::read))]
 impl State {
@@ -50,16 +47,19 @@ impl State {
 
     /// In which list of a node an application stands.
     pub fn place_of(&self, node: Node, app: App) -> Place
-        requires { node.0 < node_count (read self.now).cluster }
+        requires node { node.0 < node_count (read self.now).cluster }
+        requires app { app.0 < app_count (read self.now).cluster }
         ensures { result ≡ place_of (read self.now) node app }
     {
-        let index = node.0 as usize;
-        if self.running[index].has(app) {
-            Place::InRunning
-        } else if self.waiting[index].has(app) {
-            Place::InWaiting
-        } else {
-            Place::Off
+        match self.links.list_of(self.pair(node, app)) {
+            None => Place::Off,
+            Some(list) => {
+                if list == node.0 as u32 {
+                    Place::InRunning
+                } else {
+                    Place::InWaiting
+                }
+            }
         }
     }
 
@@ -69,7 +69,7 @@ impl State {
         ensures first { result ≡ slice_get (running_at (read self.now) node) 0 }
         ensures number { IfSome result (λ app. IsAppOf (read self.now).cluster app) }
     {
-        self.running[node.0 as usize].first()
+        self.app_at(node, self.links.first(node.0 as u32))
     }
 
     /// The application that stands first among those that wait at a node.
@@ -78,40 +78,22 @@ impl State {
         ensures first { result ≡ slice_get (waiting_at (read self.now) node) 0 }
         ensures number { IfSome result (λ app. IsAppOf (read self.now).cluster app) }
     {
-        self.waiting[node.0 as usize].first()
+        self.app_at(node, self.links.first(self.waiting_list(node)))
     }
 
     /// The application that stands behind this one in its list at a node; `None` for the last one of a list, and for one that
     /// stands in none.
     pub fn next_in_list(&self, node: Node, app: App) -> Option<App>
-        requires { node.0 < node_count (read self.now).cluster }
+        requires node { node.0 < node_count (read self.now).cluster }
+        requires app { app.0 < app_count (read self.now).cluster }
         ensures next { result ≡ next_in_list (read self.now) node app }
         ensures number { IfSome result (λ app. IsAppOf (read self.now).cluster app) }
     {
-        let index = node.0 as usize;
-        if self.running[index].has(app) {
-            self.running[index].behind(app)
-        } else {
-            self.waiting[index].behind(app)
+        let pair = self.pair(node, app);
+        match self.links.list_of(pair) {
+            None => None,
+            Some(_) => self.app_at(node, self.links.next(pair)),
         }
-    }
-
-    /// The applications that run at a node, in their order.
-    pub fn running(&self, alloc: Global, node: Node) -> Result<Vec<App>, OutOfMemory>
-        requires { node.0 < node_count (read self.now).cluster }
-        ensures apps { IfOk result (λ apps. apps.items ≡ running_at (read self.now) node) }
-        ensures numbers { IfOk result (λ apps. All (IsAppOf (read self.now).cluster) apps.items) }
-    {
-        self.running[node.0 as usize].to_vec(alloc)
-    }
-
-    /// The applications that wait at a node, in their order.
-    pub fn waiting(&self, alloc: Global, node: Node) -> Result<Vec<App>, OutOfMemory>
-        requires { node.0 < node_count (read self.now).cluster }
-        ensures apps { IfOk result (λ apps. apps.items ≡ waiting_at (read self.now) node) }
-        ensures numbers { IfOk result (λ apps. All (IsAppOf (read self.now).cluster) apps.items) }
-    {
-        self.waiting[node.0 as usize].to_vec(alloc)
     }
 
     /// How many applications run at a node.
@@ -119,7 +101,7 @@ impl State {
         requires { node.0 < node_count (read self.now).cluster }
         ensures { result ≡ running_count (read self.now) node }
     {
-        self.running[node.0 as usize].count()
+        self.links.count(node.0 as u32) as usize
     }
 
     /// The restart type that an application was last given at a node, also where it isn't started: temporary at first

@@ -1,13 +1,15 @@
 //! The timers of a state. Only the list of all of them takes memory.
 
-ghost use Rattle.std.specs.Prelude.{◌≡◌, ◌<◌, IsSome, IsNone, IfSome, IfOk, All};
+ghost use Rattle.std.specs.Prelude.{true, ◌≡◌, ◌<◌, IsSome, IsNone, IfSome, IfOk, All};
 ghost use Rattle.rh_wheel.specs.Stored.{timer_count};
 ghost use Rattle.rh_state.specs.Timers.{number_of, timer_numbered};
 ghost use Rattle.rh_state.specs.StateView.{due_of, earliest};
 ghost use Rattle.rh_state.specs.Setters.{with_timer, without_due};
 ghost use Rattle.rh_state.specs.Shape.{IsTimerOf};
 ghost use Rattle.rh_state.specs.Stored.{read};
+ghost use Rattle.rh_state.specs.Edits.{exchange, is_done};
 
+use crate::edit::Edit;
 use crate::state::State;
 use crate::status::Timer;
 use rh_base::OutOfMemory;
@@ -68,32 +70,40 @@ impl State {
         ensures timers { IfOk result (λ timers. timers.items ≡ (read self.now).timers) }
         ensures numbers { IfOk result (λ timers. All (λ entry. IsTimerOf (read self.now).cluster entry.1) timers.items) }
     {
+        let mut wheel = self.wheel.copy(alloc)?;
         let mut timers = Vec::new(alloc);
-        for place in 0..self.wheel.armed_count() {
-            if let Some((due, number)) = self.wheel.entry(place) {
-                timers.push((due, self.timer_of(number)))?;
-            }
+        while let Some((due, number)) = wheel.earliest() {
+            timers.push((due, self.timer_of(number)))?;
+            let _ = wheel.cancel(number);
         }
         Ok(timers)
     }
 
     /// Sets a timer that isn't set, with its due time in milliseconds. It fires behind all that aren't due later.
-    pub fn arm_timer(&mut self, timer: Timer, due: u64)
+    pub fn arm_timer(&mut self, timer: Timer, due: u64) -> Edit
         requires timer { IsTimerOf (read self.old).cluster timer }
         requires unset { IsNone (due_of (read self.old) timer) }
-        ensures { read self.new ≡ with_timer (read self.old) due timer }
+        ensures part { read self.new ≡ with_timer (read self.old) due timer }
+        ensures done { is_done result ≡ true }
+        ensures exact { exchange self.new result ≡ self.old }
     {
         let number = self.number_of(timer);
-        self.wheel.arm(number, due);
+        let edit = self.wheel.arm(number, due);
+        self.wheel.formed();
+        Edit::Timer(edit)
     }
 
     /// Cancels a timer that is set.
-    pub fn cancel_timer(&mut self, timer: Timer)
+    pub fn cancel_timer(&mut self, timer: Timer) -> Edit
         requires timer { IsTimerOf (read self.old).cluster timer }
         requires set { IsSome (due_of (read self.old) timer) }
-        ensures { read self.new ≡ without_due (read self.old) timer }
+        ensures part { read self.new ≡ without_due (read self.old) timer }
+        ensures done { is_done result ≡ true }
+        ensures exact { exchange self.new result ≡ self.old }
     {
         let number = self.number_of(timer);
-        self.wheel.cancel(number);
+        let edit = self.wheel.cancel(number);
+        self.wheel.formed();
+        Edit::Timer(edit)
     }
 }

@@ -1,22 +1,27 @@
 //! The calls that move a simulation: steps, undo and redo.
 
-ghost use Rattle.std.specs.Prelude.{◌≡◌, ◌≢◌, ◌<◌, ◌≤◌, List, replicate, Err, IfOk, IfErr, OnOk, OnErr, None};
+ghost use Rattle.std.specs.Prelude.{◌≡◌, ◌≢◌, ◌<◌, ◌≤◌, ◌+◌, ◌-◌, ◌++◌, ◌∷◌, [], ℕ, List, length, take, drop, slice_set, replicate, true, Err, IfOk, IfErr, OnOk, OnErr, None};
+ghost use Rattle.rh_base.specs.Exchanges.{back, backed, forth, forthed, AllBack};
 ghost use Rattle.rh_settle.specs.declared.notice.Notice.{Notice};
+ghost use Rattle.rh_state.specs.Edits.{exchange, turned};
+ghost use Rattle.rh_state.specs.Records.{CanGoBack, LedBy};
 ghost use Rattle.rh_state.specs.Stored.{read};
 ghost use Rattle.rh_events.specs.Refusals.{refused};
 ghost use Rattle.rh_step.specs.Outcomes.{next};
-ghost use Rattle.rh_step.specs.Validity.{IsValid};
-ghost use Rattle.rh_trail.specs.Runs.{step};
-ghost use Rattle.rh_trail.specs.SimView.{state_of};
-ghost use Rattle.rh_trail.specs.Lone.{served, answered, with_event, undo_reply, redo_reply, trail_limit, cut};
+ghost use Rattle.rh_settle.specs.Validity.{IsValid};
+ghost use Rattle.rh_trail.specs.Chain.{chain};
+ghost use Rattle.rh_trail.specs.Laws.{is_refusal};
+ghost use Rattle.rh_trail.specs.SimView.{state_of, record_at};
+ghost use Rattle.rh_trail.specs.Lone.{served, answered, undo_reply, redo_reply, trail_limit, cut};
 ghost use Rattle.rh_trail.specs.declared.call.Call.TheVariants as call;
 ghost use Rattle.rh_trail.specs.declared.call.Reply.TheVariants as reply;
 
 use crate::call::{Bytes, Call, Reply};
+use crate::records::Records;
 use crate::sim::{AtEnd, AtStart, Sim};
 use crate::text::report;
 use rh_base::OutOfMemory;
-use rh_state::State;
+use rh_state::{Edit, State, go_back};
 use rh_step::{Event, Notice, Notices, Pick, Refusal, perform, refusal_of};
 use std::alloc::Global;
 
@@ -30,11 +35,17 @@ impl Sim {
 
         // Want of memory is the last reason.
         ensures last { result ≡ Err Refusal.OutOfMemory → (refused (state_of self.old.seen) event ≡ None) × (self.old.seen.cursor < trail_limit) }
+
+        // What stood before stands, and its records are as they were.
+        ensures chain { OnOk result ((k : ℕ) → k ≤ self.old.seen.cursor → chain self.new k ≡ chain self.old k) }
+        ensures records { OnOk result (take self.old.seen.cursor self.new.records ≡ take self.old.seen.cursor self.old.records) }
     {
-        let (state, notices) = self.next(alloc, event)?;
-        match self.keep(event, state) {
+        if let Err(refusal) = self.accept(&event) {
+            return Err(refusal);
+        }
+        match self.make(alloc, event) {
             Err(OutOfMemory) => Err(Refusal::OutOfMemory),
-            Ok(()) => Ok(notices),
+            Ok(notices) => Ok(notices),
         }
     }
 
@@ -53,98 +64,160 @@ impl Sim {
 
         // Want of memory is the last reason.
         ensures last { result ≡ Err Refusal.OutOfMemory → (refused (state_of self.old.seen) event ≡ None) × (self.old.seen.cursor < trail_limit) }
+
+        // What stood before stands, and its records are as they were.
+        ensures chain { OnOk result ((k : ℕ) → k ≤ self.old.seen.cursor → chain self.new k ≡ chain self.old k) }
+        ensures records { OnOk result (take self.old.seen.cursor self.new.records ≡ take self.old.seen.cursor self.old.records) }
     {
-        let (after, notices) = self.next(alloc, event)?;
-        match copies_of(alloc, notices, count) {
+        self.accept(&event)?;
+        match self.make_copies(alloc, event, count) {
             Err(OutOfMemory) => Err(Refusal::OutOfMemory),
-            Ok(copies) => match self.keep(event, after) {
-                Err(OutOfMemory) => Err(Refusal::OutOfMemory),
-                Ok(()) => Ok(copies),
-            },
+            Ok(copies) => Ok(copies),
         }
     }
 
-    // The state after an event, with its notices, or why the event is refused. Nothing is kept yet.
-    fn next(&self, alloc: Global, event: Event) -> Result<(State, Vec<Notice>), Refusal>
-        ensures state { IfOk result (λ r. read r.0 ≡ step self.now.seen.pick (state_of self.now.seen) event) }
-        ensures valid { IfOk result (λ r. IsValid (read r.0)) }
-        ensures done { IfOk result (λ r. served self.now.seen (call.Step event) ≡ answered (reply.Done r.1.items) (with_event self.now.seen event)) }
+    // Whether an event is accepted, or why it is refused.
+    fn accept(&self, event: &Event) -> Result<(), Refusal>
         ensures room { OnOk result (self.now.seen.cursor < trail_limit) }
-        ensures fine { OnOk result (refused (state_of self.now.seen) event ≡ None) }
-        ensures refused { IfErr result (λ refusal. refusal ≢ Refusal.OutOfMemory → served self.now.seen (call.Step event) ≡ answered (reply.Refused refusal) self.now.seen) }
-        ensures last { result ≡ Err Refusal.OutOfMemory → (refused (state_of self.now.seen) event ≡ None) × (self.now.seen.cursor < trail_limit) }
+        ensures fine { OnOk result (refused (state_of self.now.seen) event.now ≡ None) }
+        ensures refused { IfErr result (λ refusal. served self.now.seen (call.Step event.now) ≡ answered (reply.Refused refusal) self.now.seen) }
+        ensures reason { IfErr result (λ refusal. refusal ≢ Refusal.OutOfMemory) }
     {
-        if let Some(refusal) = refusal_of(self.state(), &event) {
+        if let Some(refusal) = refusal_of(self.state(), event) {
             return Err(refusal);
         }
         if self.cursor == Self::TRAIL_LIMIT {
             return Err(Refusal::TrailFull);
         }
-        match next_of(alloc, self.state(), &event, self.pick) {
-            Err(OutOfMemory) => Err(Refusal::OutOfMemory),
-            Ok(next) => Ok(next),
-        }
-    }
-
-    // Adds an event with the state after it, in place of what could be made again.
-    fn keep(&mut self, event: Event, state: State) -> Result<(), OutOfMemory>
-        requires room { self.old.seen.cursor < trail_limit }
-        requires state { read state ≡ step self.old.seen.pick (state_of self.old.seen) event }
-        requires valid { IsValid (read state) }
-        ensures ok { OnOk result (self.new.seen ≡ with_event self.old.seen event) }
-        ensures err { OnErr result (self.new ≡ self.old) }
-    {
-        self.trail.reserve(1)?;
-        self.states.reserve(1)?;
-        self.trail.truncate(self.cursor);
-        self.states.truncate(self.cursor + 1);
-        self.trail.push(event).unwrap();
-        self.states.push(state).unwrap();
-        self.cursor += 1;
         Ok(())
     }
 
-    /// Takes the last step back. The number in the answer is 0.
+    // Makes an event that is accepted, and keeps it.
+    fn make(&mut self, alloc: Global, event: Event) -> Result<Vec<Notice>, OutOfMemory>
+        requires room { self.old.seen.cursor < trail_limit }
+        requires fine { refused (state_of self.old.seen) event ≡ None }
+        ensures done { IfOk result (λ notices. served self.old.seen (call.Step event) ≡ answered (reply.Done notices.items) self.new.seen) }
+        ensures chain { OnOk result ((k : ℕ) → k ≤ self.old.seen.cursor → chain self.new k ≡ chain self.old k) }
+        ensures records { OnOk result (take self.old.seen.cursor self.new.records ≡ take self.old.seen.cursor self.old.records) }
+        ensures err { OnErr result (self.new ≡ self.old) }
+    {
+        let mut notices = Vec::new(alloc);
+        perform(
+            alloc,
+            &mut self.state,
+            &event,
+            self.pick,
+            &mut self.spare,
+            &mut notices,
+        )?;
+        keep(
+            event,
+            self.cursor,
+            &mut self.state,
+            &mut self.spare,
+            &mut self.trail,
+            &mut self.records,
+        )?;
+        self.cursor += 1;
+        Ok(notices)
+    }
+
+    // The same, with the notices in so many equal lists.
+    fn make_copies(
+        &mut self,
+        alloc: Global,
+        event: Event,
+        count: usize,
+    ) -> Result<Vec<Notices>, OutOfMemory>
+        requires room { self.old.seen.cursor < trail_limit }
+        requires fine { refused (state_of self.old.seen) event ≡ None }
+        ensures done { IfOk result (λ copies. (notices : List Notice) × (copies.items ≡ replicate count notices) × (served self.old.seen (call.Step event) ≡ answered (reply.Done notices) self.new.seen)) }
+        ensures chain { OnOk result ((k : ℕ) → k ≤ self.old.seen.cursor → chain self.new k ≡ chain self.old k) }
+        ensures records { OnOk result (take self.old.seen.cursor self.new.records ≡ take self.old.seen.cursor self.old.records) }
+        ensures err { OnErr result (self.new ≡ self.old) }
+    {
+        let copies = perform_copies(
+            alloc,
+            &mut self.state,
+            &event,
+            self.pick,
+            count,
+            &mut self.spare,
+        )?;
+        keep(
+            event,
+            self.cursor,
+            &mut self.state,
+            &mut self.spare,
+            &mut self.trail,
+            &mut self.records,
+        )?;
+        self.cursor += 1;
+        Ok(copies)
+    }
+
+    /// Takes the last step back, and says how many edits it has.
     pub fn undo(&mut self) -> Result<usize, AtStart>
         ensures answer { served self.old.seen call.Undo ≡ answered (undo_reply result) self.new.seen }
         ensures kept { OnErr result (self.new ≡ self.old) }
-        ensures edits { IfOk result (λ count. count ≡ 0) }
+        ensures chain { (k : ℕ) → k ≤ length self.old.seen.trail → chain self.new k ≡ chain self.old k }
+        ensures words { OnOk result (self.new.words ≡ chain self.old (self.old.seen.cursor - 1)) }
+        ensures records { OnOk result (self.new.records ≡ slice_set self.old.records (self.old.seen.cursor - 1) (backed exchange turned self.old.words (record_at self.old (self.old.seen.cursor - 1)))) }
+        ensures edits { IfOk result (λ count. count ≡ length (record_at self.old (self.old.seen.cursor - 1))) }
     {
         if self.cursor == 0 {
             return Err(AtStart);
         }
+        let count = self.records.go_back(self.cursor - 1, &mut self.state);
         self.cursor -= 1;
-        Ok(0)
+        Ok(count)
     }
 
-    /// Makes the next step again. The number in the answer is 0.
+    /// Makes the next step again, and says how many edits it has.
     pub fn redo(&mut self) -> Result<usize, AtEnd>
         ensures answer { served self.old.seen call.Redo ≡ answered (redo_reply result) self.new.seen }
         ensures kept { OnErr result (self.new ≡ self.old) }
-        ensures edits { IfOk result (λ count. count ≡ 0) }
+        ensures chain { (k : ℕ) → k ≤ length self.old.seen.trail → chain self.new k ≡ chain self.old k }
+        ensures words { OnOk result (self.new.words ≡ chain self.old (self.old.seen.cursor + 1)) }
+        ensures records { OnOk result (self.new.records ≡ slice_set self.old.records self.old.seen.cursor (forthed exchange turned self.old.words (record_at self.old self.old.seen.cursor))) }
+        ensures edits { IfOk result (λ count. count ≡ length (record_at self.old self.old.seen.cursor)) }
     {
         if self.cursor == self.trail.len() {
             return Err(AtEnd);
         }
+        let count = self.records.go_forth(self.cursor, &mut self.state);
         self.cursor += 1;
-        Ok(0)
+        Ok(count)
     }
 
     /// Takes all steps back, and says how many.
     pub fn undo_all(&mut self) -> u32
-        ensures { served self.old.seen call.UndoAll ≡ answered (reply.Moved result) self.new.seen }
+        ensures answer { served self.old.seen call.UndoAll ≡ answered (reply.Moved result) self.new.seen }
+        ensures chain { (k : ℕ) → k ≤ length self.old.seen.trail → chain self.new k ≡ chain self.old k }
+        ensures words { self.new.words ≡ chain self.old 0 }
+        ensures records { self.new.records ≡ backed (back exchange) (backed exchange turned) self.old.words (take self.old.seen.cursor self.old.records) ++ drop self.old.seen.cursor self.old.records }
     {
-        let count = self.cursor;
-        self.cursor = 0;
+        self.is_chained();
+        let count = self.cursor();
+        'steps: while self.cursor() > 0 {
+            let _ = self.undo();
+        }
         count as u32
     }
 
     /// Makes all steps again, and says how many.
     pub fn redo_all(&mut self) -> u32
-        ensures { served self.old.seen call.RedoAll ≡ answered (reply.Moved result) self.new.seen }
+        ensures answer { served self.old.seen call.RedoAll ≡ answered (reply.Moved result) self.new.seen }
+        ensures chain { (k : ℕ) → k ≤ length self.old.seen.trail → chain self.new k ≡ chain self.old k }
+        ensures words { self.new.words ≡ chain self.old (length self.old.seen.trail) }
+        ensures records { self.new.records ≡ take self.old.seen.cursor self.old.records ++ forthed (forth exchange) (forthed exchange turned) self.old.words (drop self.old.seen.cursor self.old.records) }
     {
-        let count = self.trail.len() - self.cursor;
-        self.cursor = self.trail.len();
+        self.is_chained();
+        let end = self.trail().len();
+        let count = end - self.cursor();
+        'steps: while self.cursor() < end {
+            let _ = self.redo();
+        }
         count as u32
     }
 
@@ -152,17 +225,23 @@ impl Sim {
     pub fn cut_redo(&mut self)
         ensures cut { self.new.seen ≡ cut self.old.seen }
         ensures state { state_of self.new.seen ≡ state_of self.old.seen }
+        ensures words { self.new.words ≡ self.old.words }
+        ensures records { self.new.records ≡ take self.old.seen.cursor self.old.records }
+        ensures chain { (k : ℕ) → k ≤ self.old.seen.cursor → chain self.new k ≡ chain self.old k }
     {
         let standing = self.cursor;
         self.trail.truncate(standing);
-        self.states.truncate(standing + 1);
+        self.records.truncate(standing);
     }
 
     /// Serves a call of any kind, and gives the reply. Want of memory changes nothing.
     pub fn answer(&mut self, alloc: Global, call: Call) -> Result<Reply, OutOfMemory>
         ensures ok { IfOk result (λ reply. served self.old.seen call ≡ answered reply self.new.seen) }
+        ensures chain { (k : ℕ) → k ≤ self.old.seen.cursor → chain self.new k ≡ chain self.old k }
+        ensures refused { IfOk result (λ reply. is_refusal reply ≡ true → self.new ≡ self.old) }
         ensures err { OnErr result (self.new ≡ self.old) }
     {
+        self.is_chained();
         match call {
             Call::Step(event) => match self.step(alloc, event) {
                 Ok(notices) => Ok(Reply::Done(Notices::of(notices))),
@@ -209,21 +288,71 @@ fn copies_of(alloc: Global, notices: Vec<Notice>, count: usize) -> Result<Vec<No
     Ok(copies)
 }
 
-// The state after an event that isn't refused, with its notices.
-fn next_of(
+// Makes an event, and gives its notices in so many equal lists. Where memory is refused, nothing changes.
+fn perform_copies(
     alloc: Global,
-    state: &State,
+    state: &mut State,
     event: &Event,
     pick: Pick,
-) -> Result<(State, Vec<Notice>), OutOfMemory>
-    requires accepted { refused (read state.now) event.now ≡ None }
-    requires valid { IsValid (read state.now) }
-    ensures state { IfOk result (λ r. read r.0 ≡ (next (read state.now) event.now pick).state) }
-    ensures notices { IfOk result (λ r. r.1.items ≡ (next (read state.now) event.now pick).notices) }
-    ensures valid { IfOk result (λ r. IsValid (read r.0)) }
+    count: usize,
+    edits: &mut Vec<Edit>,
+) -> Result<Vec<Notices>, OutOfMemory>
+    requires accepted { refused (read state.old) event.now ≡ None }
+    requires valid { IsValid (read state.old) }
+    requires none { edits.old.items ≡ [] }
+    ensures state { OnOk result (read state.new ≡ (next (read state.old) event.now pick).state) }
+    ensures copies { IfOk result (λ copies. copies.items ≡ replicate count (next (read state.old) event.now pick).notices) }
+    ensures valid { OnOk result (IsValid (read state.new)) }
+    ensures led { OnOk result (LedBy state.old edits.new.items state.new) }
+    ensures kept { OnErr result (state.new ≡ state.old) }
+    ensures empty { OnErr result (edits.new.items ≡ []) }
 {
-    let mut after = state.copy(alloc)?;
     let mut notices = Vec::new(alloc);
-    perform(alloc, &mut after, event, pick, &mut notices)?;
-    Ok((after, notices))
+    perform(alloc, state, event, pick, edits, &mut notices)?;
+    match copies_of(alloc, notices, count) {
+        Ok(copies) => Ok(copies),
+        Err(OutOfMemory) => {
+            take_back(state, edits);
+            Err(OutOfMemory)
+        }
+    }
+}
+
+// Takes the edits of a step back, and drops them.
+fn take_back(state: &mut State, edits: &mut Vec<Edit>)
+    requires { AllBack exchange CanGoBack state.old edits.old.items }
+    ensures state { state.new ≡ back exchange state.old edits.old.items }
+    ensures edits { edits.new.items ≡ [] }
+{
+    go_back(edits.as_mut_slice(), state);
+    edits.clear();
+}
+
+// Keeps an event that was made, with its edits, in place of what could be made again. Where memory is refused, the edits are
+// taken back, and nothing else changes.
+fn keep(
+    event: Event,
+    cursor: usize,
+    state: &mut State,
+    edits: &mut Vec<Edit>,
+    trail: &mut Vec<Event>,
+    records: &mut Records,
+) -> Result<(), OutOfMemory>
+    requires within { cursor ≤ length records.old }
+    requires all { AllBack exchange CanGoBack state.old edits.old.items }
+    ensures state { OnOk result (state.new ≡ state.old) }
+    ensures trail { OnOk result (trail.new.items ≡ take cursor trail.old.items ++ event ∷ []) }
+    ensures records { OnOk result (records.new ≡ take cursor records.old ++ edits.old.items ∷ []) }
+    ensures edits { edits.new.items ≡ [] }
+    ensures back { OnErr result (state.new ≡ back exchange state.old edits.old.items) }
+    ensures kept_trail { OnErr result (trail.new.items ≡ trail.old.items) }
+    ensures kept_records { OnErr result (records.new ≡ records.old) }
+{
+    if trail.reserve(1).is_err() || records.replace_from(cursor, edits).is_err() {
+        take_back(state, edits);
+        return Err(OutOfMemory);
+    }
+    trail.truncate(cursor);
+    trail.push(event).unwrap();
+    Ok(())
 }

@@ -13,13 +13,11 @@ use crate::text::words::{mode_word, push_kind, restart_word};
 use rh_base::OutOfMemory;
 use rh_model::{App, Cluster, Node};
 use rh_state::State;
-use std::alloc::Global;
 
 // Adds the lines of a node.
 #[tactic(auto, unfolding(crate::specs::Report::node_lines))]
 pub(crate) fn push_node_lines(
     text: &mut String,
-    alloc: Global,
     state: &State,
     node: Node,
 ) -> Result<(), OutOfMemory>
@@ -27,8 +25,8 @@ pub(crate) fn push_node_lines(
     ensures { OnOk result (string_bytes text.new ≡ string_bytes text.old ++ node_lines (read state.now) node) }
 {
     push_node_line(text, state, node)?;
-    push_running(text, alloc, state, node)?;
-    push_waiting(text, alloc, state, node)?;
+    push_running(text, state, node)?;
+    push_waiting(text, state, node)?;
     push_forbidden(text, state, node)
 }
 
@@ -46,18 +44,15 @@ fn push_node_line(text: &mut String, state: &State, node: Node) -> Result<(), Ou
 }
 
 // Adds a line for each application that runs at a node.
-fn push_running(
-    text: &mut String,
-    alloc: Global,
-    state: &State,
-    node: Node,
-) -> Result<(), OutOfMemory>
+fn push_running(text: &mut String, state: &State, node: Node) -> Result<(), OutOfMemory>
     requires { node.0 < node_count (read state.now).cluster }
     ensures { OnOk result (string_bytes text.new ≡ string_bytes text.old ++ flat_map (running_line (read state.now) node) (running_at (read state.now) node)) }
 {
-    let apps = state.running(alloc, node)?;
-    for app in apps.as_slice() {
-        push_running_line(text, state, node, *app)?;
+    state.formed();
+    let mut next = state.first_running(node);
+    'running: while let Some(app) = next {
+        push_running_line(text, state, node, app)?;
+        next = state.next_in_list(node, app);
     }
     Ok(())
 }
@@ -83,18 +78,15 @@ fn push_running_line(
 }
 
 // Adds a line for each application that waits at a node.
-fn push_waiting(
-    text: &mut String,
-    alloc: Global,
-    state: &State,
-    node: Node,
-) -> Result<(), OutOfMemory>
+fn push_waiting(text: &mut String, state: &State, node: Node) -> Result<(), OutOfMemory>
     requires { node.0 < node_count (read state.now).cluster }
     ensures { OnOk result (string_bytes text.new ≡ string_bytes text.old ++ flat_map (waiting_line (read state.now) node) (waiting_at (read state.now) node)) }
 {
-    let apps = state.waiting(alloc, node)?;
-    for app in apps.as_slice() {
-        push_waiting_line(text, state, node, *app)?;
+    state.formed();
+    let mut next = state.first_waiting(node);
+    'waiting: while let Some(app) = next {
+        push_waiting_line(text, state, node, app)?;
+        next = state.next_in_list(node, app);
     }
     Ok(())
 }

@@ -21,7 +21,7 @@ returns-in_err-answer_calls-in-Sweep g c =
     let cluster = c.args.cluster.now in
     let asked = sweep_lines_asked cluster (map content (raw_lines c.args.script.now)) in
     let read = rw c.in-Sweep.is at c.in_ok-number.ensures in
-    let opens = c.in_ok-sim-in-Sweep.ensures ∙ ap (λ (v : ClusterView). opened v c.args.pick) c.in_ok-copy-in-Sweep.ensures in
+    let opens = c.in_ok-sim-in-Sweep.ensures.seen ∙ ap (λ (v : ClusterView). opened v c.args.pick) c.in_ok-copy-in-Sweep.ensures in
     let p = err_from_is_err_and c.from_residual-in_err-answer_calls-in-Sweep.result c.from_residual-in_err-answer_calls-in-Sweep.ensures.1 in
     rw (p.1, p.2)
     (base_breaks cluster c.args.pick asked (bad_sweep_line asked) c.in_ok-sim-in-Sweep.sim.seen _ c.as_slice.result.now (map plan_text c.in-Sweep.plans.items)
@@ -34,7 +34,7 @@ returns-in_ok-answer_calls-in-Sweep g c =
     let cluster = c.args.cluster.now in
     let asked = sweep_lines_asked cluster (map content (raw_lines c.args.script.now)) in
     let read = rw c.in-Sweep.is at c.in_ok-number.ensures in
-    let opens = c.in_ok-sim-in-Sweep.ensures ∙ ap (λ (v : ClusterView). opened v c.args.pick) c.in_ok-copy-in-Sweep.ensures in
+    let opens = c.in_ok-sim-in-Sweep.ensures.seen ∙ ap (λ (v : ClusterView). opened v c.args.pick) c.in_ok-copy-in-Sweep.ensures in
     plans_behind cluster c.args.pick asked (bad_sweep_line asked) c.in_ok-sim-in-Sweep.sim.seen _ c.as_slice.result.now
     (map plan_text c.as_slice-in-Sweep.result.now)
     read.0 opens (c.as_slice.ensures.value ∙ read.1) (ap (map plan_text) c.as_slice-in-Sweep.ensures.value ∙ read.2) c.in_ok-answer_calls-in-Sweep.ensures.sim

@@ -13,6 +13,6 @@ unfolding boot_list_faults
 returns-in_err-check_boot_entry c =
     let p = err_from_is_err_and c.from_residual.result c.from_residual.ensures.1 in
     let f : App × Restart → List ClusterFault = λ e. boot_entry_faults c.args.shares.now c.args.node e.0 in
-    rw (p.1, p.2) (λ n. item_fails f c.boot_at-boot.result.now c.loop-entry.entry-index _ c.in_err-check_boot_entry.field-0.0 _ c.loop-entry-test.true
-    (c.in_err-check_boot_entry.ensures n)
+    rw (p.1, p.2) (item_fails f c.boot_at-boot.result.now c.loop-entry.entry-index _ c.in_err-check_boot_entry.field-0.0 _ c.loop-entry-test.true
+    c.in_err-check_boot_entry.ensures
     (c.loop-entry.invariant ∙ ap (flat_map f) c.boot_at-boot.ensures))

@@ -9,8 +9,8 @@ pub returns-in_err-check_boot_list : goal.returns-in_err-check_boot_list
 returns-in_err-check_boot_list c =
     let p = err_from_is_err_and c.from_residual.result c.from_residual.ensures.1 in
     let f = boot_list_faults c.args.shares.now c.args.nodes.now in
-    rw (p.1, p.2) (λ n. number_fails f c.loop-node.node (length c.args.nodes.now) c.in_err-check_boot_list.field-0.0 _ (omega arith)
-    (c.in_err-check_boot_list.ensures n) c.loop-node.invariant)
+    rw (p.1, p.2) (number_fails f c.loop-node.node (length c.args.nodes.now) c.in_err-check_boot_list.field-0.0 _ (omega arith)
+    c.in_err-check_boot_list.ensures c.loop-node.invariant)
 
 pub loop-node-preserved : goal.loop-node-preserved
 loop-node-preserved c =

@@ -65,6 +65,6 @@ exit-requires-clause-app c = (accepted_exit _ _ _ _ (sym (ap (refused (read c.ar
 pub exit-requires-clause-runs : goal.exit-requires-clause-runs
 exit-requires-clause-runs c = (accepted_exit _ _ _ _ (sym (ap (refused (read c.args.state.now)) c.in-Exit.is) ∙ c.requires.accepted)).runs
 
-pub returns-in-Start : goal.returns-in-Start
-returns-in-Start c =
-    on_ok_weaker c.mark.result (λ made. made ∙ ap (change (course (read c.args.state.now) c.args.trace.now)) (sym c.in-Start.is)) c.mark.ensures
+pub returns-in-Start-clause-course : goal.returns-in-Start-clause-course
+returns-in-Start-clause-course c =
+    on_ok_weaker c.mark.result (λ made. made ∙ ap (change (course (read c.args.state.now) c.args.trace.now)) (sym c.in-Start.is)) c.mark.ensures.course

@@ -3,7 +3,8 @@ use Rattle.rh_model.specs.ClusterView.{ClusterView, node_count, numbered}
 use Rattle.rh_state.specs.Shape.{IsNodeOf}
 use Rattle.rh_state.specs.Stored.{read}
 use Rattle.rh_settle.specs.Course.{Course, course}
-use Rattle.rh_settle.specs.Soundness.{IsSound}
+use Rattle.rh_settle.specs.Validity.{IsSound}
+use Rattle.rh_settle.proofs.Ways.{goes_more}
 use Rattle.rh_events.specs.ComingUp.{come_up_if_ready}
 use Rattle.rh_events.proofs.SoundComingUp.{come_up_more, come_up_if_ready_cluster, sound_come_up_if_ready}
 use Rattle.rh_events.proofs.coming_up.let_ready_come_up.Goals as goal
@@ -13,11 +14,15 @@ nodes-preserved c =
     let s = read c.args.state.now in
     let n = numbered c.nodes.number in
     let o = course (read c.nodes.state) c.nodes.trace in
-    let made = c.in_ok-let_come_up_if_ready.ensures in
+    let made = c.in_ok-let_come_up_if_ready.ensures.course in
     let counted = c.node_count-count.ensures.count ∙ ap (λ (v : ClusterView). node_count v) (c.cluster.ensures ∙ sym c.nodes.invariant.cluster) in
     let is_node : IsNodeOf o.state.cluster n = omega (arith, counted, c.nodes-test.true) in
     record {
       same = made ∙ ap (λ p. come_up_if_ready p n) c.nodes.invariant.same ∙ sym (come_up_more (course s c.args.trace.now) c.nodes.number);
       cluster = ap (λ (p : Course). p.state.cluster) made ∙ come_up_if_ready_cluster o n ∙ c.nodes.invariant.cluster;
       sound = subst (λ (p : Course). IsSound p.state) (sym made) (sound_come_up_if_ready o n c.nodes.invariant.sound is_node);
+      way = goes_more _ _ _ _ _ _ c.nodes.invariant.way c.in_ok-let_come_up_if_ready.ensures.way;
     }
+
+pub returns-in_err-let_come_up_if_ready-clause-way : goal.returns-in_err-let_come_up_if_ready-clause-way
+returns-in_err-let_come_up_if_ready-clause-way c = goes_more _ _ _ _ _ _ c.nodes.invariant.way c.in_err-let_come_up_if_ready.ensures.way

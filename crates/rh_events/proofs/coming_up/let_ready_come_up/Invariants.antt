@@ -1,7 +1,8 @@
 use Rattle.std.proofs.Common.{◌≡◌}
 use Rattle.rh_state.specs.Stored.{read}
 use Rattle.rh_settle.specs.Course.{course}
-use Rattle.rh_settle.specs.Soundness.{IsSound}
+use Rattle.rh_settle.specs.Ways.{Goes}
+use Rattle.rh_settle.specs.Validity.{IsSound}
 use Rattle.rh_events.proofs.SoundComingUp.{come_up_below}
 use Rattle.rh_events.proofs.coming_up.let_ready_come_up.Given as goal
 
@@ -10,4 +11,5 @@ invariant-nodes l = record {
   same : course (read l.state) l.trace ≡ come_up_below (course (read l.fn.state) l.fn.trace) l.number;
   cluster : (read l.state).cluster ≡ (read l.fn.state).cluster;
   sound : IsSound (read l.state);
+  way : Goes l.fn.state l.fn.trace l.state l.trace;
 }

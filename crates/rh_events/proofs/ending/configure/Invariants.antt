@@ -1,5 +1,6 @@
 use Rattle.std.proofs.Common.{◌≡◌}
 use Rattle.rh_state.specs.Stored.{read}
+use Rattle.rh_settle.specs.Ways.{Goes}
 use Rattle.rh_events.proofs.Configuring.{with_first}
 use Rattle.rh_events.proofs.ending.configure.Given as goal
 
@@ -7,4 +8,7 @@ abbrev pub invariant-apps : goal.invariant-apps
 invariant-apps l = record {
   cluster : (read l.state).cluster ≡ (read l.fn.state).cluster;
   written : read l.state ≡ with_first (read l.fn.state) l.node l.number;
+  told : l.trace.notices ≡ l.fn.trace.notices;
+  marked : l.trace.marked ≡ l.fn.trace.marked;
+  way : Goes l.fn.state l.fn.trace l.state l.trace;
 }

@@ -1,5 +1,6 @@
 use Rattle.std.proofs.Common.{◌≡◌}
 use Rattle.rh_state.specs.Stored.{read}
+use Rattle.rh_settle.specs.Ways.{Goes}
 use Rattle.rh_events.specs.Ending.{emptied}
 use Rattle.rh_events.proofs.Emptying.{how_many}
 use Rattle.rh_events.proofs.ending.empty.Given as goal
@@ -8,6 +9,9 @@ abbrev pub invariant-started : goal.invariant-started
 invariant-started l = record {
   emptied : emptied (read l.state) l.node ≡ emptied (read l.fn.state) l.node;
   cluster : (read l.state).cluster ≡ (read l.fn.state).cluster;
+  told : l.trace.notices ≡ l.fn.trace.notices;
+  marked : l.trace.marked ≡ l.fn.trace.marked;
+  way : Goes l.fn.state l.fn.trace l.state l.trace;
 }
 
 abbrev pub decreases-started : goal.decreases-started

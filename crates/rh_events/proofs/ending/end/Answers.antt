@@ -12,9 +12,9 @@ use Rattle.rh_events.proofs.ending.end.Goals as goal
 pub lose_all-requires-clause-node : goal.lose_all-requires-clause-node
 unfolding cleared
 lose_all-requires-clause-node c =
-    subst (λ (s : StateView). c.args.node.0 < node_count s.cluster) (sym c.clear.ensures) c.requires.node
+    subst (λ (s : StateView). c.args.node.0 < node_count s.cluster) (sym c.in_ok-clear.ensures.part) c.requires.node
 
 pub lose_all-requires-clause-unset : goal.lose_all-requires-clause-unset
 lose_all-requires-clause-unset c =
-    subst (λ (s : StateView). (a : App) → standing_of s a ≡ Running c.args.node → IsNone (due_of s (Failover a))) (sym c.clear.ensures)
+    subst (λ (s : StateView). (a : App) → standing_of s a ≡ Running c.args.node → IsNone (due_of s (Failover a))) (sym c.in_ok-clear.ensures.part)
     (unset_cleared (read c.args.state.now) c.args.node c.requires.unset)

@@ -2,6 +2,7 @@ use Rattle.std.proofs.Common.{◌+◌, sym, ap, ◌∙◌, subst}
 use Rattle.rh_model.specs.ClusterView.{app_numbered}
 use Rattle.rh_state.specs.StateView.{StateView}
 use Rattle.rh_state.specs.Stored.{read}
+use Rattle.rh_settle.proofs.Ways.{goes_more}
 use Rattle.rh_events.specs.Ending.{lost_if_ran}
 use Rattle.rh_events.proofs.Losing.{UnsetFrom, lost_more, lost_cluster, unset_later}
 use Rattle.rh_events.proofs.ending.lose_all.Goals as goal
@@ -12,7 +13,10 @@ apps-preserved c =
     let n = c.args.node in
     let i = c.apps.number in
     record {
-      lost = c.lose_if_ran.ensures ∙ ap (λ t. lost_if_ran n t (app_numbered i)) c.apps.invariant.lost ∙ sym (lost_more (read c.args.state.now) n i);
-      cluster = ap (λ (t : StateView). t.cluster) c.lose_if_ran.ensures ∙ lost_cluster s n (app_numbered i) ∙ c.apps.invariant.cluster;
-      unset = subst (λ t. UnsetFrom t n (i + 1)) (sym c.lose_if_ran.ensures) (unset_later s n i c.apps.invariant.unset);
+      lost = c.in_ok-lose_if_ran.ensures.part ∙ ap (λ t. lost_if_ran n t (app_numbered i)) c.apps.invariant.lost ∙ sym (lost_more (read c.args.state.now) n i);
+      cluster = ap (λ (t : StateView). t.cluster) c.in_ok-lose_if_ran.ensures.part ∙ lost_cluster s n (app_numbered i) ∙ c.apps.invariant.cluster;
+      unset = subst (λ t. UnsetFrom t n (i + 1)) (sym c.in_ok-lose_if_ran.ensures.part) (unset_later s n i c.apps.invariant.unset);
+      told = c.in_ok-lose_if_ran.ensures.told ∙ c.apps.invariant.told;
+      marked = c.in_ok-lose_if_ran.ensures.marked ∙ c.apps.invariant.marked;
+      way = goes_more _ _ _ _ _ _ c.apps.invariant.way c.in_ok-lose_if_ran.ensures.way;
     }

@@ -1,5 +1,6 @@
 use Rattle.std.proofs.Common.{◌≡◌}
 use Rattle.rh_state.specs.Stored.{read}
+use Rattle.rh_settle.specs.Ways.{Goes}
 use Rattle.rh_events.proofs.Losing.{lost_below, UnsetFrom}
 use Rattle.rh_events.proofs.ending.lose_all.Given as goal
 
@@ -8,4 +9,7 @@ invariant-apps l = record {
   lost : read l.state ≡ lost_below (read l.fn.state) l.node l.number;
   cluster : (read l.state).cluster ≡ (read l.fn.state).cluster;
   unset : UnsetFrom (read l.state) l.node l.number;
+  told : l.trace.notices ≡ l.fn.trace.notices;
+  marked : l.trace.marked ≡ l.fn.trace.marked;
+  way : Goes l.fn.state l.fn.trace l.state l.trace;
 }

@@ -5,6 +5,7 @@ use Rattle.rh_model.specs.declared.settings.Restart.{Restart}
 use Rattle.rh_model.specs.declared.settings.Restart.TheVariants.{Permanent}
 use Rattle.rh_state.specs.Stored.{read}
 use Rattle.rh_settle.specs.Course.{course}
+use Rattle.rh_settle.proofs.Ways.{goes_more}
 use Rattle.rh_events.proofs.BootTurns.{next_app_within, next_is_off, one_more, same_cluster, others_off, all_marked}
 use Rattle.rh_events.proofs.marking.mark_booted.Goals as goal
 
@@ -47,7 +48,7 @@ booted-preserved c =
     let whole = c.boot-count.ensures ∙ ap (λ (v : ClusterView). boot_of v n) c.cluster-2.ensures in
     let count = ap (λ (xs : List (App × Restart)). length xs) whole in
     let lt : i < length (boot_of s.cluster n) = omega (arith, count, c.booted-test.true) in
-    let made = c.in_ok-mark.ensures in
+    let made = c.in_ok-mark.ensures.course in
     let cluster = c.booted.invariant.cluster in
     let rest = c.booted.invariant.rest in
     let boot = c.boot.result.now in
@@ -55,10 +56,14 @@ booted-preserved c =
       same = one_more s o n i within cluster boot here lt rest p d made (course s c.args.trace.now) c.booted.invariant.same;
       cluster = same_cluster s o n i within cluster boot here lt rest p d made;
       rest = others_off s o n i within cluster boot here lt rest p d made;
+      way = goes_more _ _ _ _ _ _ c.booted.invariant.way c.in_ok-mark.ensures.way;
     }
 
-pub returns : goal.returns
-returns c =
+pub returns-in_err-mark-clause-way : goal.returns-in_err-mark-clause-way
+returns-in_err-mark-clause-way c = goes_more _ _ _ _ _ _ c.booted.invariant.way c.in_err-mark.ensures.way
+
+pub returns-clause-course : goal.returns-clause-course
+returns-clause-course c =
     let s = read c.args.state.now in
     let whole = c.boot-count.ensures ∙ ap (λ (v : ClusterView). boot_of v c.args.node) c.cluster-2.ensures in
     let count = ap (λ (xs : List (App × Restart)). length xs) whole in

@@ -10,4 +10,4 @@ returns-then-node-node_count c =
     let s = read c.args.state.now in
     let count_is = c.node_count.ensures.count ∙ ap (λ (k : ClusterView). node_count k) c.cluster.ensures in
     let above : node_count s.cluster ≤ c.args.node.0 = grind (arith, nat_tests, count_is, c.if-node-node_count.true) in
-    sym (unknown_dead s c.args.node c.shape.ensures.modes above)
+    sym (unknown_dead s c.args.node c.formed.ensures.shape.modes above)

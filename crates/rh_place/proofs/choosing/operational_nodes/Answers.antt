@@ -26,7 +26,7 @@ pub returns : goal.returns
 returns c = λ n. cases (nat_lt n.0 c.nodes.number)
     (λ t. c.nodes.invariant.below n (is_below n.0 c.nodes.number t))
     (λ f. let above = is_above n.0 c.nodes.number f in
-    let e : length (read c.args.state.now).modes ≡ node_count (read c.args.state.now).cluster = c.shape.ensures.modes in
+    let e : length (read c.args.state.now).modes ≡ node_count (read c.args.state.now).cluster = c.formed.ensures.shape.modes in
     let counted : c.node_count-number-end.result ≡ node_count (read c.args.state.now).cluster = c.node_count-number-end.ensures.count
     ∙ ap (λ (v : ClusterView). node_count v) c.cluster.ensures in
     c.nodes.invariant.above n above ∙ sym (beyond (read c.args.state.now) c.args.app n (omega (arith, c.nodes-test.false))))

@@ -17,4 +17,4 @@ returns c =
       ← desc_faults-groups names (tree_of c.args.value.now) groups (sym c.if-is_empty.ensures) c.in-Some.ensures,
       ← in_turn-groups (node_name_faults names) members [] (map tree_of groups),
     )
-    (c.check_each.ensures faults (search rules))
+    (c.check_each.ensures.exact faults (search rules))

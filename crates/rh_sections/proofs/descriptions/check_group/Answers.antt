@@ -11,4 +11,4 @@ returns c =
     let before = flat_map members (map tree_of c.args.before.now) in
     let faults : List Tree → Tree → List ClusterFault = λ earlier t. node_name_faults c.args.names.now (before ++ earlier) t in
     rw (← in_turn-behind (node_name_faults c.args.names.now) before (members (tree_of c.args.group.now)), ← c.members.ensures)
-    (c.check_each.ensures faults (search rules))
+    (c.check_each.ensures.exact faults (search rules))

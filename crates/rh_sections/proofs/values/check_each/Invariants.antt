@@ -1,8 +1,11 @@
 use Rattle.std.proofs.Common.{◌≡◌, [], map, take}
 use Rattle.rh_base.specs.Tree.{tree_of}
 use Rattle.rh_sections.specs.Faults.{in_turn}
-use Rattle.rh_sections.specs.Tests.{FindsOfEach}
+use Rattle.rh_sections.specs.Tests.{FindsOfEach, FindsFirstOfEach}
 use Rattle.rh_sections.proofs.values.check_each.Given as goal
 
 abbrev pub invariant-loop-index : goal.invariant-loop-index
-invariant-loop-index g l = (faults : _) → FindsOfEach g.F.Fn l.test faults → in_turn faults [] (map tree_of (take l.index l.terms)) ≡ []
+invariant-loop-index g l = record {
+  finds : (faults : _) → FindsOfEach g.F.Fn l.test faults → in_turn faults [] (map tree_of (take l.index l.terms)) ≡ [];
+  exact : (faults : _) → FindsFirstOfEach g.F.Fn l.test faults → in_turn faults [] (map tree_of (take l.index l.terms)) ≡ [];
+}

@@ -6,5 +6,5 @@ use Rattle.rh_settle.proofs.make.start_at.Goals as goal
 
 pub push_running-requires-clause-off : goal.push_running-requires-clause-off
 push_running-requires-clause-off c =
-    ap (λ s. place_of s c.args.node c.args.app) c.unlink.ensures
-    ∙ off_unlisted_shaped (read c.args.state.now) c.args.node c.args.app c.shape.ensures c.requires.pair.node
+    ap (λ s. place_of s c.args.node c.args.app) c.in_ok-unlink.ensures.part
+    ∙ off_unlisted_shaped (read c.args.state.now) c.args.node c.args.app c.formed.ensures.shape c.requires.pair.node

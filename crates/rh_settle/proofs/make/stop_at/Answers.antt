@@ -6,5 +6,5 @@ use Rattle.rh_settle.proofs.make.stop_at.Goals as goal
 
 pub push_waiting-requires-clause-off : goal.push_waiting-requires-clause-off
 push_waiting-requires-clause-off c =
-    ap (λ s. place_of s c.args.node c.args.app) c.unlink.ensures
-    ∙ off_unlisted_shaped (read c.args.state.now) c.args.node c.args.app c.shape.ensures c.requires.node
+    ap (λ s. place_of s c.args.node c.args.app) c.in_ok-unlink.ensures.part
+    ∙ off_unlisted_shaped (read c.args.state.now) c.args.node c.args.app c.formed.ensures.shape c.requires.node

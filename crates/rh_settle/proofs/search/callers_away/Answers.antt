@@ -32,5 +32,5 @@ returns c = λ n. cases (nat_lt n.0 c.nodes.number)
     (λ f. let above = is_above n.0 c.nodes.number f in
     let counted : c.node_count-number-end.result ≡ node_count (read c.args.state.now).cluster = c.node_count-number-end.ensures.count
     ∙ ap (λ (v : ClusterView). node_count v) c.cluster.ensures in
-    c.nodes.invariant.above n above ∙ sym (beyond (read c.args.state.now) c.args.marked.now c.args.app c.args.from n c.shape.ensures.modes
+    c.nodes.invariant.above n above ∙ sym (beyond (read c.args.state.now) c.args.marked.now c.args.app c.args.from n c.formed.ensures.shape.modes
     (omega (arith, c.nodes-test.false))))

@@ -2,7 +2,7 @@ use Rattle.std.proofs.Common.{◌≡◌, ◌<◌, ℕ, sym, ap, ◌∙◌, cond,
 use Rattle.rh_model.specs.declared.node.Node.{Node}
 use Rattle.rh_model.specs.declared.node.App.{App}
 use Rattle.rh_state.specs.Lists.{has_app, next_app}
-use Rattle.rh_state.specs.StateView.{StateView, waiting_at, running_at, next_in_list}
+use Rattle.rh_state.specs.StateView.{StateView, waiting_at}
 use Rattle.rh_state.specs.Stored.{read}
 use Rattle.rh_place.specs.declared.choosing.Pick.{Pick}
 use Rattle.rh_place.specs.declared.choosing.Pick.TheVariants.{First, Last}
@@ -11,19 +11,14 @@ use Rattle.rh_base.specs.Lists.{first_given}
 use Rattle.rh_settle.specs.declared.notice.Move.{Move}
 use Rattle.rh_settle.specs.declared.notice.Move.TheVariants.{Local}
 use Rattle.rh_settle.specs.Moves.{can_start, local_move, local_moves}
-use Rattle.rh_settle.specs.Validity.{OnceAtEachNode}
 use Rattle.rh_settle.proofs.Searches.{none_of_none}
 use Rattle.rh_settle.proofs.ListWalks.{once_of, left_of, all_left, first_is_next, next_is_next, found_on_walk, later_on_walk, end_of_walk, shorter_walk}
-use Rattle.rh_settle.proofs.ListWalks.{is_in_list}
+use Rattle.rh_settle.proofs.ListWalks.{is_in_list, behind_waiting}
 use Rattle.rh_settle.proofs.search.local_at.Goals as goal
 
 single : (pick : Pick) (m : Move) → Some m ≡ picked pick (m ∷ [])
 single First m = refl
 single Last m = refl
-
--- behind a pair that waits stands the next one that waits
-behind_waiting : (s : StateView) (n : Node) (a : App) → OnceAtEachNode s → has_app (waiting_at s n) a ≡ true → next_in_list s n a ≡ next_app (waiting_at s n) a
-behind_waiting s n a once h = ap (λ b. cond b (next_app (running_at s n) a) (next_app (waiting_at s n) a)) (once.apart n a h)
 
 -- an application that can start gives its move, and another gives none
 move_of : (s : StateView) (n : Node) (a : App) → can_start s n a ≡ true → local_move s n a ≡ Local n a ∷ []
@@ -53,7 +48,7 @@ returns-then-can_start c = λ pick.
     let there = is_in_list (λ b. has_app apps b ≡ true) c.waiting.waiting a c.waiting.invariant.next c.in-Some.is in
     single pick (Local n a)
     ∙ ap (picked pick) (sym (found_on_walk (local_move s n) apps c.waiting.waiting c.waiting.invariant.same a (Local n a)
-    (once_of apps (c.requires.once.waiting n)) there c.in-Some.is (move_of s n a (sym c.can_start.ensures ∙ c.if-can_start.true))))
+    (once_of apps (c.formed.ensures.once.waiting n)) there c.in-Some.is (move_of s n a (sym c.can_start.ensures ∙ c.if-can_start.true))))
 
 pub waiting-smaller : goal.waiting-smaller
 waiting-smaller c =
@@ -62,10 +57,10 @@ waiting-smaller c =
     let a = c.in-Some.app in
     let apps : List App = waiting_at s n in
     let there = is_in_list (λ b. has_app apps b ≡ true) c.waiting.waiting a c.waiting.invariant.next c.in-Some.is in
-    let less = shorter_walk apps a (once_of apps (c.requires.once.waiting n)) there in
+    let less = shorter_walk apps a (once_of apps (c.formed.ensures.once.waiting n)) there in
     let before : length (left_of apps c.waiting.waiting) ≡ length (left_of apps (Some a)) = ap (λ o. length (left_of apps o)) c.in-Some.is in
     let after : length (left_of apps c.next_in_list-waiting.result) ≡ length (left_of apps (next_app apps a)) =
-    ap (λ o. length (left_of apps o)) (c.next_in_list-waiting.ensures.next ∙ behind_waiting s n a c.requires.once there) in
+    ap (λ o. length (left_of apps o)) (c.next_in_list-waiting.ensures.next ∙ behind_waiting s n a c.formed.ensures.once there) in
     fewer before after less
   where
     fewer : {i j k l : ℕ} → i ≡ j → k ≡ l → l < j → k < i
@@ -78,10 +73,10 @@ waiting-preserved c =
     let a = c.in-Some.app in
     let apps : List App = waiting_at s n in
     let there = is_in_list (λ b. has_app apps b ≡ true) c.waiting.waiting a c.waiting.invariant.next c.in-Some.is in
-    let behind = c.next_in_list-waiting.ensures.next ∙ behind_waiting s n a c.requires.once there in
+    let behind = c.next_in_list-waiting.ensures.next ∙ behind_waiting s n a c.formed.ensures.once there in
     record {
       same = ap (λ o. first_given (local_move s n) (left_of apps o)) behind
-          ∙ later_on_walk (local_move s n) apps c.waiting.waiting c.waiting.invariant.same a (once_of apps (c.requires.once.waiting n)) there c.in-Some.is
+          ∙ later_on_walk (local_move s n) apps c.waiting.waiting c.waiting.invariant.same a (once_of apps (c.formed.ensures.once.waiting n)) there c.in-Some.is
           (no_move_of s n a (sym c.can_start.ensures ∙ c.if-can_start.false));
       next = subst (λ o. IfSome o (λ b. has_app apps b ≡ true)) (sym behind) (next_is_next apps a);
       number = c.next_in_list-waiting.ensures.number;

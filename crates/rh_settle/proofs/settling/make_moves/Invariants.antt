@@ -2,16 +2,16 @@ use Rattle.std.proofs.Common.{◌≡◌}
 use Rattle.rh_state.specs.Stored.{read}
 use Rattle.rh_settle.specs.Course.{course}
 use Rattle.rh_settle.specs.Settling.{all_moved}
-use Rattle.rh_settle.specs.Validity.{RunsWhereItStands, OnceAtEachNode}
+use Rattle.rh_settle.specs.Validity.{RunsWhereItStands}
+use Rattle.rh_settle.specs.Ways.{Goes}
 use Rattle.rh_settle.proofs.Points.{points}
 use Rattle.rh_settle.proofs.settling.make_moves.Given as goal
 
 abbrev pub invariant-moves : goal.invariant-moves
 invariant-moves l = record {
   same : all_moved l.pick (course (read l.state) l.trace) ≡ all_moved l.pick (course (read l.fn.state) l.fn.trace);
-  cluster : (read l.state).cluster ≡ (read l.fn.state).cluster;
   runs : RunsWhereItStands (read l.state);
-  once : OnceAtEachNode (read l.state);
+  way : Goes l.fn.state l.fn.trace l.state l.trace;
 }
 
 abbrev pub decreases-moves : goal.decreases-moves

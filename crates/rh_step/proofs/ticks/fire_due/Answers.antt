@@ -2,9 +2,10 @@ use Rattle.std.proofs.Common.{◌≡◌, ◌<◌, length, None, ap, sym, subst, 
 use Rattle.rh_state.specs.StateView.{earliest}
 use Rattle.rh_state.specs.Stored.{read}
 use Rattle.rh_settle.specs.Course.{Course, course}
-use Rattle.rh_settle.specs.Soundness.{IsSound}
+use Rattle.rh_settle.specs.Validity.{IsSound}
 use Rattle.rh_step.specs.Ticks.{due_by, all_fired}
 use Rattle.rh_step.proofs.Fuel.{timer_count, fired_fewer, sound_fired, unrolled, all_fired_end, due_is_first}
+use Rattle.rh_settle.proofs.Ways.{goes_more}
 use Rattle.rh_step.proofs.ticks.fire_due.Goals as goal
 
 pub fire-requires-clause-first : goal.fire-requires-clause-first
@@ -13,23 +14,27 @@ fire-requires-clause-first c = due_is_first c.args.limit (read c.timers.state) (
 pub timers-smaller : goal.timers-smaller
 timers-smaller c =
     let o = course (read c.timers.state) c.timers.trace in
-    subst (λ (p : Course). length p.state.timers < timer_count o) (sym c.in_ok-fire.ensures)
+    subst (λ (p : Course). length p.state.timers < timer_count o) (sym c.in_ok-fire.ensures.course)
     (fired_fewer c.args.pick c.args.limit o (c.in-Some.due, c.in-Some.timer) c.timers.invariant.sound (sym c.in-Some.ensures.next))
 
 pub timers-preserved : goal.timers-preserved
 timers-preserved c =
     let o = course (read c.timers.state) c.timers.trace in
     let due = sym c.in-Some.ensures.next in
-    let made = c.in_ok-fire.ensures in
+    let made = c.in_ok-fire.ensures.course in
     record {
       same = ap (all_fired c.args.pick c.args.limit) made
           ∙ sym (unrolled c.args.pick c.args.limit o (c.in-Some.due, c.in-Some.timer) c.requires.limit c.timers.invariant.sound due) ∙ c.timers.invariant.same;
+      way = goes_more _ _ _ _ _ _ c.timers.invariant.way c.fire.ensures.way;
       sound = subst (λ (p : Course). IsSound p.state) (sym made)
           (sound_fired c.args.pick c.args.limit o (c.in-Some.due, c.in-Some.timer) c.requires.limit c.timers.invariant.sound due);
     }
 
-pub returns : goal.returns
-returns c =
+pub returns-clause-course : goal.returns-clause-course
+returns-clause-course c =
     let o = course (read c.timers.state) c.timers.trace in
     let none : due_by c.args.limit (earliest (read c.timers.state)) ≡ None = sym c.due_by.ensures.next ∙ c.in_default.is in
     sym (all_fired_end c.args.pick c.args.limit o none) ∙ c.timers.invariant.same
+
+pub returns-in_err-fire-clause-way : goal.returns-in_err-fire-clause-way
+returns-in_err-fire-clause-way c = goes_more _ _ _ _ _ _ c.timers.invariant.way c.fire.ensures.way

@@ -1,7 +1,8 @@
 use Rattle.std.proofs.Common.{◌≡◌, length}
 use Rattle.rh_state.specs.Stored.{read}
 use Rattle.rh_settle.specs.Course.{course}
-use Rattle.rh_settle.specs.Soundness.{IsSound}
+use Rattle.rh_settle.specs.Validity.{IsSound}
+use Rattle.rh_settle.specs.Ways.{Goes}
 use Rattle.rh_step.specs.Ticks.{all_fired}
 use Rattle.rh_step.proofs.ticks.fire_due.Given as goal
 
@@ -9,6 +10,7 @@ abbrev pub invariant-timers : goal.invariant-timers
 invariant-timers l = record {
   same : all_fired l.pick l.limit (course (read l.state) l.trace) ≡ all_fired l.pick l.limit (course (read l.fn.state) l.fn.trace);
   sound : IsSound (read l.state);
+  way : Goes l.fn.state l.fn.trace l.state l.trace;
 }
 
 abbrev pub decreases-timers : goal.decreases-timers

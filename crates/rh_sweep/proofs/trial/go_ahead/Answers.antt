@@ -5,7 +5,6 @@ use Rattle.rh_events.specs.declared.event.Event.TheVariants.{Boot}
 use Rattle.rh_model.specs.ClusterView.{numbered}
 use Rattle.rh_sweep.specs.Outcomes.{is_failover, is_takeover}
 use Rattle.rh_sweep.specs.Sweeping.{IsAtEnd}
-use Rattle.rh_sweep.specs.Working.{IsAhead}
 use Rattle.rh_sweep.proofs.Trying.{rest_of, made-event, ahead-event, end-event, next-event, rest-accepted}
 use Rattle.rh_sweep.proofs.trial.go_ahead.Goals as goal
 
@@ -25,7 +24,8 @@ loop-index-preserved c =
     let takeovers : c.takeovers_in.result ≡ count_by is_takeover ns =
     c.takeovers_in.ensures ∙ ap (λ (ms : List Notice). count_by is_takeover ms) c.as_slice-in-Ok.ensures.value in
     record {
-      ahead = subst (IsAhead c.args.sim.now.seen) (sym made) (ahead-event c.args.sim.now.seen t _ inv.end inv.ahead);
+      ahead = ahead-event c.args.sim.now c.loop-index.sim c.step.new.self _ inv.end inv.ahead made
+          c.in-Ok.ensures.chain c.in-Ok.ensures.records;
       end = subst IsAtEnd (sym made) (end-event t _ inv.end);
       cursor = ap (λ (v : SimView). v.cursor) made ∙ omega (arith, inv.cursor);
       failovers = omega (arith, inv.failovers, c.failovers_in.type_inv);

@@ -7,7 +7,7 @@ use Rattle.rh_sweep.proofs.trial.go_ahead.Given as goal
 
 abbrev pub invariant-loop-index : goal.invariant-loop-index
 invariant-loop-index l = record {
-  ahead : IsAhead l.fn.sim.seen l.sim.seen;
+  ahead : IsAhead l.fn.sim l.sim;
   end : IsAtEnd l.sim.seen;
   cursor : l.sim.seen.cursor ≡ l.fn.sim.seen.cursor + l.index;
   failovers : l.failovers ≤ l.index * 2 ^ 64;

@@ -6,8 +6,8 @@ use Rattle.std.specs.String.{string_bytes, string_eq}
 use Rattle.rh_model.proofs.Texts.{list_any-map}
 use Rattle.rh_model.proofs.name_set.NameSet.add.Goals as goal
 
-pub returns : goal.returns
-returns c =
+pub returns-clause-added : goal.returns-clause-added
+returns-clause-added c =
     let keys = c.self.inside.names.keys in
     let name = c.args.name.now in
     let text = c.in_ok-from_str.field-0 in

@@ -1,36 +1,38 @@
-use Rattle.std.proofs.Common.{◌<◌, Bool, not, length, All, arith}
-use Rattle.std.proofs.lemmas.List.Elements.{All-filter}
-use Rattle.rh_model.specs.declared.node.App.{App}
-use Rattle.rh_state.specs.Numbers.{same_app}
-use Rattle.rh_state.specs.Shape.{IsAppOf}
+use Rattle.rh_state.specs.Pairs.{pair_number}
 use Rattle.rh_state.specs.Stored.{read}
-use Rattle.rh_state.proofs.Listings.{row_read, All-row, IsShaped-running, IsShaped-waiting}
+use Rattle.rh_state.proofs.Formed.{IsFormed-links}
+use Rattle.rh_state.proofs.Links.{IsRemoved, AreOfPairs-removed, running-removed, waiting-removed, without_each}
+use Rattle.rh_state.proofs.Places.{IsSome-owner}
 use Rattle.rh_state.proofs.state.State.unlink.Goals as goal
 
-within : (c : goal.After-self-2-1) → c.args.node.0 < length c.self.inside.running.items
+pub remove-edit-requires : goal.remove-edit-requires
 unfolding read
-within c = let node = rw (← c.self.view_is) at c.requires.node in omega (arith, node, c.self.invariant.shape.running)
+remove-edit-requires c =
+    let node = rw (← c.self.view_is) at c.requires.node in
+    let on = rw (← c.self.view_is) at c.requires.on in
+    let number = rw (← c.self.view_is) at c.pair-pair.ensures.pair in
+    rw number (IsSome-owner c.self.inside.cluster.value c.self.inside.links c.args.node c.args.app c.self.invariant.links node on)
 
-within_waiting : (c : goal.After-self-2-1) → c.args.node.0 < length c.self.inside.waiting.items
-unfolding read
-within_waiting c = let node = rw (← c.self.view_is) at c.requires.node in omega (arith, node, c.self.invariant.shape.waiting)
-
-pub invariant_of-self : goal.invariant_of-self
-invariant_of-self c =
-    let P = IsAppOf c.self.inside.cluster.value in
-    let stays : App → Bool = λ b. not (same_app c.args.app b) in
-    let run : All P c.remove.new.self =
-    rw c.remove.ensures (All-filter stays P _ (All-row P _ _ _ (within c) c.index_mut.ensures.value c.self.invariant.shape.running_apps)) in
-    let wait : All P c.remove-2.new.self =
-    rw c.remove-2.ensures (All-filter stays P _ (All-row P _ _ _ (within_waiting c) c.index_mut-2.ensures.value c.self.invariant.shape.waiting_apps)) in
+removed : (c : goal.After-formed) → IsRemoved c.self.inside.links c.remove-edit.new.self (pair_number c.self.inside.cluster.value c.args.node c.args.app)
+removed c =
+    let number = rw (← c.self.view_is) at c.pair-pair.ensures.pair in
     record {
-      shape = IsShaped-waiting _ _ _ (IsShaped-running _ _ _ c.self.invariant.shape run) wait;
-      timers = c.self.invariant.timers;
+      formed = c.formed.ensures;
+      each = without_each _ _ _ c.self.invariant.links.formed (rw number at c.remove-edit.ensures.list) (rw number at c.remove-edit.ensures.others);
+      entries = c.remove-edit.ensures.entry_count;
+      lists = c.remove-edit.ensures.list_count;
     }
 
-pub returns : goal.returns
+pub invariant_of-self : goal.invariant_of-self
+invariant_of-self c = IsFormed-links _ _ c.self.invariant (AreOfPairs-removed _ _ _ _ c.self.invariant.links (removed c))
+
+pub returns-clause-part : goal.returns-clause-part
 unfolding read
-returns c =
-    let run = row_read _ _ _ (within c) c.index_mut.ensures.value in
-    let wait = row_read _ _ _ (within_waiting c) c.index_mut-2.ensures.value in
-    rw (← c.self.view_is, c.remove.ensures, c.remove-2.ensures, run, wait)
+returns-clause-part c =
+    let node = rw (← c.self.view_is) at c.requires.node in
+    let app = rw (← c.self.view_is) at c.requires.app in
+    let cluster = c.self.inside.cluster.value in
+    let words = c.self.inside.links in
+    let run = running-removed cluster words c.remove-edit.new.self c.args.node c.args.app c.self.invariant.links node app (removed c) in
+    let wait = waiting-removed cluster words c.remove-edit.new.self c.args.node c.args.app c.self.invariant.links node app (removed c) in
+    rw (← c.self.view_is, run, wait)

@@ -1,57 +1,82 @@
-use Rattle.std.proofs.Common.{arith, ◌≡◌, ◌<◌, ◌∙◌, ℕ, List, length, IsOk, IsNone, ap}
-use Rattle.rh_wheel.specs.Firing.{behind, due_in}
-use Rattle.rh_wheel.specs.Stored.{listed, timer_count}
-use Rattle.rh_wheel.proofs.Arming.{IsFiringOrder-behind, due_in-behind_same, due_in-behind_other, without-behind, due_at-behind}
-use Rattle.rh_wheel.proofs.Room.{length-lt_timers}
+use Rattle.std.proofs.Common.{◌≡◌, ◌<◌, Some, None, length, set, refl, arith}
+use Rattle.std.proofs.lemmas.List.{length-set}
+use Rattle.rh_wheel.specs.Firing.{behind}
+use Rattle.rh_wheel.specs.Stored.{Stored, listed, timer_count, due_of}
+use Rattle.rh_wheel.specs.Edits.{exchange}
+use Rattle.rh_wheel.proofs.Arming.{due_in-behind_same, due_in-behind_other, without-behind, due_at-behind}
+use Rattle.rh_wheel.proofs.Slots.{unarmed_from_listed, IsFiringOrder-listed}
+use Rattle.rh_wheel.proofs.ArmedSlots.{IsArmed, listed-armed}
+use Rattle.rh_wheel.proofs.Exchanging.{Stored-same, set-back}
 use Rattle.rh_wheel.proofs.wheel.Wheel.arm.Goals as goal
 
-pub unwrap-requires : goal.unwrap-requires
-unfolding listed timer_count
-unwrap-requires c =
-    let numbered : c.args.timer < c.self.inside.timers = rw (← c.self.view_is) at c.requires.numbered in
-    let unarmed : IsNone (due_in c.args.timer c.self.inside.entries.items) = rw (← c.self.view_is) at c.requires.unarmed in
-    let few = length-lt_timers _ (c.args.due, c.args.timer) _ c.self.invariant.order numbered unarmed in
-    let same = ap (λ (l : List (ℕ × ℕ)). length l) c.as_slice.ensures.value in
-    c.insert.ensures.succeeds (omega (arith, few, same, c.as_slice.ensures.len, c.self.invariant.room))
-
-unarmed : (c : goal.After-unwrap) → IsNone (due_in c.args.timer c.self.inside.entries.items)
-unfolding listed
-unarmed c = rw (← c.self.view_is) at c.requires.unarmed
-
-numbered : (c : goal.After-unwrap) → c.args.timer < c.self.inside.timers
+pub index_mut-requires : goal.index_mut-requires
 unfolding timer_count
-numbered c = rw (← c.self.view_is) at c.requires.numbered
+index_mut-requires c =
+    let numbered : c.args.timer < length c.self.inside.dues.items = rw (← c.self.view_is) at c.requires.numbered in
+    omega (arith, numbered, c.self.inside.dues.ok)
 
--- the entries after the insert
-entries : (c : goal.After-unwrap) → c.insert.new.self.items ≡ behind (c.args.due, c.args.timer) c.self.inside.entries.items
-entries c =
-    let few = length-lt_timers _ (c.args.due, c.args.timer) _ c.self.invariant.order (numbered c) (unarmed c) in
-    let same = ap (λ (l : List (ℕ × ℕ)). length l) c.as_slice.ensures.value in
-    let ok : IsOk c.insert.result = c.insert.ensures.succeeds (omega (arith, few, same, c.as_slice.ensures.len, c.self.invariant.room)) in
-    (simp ok at c.insert.ensures.items) ∙ (rw c.as_slice.ensures.value at (c.place_behind-place.ensures.place c.args.timer))
+pub push_back-links-requires-clause-entry : goal.push_back-links-requires-clause-entry
+unfolding timer_count
+push_back-links-requires-clause-entry c =
+    let numbered : c.args.timer < length c.self.inside.dues.items = rw (← c.self.view_is) at c.requires.numbered in
+    omega (arith, numbered, c.self.invariant.formed.timers)
 
-pub invariant_of-self : goal.invariant_of-self
-invariant_of-self c = record {
-  order = rw (entries c) (IsFiringOrder-behind _ (c.args.due, c.args.timer) _ c.self.invariant.order (numbered c) (unarmed c));
-  room = omega (arith, c.insert.ensures.capacity, c.self.invariant.room);
+pub push_back-links-requires-clause-free : goal.push_back-links-requires-clause-free
+push_back-links-requires-clause-free c =
+    (unarmed_from_listed _ c.self.invariant.formed c.args.timer (rw (← c.self.view_is) at c.requires.unarmed)).1
+
+pub overflow_cast-result : goal.overflow_cast-result
+unfolding timer_count
+overflow_cast-result c =
+    let numbered : c.args.timer < length c.self.inside.dues.items = rw (← c.self.view_is) at c.requires.numbered in
+    omega (arith, numbered, c.self.invariant.few)
+
+-- what is kept before, and what is kept after
+abbrev kept : goal.After-formed → Stored
+kept c = record { links = c.self.inside.slots; dues = c.self.inside.dues.items }
+
+abbrev left : goal.After-formed → Stored
+left c = record { links = c.push_back-links.new.self; dues = set c.self.inside.dues.items c.args.timer (Some c.args.due) }
+
+free : (c : goal.After-formed) → due_of (kept c) c.args.timer ≡ None
+free c = (unarmed_from_listed (kept c) c.self.invariant.formed c.args.timer (rw (← c.self.view_is) at c.requires.unarmed)).0
+
+armed : (c : goal.After-formed) → IsArmed (kept c) (left c) c.args.timer c.args.due
+unfolding timer_count
+armed c = record {
+  numbered = rw (← c.self.view_is) at c.requires.numbered;
+  free = free c;
+  dues = refl;
+  own = c.push_back-links.ensures.list;
+  others = c.push_back-links.ensures.others;
 }
 
+list : (c : goal.After-formed) → listed (left c) ≡ behind (c.args.due, c.args.timer) (listed c.args.self.now)
+list c = rw (← c.self.view_is) (listed-armed (kept c) (left c) c.args.timer c.args.due c.self.invariant.formed (armed c))
+
 pub returns-clause-list : goal.returns-clause-list
-unfolding listed
-returns-clause-list c = rw (← c.self.view_is) (entries c)
+returns-clause-list c = list c
+
+pub returns-clause-count : goal.returns-clause-count
+unfolding timer_count
+returns-clause-count c = rw (← c.self.view_is) (length-set c.self.inside.dues.items c.args.timer (Some c.args.due))
 
 pub returns-clause-armed : goal.returns-clause-armed
-unfolding listed
-returns-clause-armed c = rw (entries c) (due_in-behind_same (c.args.due, c.args.timer) _ (unarmed c))
+returns-clause-armed c = rw (list c) (due_in-behind_same (c.args.due, c.args.timer) _ c.requires.unarmed)
 
 pub returns-clause-others : goal.returns-clause-others
-unfolding listed
-returns-clause-others c t differs = rw (entries c, ← c.self.view_is) (due_in-behind_other (c.args.due, c.args.timer) _ t differs)
+returns-clause-others c t differs = rw (list c) (due_in-behind_other (c.args.due, c.args.timer) _ t differs)
 
 pub returns-clause-cancelled : goal.returns-clause-cancelled
-unfolding listed
-returns-clause-cancelled c = rw (entries c, ← c.self.view_is) (without-behind (c.args.due, c.args.timer) _ (unarmed c))
+returns-clause-cancelled c = rw (list c) (without-behind (c.args.due, c.args.timer) _ c.requires.unarmed)
 
 pub returns-clause-last_of_equals : goal.returns-clause-last_of_equals
-unfolding listed
-returns-clause-last_of_equals c = rw (entries c, ← c.self.view_is) (due_at-behind (c.args.due, c.args.timer) _ c.self.invariant.order.by_due)
+returns-clause-last_of_equals c =
+    let order = IsFiringOrder-listed (kept c) c.self.invariant.formed in
+    rw (list c, ← c.self.view_is) (due_at-behind (c.args.due, c.args.timer) _ order.by_due)
+
+pub returns-clause-exact : goal.returns-clause-exact
+unfolding exchange
+returns-clause-exact c = rw (← c.self.view_is)
+    (Stored-same _ (kept c) c.push_back-links.ensures.exact
+    (set-back c.self.inside.dues.items c.args.timer (Some c.args.due) None None (free c)))

@@ -1,0 +1,11 @@
+pub mod Members
+pub mod Without
+pub mod Runs
+pub mod Reading
+pub mod Linking
+pub mod Changed
+pub mod Pushes
+pub mod Removes
+pub mod Unlinked
+pub mod Exchanges
+pub mod Spots

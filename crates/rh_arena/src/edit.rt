@@ -1,0 +1,77 @@
+//! Edits.
+
+ghost use Rattle.std.specs.Prelude.{◌≡◌, false};
+ghost use Rattle.rh_arena.specs.Exchange.{exchange, turned};
+ghost use Rattle.rh_arena.specs.Spots.{changes_at, IsBetween};
+
+use crate::links::Links;
+use crate::spot::{Spot, Values};
+use std::marker::Model;
+use std::mem::size_of;
+
+/// What a call changed: six different words, each with the value that it had (a done edit), or will have once the change
+/// is made again (an undone one).
+#[derive(Drop)]
+pub struct LinkEdit {
+    spot: Spot,
+    values: Values,
+    is_done: bool,
+}
+
+// Edits are kept by the million.
+const _: () = prove!(size_of::<LinkEdit>() == 22);
+
+impl Model for LinkEdit {
+    ghost use Rattle.rh_arena.specs.Exchange.{EditView};
+    ghost use Rattle.rh_arena.specs.Spots.{changes_at, IsBetween};
+
+    ghost Value = { EditView };
+
+    ghost view = { λ e. record { is_done = e.is_done; changes = changes_at e.spot e.values } };
+
+    ghost invariant = { λ e. IsBetween e.spot };
+}
+
+impl LinkEdit {
+    // An undone edit, which gives the words there these values.
+    pub(crate) fn new(spot: Spot, values: Values) -> LinkEdit
+        requires { IsBetween spot }
+        ensures { result ≡ record { is_done = false; changes = changes_at spot values } }
+    {
+        LinkEdit {
+            spot,
+            values,
+            is_done: false,
+        }
+    }
+
+    /// Is the change made? Then the edit has the values from before it, else those from behind it.
+    pub fn is_done(&self) -> bool
+        ensures { result ≡ self.now.is_done }
+    {
+        self.is_done
+    }
+
+    /// An equal edit.
+    pub fn copy(&self) -> LinkEdit
+        ensures { result ≡ self.now }
+    {
+        LinkEdit {
+            spot: self.spot,
+            values: self.values,
+            is_done: self.is_done,
+        }
+    }
+
+    // Exchanges the words, and changes sides. A second exchange gives all back.
+    #[tactic(auto, unfolding(crate::specs::Exchange::exchange, crate::specs::Exchange::turned))]
+    pub(crate) fn exchange(&mut self, links: &mut Links)
+        ensures words { links.new ≡ exchange links.old self.old }
+        ensures edit { self.new ≡ turned links.old self.old }
+        ensures exact { exchange links.new self.new ≡ links.old }
+        ensures again { turned links.new self.new ≡ self.old }
+    {
+        self.is_done = !self.is_done;
+        self.values = links.exchange(self.spot, self.values);
+    }
+}

@@ -1,0 +1,217 @@
+//! Rooms of two sessions: opening one, serving a call, forking it, and closing it.
+
+use crate::answer::Answer;
+use crate::clusters::{BOOT_1, BOOT_2, BOOT_3, CAVE, cluster_of, sim_behind};
+use crate::kept::Kept;
+use crate::marks::{begin, end};
+use rh_cluster::Cluster;
+use rh_room::{Entry, Pass, Receipt, Room, RoomFault, close, open_room};
+use rh_step::Pick;
+use rh_trail::{Call, Reply, Sim};
+use std::alloc::Global;
+
+// What a look shows behind the first boot: the node waits for the two others.
+static SEEN: &str = "\
+now 0
+node cp1@cave waiting 1
+node cp2@cave down 0
+node cp3@cave down 0
+app myapp quiet
+timer sync cp1@cave 5000
+";
+
+// What the sessions have called, in turn.
+static CALLS: [Call; 2] = [Call::Step(BOOT_1), Call::Step(BOOT_2)];
+
+// A room and its passes.
+#[derive(Drop)]
+struct Open {
+    room: Room,
+    passes: Vec<Pass>,
+}
+
+/// What comes of the call of this name, if it is here.
+pub fn answer(alloc: Global, name: &str) -> Option<Answer> {
+    if name == "open_room" {
+        Some(opening(alloc, cluster_of(alloc, CAVE)?))
+    } else if name == "serve_step" {
+        serving(alloc, Call::Step(BOOT_3), 2)
+    } else if name == "serve_look" {
+        serving(alloc, Call::Look, 1)
+    } else if name == "fork" {
+        forking(alloc)
+    } else if name == "close" {
+        closing(alloc)
+    } else {
+        None
+    }
+}
+
+// A room behind these calls, of which the sessions make one after the other.
+fn opened(alloc: Global, calls: &[Call]) -> Option<Open> {
+    let cluster = cluster_of(alloc, CAVE)?;
+    let (room, passes) = open_room(alloc, cluster, Pick::First, 2).ok()?;
+    let mut open = Open { room, passes };
+    call_all(alloc, &mut open, calls)?;
+    Some(open)
+}
+
+fn call_all(alloc: Global, open: &mut Open, calls: &[Call]) -> Option<()> {
+    for index in 0..calls.len() {
+        let pass = open.passes.get_mut(index % 2)?;
+        let _ = open.room.serve(alloc, pass, calls[index]).ok()?;
+    }
+    Some(())
+}
+
+fn opening(alloc: Global, cluster: Cluster) -> Answer {
+    begin(alloc);
+    let opening = open_room(alloc, cluster, Pick::First, 2);
+    end(alloc);
+    match opening {
+        Ok((room, passes)) => Answer::done(room.log().is_empty() && passes.len() == 2),
+        Err(RoomFault::OutOfMemory) => Answer::Refused,
+        Err(_) => Answer::Changed("fault"),
+    }
+}
+
+// The first session calls, behind so many calls.
+fn serving(alloc: Global, call: Call, count: usize) -> Option<Answer> {
+    let mut open = opened(alloc, CALLS.as_slice().get(..count)?)?;
+    served(alloc, &mut open, call, count)
+}
+
+fn served(alloc: Global, open: &mut Open, call: Call, count: usize) -> Option<Answer> {
+    let kept = Kept::of(alloc, open.room.sim())?;
+    served_as(alloc, open, &kept, call, count)
+}
+
+fn served_as(
+    alloc: Global,
+    open: &mut Open,
+    kept: &Kept,
+    call: Call,
+    count: usize,
+) -> Option<Answer> {
+    let pass = open.passes.get_mut(0)?;
+    begin(alloc);
+    let served = open.room.serve(alloc, pass, call);
+    end(alloc);
+    match served {
+        Ok(receipt) => Some(Answer::done(
+            receipt.place == count && is_right(&receipt) && open.room.log().len() == count + 1,
+        )),
+        Err(RoomFault::OutOfMemory) => Some(Answer::refused(changed(alloc, open, kept, count)?)),
+        Err(_) => Some(Answer::Changed("fault")),
+    }
+}
+
+// Is this what the step or the look answers?
+fn is_right(receipt: &Receipt) -> bool {
+    match (receipt.call, &receipt.reply) {
+        (Call::Step(_), Reply::Done(notices)) => notices.as_slice().len() == 6,
+        (
+            Call::Look,
+            Reply::Seen {
+                cursor,
+                trail,
+                text,
+            },
+        ) => *cursor == 1 && *trail == 1 && text.as_slice() == SEEN.as_bytes(),
+        _ => false,
+    }
+}
+
+// What isn't as it was behind so many calls.
+fn changed(alloc: Global, open: &Open, kept: &Kept, count: usize) -> Option<Option<&'static str>> {
+    if let Some(what) = kept.seen_changed(alloc, open.room.sim()) {
+        return Some(Some(what));
+    }
+    if !is_log(open.room.log(), count) {
+        return Some(Some("log"));
+    }
+    if !are_receipts(open.passes.as_slice(), count) {
+        return Some(Some("receipts"));
+    }
+    let mut fork = open.room.fork(alloc).ok()?;
+    Some(kept.changed(alloc, &mut fork))
+}
+
+// Are these the entries of so many of the calls?
+fn is_log(log: &[Entry], count: usize) -> bool {
+    if log.len() != count || count > CALLS.len() {
+        return false;
+    }
+    for index in 0..count {
+        if log[index].call != CALLS[index] || !is_done(&log[index].reply) {
+            return false;
+        }
+    }
+    true
+}
+
+// Is this the reply to each of the calls?
+fn is_done(reply: &Reply) -> bool {
+    match reply {
+        Reply::Done(notices) => notices.as_slice().is_empty(),
+        _ => false,
+    }
+}
+
+// Have the passes one receipt of each of so many calls?
+fn are_receipts(passes: &[Pass], count: usize) -> bool {
+    match passes {
+        [first, second] => { first.receipts().len() == 1 && second.receipts().len() + 1 == count }
+        _ => false,
+    }
+}
+
+fn forking(alloc: Global) -> Option<Answer> {
+    let open = opened(alloc, CALLS.as_slice())?;
+    forked(alloc, &open.room)
+}
+
+fn forked(alloc: Global, room: &Room) -> Option<Answer> {
+    let kept = Kept::of(alloc, room.sim())?;
+    let answer = forked_as(alloc, room, &kept);
+    Some(match kept.seen_changed(alloc, room.sim()) {
+        None => answer,
+        Some(what) => Answer::Changed(what),
+    })
+}
+
+fn forked_as(alloc: Global, room: &Room, kept: &Kept) -> Answer {
+    begin(alloc);
+    let fork = room.fork(alloc);
+    end(alloc);
+    match fork {
+        Ok(mut fork) => {
+            Answer::done(fork.cursor() == 2 && kept.changed(alloc, &mut fork).is_none())
+        }
+        Err(_) => Answer::Refused,
+    }
+}
+
+fn closing(alloc: Global) -> Option<Answer> {
+    let cluster = cluster_of(alloc, CAVE)?;
+    closed(alloc, opened(alloc, CALLS.as_slice())?, &cluster)
+}
+
+fn closed(alloc: Global, open: Open, cluster: &Cluster) -> Option<Answer> {
+    let Open { room, passes } = open;
+    begin(alloc);
+    let closed = close(room, passes, cluster, Pick::First);
+    end(alloc);
+    match closed {
+        Ok(closed) => Some(Answer::done(
+            is_log(closed.log.as_slice(), 2) && is_behind(alloc, &closed.sim)?,
+        )),
+        Err(_) => Some(Answer::Changed("fault")),
+    }
+}
+
+// Has a simulation the words that another has behind the two boots?
+fn is_behind(alloc: Global, sim: &Sim) -> Option<bool> {
+    let wanted = sim_behind(alloc, CAVE, [BOOT_1, BOOT_2].as_slice())?;
+    Some(sim.cursor() == 2 && sim.state().same_words(wanted.state()))
+}

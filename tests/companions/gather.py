@@ -1,0 +1,479 @@
+"""Tests of companions/gather, on releases that systools makes of applications that erlc compiles. What is owed is worked out by
+hand, or is what systools or a live node of the same files says; and the real program reads what is written."""
+import functools
+import os
+import random
+import re
+import subprocess
+import tempfile
+from concurrent.futures import ThreadPoolExecutor
+
+from support import TOP, difference, run
+
+NEEDS = ("erl", "escript", "erlc")
+COMPANION = os.path.join(TOP, "companions", "gather")
+BASE = ["kernel", "stdlib"]
+READ = ("distributed", "sync_nodes_mandatory", "sync_nodes_optional", "sync_nodes_timeout", "permissions")
+MODULE = """-module(%s_app).
+-behaviour(application).
+-export([start/2, stop/1, start_phase/3, init/1]).
+start(_, _) -> supervisor:start_link(?MODULE, []).
+start_phase(_, _, _) -> ok.
+stop(_) -> ok.
+init(_) -> {ok, {#{}, []}}.
+"""
+
+
+def write(folder, name, text):
+    """Writes a file, and gives its path."""
+    path = os.path.join(folder, name)
+    os.makedirs(os.path.dirname(path), exist_ok=True)
+    with open(path, "w", encoding="utf-8") as file:
+        file.write(text)
+    return path
+
+
+def application(folder, name, needs=(), mod=None, more="", vsn="1.0"):
+    """Writes the .app file of an application below FOLDER/ebin, and its source where it has a module."""
+    modules = f"{name}_app" if mod else ""
+    write(folder, f"ebin/{name}.app", f'{{application, {name}, [{{description, "made"}}, {{vsn, "{vsn}"}}, {{registered, []}}, '
+          f'{{modules, [{modules}]}}, {{applications, [{", ".join(BASE + list(needs))}]}}'
+          + (f", {{mod, {{{name}_app, {mod}}}}}" if mod else "") + more + "]}.\n")
+    if mod:
+        write(folder, f"src/{name}_app.erl", MODULE % name)
+
+
+def erl(folder, code, *words):
+    """What Erlang prints that evaluates some code in a folder."""
+    done = subprocess.run(["erl", "-noshell", *words, "-eval", code + ", halt()."], cwd=folder, capture_output=True, text=True,
+                          timeout=60, env={**os.environ, "ERL_CRASH_DUMP": os.devnull})
+    assert done.returncode == 0, f"erl {words} {code}: {done.stdout[-400:]} {done.stderr[-400:]}"
+    return done.stdout
+
+
+@functools.cache
+def versions():
+    """The versions of kernel, stdlib and sasl."""
+    return erl(None, 'io:format("~s ~s ~s", [V || A <- [kernel, stdlib, sasl], _ <- [application:load(A)], '
+               '{ok, V} <- [application:get_key(A, vsn)]])').split()
+
+
+def release(folder, name, apps, local=""):
+    """Writes NAME.rel with applications as they stand there, and makes its boot script by systools; gives systools's answer."""
+    vsns = versions()
+    system = ", ".join(f'{{{app}, "{vsn}"}}' for app, vsn in zip(BASE, vsns))
+    listed = ", ".join([system] + apps).replace("SASL", vsns[2])
+    write(folder, f"{name}.rel", f'{{release, {{"{name}", "1"}}, {{erts, "{vsns[0]}"}}, [{listed}]}}.\n')
+    return erl(folder, f'io:format("~0p", [systools:make_script("{name}", [{{path, ["ebin"]}}, silent{local}])])')
+
+
+def compiled(folder):
+    """Compiles the modules below FOLDER/src."""
+    sources = [os.path.join(folder, "src", file) for file in os.listdir(os.path.join(folder, "src"))]
+    subprocess.run(["erlc", "-o", os.path.join(folder, "ebin")] + sources, check=True, timeout=60)
+
+
+def gather(folder, *words, **environment):
+    """A finished run of the companion."""
+    return subprocess.run([COMPANION, *words], cwd=folder, capture_output=True, text=True, timeout=60,
+                          env={**os.environ, **environment})
+
+
+def bare(text):
+    """A cluster file without its comments, a term a line, without white space behind brackets."""
+    terms = re.sub(r"\s+", " ", re.sub(r"^%.*\n", "", text, flags=re.MULTILINE)).strip()
+    return re.sub(r"(?<=[\[{]) ", "", terms).replace("}. {", "}.\n{") + "\n"
+
+
+def wrong_with(program, done, want, comments=(), counts=None):
+    """What is wrong with a finished run that owes these terms and comments, and that `check` has to accept; or None."""
+    if done.returncode != 0 or done.stderr:
+        return f"status {done.returncode}: {done.stderr}"
+    if want is not None and bare(done.stdout) != bare(want):
+        return difference(bare(want).encode(), bare(done.stdout).encode())
+    missing = [line for line in comments if f"\n% {line}\n" not in done.stdout]
+    if missing:
+        return f"these comments aren't there: {missing}\n{done.stdout}"
+    checked = run(program, ["check"], input=done.stdout.encode())
+    told = b"ok %d nodes %d applications\n" % (counts or (want.count("{node, "), want.count("{application, ")))
+    return None if checked.stdout == told else f"check says {checked.stdout}, not {told}"
+
+
+def refusal(done, status, *parts):
+    """What is wrong with a finished run that has to be refused with a text that has these parts, or None."""
+    if done.returncode != status or done.stdout:
+        return f"status {done.returncode}, want {status}: {done.stdout[:200]}{done.stderr}"
+    missing = [part for part in parts if part not in done.stderr]
+    return f"{missing} isn't in: {done.stderr}" if missing else None
+
+
+# ---- One release at three nodes
+
+SHOP_CONFIG = """%% The configuration of all three nodes.
+[{kernel, [{distributed, [{billing, 5000, [a@host1, {b@host2, 'c-3@host3'}]}]}, {sync_nodes_timeout, 1}, {net_ticktime, 45}]},
+ {pool, [{rate, 1.5}, {names, #{a => <<"x">>}}, {sorter, fun lists:sort/1}, {mask, 16#ff}, {sign, $c}]},
+ "sync",
+ {sasl, [{errlog_type, error}]}].
+"""
+SHOP_SYNC = """[{kernel, [{sync_nodes_optional, [a@host1, b@host2, 'c-3@host3']}, {sync_nodes_timeout, 100}]}]."""
+SHOP_NODE = """{node, %s, [
+  {kernel, [
+    {distributed, [{billing, 5000, [a@host1, {b@host2, 'c-3@host3'}]}]},
+    {sync_nodes_optional, [a@host1, b@host2, 'c-3@host3']},
+    {sync_nodes_timeout, 100}]},
+  {rehearse, [
+    {boot, [{pool, temporary}, {billing, permanent}, {report, transient}]},
+    {platform, [sasl]}]}]}.
+"""
+SHOP = "".join(SHOP_NODE % name for name in ("a@host1", "b@host2", "'c-3@host3'")) + """
+{application, pool, [{applications, [kernel, stdlib, sasl]},
+  {mod, {pool_app, [{size, 5}]}}]}.
+{application, billing, [{applications, [kernel, stdlib, pool]},
+  {mod, {billing_app, []}},
+  {start_phases, [{go, []}, {'Ready', "now"}]}]}.
+{application, report, [{applications, [kernel, stdlib, billing]}, {mod, {report_app, []}}]}.
+"""
+SHOP_COMMENTS = (
+    "Left out: the sections pool, sasl.", "Left out: the kernel parameters net_ticktime.",
+    "Left out, replaced and not started: the same as at a@host1.",
+    "Left out of billing: description, vsn, modules, included_applications (audit), env.",
+    "Replaced by []: the start argument of billing_app, since it has a map.",
+    "Replaced by []: the argument of the start phase go, since it has a binary.",
+    "Left out of report, since a release with it hasn't these: the optional charts.")
+THREE = ("--node", "a@host1", "--node", "b@host2", "--node", "c-3@host3")
+
+
+def shop(folder):
+    """Makes the release of the shop: its files in FOLDER, and unpacked in FOLDER/target."""
+    application(folder, "pool", ["sasl"], "[{size, 5}]")
+    application(folder, "billing", ["pool"], "#{retries => 3}", ", {start_phases, [{go, <<1>>}, {'Ready', \"now\"}]}, "
+                "{included_applications, [audit]}, {env, [{rate, 0.5}]}")
+    application(folder, "audit", [], "[]")
+    application(folder, "report", ["audit", "charts"], "[]", ", {optional_applications, [charts]}")
+    application(folder, "metrics", [], "[]")
+    application(folder, "tool")
+    compiled(folder)
+    write(folder, "sys.config", SHOP_CONFIG)
+    write(folder, "sync.config", SHOP_SYNC)
+    # report needs audit, which billing includes, and billing needs the pool: systools turns the order round.
+    apps = ['{report, "1.0", transient}', '{metrics, "1.0", load}', '{tool, "1.0", none}', '{billing, "1.0"}',
+            '{pool, "1.0", temporary}', '{audit, "1.0"}', '{sasl, "SASL", permanent}']
+    answer = release(folder, "shop", apps, ", local")
+    assert answer.startswith("{ok,"), answer
+    tar = erl(folder, 'io:format("~0p", [systools:make_tar("shop", [{path, ["ebin"]}, silent])])')
+    assert tar.startswith("{ok,"), tar
+    os.mkdir(os.path.join(folder, "target"))
+    subprocess.run(["tar", "xzf", "../shop.tar.gz"], cwd=os.path.join(folder, "target"), check=True, timeout=60)
+
+
+def one_release(program, folder):
+    """One release at three nodes: unpacked, by its boot script, by its .rel."""
+    shop(folder)
+    target = os.path.join(folder, "target")
+    done = gather(folder, "--release", "target", *THREE)
+    idle = ("Not started: audit (included in billing), metrics (only loaded).",)
+    yield "an unpacked release", wrong_with(program, done, SHOP, SHOP_COMMENTS + idle)
+    read = erl(folder, 'io:format("~b", [length(element(2, file:consult("written")))])'
+               if write(folder, "written", done.stdout) else "")
+    yield "what is written is Erlang", None if read == "6" else read
+    boot = os.path.join(target, "releases", "1", "start.boot")
+    os.rename(boot, os.path.join(folder, "moved.boot"))
+    idle = ("Not started: metrics (only loaded), tool (only its code is loaded), audit (included in billing).",)
+    done = gather(folder, "--release", target, *THREE)
+    yield "an unpacked release without boot script", wrong_with(program, done, SHOP, SHOP_COMMENTS + idle)
+    for name, words in (("a .rel file", ("--rel", "shop", "--lib", "ebin")), ("a boot script", ("--boot", "shop.boot")),
+                        ("a readable boot script", ("--boot", "shop.script")), ("a moved boot script", ("--boot", "moved"))):
+        done = gather(folder, *words, "--config", "sys", *THREE)
+        yield name, wrong_with(program, done, SHOP, SHOP_COMMENTS)
+    link = os.path.join(folder, "linked")
+    os.symlink(COMPANION, link)
+    done = subprocess.run([link, "--release", target, *THREE], cwd="/", capture_output=True, text=True, timeout=60)
+    yield "called by a link from elsewhere", refusal(done, 2, "sync.config: no such file")
+    done = gather(folder, "--release", target, "--config", "sys", *THREE)
+    script = done.stdout + "===\nboot a@host1\nboot b@host2\nboot c-3@host3\ncrash a@host1\ntick 5000\n"
+    told = run(program, ["run"], input=script.encode()).stdout.decode()
+    owed = "started billing b@host2 failover a@host1\nstarted report b@host2 normal\n"
+    yield "a rehearsal", None if told.endswith(owed) else told
+    parts = bare(gather(folder, "--release", target, "--config", "sys", "--needed", *THREE).stdout)
+    want = "{boot, [{pool, temporary}, {billing, permanent}]}, {platform, [sasl, report]}"
+    yield "--needed", None if parts.count(want) == 3 and "application, report" not in parts else parts
+    words = ("--needed", "--rehearse", "sasl", "--platform", "pool")
+    parts = bare(gather(folder, "--release", target, "--config", "sys", *words, *THREE).stdout)
+    want = "{boot, [{sasl, permanent}, {billing, permanent}]}, {platform, [pool, report]}"
+    is_there = parts.count(want) == 3 and "{application, sasl, [{applications, [kernel, stdlib]}" in parts
+    yield "--rehearse and --platform", None if is_there else parts
+
+
+# ---- What a live node reads
+
+def live(_, folder):
+    """The parameters that live nodes have with the same configurations, and what they start."""
+    shop(folder)
+    write(folder, "more/sys.config", '["own", {pool, [{k, 1}]}, {kernel, [{sync_nodes_timeout, 3}, {permissions, [{pool, true}]}'
+          ']}, {kernel, [{sync_nodes_timeout, 4}]}, "../twice.config", {pool, [{k, 2}]}].\n')
+    write(folder, "more/own.config", "[{kernel, [{sync_nodes_timeout, 1}, {sync_nodes_optional, [x@y, x@y]}]}].\n")
+    write(folder, "own.config", "[{kernel, [{sync_nodes_timeout, 2}, {sync_nodes_optional, [wrong@one]}]}].\n")
+    write(folder, "twice.config", "[{kernel, [{permissions, [{pool, false}, {pool, true}]}]}].\n")
+    write(folder, "vm.args", "# -kernel sync_nodes_timeout 9\n-config more/sys  # and more\n+K true\n-kernel "
+          "sync_nodes_timeout 50 distributed \"[{billing, [x@y]}]\"\n-kernel sync_nodes_mandatory '[]' -env A B\n")
+    for name, configs in (("sys", ["sys"]), ("others", ["more/sys", "own"]), ("the other way", ["own.config", "more/sys"])):
+        words, options = ([word for config in configs for word in (option, config)] for option in ("-config", "--config"))
+        yield f"live parameters: {name}", live_fault(folder, words, options)
+    yield "live parameters: vm.args", live_fault(folder, ["-args_file", "vm.args"], ["--args", "vm.args"])
+    write(folder, "quiet.config", "[].")
+    runs = erl(folder, 'io:format("~0p", [[A || {A, _, _} <- lists:reverse(application:which_applications())]])',
+               "-boot", "shop", "-config", "quiet")
+    done = gather(folder, "--boot", "shop", "--config", "quiet", "--node", "a@b", "--rehearse", "sasl")
+    booted = re.findall(r"\{(\w+), (?:permanent|transient|temporary)\}", bare(done.stdout))
+    is_same = runs == "[kernel,stdlib," + ",".join(booted) + "]" and len(booted) == 4
+    yield "live applications", None if is_same else f"{runs} and {booted}"
+
+
+def live_fault(folder, words, options):
+    """What is wrong with the kernel parameters that are written for the configuration of a live node, or None."""
+    shown = "[{P, V} || P <- [" + ", ".join(READ) + "], {ok, V} <- [application:get_env(kernel, P)]]"
+    owed = erl(folder, f'io:format("~0p", [{shown}])', *words)
+    nodes = [word for name in ("a@b", "x@y", "a@host1", "b@host2", "c-3@host3", "wrong@one") for word in ("--node", name)]
+    done = gather(folder, "--boot", "shop", *options, *nodes)
+    section = re.search(r"\{kernel, \[(.*?)\]\},? ?\{rehearse", bare(done.stdout))
+    have = "[" + re.sub(r"\s", "", section.group(1)) + "]" if section else done.stderr
+    want = owed.replace("{pool,false},{pool,true}", "{pool,false}").replace("x@y,x@y", "x@y")
+    return None if have == want else f"{have} and not {want}"
+
+
+# ---- The order of systools
+
+def random_release(folder, name, chance):
+    """Makes a release of ten applications, of which two may be included, and gives what its boot script starts, and systools's
+    answer. An application needs later ones; an included one perhaps the one that includes it, which systools overlooks."""
+    apps = [f"{name}{number}" for number in range(10)]
+    holders = dict(zip(chance.sample(apps[6:], 2), (chance.choice(apps[:3]), chance.choice(apps[3:6]))))
+    for number, app in enumerate(apps):
+        later = [other for other in apps[number + 1:] if app < holders.get(other, "z")]
+        needs = chance.sample(later, min(chance.randrange(4), len(later)))
+        if app in holders and chance.random() < 0.5:
+            needs.append(holders[app])
+        include = [other for other in holders if holders[other] == app]
+        application(folder, app, needs, more=f", {{included_applications, [{', '.join(include)}]}}")
+    types = ["", ", permanent", ", transient", ", temporary", ", load", ", none"]
+    entries = [f'{{{app}, "1.0"{chance.choice(types)}}}' for app in chance.sample(apps, 10)]
+    answer = release(folder, name, entries)
+    if not answer.startswith("{ok,"):
+        return None, answer
+    with open(os.path.join(folder, f"{name}.script"), encoding="utf-8") as file:
+        started = re.findall(r"start_boot,\s*\[(\w+),\s*(\w+)\]", file.read())
+    return [start for start in started if start[0] not in BASE], answer
+
+
+def systools_order(program, folder):
+    """Random releases: the boot list of a .rel file is the one of the boot script that systools makes of it."""
+    chance = random.Random(25)
+    made = {}
+    for name in "abcdefghij":
+        made[name], answer = random_release(folder, name, chance)
+        assert answer.startswith("{ok,"), answer
+    application(folder, "x1", ["x2"])
+    application(folder, "x2", ["x1"])
+    answer = release(folder, "x", ['{x1, "1.0"}', '{x2, "1.0"}'])
+    wrong = refusal(gather(folder, "--rel", "x", "--lib", ".", "--node", "a@b"), 2, "x.rel: x1 needs itself, by x2")
+    yield "a circle, which systools refuses", wrong if "circular_dependencies" in answer else answer
+    for group in (list(made)[:5], list(made)[5:10]):
+        nodes = [word for name in group for word in ("--node", f"{name}@x", "--rel", f"{name}.rel")]
+        done = gather(folder, "--lib", ".", *nodes)
+        boots = re.findall(r"\{node, (\w)@x.*?\{boot, \[(.*?)\]\}", bare(done.stdout))
+        have = {name: re.findall(r"\{(\w+), (\w+)\}", boot) for name, boot in boots}
+        want = {name: made[name] for name in group}
+        counts = (len(group), done.stdout.count("{application, "))
+        wrong = None if have == want else f"{have} and not {want}"
+        yield f"random releases {''.join(group)}", wrong_with(program, done, None, counts=counts) or wrong
+
+
+# ---- Five nodes with files of their own
+
+CORE_CONFIG = """[{kernel, [{distributed, [{ledger, 3000, ['core-1@site', 'core-2@site']},
+  {gateway, infinity, [{edge1@site, edge2@site}]}, {monitor, [edge3@site]}, {ghost, 9999999999999, [edge3@site]}]},
+  {sync_nodes_timeout, infinity}, %s]}]."""
+CORE_SYNC = {"core-1": "{sync_nodes_mandatory, ['core-2@site', 'core-2@site']}",
+             "core-2": "{sync_nodes_mandatory, ['core-1@site']}"}
+EDGE_SYNC = "{permissions, [{monitor, false}, {tls, true}, {monitor, true}]}, {logger_level, '${LEVEL}'}"
+FIVE_LISTS = """    {distributed, [{ledger, 3000, ['core-1@site', 'core-2@site']},
+      {gateway, 1000000000000, [{edge1@site, edge2@site}]}, {monitor, [edge3@site]}, {ghost, 1000000000000, [edge3@site]}]},
+"""
+FIVE = "".join("""{node, '%s@site', [
+  {kernel, [
+""" % node + FIVE_LISTS + """    {sync_nodes_mandatory, ['%s@site']},
+    {sync_nodes_timeout, infinity}]},
+  {rehearse, [
+    {boot, [{store, permanent}, {ledger, permanent}]}]}]}.
+""" % other for node, other in (("core-1", "core-2"), ("core-2", "core-1"))) + "".join("""{node, %s@site, [
+  {kernel, [
+""" % node + FIVE_LISTS + """    {sync_nodes_timeout, infinity},
+    {permissions, [{monitor, false}, {tls, true}]}]},
+  {rehearse, [
+    {boot, [%s]},
+    {platform, [sasl]}]}]}.
+""" % boot for node, boot in (("edge1", "{tls, permanent}, {gateway, transient}"),
+                              ("edge2", "{tls, permanent}, {gateway, transient}"),
+                              ("edge3", "{monitor, temporary}, {tls, permanent}"))) + """
+{application, store, [{applications, [kernel, stdlib]}, {mod, {store_app, [{file, "a\\"b\\\\c"}, {'It\\'s', -5}]}}]}.
+{application, ledger, [{applications, [kernel, stdlib, store]}, {mod, {ledger_app, []}}]}.
+{application, tls, [{applications, [kernel, stdlib]}]}.
+{application, gateway, [{applications, [kernel, stdlib, tls]}, {mod, {gateway_app, []}}]}.
+{application, monitor, [{applications, [kernel, stdlib, gauges, sasl]}, {mod, {monitor_app, [one, {two, []}]}}]}.
+{application, ghost, []}.
+{application, gauges, [{applications, [kernel, stdlib]}]}.
+"""
+FIVE_COMMENTS = (
+    "Replaced: the timeout infinity of gateway, by the longest one that rehearse takes.",
+    "Replaced: the timeout of ghost, 9999999999999, by the longest one that rehearse takes.",
+    "Left out: core-2@site for a second time in sync_nodes_mandatory.", "Left out: monitor for a second time in permissions.",
+    "Left out: the kernel parameters logger_level.", "Not started: gauges (only loaded).",
+    "Not booted here, since distributed doesn't list this node: gateway.", "ghost: no release has it. It starts nowhere.",
+    "Replaced by []: the start argument of ledger_app, since it has a fun.",
+    "Replaced by []: the start argument of gateway_app, since it has an improper list.")
+
+
+def five_nodes(program, folder):
+    """Five nodes with two releases, configurations of their own, some by the environment."""
+    application(folder, "store", [], """[{file, "a\\"b\\\\c"}, {'It\\'s', -5}]""")
+    application(folder, "ledger", ["store"], "[fun lists:sort/1]")
+    application(folder, "tls")
+    application(folder, "gateway", ["tls"], "[a | b]")
+    application(folder, "gauges")
+    application(folder, "monitor", ["gauges", "sasl"], "[one, {two, []}]")
+    compiled(folder)
+    # In the order of its .rel file, a release has what the first application needs, that one, what the second needs .. The
+    # gateway stands in the third release too, and starts nowhere by it: its node isn't listed.
+    for name, apps in (("core", '{ledger, "1.0"}, {store, "1.0"}'),
+                       ("edge", '{gateway, "1.0", transient}, {tls, "1.0"}, {sasl, "SASL"}'),
+                       ("watch", '{monitor, "1.0", temporary}, {gauges, "1.0", load}, {tls, "1.0"}, {gateway, "1.0"}, '
+                        '{sasl, "SASL"}')):
+        answer = release(folder, name, [apps])
+        assert answer.startswith("{ok,"), answer
+    words = []
+    for node, sync in CORE_SYNC.items():
+        write(folder, f"{node}/sys.config", CORE_CONFIG % sync)
+        words += ["--node", f"{node}@site", "--rel", "core.rel", "--config", f"{node}/sys.config"]
+    write(folder, "edge/sys.config.src", CORE_CONFIG.replace("3000", "${TIME}").replace("edge3", "${LAST:-edge3}") % EDGE_SYNC)
+    for node, rel in (("edge1", "edge"), ("edge2", "edge"), ("edge3", "watch")):
+        words += ["--node", f"{node}@site", "--boot", rel, "--config", "edge/sys.config.src", "--env", "LEVEL=info"]
+    done = gather(folder, "--lib", "ebin", "--env", "TIME=3000", *words, TIME="1", LEVEL="wrong")
+    yield "five nodes", wrong_with(program, done, FIVE, FIVE_COMMENTS)
+    done = gather(folder, "--lib", "ebin", *words)
+    yield "a variable that isn't set", refusal(done, 2, "edge/sys.config.src", "${TIME} isn't set")
+
+
+# ---- Arguments of each kind, and what is refused
+
+TERMS = [  # an argument, what is written in its place, and what it has that isn't read
+    ("1.5", "[]", "a float"), ("[a, {b, -2.0e-3}]", "[]", "a float"), ("#{}", "[]", "a map"), ("<<>>", "[]", "a binary"),
+    ("[<<1:3>>]", "[]", "a binary"), ("fun lists:sort/1", "[]", "a fun"), ("[a | b]", "[]", "an improper list"),
+    ("9223372036854775807", "9223372036854775807", None), ("9223372036854775808", "[]", "an integer of more than 64 bits"),
+    ("-9223372036854775808", "-9223372036854775808", None), ("-9223372036854775809", "[]", "an integer of more than 64 bits"),
+    ("16#ff", "255", None), ("$c", "99", None), ("1_000", "1000", None), ('"a" "b\\x41"', '"abA"', None), ('""', "[]", None),
+    ('"é\\n"', "[233, 10]", None), ("'fun'", "fun", None), ("'A b'", "'A b'", None), ("'é'", "'é'", None), ("''", "''", None),
+    ("'a\\\\\\''", "'a\\\\\\''", None), ("{}", "{}", None), ('{"%", \'%\'}', '{"%", \'%\'}', None),
+    ("[" * 60 + "]" * 60, "[" * 60 + "]" * 60, None),
+    ("[" * 61 + "]" * 61, "[]", "too many lists and tuples inside one another")]
+
+
+def arguments(program, folder):
+    """Start arguments of each kind: as they stand, or replaced."""
+    for number, (term, _, _) in enumerate(TERMS):
+        application(folder, f"app{number}", mod=term, more=f", {{start_phases, [{{go, {term}}}]}}")
+    compiled(folder)
+    answer = release(folder, "terms", [f'{{app{number}, "1.0"}}' for number in range(len(TERMS))])
+    assert answer.startswith("{ok,"), answer
+    write(folder, "none.config", "[].")
+    names = [f"app{number}" for number in range(len(TERMS))]
+    # The argument of a phase stands inside of one tuple more than that of mod.
+    phases = ["[]" if "[" * 60 in plain else plain for _, plain, _ in TERMS]
+    owed = "{node, a@b, [{rehearse, [{boot, [" + ", ".join(f"{{{name}, permanent}}" for name in names) + "]}]}]}.\n" + "".join(
+        f"{{application, {name}, [{{applications, [kernel, stdlib]}}, {{mod, {{{name}_app, {plain}}}}}, "
+        f"{{start_phases, [{{go, {phase}}}]}}]}}.\n" for name, (_, plain, _), phase in zip(names, TERMS, phases))
+    told = [f"Replaced by []: the start argument of {name}_app, since it has {why}."
+            for name, (_, _, why) in zip(names, TERMS) if why]
+    done = gather(folder, "--boot", "terms", "--config", "none", "--node", "a@b")
+    yield "arguments", wrong_with(program, done, owed, told)
+
+
+CONFIGS = {
+    "syntax": "[{kernel,\n [{distributed, }]}].", "tuple": "{kernel, []}.", "two": "[]. [].", "include": '["other"].',
+    "deep/sys": '["x"].', "again": "[{pool, []}, {pool, []}].", "param": "[{pool, [{a, 1}, {a, 2}]}].", "odd": "[{pool, [a]}].",
+    "blank": "[{kernel, [{permissions, [{'a b', true}]}]}].", "unknown": "[{kernel, [{sync_nodes_optional, [z@b]}]}].",
+    "time": "[{kernel, [{sync_nodes_timeout, 1.5}]}].", "twice": "[{kernel, [{distributed, [{pool, [a@b, {a@b}]}]}]}].",
+    "nowhere": "[{kernel, [{distributed, [{pool, []}]}]}].", "form": "[{kernel, [{distributed, [pool]}]}].",
+    "a": "[{kernel, [{distributed, [{pool, 1, [a@b]}]}]}].", "b": "[{kernel, [{distributed, [{pool, 2, [a@b]}]}]}]."}
+REFUSED_CONFIGS = [  # a configuration, and parts of what is told
+    ("syntax", "syntax.config", "2"), ("tuple", "isn't a list"), ("two", "2 terms"), ("missing", "missing.config: no such file"),
+    ("include", "include.config", "in a sys.config itself alone"), ("deep/sys", "x.config: no such file"),
+    ("again", "section pool stands twice"), ("param", "section pool: a stands twice"), ("odd", "a is no {Parameter, Value}"),
+    ("blank", "a@b: 'a b'"), ("unknown", "sync_nodes_optional names z@b", "--node z@b"), ("time", "sync_nodes_timeout is 1.5"),
+    ("twice", "a@b: distributed lists a@b twice for pool"), ("nowhere", "for pool no list of nodes: []"),
+    ("form", "pool, which is no {App")]
+RELS = {"good": '{pool, "2.0"}', "old": '{pool, "1.0"}', "typed": '{pool, "2.0", sometimes}', "lost": '{lost, "1.0"}',
+        "needy": '{needy, "1.0"}', "phased": '{phased, "1.0"}', "odd": '{odd, "1.0"}', "bytes": '{bytes, "1.0"}'}
+GOOD = ("--rel", "good", "--lib", "ebin", "--node", "a@b")
+
+
+def refusals():
+    """Command lines, each with its name, the status that is owed, and parts of what is told."""
+    for name, *parts in REFUSED_CONFIGS:
+        yield f"refused: {name}", [*GOOD, "--config", name], 2, parts
+    pair = [*GOOD[:-2], "--node", "a@b", "--config", "a", "--node", "b@b", "--config", "b"]
+    yield "refused: nodes that differ", pair, 2, ["a@b and b@b take part", "their distributed", "a.config", "b.config"]
+    for name, *parts in (("old", "pool 1.0: its .app file isn't in", "ebin/pool.app"),
+                         ("typed", "typed.rel: pool has type sometimes"), ("lost", "lost.rel: lost needs nobody"),
+                         ("phased", "phased (release phased 1 by phased.rel): start_phases has go"),
+                         ("needy", "ebin/needy.app: needy: applications is [kernel,stdlib,7]"),
+                         ("odd", "ebin/odd.app: odd: vsn is"),
+                         ("bytes", "ebin/bytes.app: "), ("absent", "absent: no such file")):
+        yield f"refused: {name}.rel", ["--rel", name, "--lib", "ebin", "--node", "a@b"], 2, parts
+    yield "refused: no release", ["--release", "ebin", "--node", "a@b"], 2, ["ebin: it has no releases/VERSION"]
+    yield "refused: no boot script", ["--boot", "good.rel", "--node", "a@b"], 2, ["good.rel: it is no boot script"]
+    many = [word for number in range(33) for word in ("--node", f"n{number}@b", "--bare")]
+    yield "refused: 33 nodes", many, 2, ["33 nodes are more than the 32"]
+    for name, words in (("nothing", []), ("no release", ["--node", "a@b"]), ("no value", ["--node"]),
+                        ("no option", ["--nodes", "a@b"]), ("a word", ["a@b"]), ("twice", [*GOOD, "--node", "a@b"]),
+                        ("platform", [*GOOD, "--platform", "nobody"]), ("both", [*GOOD, "--boot", "good"])):
+        yield f"a command line: {name}", words, 1, ["gather: ", "Try gather --help"]
+
+
+def refused(_, folder):
+    """What is refused, with the name of what is at fault."""
+    application(folder, "pool", vsn="2.0")
+    application(folder, "lost", ["nobody"])
+    application(folder, "phased", more=", {start_phases, [go]}")
+    application(folder, "needy", ["7"])
+    write(folder, "ebin/odd.app", "{application, odd, [vsn]}.")
+    with open(os.path.join(folder, "ebin", "bytes.app"), "wb") as file:
+        file.write(b"{application, \xff\xfe\x83\x00, []}.")
+    for name, apps in RELS.items():
+        listed = f'[{{kernel, "1"}}, {{stdlib, "1"}}, {apps}]'
+        write(folder, f"{name}.rel", f'{{release, {{"{name}", "1"}}, {{erts, "1"}}, {listed}}}.\n')
+    for name, text in CONFIGS.items():
+        write(folder, f"{name}.config", text)
+    cases = list(refusals())
+    with ThreadPoolExecutor(2) as pool:
+        runs = pool.map(lambda case: gather(folder, *case[1]), cases)
+        for (name, _, status, parts), done in zip(cases, runs):
+            yield name, refusal(done, status, *parts)
+    for name in ("include", "again", "param"):
+        told = subprocess.run(["erl", "-noshell", "-config", name, "-eval", "halt()."], cwd=folder, capture_output=True,
+                              text=True, timeout=60, env={**os.environ, "ERL_CRASH_DUMP": os.devnull}).stdout
+        yield f"a live node refuses this too: {name}", None if "invalid config data" in told else told
+    done = gather(folder, "--help")
+    yield "--help", None if done.returncode == 0 and done.stdout.startswith("Writes a cluster file") else done.stderr
+
+
+def in_folder(part, program):
+    """The tests of a part, which has a folder of its own."""
+    with tempfile.TemporaryDirectory() as folder:
+        return list(part(program, folder))
+
+
+def group(program):
+    """All tests of gather, some parts at once."""
+    with ThreadPoolExecutor(3) as pool:
+        for tests in pool.map(in_folder, (one_release, live, refused, systools_order, five_nodes, arguments), [program] * 6):
+            yield from tests

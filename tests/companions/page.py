@@ -1,0 +1,396 @@
+"""Tests of companions/page: pages are opened in a real browser, headless Chromium, whose keys and mouse are used over its
+DevTools pipe. What a page has to show is worked out by hand from docs/RULES.md, or told in README.md.
+"""
+import json
+import os
+import select
+import subprocess
+import tempfile
+import time
+
+from support import TOP, files_below
+
+NEEDS = ("chromium",)
+COMPANION = os.path.join(TOP, "companions", "page")
+OPTIONS = ["--headless=new", "--no-sandbox", "--disable-gpu", "--disable-dev-shm-usage", "--no-first-run",
+           "--window-size=1280,900"]
+LONGEST_ANSWER = 40
+THREE_UP = """now 0
+node cp1@cave up 1
+  running myapp permanent normal
+node cp2@cave up 1
+  waiting myapp permanent
+node cp3@cave up 1
+  waiting myapp permanent
+app myapp running cp1@cave
+"""
+# The rows of the chart of examples/repaired-node.txt, with what stands in them at two steps.
+AT_4 = [["step", ""], ["clock, ms", "0 ms"], ["myapp", "myapp lost cp1@cave"],
+        ["cp1@cave", "cp1@cave is down, booted 1×"], ["myapp", "myapp lost cp1@cave"],
+        ["cp2@cave", "cp2@cave is up, booted 1×"], ["myapp", "myapp waits at cp2@cave, permanent"],
+        ["cp3@cave", "cp3@cave is up, booted 1×"], ["myapp", "myapp waits at cp3@cave, permanent"]]
+AT_8 = [["step", ""], ["clock, ms", "10000 ms"], ["myapp", "myapp running cp3@cave"],
+        ["cp1@cave", "cp1@cave is down, booted 1×"], ["myapp", ""],
+        ["cp2@cave", "cp2@cave is waiting, booted 2×"], ["myapp", ""],
+        ["cp3@cave", "cp3@cave is up, booted 1×"], ["myapp", "myapp runs at cp3@cave, permanent normal"]]
+# What a click would meet at a step, in each row that has a label.
+COLUMN = """(() => {
+  const cursor = document.getElementById("cursor").getBoundingClientRect();
+  return [...document.querySelectorAll(".names text")].map((label) => {
+    const box = label.getBoundingClientRect();
+    const there = document.elementFromPoint(cursor.left + cursor.width / 2, box.top + box.height / 2);
+    const title = there && there.closest("g") && there.closest("g").querySelector("title");
+    return [label.textContent, title ? title.textContent : ""];
+  });
+})()"""
+# Names that end elements and begin others, were they put into a page as they stand.
+STRANGE = ["</script><script>document.title=1</script>", "<img/src=x/onerror=document.title=2>", "&amp;\"<!--CHART-->", "\u00a0", "é\u2028x"]
+
+
+class Browser:
+    """A headless Chromium with one open page, told by its DevTools pipe what to do."""
+
+    def __init__(self, folder):
+        reads, self.writes = os.pipe()
+        self.reads, writes = os.pipe()
+        self.process = subprocess.Popen(
+            ["sh", "-c", f'exec chromium "$@" 3<&{reads} 4>&{writes}', "sh", *OPTIONS, "--remote-debugging-pipe",
+             f"--user-data-dir={folder}/profile", "about:blank"], pass_fds=(reads, writes), stdin=subprocess.DEVNULL,
+            stdout=subprocess.DEVNULL, stderr=subprocess.DEVNULL)
+        os.close(reads)
+        os.close(writes)
+        self.kept, self.events, self.number, self.session = b"", [], 0, None
+        target = self.call("Target.createTarget", url="about:blank")["targetId"]
+        self.session = self.call("Target.attachToTarget", targetId=target, flatten=True)["sessionId"]
+        for domain in ("Page", "Network", "Runtime", "Log"):
+            self.call(f"{domain}.enable")
+
+    def message(self):
+        """The next message of the browser."""
+        while b"\0" not in self.kept:
+            if not select.select([self.reads], [], [], LONGEST_ANSWER)[0]:
+                raise TimeoutError("the browser doesn't answer")
+            read = os.read(self.reads, 1 << 20)
+            if not read:
+                raise EOFError("the browser ended")
+            self.kept += read
+        text, self.kept = self.kept.split(b"\0", 1)
+        return json.loads(text)
+
+    def call(self, method, **params):
+        """What the browser answers to a call. Events before that are kept."""
+        self.number += 1
+        asked = {"id": self.number, "method": method, "params": params}
+        if self.session:
+            asked["sessionId"] = self.session
+        data = json.dumps(asked).encode() + b"\0"
+        while data:
+            data = data[os.write(self.writes, data):]
+        while True:
+            told = self.message()
+            if told.get("id") == self.number:
+                if "error" in told:
+                    raise ValueError(f"{method}: {told['error']}")
+                return told["result"]
+            self.events.append(told)
+
+    def open(self, path, fragment=""):
+        """Opens a page, and waits until it is loaded."""
+        self.call("Page.navigate", url="about:blank")
+        self.events.clear()
+        self.call("Page.navigate", url=f"file://{path}{fragment}")
+        end = time.monotonic() + LONGEST_ANSWER
+        while self.value("document.readyState") != "complete" or self.value("location.protocol") != "file:":
+            if time.monotonic() > end:
+                raise TimeoutError(f"{path} isn't loaded")
+            time.sleep(0.05)
+
+    def value(self, expression):
+        """The value of an expression in the page."""
+        told = self.call("Runtime.evaluate", expression=expression, returnByValue=True)
+        if "exceptionDetails" in told:
+            raise ValueError(f"{expression}: {told['exceptionDetails']}")
+        return told["result"].get("value")
+
+    def text(self, name):
+        """The text of an element."""
+        return self.value(f"document.getElementById({json.dumps(name)}).textContent")
+
+    def press(self, *keys):
+        """Presses keys, one after the other, and tells the step that is shown then."""
+        for key in keys:
+            for kind in ("rawKeyDown", "keyUp"):
+                self.call("Input.dispatchKeyEvent", type=kind, key=key, code=key)
+        return self.text("step")
+
+    def mouse(self, *moves):
+        """Presses the mouse at the first point, moves it over the others, and lets it go at the last one."""
+        for kind, (x, y) in [("mousePressed", moves[0])] + [("mouseMoved", move) for move in moves] + [("mouseReleased", moves[-1])]:
+            self.call("Input.dispatchMouseEvent", type=kind, x=x, y=y, button="left", buttons=1, clickCount=1)
+        return self.text("step")
+
+    def box(self, selector):
+        """Where an element stands: its left, top, width and height."""
+        return self.value(f"(() => {{ const box = document.querySelector({json.dumps(selector)}).getBoundingClientRect();"
+                          " return [box.left, box.top, box.width, box.height]; })()")
+
+    def troubles(self):
+        """What the page asked of anybody but itself, and what went wrong in it."""
+        asked = [event["params"]["request"]["url"] for event in self.events if event.get("method") == "Network.requestWillBeSent"]
+        wrong = [event for event in self.events if event.get("method") in ("Runtime.exceptionThrown", "Log.entryAdded")]
+        others = [url for url in asked if not url.startswith(("file:", "about:"))]
+        return f"it asks for {others or asked}, and {wrong}" if others or wrong or len(asked) > 1 else None
+
+    def close(self):
+        """Ends the browser."""
+        try:
+            self.session = None
+            self.call("Browser.close")
+            self.process.wait(20)
+        except (OSError, EOFError, ValueError, TimeoutError, subprocess.TimeoutExpired):
+            self.process.kill()
+            self.process.wait()
+        os.close(self.reads)
+        os.close(self.writes)
+
+
+def page(program, words, text=None):
+    """A finished run of the companion."""
+    return subprocess.run([COMPANION, "--rehearse", program, *words], input=text, capture_output=True, timeout=60)
+
+
+def same(want, have):
+    """What is wrong with a value, or None."""
+    return None if want == have else f"want {want!r}, have {have!r}"
+
+
+def all_same(*pairs):
+    """What is wrong with the first of some values that isn't as wanted, or None."""
+    return next((wrong for wrong in (same(*pair) for pair in pairs) if wrong), None)
+
+
+def made(program, folder, words, text=None):
+    """The path of a page that is made from words and an input."""
+    path = os.path.join(folder, "page.html")
+    done = page(program, [*words, "-o", path], text)
+    if done.returncode != 0 or done.stdout or done.stderr:
+        raise ValueError(f"status {done.returncode}: {done.stdout} {done.stderr}")
+    return path
+
+
+def example(name):
+    """The path of an example."""
+    return os.path.join(TOP, "examples", name)
+
+
+def one_rehearsal(program, folder, browser):
+    """A page of three nodes: its keys, its slider, its chart, the moment that it shows."""
+    path = made(program, folder, [example("repaired-node.txt")])
+    browser.open(path)
+    yield "it loads, and asks for nothing else", browser.troubles()
+    first = "now 0\n" + "".join(f"node cp{node}@cave down 0\n" for node in (1, 2, 3)) + "app myapp quiet\n"
+    yield "it begins with the first state", all_same(("0", browser.text("step")), (first, browser.text("report")))
+    yield "Right goes on", all_same(
+        ("3", browser.press(*["ArrowRight"] * 3)), (THREE_UP, browser.text("report")), ("boot cp3@cave", browser.text("command")),
+        ("ok\nup cp1@cave\nup cp2@cave\nup cp3@cave\nstarted myapp cp1@cave normal\nwaits myapp cp2@cave\nwaits myapp cp3@cave",
+         browser.text("answer")))
+    yield "Left goes back", all_same(("2", browser.press("ArrowLeft")), ("boot cp2@cave", browser.text("command")))
+    yield "End and Home", all_same(("12", browser.press("End", "ArrowRight")), ("show", browser.text("command")),
+                                   ("0", browser.press("Home", "ArrowLeft")), (first, browser.text("report")))
+    left, top, width, height = browser.box("#slider")
+    middle = (left + width / 2, top + height / 2)
+    yield "the slider is dragged", all_same(
+        ("6", browser.mouse((left + 8, middle[1]), (left + width / 4, middle[1]), middle)), ("5000", browser.text("clock")),
+        ("7", browser.press("ArrowUp")), ("0", browser.press("PageUp")), ("10", browser.press("PageDown")))
+    yield "undo goes back to the moment before", all_same(("undo", browser.text("command")), ("10000", browser.text("clock")))
+    names, column = browser.box(".names"), browser.box("#cursor")[2]
+    yield "a click into the chart", all_same(
+        ("9", browser.mouse((names[0] + names[2] + 9.2 * column, names[1] + names[3] - 10))),
+        ("4", browser.mouse((names[0] + names[2] + 4.8 * column, names[1] + 10))),
+        ("Two of them fail, one after the other. Each time myapp moves on, five seconds later.", browser.text("notes")))
+    yield "the chart where it is lost", same(AT_4, browser.value(COLUMN))
+    browser.open(path, "#step=8")
+    yield "the address tells a step", all_same(("8", browser.text("step")), (AT_8, browser.value(COLUMN)))
+    yield "each span has a word", same(0, browser.value(
+        "[...document.querySelectorAll('.band g')].filter((span) => span.querySelector('title') && !span.querySelector('text')).length"))
+    browser.value("location.hash = '#step=3'")
+    time.sleep(0.2)
+    yield "a link to a step", same("3", browser.text("step"))
+    marked = ["node cp1@cave up 1", "  running myapp permanent normal", "node cp2@cave up 1", "  waiting myapp permanent",
+              "node cp3@cave up 1", "  waiting myapp permanent", "app myapp running cp1@cave"]
+    yield "what has changed is marked", same(marked, browser.value("[...document.querySelectorAll('#report b')].map((b) => b.textContent)"))
+    yield "nothing went wrong in it", browser.troubles()
+
+
+def wanted_and_forbidden(program, folder, browser):
+    """The chart where no node can run an application: the example of the report in docs/ANSWERS.md."""
+    kernel = "{distributed, [{svc, 1000, [n1@lab, n2@lab]}]}"
+    boot = "{rehearse, [{boot, [{log, permanent}, {svc, permanent}]}]}"
+    text = f"{{node, n1@lab, [{{kernel, [{kernel}]}}, {boot}]}}.\n"
+    text += f"{{node, n2@lab, [{{kernel, [{kernel}, {{permissions, [{{svc, false}}]}}]}}, {boot}]}}.\n"
+    text += "{application, log, []}.\n{application, svc, [{applications, [log]}]}.\n===\n"
+    text += "boot n1@lab\nboot n2@lab\ncrash n1@lab\ntick 1000\npermit n2@lab svc true\n"
+    browser.open(made(program, folder, ["-"], text.encode()), "#step=4")
+    yield "the chart where it is wanted", same(
+        [["step", ""], ["clock, ms", "1000 ms"], ["svc", "svc wanted n1@lab"], ["n1@lab", "n1@lab is down, booted 1×"],
+         ["svc", "svc wanted n1@lab"], ["log", ""], ["n2@lab", "n2@lab is up, booted 1×"],
+         ["svc", "svc waits at n2@lab, permanent, forbidden"], ["log", "log runs at n2@lab, permanent normal"]], browser.value(COLUMN))
+    browser.press("ArrowRight")
+    have = browser.value(COLUMN)
+    yield "the chart where it is permitted", all_same((["svc", "svc running n2@lab"], have[2]), (["svc", ""], have[4]),
+                                                      (["svc", "svc runs at n2@lab, permanent normal"], have[7]))
+
+
+def dumped(program, folder, _):
+    """What the browser makes of a page when it is asked for no more than that."""
+    path = made(program, folder, [example("repaired-node.txt")])
+    done = subprocess.run(["chromium", *OPTIONS, f"--user-data-dir={folder}/other", "--dump-dom", f"file://{path}#step=7"],
+                          stdin=subprocess.DEVNULL, stdout=subprocess.PIPE, stderr=subprocess.DEVNULL, timeout=LONGEST_ANSWER)
+    text = done.stdout.decode()
+    missing = [part for part in ('<b id="step">7</b>', "<b>app myapp running cp3@cave</b>", "<b>now 10000</b>") if part not in text]
+    yield "a dump at a step", f"it lacks {missing}" if missing else None
+
+
+def printed(program, folder, browser):
+    """Printed, the bands of the chart stand below one another, each with its labels."""
+    ticks = b"".join(b"tick 1000\n" for _ in range(100))
+    path = made(program, folder, ["-", "--title", "A <long> one"], b"{node, a@x, []}.\n===\nboot a@x\n" + ticks)
+    browser.open(path)
+    browser.call("Emulation.setEmulatedMedia", media="print")
+    browser.call("Emulation.setDeviceMetricsOverride", width=1047, height=700, deviceScaleFactor=1, mobile=False)
+    bands = browser.value("[...document.querySelectorAll('.band')].map((band) => [band.getBoundingClientRect().top, "
+                          "band.lastChild.getBoundingClientRect().right, band.querySelector('use').getBoundingClientRect().width])")
+    yield "bands in print", all_same(
+        (3, len(bands)), (sorted(bands), bands), (True, all(right <= 1047 and names > 40 for _, right, names in bands)),
+        (0, browser.value("document.querySelector('.names').getBoundingClientRect().width")))
+    yield "printed, a moment tells its step", same("step 0 of 101, clock 0 ms", browser.value("document.getElementById('paper').innerText"))
+    pdf = browser.call("Page.printToPDF", preferCSSPageSize=True, printBackground=False)["data"]
+    yield "it prints", None if pdf.startswith("JVBERi") and len(pdf) > 20_000 else f"{len(pdf)} characters, {pdf[:20]}"
+    browser.call("Emulation.setEmulatedMedia", media="")
+    browser.call("Emulation.clearDeviceMetricsOverride")
+    yield "its title", all_same(("A <long> one", browser.value("document.title")))
+
+
+def strange_names(program, folder, browser):
+    """Names, comments and words are shown as they are, whatever they would mean in a page."""
+    nodes = "".join(f"{{node, '{name}', []}}.\n" for name in STRANGE)
+    boots = "".join(f"# </script><!--DATA--> {name}\nboot {name}\n" for name in STRANGE)
+    text = f"{nodes}===\n{boots}boot <i>nobody</i>\r\n".encode() + b"# \xff\nshow"
+    browser.open(made(program, folder, ["--title", "mine", "-"], text))
+    last = str(len(STRANGE) + 2)
+    yield "strange names: all steps", all_same((last, browser.press("End")), ("show", browser.text("command")), ("ok", browser.text("answer")))
+    report = "now 0\n" + "".join(f"node {name} up 1\n" for name in STRANGE)
+    yield "strange names: the report", same(report, browser.text("report"))
+    yield "strange names: a refused command", all_same(
+        (str(int(last) - 1), browser.press("ArrowLeft")), ("boot <i>nobody</i>", browser.text("command")),
+        ("refused S1 unknown_node", browser.text("answer")))
+    yield "strange names: nothing else is run", browser.troubles() or all_same(
+        ("mine", browser.value("document.title")), (1, browser.value("document.querySelectorAll('#chart').length")),
+        (0, browser.value("document.querySelectorAll('img, i').length")))
+
+
+def sweeps(program, folder, browser):
+    """A sweep's table. What becomes of the plans follows from the lists of the example: see README.md."""
+    browser.open(made(program, folder, ["--sweep", "--workers", "3", example("five-nodes-sweep.txt")]))
+    rows = browser.value("Object.fromEntries([...document.querySelectorAll('#sweep tbody tr')].map("
+                         "(row) => [row.firstChild.textContent, [...row.children].slice(1).map((cell) => cell.textContent)]))")
+    stays = ["= core1@site", "= edge1@site", "= edge3@site"]
+    yield "a sweep: plans", all_same(
+        (17, len(rows)), (["crash core1@site; tick 3000", "2 of 2", "1", "0", "→ core2@site", *stays[1:]], rows.get("core1")),
+        (["crash core2@site; tick 3000", "2 of 2", "0", "0", *stays], rows.get("core2")),
+        (["crash core1@site; crash core2@site; tick 3000", "3 of 3", "0", "0", "✗ wanted, was at core1@site", *stays[1:]],
+         rows.get("core1+core2")),
+        (["crash core1@site; crash core1@site; tick 3000✗ refused: 2 S5 not_alive", "1 of 3", "0", "0",
+          "… lost, was at core1@site", *stays[1:]], rows.get("core1-is-down")))
+    left, top, width, height = browser.value("(() => { const box = document.getElementById('few'); box.scrollIntoView({block: 'center'});"
+                                             " const at = box.getBoundingClientRect(); return [at.left, at.top, at.width, at.height]; })()")
+    browser.mouse((left + width / 2, top + height / 2))
+    yield "a sweep: only those", same(["core1+core2", "core2+edge3", "core1-is-down"], browser.value(
+        "[...document.querySelectorAll('#sweep tbody tr')].filter((row) => row.offsetHeight).map((row) => row.firstChild.textContent)"))
+    yield "a sweep: nothing went wrong", browser.troubles()
+
+
+def large(program, folder, browser):
+    """32 nodes and 2,000 steps: 32 boots, and 492 times a crash, a tick, the boot and a tick."""
+    nodes = [f"n{number}@x" for number in range(32)]
+    kernel = "{kernel, [{distributed, [{svc, 1000, [n0@x, n1@x]}, {far, 500, [n31@x, {n2@x, n3@x, n4@x}]}]}]}"
+    also = {"n0@x": ", {svc, permanent}", "n1@x": ", {svc, permanent}"}
+    also.update({node: ", {far, permanent}" for node in ("n31@x", "n2@x", "n3@x", "n4@x")})
+    text = "".join(f"{{node, {node}, [{kernel}, {{rehearse, [{{boot, [{{log, permanent}}{also.get(node, '')}]}}]}}]}}.\n" for node in nodes)
+    text += "{application, svc, []}. {application, far, []}. {application, log, []}.\n===\n" + "".join(f"boot {node}\n" for node in nodes)
+    turns = [nodes[turn % 32] for turn in range(492)]
+    text += "".join(f"crash {node}\ntick 1000\nboot {node}\ntick 1000\n" for node in turns)
+    begin = time.monotonic()
+    path = made(program, folder, ["-"], text.encode())
+    browser.open(path)
+    seconds = time.monotonic() - begin
+    yield "2,000 steps: made and open in 20 seconds", None if seconds < 20 else f"{seconds:.1f} seconds"
+    browser.press("End")
+    yield "2,000 steps: at most 4 MB", None if os.path.getsize(path) < 4_000_000 else f"{os.path.getsize(path)} bytes"
+    # 492 is 15 times 32 and 12: so often n0 crashed once more than n31.
+    ends = [line for line in browser.text("report").split("\n") if line.startswith(("app ", "timer ", "node n0@x", "node n31@x"))]
+    yield "2,000 steps: the end", all_same(
+        ("2000", browser.text("step")), ("984000", browser.text("clock")), ("tick 1000", browser.text("command")),
+        (["node n0@x up 17", "node n31@x up 16", "app svc running n0@x", "app far running n31@x"], ends))
+    shown = browser.value("(() => { const c = document.getElementById('cursor').getBoundingClientRect(),"
+                          " f = document.getElementById('frame').getBoundingClientRect(); return c.left >= f.left && c.right <= f.right + 1; })()")
+    yield "2,000 steps: the step is in view", same(True, shown)
+    browser.press("Home", *["ArrowRight"] * 33)
+    lost = [line for line in browser.text("report").split("\n") if line.startswith(("app ", "timer ", "node n0@x"))]
+    yield "2,000 steps: it is lost", same(["node n0@x down 1", "app svc lost n0@x", "app far running n31@x", "timer failover svc 1000"], lost)
+    yield "2,000 steps: it runs elsewhere", all_same(("34", browser.press("ArrowRight")), ("ok\nstarted svc n1@x normal", browser.text("answer")))
+    yield "2,000 steps: it is taken over", all_same(
+        ("35", browser.press("ArrowRight")), (True, "started svc n0@x takeover n1@x\nstopped svc n1@x" in browser.text("answer")))
+    begin = time.monotonic()
+    browser.press(*["ArrowRight"] * 100)
+    seconds = time.monotonic() - begin
+    yield "2,000 steps: 100 keys in 10 seconds", all_same(("135", browser.text("step"))) or (None if seconds < 10 else f"{seconds:.1f} seconds")
+    yield "2,000 steps: nothing went wrong", browser.troubles()
+
+
+def refusals(program, folder):
+    """What is refused, with its status, and words of what is told."""
+    cluster = b"{node, a@x, []}.\n===\n"
+    for name, words, text, status, told in [
+            ("a bad line", [], cluster + b"boot a@x\n\nreboot a@x\n", 2, "standard input line 5 (line 3 behind ===): it is no command here: reboot a@x"),
+            ("a plan without --sweep", [], cluster + b"plan p\n", 2, "line 3 (line 1 behind ===): plans need --sweep: plan p"),
+            ("undo in a plan", ["--sweep"], cluster + b"plan p\nundo\n", 2, "line 4 (line 2 behind ===): it is no command here: undo"),
+            ("a base that isn't at its end", ["--sweep"], cluster + b"boot a@x\nundo\nplan p\n", 2, "sweep refused V2 base_not_at_end"),
+            ("a cluster file", [], b"{node, a@x, []}. {node, a@x, []}.", 2, "standard input: cluster refused C4 duplicate_name"),
+            ("a text that is cut", [], b"{node, a@x, ", 2, "cluster refused C1 T1 syntax line 1"),
+            ("too many commands", [], cluster + b"show\n" * 10_001, 2, "10001 commands; a page shows at most 10000"),
+            ("a file that isn't there", [f"{folder}/none"], b"", 2, f"{folder}/none: No such file"),
+            ("a place that isn't there", ["-o", f"{folder}/none/page.html"], cluster, 2, f"{folder}/none/page.html: No such file"),
+            ("a number of workers", ["--workers", "17"], b"", 1, "--workers"),
+            ("a program that isn't there", ["--rehearse", f"{folder}/none"], b"", 1, f"no program {folder}/none")]:
+        done = page(program, words, text)
+        is_told = done.returncode == status and not done.stdout and told.encode() in done.stderr and b"Traceback" not in done.stderr
+        yield f"refused: {name}", None if is_told else f"status {done.returncode}: {done.stdout[:100]} {done.stderr}"
+    done = page(program, ["--help"])
+    missing = [word for word in ("--sweep", "#step=12", "Home", "examples/repaired-node.txt", "Exit status") if word not in done.stdout.decode()]
+    yield "--help", f"status {done.returncode}, it lacks {missing}" if done.returncode or missing else None
+
+
+def all_examples(program, _):
+    """Each example of a run makes a page, on standard output; no script makes one too."""
+    for path in files_below(os.path.join(TOP, "examples")):
+        with open(path, "rb") as file:
+            text = file.read()
+        if b"\nplan " in text or b"\n1 " in text or "refused" in path or "bad-line" in path:
+            continue
+        done = page(program, [path])
+        is_page = done.stdout.startswith(b"<!DOCTYPE html>") and done.stdout.endswith(b"</html>\n") and not done.stderr
+        yield os.path.relpath(path, TOP), None if done.returncode == 0 and is_page else f"status {done.returncode}: {done.stderr}"
+
+
+def group(program):
+    """All of them."""
+    with tempfile.TemporaryDirectory(ignore_cleanup_errors=True) as folder:
+        yield from refusals(program, folder)
+        yield from all_examples(program, folder)
+        browser = Browser(folder)
+        try:
+            for part in (one_rehearsal, wanted_and_forbidden, printed, strange_names, sweeps, large, dumped):
+                yield from part(program, folder, browser)
+        finally:
+            browser.close()

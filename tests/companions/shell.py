@@ -1,0 +1,267 @@
+"""Tests of companions/shell: conversations through a pipe, and at a terminal with the TAB key."""
+import os
+import pty
+import re
+import select
+import signal
+import subprocess
+import tempfile
+import time
+
+from support import TOP, difference, fault_of, read, run
+
+NEEDS = ("python3",)
+COMPANION = os.path.join(TOP, "companions", "shell")
+LONGEST_WAIT = 20
+# Only the first four names are applications: the others stand in a comment, a string, other places, or in quotes.
+CLUSTER = """% Here a quote isn't closed: {application, nobody, []}. {node, no@where, []}.
+{node, a@x, [{kernel, [{distributed, [{web, 700, [a@x, 'b-1@x']}]}, {sync_nodes_optional, ['b-1@x']},
+    {sync_nodes_timeout, 900}]}, {sasl, [{dir, "{application, text, []}. 'x"}]},
+  {rehearse, [{boot, [{'it\\'s', temporary}, {web, permanent}]}, {platform, [ssl]}]}]}.
+{node, 'b-1@x', [{kernel, [{distributed, [{web, 700, [a@x, 'b-1@x']}]}, {sync_nodes_timeout, 900}]},
+  {rehearse, [{boot, [{web, permanent}]}]}]}.
+{application,web,[{applications, [kernel]}]}. {application, 'it\\'s', []}. {application, 'Ops', []}.
+{ application % the fourth one
+, spare, [{mod, {spare_app, [web_arg]}}]}.
+"""
+BANNER = "2 nodes, 4 applications; help lists the commands\n"
+
+
+def talk(program, entered, file, words=()):
+    """A finished run of the companion on a file, with lines that are entered."""
+    return subprocess.run([COMPANION, "--rehearse", program, *words, file], input=entered.encode(), capture_output=True,
+                          timeout=60)
+
+
+class Files:
+    """A folder with a cluster file, which goes away again."""
+
+    def __enter__(self):
+        self.folder = tempfile.TemporaryDirectory()
+        return self
+
+    def __exit__(self, *_):
+        self.folder.cleanup()
+
+    def path(self, name, text=None):
+        """The path of a file of the folder, which gets a text if there is one."""
+        path = os.path.join(self.folder.name, name)
+        if text is not None:
+            with open(path, "w") as file:
+                file.write(text)
+        return path
+
+
+# a@x waits for b-1@x, which waits for nobody.
+BOTH = "ok\nok\nup a@x\nup b-1@x\nstarted it's a@x normal\nstarted web a@x normal\nwaits web b-1@x\n"
+
+
+def conversations(program):
+    """What is answered, line by line."""
+    with Files() as files:
+        file = files.path("cluster", CLUSTER)
+        for name, entered, owed in [
+                ("nothing", "", ""),
+                ("names", "names\n", "nodes: a@x b-1@x\napplications: web it's Ops spare\n"),
+                ("two nodes", "boot a@x\nboot b-1@x\nundo\nredo\nundo_all\nredo_all\nredo\n",
+                 BOTH + "ok\nok\nok 2\nok 2\nrefused at_end\n"),
+                ("the state", "  boot   b-1@x\n\ntick 900\nshow\n",
+                 "ok\nup b-1@x\nstarted web b-1@x normal\nok\nok\nnow 900\nnode a@x down 0\nnode b-1@x up 1\n"
+                 "  running web permanent normal\napp web running b-1@x\n"),
+                ("what is no command",
+                 "boot\nboot a@x b-1@x\nreboot a@x\ntick -1\nexit a@x web badly\n===\nplan p\nundo",
+                 "that is no command: boot N\n" * 2 + "that is no command: help lists them\n"
+                 "that is no command: tick MILLISECONDS\nthat is no command: exit N A normal|abnormal\n"
+                 + "that is no command: help lists them\n" * 2 + "refused at_start\n"),
+                ("what is refused", "crash a@x\nboot c@x\nstart a@x web permanent\n",
+                 "refused S5 not_alive\nrefused S1 unknown_node\nrefused S8 node_not_up\n"),
+                ("quit", "boot a@x\nquit\nboot b-1@x\n", "ok\n"), ("exit", "exit\nboot a@x\n", "")]:
+            yield name, fault_of(talk(program, entered, file), 0, (BANNER + owed).encode())
+
+
+def like_a_run(program):
+    """Each example, entered line by line, is answered as by one run of the program."""
+    for name in ("failover-and-takeover", "repaired-node", "release", "local-applications", "rolling-restart",
+                 "waiting-nodes"):
+        source = read(os.path.join(TOP, "examples", f"{name}.txt")).decode()
+        cluster, script = source.split("===\n")
+        owed = run(program, ["run", "--pick", "last"], input=source.encode()).stdout
+        with Files() as files:
+            done = talk(program, script, files.path("cluster", cluster), ["--pick", "last"])
+        told = done.stdout.split(b"; help lists the commands\n", 1)[-1]
+        yield f"examples/{name}.txt", fault_of(done, 0, None) or (difference(owed, told) if told != owed else None)
+
+
+ENTERED = """boot a@x
+# Now the other one.
+boot b-1@x
+crash a@x
+undo
+crash b-1@x
+crash b-1@x
+undo_all
+redo_all
+show
+# The end.
+"""
+STORY = """boot a@x
+#   ok
+# Now the other one.
+boot b-1@x
+#   ok
+#   up a@x
+#   up b-1@x
+#   started it's a@x normal
+#   started web a@x normal
+#   waits web b-1@x
+crash b-1@x
+#   ok
+#   ended b-1@x
+# The end.
+"""
+TAKEN_BACK = "crash a@x\n#   ok\n#   ended a@x\nundo\n#   ok\n"
+WHOLE = STORY.replace("crash b-1@x\n", TAKEN_BACK + "crash b-1@x\n").replace("# The end.\n", """\
+crash b-1@x
+#   refused S5 not_alive
+undo_all
+#   ok 3
+redo_all
+#   ok 3
+show
+#   ok
+#   now 0
+#   node a@x up 1
+#     running it's temporary normal
+#     running web permanent normal
+#   node b-1@x down 1
+#   app web running a@x
+# The end.
+""")
+
+
+def stories(program):
+    """What is saved, and how a session goes on from it."""
+    with Files() as files:
+        file, story, whole = files.path("cluster", CLUSTER), files.path("story"), files.path("whole")
+        talk(program, f"{ENTERED}save {story}\nsave {whole} all\n", file)
+        for name, path, text in [("story", story, STORY), ("whole story", whole, WHOLE)]:
+            owed = (CLUSTER + "===\n" + text).encode()
+            yield f"the {name}", difference(owed, read(path)) if read(path) != owed else None
+            told = "".join(f"{line[4:]}\n" for line in text.splitlines() if line.startswith("#   "))
+            yield f"a run of the {name}", fault_of(run(program, ["run"], input=read(path)), 0, told.encode())
+            done = talk(program, f"save {path}.again{' all' if path == whole else ''}\n", path)
+            yield f"the {name} as it was", fault_of(done, 0, None) or (
+                difference(owed, read(path + ".again")) if read(path + ".again") != owed else None)
+        done = talk(program, f"undo\nundo\nredo\ntick 5\nredo\nsave {story}\nsave {story}.b\nundo\nsave {story}.b\n", story)
+        owed = BANNER.replace("applications;", "applications, behind 3 commands of the script;")
+        owed += f"ok\nok\nok\nok\nrefused at_end\n{story}: File exists\nsaved: rehearse run < {story}.b\nok\n"
+        owed += f"saved: rehearse run < {story}.b\n"
+        yield "on from a story", fault_of(done, 0, owed.encode())
+        owed = (CLUSTER + "===\n" + STORY.split("crash ")[0]).encode()
+        yield "the story that is left", difference(owed, read(story + ".b")) if read(story + ".b") != owed else None
+        talk(program, f"boot a@x\nboot b-1@x\nundo_all\nboot b-1@x\nundo\nredo_all\nsave {story}.d\n", file)
+        owed = (CLUSTER + "===\nboot b-1@x\n#   ok\n#   up b-1@x\n#   started web b-1@x normal\n").encode()
+        yield "all is taken back", difference(owed, read(story + ".d")) if read(story + ".d") != owed else None
+        done = talk(program, f"save\nsave /nowhere/story\nsave {story}.c some\n", file)
+        owed = BANNER + "save PATH, or save PATH all\n/nowhere/story: No such file or directory\nsave PATH, or save PATH all\n"
+        yield "what can't be saved", fault_of(done, 0, owed.encode())
+    sweep = os.path.join(TOP, "examples", "five-nodes-sweep.txt")
+    done = talk(program, "crash core1@site\n", sweep)
+    owed = b"5 nodes, 3 applications, behind 5 commands of the script; help lists the commands\nok\nended core1@site\n"
+    yield "a file with plans", fault_of(done, 0, owed)
+
+
+class Terminal:
+    """The companion at a terminal."""
+
+    def __init__(self, program, file):
+        self.child, self.side = pty.fork()
+        if self.child == 0:
+            plain = {**os.environ, "TERM": "dumb", "INPUTRC": "/dev/null"}
+            os.execve(COMPANION, [COMPANION, "--rehearse", program, file], plain)
+        self.text = ""
+
+    def __enter__(self):
+        return self
+
+    def __exit__(self, *_):
+        try:
+            os.kill(self.child, signal.SIGKILL)
+            os.waitpid(self.child, 0)
+        except (ProcessLookupError, ChildProcessError):
+            pass
+        os.close(self.side)
+
+    def fault(self, keys, owed):
+        """Presses keys, and gives None as soon as the screen shows what is owed, else what it shows."""
+        # No person is quicker. Python may miss a Ctrl-C right behind a prompt.
+        time.sleep(0.05)
+        os.write(self.side, keys.encode())
+        end = time.monotonic() + LONGEST_WAIT
+        while owed not in self.text:
+            ready, _, _ = select.select([self.side], [], [], max(0, end - time.monotonic()))
+            try:
+                more = os.read(self.side, 65536) if ready else b""
+            except OSError:
+                more = b""
+            if not more:
+                return f"the screen shows {self.text!r}, want {owed!r}"
+            self.text += re.sub(r"\x1b\[[0-9;?]*[a-zA-Z]", "", more.decode().replace("\r\n", "\n"))
+        self.text = self.text.split(owed, 1)[1] if owed else self.text
+        return None
+
+    def status(self):
+        """The exit status, once the companion has ended."""
+        end = time.monotonic() + LONGEST_WAIT
+        while time.monotonic() < end:
+            ended, status = os.waitpid(self.child, os.WNOHANG)
+            if ended:
+                return os.waitstatus_to_exitcode(status)
+            time.sleep(0.01)
+        return None
+
+
+def keys(program):
+    """The TAB key, Ctrl-C and Ctrl-D."""
+    with Files() as files, Terminal(program, files.path("cluster", CLUSTER)) as terminal:
+        for name, pressed, owed in [
+                ("the prompt", "", "0 ms> "),
+                ("a command", "bo\t", "boot "), ("a node", "b\t", "b-1@x "), ("a command is done", "\r", "up b-1@x\n"),
+                ("another command", "sta\t", "start "), ("another node", "b\t", "b-1@x "), ("an application", "O\t", "Ops "),
+                ("a restart type", "tr\t", "transient "), ("it starts", "\r", "started Ops b-1@x normal\n"),
+                ("a node that is down", "boot \t", "boot a@x "), ("it boots", "\r", "started web a@x takeover b-1@x\n"),
+                ("its application is lost", "crash a@x\r", "ended a@x\n"),
+                ("the time to the next timer", "tick \t", "tick 700 "), ("time passes", "\r", "started web b-1@x normal\n"),
+                ("the clock", "", "700 ms> "), ("a line is begun", "crash", "crash"),
+                ("it is left", "\x03", "700 ms> "),
+                ("the next line", "sh\t", "show "), ("the state", "\r", "now 700\n"),
+                ("it is lost again", "crash b-1@x\r", "ended b-1@x\n"), ("the time from now on", "tick \t", "tick 700 "),
+                ("a line is wiped out", "\x15", ""),
+                ("what two commands begin with", "un\t", "do"), ("a list of them", "\t\t", "undo_all"),
+                ("all of them", "_\t\r", "ok 6\n"), ("the clock at first", "", "0 ms> ")]:
+            yield f"at a terminal: {name}", terminal.fault(pressed, owed)
+        yield "at a terminal: Ctrl-D", terminal.fault("\x04", "\n")
+        status = terminal.status()
+        yield "at a terminal: the status", None if status == 0 else f"{status}"
+
+
+def faults(program):
+    """Wrong command lines, and files that are refused."""
+    with Files() as files:
+        for name, words, status, told in [
+                ("a syntax fault", [files.path("c", "{node, a@x, [}.")], 2, "cluster refused C1 T1 syntax line 1"),
+                ("a bad line", [files.path("s", CLUSTER + "===\n# One.\nboot a@x\nreboot a@x\n")], 2,
+                 "this line is no command: reboot a@x"),
+                ("no file", ["/nowhere/cluster"], 2, "/nowhere/cluster: No such file"),
+                ("no word", [], 1, "FILE"), ("a strange word", ["--nonsense", "x"], 1, "--nonsense")]:
+            done = subprocess.run([COMPANION, "--rehearse", program, *words], input=b"", capture_output=True, timeout=60)
+            is_right = done.returncode == status and done.stdout == b"" and told in done.stderr.decode()
+            yield f"refused: {name}", None if is_right else f"{done}"
+    done = subprocess.run([COMPANION, "--help"], capture_output=True, timeout=60)
+    yield "--help", fault_of(done, 0, None) or (None if b"save PATH" in done.stdout else f"{done}")
+
+
+# Those at a terminal (keys) aren't among them: what a screen shows by when depends on how busy the machine is.
+def group(program):
+    for tests in (conversations, like_a_run, stories, faults):
+        yield from tests(program)

@@ -1,0 +1,203 @@
+"""Tests of companions/spread: its output is that of one run of the program, whatever happens to the runs that share it."""
+import os
+import signal
+import subprocess
+import tempfile
+import time
+
+from support import TOP, difference, fault_of, read, run
+
+NEEDS = ("bash", "parallel", "perl")
+COMPANION = os.path.join(TOP, "companions", "spread")
+EXAMPLE = read(os.path.join(TOP, "examples", "five-nodes-sweep.txt"))
+HEAD = EXAMPLE.split(b"plan ", 1)[0]
+# The program, which writes down each process that sweeps.
+COUNTED = '#!/bin/sh\n[ "$1" = check ] || echo $$ >> "%s"\nexec "%s" "$@"\n'
+# In place of ssh, which sets SHELL: the machine `gone` reads what it is sent, answers a part of it and is lost.
+MACHINES = """#!/usr/bin/env bash
+while [[ $1 == -* && $1 != -- ]]; do shift; done
+host=$1
+shift
+[[ $1 != -- ]] || shift
+echo "$host" >> "%s"
+if [[ $host == gone ]]; then
+  head -c 100 > /dev/null
+  echo "plan core1 accep"
+  exit 255
+fi
+SHELL=$BASH exec bash -c "$*"
+"""
+
+
+def spread(program, words, text, **options):
+    """A finished run of the companion, with an input."""
+    return subprocess.run([COMPANION, "--rehearse", program, *words], input=text, capture_output=True, timeout=60, **options)
+
+
+def script(path, text):
+    """Writes a script that can be run."""
+    with open(path, "w") as file:
+        file.write(text)
+    os.chmod(path, 0o700)
+    return path
+
+
+def as_one_run(program, words, text, pick="first"):
+    """What is wrong with what is printed for an input, where what one run prints is right."""
+    alone = run(program, ["sweep", "--pick", pick], input=text)
+    return fault_of(spread(program, [*words, "--pick", pick], text), alone.returncode, alone.stdout)
+
+
+def shares(program):
+    """The example in several shares."""
+    for number in ("1", "2", "7", "17", "100"):
+        yield f"{number} shares", as_one_run(program, ["--shares", number, "--jobs", "2"], EXAMPLE)
+    yield "one at once", as_one_run(program, ["--shares", "5", "--jobs", "1"], EXAMPLE)
+    yield "as many as there are processors", as_one_run(program, [], EXAMPLE)
+    yield "--pick last, 3 workers", as_one_run(program, ["--shares", "4", "--workers", "3"], EXAMPLE, "last")
+    with tempfile.NamedTemporaryFile() as file:
+        file.write(EXAMPLE)
+        file.flush()
+        owed = run(program, ["sweep"], input=EXAMPLE).stdout
+        done = subprocess.run([COMPANION, "--shares", "2", file.name], capture_output=True, timeout=60,
+                              env={**os.environ, "REHEARSE": program})
+        yield "from a file, by the program of the environment", fault_of(done, 0, owed)
+
+
+def odd_texts(program):
+    """Texts that are cut badly if somebody isn't careful, and those that one run refuses."""
+    for name, text in [
+            ("no line end", EXAMPLE + b"plan last\ncrash edge1@site"),
+            ("lines end with CR LF", EXAMPLE.replace(b"\n", b"\r\n")),
+            ("blanks, comments, empty plans",
+             HEAD + b"# plan no\n  plan  a \ncrash core1@site\n\n# plan b\nplan c\nplan d\n# end\n"),
+            ("names of applications in the base",
+             HEAD + b"show\nundo\nshow\nredo\nplan p\ncrash core1@site\nplan p\nplan p\n"),
+            ("what looks like a plan in the cluster file",
+             HEAD.replace(b"ledger, []", b'ledger, [{description, "\nplan x\nboot core1@site\n"}]') + b"plan p\nplan q\n"),
+            ("a bad line of the base", HEAD + b"\nreboot core1@site\nplan a\nplan b\nplan c\n"),
+            ("a bad line of a plan", HEAD + b"plan a\nplan b\nplan c\ncrash\nplan d\nundo\n"),
+            ("a plan with two names", HEAD + b"plan a\nplan b c\nplan d\n"),
+            ("a plan without a name", HEAD + b"plan a\nplan\nplan d\n"),
+            ("bytes that aren't UTF-8", HEAD + b"plan a\n# \xff\nplan b\ncrash \xff\n"),
+            ("a base that isn't at its end", HEAD + b"undo\nplan a\nplan b\n"),
+            ("too long a plan", HEAD + b"plan a\n" + b"tick 1\n" * 65_531 + b"plan b\n"),
+            ("a cluster that is refused", EXAMPLE.replace(b"ledger, 3000", b"ledger, 3001", 1)),
+            ("no plan", HEAD), ("no script", HEAD.split(b"===")[0]), ("nothing", b"")]:
+        yield name, as_one_run(program, ["--shares", "3", "--jobs", "2"], text)
+
+
+def larger_input(program):
+    """An input that one run doesn't read: each share of it is below the limit."""
+    plain = HEAD + b"".join(b"plan p%d\ncrash core1@site\ntick 3000\n" % number for number in range(6))
+    text = plain.replace(b"tick 3000\n", b"tick 3000\n#" + b"x" * 3_000_000 + b"\n")
+    owed = run(program, ["sweep"], input=plain).stdout
+    yield "18,000,000 bytes", fault_of(spread(program, ["--shares", "3", "--jobs", "2"], text), 0, owed)
+    alone = run(program, ["sweep"], input=text)
+    yield "18,000,000 bytes in one run", fault_of(alone, 4, b"")
+
+
+def long_sweep():
+    """A sweep of which each of two shares takes some time."""
+    plans = [b"plan p%d\ncrash edge%d@site\n" % (number, number % 3 + 1) + b"tick 1\n" * 60_000 for number in range(4)]
+    return HEAD + b"".join(plans)
+
+
+def wait_for(told, seconds=30):
+    """Waits until something is told, and gives it."""
+    end = time.monotonic() + seconds
+    while time.monotonic() < end:
+        found = told()
+        if found:
+            return found
+        time.sleep(0.005)
+    raise TimeoutError
+
+
+def at_work(path, program):
+    """The first process of a list that runs the program."""
+    for line in read(path).split() if os.path.exists(path) else []:
+        try:
+            if os.path.realpath(f"/proc/{int(line)}/exe") == os.path.realpath(program):
+                return int(line)
+        except OSError:
+            pass
+    return None
+
+
+def killed(program):
+    """A run that is killed while it works is done again."""
+    text = long_sweep()
+    with tempfile.TemporaryDirectory() as folder:
+        starts = os.path.join(folder, "starts")
+        counted = script(os.path.join(folder, "program"), COUNTED % (starts, program))
+        with open(os.path.join(folder, "input"), "wb") as file:
+            file.write(text)
+        with subprocess.Popen([COMPANION, "--rehearse", counted, "--shares", "2", "--jobs", "1", file.name],
+                              stdout=subprocess.PIPE, stderr=subprocess.PIPE) as child:
+            os.kill(wait_for(lambda: at_work(starts, program)), signal.SIGKILL)
+            out, told = child.communicate(timeout=60)
+        owed = run(program, ["sweep"], input=text)
+        wrong = difference(owed.stdout, out) if out != owed.stdout else f"status {child.returncode}, {told}"
+        yield "a run is killed", wrong if (out, told, child.returncode) != (owed.stdout, b"", 0) else None
+        tries = len(read(starts).split())
+        yield "its share is done again", None if tries == 3 else f"{tries} runs, want 3"
+
+
+def machines(program):
+    """Machines that are lost, or never there. Each is a process here, since GNU parallel is told another ssh."""
+    with tempfile.TemporaryDirectory() as folder:
+        seen = os.path.join(folder, "seen")
+        ssh = script(os.path.join(folder, "ssh"), MACHINES % seen)
+        both = f"1/{ssh} gone,1/{ssh} good"
+        yield "a machine is lost", as_one_run(program, ["--shares", "7", "--sshlogin", both], EXAMPLE)
+        hosts = read(seen).split()
+        is_right = hosts.count(b"good") == 7 and b"gone" in hosts
+        yield "its shares are done elsewhere", None if is_right else f"{hosts}"
+        with open(os.path.join(folder, "machines"), "w") as file:
+            file.write(f"2/{ssh} good\n:\n")
+        yield "machines of a file", as_one_run(program, ["--sshloginfile", file.name, "--shares", "6"], EXAMPLE)
+        there = script(os.path.join(folder, "there"), COUNTED % (os.path.join(folder, "starts"), program))
+        yield "another program there", as_one_run(
+            program, ["--sshlogin", f"{ssh} good", "--remote", there, "--shares", "3"], EXAMPLE)
+        tries = len(read(os.path.join(folder, "starts")).split())
+        yield "it is the one that runs", None if tries == 3 else f"{tries} runs, want 3"
+        yield "a machine tells a bad line", as_one_run(
+            program, ["--sshlogin", f"{ssh} good", "--shares", "2"], EXAMPLE + b"undo\n")
+        done = spread(program, ["--sshlogin", f"{ssh} gone", "--retries", "2", "--shares", "2"], EXAMPLE)
+        is_right = done.returncode == 9 and done.stdout == b"" and b"2 of 2 shares weren't done" in done.stderr
+        yield "no machine is left", None if is_right else f"{done}"
+
+
+def faults(program):
+    """Wrong command lines, programs that aren't ours, and help."""
+    for words, told in [(["--nonsense"], "no option --nonsense"), (["--shares", "0"], "--shares needs a number"),
+                        (["--workers", "17"], "--workers is 1 to 16, not '17'"), (["--jobs"], "--jobs needs a value"), (["a", "b"], "not also b"),
+                        (["--rehearse", "/nowhere/rehearse"], "no program /nowhere/rehearse"),
+                        (["--rehearse", "/bin/true"], "true isn't the program"),
+                        (["--pick", "best"], "--pick is first or last, not 'best'")]:
+        done = spread(program, words, EXAMPLE)
+        is_right = done.returncode == 1 and done.stdout == b"" and told in done.stderr.decode()
+        yield f"refused: {told}", None if is_right else f"{done}"
+    done = spread(program, ["--remote", "/bin/false", "--retries", "1"], EXAMPLE)
+    yield "no share is done", None if done.returncode == 9 and b"status 1" in done.stderr else f"{done}"
+    done = spread(program, ["--remote", "/bin/true"], EXAMPLE)
+    yield "nothing is answered", None if done.returncode == 9 and b"17 plans" in done.stderr else f"{done}"
+    done = spread(program, ["/nowhere/plans"], b"")
+    yield "no file", None if done.returncode == 4 and b"/nowhere/plans" in done.stderr else f"{done}"
+    done = spread(program, ["--help"], b"")
+    yield "--help", fault_of(done, 0, None) or (None if b"--sshlogin" in done.stdout else f"{done}")
+
+
+def nothing_left(program):
+    """No file is left behind."""
+    with tempfile.TemporaryDirectory() as folder:
+        for text in (EXAMPLE, HEAD + b"undo\nplan a\n"):
+            spread(program, ["--shares", "2"], text, env={**os.environ, "TMPDIR": folder})
+        left = os.listdir(folder)
+        yield "files that are left", None if not left else f"{left}"
+
+
+def group(program):
+    for tests in (shares, odd_texts, larger_input, killed, machines, faults, nothing_left):
+        yield from tests(program)

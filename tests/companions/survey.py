@@ -1,0 +1,190 @@
+"""Tests of companions/survey. The times that are owed are worked out by hand from docs/RULES.md."""
+import os
+import subprocess
+import tempfile
+
+from support import TOP, fault_of, run
+
+NEEDS = ("python3",)
+COMPANION = os.path.join(TOP, "companions", "survey")
+# web fails over from a@x to b@x or c@x within 5000 ms. log runs everywhere and is no distributed application. Start phases
+# are none, so a failover is told as normal.
+NODE = """{node, %s, [{kernel, [{distributed, [{web, 5000, [a@x, {b@x, c@x}]}, {ctl, [c@x, b@x]}]}]},
+  {rehearse, [{boot, [{log, permanent}%s]}]}]}.
+"""
+CLUSTER = NODE % ("a@x", ", {web, permanent}") + NODE % ("b@x", ", {web, permanent}, {ctl, permanent}")
+CLUSTER += NODE % ("c@x", ", {web, temporary}, {ctl, permanent}")
+CLUSTER += "{application, web, []}. {application, ctl, []}. {application, log, []}.\n"
+BASE = "===\nboot a@x\nboot b@x\nboot c@x\n"
+TOLD = """ok
+up a@x
+plan p1 accepted 2 failovers 1 takeovers 0
+app web running b@x
+app ctl quiet
+plan p2 accepted 1 failovers 0 takeovers 0
+refused 2 S5 not_alive
+app web lost a@x
+app ctl quiet
+plan p3 accepted 3 failovers 0 takeovers 0
+app web wanted a@x
+app ctl running c@x
+plan p4 accepted 0 failovers 0 takeovers 0
+refused 1 S17 dependency_not_started log
+app web wanted
+app ctl running b@x
+plan p5 accepted 1 failovers 0 takeovers 0
+app web running a@x
+app ctl running c@x
+"""
+SUMMED = """5 plans, 2 distributed applications
+2 plans ended at an event that was refused: p2 (2 S5 not_alive), p4 (1 S17 dependency_not_started log)
+
+web: nowhere at the end of 3 of 5 plans
+  lost: p2
+  wanted: p3, p4
+  ran at the end at b@x (1 plan), a@x (1 plan)
+
+ctl: nowhere at the end of 2 of 5 plans
+  quiet: p1, p2
+  ran at the end at c@x (2 plans), b@x (1 plan)
+"""
+
+
+def survey(program, words, text):
+    """A finished run of the companion, with an input."""
+    return subprocess.run([COMPANION, "--rehearse", program, *words], input=text.encode(), capture_output=True, timeout=60)
+
+
+def timed(program, source, words=()):
+    """A finished run of the companion on the real program's sweep of an input, with its times."""
+    with tempfile.NamedTemporaryFile() as file:
+        file.write(source.encode())
+        file.flush()
+        swept = run(program, ["sweep", *words], input=source.encode())
+        return survey(program, ["--of", file.name, *words], swept.stdout.decode())
+
+
+def without_times(program):
+    """A text that is summed up as it stands."""
+    yield "five plans", fault_of(survey(program, [], TOLD), 0, SUMMED.encode())
+    many = "".join(f"plan q{number} accepted 0 failovers 0 takeovers 0\napp web wanted\n" for number in range(12))
+    owed = "12 plans, 1 distributed application\n\nweb: nowhere at the end of 12 of 12 plans\n  wanted: "
+    owed += ", ".join(f"q{number}" for number in range(10))
+    yield "many plans", fault_of(survey(program, [], many), 0, (owed + " and 2 more\n").encode())
+    yield "many plans, each named", fault_of(survey(program, ["--all"], many), 0, (owed + ", q10, q11\n").encode())
+    none = "ok\nplan p accepted 0 failovers 0 takeovers 0\n"
+    yield "no application", fault_of(survey(program, [], none), 0, b"1 plan, 0 distributed applications\n")
+
+
+# Behind the base web runs at a@x and ctl at c@x, which is the first of its list; ctl fails over at once. Each plan, and for
+# each application the times without it: those that end, and the one up to the plan's end.
+TIMES = {
+    # The timer fires within the second tick, at 5000.
+    "fails-over": ("crash a@x\ntick 2000\ntick 7000", ("web", 5000, None), ("ctl", None, None)),
+    # The lost node comes back after 300 and starts it at once.
+    "returns": ("crash a@x\ntick 300\nboot a@x\ntick 9000", ("web", 300, None), ("ctl", None, None)),
+    # A second loss at 6000: that of b@x, which is written first. web starts at c@x at 11000.
+    "twice": ("crash a@x\ntick 6000\ncrash b@x\ntick 5000", ("web", 5000, None), ("ctl", None, None)),
+    # Too short a tick: it is lost for 4999 and on. ctl starts at b@x without any time.
+    "too-short": ("crash c@x\ncrash a@x\ntick 4999", ("web", None, 4999), ("ctl", 0, None)),
+    # Stopped at 10, started by hand at 10 + 40.
+    "by-hand": ("tick 10\nstop c@x ctl\ntick 40\nstart c@x ctl permanent\ntick 3", ("web", None, None), ("ctl", 40, None)),
+    # It ends by itself and isn't permanent at c@x: it is quiet up to the end. That is after 7: there is no node d@x.
+    "ends": ("takeover c@x web temporary\nexit c@x web abnormal\ntick 7\nboot d@x\ntick 8", ("web", None, 7),
+             ("ctl", None, None)),
+    # Forbidden where it runs, it starts at another node at once; a takeover has no time without it.
+    "forbidden": ("permit a@x web false\ntick 5\ntakeover c@x web permanent\ntick 5", ("web", 0, None), ("ctl", None, None)),
+    # All nodes end; web was lost at 20 with a@x, and nobody comes back: wanted at 5020. Time goes on to 9020.
+    "all-end": ("tick 20\ncrash a@x\ncrash b@x\ncrash c@x\ntick 9000", ("web", None, 9000), ("ctl", None, 9000)),
+}
+
+
+def time_lines(plan, over, rest):
+    """The lines that are owed for the times without an application."""
+    yield f"  longest time without it {over} ms: {plan}" if over is not None else "  it never ended and started again"
+    if rest is not None:
+        yield f"  without it to the end of the plan, for at least {rest} ms: {plan}"
+
+
+def with_times(program):
+    """Times of single plans."""
+    for plan, (events, *told) in TIMES.items():
+        done = timed(program, CLUSTER + BASE + f"plan {plan}\n{events}\n")
+        for name, over, rest in told:
+            block = done.stdout.decode().split(f"\n{name}: ")[-1].split("\n\n")[0].splitlines()
+            have = [line for line in block if " without it" in line or "never ended" in line]
+            owed = list(time_lines(plan, over, rest))
+            yield f"times of {name}: {plan}", fault_of(done, 0, None) or (None if have == owed else f"{have}, want {owed}")
+
+
+# b@x waits for nobody any longer at 900: then it comes up and web, which is wanted since 700, starts there.
+LATE = """{node, a@x, [{kernel, [{distributed, [{web, 700, [a@x, b@x]}]}, {sync_nodes_timeout, 900}]},
+  {rehearse, [{boot, [{web, permanent}]}]}]}.
+{node, b@x, [{kernel, [{distributed, [{web, 700, [a@x, b@x]}]}, {sync_nodes_optional, [a@x]}, {sync_nodes_timeout, 900}]},
+  {rehearse, [{boot, [{web, permanent}]}]}]}.
+{application, web, []}.
+===
+boot a@x
+tick 900
+plan late
+crash a@x
+boot b@x
+tick 10000
+"""
+
+
+def several(program):
+    """The times of many plans, and one within a tick of two timers."""
+    done = timed(program, LATE)
+    yield "two timers in a tick", fault_of(
+        done, 0, b"1 plan, 1 distributed application\n\nweb: nowhere at the end of 0 of 1 plan\n"
+        b"  ran at the end at b@x (1 plan)\n  longest time without it 900 ms: late\n")
+    # Plan pK loses a@x for K ms. From 5000 on it fails over: then that is the longest time. 1,300 plans.
+    text = CLUSTER + BASE + "".join(
+        f"plan p{length}\ncrash a@x\ntick {length}\nboot a@x\n" for length in [*range(3701, 5001), 6000])
+    done = timed(program, text)
+    wrong = None if b"  longest time without it 5000 ms: p5000, p6000\n" in done.stdout else f"{done.stdout}"
+    yield "1,301 plans", fault_of(done, 0, None) or wrong
+    # Two nodes of a tuple are alike: by --pick last it is c@x.
+    text = CLUSTER + BASE + "plan p\ncrash a@x\ntick 5000\n"
+    done = timed(program, text, ["--pick", "last"])
+    yield "--pick last", fault_of(done, 0, None) or (None if b"at c@x (1 plan)" in done.stdout else f"{done.stdout}")
+
+
+def faults(program):
+    """What isn't a sweep's output, or not that of this input."""
+    good = "plan p\ncrash a@x\ntick 5000\n"
+    swept = run(program, ["sweep"], input=(CLUSTER + BASE + good).encode()).stdout.decode()
+    for name, text, told in [
+            ("no plans", "ok\nup a@x\n", "standard input: it has no outcome of a plan"),
+            ("nothing", "", "standard input: it has no outcome of a plan"),
+            ("a refused sweep", "ok\nsweep refused V3 trail_room\n", "line 2 is no outcome of a plan: sweep refused V3"),
+            ("a bad line", "bad line 5\n", "line 1 is no outcome of a plan: bad line 5"),
+            ("a refused cluster", "cluster refused C2 no_nodes\n", "cluster refused C2 no_nodes"),
+            ("other text", TOLD + "hello\n", "line 20 is no outcome of a plan: hello"),
+            ("a text that is cut off", TOLD.replace("app ctl running b@x\n", ""), "plan p4 tells of other applications")]:
+        done = survey(program, [], text)
+        is_right = done.returncode == 2 and done.stdout == b"" and told in done.stderr.decode()
+        yield f"refused: {name}", None if is_right else f"{done}"
+    for name, other, told in [
+            ("other names", good.replace("plan p", "plan q"), "it doesn't tell of the 1 plans of"),
+            ("another number", good + good, "it doesn't tell of the 2 plans of"),
+            ("more events", good + "tick 1\n", "plan p has other events in"),
+            ("other events", good.replace("crash a@x", "crash c@x"), "plan p ends otherwise than the output tells"),
+            ("a refused event", good.replace("tick 5000", "crash a@x"), "plan p ends otherwise than the output tells"),
+            ("no command", good.replace("crash a@x", "smash a@x"), "this line is no command: smash a@x")]:
+        with tempfile.NamedTemporaryFile() as file:
+            file.write((CLUSTER + BASE + other).encode())
+            file.flush()
+            done = survey(program, ["--of", file.name], swept)
+        is_right = done.returncode == 2 and done.stdout == b"" and told in done.stderr.decode()
+        yield f"refused: {name}", None if is_right else f"{done}"
+    done = survey(program, ["--nonsense"], "")
+    yield "a wrong command line", fault_of(done, 1, b"")
+    done = survey(program, ["/nowhere/output"], "")
+    yield "no file", fault_of(done, 2, b"") if b"/nowhere/output: No such file" not in done.stderr else None
+
+
+def group(program):
+    for tests in (without_times, with_times, several, faults):
+        yield from tests(program)
