@@ -3,6 +3,7 @@
 use clap::builder::ValueParser;
 use clap::error::ErrorKind;
 use clap::{Arg, ArgAction, Command, Error};
+use rh_app::Program;
 use rh_step::Pick;
 use rh_sweep::MAX_WORKERS;
 use std::alloc::Global;
@@ -223,19 +224,6 @@ docs/ANSWERS.md explains each line.
 Example:
 
   ./rehearse sweep --workers 4 < examples/five-nodes-sweep.txt";
-
-/// A program of the command line.
-#[derive(Clone, Copy)]
-pub enum Program {
-    /// The answers to a script.
-    Run(Pick),
-    /// The log of several sessions.
-    Sessions(Pick),
-    /// The outcomes of plans, by so many workers.
-    Sweep(Pick, usize),
-    /// Whether a cluster file is one.
-    Check,
-}
 
 /// What a command line asks.
 #[derive(Drop)]

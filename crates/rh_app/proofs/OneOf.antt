@@ -1,6 +1,5 @@
 -- The texts that sessions may write: there is one for all bytes, and what was written is one of them.
-use Rattle.std.proofs.Common.{◌≡◌, ℕ, List, [], ◌∷◌, map, Bool, Option, Some, None, Result, Ok, Err, IfSome, inl, inr, refl, sym, ap, subst}
-use Rattle.std.proofs.KnownBytes.{Keeps-refl}
+use Rattle.std.proofs.Common.{◌≡◌, ℕ, List, [], ◌∷◌, map, Bool, false, Option, Some, None, Result, Ok, Err, refl, sym, ap, subst}
 use Rattle.rh_model.specs.ClusterView.{ClusterView}
 use Rattle.rh_cluster.specs.ClusterOf.{cluster_of}
 use Rattle.rh_sections.specs.declared.fault.ClusterFault.{ClusterFault}
@@ -14,18 +13,17 @@ use Rattle.rh_script.specs.Lines.{cluster_text, script_lines}
 use Rattle.rh_script.specs.Answers.{fault_text, bad_text}
 use Rattle.rh_app.specs.declared.fault.Told.{Told}
 use Rattle.rh_app.specs.declared.fault.Told.TheVariants as told
-use Rattle.rh_app.specs.declared.fault.ReadFault.{ReadFault}
-use Rattle.rh_app.specs.declared.fault.ReadFault.TheVariants as reading
 use Rattle.rh_app.specs.declared.fault.WriteFault.{WriteFault}
 use Rattle.rh_app.specs.declared.fault.WriteFault.TheVariants as writing
 use Rattle.rh_app.specs.declared.fault.HistoryFault.{HistoryFault}
 use Rattle.rh_app.specs.declared.fault.HistoryFault.TheVariants as history
 use Rattle.rh_app.specs.declared.fault.SessionsFault.TheVariants as sessions
-use Rattle.rh_app.specs.Faults.{reading_fault, history_fault}
-use Rattle.rh_app.specs.Devices.{WhyUnread, WroteFront}
+use Rattle.rh_app.specs.declared.watched.Watched.{Watched}
+use Rattle.rh_app.specs.Faults.{history_fault}
+use Rattle.rh_app.specs.Devices.{WroteFront}
 use Rattle.rh_app.specs.Histories.{session_lines_asked, commands_of, bad_session_line, asked, by_session, IsHistory, history_text, last_state}
-use Rattle.rh_app.specs.Sessions.{ScriptMayGive, MayGiveOver, MayGive, SessionsGive, OneWritten, WroteOne}
-use Rattle.rh_app.proofs.Bytes.{nothing_yet}
+use Rattle.rh_app.specs.Sessions.{ScriptMayGive, MayGiveOver, MayGive, OneWritten, WroteOne}
+use Rattle.rh_app.proofs.Passing.{nothing_yet}
 
 -- ---- there is a history, and so a text
 
@@ -63,45 +61,34 @@ some_over : (pick : Pick) (lines : List (List ℕ)) (read : Result ClusterView C
 some_over pick lines (Ok c) = some_text c pick (commands_of (session_lines_asked c lines)) (bad_session_line 1 0 (session_lines_asked c lines))
 some_over pick lines (Err f) = (fault_text f, Some (told.Cluster f), (refl, refl))
 
-pub some_given : (bytes : List ℕ) (pick : Pick) → (text : List ℕ) × (owed : Option Told) × MayGive bytes pick text owed
+pub some_given : (bytes : List ℕ) (pick : Pick) → (text : List ℕ) × (owed : Option Told) × MayGive pick bytes text owed
 unfolding MayGive
 some_given bytes pick = some_over pick (script_lines bytes) (cluster_of (cluster_text bytes))
 
 -- ---- what was written is one of the texts
 
--- a growth was refused before anything was written
-pub starved : (may : List ℕ → Option Told → Type 0) (old : Option (List ℕ)) (w : Bool)
-    → (text : List ℕ) × (owed : Option Told) × may text owed → OneWritten may (Err writing.OutOfMemory) old old w
-starved may old w some = (some.0, some.1, some.2, nothing_yet old some.0)
-
--- no history was made
-pub history_fails : (c : ClusterView) (pick : Pick) (commands : List Command) (f : HistoryFault) (old : Option (List ℕ)) (w : Bool)
-    → WroteOne (ScriptMayGive c pick commands None) (Err (history_fault f)) old old w
-history_fails c pick commands history.Room old w = Keeps-refl old
-history_fails c pick commands history.OutOfMemory old w = starved (ScriptMayGive c pick commands None) old w (some_text c pick commands None)
-
--- nor was it told whole that a line is no command
-pub bad_breaks : (c : ClusterView) (pick : Pick) (commands : List Command) (bad : Option ℕ) (k : ℕ) (old new : Option (List ℕ)) (w : Bool) → bad ≡ Some k
-    → (f : WriteFault) → WroteFront f (bad_text k) old new w → WroteOne (ScriptMayGive c pick commands bad) (Err (sessions.Write f)) old new w
-bad_breaks c pick commands bad k old new w is f h =
-    subst (λ b. WroteOne (ScriptMayGive c pick commands b) (Err (sessions.Write f)) old new w) (sym is) (bad_text k, Some (told.BadLine k), (refl, refl), h)
-
 -- a text that is no cluster's
 pub cluster_fault_given : (bytes : List ℕ) (pick : Pick) (f : ClusterFault)
-    → cluster_of (cluster_text bytes) ≡ Err f → MayGive bytes pick (fault_text f) (Some (told.Cluster f))
+    → cluster_of (cluster_text bytes) ≡ Err f → MayGive pick bytes (fault_text f) (Some (told.Cluster f))
 unfolding MayGive
 cluster_fault_given bytes pick f read = subst (λ x. MayGiveOver pick (script_lines bytes) x (fault_text f) (Some (told.Cluster f))) (sym read) (refl, refl)
 
--- the input was not read
-pub unread : (f : ReadFault) (known : Option (List ℕ)) (pick : Pick) (old : Option (List ℕ)) (rf wf : Bool)
-    → WhyUnread known rf f → IfSome known (λ bytes. SessionsGive (Err (reading_fault f)) bytes pick old old rf wf)
-unread f None pick old rf wf why = tt
-unread f (Some bytes) pick old rf wf why = by f why
-  where
-    some : (text : List ℕ) × (owed : Option Told) × MayGive bytes pick text owed
-    some = some_given bytes pick
+module _ {K : Type 0} (takes : K → K → List ℕ → Type 0) (fails : K → K → Type 0) where
+  -- a growth was refused before anything was written
+  pub starved : (may : List ℕ → Option Told → Type 0) (old : Watched K) → old.failed ≡ false
+      → (text : List ℕ) × (owed : Option Told) × may text owed → OneWritten takes fails may (Err writing.OutOfMemory) old old
+  starved may old well some = (some.0, some.1, some.2, (nothing_yet takes fails old.inner some.0, well))
 
-    by : (f : ReadFault) → WhyUnread (Some bytes) rf f → SessionsGive (Err (reading_fault f)) bytes pick old old rf wf
-    by reading.Failed why = (some.0, some.1, some.2, (inl why, Keeps-refl old))
-    by reading.TooLong why = (some.0, some.1, some.2, (inr why, Keeps-refl old))
-    by reading.OutOfMemory why = (some.0, some.1, some.2, nothing_yet old some.0)
+  -- no history was made
+  pub history_fails : (c : ClusterView) (pick : Pick) (commands : List Command) (f : HistoryFault) (old : Watched K) → old.failed ≡ false
+      → WroteOne takes fails (ScriptMayGive c pick commands None) (Unit {0}) (Err (history_fault f)) old old
+  history_fails c pick commands history.Room old well = (tt, refl)
+  history_fails c pick commands history.OutOfMemory old well = starved (ScriptMayGive c pick commands None) old well (some_text c pick commands None)
+
+  -- nor was it told whole that a line is no command
+  pub bad_breaks : (c : ClusterView) (pick : Pick) (commands : List Command) (bad : Option ℕ) (torn : Type 0) (k : ℕ) (old new : Watched K) → bad ≡ Some k
+      → (f : WriteFault) → WroteFront takes fails f (bad_text k) old new
+      → WroteOne takes fails (ScriptMayGive c pick commands bad) torn (Err (sessions.Write f)) old new
+  bad_breaks c pick commands bad torn k old new is f h =
+      subst (λ b. WroteOne takes fails (ScriptMayGive c pick commands b) torn (Err (sessions.Write f)) old new) (sym is)
+      (bad_text k, Some (told.BadLine k), (refl, refl), h)

@@ -1,9 +1,7 @@
 -- The texts of a sweep, piece by piece.
 use Rattle.std.proofs.Common.{◌≡◌, ◌+◌, ◌==◌, ◌<◌, ◌&&◌, ℕ, suc, List, [], ◌∷◌, ◌++◌, length, map, drop, get_or, All, Bool, true, false, cond}
 use Rattle.std.proofs.Common.{Option, Some, None, Result, Ok, refl, sym, ap, ◌∙◌, append_assoc, arith}
-use Rattle.std.specs.Io.KnownBytes.{Appends}
 use Rattle.std.specs.List.{list_all}
-use Rattle.std.proofs.KnownBytes.{Appends-trans}
 use Rattle.std.proofs.lemmas.Bool.Decides.{nat_tests}
 use Rattle.std.proofs.Math.Seq.{drop-cons}
 use Rattle.std.proofs.lemmas.List.{get_or-map}
@@ -25,10 +23,11 @@ use Rattle.rh_script.specs.Commands.{calls_of}
 use Rattle.rh_script.specs.SweepLines.{PlanText, plan_text, base_lines, plans_of}
 use Rattle.rh_app.specs.declared.fault.Told.{Told}
 use Rattle.rh_app.specs.declared.fault.WriteFault.{WriteFault}
-use Rattle.rh_app.specs.Devices.{WroteFront}
+use Rattle.rh_app.specs.declared.watched.Watched.{Watched}
+use Rattle.rh_app.specs.Devices.{Passed, WroteFront}
 use Rattle.rh_app.specs.RunText.{answers_text, Wrote, Broke}
 use Rattle.rh_app.specs.SweepText.{has_room, why_not_swept, plans_text, plans_end, lines_text, lines_end}
-use Rattle.rh_app.proofs.Bytes.{fault_behind, fault_before}
+use Rattle.rh_app.proofs.Passing.{passed_more, fault_behind, fault_before}
 use Rattle.rh_app.proofs.Turns.{wrote_behind}
 
 -- ---- calls that are answered one after the other: before this one the simulation is now, and behind it next
@@ -37,13 +36,14 @@ module _ (c : ClusterView) (start now next : SimView) (calls : List Call) (i : �
   pub sim_goes_on : sim_after start calls ≡ sim_after now (drop i calls) → sim_after start calls ≡ sim_after next (drop (i + 1) calls)
   sim_goes_on so_far = so_far ∙ ap (sim_after now) at ∙ ap (λ s. sim_after s (drop (i + 1) calls)) (sym is)
 
-  pub answers_go_on : (a b d : Option (List ℕ)) (done : List ℕ) (w : Bool) → Appends a b done
+  pub answers_go_on : {K : Type 0} (takes : K → K → List ℕ → Type 0) (fails : K → K → Type 0) (a b d : Watched K) (done : List ℕ)
+      → Passed takes a.inner b.inner done
       → answers_text c start calls ≡ done ++ answers_text c now (drop i calls)
-      → Broke (Ok tt) (answer_text c (served now call).reply) b d w
-      → (more : List ℕ) × Appends a d more × (answers_text c start calls ≡ more ++ answers_text c next (drop (i + 1) calls))
-  answers_go_on a b d done w wrote so_far broke = (
+      → Broke takes fails (Ok tt) (answer_text c (served now call).reply) b d
+      → (more : List ℕ) × Passed takes a.inner d.inner more × (answers_text c start calls ≡ more ++ answers_text c next (drop (i + 1) calls))
+  answers_go_on takes fails a b d done wrote so_far broke = (
     done ++ answer_text c (served now call).reply,
-    Appends-trans a b d done (answer_text c (served now call).reply) wrote broke.0,
+    passed_more takes a.inner b.inner d.inner done (answer_text c (served now call).reply) wrote broke.0,
     so_far ∙ ap (λ cs. done ++ answers_text c now cs) at
         ∙ ap (λ s. done ++ (answer_text c (served now call).reply ++ answers_text c s (drop (i + 1) calls))) (sym is)
         ∙ sym (append_assoc done (answer_text c (served now call).reply) (answers_text c next (drop (i + 1) calls))),
@@ -51,12 +51,12 @@ module _ (c : ClusterView) (start now next : SimView) (calls : List Call) (i : �
 
 -- an answer was not written whole
 pub answer_breaks : (c : ClusterView) (start now : SimView) (calls : List Call) (i : ℕ) (call : Call) → drop i calls ≡ call ∷ drop (i + 1) calls
-    → (a b d : Option (List ℕ)) (done : List ℕ) (w : Bool) → Appends a b done
+    → {K : Type 0} (takes : K → K → List ℕ → Type 0) (fails : K → K → Type 0) (a b d : Watched K) (done : List ℕ) → Passed takes a.inner b.inner done
     → answers_text c start calls ≡ done ++ answers_text c now (drop i calls)
-    → (f : WriteFault) → WroteFront f (answer_text c (served now call).reply) b d w → WroteFront f (answers_text c start calls) a d w
-answer_breaks c start now calls i call at a b d done w wrote so_far f broke =
-    rw (so_far, at) (fault_behind f a b d done _ w wrote
-    (fault_before f b d (answer_text c (served now call).reply) (answers_text c (served now call).sim (drop (i + 1) calls)) w broke))
+    → (f : WriteFault) → WroteFront takes fails f (answer_text c (served now call).reply) b d → WroteFront takes fails f (answers_text c start calls) a d
+answer_breaks c start now calls i call at takes fails a b d done wrote so_far f broke =
+    rw (so_far, at) (fault_behind takes fails f a b d done _ wrote
+    (fault_before takes fails f b d (answer_text c (served now call).reply) (answers_text c (served now call).sim (drop (i + 1) calls)) broke))
 
 -- ---- why plans can't be swept
 module _ (base : SimView) where
@@ -115,12 +115,15 @@ module _ (c : ClusterView) (pick : Pick) (lines : List SweepLine) (bad : Option 
   ends : lines_end c pick lines bad ≡ plans_end base plans
   ends = rw (none, behind, opens, asked, planned) refl
 
-  pub base_breaks : (f : WriteFault) (a b : Option (List ℕ)) (w : Bool) → WroteFront f (answers_text c sim calls) a b w
-      → WroteFront f (lines_text c pick lines bad) a b w
-  base_breaks f a b w h = rw whole (fault_before f a b (answers_text c sim calls) (plans_text c base plans (why_not_swept base plans)) w h)
+  module _ {K : Type 0} (takes : K → K → List ℕ → Type 0) (fails : K → K → Type 0) where
+    pub base_breaks : (f : WriteFault) (a b : Watched K) → WroteFront takes fails f (answers_text c sim calls) a b
+        → WroteFront takes fails f (lines_text c pick lines bad) a b
+    base_breaks f a b h =
+        rw whole (fault_before takes fails f a b (answers_text c sim calls) (plans_text c base plans (why_not_swept base plans)) h)
 
-  pub plans_behind : (r : Result (Option Told) WriteFault) (a b d : Option (List ℕ)) (w : Bool) → Appends a b (answers_text c sim calls)
-      → Wrote r (plans_text c base plans (why_not_swept base plans)) (plans_end base plans) b d w
-      → Wrote r (lines_text c pick lines bad) (lines_end c pick lines bad) a d w
-  plans_behind r a b d w p q =
-      rw (whole, ends) (wrote_behind r a b d (answers_text c sim calls) (plans_text c base plans (why_not_swept base plans)) (plans_end base plans) w p q)
+    pub plans_behind : (r : Result (Option Told) WriteFault) (a b d : Watched K) → Passed takes a.inner b.inner (answers_text c sim calls)
+        → Wrote takes fails r (plans_text c base plans (why_not_swept base plans)) (plans_end base plans) b d
+        → Wrote takes fails r (lines_text c pick lines bad) (lines_end c pick lines bad) a d
+    plans_behind r a b d p q =
+        rw (whole, ends)
+        (wrote_behind takes fails r a b d (answers_text c sim calls) (plans_text c base plans (why_not_swept base plans)) (plans_end base plans) p q)

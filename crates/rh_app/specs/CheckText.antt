@@ -1,5 +1,5 @@
 -- What a check writes for the bytes that it reads, and how it ends (ours).
-use Rattle.std.specs.Prelude.{ℕ, List, ◌++◌, codes, Option, Some, None, Result, Ok, Err}
+use Rattle.std.specs.Prelude.{◌≡◌, ℕ, List, ◌++◌, codes, Option, Some, None, Result, Ok, Err}
 use Rattle.std.specs.Fmt.{decimal}
 use Rattle.rh_model.specs.ClusterView.{ClusterView, node_count, app_count}
 use Rattle.rh_cluster.specs.ClusterOf.{cluster_of}
@@ -30,3 +30,7 @@ check_text bytes = checked_text (cluster_of (cluster_text bytes))
 -- and the fault at the end, if there is one
 unfoldable pub check_end : List ℕ → Option Told
 check_end bytes = checked_end (cluster_of (cluster_text bytes))
+
+-- what a check owes
+abbrev pub OwesCheck : List ℕ → List ℕ → Option Told → Type 0
+OwesCheck bytes text owed = (text ≡ check_text bytes) × (owed ≡ check_end bytes)

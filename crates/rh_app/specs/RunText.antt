@@ -2,7 +2,6 @@
 use Rattle.std.specs.Prelude.{◌≡◌, ℕ, ◌+◌, List, [], ◌∷◌, ◌++◌, map, Bool, false, Option, Some, None, Result, Ok, Err}
 use Rattle.std.specs.List.{flat_map}
 use Rattle.std.specs.Option.{option_map}
-use Rattle.std.specs.Io.KnownBytes.{Appends}
 use Rattle.rh_model.specs.ClusterView.{ClusterView}
 use Rattle.rh_cluster.specs.ClusterOf.{cluster_of}
 use Rattle.rh_sections.specs.declared.fault.ClusterFault.{ClusterFault}
@@ -18,7 +17,8 @@ use Rattle.rh_app.specs.declared.fault.WriteFault.{WriteFault}
 use Rattle.rh_script.specs.Lines.{cluster_text, script_lines}
 use Rattle.rh_script.specs.Commands.{line_of, calls_of}
 use Rattle.rh_script.specs.Answers.{answer_text, fault_text, bad_text}
-use Rattle.rh_app.specs.Devices.{WroteFront}
+use Rattle.rh_app.specs.declared.watched.Watched.{Watched}
+use Rattle.rh_app.specs.Devices.{Passed, WroteFront}
 
 -- the number of the first bad line, where the first line has number k
 abbrev pub bad_line : ℕ → List Line → Option ℕ
@@ -66,21 +66,26 @@ run_text bytes pick = text_over pick (script_lines bytes) (cluster_of (cluster_t
 unfoldable pub run_end : List ℕ → Option Told
 run_end bytes = end_over (script_lines bytes) (cluster_of (cluster_text bytes))
 
+-- what a run owes
+abbrev pub OwesRun : Pick → List ℕ → List ℕ → Option Told → Type 0
+OwesRun pick bytes text owed = (text ≡ run_text bytes pick) × (owed ≡ run_end bytes)
+
 -- ---- how it is written
 
 -- a piece was written whole, or a front of it
-abbrev pub Broke : Result (Unit {0}) WriteFault → List ℕ → Option (List ℕ) → Option (List ℕ) → Bool → Type 0
-Broke (Ok x) text old new failed = Appends old new text × (failed ≡ false)
-Broke (Err f) text old new failed = WroteFront f text old new failed
+abbrev pub Broke : {K : Type 0} → (K → K → List ℕ → Type 0) → (K → K → Type 0) → Result (Unit {0}) WriteFault → List ℕ → Watched K → Watched K → Type 0
+Broke takes fails (Ok x) text old new = Passed takes old.inner new.inner text × (new.failed ≡ false)
+Broke takes fails (Err f) text old new = WroteFront takes fails f text old new
 
 -- a text was written whole that tells what it owes at its end, or a front of it
-abbrev pub Wrote : {T : Type 0} → Result (Option T) WriteFault → List ℕ → Option T → Option (List ℕ) → Option (List ℕ) → Bool → Type 0
-Wrote (Ok said) text owed old new failed = (owed ≡ said) × Appends old new text × (failed ≡ false)
-Wrote (Err f) text owed old new failed = WroteFront f text old new failed
+abbrev pub Wrote : {K T : Type 0} → (K → K → List ℕ → Type 0) → (K → K → Type 0) → Result (Option T) WriteFault → List ℕ → Option T → Watched K → Watched K → Type 0
+Wrote takes fails (Ok said) text owed old new = (owed ≡ said) × Passed takes old.inner new.inner text × (new.failed ≡ false)
+Wrote takes fails (Err f) text owed old new = WroteFront takes fails f text old new
 
 -- one line was answered, and the other lines are left; or the run ends there
-abbrev pub Turns : Result (Option ℕ) WriteFault → ClusterView → SimView → SimView → ℕ → Line → List Line → Option (List ℕ) → Option (List ℕ) → Bool → Type 0
-Turns (Ok None) c before after k line lines old new failed =
-    (piece : List ℕ) × Appends old new piece × (script_text c before k (line ∷ lines) ≡ piece ++ script_text c after (k + 1) lines)
-    × (bad_line k (line ∷ lines) ≡ bad_line (k + 1) lines) × (failed ≡ false)
-Turns result c before after k line lines old new failed = Wrote result (script_text c before k (line ∷ lines)) (bad_line k (line ∷ lines)) old new failed
+abbrev pub Turns : {K : Type 0} → (K → K → List ℕ → Type 0) → (K → K → Type 0) → Result (Option ℕ) WriteFault
+    → ClusterView → SimView → SimView → ℕ → Line → List Line → Watched K → Watched K → Type 0
+Turns takes fails (Ok None) c before after k line lines old new =
+    (piece : List ℕ) × Passed takes old.inner new.inner piece × (script_text c before k (line ∷ lines) ≡ piece ++ script_text c after (k + 1) lines)
+    × (bad_line k (line ∷ lines) ≡ bad_line (k + 1) lines) × (new.failed ≡ false)
+Turns takes fails result c before after k line lines old new = Wrote takes fails result (script_text c before k (line ∷ lines)) (bad_line k (line ∷ lines)) old new

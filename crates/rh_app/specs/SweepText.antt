@@ -1,5 +1,5 @@
 -- What a sweep writes for the bytes that it reads, and how it ends (ours). How many workers there are has no part in it.
-use Rattle.std.specs.Prelude.{ℕ, ◌+◌, List, ◌++◌, length, Bool, ◌==◌, nat_le, if◌then◌else◌, Option, Some, None, Result, Ok, Err}
+use Rattle.std.specs.Prelude.{◌≡◌, ℕ, ◌+◌, List, ◌++◌, length, Bool, ◌==◌, nat_le, if◌then◌else◌, Option, Some, None, Result, Ok, Err}
 use Rattle.std.specs.List.{flat_map, list_all}
 use Rattle.std.specs.Option.{option_map}
 use Rattle.rh_model.specs.ClusterView.{ClusterView}
@@ -77,3 +77,7 @@ sweep_text bytes pick = swept_over pick (script_lines bytes) (cluster_of (cluste
 -- and the fault at the end, if there is one
 unfoldable pub sweep_end : List ℕ → Pick → Option Told
 sweep_end bytes pick = swept_end_over pick (script_lines bytes) (cluster_of (cluster_text bytes))
+
+-- what a sweep owes
+abbrev pub OwesSweep : Pick → List ℕ → List ℕ → Option Told → Type 0
+OwesSweep pick bytes text owed = (text ≡ sweep_text bytes pick) × (owed ≡ sweep_end bytes pick)

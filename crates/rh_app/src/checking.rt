@@ -1,12 +1,13 @@
 //! The program `check`: the cluster file is read, and that is all.
 
-ghost use Rattle.std.specs.Prelude.{◌≡◌, false, IfOk, IfSome};
+ghost use Rattle.std.specs.Prelude.{◌≡◌, false, IfOk};
 ghost use Rattle.std.specs.String.{string_bytes};
-ghost use Rattle.rh_app.specs.CheckText.{count_text, check_text, check_end};
-ghost use Rattle.rh_app.specs.Programs.{ProgramGives};
+ghost use Rattle.rh_app.specs.CheckText.{count_text, check_text, check_end, OwesCheck};
+ghost use Rattle.rh_app.specs.Programs.{ProgramGives, NoThreads};
 ghost use Rattle.rh_app.specs.RunText.{Wrote, Broke};
 
-use crate::device::{read_input, write_text};
+use crate::device::{Sink, Source};
+use crate::transfer::{read_input, write_text};
 use crate::fault::{RunFault, Told, WriteFault, ended};
 use crate::running::write_fault;
 use crate::watched::Watched;
@@ -14,27 +15,23 @@ use rh_base::OutOfMemory;
 use rh_cluster::{Cluster, ClusterFault, read_cluster};
 use rh_script::cut;
 use std::alloc::Global;
-use std::io::{Read, Write};
 
 /// Reads all of the input, and then writes how many nodes and applications its cluster file has, or its first fault.
 ///
 /// A script behind a line `===` is ignored. The input has at most 16,777,216 bytes. Neither device is flushed.
 ///
-/// The contract speaks of the bytes of a reader that tells them; of one that doesn't, as standard input, it says nothing.
-///
 /// # Errors
 /// `Cluster` is the end of the text that was written. `Read` comes where the reader has failed or the input is too
 /// long: nothing was written. `Write` comes where the writer has failed, and `OutOfMemory` where a growth was refused:
 /// a front of the text was written.
-pub fn run_check<R: Read, W: Write>(
+pub fn run_check<S: Source, K: Sink>(
     alloc: Global,
-    reader: &mut Watched<R>,
-    writer: &mut Watched<W>,
+    reader: &mut Watched<S>,
+    writer: &mut Watched<K>,
 ) -> Result<(), RunFault>
     requires reader { reader.old.failed ≡ false }
     requires writer { writer.old.failed ≡ false }
-    ensures { IfSome (R.remaining reader.old.inner) (λ bytes. ProgramGives result bytes (check_text bytes) (check_end bytes)
-        (W.contents writer.old.inner) (W.contents writer.new.inner) reader.new.failed writer.new.failed) }
+    ensures { ProgramGives S.gives S.fails K.takes K.fails OwesCheck NoThreads result reader.old reader.new writer.old writer.new }
 {
     let input = read_input(alloc, reader)?;
     let told = check_input(alloc, input.as_slice(), writer)?;
@@ -43,13 +40,13 @@ pub fn run_check<R: Read, W: Write>(
 
 // Writes what the check of an input says.
 #[tactic(auto, unfolding(crate::specs::CheckText::check_text, crate::specs::CheckText::check_end))]
-fn check_input<W: Write>(
+fn check_input<K: Sink>(
     alloc: Global,
     input: &[u8],
-    writer: &mut Watched<W>,
+    writer: &mut Watched<K>,
 ) -> Result<Option<Told>, WriteFault>
     requires { writer.old.failed ≡ false }
-    ensures { Wrote result (check_text input.now) (check_end input.now) (W.contents writer.old.inner) (W.contents writer.new.inner) writer.new.failed }
+    ensures { Wrote K.takes K.fails result (check_text input.now) (check_end input.now) writer.old writer.new }
 {
     let (text, _) = cut(input);
     match read_cluster(alloc, text) {
@@ -68,13 +65,13 @@ fn check_input<W: Write>(
 }
 
 // Writes how many nodes and applications a cluster has.
-fn write_counts<W: Write>(
+fn write_counts<K: Sink>(
     alloc: Global,
     cluster: &Cluster,
-    writer: &mut Watched<W>,
+    writer: &mut Watched<K>,
 ) -> Result<(), WriteFault>
     requires { writer.old.failed ≡ false }
-    ensures { Broke result (count_text cluster.now) (W.contents writer.old.inner) (W.contents writer.new.inner) writer.new.failed }
+    ensures { Broke K.takes K.fails result (count_text cluster.now) writer.old writer.new }
 {
     let text = count_text(alloc, cluster)?;
     write_text(writer, text.as_bytes())

@@ -1,15 +1,16 @@
 //! The program `run`: commands are answered one after the other.
 
-ghost use Rattle.std.specs.Prelude.{List, ◌≡◌, map, false, OnOk, IfSome};
+ghost use Rattle.std.specs.Prelude.{List, ◌≡◌, map, false, OnOk};
 ghost use Rattle.rh_trail.specs.Lone.{opened, served};
 ghost use Rattle.rh_script.specs.Lines.{raw_lines, content};
 ghost use Rattle.rh_script.specs.declared.script.Line.{Line};
 ghost use Rattle.rh_script.specs.Commands.{line_of};
 ghost use Rattle.rh_script.specs.Answers.{answer_text, fault_text, bad_text};
-ghost use Rattle.rh_app.specs.RunText.{script_text, bad_line, lines_asked, run_text, run_end, Wrote, Broke, Turns};
-ghost use Rattle.rh_app.specs.Programs.{ProgramGives};
+ghost use Rattle.rh_app.specs.RunText.{script_text, bad_line, lines_asked, run_text, run_end, OwesRun, Wrote, Broke, Turns};
+ghost use Rattle.rh_app.specs.Programs.{ProgramGives, NoThreads};
 
-use crate::device::{read_input, write_text};
+use crate::device::{Sink, Source};
+use crate::transfer::{read_input, write_text};
 use crate::fault::{RunFault, Told, WriteFault, ended};
 use crate::watched::Watched;
 use rh_cluster::{Cluster, ClusterFault, read_cluster};
@@ -17,28 +18,24 @@ use rh_script::{Line, answer_text, bad_text, content, cut, fault_text, line_of, 
 use rh_step::Pick;
 use rh_trail::{Call, Reply, Sim};
 use std::alloc::Global;
-use std::io::{Read, Write};
 
 /// Reads all of the input, a cluster file, a line `===` and a script, and then writes the answer to each command.
 ///
 /// It ends at the first line that is no command. The input has at most 16,777,216 bytes. Neither device is flushed.
 ///
-/// The contract speaks of the bytes of a reader that tells them; of one that doesn't, as standard input, it says nothing.
-///
 /// # Errors
 /// `Cluster` and `BadLine` are the end of the text that was written. `Read` comes where the reader has failed or the
 /// input is too long: nothing was written. `Write` comes where the writer has failed, and `OutOfMemory` where a growth
 /// was refused: a front of the text was written.
-pub fn run<R: Read, W: Write>(
+pub fn run<S: Source, K: Sink>(
     alloc: Global,
-    reader: &mut Watched<R>,
-    writer: &mut Watched<W>,
+    reader: &mut Watched<S>,
+    writer: &mut Watched<K>,
     pick: Pick,
 ) -> Result<(), RunFault>
     requires reader { reader.old.failed ≡ false }
     requires writer { writer.old.failed ≡ false }
-    ensures { IfSome (R.remaining reader.old.inner) (λ bytes. ProgramGives result bytes (run_text bytes pick) (run_end bytes)
-        (W.contents writer.old.inner) (W.contents writer.new.inner) reader.new.failed writer.new.failed) }
+    ensures { ProgramGives S.gives S.fails K.takes K.fails (OwesRun pick) NoThreads result reader.old reader.new writer.old writer.new }
 {
     let input = read_input(alloc, reader)?;
     let told = answer_input(alloc, input.as_slice(), writer, pick)?;
@@ -47,14 +44,14 @@ pub fn run<R: Read, W: Write>(
 
 // Writes the answers to an input.
 #[tactic(auto, unfolding(crate::specs::RunText::run_text, crate::specs::RunText::run_end))]
-fn answer_input<W: Write>(
+fn answer_input<K: Sink>(
     alloc: Global,
     input: &[u8],
-    writer: &mut Watched<W>,
+    writer: &mut Watched<K>,
     pick: Pick,
 ) -> Result<Option<Told>, WriteFault>
     requires { writer.old.failed ≡ false }
-    ensures { Wrote result (run_text input.now pick) (run_end input.now) (W.contents writer.old.inner) (W.contents writer.new.inner) writer.new.failed }
+    ensures { Wrote K.takes K.fails result (run_text input.now pick) (run_end input.now) writer.old writer.new }
 {
     let (text, script) = cut(input);
     match read_cluster(alloc, text) {
@@ -73,49 +70,47 @@ fn answer_input<W: Write>(
 }
 
 // Writes why the text is no cluster.
-pub fn write_fault<W: Write>(
+pub fn write_fault<K: Sink>(
     alloc: Global,
     fault: &ClusterFault,
-    writer: &mut Watched<W>,
+    writer: &mut Watched<K>,
 ) -> Result<(), WriteFault>
     requires { writer.old.failed ≡ false }
-    ensures { Broke result (fault_text fault.now) (W.contents writer.old.inner) (W.contents writer.new.inner) writer.new.failed }
+    ensures { Broke K.takes K.fails result (fault_text fault.now) writer.old writer.new }
 {
     let text = fault_text(alloc, fault)?;
     write_text(writer, text.as_bytes())
 }
 
 // Writes the answers to a script. The answer is the number of the bad line that ended it, if one did.
-fn answer_script<W: Write>(
+fn answer_script<K: Sink>(
     alloc: Global,
     cluster: &Cluster,
     script: &[u8],
-    writer: &mut Watched<W>,
+    writer: &mut Watched<K>,
     pick: Pick,
 ) -> Result<Option<u64>, WriteFault>
     requires { writer.old.failed ≡ false }
-    ensures { Wrote result
+    ensures { Wrote K.takes K.fails result
         (script_text cluster.now (opened cluster.now pick) 1 (lines_asked cluster.now (map content (raw_lines script.now))))
-        (bad_line 1 (lines_asked cluster.now (map content (raw_lines script.now))))
-        (W.contents writer.old.inner) (W.contents writer.new.inner) writer.new.failed }
+        (bad_line 1 (lines_asked cluster.now (map content (raw_lines script.now)))) writer.old writer.new }
 {
     let mut sim = Sim::open(alloc, cluster.copy(alloc)?, pick)?;
     answer_lines(alloc, cluster, &mut sim, script, writer)
 }
 
 // Writes the answers to lines, the first of which has number 1, up to the first bad line, and answers its number.
-fn answer_lines<W: Write>(
+fn answer_lines<K: Sink>(
     alloc: Global,
     cluster: &Cluster,
     sim: &mut Sim,
     script: &[u8],
-    writer: &mut Watched<W>,
+    writer: &mut Watched<K>,
 ) -> Result<Option<u64>, WriteFault>
     requires { writer.old.failed ≡ false }
-    ensures { Wrote result
+    ensures { Wrote K.takes K.fails result
         (script_text cluster.now sim.old.seen 1 (lines_asked cluster.now (map content (raw_lines script.now))))
-        (bad_line 1 (lines_asked cluster.now (map content (raw_lines script.now))))
-        (W.contents writer.old.inner) (W.contents writer.new.inner) writer.new.failed }
+        (bad_line 1 (lines_asked cluster.now (map content (raw_lines script.now)))) writer.old writer.new }
 {
     let mut rest = script;
     let mut number: u64 = 1;
@@ -133,17 +128,16 @@ fn answer_lines<W: Write>(
 }
 
 // Writes the answer to a line, if it gets one. The answer is the number of a bad line.
-fn answer_line<W: Write>(
+fn answer_line<K: Sink>(
     alloc: Global,
     cluster: &Cluster,
     sim: &mut Sim,
     number: u64,
     line: &[u8],
-    writer: &mut Watched<W>,
+    writer: &mut Watched<K>,
 ) -> Result<Option<u64>, WriteFault>
     requires { writer.old.failed ≡ false }
-    ensures { (lines : List Line) → Turns result cluster.now sim.old.seen sim.new.seen number (line_of cluster.now (content line.now)) lines
-        (W.contents writer.old.inner) (W.contents writer.new.inner) writer.new.failed }
+    ensures { (lines : List Line) → Turns K.takes K.fails result cluster.now sim.old.seen sim.new.seen number (line_of cluster.now (content line.now)) lines writer.old writer.new }
 {
     match line_of(alloc, cluster, content(line))? {
         Line::Nothing => Ok(None),
@@ -159,43 +153,43 @@ fn answer_line<W: Write>(
 }
 
 // Writes that a line is no command.
-pub fn answer_bad<W: Write>(
+pub fn answer_bad<K: Sink>(
     alloc: Global,
     number: u64,
-    writer: &mut Watched<W>,
+    writer: &mut Watched<K>,
 ) -> Result<(), WriteFault>
     requires { writer.old.failed ≡ false }
-    ensures { Broke result (bad_text number) (W.contents writer.old.inner) (W.contents writer.new.inner) writer.new.failed }
+    ensures { Broke K.takes K.fails result (bad_text number) writer.old writer.new }
 {
     let text = bad_text(alloc, number)?;
     write_text(writer, text.as_bytes())
 }
 
 // Gives a call to the simulation, and writes the answer.
-pub fn answer_call<W: Write>(
+pub fn answer_call<K: Sink>(
     alloc: Global,
     cluster: &Cluster,
     sim: &mut Sim,
     call: Call,
-    writer: &mut Watched<W>,
+    writer: &mut Watched<K>,
 ) -> Result<(), WriteFault>
     requires { writer.old.failed ≡ false }
     ensures sim { OnOk result (sim.new.seen ≡ (served sim.old.seen call).sim) }
-    ensures text { Broke result (answer_text cluster.now (served sim.old.seen call).reply) (W.contents writer.old.inner) (W.contents writer.new.inner) writer.new.failed }
+    ensures text { Broke K.takes K.fails result (answer_text cluster.now (served sim.old.seen call).reply) writer.old writer.new }
 {
     let reply = sim.answer(alloc, call)?;
     write_answer(alloc, cluster, &reply, writer)
 }
 
 // Writes the answer of a reply.
-fn write_answer<W: Write>(
+fn write_answer<K: Sink>(
     alloc: Global,
     cluster: &Cluster,
     reply: &Reply,
-    writer: &mut Watched<W>,
+    writer: &mut Watched<K>,
 ) -> Result<(), WriteFault>
     requires { writer.old.failed ≡ false }
-    ensures { Broke result (answer_text cluster.now reply.now) (W.contents writer.old.inner) (W.contents writer.new.inner) writer.new.failed }
+    ensures { Broke K.takes K.fails result (answer_text cluster.now reply.now) writer.old writer.new }
 {
     let text = answer_text(alloc, cluster, reply)?;
     write_text(writer, text.as_slice())

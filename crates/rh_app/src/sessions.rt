@@ -1,6 +1,6 @@
 //! The program `sessions`: several sessions share one cluster, each in a thread of its own.
 
-ghost use Rattle.std.specs.Prelude.{List, ◌≡◌, ◌++◌, false, map, All, OnOk, IfOk, IfErr, IfSome, None};
+ghost use Rattle.std.specs.Prelude.{List, ◌≡◌, ◌++◌, false, map, All, OnOk, IfOk, IfErr, None};
 ghost use Rattle.std.specs.List.{flat_map};
 ghost use Rattle.std.specs.String.{string_bytes};
 ghost use Rattle.rh_state.specs.Stored.{read};
@@ -9,13 +9,15 @@ ghost use Rattle.rh_trail.specs.Lone.{opened};
 ghost use Rattle.rh_room.specs.Legal.{IsSession, session_limit};
 ghost use Rattle.rh_script.specs.Lines.{raw_lines, content};
 ghost use Rattle.rh_app.specs.Histories.{session_lines_asked, commands_of, bad_session_line, IsHistory, history_text, last_state};
-ghost use Rattle.rh_app.specs.Sessions.{ScriptMayGive, MayGive, SessionsGive, WroteOne};
+ghost use Rattle.rh_app.specs.Programs.{ProgramGives};
+ghost use Rattle.rh_app.specs.Sessions.{ScriptMayGive, MayGive, AskHistory, WroteOne};
 
 mod commands;
 mod history;
 mod threads;
 
-use crate::device::read_input;
+use crate::device::{Sink, Source};
+use crate::transfer::read_input;
 use crate::fault::{RunFault, SessionsFault, Told, WriteFault, ended};
 use crate::running::{answer_bad, write_fault};
 use crate::sessions::commands::{Script, commands_in};
@@ -26,7 +28,6 @@ use rh_cluster::{Cluster, read_cluster};
 use rh_script::{Command, cut};
 use rh_step::Pick;
 use std::alloc::Global;
-use std::io::{Read, Write};
 use std::sync::Wait;
 use std::thread::Threads;
 
@@ -36,23 +37,20 @@ use std::thread::Threads;
 /// The log is a history that a single caller could have had, in which each session's commands stand, all and in their
 /// order. Which one it is, the threads decide. The input has at most 16,777,216 bytes. Neither device is flushed.
 ///
-/// The contract speaks of the bytes of a reader that tells them; of one that doesn't, as standard input, it says nothing.
-///
 /// # Errors
 /// `Cluster` and `BadLine` (a line that is no command, or the 65,536th command) are told alone. `Read` comes where the
 /// reader has failed or the input is too long: nothing was written. `Write` comes where the writer has failed, and
 /// `OutOfMemory` where a growth was refused: a front of the text was written. `Room`: nothing was written.
-pub fn run_sessions<T: Threads + Wait + Sync, R: Read, W: Write>(
+pub fn run_sessions<T: Threads + Wait + Sync, S: Source, K: Sink>(
     rt: &T,
     alloc: Global,
-    reader: &mut Watched<R>,
-    writer: &mut Watched<W>,
+    reader: &mut Watched<S>,
+    writer: &mut Watched<K>,
     pick: Pick,
 ) -> Result<(), RunFault>
     requires reader { reader.old.failed ≡ false }
     requires writer { writer.old.failed ≡ false }
-    ensures { IfSome (R.remaining reader.old.inner) (λ bytes. SessionsGive result bytes pick
-        (W.contents writer.old.inner) (W.contents writer.new.inner) reader.new.failed writer.new.failed) }
+    ensures { ProgramGives S.gives S.fails K.takes K.fails (MayGive pick) AskHistory result reader.old reader.new writer.old writer.new }
 {
     let input = read_input(alloc, reader)?;
     let told = share_input(rt, alloc, input.as_slice(), writer, pick)?;
@@ -60,16 +58,16 @@ pub fn run_sessions<T: Threads + Wait + Sync, R: Read, W: Write>(
 }
 
 // Writes a history of the commands of an input.
-#[tactic(auto, unfolding(crate::specs::Sessions::MayGive))]
-fn share_input<T: Threads + Wait + Sync, W: Write>(
+#[tactic(auto, unfolding(crate::specs::Sessions::MayGive, crate::specs::Sessions::AskHistory))]
+fn share_input<T: Threads + Wait + Sync, K: Sink>(
     rt: &T,
     alloc: Global,
     input: &[u8],
-    writer: &mut Watched<W>,
+    writer: &mut Watched<K>,
     pick: Pick,
 ) -> Result<Option<Told>, SessionsFault>
     requires { writer.old.failed ≡ false }
-    ensures { WroteOne (MayGive input.now pick) result (W.contents writer.old.inner) (W.contents writer.new.inner) writer.new.failed }
+    ensures { WroteOne K.takes K.fails (MayGive pick input.now) (AskHistory input.now) result writer.old writer.new }
 {
     let (text, script) = cut(input);
     match read_cluster(alloc, text) {
@@ -85,19 +83,20 @@ fn share_input<T: Threads + Wait + Sync, W: Write>(
 }
 
 // Writes a history of the commands of a script.
-fn share_script<T: Threads + Wait + Sync, W: Write>(
+fn share_script<T: Threads + Wait + Sync, K: Sink>(
     rt: &T,
     alloc: Global,
     cluster: &Cluster,
     script: &[u8],
-    writer: &mut Watched<W>,
+    writer: &mut Watched<K>,
     pick: Pick,
 ) -> Result<Option<Told>, SessionsFault>
     requires { writer.old.failed ≡ false }
-    ensures { WroteOne (ScriptMayGive cluster.now pick
+    ensures { WroteOne K.takes K.fails (ScriptMayGive cluster.now pick
         (commands_of (session_lines_asked cluster.now (map content (raw_lines script.now))))
         (bad_session_line 1 0 (session_lines_asked cluster.now (map content (raw_lines script.now)))))
-        result (W.contents writer.old.inner) (W.contents writer.new.inner) writer.new.failed }
+        (bad_session_line 1 0 (session_lines_asked cluster.now (map content (raw_lines script.now))) ≡ None)
+        result writer.old writer.new }
 {
     match commands_in(alloc, cluster, script)? {
         Script::BadLine(number) => {
@@ -111,18 +110,18 @@ fn share_script<T: Threads + Wait + Sync, W: Write>(
 }
 
 // Writes a history of commands.
-fn share_commands<T: Threads + Wait + Sync, W: Write>(
+fn share_commands<T: Threads + Wait + Sync, K: Sink>(
     rt: &T,
     alloc: Global,
     cluster: &Cluster,
     commands: &[Command],
-    writer: &mut Watched<W>,
+    writer: &mut Watched<K>,
     pick: Pick,
 ) -> Result<Option<Told>, SessionsFault>
     requires writer { writer.old.failed ≡ false }
     requires sessions { All (λ c. IsSession session_limit c.session) commands.now }
-    ensures { WroteOne (ScriptMayGive cluster.now pick commands.now None)
-        result (W.contents writer.old.inner) (W.contents writer.new.inner) writer.new.failed }
+    ensures { WroteOne K.takes K.fails (ScriptMayGive cluster.now pick commands.now None) ⊤
+        result writer.old writer.new }
 {
     let closed = history_of(rt, alloc, cluster, commands, pick)?;
     write_history(alloc, cluster, &closed, writer)?;

@@ -1,6 +1,6 @@
 //! The program `sweep`: plans are tried from the simulation behind a base, by several workers.
 
-ghost use Rattle.std.specs.Prelude.{◌≡◌, false, map, OnOk, IfSome, None};
+ghost use Rattle.std.specs.Prelude.{◌≡◌, false, map, OnOk, None};
 ghost use Rattle.std.specs.List.{flat_map};
 ghost use Rattle.rh_trail.specs.Lone.{sim_after};
 ghost use Rattle.rh_sweep.specs.Outcomes.{outcome_of};
@@ -8,11 +8,12 @@ ghost use Rattle.rh_sweep.specs.Sweeping.{AreWorkers};
 ghost use Rattle.rh_script.specs.Lines.{raw_lines, content};
 ghost use Rattle.rh_script.specs.SweepAnswers.{outcome_text, sweep_fault_text};
 ghost use Rattle.rh_script.specs.SweepLines.{sweep_lines_asked, bad_sweep_line, plan_text};
-ghost use Rattle.rh_app.specs.Programs.{ProgramGives};
+ghost use Rattle.rh_app.specs.Programs.{ProgramGives, NoThreads};
 ghost use Rattle.rh_app.specs.RunText.{answers_text, Wrote, Broke};
-ghost use Rattle.rh_app.specs.SweepText.{why_not_swept, plan_outcome, plans_text, plans_end, lines_text, lines_end, sweep_text, sweep_end};
+ghost use Rattle.rh_app.specs.SweepText.{why_not_swept, plan_outcome, plans_text, plans_end, lines_text, lines_end, sweep_text, sweep_end, OwesSweep};
 
-use crate::device::{read_input, write_text};
+use crate::device::{Sink, Source};
+use crate::transfer::{read_input, write_text};
 use crate::fault::{RunFault, Told, WriteFault, ended};
 use crate::running::{answer_bad, answer_call, write_fault};
 use crate::watched::Watched;
@@ -23,7 +24,6 @@ use rh_step::Pick;
 use rh_sweep::{FreeGate, Outcome, Plan, SweepFault, sweep};
 use rh_trail::{Call, Sim};
 use std::alloc::Global;
-use std::io::{Read, Write};
 use std::sync::Wait;
 use std::thread::Threads;
 
@@ -33,26 +33,23 @@ use std::thread::Threads;
 /// The plans are shared among so many workers, each in a thread of its own where one can be made. What is written doesn't
 /// depend on their number. The input has at most 16,777,216 bytes. Neither device is flushed.
 ///
-/// The contract speaks of the bytes of a reader that tells them; of one that doesn't, as standard input, it says nothing.
-///
 /// # Errors
 /// `Cluster` and `BadLine` (a line that is no command, or a line of a plan that is no event) are told alone. `Sweep` is the
 /// end of the text that was written: the base has steps that could be made again, or a plan has more events than the base's
 /// trail has room for. `Read` comes where the reader has failed or the input is too long: nothing was written. `Write` comes
 /// where the writer has failed, and `OutOfMemory` where a growth was refused: a front of the text was written.
-pub fn run_sweep<T: Threads + Wait + Sync, R: Read, W: Write>(
+pub fn run_sweep<T: Threads + Wait + Sync, S: Source, K: Sink>(
     rt: &T,
     alloc: Global,
-    reader: &mut Watched<R>,
-    writer: &mut Watched<W>,
+    reader: &mut Watched<S>,
+    writer: &mut Watched<K>,
     pick: Pick,
     workers: usize,
 ) -> Result<(), RunFault>
     requires reader { reader.old.failed ≡ false }
     requires writer { writer.old.failed ≡ false }
     requires workers { AreWorkers workers }
-    ensures { IfSome (R.remaining reader.old.inner) (λ bytes. ProgramGives result bytes (sweep_text bytes pick) (sweep_end bytes pick)
-        (W.contents writer.old.inner) (W.contents writer.new.inner) reader.new.failed writer.new.failed) }
+    ensures { ProgramGives S.gives S.fails K.takes K.fails (OwesSweep pick) NoThreads result reader.old reader.new writer.old writer.new }
 {
     let input = read_input(alloc, reader)?;
     let told = sweep_input(rt, alloc, input.as_slice(), writer, pick, workers)?;
@@ -61,17 +58,17 @@ pub fn run_sweep<T: Threads + Wait + Sync, R: Read, W: Write>(
 
 // Writes what comes of an input.
 #[tactic(auto, unfolding(crate::specs::SweepText::sweep_text, crate::specs::SweepText::sweep_end))]
-fn sweep_input<T: Threads + Wait + Sync, W: Write>(
+fn sweep_input<T: Threads + Wait + Sync, K: Sink>(
     rt: &T,
     alloc: Global,
     input: &[u8],
-    writer: &mut Watched<W>,
+    writer: &mut Watched<K>,
     pick: Pick,
     workers: usize,
 ) -> Result<Option<Told>, WriteFault>
     requires writer { writer.old.failed ≡ false }
     requires workers { AreWorkers workers }
-    ensures { Wrote result (sweep_text input.now pick) (sweep_end input.now pick) (W.contents writer.old.inner) (W.contents writer.new.inner) writer.new.failed }
+    ensures { Wrote K.takes K.fails result (sweep_text input.now pick) (sweep_end input.now pick) writer.old writer.new }
 {
     let (text, script) = cut(input);
     match read_cluster(alloc, text) {
@@ -87,23 +84,22 @@ fn sweep_input<T: Threads + Wait + Sync, W: Write>(
 }
 
 // Writes what comes of a script.
-fn sweep_script<T: Threads + Wait + Sync, W: Write>(
+fn sweep_script<T: Threads + Wait + Sync, K: Sink>(
     rt: &T,
     alloc: Global,
     cluster: &Cluster,
     script: &[u8],
-    writer: &mut Watched<W>,
+    writer: &mut Watched<K>,
     pick: Pick,
     workers: usize,
 ) -> Result<Option<Told>, WriteFault>
     requires writer { writer.old.failed ≡ false }
     requires workers { AreWorkers workers }
-    ensures { Wrote result
+    ensures { Wrote K.takes K.fails result
         (lines_text cluster.now pick (sweep_lines_asked cluster.now (map content (raw_lines script.now)))
         (bad_sweep_line (sweep_lines_asked cluster.now (map content (raw_lines script.now)))))
         (lines_end cluster.now pick (sweep_lines_asked cluster.now (map content (raw_lines script.now)))
-        (bad_sweep_line (sweep_lines_asked cluster.now (map content (raw_lines script.now)))))
-        (W.contents writer.old.inner) (W.contents writer.new.inner) writer.new.failed }
+        (bad_sweep_line (sweep_lines_asked cluster.now (map content (raw_lines script.now))))) writer.old writer.new }
 {
     match sweep_in(alloc, cluster, script)? {
         SweepScript::BadLine(number) => {
@@ -119,16 +115,16 @@ fn sweep_script<T: Threads + Wait + Sync, W: Write>(
 }
 
 // Writes the answers to calls that are made one after the other.
-fn answer_calls<W: Write>(
+fn answer_calls<K: Sink>(
     alloc: Global,
     cluster: &Cluster,
     sim: &mut Sim,
     calls: &[Call],
-    writer: &mut Watched<W>,
+    writer: &mut Watched<K>,
 ) -> Result<(), WriteFault>
     requires { writer.old.failed ≡ false }
     ensures sim { OnOk result (sim.new.seen ≡ sim_after sim.old.seen calls.now) }
-    ensures text { Broke result (answers_text cluster.now sim.old.seen calls.now) (W.contents writer.old.inner) (W.contents writer.new.inner) writer.new.failed }
+    ensures text { Broke K.takes K.fails result (answers_text cluster.now sim.old.seen calls.now) writer.old writer.new }
 {
     for call in calls {
         answer_call(alloc, cluster, sim, *call, writer)?;
@@ -137,21 +133,20 @@ fn answer_calls<W: Write>(
 }
 
 // Writes what comes of plans from a base.
-fn sweep_plans<T: Threads + Wait + Sync, W: Write>(
+fn sweep_plans<T: Threads + Wait + Sync, K: Sink>(
     rt: &T,
     alloc: Global,
     cluster: &Cluster,
     base: &Sim,
     plans: &[Plan],
-    writer: &mut Watched<W>,
+    writer: &mut Watched<K>,
     workers: usize,
 ) -> Result<Option<Told>, WriteFault>
     requires writer { writer.old.failed ≡ false }
     requires workers { AreWorkers workers }
-    ensures { Wrote result
+    ensures { Wrote K.takes K.fails result
         (plans_text cluster.now base.now.seen (map plan_text plans.now) (why_not_swept base.now.seen (map plan_text plans.now)))
-        (plans_end base.now.seen (map plan_text plans.now))
-        (W.contents writer.old.inner) (W.contents writer.new.inner) writer.new.failed }
+        (plans_end base.now.seen (map plan_text plans.now)) writer.old writer.new }
 {
     match sweep(rt, alloc, base, plans, workers, &FreeGate) {
         Ok(outcomes) => {
@@ -169,17 +164,17 @@ fn sweep_plans<T: Threads + Wait + Sync, W: Write>(
 }
 
 // Writes the outcomes of plans that were tried from a base.
-fn write_outcomes<W: Write>(
+fn write_outcomes<K: Sink>(
     alloc: Global,
     cluster: &Cluster,
     base: &Sim,
     plans: &[Plan],
     outcomes: &[Outcome],
-    writer: &mut Watched<W>,
+    writer: &mut Watched<K>,
 ) -> Result<(), WriteFault>
     requires writer { writer.old.failed ≡ false }
     requires outcomes { outcomes.now ≡ map (outcome_of base.now.seen) plans.now }
-    ensures { Broke result (flat_map (plan_outcome cluster.now base.now.seen) (map plan_text plans.now)) (W.contents writer.old.inner) (W.contents writer.new.inner) writer.new.failed }
+    ensures { Broke K.takes K.fails result (flat_map (plan_outcome cluster.now base.now.seen) (map plan_text plans.now)) writer.old writer.new }
 {
     let _ = base;
     for place in 0..plans.len() {
@@ -189,28 +184,28 @@ fn write_outcomes<W: Write>(
 }
 
 // Writes the outcome of the plan of this name.
-fn write_outcome<W: Write>(
+fn write_outcome<K: Sink>(
     alloc: Global,
     cluster: &Cluster,
     name: &Str,
     outcome: &Outcome,
-    writer: &mut Watched<W>,
+    writer: &mut Watched<K>,
 ) -> Result<(), WriteFault>
     requires { writer.old.failed ≡ false }
-    ensures { Broke result (outcome_text cluster.now name.now outcome.now) (W.contents writer.old.inner) (W.contents writer.new.inner) writer.new.failed }
+    ensures { Broke K.takes K.fails result (outcome_text cluster.now name.now outcome.now) writer.old writer.new }
 {
     let text = outcome_text(alloc, cluster, name, outcome)?;
     write_text(writer, text.as_bytes())
 }
 
 // Writes why there is no sweep.
-fn write_sweep_fault<W: Write>(
+fn write_sweep_fault<K: Sink>(
     alloc: Global,
     fault: SweepFault,
-    writer: &mut Watched<W>,
+    writer: &mut Watched<K>,
 ) -> Result<(), WriteFault>
     requires { writer.old.failed ≡ false }
-    ensures { Broke result (sweep_fault_text fault) (W.contents writer.old.inner) (W.contents writer.new.inner) writer.new.failed }
+    ensures { Broke K.takes K.fails result (sweep_fault_text fault) writer.old writer.new }
 {
     let text = sweep_fault_text(alloc, fault)?;
     write_text(writer, text.as_bytes())

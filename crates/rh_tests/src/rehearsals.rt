@@ -1,12 +1,10 @@
 //! Whole runs over memory, with devices that give or take a little at a time, and devices that fail.
 
 use crate::devices::{Failure, Sink, Source};
-use rh_app::{RunFault, Watched, run};
+use rh_app::{Reader, RunFault, Sink as _, Watched, Writer, run};
 use rh_step::Pick;
 use std::alloc::Global;
-use std::io::Write;
 use std::process::Abort;
-use std::test::Fail;
 
 // Two bare nodes: boot, crash, undo, show, redo, undo all, undo, redo all.
 static TWO_NODES: &str = "\
@@ -54,8 +52,8 @@ pub fn said(ended: Result<(), RunFault>) -> &'static str {
 
 // How a run over these devices ends.
 fn end_of(alloc: Global, source: Source<'_>, sink: &mut Sink) -> &'static str {
-    let mut reader = Watched::new(source);
-    let mut writer = Watched::new(sink);
+    let mut reader = Watched::new(Reader::new(source));
+    let mut writer = Watched::new(Writer::new(sink));
     said(run(alloc, &mut reader, &mut writer, Pick::First))
 }
 
@@ -115,9 +113,9 @@ fn leaves_a_front_after_a_failed_write(rt: HostRuntime) {
 
 // No clause can say that a flush of the wrapper is one of the device.
 #[test]
-fn a_flush_is_the_inner_one(rt: HostRuntime) -> Result<(), Fail> {
+fn a_flush_is_the_inner_one(rt: HostRuntime) {
     let mut sink = Sink::new(rt.alloc());
-    Watched::new(&mut sink).flush()?;
+    let flushed = Watched::new(Writer::new(&mut sink)).flush();
+    assert!(rt; flushed.is_ok());
     assert!(rt; sink.flushes == 1);
-    Ok(())
 }

@@ -8,7 +8,8 @@ ghost use Rattle.rh_trail.specs.SimView.{state_of};
 ghost use Rattle.rh_app.specs.Histories.{entry_text, history_text};
 ghost use Rattle.rh_app.specs.RunText.{Broke};
 
-use crate::device::write_text;
+use crate::device::Sink;
+use crate::transfer::write_text;
 use crate::fault::WriteFault;
 use crate::watched::Watched;
 use rh_base::OutOfMemory;
@@ -18,31 +19,30 @@ use rh_script::{answer_text, command_text};
 use rh_state::State;
 use rh_trail::report;
 use std::alloc::Global;
-use std::io::Write;
 
 /// Writes the entries of a closed room's log, and at last the report of its state.
-pub fn write_history<W: Write>(
+pub fn write_history<K: Sink>(
     alloc: Global,
     cluster: &Cluster,
     closed: &Closed,
-    writer: &mut Watched<W>,
+    writer: &mut Watched<K>,
 ) -> Result<(), WriteFault>
     requires { writer.old.failed ≡ false }
-    ensures { Broke result (history_text cluster.now closed.now.log.items (state_of closed.now.sim.seen)) (W.contents writer.old.inner) (W.contents writer.new.inner) writer.new.failed }
+    ensures { Broke K.takes K.fails result (history_text cluster.now closed.now.log.items (state_of closed.now.sim.seen)) writer.old writer.new }
 {
     write_entries(alloc, cluster, closed.log.as_slice(), writer)?;
     write_final(alloc, closed.sim.state(), writer)
 }
 
 // Writes the entries of a log.
-fn write_entries<W: Write>(
+fn write_entries<K: Sink>(
     alloc: Global,
     cluster: &Cluster,
     log: &[Entry],
-    writer: &mut Watched<W>,
+    writer: &mut Watched<K>,
 ) -> Result<(), WriteFault>
     requires { writer.old.failed ≡ false }
-    ensures { Broke result (flat_map (entry_text cluster.now) log.now) (W.contents writer.old.inner) (W.contents writer.new.inner) writer.new.failed }
+    ensures { Broke K.takes K.fails result (flat_map (entry_text cluster.now) log.now) writer.old writer.new }
 {
     for entry in log {
         write_entry(alloc, cluster, entry, writer)?;
@@ -51,14 +51,14 @@ fn write_entries<W: Write>(
 }
 
 // Writes an entry.
-fn write_entry<W: Write>(
+fn write_entry<K: Sink>(
     alloc: Global,
     cluster: &Cluster,
     entry: &Entry,
-    writer: &mut Watched<W>,
+    writer: &mut Watched<K>,
 ) -> Result<(), WriteFault>
     requires { writer.old.failed ≡ false }
-    ensures { Broke result (entry_text cluster.now entry.now) (W.contents writer.old.inner) (W.contents writer.new.inner) writer.new.failed }
+    ensures { Broke K.takes K.fails result (entry_text cluster.now entry.now) writer.old writer.new }
 {
     let text = entry_text(alloc, cluster, entry)?;
     write_text(writer, text.as_slice())
@@ -79,13 +79,13 @@ fn entry_text(alloc: Global, cluster: &Cluster, entry: &Entry) -> Result<Vec<u8>
 }
 
 // Writes the last state.
-fn write_final<W: Write>(
+fn write_final<K: Sink>(
     alloc: Global,
     state: &State,
-    writer: &mut Watched<W>,
+    writer: &mut Watched<K>,
 ) -> Result<(), WriteFault>
     requires { writer.old.failed ≡ false }
-    ensures { Broke result (codes "final\n" ++ report_text (read state.now)) (W.contents writer.old.inner) (W.contents writer.new.inner) writer.new.failed }
+    ensures { Broke K.takes K.fails result (codes "final\n" ++ report_text (read state.now)) writer.old writer.new }
 {
     let text = final_text(alloc, state)?;
     write_text(writer, text.as_slice())

@@ -7,13 +7,14 @@ use Rattle.rh_app.proofs.running.answer_line.Goals as goal
 
 pub returns-in_err-answer_call-in-Asks : goal.returns-in_err-answer_call-in-Asks
 returns-in_err-answer_call-in-Asks g c = λ lines.
-    let held = g.W.Write.contents in
+    let takes = g.K.Sink.takes in
+    let fails = g.K.Sink.fails in
     let p = err_from_is_err_and c.from_residual-in_err-answer_call-in-Asks.result c.from_residual-in_err-answer_call-in-Asks.ensures.1 in
     let f = c.in_err-answer_call-in-Asks.field-0.0 in
     let asked = sym c.in-Asks.is ∙ c.in_ok-line_of.ensures ∙ ap (line_of c.args.cluster.now) c.content.ensures in
     rw (p.1, p.2)
-    (subst (λ line. Turns (Err f) c.args.cluster.now c.args.sim.now.seen c.answer_call.new.sim.seen c.args.number line lines
-    (held c.args.writer.now.inner) (held c.answer_call.new.writer.inner) c.answer_call.new.writer.failed)
+    (subst (λ line. Turns takes fails (Err f) c.args.cluster.now c.args.sim.now.seen c.answer_call.new.sim.seen c.args.number line lines
+    c.args.writer.now c.answer_call.new.writer)
     asked
-    (call_breaks c.args.cluster.now c.args.sim.now.seen c.answer_call.new.sim.seen c.args.number c.in-Asks.call lines
-    (held c.args.writer.now.inner) (held c.answer_call.new.writer.inner) c.answer_call.new.writer.failed f c.in_err-answer_call-in-Asks.ensures.text))
+    (call_breaks takes fails c.args.cluster.now c.args.sim.now.seen c.answer_call.new.sim.seen c.args.number c.in-Asks.call lines
+    c.args.writer.now c.answer_call.new.writer f c.in_err-answer_call-in-Asks.ensures.text))

@@ -8,50 +8,53 @@ use Rattle.rh_app.proofs.running.answer_lines.Goals as goal
 
 pub returns-in_err-bad : goal.returns-in_err-bad
 returns-in_err-bad g c =
-    let held = g.W.Write.contents in
+    let takes = g.K.Sink.takes in
+    let fails = g.K.Sink.fails in
     let c' = c.args.cluster.now in
     let asked = λ (ls : List (List ℕ)). lines_asked c' (map content ls) in
     let tail = asked (raw_lines c.split_line.result.1.now) in
     let p = err_from_is_err_and c.from_residual.result c.from_residual.ensures.1 in
     rw (p.1, p.2)
-    (ends_here c' c.args.sim.now.seen c.lines.sim.seen c.answer_line.new.sim.seen c.lines.number (asked (raw_lines c.args.script.now))
+    (ends_here takes fails c' c.args.sim.now.seen c.lines.sim.seen c.answer_line.new.sim.seen c.lines.number (asked (raw_lines c.args.script.now))
     (asked (raw_lines c.lines.rest.now)) tail
-    (line_of c' (content c.split_line.result.0.now)) (held c.args.writer.now.inner) (held c.lines.writer.inner) (held c.answer_line.new.writer.inner)
-    c.lines.invariant.text.0 c.answer_line.new.writer.failed (ap asked c.split_line.ensures.line) c.lines.invariant.text.1 c.lines.invariant.text.2
+    (line_of c' (content c.split_line.result.0.now)) c.args.writer.now c.lines.writer c.answer_line.new.writer
+    c.lines.invariant.text.0 (ap asked c.split_line.ensures.line) c.lines.invariant.text.1 c.lines.invariant.text.2
     c.lines.invariant.fault
     (Err c.in_err-bad.field-0.0) (c.in_err-bad.ensures tail))
 
 pub returns-in-Some : goal.returns-in-Some
 returns-in-Some g c =
-    let held = g.W.Write.contents in
+    let takes = g.K.Sink.takes in
+    let fails = g.K.Sink.fails in
     let c' = c.args.cluster.now in
     let asked = λ (ls : List (List ℕ)). lines_asked c' (map content ls) in
     let tail = asked (raw_lines c.split_line.result.1.now) in
     let turn = rw c.in-Some.is at (c.in_ok-bad.ensures tail) in
-    ends_here c' c.args.sim.now.seen c.lines.sim.seen c.answer_line.new.sim.seen c.lines.number (asked (raw_lines c.args.script.now))
+    ends_here takes fails c' c.args.sim.now.seen c.lines.sim.seen c.answer_line.new.sim.seen c.lines.number (asked (raw_lines c.args.script.now))
     (asked (raw_lines c.lines.rest.now)) tail
-    (line_of c' (content c.split_line.result.0.now)) (held c.args.writer.now.inner) (held c.lines.writer.inner) (held c.answer_line.new.writer.inner)
-    c.lines.invariant.text.0 c.answer_line.new.writer.failed (ap asked c.split_line.ensures.line) c.lines.invariant.text.1 c.lines.invariant.text.2
+    (line_of c' (content c.split_line.result.0.now)) c.args.writer.now c.lines.writer c.answer_line.new.writer
+    c.lines.invariant.text.0 (ap asked c.split_line.ensures.line) c.lines.invariant.text.1 c.lines.invariant.text.2
     c.lines.invariant.fault
     (Ok (Some c.in-Some.bad)) turn
 
 pub lines-preserved : goal.lines-preserved
 lines-preserved g c =
-    let held = g.W.Write.contents in
+    let takes = g.K.Sink.takes in
+    let fails = g.K.Sink.fails in
     let c' = c.args.cluster.now in
     let asked = λ (ls : List (List ℕ)). lines_asked c' (map content ls) in
     let tail = asked (raw_lines c.split_line.result.1.now) in
     let turn = rw c.in-None.is at (c.in_ok-bad.ensures tail) in
     record {
-      text = text_goes_on c' c.args.sim.now.seen c.lines.sim.seen c.answer_line.new.sim.seen c.lines.number (asked (raw_lines c.args.script.now))
+      text = text_goes_on takes fails c' c.args.sim.now.seen c.lines.sim.seen c.answer_line.new.sim.seen c.lines.number (asked (raw_lines c.args.script.now))
           (asked (raw_lines c.lines.rest.now)) tail
-          (line_of c' (content c.split_line.result.0.now)) (held c.args.writer.now.inner) (held c.lines.writer.inner) (held c.answer_line.new.writer.inner)
-          c.lines.invariant.text.0 c.answer_line.new.writer.failed
+          (line_of c' (content c.split_line.result.0.now)) c.args.writer.now c.lines.writer c.answer_line.new.writer
+          c.lines.invariant.text.0
           (ap asked c.split_line.ensures.line) c.lines.invariant.text.1 c.lines.invariant.text.2 c.lines.invariant.fault turn;
-      fault = bad_goes_on c' c.args.sim.now.seen c.lines.sim.seen c.answer_line.new.sim.seen c.lines.number (asked (raw_lines c.args.script.now))
+      fault = bad_goes_on takes fails c' c.args.sim.now.seen c.lines.sim.seen c.answer_line.new.sim.seen c.lines.number (asked (raw_lines c.args.script.now))
           (asked (raw_lines c.lines.rest.now)) tail
-          (line_of c' (content c.split_line.result.0.now)) (held c.args.writer.now.inner) (held c.lines.writer.inner) (held c.answer_line.new.writer.inner)
-          c.lines.invariant.text.0 c.answer_line.new.writer.failed
+          (line_of c' (content c.split_line.result.0.now)) c.args.writer.now c.lines.writer c.answer_line.new.writer
+          c.lines.invariant.text.0
           (ap asked c.split_line.ensures.line) c.lines.invariant.text.1 c.lines.invariant.text.2 c.lines.invariant.fault turn;
       watch = turn.4;
       count = omega (arith, c.lines.invariant.count, c.split_line.ensures.shorter);

@@ -1,12 +1,12 @@
 use Rattle.std.proofs.Common.{◌≡◌, ◌≤◌, ◌+◌, ◌++◌, List, ℕ, length, map, false}
-use Rattle.std.specs.Io.KnownBytes.{Appends}
+use Rattle.rh_app.specs.Devices.{Passed}
 use Rattle.rh_script.specs.Lines.{raw_lines, content}
 use Rattle.rh_app.specs.RunText.{script_text, bad_line, lines_asked}
 use Rattle.rh_app.proofs.running.answer_lines.Given as goal
 
 abbrev pub invariant-lines : goal.invariant-lines
 invariant-lines g l = record {
-  text : (done : List ℕ) × Appends (g.W.Write.contents l.fn.writer.inner) (g.W.Write.contents l.writer.inner) done
+  text : (done : List ℕ) × Passed g.K.Sink.takes l.fn.writer.inner l.writer.inner done
       × (script_text l.cluster l.fn.sim.seen 1 (lines_asked l.cluster (map content (raw_lines l.script)))
       ≡ done ++ script_text l.cluster l.sim.seen l.number (lines_asked l.cluster (map content (raw_lines l.rest))));
   fault : bad_line 1 (lines_asked l.cluster (map content (raw_lines l.script))) ≡ bad_line l.number (lines_asked l.cluster (map content (raw_lines l.rest)));

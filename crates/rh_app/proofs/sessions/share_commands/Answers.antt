@@ -9,8 +9,8 @@ pub returns-in_err-closed : goal.returns-in_err-closed
 returns-in_err-closed g c =
     let p = err_from_is_err_and c.from_residual.result c.from_residual.ensures.1 in
     rw (p.1, p.2)
-    (history_fails c.args.cluster.now c.args.pick c.args.commands.now c.in_err-closed.field-0.0 (g.W.Write.contents c.args.writer.now.inner)
-    c.args.writer.now.failed)
+    (history_fails g.K.Sink.takes g.K.Sink.fails c.args.cluster.now c.args.pick c.args.commands.now c.in_err-closed.field-0.0 c.args.writer.now
+    c.requires.writer)
 
 -- the history that was made is one of those that may be told
 pub returns-in_err-write_history : goal.returns-in_err-write_history

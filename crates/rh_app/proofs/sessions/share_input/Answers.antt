@@ -9,7 +9,7 @@ use Rattle.rh_app.proofs.sessions.share_input.Goals as goal
 
 pub returns-then-is_memory : goal.returns-then-is_memory
 returns-then-is_memory g c =
-    starved (MayGive c.args.input.now c.args.pick) (g.W.Write.contents c.args.writer.now.inner) c.args.writer.now.failed
+    starved g.K.Sink.takes g.K.Sink.fails (MayGive c.args.pick c.args.input.now) c.args.writer.now c.requires
     (some_given c.args.input.now c.args.pick)
 
 pub returns-in_err-write_fault-in-Err : goal.returns-in_err-write_fault-in-Err

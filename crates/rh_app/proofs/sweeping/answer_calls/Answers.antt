@@ -8,7 +8,8 @@ use Rattle.rh_app.proofs.sweeping.answer_calls.Goals as goal
 
 pub loop-call-preserved : goal.loop-call-preserved
 loop-call-preserved g c =
-    let held = g.W.Write.contents in
+    let takes = g.K.Sink.takes in
+    let fails = g.K.Sink.fails in
     let calls = c.args.calls.now in
     let i = c.loop-call.call-index in
     let first = Step (Boot (numbered 0)) in
@@ -18,14 +19,15 @@ loop-call-preserved g c =
       sim = sim_goes_on c.args.cluster.now c.args.sim.now.seen c.loop-call.sim.seen c.answer_call.new.sim.seen calls i (get_or calls i first) at
           c.in_ok-answer_call.ensures.sim before.sim;
       text = answers_go_on c.args.cluster.now c.args.sim.now.seen c.loop-call.sim.seen c.answer_call.new.sim.seen calls i (get_or calls i first) at
-          c.in_ok-answer_call.ensures.sim (held c.args.writer.now.inner) (held c.loop-call.writer.inner) (held c.answer_call.new.writer.inner)
-          before.text.0 c.answer_call.new.writer.failed before.text.1 before.text.2 c.in_ok-answer_call.ensures.text;
+          c.in_ok-answer_call.ensures.sim takes fails c.args.writer.now c.loop-call.writer c.answer_call.new.writer
+          before.text.0 before.text.1 before.text.2 c.in_ok-answer_call.ensures.text;
       watch = c.in_ok-answer_call.ensures.text.1;
     }
 
 pub returns-in_err-answer_call-clause-text : goal.returns-in_err-answer_call-clause-text
 returns-in_err-answer_call-clause-text g c =
-    let held = g.W.Write.contents in
+    let takes = g.K.Sink.takes in
+    let fails = g.K.Sink.fails in
     let calls = c.args.calls.now in
     let i = c.loop-call.call-index in
     let first = Step (Boot (numbered 0)) in
@@ -33,5 +35,5 @@ returns-in_err-answer_call-clause-text g c =
     let p = err_from_is_err_and c.from_residual.result c.from_residual.ensures.1 in
     rw (p.1, p.2)
     (answer_breaks c.args.cluster.now c.args.sim.now.seen c.loop-call.sim.seen calls i (get_or calls i first) (next_call calls i first (omega arith))
-    (held c.args.writer.now.inner) (held c.loop-call.writer.inner) (held c.answer_call.new.writer.inner) before.text.0 c.answer_call.new.writer.failed
+    takes fails c.args.writer.now c.loop-call.writer c.answer_call.new.writer before.text.0
     before.text.1 before.text.2 c.in_err-answer_call.field-0.0 c.in_err-answer_call.ensures.text)

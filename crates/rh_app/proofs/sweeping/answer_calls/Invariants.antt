@@ -1,5 +1,5 @@
 use Rattle.std.proofs.Common.{◌≡◌, ◌++◌, List, ℕ, drop, false}
-use Rattle.std.specs.Io.KnownBytes.{Appends}
+use Rattle.rh_app.specs.Devices.{Passed}
 use Rattle.rh_trail.specs.Lone.{sim_after}
 use Rattle.rh_app.specs.RunText.{answers_text}
 use Rattle.rh_app.proofs.sweeping.answer_calls.Given as goal
@@ -7,7 +7,7 @@ use Rattle.rh_app.proofs.sweeping.answer_calls.Given as goal
 abbrev pub invariant-loop-call : goal.invariant-loop-call
 invariant-loop-call g l = record {
   sim : sim_after l.fn.sim.seen l.calls ≡ sim_after l.sim.seen (drop l.call-index l.calls);
-  text : (done : List ℕ) × Appends (g.W.Write.contents l.fn.writer.inner) (g.W.Write.contents l.writer.inner) done
+  text : (done : List ℕ) × Passed g.K.Sink.takes l.fn.writer.inner l.writer.inner done
       × (answers_text l.cluster l.fn.sim.seen l.calls ≡ done ++ answers_text l.cluster l.sim.seen (drop l.call-index l.calls));
   watch : l.writer.failed ≡ false;
 }

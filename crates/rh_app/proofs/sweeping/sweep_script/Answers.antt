@@ -5,7 +5,7 @@ use Rattle.rh_trail.specs.Lone.{opened}
 use Rattle.rh_script.specs.Lines.{raw_lines, content}
 use Rattle.rh_script.specs.SweepLines.{sweep_lines_asked, bad_sweep_line, plan_text}
 use Rattle.rh_app.specs.SweepText.{lines_text}
-use Rattle.rh_app.proofs.Bytes.{nothing_yet}
+use Rattle.rh_app.proofs.Passing.{nothing_yet}
 use Rattle.rh_app.proofs.Sweeps.{base_breaks, plans_behind}
 use Rattle.rh_app.proofs.sweeping.sweep_script.Goals as goal
 
@@ -13,11 +13,14 @@ pub returns-in_err-number : goal.returns-in_err-number
 returns-in_err-number g c =
     let asked = sweep_lines_asked c.args.cluster.now (map content (raw_lines c.args.script.now)) in
     let p = err_from_is_err_and c.from_residual.result c.from_residual.ensures.1 in
-    rw (p.1, p.2) (nothing_yet (g.W.Write.contents c.args.writer.now.inner) (lines_text c.args.cluster.now c.args.pick asked (bad_sweep_line asked)))
+    let takes = g.K.Sink.takes in
+    let fails = g.K.Sink.fails in
+    rw (p.1, p.2) (nothing_yet takes fails c.args.writer.now.inner (lines_text c.args.cluster.now c.args.pick asked (bad_sweep_line asked)), c.requires.writer)
 
 pub returns-in_err-answer_calls-in-Sweep : goal.returns-in_err-answer_calls-in-Sweep
 returns-in_err-answer_calls-in-Sweep g c =
-    let held = g.W.Write.contents in
+    let takes = g.K.Sink.takes in
+    let fails = g.K.Sink.fails in
     let cluster = c.args.cluster.now in
     let asked = sweep_lines_asked cluster (map content (raw_lines c.args.script.now)) in
     let read = rw c.in-Sweep.is at c.in_ok-number.ensures in
@@ -25,18 +28,18 @@ returns-in_err-answer_calls-in-Sweep g c =
     let p = err_from_is_err_and c.from_residual-in_err-answer_calls-in-Sweep.result c.from_residual-in_err-answer_calls-in-Sweep.ensures.1 in
     rw (p.1, p.2)
     (base_breaks cluster c.args.pick asked (bad_sweep_line asked) c.in_ok-sim-in-Sweep.sim.seen _ c.as_slice.result.now (map plan_text c.in-Sweep.plans.items)
-    read.0 opens (c.as_slice.ensures.value ∙ read.1) read.2 refl c.in_err-answer_calls-in-Sweep.field-0.0
-    (held c.args.writer.now.inner) (held c.answer_calls.new.writer.inner) c.answer_calls.new.writer.failed c.in_err-answer_calls-in-Sweep.ensures.text)
+    read.0 opens (c.as_slice.ensures.value ∙ read.1) read.2 refl takes fails c.in_err-answer_calls-in-Sweep.field-0.0
+    c.args.writer.now c.answer_calls.new.writer c.in_err-answer_calls-in-Sweep.ensures.text)
 
 pub returns-in_ok-answer_calls-in-Sweep : goal.returns-in_ok-answer_calls-in-Sweep
 returns-in_ok-answer_calls-in-Sweep g c =
-    let held = g.W.Write.contents in
+    let takes = g.K.Sink.takes in
+    let fails = g.K.Sink.fails in
     let cluster = c.args.cluster.now in
     let asked = sweep_lines_asked cluster (map content (raw_lines c.args.script.now)) in
     let read = rw c.in-Sweep.is at c.in_ok-number.ensures in
     let opens = c.in_ok-sim-in-Sweep.ensures.seen ∙ ap (λ (v : ClusterView). opened v c.args.pick) c.in_ok-copy-in-Sweep.ensures in
     plans_behind cluster c.args.pick asked (bad_sweep_line asked) c.in_ok-sim-in-Sweep.sim.seen _ c.as_slice.result.now
     (map plan_text c.as_slice-in-Sweep.result.now)
-    read.0 opens (c.as_slice.ensures.value ∙ read.1) (ap (map plan_text) c.as_slice-in-Sweep.ensures.value ∙ read.2) c.in_ok-answer_calls-in-Sweep.ensures.sim
-    c.sweep_plans.result (held c.args.writer.now.inner) (held c.answer_calls.new.writer.inner) (held c.sweep_plans.new.writer.inner)
-    c.sweep_plans.new.writer.failed c.in_ok-answer_calls-in-Sweep.ensures.text.0 c.sweep_plans.ensures
+    read.0 opens (c.as_slice.ensures.value ∙ read.1) (ap (map plan_text) c.as_slice-in-Sweep.ensures.value ∙ read.2) c.in_ok-answer_calls-in-Sweep.ensures.sim takes fails
+    c.sweep_plans.result c.args.writer.now c.answer_calls.new.writer c.sweep_plans.new.writer c.in_ok-answer_calls-in-Sweep.ensures.text.0 c.sweep_plans.ensures

@@ -1,5 +1,5 @@
 use Rattle.std.proofs.Common.{◌≡◌, take, false, map}
-use Rattle.std.specs.Io.KnownBytes.{Appends}
+use Rattle.rh_app.specs.Devices.{Passed}
 use Rattle.std.specs.List.{flat_map}
 use Rattle.rh_script.specs.SweepLines.{plan_text}
 use Rattle.rh_app.specs.SweepText.{plan_outcome}
@@ -7,7 +7,7 @@ use Rattle.rh_app.proofs.sweeping.write_outcomes.Given as goal
 
 abbrev pub invariant-loop-place : goal.invariant-loop-place
 invariant-loop-place g l = record {
-  written : Appends (g.W.Write.contents l.fn.writer.inner) (g.W.Write.contents l.writer.inner)
+  written : Passed g.K.Sink.takes l.fn.writer.inner l.writer.inner
       (flat_map (plan_outcome l.cluster l.base.seen) (map plan_text (take l.place l.plans)));
   watch : l.writer.failed ≡ false;
 }

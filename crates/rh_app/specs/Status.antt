@@ -1,0 +1,66 @@
+-- The exit status, and what it says (ours).
+use Rattle.std.specs.Prelude.{◌≡◌, ◌⊎◌, ℕ, List, Bool, true, false, Option, Some, None, Result, Ok, Err}
+use Rattle.rh_sweep.specs.Sweeping.{AreWorkers}
+use Rattle.rh_app.specs.declared.fault.RunFault.{RunFault}
+use Rattle.rh_app.specs.declared.fault.RunFault.TheVariants as end
+use Rattle.rh_app.specs.declared.fault.Told.{Told}
+use Rattle.rh_app.specs.declared.status.Program.{Program}
+use Rattle.rh_app.specs.declared.status.Program.TheVariants.{Check, Run, Sessions, Sweep}
+use Rattle.rh_app.specs.declared.watched.Watched.{Watched}
+use Rattle.rh_app.specs.Devices.{Passed}
+use Rattle.rh_app.specs.Programs.{Owing, IsInput, ProgramGives, NoThreads}
+use Rattle.rh_app.specs.CheckText.{OwesCheck}
+use Rattle.rh_app.specs.RunText.{OwesRun}
+use Rattle.rh_app.specs.Sessions.{MayGive, AskHistory}
+use Rattle.rh_app.specs.SweepText.{OwesSweep}
+
+-- what a program owes
+abbrev pub Owes : Program → List ℕ → List ℕ → Option Told → Type 0
+Owes Check = OwesCheck
+Owes (Run pick) = OwesRun pick
+Owes (Sessions pick) = MayGive pick
+Owes (Sweep pick workers) = OwesSweep pick
+
+-- for which inputs its threads may make no one history
+abbrev pub MayTear : Program → List ℕ → Type 0
+MayTear Check = NoThreads
+MayTear (Run pick) = NoThreads
+MayTear (Sessions pick) = AskHistory
+MayTear (Sweep pick workers) = NoThreads
+
+-- a sweep has a number of workers that there may be
+abbrev pub IsStaffed : Program → Type 0
+IsStaffed (Sweep pick workers) = AreWorkers workers
+IsStaffed program = Unit {0}
+
+-- the exit status for how a program ended
+abbrev pub status_of : Result (Unit {0}) RunFault → ℕ
+status_of (Ok x) = 0
+status_of (Err (end.Cluster f)) = 2
+status_of (Err (end.BadLine k)) = 3
+status_of (Err end.Read) = 4
+status_of (Err end.Write) = 4
+status_of (Err end.OutOfMemory) = 5
+status_of (Err (end.Sweep f)) = 6
+status_of (Err end.Room) = 6
+
+-- at last the writer was flushed; or that failed, which is status 4
+abbrev pub Flushed : {K : Type 0} → (K → K → Type 0) → (K → K → Type 0) → Watched K → Watched K → ℕ → Result (Unit {0}) RunFault → Type 0
+Flushed flushes fails before after status ended =
+    (flushes before.inner after.inner × (after.failed ≡ before.failed) × (status ≡ status_of ended))
+    ⊎ (fails before.inner after.inner × (after.failed ≡ true) × (status ≡ 4))
+
+-- the program ended, and then the writer was flushed
+abbrev pub StatusGives : {S K : Type 0} → (S → S → List ℕ → Type 0) → (S → S → Type 0) → (K → K → List ℕ → Type 0) → (K → K → Type 0) → (K → K → Type 0)
+    → Program → ℕ → Watched S → Watched S → Watched K → Watched K → Type 0
+StatusGives {S = S} {K = K} gives unread takes flushes unwritten program status old new before after =
+    (ended : Result (Unit {0}) RunFault) × (written : Watched K)
+    × ProgramGives gives unread takes unwritten (Owes program) (MayTear program) ended old new before written
+    × Flushed flushes unwritten written after status ended
+
+-- what status 0 says: the writer took the whole text of all that the reader gave, which tells no fault, and was flushed behind it
+abbrev pub IsDone : {S K : Type 0} → (S → S → List ℕ → Type 0) → (K → K → List ℕ → Type 0) → (K → K → Type 0)
+    → Program → Watched S → Watched S → Watched K → Watched K → Type 0
+IsDone {S = S} {K = K} gives takes flushes program old new before after =
+    (bytes : List ℕ) × (text : List ℕ) × (written : K) × IsInput gives old new bytes × Owes program bytes text None
+    × Passed takes before.inner written text × flushes written after.inner × (after.failed ≡ false)

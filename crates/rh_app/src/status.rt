@@ -1,0 +1,90 @@
+//! A program from its devices to the exit status.
+
+ghost use Rattle.std.specs.Prelude.{◌≡◌, false};
+ghost use Rattle.rh_app.specs.Programs.{ProgramGives};
+ghost use Rattle.rh_app.specs.Status.{Owes, MayTear, IsStaffed, IsDone, StatusGives, status_of};
+
+use crate::checking::run_check;
+use crate::device::{Sink, Source};
+use crate::fault::RunFault;
+use crate::running::run;
+use crate::sessions::run_sessions;
+use crate::sweeping::run_sweep;
+use crate::watched::Watched;
+use rh_step::Pick;
+use std::alloc::Global;
+use std::sync::Wait;
+use std::thread::Threads;
+
+/// What is done with the input.
+#[derive(Clone, Copy)]
+pub enum Program {
+    /// The cluster file is read, and that is all.
+    Check,
+    /// The commands of a script are answered.
+    Run(Pick),
+    /// Sessions share a cluster.
+    Sessions(Pick),
+    /// Plans are tried, by so many workers.
+    Sweep(Pick, usize),
+}
+
+/// Runs a program over its devices, flushes the writer, however it ended, and answers the exit status.
+///
+/// 0 says that the whole text of all that was read was written and flushed, and tells no fault. 2 is a text that describes no
+/// cluster, 3 a bad line, 4 a device that failed or an input that is too long, 5 want of memory, 6 plans that can't be swept, or
+/// sessions whose threads made no one history.
+pub fn rehearse<T: Threads + Wait + Sync, S: Source, K: Sink>(
+    rt: &T,
+    alloc: Global,
+    program: Program,
+    reader: &mut Watched<S>,
+    writer: &mut Watched<K>,
+) -> u8
+    requires reader { reader.old.failed ≡ false }
+    requires writer { writer.old.failed ≡ false }
+    requires workers { IsStaffed program }
+    ensures ends { StatusGives S.gives S.fails K.takes K.flushes K.fails program result reader.old reader.new writer.old writer.new }
+    ensures done { result ≡ 0 → IsDone S.gives K.takes K.flushes program reader.old reader.new writer.old writer.new }
+{
+    let ended = started(rt, alloc, program, reader, writer);
+    match writer.flush() {
+        Ok(()) => status_of(&ended),
+        Err(_) => 4,
+    }
+}
+
+// Runs a program over its devices.
+fn started<T: Threads + Wait + Sync, S: Source, K: Sink>(
+    rt: &T,
+    alloc: Global,
+    program: Program,
+    reader: &mut Watched<S>,
+    writer: &mut Watched<K>,
+) -> Result<(), RunFault>
+    requires reader { reader.old.failed ≡ false }
+    requires writer { writer.old.failed ≡ false }
+    requires workers { IsStaffed program }
+    ensures { ProgramGives S.gives S.fails K.takes K.fails (Owes program) (MayTear program) result reader.old reader.new writer.old writer.new }
+{
+    match program {
+        Program::Check => run_check(alloc, reader, writer),
+        Program::Run(pick) => run(alloc, reader, writer, pick),
+        Program::Sessions(pick) => run_sessions(rt, alloc, reader, writer, pick),
+        Program::Sweep(pick, workers) => run_sweep(rt, alloc, reader, writer, pick, workers),
+    }
+}
+
+// The exit status for how a program ended.
+fn status_of(ended: &Result<(), RunFault>) -> u8
+    ensures { result ≡ status_of ended.now }
+{
+    match ended {
+        Ok(()) => 0,
+        Err(RunFault::Cluster(_)) => 2,
+        Err(RunFault::BadLine(_)) => 3,
+        Err(RunFault::Read | RunFault::Write) => 4,
+        Err(RunFault::OutOfMemory) => 5,
+        Err(RunFault::Sweep(_) | RunFault::Room) => 6,
+    }
+}
