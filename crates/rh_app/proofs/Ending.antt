@@ -1,15 +1,19 @@
 -- How a program ends, by what became of its parts.
-use Rattle.std.proofs.Common.{◌≡◌, ◌≤◌, ◌⊎◌, ℕ, List, length, Bool, false, Option, Some, None, Result, Ok, Err, inl, inr, refl}
+use Rattle.std.proofs.Common.{◌≡◌, ◌≤◌, ◌⊎◌, ℕ, List, length, Bool, false, Option, Some, None, Result, Ok, Err, inl, inr, refl, subst}
 use Rattle.rh_app.specs.declared.fault.ReadFault.{ReadFault}
 use Rattle.rh_app.specs.declared.fault.ReadFault.TheVariants as reading
 use Rattle.rh_app.specs.declared.fault.WriteFault.{WriteFault}
 use Rattle.rh_app.specs.declared.fault.WriteFault.TheVariants as writing
 use Rattle.rh_app.specs.declared.fault.Told.{Told}
 use Rattle.rh_app.specs.declared.fault.Told.TheVariants as told
+use Rattle.rh_app.specs.declared.fault.SessionsFault.{SessionsFault}
+use Rattle.rh_app.specs.declared.fault.SessionsFault.TheVariants as sessions
 use Rattle.rh_app.specs.declared.watched.Watched.{Watched}
 use Rattle.rh_app.specs.Devices.{Passed, WhyUnread, WroteFront}
-use Rattle.rh_app.specs.Faults.{ended, reading_fault, writing_fault}
+use Rattle.rh_app.specs.Faults.{ended, reading_fault, writing_fault, sessions_fault}
 use Rattle.rh_app.specs.Programs.{IsInput, Owing, Answers, IsWritten, ProgramGives}
+use Rattle.rh_app.specs.RunText.{Wrote}
+use Rattle.rh_app.specs.Sessions.{OneWritten, WroteOne}
 
 module _ {S K : Type 0} (gives : S → S → List ℕ → Type 0) (unread : S → S → Type 0) (takes : K → K → List ℕ → Type 0) (unwritten : K → K → Type 0)
     (owes : Owing) (torn : List ℕ → Type 0) (old new : Watched S) where
@@ -36,3 +40,16 @@ module _ {S K : Type 0} (gives : S → S → List ℕ → Type 0) (unread : S �
   is_written (Some (told.Cluster f)) bytes text before after input is wrote = (text, Some (told.Cluster f), (bytes, input, is), wrote, refl)
   is_written (Some (told.BadLine k)) bytes text before after input is wrote = (text, Some (told.BadLine k), (bytes, input, is), wrote, refl)
   is_written (Some (told.Sweep f)) bytes text before after input is wrote = (text, Some (told.Sweep f), (bytes, input, is), wrote, refl)
+
+  -- the text was one of several
+  pub not_shared : (f : SessionsFault) (bytes : List ℕ) (before after : Watched K)
+      → IsInput gives old new bytes → WroteOne takes unwritten (owes bytes) (torn bytes) (Err f) before after
+      → ProgramGives gives unread takes unwritten owes torn (Err (sessions_fault f)) old new before after
+  not_shared sessions.Room bytes before after input wrote = (bytes, input, wrote.0, wrote.1)
+  not_shared (sessions.Write f) bytes before after input wrote = not_written f bytes wrote.0 wrote.1 before after input wrote.2 wrote.3
+
+  pub is_shared : (owed : Option Told) (bytes : List ℕ) (before after : Watched K)
+      → IsInput gives old new bytes → OneWritten takes unwritten (owes bytes) (Ok owed) before after
+      → ProgramGives gives unread takes unwritten owes torn (ended owed) old new before after
+  is_shared owed bytes before after input wrote =
+      is_written owed bytes wrote.0 before after input (subst (λ o. owes bytes wrote.0 o) wrote.3.0 wrote.2) (wrote.3.1, wrote.3.2)

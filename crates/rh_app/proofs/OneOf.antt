@@ -17,12 +17,13 @@ use Rattle.rh_app.specs.declared.fault.WriteFault.{WriteFault}
 use Rattle.rh_app.specs.declared.fault.WriteFault.TheVariants as writing
 use Rattle.rh_app.specs.declared.fault.HistoryFault.{HistoryFault}
 use Rattle.rh_app.specs.declared.fault.HistoryFault.TheVariants as history
+use Rattle.rh_app.specs.declared.fault.SessionsFault.{SessionsFault}
 use Rattle.rh_app.specs.declared.fault.SessionsFault.TheVariants as sessions
 use Rattle.rh_app.specs.declared.watched.Watched.{Watched}
 use Rattle.rh_app.specs.Faults.{history_fault}
-use Rattle.rh_app.specs.Devices.{WroteFront}
+use Rattle.rh_app.specs.Devices.{Passed, WroteFront}
 use Rattle.rh_app.specs.Histories.{session_lines_asked, commands_of, bad_session_line, asked, by_session, IsHistory, history_text, last_state}
-use Rattle.rh_app.specs.Sessions.{ScriptMayGive, MayGiveOver, MayGive, OneWritten, WroteOne}
+use Rattle.rh_app.specs.Sessions.{ScriptMayGive, MayGiveOver, MayGive, AskOver, AskHistory, OneWritten, WroteOne}
 use Rattle.rh_app.proofs.Passing.{nothing_yet}
 
 -- ---- there is a history, and so a text
@@ -92,3 +93,30 @@ module _ {K : Type 0} (takes : K → K → List ℕ → Type 0) (fails : K → K
   bad_breaks c pick commands bad torn k old new is f h =
       subst (λ b. WroteOne takes fails (ScriptMayGive c pick commands b) torn (Err (sessions.Write f)) old new) (sym is)
       (bad_text k, Some (told.BadLine k), (refl, refl), h)
+
+  -- it was told whole
+  pub bad_told : (c : ClusterView) (pick : Pick) (commands : List Command) (bad : Option ℕ) (torn : Type 0) (k : ℕ) (old new : Watched K) → bad ≡ Some k
+      → Passed takes old.inner new.inner (bad_text k) → new.failed ≡ false
+      → WroteOne takes fails (ScriptMayGive c pick commands bad) torn (Ok (Some (told.BadLine k))) old new
+  bad_told c pick commands bad torn k old new is p q =
+      subst (λ b. WroteOne takes fails (ScriptMayGive c pick commands b) torn (Ok (Some (told.BadLine k))) old new) (sym is)
+      (bad_text k, Some (told.BadLine k), (refl, refl), (refl, p, q))
+
+  -- what was written for commands is what was written for the script that has no bad line
+  pub over_commands : (c : ClusterView) (pick : Pick) (commands : List Command) (bad : Option ℕ) (old new : Watched K) → bad ≡ None
+      → (r : Result (Option Told) SessionsFault) → WroteOne takes fails (ScriptMayGive c pick commands None) (Unit {0}) r old new
+      → WroteOne takes fails (ScriptMayGive c pick commands bad) (bad ≡ None) r old new
+  over_commands c pick commands bad old new is (Ok said) h = (h.0, h.1, rw is h.2, h.3)
+  over_commands c pick commands bad old new is (Err (sessions.Write f)) h = (h.0, h.1, rw is h.2, h.3)
+  over_commands c pick commands bad old new is (Err sessions.Room) h = (is, h.1)
+
+  -- what was written for a script is what was written for the bytes of which it is part
+  pub over_script : (bytes : List ℕ) (pick : Pick) (c : ClusterView) (lines : List (List ℕ)) (old new : Watched K) → cluster_of (cluster_text bytes) ≡ Ok c
+      → lines ≡ script_lines bytes → (r : Result (Option Told) SessionsFault)
+      → WroteOne takes fails (ScriptMayGive c pick (commands_of (session_lines_asked c lines)) (bad_session_line 1 0 (session_lines_asked c lines)))
+      (bad_session_line 1 0 (session_lines_asked c lines) ≡ None) r old new
+      → WroteOne takes fails (MayGive pick bytes) (AskHistory bytes) r old new
+  unfolding MayGive AskHistory
+  over_script bytes pick c lines old new read cut (Ok said) h = (h.0, h.1, rw (read, sym cut) h.2, h.3)
+  over_script bytes pick c lines old new read cut (Err (sessions.Write f)) h = (h.0, h.1, rw (read, sym cut) h.2, h.3)
+  over_script bytes pick c lines old new read cut (Err sessions.Room) h = (rw (read, sym cut) h.0, h.1)

@@ -29,6 +29,12 @@ module _ {X : Type 0} (f : X → List ℕ) (xs : List X) (i : ℕ) (d : X) (at :
       ∙ ap (λ l. l ++ flat_map f (drop (i + 1) xs)) next_piece
       ∙ append_assoc (flat_map f (take i xs)) (f (get_or xs i d)) (flat_map f (drop (i + 1) xs))
 
+  pub goes_on : {K : Type 0} (takes : K → K → List ℕ → Type 0) → d ≡ get_or xs i d → (a b c : Watched K)
+      → Passed takes a.inner b.inner (flat_map f (take i xs)) → Passed takes b.inner c.inner (f d) → Passed takes a.inner c.inner (flat_map f (take (i + 1) xs))
+  goes_on takes is a b c p q =
+      let here = subst (λ x. Passed takes b.inner c.inner (f x)) is q in
+      rw next_piece (passed_more takes a.inner b.inner c.inner (flat_map f (take i xs)) (f (get_or xs i d)) p here)
+
   pub fails_midway : {K : Type 0} (takes : K → K → List ℕ → Type 0) (fails : K → K → Type 0) → d ≡ get_or xs i d
       → (f' : WriteFault) (a b c : Watched K) → Passed takes a.inner b.inner (flat_map f (take i xs)) → WroteFront takes fails f' (f d) b c
       → WroteFront takes fails f' (flat_map f xs) a c

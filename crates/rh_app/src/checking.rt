@@ -7,9 +7,9 @@ ghost use Rattle.rh_app.specs.Programs.{ProgramGives, NoThreads};
 ghost use Rattle.rh_app.specs.RunText.{Wrote, Broke};
 
 use crate::device::{Sink, Source};
-use crate::transfer::{read_input, write_text};
 use crate::fault::{RunFault, Told, WriteFault, ended};
 use crate::running::write_fault;
+use crate::transfer::{read_input, write_text};
 use crate::watched::Watched;
 use rh_base::OutOfMemory;
 use rh_cluster::{Cluster, ClusterFault, read_cluster};

@@ -109,12 +109,20 @@ pub fn run_in_memory(alloc: Global, input: &[u8], pick: Pick) -> Result<InMemory
 {
     let mut reader = Watched::new(Bytes::new(input));
     let mut writer = Watched::new(Text::new(alloc));
-    let end = run(alloc, &mut reader, &mut writer, pick);
-    if let Err(RunFault::OutOfMemory) = end {
-        return Err(OutOfMemory);
-    }
+    let end = unless_memory(run(alloc, &mut reader, &mut writer, pick))?;
     match writer.into_inner().into_bytes() {
         Some(text) => Ok(InMemory { text, end }),
         None => Err(OutOfMemory),
+    }
+}
+
+// How a program ended, unless a growth was refused.
+fn unless_memory(end: Result<(), RunFault>) -> Result<Result<(), RunFault>, OutOfMemory>
+    ensures same { IfOk result (λ told. told ≡ end) }
+    ensures other { IfOk result (λ told. told ≡ Err RunFault.OutOfMemory → ⊥) }
+{
+    match end {
+        Err(RunFault::OutOfMemory) => Err(OutOfMemory),
+        _ => Ok(end),
     }
 }

@@ -10,8 +10,8 @@ ghost use Rattle.rh_app.specs.RunText.{script_text, bad_line, lines_asked, run_t
 ghost use Rattle.rh_app.specs.Programs.{ProgramGives, NoThreads};
 
 use crate::device::{Sink, Source};
-use crate::transfer::{read_input, write_text};
 use crate::fault::{RunFault, Told, WriteFault, ended};
+use crate::transfer::{read_input, write_text};
 use crate::watched::Watched;
 use rh_cluster::{Cluster, ClusterFault, read_cluster};
 use rh_script::{Line, answer_text, bad_text, content, cut, fault_text, line_of, split_line};

@@ -1,6 +1,6 @@
 //! The program `sessions`: several sessions share one cluster, each in a thread of its own.
 
-ghost use Rattle.std.specs.Prelude.{List, ◌≡◌, ◌++◌, false, map, All, OnOk, IfOk, IfErr, None};
+ghost use Rattle.std.specs.Prelude.{⊤, List, ◌≡◌, ◌++◌, false, map, All, OnOk, IfOk, IfErr, None};
 ghost use Rattle.std.specs.List.{flat_map};
 ghost use Rattle.std.specs.String.{string_bytes};
 ghost use Rattle.rh_state.specs.Stored.{read};
@@ -17,12 +17,12 @@ mod history;
 mod threads;
 
 use crate::device::{Sink, Source};
-use crate::transfer::read_input;
 use crate::fault::{RunFault, SessionsFault, Told, WriteFault, ended};
 use crate::running::{answer_bad, write_fault};
 use crate::sessions::commands::{Script, commands_in};
 use crate::sessions::history::write_history;
 use crate::sessions::threads::history_of;
+use crate::transfer::read_input;
 use crate::watched::Watched;
 use rh_cluster::{Cluster, read_cluster};
 use rh_script::{Command, cut};

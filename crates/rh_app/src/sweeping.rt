@@ -13,9 +13,9 @@ ghost use Rattle.rh_app.specs.RunText.{answers_text, Wrote, Broke};
 ghost use Rattle.rh_app.specs.SweepText.{why_not_swept, plan_outcome, plans_text, plans_end, lines_text, lines_end, sweep_text, sweep_end, OwesSweep};
 
 use crate::device::{Sink, Source};
-use crate::transfer::{read_input, write_text};
 use crate::fault::{RunFault, Told, WriteFault, ended};
 use crate::running::{answer_bad, answer_call, write_fault};
+use crate::transfer::{read_input, write_text};
 use crate::watched::Watched;
 use rh_base::Str;
 use rh_cluster::{Cluster, read_cluster};

@@ -20,7 +20,7 @@ pub fn read_input<S: Source>(alloc: Global, reader: &mut Watched<S>) -> Result<V
     ensures bytes { IfOk result (λ input. PassedAll S.gives reader.old.inner reader.new.inner input.items) }
     ensures limit { IfOk result (λ input. length input.items ≤ input_limit) }
     ensures ok { OnOk result (reader.new.failed ≡ false) }
-    ensures why { IfErr result (WhyUnread S.gives S.fails reader.old.inner reader.new.inner reader.new.failed) }
+    ensures why { IfErr result (WhyUnread S.gives S.fails reader.old reader.new) }
 {
     let mut input = Vec::new(alloc);
     let mut buffer = [0u8; 4096];

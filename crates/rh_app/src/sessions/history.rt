@@ -9,8 +9,8 @@ ghost use Rattle.rh_app.specs.Histories.{entry_text, history_text};
 ghost use Rattle.rh_app.specs.RunText.{Broke};
 
 use crate::device::Sink;
-use crate::transfer::write_text;
 use crate::fault::WriteFault;
+use crate::transfer::write_text;
 use crate::watched::Watched;
 use rh_base::OutOfMemory;
 use rh_cluster::Cluster;

@@ -1,8 +1,8 @@
-use Rattle.std.proofs.Common.{◌∙◌, Err, sym, ap, subst}
+use Rattle.std.proofs.Common.{◌∙◌, None, Ok, Err, sym, ap, subst}
 use Rattle.std.proofs.lemmas.Result.{err_from_is_err_and}
 use Rattle.rh_script.specs.Commands.{line_of}
 use Rattle.rh_app.specs.RunText.{Turns}
-use Rattle.rh_app.proofs.Turns.{call_breaks}
+use Rattle.rh_app.proofs.Turns.{turn_of_call, call_breaks}
 use Rattle.rh_app.proofs.running.answer_line.Goals as goal
 
 pub returns-in_err-answer_call-in-Asks : goal.returns-in_err-answer_call-in-Asks
@@ -18,3 +18,14 @@ returns-in_err-answer_call-in-Asks g c = λ lines.
     asked
     (call_breaks takes fails c.args.cluster.now c.args.sim.now.seen c.answer_call.new.sim.seen c.args.number c.in-Asks.call lines
     c.args.writer.now c.answer_call.new.writer f c.in_err-answer_call-in-Asks.ensures.text))
+
+pub returns-in_ok-answer_call-in-Asks : goal.returns-in_ok-answer_call-in-Asks
+returns-in_ok-answer_call-in-Asks g c = λ lines.
+    let takes = g.K.Sink.takes in
+    let fails = g.K.Sink.fails in
+    let asked = sym c.in-Asks.is ∙ c.in_ok-line_of.ensures ∙ ap (line_of c.args.cluster.now) c.content.ensures in
+    subst (λ line. Turns takes fails (Ok None) c.args.cluster.now c.args.sim.now.seen c.answer_call.new.sim.seen c.args.number line lines
+    c.args.writer.now c.answer_call.new.writer)
+    asked
+    (turn_of_call takes fails c.args.cluster.now c.args.sim.now.seen c.answer_call.new.sim.seen c.args.number c.in-Asks.call lines
+    c.args.writer.now c.answer_call.new.writer c.in_ok-answer_call-in-Asks.ensures.sim c.in_ok-answer_call-in-Asks.ensures.text)

@@ -21,3 +21,14 @@ returns-in_err-write_history g c =
     let is = ap (λ (v : SimView). history_text c.args.cluster.now log (state_of v)) c.in_ok-closed.ensures.sim in
     rw (p.1, p.2)
     (text, None, (log, c.in_ok-closed.ensures.history, is, refl), c.in_err-write_history.ensures)
+
+pub returns : goal.returns
+returns g c =
+    let log = c.in_ok-closed.closed.log.items in
+    let text = history_text c.args.cluster.now log (state_of c.in_ok-closed.closed.sim.seen) in
+    let is = ap (λ (v : SimView). history_text c.args.cluster.now log (state_of v)) c.in_ok-closed.ensures.sim in (
+      text,
+      None,
+      (log, c.in_ok-closed.ensures.history, is, refl),
+      (refl, c.in_ok-write_history.ensures.0, c.in_ok-write_history.ensures.1),
+    )

@@ -9,8 +9,7 @@ use Rattle.rh_app.proofs.transfer.read_input.Goals as goal
 pub returns-then-count-len-clause-why : goal.returns-then-count-len-clause-why
 returns-then-count-len-clause-why g c =
     let gives = g.S.Source.gives in
-    let piece = take c.in-Ok.count c.ask.new.buffer in
-    (
+    let piece = take c.in-Ok.count c.ask.new.buffer in (
       grind (arith, nat_tests, c.in-Ok.ensures.failed, c.loop.invariant.watch),
       c.loop.input.items ++ piece,
       passed_next gives c.args.reader.now.inner c.loop.reader.inner c.ask.new.self.inner c.loop.input.items piece c.loop.invariant.bytes c.in-Ok.ensures.gives,
@@ -33,10 +32,23 @@ loop-preserved g c =
       bytes = subst (λ bytes. Passed gives c.args.reader.now.inner c.ask.new.self.inner bytes) (sym more)
           (passed_next gives c.args.reader.now.inner c.loop.reader.inner c.ask.new.self.inner c.loop.input.items piece c.loop.invariant.bytes
           c.in-Ok.ensures.gives);
-      limit = omega (arith, ap length more, length-append c.loop.input.items piece, length-take-le c.in-Ok.count c.ask.new.buffer c.in-Ok.ensures.bound,
-          c.if-count-len.false, c.len.ensures, c.loop.invariant.limit);
-      calls = omega (arith, ap length more, length-append c.loop.input.items piece, length-take-le c.in-Ok.count c.ask.new.buffer c.in-Ok.ensures.bound,
-          c.in-Ok.count-test, c.loop.invariant.calls);
+      limit = omega (
+        arith,
+        ap length more,
+        length-append c.loop.input.items piece,
+        length-take-le c.in-Ok.count c.ask.new.buffer c.in-Ok.ensures.bound,
+        c.if-count-len.false,
+        c.len.ensures,
+        c.loop.invariant.limit,
+      );
+      calls = omega (
+        arith,
+        ap length more,
+        length-append c.loop.input.items piece,
+        length-take-le c.in-Ok.count c.ask.new.buffer c.in-Ok.ensures.bound,
+        c.in-Ok.count-test,
+        c.loop.invariant.calls,
+      );
       watch = grind (arith, nat_tests, c.in-Ok.ensures.failed, c.loop.invariant.watch);
       room = omega (arith, c.ask.auto.buffer, c.loop.invariant.room);
     }
