@@ -1,6 +1,6 @@
 -- What a line asks can be told by words, where nothing is named as a missing name is shown.
-use Rattle.std.proofs.Common.{◌≡◌, ◌<◌, ◌≤◌, ◌+◌, ◌-◌, ◌^◌, ◌&&◌, ◌⊎◌, inl, inr, ℕ, Bool, true, false, cond, codes, List, [], ◌∷◌, nat_lt, nat_le}
-use Rattle.std.proofs.Common.{Option, Some, None, refl, sym, ap, ◌∙◌, subst, arith}
+use Rattle.std.proofs.Common.{◌≡◌, ◌<◌, ◌≤◌, ◌+◌, ◌-◌, ◌^◌, ◌&&◌, inl, inr, ℕ, Bool, true, false, cond, codes, List, [], ◌∷◌, nat_lt, nat_le}
+use Rattle.std.proofs.Common.{Option, Some, None, refl, subst, arith}
 use Rattle.std.specs.Prelude.{position, unwrap_or}
 use Rattle.std.specs.Option.{option_map}
 use Rattle.std.specs.Str.{is_utf8, bytes_eq}
@@ -8,11 +8,8 @@ use Rattle.std.specs.Str.Parse.{digits_value}
 use Rattle.std.proofs.lemmas.Bool.Decides.{nat_tests}
 use Rattle.std.proofs.lemmas.List.Quantifiers.{position-Some}
 use Rattle.rh_model.specs.ClusterView.{ClusterView, node_of, app_of, numbered, app_numbered}
-use Rattle.rh_model.specs.declared.node.Node.{Node}
-use Rattle.rh_model.specs.declared.node.App.{App}
-use Rattle.rh_model.specs.declared.settings.Restart.{Restart}
 use Rattle.rh_events.specs.declared.event.Event.{Event}
-use Rattle.rh_events.specs.declared.event.Event.TheVariants.{Boot, Crash, Tick, Start, Stop, Permit, Takeover, Exit}
+use Rattle.rh_events.specs.declared.event.Event.TheVariants.{Tick, Start, Stop, Permit, Takeover, Exit}
 use Rattle.rh_trail.specs.declared.call.Call.{Call}
 use Rattle.rh_trail.specs.declared.call.Call.TheVariants as call
 use Rattle.rh_trail.specs.Report.{no_name}

@@ -1,9 +1,9 @@
 -- The atoms that a text in UTF-8 spells are in UTF-8.
-use Rattle.std.proofs.Common.{◌≡◌, ◌<◌, ℕ, suc, List, [], ◌∷◌, ◌++◌, Bool, true, false, cond, Some, Result, Ok, Err, refl, sym, ap, subst, ◌∙◌, append_assoc, append-nil, arith}
+use Rattle.std.proofs.Common.{◌≡◌, ◌<◌, ℕ, List, [], ◌∷◌, ◌++◌, Bool, true, false, cond, Some, Result, Ok, Err, refl, subst, append_assoc, append-nil, arith}
 use Rattle.std.specs.Str.{IsUtf8, is_utf8}
 use Rattle.std.proofs.lemmas.Bool.Decides.{nat_tests}
 use Rattle.std.proofs.lemmas.Str.{IsUtf8-append, IsUtf8-from_ascii, IsUtf8-from_is_utf8}
-use Rattle.rh_base.specs.Tree.{Tree, Trees, atom, int, text, list, tuple, none, more, list_of_trees}
+use Rattle.rh_base.specs.Tree.{Tree, Trees, atom, int, text, list, tuple, none, more}
 use Rattle.rh_terms.specs.declared.nest.TheConstants.{MAX_DEPTH}
 use Rattle.rh_terms.specs.declared.fault.TermFault.{TermFault}
 use Rattle.rh_terms.specs.declared.fault.TermFault.TheVariants as faults

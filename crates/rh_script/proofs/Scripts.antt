@@ -1,6 +1,6 @@
 -- The words of calls as the lines of a script: where each line ends.
-use Rattle.std.proofs.Common.{◌≡◌, ◌≢◌, ◌<◌, ◌-◌, ◌+◌, ◌^◌, ◌==◌, ◌&&◌, ℕ, Bool, true, false, not, cond, codes, List, [], ◌∷◌, ◌++◌, length, take, map, get_or, nat_lt, eqb}
-use Rattle.std.proofs.Common.{Option, Some, None, refl, sym, ap, ◌∙◌, subst, arith, append_assoc}
+use Rattle.std.proofs.Common.{◌≡◌, ◌≢◌, ◌<◌, ◌-◌, ◌^◌, ◌==◌, ◌&&◌, ℕ, Bool, true, false, not, cond, codes, List, [], ◌∷◌, ◌++◌, length, take, map, nat_lt}
+use Rattle.std.proofs.Common.{Option, Some, None, refl, ap, ◌∙◌, subst, arith, append_assoc}
 use Rattle.std.specs.Prelude.{All, slice_get, slice_index, unwrap_or}
 use Rattle.std.specs.List.{list_all, flat_map, onto_first}
 use Rattle.std.specs.Char.{digit_value}
@@ -11,7 +11,7 @@ use Rattle.std.proofs.lemmas.Fmt.{decimal_is_IsNumeral}
 use Rattle.std.proofs.lemmas.List.{get_or_at, take_at, length-append}
 use Rattle.std.proofs.lemmas.Option.{get_or_from_slice_get, slice_get_within}
 use Rattle.std.proofs.lemmas.List.Elements.{All-nil, All-cons, All-head, All-tail, All-append}
-use Rattle.rh_model.specs.ClusterView.{ClusterView, IsWithin}
+use Rattle.rh_model.specs.ClusterView.{ClusterView}
 use Rattle.rh_model.specs.declared.node.Node.{Node}
 use Rattle.rh_model.specs.declared.node.App.{App}
 use Rattle.rh_model.specs.declared.settings.Restart.{Restart}
@@ -21,17 +21,14 @@ use Rattle.rh_events.specs.declared.event.Event.TheVariants.{Boot, Crash, Tick, 
 use Rattle.rh_trail.specs.declared.call.Call.{Call}
 use Rattle.rh_trail.specs.declared.call.Call.TheVariants as call
 use Rattle.rh_trail.specs.Report.{no_name, node_word, app_word, restart_words}
-use Rattle.rh_script.specs.declared.script.Line.{Line}
 use Rattle.rh_script.specs.declared.script.Line.TheVariants.{Asks}
 use Rattle.rh_script.specs.declared.session_lines.Command.{Command}
-use Rattle.rh_script.specs.declared.session_lines.SessionLine.{SessionLine}
 use Rattle.rh_script.specs.declared.session_lines.SessionLine.TheVariants as line
-use Rattle.rh_script.specs.declared.session_lines.TheConstants.{LAST_SESSION}
 use Rattle.rh_script.specs.Lines.{raw_lines, content, ends_with, without_last}
 use Rattle.rh_script.specs.Commands.{line_of}
 use Rattle.rh_script.specs.CommandWords.{place_words, truth_word, reason_word, event_words, command_words}
 use Rattle.rh_script.specs.SessionLines.{session_line_of}
-use Rattle.rh_script.specs.Laws.{IsUnbroken, HasWords, HasUnbroken, IsEventTold, IsTold, IsCommandTold, session_words, ScriptsAskAgain, SessionsAskAgain}
+use Rattle.rh_script.specs.Laws.{IsUnbroken, HasUnbroken, IsEventTold, IsTold, IsCommandTold, session_words, ScriptsAskAgain, SessionsAskAgain}
 use Rattle.rh_script.proofs.Words.{each_passes}
 use Rattle.rh_script.proofs.Telling.{call_asks, line_asks, entry_asks}
 
