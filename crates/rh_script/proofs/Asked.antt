@@ -22,7 +22,7 @@ use Rattle.rh_script.specs.declared.session_lines.SessionLine.TheVariants as lin
 use Rattle.rh_script.specs.declared.session_lines.TheConstants.{LAST_SESSION}
 use Rattle.rh_script.specs.Commands.{words_of, named, named_app, begins_with, is_numeral, milliseconds, restart_named, first_of, plain_command, two_word_command, three_word_command, four_word_command, command_of, line_of, step_command}
 use Rattle.rh_script.specs.SessionLines.{session_named, asked_by, session_command, session_line_of}
-use Rattle.rh_script.specs.Laws.{IsNodeTold, IsAppTold, IsTold}
+use Rattle.rh_script.specs.Laws.{IsNodeTold, IsAppTold, IsTold, IsCommandTold}
 
 -- of a line: the call that it asks, if it asks one
 abbrev AsksTold : ClusterView → Line → Type 0
@@ -119,7 +119,7 @@ module _ (c : ClusterView) (node_free : node_of c no_name ≡ None) (app_free : 
   -- of a line that names its session: the command that it asks, if it asks one
   abbrev CommandTold : SessionLine → Type 0
   CommandTold line.Nothing = Unit {0}
-  CommandTold (line.Asks asked) = (1 ≤ asked.session) × (asked.session ≤ LAST_SESSION) × IsTold c asked.call
+  CommandTold (line.Asks asked) = IsCommandTold c asked
   CommandTold line.Bad = Unit {0}
 
   by_session : (session : ℕ) → (1 ≤ session) × (session ≤ LAST_SESSION) → (read : Line) → AsksTold c read → CommandTold (asked_by (Some session) read)
@@ -145,8 +145,7 @@ module _ (c : ClusterView) (node_free : node_of c no_name ≡ None) (app_free : 
   session_told ((digit ∷ []) ∷ words) = digit_told digit (command_of c words) (words_told words)
   session_told ((digit ∷ other ∷ more) ∷ words) = tt
 
-  pub session_line_told : (bytes : List ℕ) (asked : Command) → session_line_of c bytes ≡ line.Asks asked
-      → (1 ≤ asked.session) × (asked.session ≤ LAST_SESSION) × IsTold c asked.call
+  pub session_line_told : (bytes : List ℕ) (asked : Command) → session_line_of c bytes ≡ line.Asks asked → IsCommandTold c asked
   unfolding session_line_of
   session_line_told bytes asked read =
       subst CommandTold read
