@@ -108,7 +108,8 @@ two_text v w is_v is_w = joined_text (v ++ codes " ") w (joined_text v (codes " 
 
 three_text : (v w x : List ℕ) → IsWord v → IsWord w → IsWord x → is_utf8 (v ++ codes " " ++ w ++ codes " " ++ x) ≡ true
 three_text v w x is_v is_w is_x =
-    let front : is_utf8 (v ++ codes " " ++ w ++ codes " ") ≡ true = joined_text (v ++ codes " " ++ w) (codes " ") (two_text v w is_v is_w) (ascii_text (codes " ") refl) in
+    let front : is_utf8 (v ++ codes " " ++ w ++ codes " ") ≡ true =
+    joined_text (v ++ codes " " ++ w) (codes " ") (two_text v w is_v is_w) (ascii_text (codes " ") refl) in
     joined_text (v ++ codes " " ++ w ++ codes " ") x front is_x.text
 
 restart_word : (restart : Restart) → IsWord (restart_words restart)
