@@ -2,3 +2,9 @@ pub mod LineLemmas
 pub mod Numerals
 pub mod Rows
 pub mod SweepReading
+pub mod Words
+pub mod Telling
+pub mod Scripts
+pub mod Asked
+pub mod AtomTexts
+pub mod NameWords

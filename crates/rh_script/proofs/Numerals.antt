@@ -27,7 +27,7 @@ no_plus : (word : List ℕ) → begins_with 43 word ≡ false → without_leadin
 no_plus [] h = refl
 no_plus (b ∷ word) h = ap (λ t. drop (cond t 1 0) (b ∷ word)) h
 
-numeral_to : (word : List ℕ) → IsNumeral 10 word → is_numeral word ≡ true
+pub numeral_to : (word : List ℕ) → IsNumeral 10 word → is_numeral word ≡ true
 numeral_to word h =
     let some : (length word == 0) ≡ false = grind (arith, nat_tests, h.0) in
     ap (λ t. not t && list_all (λ b. nat_lt (digit_value b) 10) word) some ∙ digits_to word h.1

@@ -208,3 +208,36 @@ start_words_row = refl
 look_words_row : command_words one_app Look ≡ codes "show"
 unfolding command_words
 look_words_row = refl
+
+-- ---- words that are read again
+
+takeover_again_row :
+    line_of one_app (command_words one_app (Step (Takeover (numbered 1) (app_numbered 0) Temporary)))
+    ≡ Asks (Step (Takeover (numbered 1) (app_numbered 0) Temporary))
+unfolding line_of command_words event_words four_word_command is_utf8 chars encode
+takeover_again_row = refl
+
+exit_again_row :
+    line_of one_app (command_words one_app (Step (Exit (numbered 0) (app_numbered 0) false))) ≡ Asks (Step (Exit (numbered 0) (app_numbered 0) false))
+unfolding line_of command_words event_words four_word_command is_utf8 chars encode
+exit_again_row = refl
+
+unknown_again_row : line_of one_app (command_words one_app (Step (Stop NO_NODE NO_APP))) ≡ Asks (Step (Stop NO_NODE NO_APP))
+unfolding line_of command_words event_words four_word_command is_utf8 chars encode
+unknown_again_row = refl
+
+-- what the law asks of names is needed: none is `?`, none is parted by a space, and no two are one
+abbrev odd_names : ClusterView
+odd_names = record { node_names = codes "?" ∷ codes "a b" ∷ codes "?" ∷ []; app_names = []; platform_names = []; nodes = []; apps = [] }
+
+named_as_unknown_row : line_of odd_names (command_words odd_names (Step (Boot NO_NODE))) ≡ Asks (Step (Boot (numbered 0)))
+unfolding line_of command_words event_words four_word_command is_utf8 chars encode
+named_as_unknown_row = refl
+
+parted_name_row : line_of odd_names (command_words odd_names (Step (Boot (numbered 1)))) ≡ Bad
+unfolding line_of command_words event_words four_word_command is_utf8 chars encode
+parted_name_row = refl
+
+name_twice_row : line_of odd_names (command_words odd_names (Step (Boot (numbered 2)))) ≡ Asks (Step (Boot (numbered 0)))
+unfolding line_of command_words event_words four_word_command is_utf8 chars encode
+name_twice_row = refl

@@ -7,3 +7,4 @@ pub mod Fitting
 pub mod SweepLines
 pub mod SweepReading
 pub mod SweepAnswers
+pub mod Laws

@@ -2,11 +2,13 @@
 //!
 //! [`cut`] parts an input at its line `===`, [`line_of`] says what a line of a script asks, and [`session_line_of`] what one
 //! asks that names its session; [`sweep_in`] reads the base and the plans of a sweep. [`answer_text`] is the text of a reply,
-//! [`command_text`] that of a call, and [`outcome_text`] that of a plan.
+//! [`command_text`] that of a call, and [`outcome_text`] that of a plan. A law says that the text of a call asks for it again
+//! ([`words_ask_again`]).
 #![tactic(auto)]
 
 mod answers;
 mod command_words;
+mod laws;
 mod lines;
 mod script;
 mod session_lines;
@@ -15,6 +17,7 @@ mod sweep_lines;
 
 pub use answers::{answer_text, bad_text, fault_text};
 pub use command_words::command_text;
+pub use laws::words_ask_again;
 pub use lines::{content, cut, split_line};
 pub use script::{Line, line_of};
 pub use session_lines::{Command, LAST_SESSION, SessionLine, session_line_of};
