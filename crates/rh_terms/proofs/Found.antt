@@ -48,11 +48,11 @@ later P Q a bs left f h =
       is = f h.front (h.first ∷ h.others) h.is;
     }
 
-err_is : {B : Type 0} (c d : Fault) → ◌≡◌ {A = Result B Fault} (Err c) (Err d) → c ≡ d
+pub err_is : {B : Type 0} (c d : Fault) → ◌≡◌ {A = Result B Fault} (Err c) (Err d) → c ≡ d
 err_is c d e = cc
 
 -- how a chain fails
-bind_err : {A B : Type 0} (r : Result A Fault) (f : A → Result B Fault) (d : Fault) → (r >>= f) ≡ Err d → (r ≡ Err d) ⊎ ((x : A) × (r ≡ Ok x) × (f x ≡ Err d))
+pub bind_err : {A B : Type 0} (r : Result A Fault) (f : A → Result B Fault) (d : Fault) → (r >>= f) ≡ Err d → (r ≡ Err d) ⊎ ((x : A) × (r ≡ Ok x) × (f x ≡ Err d))
 bind_err (Ok x) f d e = inr (x, refl, e)
 bind_err {A} {B} (Err c) f d e = inl (ap (λ (h : Fault). Err h) (err_is {B = B} c d e))
 
@@ -495,7 +495,7 @@ regroup_dot : (a s b q tail : List ℕ) → a ++ (s ++ (b ++ (q ++ tail))) ≡ (
 regroup_dot a s b q tail = simp append_assoc
 
 -- the dot of a term ends where something comes behind it
-ends_some : (bs front : List ℕ) (c : ℕ) (others : List ℕ) → bs ≡ front ++ c ∷ others → EndsDot bs → begins is_end (front ++ c ∷ others) ≡ true
+pub ends_some : (bs front : List ℕ) (c : ℕ) (others : List ℕ) → bs ≡ front ++ c ∷ others → EndsDot bs → begins is_end (front ++ c ∷ others) ≡ true
 ends_some bs front c others parts (inl h) =
     let n : length bs ≡ length (front ++ c ∷ others) = ap (λ (l : List ℕ). length l) parts in
     absurd (omega (arith, length-append front (c ∷ others)))
@@ -552,7 +552,7 @@ dotted_found (suc n) bs (c ∷ l) left blank e =
           ]
     ]
 
-line_is : (front rest : List ℕ) (left : ℕ) → left ≡ length rest → line_at (front ++ rest) left ≡ count_by (λ b. b == 10) front + 1
+pub line_is : (front rest : List ℕ) (left : ℕ) → left ≡ length rest → line_at (front ++ rest) left ≡ count_by (λ b. b == 10) front + 1
 line_is front rest left e =
     let n : length (front ++ rest) - left ≡ length front = omega (arith, length-append front rest) in
     rw (n, take-append_seam front rest) refl

@@ -8,3 +8,6 @@ pub mod Read
 pub mod Found
 pub mod Enough
 pub mod Nesting
+pub mod Stops
+pub mod GoesOn
+pub mod Longest

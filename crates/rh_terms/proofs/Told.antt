@@ -49,7 +49,7 @@ told_read bytes ts h text =
 pub fault_read : (bytes : List ℕ) (ts : Trees) (fault : TermFault) → FaultIs fault (terms_of bytes) → terms_of bytes ≡ Ok ts → FaultIs fault (Ok ts)
 fault_read bytes ts fault exact e = let P : Result Trees TermFault → Type 0 = λ r. FaultIs fault r in subst P e exact
 
-same_fault : (f g : TermFault) → ◌≡◌ {A = Result Terms TermFault} (Err f) (Err g) → f ≡ g
+pub same_fault : (f g : TermFault) → ◌≡◌ {A = Result Terms TermFault} (Err f) (Err g) → f ≡ g
 same_fault f g e = cc
 
 pub fault_there : (bytes : List ℕ) (fault : TermFault) (line : ℕ) → FaultIs fault (terms_of bytes)
