@@ -1,5 +1,5 @@
 -- Where a text is refused by a syntax fault, the longest front that can go on ends.
-use Rattle.std.proofs.Common.{◌≡◌, ◌<◌, ◌≤◌, ℕ, List, [], ◌∷◌, ◌++◌, Result, Ok, Err, length, refl, sym, ap, subst, ◌∙◌}
+use Rattle.std.proofs.Common.{◌≡◌, ◌<◌, ℕ, List, [], ◌∷◌, ◌++◌, Result, Ok, Err, length, refl, sym, ap, subst, ◌∙◌}
 use Rattle.std.proofs.Common.{append_assoc, arith, inl, inr, length-append}
 use Rattle.std.specs.Str.{is_utf8}
 use Rattle.rh_terms.specs.declared.fault.Fault.{Fault}
@@ -13,10 +13,11 @@ use Rattle.rh_base.specs.declared.term.Terms.{Terms}
 use Rattle.rh_terms.specs.Grammar.{dotted, terms_from, line_at, told, terms_of, FaultIs}
 use Rattle.rh_terms.specs.Fronts.{CanGoOn, StopsAt}
 use Rattle.rh_terms.proofs.Spelled.{chosen}
-use Rattle.rh_terms.proofs.Found.{line_is}
+use Rattle.rh_terms.proofs.FoundText.{line_is}
 use Rattle.rh_terms.proofs.Read.{dotted_read}
-use Rattle.rh_terms.proofs.Stops.{Stops, WholeFails, IsErr, dotted_stops}
-use Rattle.rh_terms.proofs.GoesOn.{Reaches, dotted_reaches}
+use Rattle.rh_terms.proofs.Stops.{IsErr}
+use Rattle.rh_terms.proofs.StopsText.{WholeFails, dotted_stops}
+use Rattle.rh_terms.proofs.GoesOnText.{dotted_reaches}
 use Rattle.rh_terms.proofs.Told.{same_fault}
 
 -- Two cuts of a list with as much behind them are one.

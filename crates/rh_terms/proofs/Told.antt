@@ -13,7 +13,7 @@ use Rattle.rh_terms.specs.Constructs.{HasConstruct}
 use Rattle.rh_terms.specs.Spelling.{AreDotted}
 use Rattle.rh_terms.proofs.Read.{dotted_read}
 use Rattle.rh_terms.proofs.Enough.{dotted_enough, blank_length}
-use Rattle.rh_terms.proofs.Found.{unsupported_is_there}
+use Rattle.rh_terms.proofs.FoundText.{unsupported_is_there}
 use Rattle.rh_terms.specs.Bytes.{past_blank}
 use Rattle.rh_terms.specs.Faults.{Fails}
 use Rattle.rh_base.specs.Tree.{Trees}
