@@ -18,7 +18,8 @@ use Rattle.rh_terms.specs.Grammar.{word_at, term_by, next_at, some_terms, terms_
 use Rattle.rh_terms.specs.Spelling.{IsQuoted, IsBlank, Spells}
 use Rattle.rh_terms.specs.Constructs.{IsSign, IsOtherNumber, InTerm, InElements}
 use Rattle.rh_terms.proofs.Cut.{and_is}
-use Rattle.rh_terms.proofs.Spelled.{chosen, blank_is, blank_front, begins_is, quoted_is, not_false, Front, Quoted, all_front, term_spelled, next_more, next_last}
+use Rattle.rh_terms.proofs.Spelled.{chosen, blank_is, blank_front, begins_is, quoted_is, not_false, Front, Quoted, all_front}
+use Rattle.rh_terms.proofs.Spelled.{term_spelled, next_more, next_last}
 
 -- a construct, and how many bytes are left from its place on
 pub record Found (P : List ℕ → List ℕ → Type 0) (bs : List ℕ) (left : ℕ) : Type 0 where
@@ -47,7 +48,8 @@ pub err_is : {B : Type 0} (c d : Fault) → ◌≡◌ {A = Result B Fault} (Err 
 err_is c d e = cc
 
 -- how a chain fails
-pub bind_err : {A B : Type 0} (r : Result A Fault) (f : A → Result B Fault) (d : Fault) → (r >>= f) ≡ Err d → (r ≡ Err d) ⊎ ((x : A) × (r ≡ Ok x) × (f x ≡ Err d))
+pub bind_err : {A B : Type 0} (r : Result A Fault) (f : A → Result B Fault) (d : Fault) → (r >>= f) ≡ Err d
+    → (r ≡ Err d) ⊎ ((x : A) × (r ≡ Ok x) × (f x ≡ Err d))
 bind_err (Ok x) f d e = inr (x, refl, e)
 bind_err {A} {B} (Err c) f d e = inl (ap (λ (h : Fault). Err h) (err_is {B = B} c d e))
 
@@ -111,7 +113,14 @@ by_escape quote b bs left None others is e =
     }
 by_escape quote b bs left (Some x) others is e = elim (bind_err (quoted false quote bs) (λ y. Ok (x ∷ y.0, y.1)) (Unsupported left) e) [
   | inl h ↦ later (IsBadEscape quote) (IsBadEscape quote) (92 ∷ (b ∷ [])) bs left
-      (λ front rest k. record { content = x ∷ k.content; letter = k.letter; after = k.after; before = IsQuoted.escaped b x front k.content is k.before; rest_is = k.rest_is; unknown = k.unknown })
+      (λ front rest k. record {
+        content = x ∷ k.content;
+        letter = k.letter;
+        after = k.after;
+        before = IsQuoted.escaped b x front k.content is k.before;
+        rest_is = k.rest_is;
+        unknown = k.unknown;
+      })
       (others h)
   | inr h ↦ absurd (cc (h.2))
 ]
@@ -129,7 +138,14 @@ quoted_found false quote (b ∷ bs) left e = elim (chosen (b == quote) (Ok ([], 
         subst P (sym (eqb-true b 92 q.0)) (quoted_found true quote bs left q.1)
     | inr q ↦ elim (bind_err (quoted false quote bs) (λ y. Ok (b ∷ y.0, y.1)) (Unsupported left) q.1) [
       | inl h ↦ later (IsBadEscape quote) (IsBadEscape quote) (b ∷ []) bs left
-          (λ front rest k. record { content = b ∷ k.content; letter = k.letter; after = k.after; before = IsQuoted.plain b front k.content p.0 q.0 k.before; rest_is = k.rest_is; unknown = k.unknown })
+          (λ front rest k. record {
+            content = b ∷ k.content;
+            letter = k.letter;
+            after = k.after;
+            before = IsQuoted.plain b front k.content p.0 q.0 k.before;
+            rest_is = k.rest_is;
+            unknown = k.unknown;
+          })
           (quoted_found false quote bs left h)
       | inr h ↦ absurd (cc (h.2))
     ]
@@ -153,7 +169,8 @@ unfolding text_at
 text_found room bs left e =
     elim (bind_err (quoted false 34 bs) (λ x. cond (begins (λ b. b == 34) (past_blank x.1)) (Err (Unsupported (length (past_blank x.1))))
     (Ok (text x.0, x.1))) (Unsupported left) e) [
-      | inl h ↦ later (IsBadEscape 34) (InTerm room) (34 ∷ []) bs left (λ front rest k. in_quotes room 34 front rest (inl refl) k) (quoted_found false 34 bs left h)
+      | inl h ↦ later (IsBadEscape 34) (InTerm room) (34 ∷ []) bs left (λ front rest k. in_quotes room 34 front rest (inl refl) k)
+          (quoted_found false 34 bs left h)
       | inr h ↦
           elim (chosen (begins (λ b. b == 34) (past_blank h.0.1)) (Err (Unsupported (length (past_blank h.0.1)))) (Ok (text h.0.0, h.0.1))
           (Err (Unsupported left)) h.2) [
@@ -253,7 +270,8 @@ word_found room (b ∷ bs) left e = elim (chosen (is_lower b) (name_at (b ∷ bs
       | inl r ↦ at_byte room b 34 bs left r.0 (text_found room bs left r.1)
       | inr r ↦ elim (chosen ((b == 45) || is_digit b) (integer_at (b ∷ bs)) (Err (stuck (b ∷ bs))) (Err (Unsupported left)) r.1) [
         | inl u ↦ integer_found room (b ∷ bs) left u.1
-        | inr u ↦ stuck_found (InTerm room) (b ∷ bs) left (λ rest h. InTerm.sign room rest h) (err_is {B = Tree × List ℕ} (stuck (b ∷ bs)) (Unsupported left) u.1)
+        | inr u ↦ stuck_found (InTerm room) (b ∷ bs) left (λ rest h. InTerm.sign room rest h)
+            (err_is {B = Tree × List ℕ} (stuck (b ∷ bs)) (Unsupported left) u.1)
       ]
     ]
   ]
@@ -354,7 +372,8 @@ behind_next room close read finds t s behind true from left spelled next e =
 abbrev Reads : (List ℕ → Read Tree) → ℕ → Type 0
 Reads term room = (bs : List ℕ) (t : Tree) (rest : List ℕ) → term bs ≡ Ok (t, rest) → Front (Spells room t) bs rest
 
-some_found : (room close n : ℕ) (term : List ℕ → Read Tree) → Finds (InTerm room) term → Reads term room → Finds (InElements room close) (some_terms term close n)
+some_found : (room close n : ℕ) (term : List ℕ → Read Tree) → Finds (InTerm room) term → Reads term room
+    → Finds (InElements room close) (some_terms term close n)
 unfolding some_terms
 some_found room close zero term finds reads bs left e =
     stuck_found (InElements room close) bs left (λ rest h. InElements.element room close [] rest (InTerm.sign room rest h))

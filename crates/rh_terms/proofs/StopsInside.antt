@@ -11,7 +11,8 @@ use Rattle.rh_terms.specs.Grammar.{word_at, term_by, next_at, some_terms, terms_
 use Rattle.rh_terms.proofs.Spelled.{chosen, begins_is}
 use Rattle.rh_terms.proofs.Found.{bind_err, err_is}
 use Rattle.rh_terms.proofs.Enough.{term_length, next_length, blank_length}
-use Rattle.rh_terms.proofs.Stops.{IsErr, first_err, second_err, Stops, later, same_test, Stuck, stuck_is, test_first, blank_stays, StopsRead, word_stops, under_syntax}
+use Rattle.rh_terms.proofs.Stops.{IsErr, first_err, second_err, Stops, later, same_test, Stuck, stuck_is, test_first}
+use Rattle.rh_terms.proofs.Stops.{blank_stays, StopsRead, word_stops, under_syntax}
 use Rattle.rh_terms.proofs.Again.{Alike, alike, Again, term_again, comma_again}
 
 -- what can't stand behind an element
