@@ -1,6 +1,7 @@
 -- Where a text is refused by a syntax fault, the longest front that can go on ends.
-use Rattle.std.proofs.Common.{◌≡◌, ◌<◌, ℕ, List, [], ◌∷◌, ◌++◌, Result, Ok, Err, length, refl, sym, ap, subst, ◌∙◌}
-use Rattle.std.proofs.Common.{append_assoc, arith, inl, inr, length-append}
+use Rattle.std.specs.Prelude.{◌==◌}
+use Rattle.std.proofs.Common.{◌≡◌, ◌<◌, ◌+◌, ℕ, List, [], ◌∷◌, ◌++◌, Result, Ok, Err, length, refl, sym, ap, subst, ◌∙◌}
+use Rattle.std.proofs.Common.{append_assoc, arith, inl, inr, length-append, count_by}
 use Rattle.std.specs.Str.{is_utf8}
 use Rattle.rh_terms.specs.declared.fault.Fault.{Fault}
 use Rattle.rh_terms.specs.declared.fault.Fault.TheVariants.{Syntax, Unsupported, TooDeep, IntRange}
@@ -93,3 +94,36 @@ pub fault_stops : (bytes : List ℕ) (fault : TermFault) (line : ℕ) → FaultI
 fault_stops bytes fault line exact e =
     let P : TermFault → Type 0 = λ f. FaultIs f (terms_of bytes) in
     syntax_stops bytes line (subst P (same_fault fault (faults.Syntax line) e) exact)
+
+-- ---- a text stops at one line
+
+abbrev pub IsPrefixClosed : (List ℕ → Type 0) → Type 0
+IsPrefixClosed P = (x y : List ℕ) → P (x ++ y) → P x
+
+abbrev StopsBefore : (List ℕ → Type 0) → List ℕ → List ℕ → Type 0
+StopsBefore P front rest = (b : ℕ) (others : List ℕ) → rest ≡ b ∷ others → P (front ++ b ∷ []) → ⊥
+
+one_front : (P : List ℕ → Type 0) → IsPrefixClosed P → (f r g s : List ℕ) → f ++ r ≡ g ++ s → P f → StopsBefore P f r → P g → StopsBefore P g s → f ≡ g
+one_front P closed [] r [] s e p u q v = refl
+one_front P closed [] r (d ∷ g) s e p u q v = absurd (u d (g ++ s) e (closed (d ∷ []) g q))
+one_front P closed (c ∷ f) r [] s e p u q v = absurd (v c (f ++ r) (sym e) (closed (c ∷ []) f p))
+one_front P closed (c ∷ f) r (d ∷ g) s e p u q v =
+    let head : c ≡ d = cc in
+    let tail : f ++ r ≡ g ++ s = cc in
+    let H : ℕ → Type 0 = λ h. P (h ∷ g) in
+    let S : ℕ → Type 0 = λ h. (b : ℕ) (others : List ℕ) → s ≡ b ∷ others → P (h ∷ (g ++ b ∷ [])) → ⊥ in
+    let same : f ≡ g =
+    one_front (λ l. P (c ∷ l)) (λ x y h. closed (c ∷ x) y h) f r g s tail p u (subst H (sym head) q) (subst S (sym head) v) in
+    let G : ℕ → Type 0 = λ h. c ∷ f ≡ h ∷ g in
+    subst G head (ap (λ (l : List ℕ). c ∷ l) same)
+
+can_closed : IsPrefixClosed (λ l. CanGoOn l)
+can_closed x y h =
+    let P : List ℕ → Type 0 = λ l. AreDotted h.1 l in
+    (y ++ h.0, h.1, subst P (append_assoc x y h.0) h.2)
+
+pub one_line : (bytes : List ℕ) (line other : ℕ) → StopsAt line bytes → StopsAt other bytes → line ≡ other
+one_line bytes line other h k =
+    let same : h.front ≡ k.front =
+    one_front (λ l. CanGoOn l) can_closed h.front h.rest k.front k.rest (sym h.parts ∙ k.parts) h.goes_on h.stops k.goes_on k.stops in
+    h.line_is ∙ ap (λ (l : List ℕ). count_by (λ b. b == 10) l + 1) same ∙ sym k.line_is
