@@ -6,5 +6,14 @@ pub mod Whole
 pub mod Cut
 pub mod Read
 pub mod Found
+pub mod FoundText
 pub mod Enough
 pub mod Nesting
+pub mod Stops
+pub mod Again
+pub mod StopsInside
+pub mod StopsText
+pub mod GoesOn
+pub mod GoesOnInside
+pub mod GoesOnText
+pub mod Longest

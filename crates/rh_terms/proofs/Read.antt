@@ -44,7 +44,7 @@ last_comment_read (b ∷ line) h =
     let p = in_line_parts b line h in
     rw p.0 (last_comment_read line p.1)
 
-blank_read : (a rest : List ℕ) → IsBlank a → past_blank (a ++ rest) ≡ past_blank rest
+pub blank_read : (a rest : List ℕ) → IsBlank a → past_blank (a ++ rest) ≡ past_blank rest
 unfolding past
 blank_read a rest IsBlank.nothing = refl
 blank_read a rest (IsBlank.white b bs w h) =
@@ -131,14 +131,14 @@ dot_mark r ends = record { no_name = refl; no_number = no_digit_after r ends; no
 
 -- ---- words
 
-prefix_step : (p : ℕ → Bool) (b : ℕ) (bs : List ℕ) → p b ≡ true → prefix_len p (b ∷ bs) ≡ suc (prefix_len p bs)
+pub prefix_step : (p : ℕ → Bool) (b : ℕ) (bs : List ℕ) → p b ≡ true → prefix_len p (b ∷ bs) ≡ suc (prefix_len p bs)
 prefix_step p b bs e = rw e (omega arith)
 
-prefix_end : (p : ℕ → Bool) (bs : List ℕ) → begins p bs ≡ false → prefix_len p bs ≡ 0
+pub prefix_end : (p : ℕ → Bool) (bs : List ℕ) → begins p bs ≡ false → prefix_len p bs ≡ 0
 prefix_end p [] e = refl
 prefix_end p (b ∷ bs) e = rw e refl
 
-prefix_all : (p : ℕ → Bool) (s rest : List ℕ) → list_all p s ≡ true → begins p rest ≡ false → prefix_len p (s ++ rest) ≡ length s
+pub prefix_all : (p : ℕ → Bool) (s rest : List ℕ) → list_all p s ≡ true → begins p rest ≡ false → prefix_len p (s ++ rest) ≡ length s
 prefix_all p [] rest all ends = prefix_end p rest ends
 prefix_all p (b ∷ s) rest all ends =
     let h = and_is (p b) (list_all p s) all in
@@ -171,7 +171,7 @@ escaped_read quote b x bs content rest e read =
     let one : ◌≡◌ {A = Read (List ℕ)} (with_byte x (quoted false quote bs)) (Ok (x ∷ content, rest)) = rw read refl in
     subst P (sym e) one
 
-quoted_read : (quote : ℕ) (s content rest : List ℕ) → (quote == quote) ≡ true → (92 == quote) ≡ false → IsQuoted quote s content
+pub quoted_read : (quote : ℕ) (s content rest : List ℕ) → (quote == quote) ≡ true → (92 == quote) ≡ false → IsQuoted quote s content
     → quoted false quote (s ++ quote ∷ rest) ≡ Ok (content, rest)
 unfolding quoted
 quoted_read quote s content rest same other IsQuoted.nothing = rw same refl
@@ -179,7 +179,7 @@ quoted_read quote s content rest same other (IsQuoted.plain b bs inner q e h) = 
 quoted_read quote s content rest same other (IsQuoted.escaped b x bs inner e h) =
     rw other (escaped_read quote b x (bs ++ quote ∷ rest) inner rest e (quoted_read quote bs inner rest same other h))
 
-atom_read : (s content rest : List ℕ) → IsQuoted 39 s content → quoted_atom_at ((s ++ 39 ∷ []) ++ rest) ≡ Ok (atom content, rest)
+pub atom_read : (s content rest : List ℕ) → IsQuoted 39 s content → quoted_atom_at ((s ++ 39 ∷ []) ++ rest) ≡ Ok (atom content, rest)
 unfolding quoted_atom_at
 atom_read s content rest h = rw (append_assoc s (39 ∷ []) rest, quoted_read 39 s content rest refl refl h) refl
 
@@ -281,13 +281,13 @@ next_close close b rest is blank =
     let behind : past_blank (b ++ close ∷ rest) ≡ close ∷ rest = blank_read b (close ∷ rest) blank ∙ (is.mark rest).no_blank in
     rw (behind, is.no_comma, is.same) refl
 
-next_comma : (close : ℕ) (b rest : List ℕ) → IsBlank b → next_at close (past_blank (b ++ 44 ∷ rest)) ≡ Ok (true, past_blank rest)
+pub next_comma : (close : ℕ) (b rest : List ℕ) → IsBlank b → next_at close (past_blank (b ++ 44 ∷ rest)) ≡ Ok (true, past_blank rest)
 unfolding next_at
 next_comma close b rest blank =
     let behind : past_blank (b ++ 44 ∷ rest) ≡ 44 ∷ rest = blank_read b (44 ∷ rest) blank ∙ (comma_mark rest).no_blank in
     rw behind refl
 
-name_term : (inner : ℕ → List ℕ → Read Trees) (s rest : List ℕ) → begins is_lower s ≡ true → term_by inner (s ++ rest) ≡ name_at (s ++ rest)
+pub name_term : (inner : ℕ → List ℕ → Read Trees) (s rest : List ℕ) → begins is_lower s ≡ true → term_by inner (s ++ rest) ≡ name_at (s ++ rest)
 unfolding term_by word_at
 name_term inner [] rest e = absurd cc
 name_term inner (b ∷ s) rest e =
@@ -295,7 +295,7 @@ name_term inner (b ∷ s) rest e =
     let t : (b == 123) ≡ false = grind (arith, nat_tests, e) in
     rw (l, t, e) refl
 
-digits_term : (inner : ℕ → List ℕ → Read Trees) (s rest : List ℕ) → 0 < length s → list_all is_digit s ≡ true
+pub digits_term : (inner : ℕ → List ℕ → Read Trees) (s rest : List ℕ) → 0 < length s → list_all is_digit s ≡ true
     → term_by inner (s ++ rest) ≡ digits_at false (s ++ rest)
 unfolding term_by word_at integer_at
 digits_term inner [] rest some all = absurd (omega arith)
@@ -309,23 +309,23 @@ digits_term inner (b ∷ s) rest some all =
     let m : (b == 45) ≡ false = grind (arith, nat_tests, d) in
     rw (l, u, n, q, t, m, d) refl
 
-minus_term : (inner : ℕ → List ℕ → Read Trees) (s : List ℕ) → term_by inner (45 ∷ s) ≡ digits_at true s
+pub minus_term : (inner : ℕ → List ℕ → Read Trees) (s : List ℕ) → term_by inner (45 ∷ s) ≡ digits_at true s
 unfolding term_by word_at integer_at
 minus_term inner s = refl
 
-quoted_term : (inner : ℕ → List ℕ → Read Trees) (s : List ℕ) → term_by inner (39 ∷ s) ≡ quoted_atom_at s
+pub quoted_term : (inner : ℕ → List ℕ → Read Trees) (s : List ℕ) → term_by inner (39 ∷ s) ≡ quoted_atom_at s
 unfolding term_by word_at
 quoted_term inner s = refl
 
-text_term : (inner : ℕ → List ℕ → Read Trees) (s : List ℕ) → term_by inner (34 ∷ s) ≡ text_at s
+pub text_term : (inner : ℕ → List ℕ → Read Trees) (s : List ℕ) → term_by inner (34 ∷ s) ≡ text_at s
 unfolding term_by word_at
 text_term inner s = refl
 
-list_term : (room : ℕ) (s rest : List ℕ) → term_at (suc room) (91 ∷ ((s ++ 93 ∷ []) ++ rest)) ≡ under list (terms_up_to (term_at room) 93 (s ++ 93 ∷ rest))
+pub list_term : (room : ℕ) (s rest : List ℕ) → term_at (suc room) (91 ∷ ((s ++ 93 ∷ []) ++ rest)) ≡ under list (terms_up_to (term_at room) 93 (s ++ 93 ∷ rest))
 unfolding term_by inside
 list_term room s rest = rw (append_assoc s (93 ∷ []) rest) refl
 
-tuple_term : (room : ℕ) (s rest : List ℕ)
+pub tuple_term : (room : ℕ) (s rest : List ℕ)
     → term_at (suc room) (123 ∷ ((s ++ 125 ∷ []) ++ rest)) ≡ under tuple (terms_up_to (term_at room) 125 (s ++ 125 ∷ rest))
 unfolding term_by inside
 tuple_term room s rest = rw (append_assoc s (125 ∷ []) rest) refl
@@ -364,7 +364,7 @@ comma_step term close n t ts s b a q rest blank after f read others =
     let behind : past_blank (a ++ (q ++ close ∷ rest)) ≡ q ++ close ∷ rest = blank_read a (q ++ close ∷ rest) after ∙ kept q (close ∷ rest) f in
     rw (e, read, next_comma close b (a ++ (q ++ close ∷ rest)) blank, behind, others) refl
 
-abbrev list_or_tuple : ℕ → Type 0
+abbrev pub list_or_tuple : ℕ → Type 0
 list_or_tuple close = (close ≡ 93) ⊎ (close ≡ 125)
 
 mutual
@@ -379,7 +379,7 @@ mutual
   term_read room t s (Spells.tuple_of inner ts q h) rest ends =
       tuple_term inner q rest ∙ ap (λ (r : Read Trees). under tuple r) (inside_read inner ts q h 125 rest (inr refl))
 
-  inside_read : (room : ℕ) (ts : Trees) (s : List ℕ) → IsInside room ts s → (close : ℕ) (rest : List ℕ) → list_or_tuple close
+  pub inside_read : (room : ℕ) (ts : Trees) (s : List ℕ) → IsInside room ts s → (close : ℕ) (rest : List ℕ) → list_or_tuple close
       → terms_up_to (term_at room) close (s ++ close ∷ rest) ≡ Ok (ts, rest)
   inside_read room ts s (IsInside.nothing r a blank) close rest is = empty_inside (term_at r) close a rest (is_close close is) blank
   inside_read room ts s (IsInside.some r us a q blank h) close rest is =
@@ -405,7 +405,7 @@ mutual
 
 -- ---- whole texts
 
-dot_read : (r : List ℕ) → (length r ≡ 0) ⊎ (begins is_end r ≡ true) → dot_at (46 ∷ r) ≡ Ok r
+pub dot_read : (r : List ℕ) → (length r ≡ 0) ⊎ (begins is_end r ≡ true) → dot_at (46 ∷ r) ≡ Ok r
 unfolding dot_at
 dot_read r (inl e) =
     let one : (length (46 ∷ r) == 1) ≡ true = grind (arith, nat_tests, e) in

@@ -97,7 +97,7 @@ front_cons [] c r = (c, r, refl)
 front_cons (x ∷ q) c r = (x, q ++ c ∷ r, refl)
 
 -- the blanks before bytes that are not empty
-blank_front : (bs rest q : List ℕ) (c : ℕ) (r : List ℕ) → past_blank bs ≡ rest → rest ≡ q ++ c ∷ r → Front IsBlank bs rest
+pub blank_front : (bs rest q : List ℕ) (c : ℕ) (r : List ℕ) → past_blank bs ≡ rest → rest ≡ q ++ c ∷ r → Front IsBlank bs rest
 blank_front bs rest q c r e parts =
     let k = front_cons q c r in
     let P : List ℕ → Type 0 = λ l. Front IsBlank bs l in
@@ -376,7 +376,7 @@ text_is room bs t rest e =
 abbrev SpellsDigits : Bool → ℕ → Tree → List ℕ → Type 0
 SpellsDigits minus room t s = (0 < length s) × (list_all is_digit s ≡ true) × (fits minus (number s) ≡ true) × (int (signed minus (number s)) ≡ t)
 
-not_false : (b : Bool) → not b ≡ false → b ≡ true
+pub not_false : (b : Bool) → not b ≡ false → b ≡ true
 not_false true e = refl
 not_false false e = absurd cc
 

@@ -13,7 +13,7 @@ use Rattle.rh_terms.specs.Constructs.{HasConstruct}
 use Rattle.rh_terms.specs.Spelling.{AreDotted}
 use Rattle.rh_terms.proofs.Read.{dotted_read}
 use Rattle.rh_terms.proofs.Enough.{dotted_enough, blank_length}
-use Rattle.rh_terms.proofs.Found.{unsupported_is_there}
+use Rattle.rh_terms.proofs.FoundText.{unsupported_is_there}
 use Rattle.rh_terms.specs.Bytes.{past_blank}
 use Rattle.rh_terms.specs.Faults.{Fails}
 use Rattle.rh_base.specs.Tree.{Trees}
@@ -49,7 +49,7 @@ told_read bytes ts h text =
 pub fault_read : (bytes : List ℕ) (ts : Trees) (fault : TermFault) → FaultIs fault (terms_of bytes) → terms_of bytes ≡ Ok ts → FaultIs fault (Ok ts)
 fault_read bytes ts fault exact e = let P : Result Trees TermFault → Type 0 = λ r. FaultIs fault r in subst P e exact
 
-same_fault : (f g : TermFault) → ◌≡◌ {A = Result Terms TermFault} (Err f) (Err g) → f ≡ g
+pub same_fault : (f g : TermFault) → ◌≡◌ {A = Result Terms TermFault} (Err f) (Err g) → f ≡ g
 same_fault f g e = cc
 
 pub fault_there : (bytes : List ℕ) (fault : TermFault) (line : ℕ) → FaultIs fault (terms_of bytes)

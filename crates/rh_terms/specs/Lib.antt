@@ -4,5 +4,6 @@ pub mod Tokens
 pub mod Grammar
 pub mod Spelling
 pub mod Constructs
+pub mod Fronts
 pub mod Nest
 pub mod FaultTexts

@@ -21,6 +21,6 @@ mod shown;
 mod tokens;
 
 pub use fault::TermFault;
-pub use laws::{bounds_are_never_met, one_reading};
+pub use laws::{bounds_are_never_met, one_reading, stops_at_one_line};
 pub use nest::MAX_DEPTH;
 pub use reading::read_terms;

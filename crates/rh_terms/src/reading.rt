@@ -4,6 +4,7 @@ ghost use Rattle.std.specs.Prelude.{◌≡◌, ℕ, List, ◌==◌, ◌≤◌, l
 ghost use Rattle.std.specs.Str.{is_utf8, IsUtf8};
 ghost use Rattle.rh_terms.specs.Constructs.{HasConstruct};
 ghost use Rattle.rh_terms.specs.Faults.{ReadsAs};
+ghost use Rattle.rh_terms.specs.Fronts.{StopsAt};
 ghost use Rattle.rh_terms.specs.Grammar.{terms_from, line_at, terms_of, Tells, fault_told};
 ghost use Rattle.rh_terms.specs.Spelling.{AreDotted};
 ghost use Rattle.rh_base.specs.Tree.{Trees, trees_of, items_of};
@@ -81,7 +82,9 @@ pub fn read_terms(alloc: Global, bytes: &[u8]) -> Result<Terms, TermFault>
     ensures spelled { IfOk result (λ ts. AreDotted (trees_of (items_of ts)) bytes.now) }
     // What a text in UTF-8 spells is read, want of memory aside.
     ensures read { (ts : Trees) → AreDotted ts bytes.now → IsTrue (is_utf8 bytes.now) → Tells result (Ok ts) }
-    // Where a text is refused as unsupported, one of the constructs stands on that line.
+    // Where a text is refused by a syntax fault, the longest front that a text of terms can begin with ends on that line.
+    ensures syntax { (line : ℕ) → result ≡ Err (TermFault.Syntax line) → StopsAt line bytes.now }
+    // Where a text is refused as unsupported, one of the constructs stands on that line, where reading comes to it.
     ensures unsupported { (line : ℕ) → result ≡ Err (TermFault.Unsupported line) → HasConstruct line bytes.now }
 {
     if !is_text(bytes) {

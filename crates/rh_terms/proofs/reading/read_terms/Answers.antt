@@ -5,6 +5,7 @@ use Rattle.std.proofs.lemmas.Str.{IsUtf8-from_is_utf8}
 use Rattle.rh_terms.proofs.Cut.{blank_text}
 use Rattle.rh_terms.proofs.Whole.{text_spelled}
 use Rattle.rh_terms.proofs.Told.{told_terms, told_no_text, told_fault, told_read, fault_read, fault_there}
+use Rattle.rh_terms.proofs.Longest.{fault_stops}
 use Rattle.rh_terms.specs.Grammar.{terms_of, fault_told, FaultIs}
 use Rattle.rh_terms.proofs.reading.read_terms.Goals as goal
 
@@ -48,3 +49,10 @@ returns-in-Err-clause-unsupported c = λ line e.
     let fault : FaultIs (fault_told c.args.bytes.now c.in-Err.error) (terms_of c.args.bytes.now) =
     told_fault c.args.bytes.now c.in-Err.error text (rw (sym c.skip_blank.ensures.behind) c.in-Err.ensures) in
     fault_there c.args.bytes.now _ line fault (rw c.fault_of.ensures at e)
+
+pub returns-in-Err-clause-syntax : goal.returns-in-Err-clause-syntax
+returns-in-Err-clause-syntax c = λ line e.
+    let text : is_utf8 c.args.bytes.now ≡ true = cc (c.is_text.ensures, c.if-not-is_text.false) in
+    let fault : FaultIs (fault_told c.args.bytes.now c.in-Err.error) (terms_of c.args.bytes.now) =
+    told_fault c.args.bytes.now c.in-Err.error text (rw (sym c.skip_blank.ensures.behind) c.in-Err.ensures) in
+    fault_stops c.args.bytes.now _ line fault (rw c.fault_of.ensures at e)
