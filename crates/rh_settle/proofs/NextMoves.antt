@@ -64,7 +64,7 @@ not_local c a n p h = by (spread_of c a) h
     by (Some v) h = refl
 
 -- ---- what is known
-enabled_progresses : (s : StateView) (marked : List Pair) → IsShaped s → (m : Move) → IsEnabled s marked m → Progresses s m
+pub enabled_progresses : (s : StateView) (marked : List Pair) → IsShaped s → (m : Move) → IsEnabled s marked m → Progresses s m
 enabled_progresses s marked shape (Local n a) e = (e.0, started_within s n a shape (or_right (runs_at s n a) _ e.2), e.1, e.2)
 enabled_progresses s marked shape (Placement a from n) e =
     let o = e.2.passes in (operational_within s a n shape.modes o, e.0, e.1, operational_started s a n o)

@@ -16,6 +16,7 @@ use Rattle.rh_state.specs.StateView.{StateView}
 use Rattle.rh_place.specs.declared.choosing.Pick.{Pick}
 use Rattle.rh_place.specs.declared.choosing.Pick.TheVariants.{First, Last}
 use Rattle.rh_place.specs.Placing.{is_operational, deps_run, best, candidates}
+use Rattle.rh_settle.specs.declared.notice.Move.{Move}
 use Rattle.rh_settle.specs.declared.notice.Move.TheVariants.{Local, Placement}
 use Rattle.rh_settle.specs.declared.notice.Notice.{Notice}
 use Rattle.rh_settle.specs.declared.notice.Notice.TheVariants.{Started, Stopped, Waits}
@@ -23,7 +24,8 @@ use Rattle.rh_settle.specs.declared.notice.Pair.{Pair}
 use Rattle.rh_settle.specs.Course.{course_of}
 use Rattle.rh_settle.specs.Moves.{can_start, local_moves, placements, calls_away, takeovers, next_moves}
 use Rattle.rh_settle.specs.Enabled.{IsEnabled, goes_before}
-use Rattle.rh_settle.specs.Settling.{moved_by, all_moved, settled}
+use Rattle.rh_settle.specs.Settling.{AreFirst, moved_by, all_moved, settled}
+use Rattle.rh_settle.proofs.Entries.{both}
 use Rattle.rh_settle.proofs.InGroups.{none_before}
 
 abbrev n1 : Node
@@ -170,6 +172,17 @@ enabled_too = (
 
 local_before : goes_before both_kinds (Local n3 helper) (Placement app None n1) ≡ true
 local_before = refl
+
+-- so no settling ends there, and none begins with the placement
+local_enabled : IsEnabled both_kinds [] (Local n3 helper)
+unfolding deps_run
+local_enabled = (omega arith, refl, refl, refl, refl)
+
+isnt_settled : AreFirst (course_of both_kinds [] []) [] → ⊥
+isnt_settled none = none (Placement app None n1) enabled_too
+
+not_placed_first : (ms : List Move) → AreFirst (course_of both_kinds [] []) (Placement app None n1 ∷ ms) → ⊥
+not_placed_first ms run = both true refl (run.0.first (Local n3 helper) local_enabled)
 
 -- local ones go by node first, and then as they wait there
 earlier_node : goes_before (up false none ((user ∷ helper ∷ []) ∷ [] ∷ (helper ∷ []) ∷ []) Quiet) (Local n1 helper) (Local n3 helper) ≡ true

@@ -9,34 +9,34 @@ use Rattle.rh_settle.specs.declared.notice.Pair.{Pair}
 use Rattle.rh_settle.specs.Course.{Course}
 use Rattle.rh_settle.specs.Moves.{next_moves, moved}
 use Rattle.rh_settle.specs.Enabled.{IsEnabled}
-use Rattle.rh_settle.specs.Settling.{nexts, AreNext, settled, Settles}
+use Rattle.rh_settle.specs.Settling.{nexts, AreFirst, settled, Settles}
 use Rattle.rh_settle.specs.Validity.{IsSound}
 use Rattle.rh_settle.proofs.Entries.{both}
 use Rattle.rh_settle.proofs.NextFirsts.{still_if_none_enabled}
-use Rattle.rh_settle.proofs.NextMoves.{all_called, progresses}
+use Rattle.rh_settle.proofs.NextMoves.{all_called, enabled_progresses}
 use Rattle.rh_settle.proofs.Fuel.{state_moved}
 use Rattle.rh_settle.proofs.SettlingLaws.{settles_by_pick}
 use Rattle.rh_settle.proofs.Unchanged.{waits_told_state, moves_marked}
 use Rattle.rh_settle.proofs.Soundly.{sound_moved}
 
 -- ---- sound
-sound_next : (o : Course) (ms : List Move) → IsSound o.state → AreNext o ms → IsSound (fold moved o ms).state
+sound_next : (o : Course) (ms : List Move) → IsSound o.state → AreFirst o ms → IsSound (fold moved o ms).state
 sound_next o [] sound h = sound
 sound_next o (m ∷ ms) sound h =
-    let p = progresses o.state o.marked sound.shaped m h.0 in
+    let p = enabled_progresses o.state o.marked sound.shaped m h.0.enabled in
     sound_next (moved o m) ms (subst IsSound (sym (state_moved o m)) (sound_moved o.state m p sound)) h.1
 
 pub settles_sound : (o p : Course) → IsSound o.state → Settles o p → IsSound p.state
 settles_sound o p sound run =
     subst IsSound (sym (ap (λ (q : Course). q.state) run.outcome ∙ waits_told_state (fold moved o run.moves)))
-    (sound_next o run.moves sound run.are_next)
+    (sound_next o run.moves sound run.are_first)
 
 pub settled_sound : (pick : Pick) (o : Course) → IsSound o.state → IsSound (settled pick o).state
 settled_sound pick o sound = settles_sound o (settled pick o) sound (settles_by_pick pick o sound.shaped)
 
 -- ---- nothing moves
-ends_still : (o : Course) (ms : List Move) → AreNext o ms → nexts (fold moved o ms) ≡ []
-ends_still o [] h = h
+ends_still : (o : Course) (ms : List Move) → AreFirst o ms → nexts (fold moved o ms) ≡ []
+ends_still o [] h = (still_if_none_enabled o.state o.marked).1 h
 ends_still o (m ∷ ms) h = ends_still (moved o m) ms h.1
 
 pub settles_still : (o p : Course) → Settles o p → next_moves p.state o.marked ≡ []
@@ -44,7 +44,7 @@ settles_still o p run =
     let q : Course = fold moved o run.moves in
     ap (λ s. next_moves s o.marked) (ap (λ (r : Course). r.state) run.outcome ∙ waits_told_state q)
     ∙ ap (next_moves q.state) (sym (moves_marked o run.moves))
-    ∙ ends_still o run.moves run.are_next
+    ∙ ends_still o run.moves run.are_first
 
 pub settled_still : (pick : Pick) (o : Course) → IsShaped o.state → next_moves (settled pick o).state o.marked ≡ []
 settled_still pick o shape = settles_still o (settled pick o) (settles_by_pick pick o shape)

@@ -1,7 +1,7 @@
--- Settling: next moves until there is none, and then the pairs that wait (Distributed Applications; ours).
-use Rattle.std.specs.Prelude.{ℕ, ◌*◌, ◌≡◌, zero, suc, List, [], ◌∷◌, fold, Contains, Option, Some, None, if◌then◌else◌}
+-- Settling: moves until none is enabled, and then the pairs that wait (Distributed Applications; ours).
+use Rattle.std.specs.Prelude.{ℕ, ◌*◌, ◌≡◌, zero, suc, List, [], ◌∷◌, fold, Option, Some, None, if◌then◌else◌}
 use Rattle.rh_model.specs.ClusterView.{ClusterView, node_count, app_count}
-use Rattle.rh_state.specs.StateView.{waits_at}
+use Rattle.rh_state.specs.StateView.{StateView, waits_at}
 use Rattle.rh_place.specs.declared.choosing.Pick.{Pick}
 use Rattle.rh_place.specs.Picks.{picked}
 use Rattle.rh_settle.specs.declared.notice.Move.{Move}
@@ -9,14 +9,16 @@ use Rattle.rh_settle.specs.declared.notice.Notice.TheVariants as notice
 use Rattle.rh_settle.specs.declared.notice.Pair.{Pair}
 use Rattle.rh_settle.specs.Course.{Course, told}
 use Rattle.rh_settle.specs.Moves.{next_moves, moved}
+use Rattle.rh_settle.specs.Enabled.{IsEnabled, IsFirst}
 
-abbrev pub nexts : Course → List Move
-nexts o = next_moves o.state o.marked
+-- ---- what the rules allow, without a search and without a bound
+abbrev pub NoneEnabled : StateView → List Pair → Type 0
+NoneEnabled s marked = (move : Move) → IsEnabled s marked move → ⊥
 
--- each move is a next one when it is made, and behind the last there is none
-abbrev pub AreNext : Course → List Move → Type 0
-AreNext o [] = nexts o ≡ []
-AreNext o (move ∷ moves) = Contains (nexts o) move × AreNext (moved o move) moves
+-- when a move is made no other that is enabled goes before it, and behind the last none is enabled
+abbrev pub AreFirst : Course → List Move → Type 0
+AreFirst o [] = NoneEnabled o.state o.marked
+AreFirst o (move ∷ moves) = IsFirst o.state o.marked move × AreFirst (moved o move) moves
 
 -- each marked pair that waits is told, in marking order
 abbrev pub tell_waiting : Course → Pair → Course
@@ -28,8 +30,12 @@ waits_told o = fold tell_waiting o o.marked
 -- settling, with ties free
 pub record Settles (o p : Course) : Type 0 where
   pub moves : List Move
-  pub are_next : AreNext o moves
+  pub are_first : AreFirst o moves
   pub outcome : p ≡ waits_told (fold moved o moves)
+
+-- ---- what is taken, by the search
+abbrev pub nexts : Course → List Move
+nexts o = next_moves o.state o.marked
 
 -- the moves in which each tie goes to the pick, at most so many
 abbrev pub after_move : Course → Option Move → (Course → Course) → Course

@@ -1,6 +1,7 @@
-//! The setters of a state, each with its edit kept in the trace. Room for the edit is taken before anything is set.
+//! The setters of a state, each with its edit kept in the trace. Room for the edit is taken before anything is set, so where
+//! memory is refused nothing has changed: not a word of the state, and no edit.
 
-ghost use Rattle.std.specs.Prelude.{◌≡◌, ◌≢◌, ◌≤◌, IsSome, IsNone, OnOk};
+ghost use Rattle.std.specs.Prelude.{◌≡◌, ◌≢◌, ◌≤◌, IsSome, IsNone, OnOk, OnErr};
 ghost use Rattle.rh_state.specs.Limits.{time_limit, incarnation_limit};
 ghost use Rattle.rh_state.specs.StateView.{place_of, due_of};
 ghost use Rattle.rh_state.specs.Setters.{with_time, with_mode, with_incarnation, with_restart, with_kind, with_allowed, with_standing, with_running, with_waiting, unlisted, with_timer, without_due};
@@ -22,6 +23,8 @@ pub fn set_now(state: &mut State, time: u64, trace: &mut Trace) -> Result<(), Ou
     ensures told { trace.new.notices ≡ trace.old.notices }
     ensures marked { trace.new.marked ≡ trace.old.marked }
     ensures way { Goes state.old trace.old state.new trace.new }
+    ensures kept_state { OnErr result (state.new ≡ state.old) }
+    ensures kept_trace { OnErr result (trace.new ≡ trace.old) }
 {
     trace.edits.reserve(1)?;
     state.formed();
@@ -44,6 +47,8 @@ pub fn set_mode(
     ensures told { trace.new.notices ≡ trace.old.notices }
     ensures marked { trace.new.marked ≡ trace.old.marked }
     ensures way { Goes state.old trace.old state.new trace.new }
+    ensures kept_state { OnErr result (state.new ≡ state.old) }
+    ensures kept_trace { OnErr result (trace.new ≡ trace.old) }
 {
     trace.edits.reserve(1)?;
     state.formed();
@@ -67,6 +72,8 @@ pub fn set_incarnation(
     ensures told { trace.new.notices ≡ trace.old.notices }
     ensures marked { trace.new.marked ≡ trace.old.marked }
     ensures way { Goes state.old trace.old state.new trace.new }
+    ensures kept_state { OnErr result (state.new ≡ state.old) }
+    ensures kept_trace { OnErr result (trace.new ≡ trace.old) }
 {
     trace.edits.reserve(1)?;
     state.formed();
@@ -91,6 +98,8 @@ pub fn set_allowed(
     ensures told { trace.new.notices ≡ trace.old.notices }
     ensures marked { trace.new.marked ≡ trace.old.marked }
     ensures way { Goes state.old trace.old state.new trace.new }
+    ensures kept_state { OnErr result (state.new ≡ state.old) }
+    ensures kept_trace { OnErr result (trace.new ≡ trace.old) }
 {
     trace.edits.reserve(1)?;
     state.formed();
@@ -115,6 +124,8 @@ pub fn set_restart(
     ensures told { trace.new.notices ≡ trace.old.notices }
     ensures marked { trace.new.marked ≡ trace.old.marked }
     ensures way { Goes state.old trace.old state.new trace.new }
+    ensures kept_state { OnErr result (state.new ≡ state.old) }
+    ensures kept_trace { OnErr result (trace.new ≡ trace.old) }
 {
     trace.edits.reserve(1)?;
     state.formed();
@@ -140,6 +151,8 @@ pub fn set_kind(
     ensures told { trace.new.notices ≡ trace.old.notices }
     ensures marked { trace.new.marked ≡ trace.old.marked }
     ensures way { Goes state.old trace.old state.new trace.new }
+    ensures kept_state { OnErr result (state.new ≡ state.old) }
+    ensures kept_trace { OnErr result (trace.new ≡ trace.old) }
 {
     trace.edits.reserve(1)?;
     state.formed();
@@ -163,6 +176,8 @@ pub fn set_standing(
     ensures told { trace.new.notices ≡ trace.old.notices }
     ensures marked { trace.new.marked ≡ trace.old.marked }
     ensures way { Goes state.old trace.old state.new trace.new }
+    ensures kept_state { OnErr result (state.new ≡ state.old) }
+    ensures kept_trace { OnErr result (trace.new ≡ trace.old) }
 {
     trace.edits.reserve(1)?;
     state.formed();
@@ -187,6 +202,8 @@ pub fn push_running(
     ensures told { trace.new.notices ≡ trace.old.notices }
     ensures marked { trace.new.marked ≡ trace.old.marked }
     ensures way { Goes state.old trace.old state.new trace.new }
+    ensures kept_state { OnErr result (state.new ≡ state.old) }
+    ensures kept_trace { OnErr result (trace.new ≡ trace.old) }
 {
     trace.edits.reserve(1)?;
     state.formed();
@@ -211,6 +228,8 @@ pub fn push_waiting(
     ensures told { trace.new.notices ≡ trace.old.notices }
     ensures marked { trace.new.marked ≡ trace.old.marked }
     ensures way { Goes state.old trace.old state.new trace.new }
+    ensures kept_state { OnErr result (state.new ≡ state.old) }
+    ensures kept_trace { OnErr result (trace.new ≡ trace.old) }
 {
     trace.edits.reserve(1)?;
     state.formed();
@@ -230,6 +249,8 @@ pub fn unlink(state: &mut State, node: Node, app: App, trace: &mut Trace) -> Res
     ensures told { trace.new.notices ≡ trace.old.notices }
     ensures marked { trace.new.marked ≡ trace.old.marked }
     ensures way { Goes state.old trace.old state.new trace.new }
+    ensures kept_state { OnErr result (state.new ≡ state.old) }
+    ensures kept_trace { OnErr result (trace.new ≡ trace.old) }
 {
     trace.edits.reserve(1)?;
     state.formed();
@@ -253,6 +274,8 @@ pub fn arm_timer(
     ensures told { trace.new.notices ≡ trace.old.notices }
     ensures marked { trace.new.marked ≡ trace.old.marked }
     ensures way { Goes state.old trace.old state.new trace.new }
+    ensures kept_state { OnErr result (state.new ≡ state.old) }
+    ensures kept_trace { OnErr result (trace.new ≡ trace.old) }
 {
     trace.edits.reserve(1)?;
     state.formed();
@@ -271,6 +294,8 @@ pub fn cancel_timer(state: &mut State, timer: Timer, trace: &mut Trace) -> Resul
     ensures told { trace.new.notices ≡ trace.old.notices }
     ensures marked { trace.new.marked ≡ trace.old.marked }
     ensures way { Goes state.old trace.old state.new trace.new }
+    ensures kept_state { OnErr result (state.new ≡ state.old) }
+    ensures kept_trace { OnErr result (trace.new ≡ trace.old) }
 {
     trace.edits.reserve(1)?;
     state.formed();

@@ -1,5 +1,7 @@
 -- The steps that the rules allow (Distributed Applications; application(3); kernel(6), distributed, sync_nodes).
--- This is a relation: where the rules leave a choice, it has several outcomes, and `next` is one of them.
+-- This is a relation: where the rules leave a choice, it has several outcomes, and `next` is one of them. What a single part does
+-- (an event, a node that comes up, a timer, a move) is cited from where `next` has it too; which come, in which order, and how
+-- long, is said here and in `Settles` apart from it.
 use Rattle.std.specs.Prelude.{◌≡◌, ◌+◌, ℕ, List, [], ◌∷◌, true, false, Some, None}
 use Rattle.rh_model.specs.declared.node.Node.{Node}
 use Rattle.rh_state.specs.declared.status.Timer.{Timer}
