@@ -24,3 +24,5 @@ pub mod LocalFirsts
 pub mod NextFirsts
 pub mod FieldLaws
 mod Rows
+mod RowsReady
+mod RowsOrder

@@ -16,3 +16,5 @@ pub mod Performing
 pub mod Firing
 mod Rows
 mod RowsElsewhere
+mod RowsTime
+mod RowsByItself
