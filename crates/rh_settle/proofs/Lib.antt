@@ -26,3 +26,4 @@ pub mod FieldLaws
 mod Rows
 mod RowsReady
 mod RowsOrder
+pub mod Resting
