@@ -33,3 +33,4 @@ pub mod Scene
 mod RowsRefusals
 mod RowsNodes
 mod RowsByHand
+pub mod EndLaws
