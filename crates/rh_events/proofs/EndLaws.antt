@@ -4,11 +4,11 @@ use Rattle.rh_model.specs.declared.node.Node.{Node}
 use Rattle.rh_model.specs.declared.node.App.{App}
 use Rattle.rh_state.specs.declared.status.Mode.TheVariants.{Down}
 use Rattle.rh_state.specs.declared.status.Standing.{Standing}
-use Rattle.rh_state.specs.declared.status.Standing.TheVariants.{Quiet, Wanted, Running, Lost}
+use Rattle.rh_state.specs.declared.status.Standing.TheVariants.{Wanted, Running, Lost}
 use Rattle.rh_state.specs.declared.status.Timer.TheVariants.{Failover}
 use Rattle.rh_state.specs.Numbers.{same_node, apps_of}
 use Rattle.rh_state.specs.Tables.{row}
-use Rattle.rh_state.specs.StateView.{StateView, standing_of, running_at, waiting_at, mode_of}
+use Rattle.rh_state.specs.StateView.{StateView, standing_of, running_at, waiting_at}
 use Rattle.rh_state.specs.Setters.{with_standing, with_timer}
 use Rattle.rh_settle.specs.Course.{Course}
 use Rattle.rh_settle.proofs.Places.{at_set_there}

@@ -8,15 +8,14 @@ use Rattle.rh_state.specs.declared.status.Mode.TheVariants.{Up}
 use Rattle.rh_state.specs.declared.status.Standing.{Standing}
 use Rattle.rh_state.specs.declared.status.Standing.TheVariants.{Quiet, Wanted, Running, Lost}
 use Rattle.rh_state.specs.declared.status.Timer.TheVariants.{Failover}
-use Rattle.rh_state.specs.First.{configured}
-use Rattle.rh_state.specs.Numbers.{nodes_of, apps_of}
+use Rattle.rh_state.specs.Numbers.{nodes_of}
 use Rattle.rh_state.specs.StateView.{StateView}
-use Rattle.rh_settle.specs.declared.notice.Notice.TheVariants.{Ended, Started, Stopped}
+use Rattle.rh_settle.specs.declared.notice.Notice.TheVariants.{Started, Stopped}
 use Rattle.rh_settle.specs.Course.{Course, course_of}
 use Rattle.rh_events.specs.declared.event.Event.{Event}
 use Rattle.rh_events.specs.declared.event.Event.TheVariants.{Start, Stop, Permit, Takeover, Exit}
 use Rattle.rh_events.specs.Marking.{with_mark}
-use Rattle.rh_events.specs.Ending.{cleared, lost_if_ran, all_lost, ended}
+use Rattle.rh_events.specs.Ending.{ended}
 use Rattle.rh_events.specs.ByHand.{stopped, is_started_anywhere, left_waiting, forbidden, permitted, ends_node, taken_over, exited}
 use Rattle.rh_events.specs.Changes.{change}
 use Rattle.rh_events.proofs.Scene.{p, q, job, twin, far, tool, aid, at, scene, none}

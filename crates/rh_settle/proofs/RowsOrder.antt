@@ -14,7 +14,6 @@ use Rattle.rh_state.specs.First.{first}
 use Rattle.rh_state.specs.Numbers.{nodes_of, apps_of}
 use Rattle.rh_state.specs.StateView.{StateView}
 use Rattle.rh_place.specs.Placing.{is_operational, deps_run, best, candidates}
-use Rattle.rh_settle.specs.declared.notice.Move.{Move}
 use Rattle.rh_settle.specs.declared.notice.Move.TheVariants.{Placement, Takeover}
 use Rattle.rh_settle.specs.declared.notice.Notice.TheVariants.{Started, Stopped, Waits}
 use Rattle.rh_settle.specs.declared.notice.Pair.{Pair}

@@ -18,3 +18,5 @@ mod Rows
 mod RowsElsewhere
 mod RowsTime
 mod RowsByItself
+pub mod Stops
+pub mod EndedWaits

@@ -1,28 +1,22 @@
 -- What starts of itself behind a command, and what doesn't, computed from the definitions.
-use Rattle.std.proofs.Common.{◌≡◌, List, [], ◌∷◌, Some, None, true, false, refl}
-use Rattle.rh_model.specs.declared.node.App.{App}
-use Rattle.rh_model.specs.declared.settings.Restart.TheVariants.{Permanent, Transient, Temporary}
+use Rattle.std.proofs.Common.{◌≡◌, [], ◌∷◌, None, true, false, refl}
+use Rattle.rh_model.specs.declared.settings.Restart.TheVariants.{Permanent, Temporary}
 use Rattle.rh_state.specs.declared.status.Kind.TheVariants as kind
-use Rattle.rh_state.specs.declared.status.Mode.TheVariants.{Down, Up}
-use Rattle.rh_state.specs.declared.status.Standing.{Standing}
-use Rattle.rh_state.specs.declared.status.Standing.TheVariants.{Quiet, Wanted, Running, Lost}
-use Rattle.rh_state.specs.First.{configured}
+use Rattle.rh_state.specs.declared.status.Mode.TheVariants.{Up}
+use Rattle.rh_state.specs.declared.status.Standing.TheVariants.{Quiet, Wanted, Running}
 use Rattle.rh_state.specs.Numbers.{nodes_of, apps_of}
 use Rattle.rh_state.specs.StateView.{StateView}
 use Rattle.rh_place.specs.declared.choosing.Pick.TheVariants.{First}
 use Rattle.rh_place.specs.Placing.{deps_run, is_operational, best, candidates}
-use Rattle.rh_settle.specs.declared.notice.Notice.{Notice}
-use Rattle.rh_settle.specs.declared.notice.Notice.TheVariants.{Ended, Started, Stopped, Waits}
+use Rattle.rh_settle.specs.declared.notice.Notice.TheVariants.{Started, Stopped, Waits}
 use Rattle.rh_settle.specs.Moves.{can_start, local_moves, placements, calls_away, takeovers, next_moves}
 use Rattle.rh_settle.specs.Settling.{moved_by, all_moved}
-use Rattle.rh_settle.specs.Readiness.{all_alive, is_ready}
-use Rattle.rh_events.specs.declared.event.Event.{Event}
-use Rattle.rh_events.specs.declared.event.Event.TheVariants.{Crash, Start, Stop, Permit, Exit}
+use Rattle.rh_settle.specs.Readiness.{is_ready}
+use Rattle.rh_events.specs.declared.event.Event.TheVariants.{Start, Stop, Permit, Exit}
 use Rattle.rh_events.specs.Marking.{with_mark}
 use Rattle.rh_events.specs.ComingUp.{come_up_if_ready, ready_come_up}
-use Rattle.rh_events.specs.Ending.{cleared, lost_if_ran, all_lost, ended}
 use Rattle.rh_events.specs.ByHand.{stopped, forbidden, permitted, exited}
-use Rattle.rh_events.proofs.Scene.{p, q, job, twin, far, tool, aid, scene, none}
+use Rattle.rh_events.proofs.Scene.{p, q, job, twin, aid, scene, none}
 use Rattle.rh_step.specs.Outcomes.{outcome, followed, next}
 
 -- twin runs at p, and could run at q; what it is there is temporary

@@ -1,12 +1,11 @@
 -- What passes with the time, computed from the definitions.
-use Rattle.std.proofs.Common.{◌≡◌, List, [], ◌∷◌, Some, None, true, refl}
-use Rattle.rh_model.specs.declared.node.App.{App}
+use Rattle.std.proofs.Common.{◌≡◌, List, [], ◌∷◌, Some, refl}
 use Rattle.rh_model.specs.declared.settings.Restart.TheVariants.{Permanent}
 use Rattle.rh_state.specs.declared.status.Kind.TheVariants as kind
 use Rattle.rh_state.specs.declared.status.Mode.{Mode}
 use Rattle.rh_state.specs.declared.status.Mode.TheVariants.{Down, Waiting, Up}
 use Rattle.rh_state.specs.declared.status.Standing.{Standing}
-use Rattle.rh_state.specs.declared.status.Standing.TheVariants.{Quiet, Wanted, Running, Lost}
+use Rattle.rh_state.specs.declared.status.Standing.TheVariants.{Quiet, Wanted, Lost}
 use Rattle.rh_state.specs.declared.status.Timer.TheVariants.{Sync, Failover}
 use Rattle.rh_state.specs.First.{configured}
 use Rattle.rh_state.specs.Numbers.{nodes_of, apps_of}
@@ -23,7 +22,7 @@ use Rattle.rh_events.specs.Marking.{with_mark, mark_all}
 use Rattle.rh_events.specs.ComingUp.{come_up, come_up_if_ready, ready_come_up}
 use Rattle.rh_events.specs.Ending.{cleared, lost_if_ran, all_lost, ended}
 use Rattle.rh_events.specs.Changes.{booted}
-use Rattle.rh_events.proofs.Scene.{p, q, job, twin, aid, tool, at, scene, none}
+use Rattle.rh_events.proofs.Scene.{p, q, job, aid, at, scene, none}
 use Rattle.rh_step.specs.Ticks.{effect, taken_off, fired, fired_by, all_fired, ticked}
 use Rattle.rh_step.specs.Outcomes.{outcome, followed, next}
 

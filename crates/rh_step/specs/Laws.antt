@@ -1,16 +1,22 @@
 -- Laws of steps, in the field's own words (ours).
-use Rattle.std.specs.Prelude.{◌≡◌, ◌≤◌, ◌+◌, ◌++◌, ◌⊎◌, ℕ, Contains, None}
-use Rattle.rh_model.specs.ClusterView.{ClusterView, IsWithin}
+use Rattle.std.specs.Prelude.{◌≡◌, ◌≤◌, ◌+◌, ◌++◌, ◌⊎◌, ℕ, Contains, None, true, false}
+use Rattle.rh_model.specs.ClusterView.{ClusterView, IsWithin, mandatory_of}
 use Rattle.rh_model.specs.declared.node.Node.{Node}
-use Rattle.rh_state.specs.declared.status.Mode.TheVariants.{Up}
+use Rattle.rh_model.specs.declared.node.App.{App}
+use Rattle.rh_state.specs.declared.status.Mode.TheVariants.{Down, Up}
+use Rattle.rh_state.specs.declared.status.Standing.TheVariants.{Quiet}
+use Rattle.rh_state.specs.declared.status.Timer.TheVariants.{Sync}
 use Rattle.rh_state.specs.First.{first}
-use Rattle.rh_state.specs.StateView.{StateView, mode_of}
+use Rattle.rh_state.specs.StateView.{StateView, mode_of, is_alive, runs_at, standing_of}
 use Rattle.rh_place.specs.declared.choosing.Pick.{Pick}
 use Rattle.rh_settle.specs.declared.notice.Notice.TheVariants.{Ended}
+use Rattle.rh_settle.specs.Course.{Course}
+use Rattle.rh_settle.specs.Moves.{is_local}
 use Rattle.rh_events.specs.declared.event.Event.{Event}
-use Rattle.rh_events.specs.declared.event.Event.TheVariants.{Tick}
+use Rattle.rh_events.specs.declared.event.Event.TheVariants.{Tick, Stop}
 use Rattle.rh_events.specs.Refusals.{refused}
 use Rattle.rh_step.specs.Allowed.{Allowed}
+use Rattle.rh_step.specs.Ticks.{fired}
 use Rattle.rh_step.specs.Outcomes.{next, outcome}
 use Rattle.rh_settle.specs.Validity.{IsValid}
 
@@ -42,3 +48,18 @@ TimeGoesOn = (s : StateView) (e : Event) (pick : Pick) → refused s e ≡ None 
 abbrev pub UpUntilEnded : Type 0
 UpUntilEnded = (s : StateView) (e : Event) (pick : Pick) (n : Node) → refused s e ≡ None → mode_of s n ≡ Up
     → (mode_of (next s e pick).state n ≡ Up) ⊎ Contains (next s e pick).notices (Ended n)
+
+-- a distributed application that is stopped where it runs is quiet then: it runs nowhere, and is to run nowhere
+-- (application(3), stop/1)
+abbrev pub StopLeavesQuiet : Type 0
+StopLeavesQuiet = (s : StateView) (n : Node) (a : App) (pick : Pick) → IsValid s → refused s (Stop n a) ≡ None → is_local s.cluster a ≡ false
+    → runs_at s n a ≡ true
+    → (standing_of (next s (Stop n a) pick).state a ≡ Quiet)
+    × ((m : Node) → runs_at (next s (Stop n a) pick).state m a ≡ false)
+
+-- a node that isn't alive is a mandatory one of another, whose wait ends: that one ends, and doesn't come up (kernel(6),
+-- sync_nodes_mandatory, sync_nodes_timeout)
+abbrev pub EndsWithoutMandatory : Type 0
+EndsWithoutMandatory = (pick : Pick) (o : Course) (due : ℕ) (n m : Node) → Contains (mandatory_of o.state.cluster n) m → is_alive (mode_of o.state m) ≡ false
+    → (mode_of (fired pick o (due, Sync n)).state n ≡ Down)
+    × Contains (fired pick o (due, Sync n)).notices (Ended n)

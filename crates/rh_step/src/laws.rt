@@ -1,6 +1,6 @@
 //! Laws of the definitions that the contracts of this crate cite. Each function does nothing: its contract is the law.
 
-ghost use Rattle.rh_step.specs.Laws.{FirstIsValid, NextIsValid, NextIsAllowed, TicksAddUp, TimeGoesOn, UpUntilEnded};
+ghost use Rattle.rh_step.specs.Laws.{FirstIsValid, NextIsValid, NextIsAllowed, TicksAddUp, TimeGoesOn, UpUntilEnded, StopLeavesQuiet, EndsWithoutMandatory};
 
 /// The first state of a cluster is one that it reaches.
 pub fn first_is_valid()
@@ -30,4 +30,14 @@ pub fn time_goes_on()
 /// A node that is up stays up unless it ends: it never waits again before that.
 pub fn up_until_ended()
     ensures { UpUntilEnded }
+{}
+
+/// A distributed application that is stopped where it runs is to run nowhere then, and runs nowhere.
+pub fn stop_leaves_quiet()
+    ensures { StopLeavesQuiet }
+{}
+
+/// A node whose wait ends while one of its mandatory nodes isn't alive ends, and doesn't come up.
+pub fn ends_without_mandatory()
+    ensures { EndsWithoutMandatory }
 {}
