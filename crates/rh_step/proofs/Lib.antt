@@ -20,3 +20,4 @@ mod RowsTime
 mod RowsByItself
 pub mod Stops
 pub mod EndedWaits
+pub mod LostStays

@@ -1,19 +1,22 @@
 -- Laws of steps, in the field's own words (ours).
-use Rattle.std.specs.Prelude.{◌≡◌, ◌≤◌, ◌+◌, ◌++◌, ◌⊎◌, ℕ, Contains, None, true, false}
+use Rattle.std.specs.Prelude.{◌≡◌, ◌≤◌, ◌+◌, ◌++◌, ◌⊎◌, ◌&&◌, ℕ, Bool, true, false, Contains, None}
 use Rattle.rh_model.specs.ClusterView.{ClusterView, IsWithin, mandatory_of}
 use Rattle.rh_model.specs.declared.node.Node.{Node}
 use Rattle.rh_model.specs.declared.node.App.{App}
 use Rattle.rh_state.specs.declared.status.Mode.TheVariants.{Down, Up}
-use Rattle.rh_state.specs.declared.status.Standing.TheVariants.{Quiet}
-use Rattle.rh_state.specs.declared.status.Timer.TheVariants.{Sync}
+use Rattle.rh_state.specs.declared.status.Standing.TheVariants.{Quiet, Lost}
+use Rattle.rh_state.specs.declared.status.Timer.{Timer}
+use Rattle.rh_state.specs.declared.status.Timer.TheVariants.{Sync, Failover}
 use Rattle.rh_state.specs.First.{first}
+use Rattle.rh_state.specs.Numbers.{same_node, same_app}
+use Rattle.rh_state.specs.Timers.{same_timer}
 use Rattle.rh_state.specs.StateView.{StateView, mode_of, is_alive, runs_at, standing_of}
 use Rattle.rh_place.specs.declared.choosing.Pick.{Pick}
-use Rattle.rh_settle.specs.declared.notice.Notice.TheVariants.{Ended}
+use Rattle.rh_settle.specs.declared.notice.Notice.TheVariants as notice
 use Rattle.rh_settle.specs.Course.{Course}
 use Rattle.rh_settle.specs.Moves.{is_local}
 use Rattle.rh_events.specs.declared.event.Event.{Event}
-use Rattle.rh_events.specs.declared.event.Event.TheVariants.{Tick, Stop}
+use Rattle.rh_events.specs.declared.event.Event.TheVariants.{Tick, Start, Stop}
 use Rattle.rh_events.specs.Refusals.{refused}
 use Rattle.rh_step.specs.Allowed.{Allowed}
 use Rattle.rh_step.specs.Ticks.{fired}
@@ -47,7 +50,7 @@ TimeGoesOn = (s : StateView) (e : Event) (pick : Pick) → refused s e ≡ None 
 -- a node that is up stays up, unless it ends
 abbrev pub UpUntilEnded : Type 0
 UpUntilEnded = (s : StateView) (e : Event) (pick : Pick) (n : Node) → refused s e ≡ None → mode_of s n ≡ Up
-    → (mode_of (next s e pick).state n ≡ Up) ⊎ Contains (next s e pick).notices (Ended n)
+    → (mode_of (next s e pick).state n ≡ Up) ⊎ Contains (next s e pick).notices (notice.Ended n)
 
 -- a distributed application that is stopped where it runs is quiet then: it runs nowhere, and is to run nowhere
 -- (application(3), stop/1)
@@ -62,4 +65,24 @@ StopLeavesQuiet = (s : StateView) (n : Node) (a : App) (pick : Pick) → IsValid
 abbrev pub EndsWithoutMandatory : Type 0
 EndsWithoutMandatory = (pick : Pick) (o : Course) (due : ℕ) (n m : Node) → Contains (mandatory_of o.state.cluster n) m → is_alive (mode_of o.state m) ≡ false
     → (mode_of (fired pick o (due, Sync n)).state n ≡ Down)
-    × Contains (fired pick o (due, Sync n)).notices (Ended n)
+    × Contains (fired pick o (due, Sync n)).notices (notice.Ended n)
+
+-- the commands that may end the wait of an application that was lost with a node: it is started there, or stopped somewhere;
+-- and time
+abbrev pub may_end_wait : Event → App → Node → Bool
+may_end_wait (Tick ms) a m = true
+may_end_wait (Start n b r) a m = same_app a b && same_node m n
+may_end_wait (Stop n b) a m = same_app a b
+may_end_wait _ a m = false
+
+-- through any other one it stays lost, unless that node comes up (Distributed Applications, Failover)
+abbrev pub LostStays : Type 0
+LostStays = (s : StateView) (e : Event) (pick : Pick) (a : App) (m : Node) → IsValid s → refused s e ≡ None → standing_of s a ≡ Lost m
+    → may_end_wait e a m ≡ false
+    → (standing_of (next s e pick).state a ≡ Lost m) ⊎ Contains (next s e pick).notices (notice.Up m)
+
+-- and so it does at each timer but its own (kernel(6), distributed)
+abbrev pub LostStaysAtOtherTimers : Type 0
+LostStaysAtOtherTimers = (pick : Pick) (o : Course) (entry : ℕ × Timer) (a : App) (m : Node) → same_timer entry.1 (Failover a) ≡ false
+    → standing_of o.state a ≡ Lost m
+    → (standing_of (fired pick o entry).state a ≡ Lost m) ⊎ Contains (fired pick o entry).notices (notice.Up m)

@@ -1,6 +1,6 @@
 //! Laws of the definitions that the contracts of this crate cite. Each function does nothing: its contract is the law.
 
-ghost use Rattle.rh_step.specs.Laws.{FirstIsValid, NextIsValid, NextIsAllowed, TicksAddUp, TimeGoesOn, UpUntilEnded, StopLeavesQuiet, EndsWithoutMandatory};
+ghost use Rattle.rh_step.specs.Laws.{FirstIsValid, NextIsValid, NextIsAllowed, TicksAddUp, TimeGoesOn, UpUntilEnded, StopLeavesQuiet, EndsWithoutMandatory, LostStays, LostStaysAtOtherTimers};
 
 /// The first state of a cluster is one that it reaches.
 pub fn first_is_valid()
@@ -40,4 +40,15 @@ pub fn stop_leaves_quiet()
 /// A node whose wait ends while one of its mandatory nodes isn't alive ends, and doesn't come up.
 pub fn ends_without_mandatory()
     ensures { EndsWithoutMandatory }
+{}
+
+/// An application that was lost with a node stays lost through any step but a tick, unless it is stopped, that node comes
+/// up, or it is started there.
+pub fn lost_stays()
+    ensures { LostStays }
+{}
+
+/// And it stays lost at each timer but its own, unless that node comes up.
+pub fn lost_stays_at_other_timers()
+    ensures { LostStaysAtOtherTimers }
 {}
