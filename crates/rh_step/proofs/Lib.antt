@@ -21,3 +21,4 @@ mod RowsByItself
 pub mod Stops
 pub mod EndedWaits
 pub mod LostStays
+pub mod LostInTime

@@ -61,7 +61,7 @@ beside : (s : StateView) (a b : App) (m : Node) (st new : Standing) → standing
 beside s a b m st new is at moves = set_beside s.standings a b st new (ap rests is) at moves
 
 -- ---- a node ends
-one_lost : (n : Node) (s : StateView) (b a : App) (m : Node) → standing_of s a ≡ Lost m → standing_of (lost_if_ran n s b) a ≡ standing_of s a
+pub one_lost : (n : Node) (s : StateView) (b a : App) (m : Node) → standing_of s a ≡ Lost m → standing_of (lost_if_ran n s b) a ≡ standing_of s a
 unfolding lost_if_ran
 one_lost n s b a m is = by (standing_of s b) refl
   where
@@ -95,7 +95,7 @@ lost_same : (x y : Node) → Lost x ≡ Lost y → x ≡ y
 lost_same x y e = cc
 
 -- a pair that waits, before its application is wanted
-abbrev waits_there : StateView → Node → App → Restart → StateView
+abbrev pub waits_there : StateView → Node → App → Restart → StateView
 waits_there s n b r = with_restart (with_waiting s n b) n b r
 
 mark_elsewhere : (s : StateView) (n : Node) (b : App) (r : Restart) (a : App) (m : Node) → standing_of s a ≡ Lost m → same_node m n ≡ false
@@ -157,12 +157,12 @@ marks_tell_none n (b ∷ boot) o = marks_tell_none n boot (mark o n b.0 b.1)
 abbrev risen : Course → Node → Course
 risen o n = told (now_in o (with_mode (without_due o.state (Sync n)) n mode.Up)) (notice.Up n)
 
-up_told : (o : Course) (n m : Node) → same_node m n ≡ true → Contains (come_up o n).notices (notice.Up m)
+pub up_told : (o : Course) (n m : Node) → same_node m n ≡ true → Contains (come_up o n).notices (notice.Up m)
 unfolding come_up mark_all
 up_told o n m same = subst (λ notices. Contains notices (notice.Up m)) (sym (marks_tell_none n (boot_of o.state.cluster n) (risen o n)))
     (Contains-append_right o.notices (notice.Up n ∷ []) (notice.Up m) (0, omega arith, ap (λ k. notice.Up (numbered k)) (sym (same_number m.0 n.0 same))))
 
-elsewhere_lost : (o : Course) (n : Node) (a : App) (m : Node) → standing_of o.state a ≡ Lost m → same_node m n ≡ false
+pub elsewhere_lost : (o : Course) (n : Node) (a : App) (m : Node) → standing_of o.state a ≡ Lost m → same_node m n ≡ false
     → standing_of (come_up o n).state a ≡ Lost m
 unfolding come_up mark_all
 elsewhere_lost o n a m is other = marks_elsewhere n (boot_of o.state.cluster n) (risen o n) a m is other

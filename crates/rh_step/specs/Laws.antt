@@ -1,5 +1,5 @@
 -- Laws of steps, in the field's own words (ours).
-use Rattle.std.specs.Prelude.{◌≡◌, ◌≤◌, ◌+◌, ◌++◌, ◌⊎◌, ◌&&◌, ℕ, Bool, true, false, Contains, None}
+use Rattle.std.specs.Prelude.{◌≡◌, ◌≤◌, ◌<◌, ◌+◌, ◌++◌, ◌⊎◌, ◌&&◌, ℕ, Bool, true, false, Contains, Some, None}
 use Rattle.rh_model.specs.ClusterView.{ClusterView, IsWithin, mandatory_of}
 use Rattle.rh_model.specs.declared.node.Node.{Node}
 use Rattle.rh_model.specs.declared.node.App.{App}
@@ -10,7 +10,7 @@ use Rattle.rh_state.specs.declared.status.Timer.TheVariants.{Sync, Failover}
 use Rattle.rh_state.specs.First.{first}
 use Rattle.rh_state.specs.Numbers.{same_node, same_app}
 use Rattle.rh_state.specs.Timers.{same_timer}
-use Rattle.rh_state.specs.StateView.{StateView, mode_of, is_alive, runs_at, standing_of}
+use Rattle.rh_state.specs.StateView.{StateView, mode_of, is_alive, runs_at, standing_of, due_of}
 use Rattle.rh_place.specs.declared.choosing.Pick.{Pick}
 use Rattle.rh_settle.specs.declared.notice.Notice.TheVariants as notice
 use Rattle.rh_settle.specs.Course.{Course}
@@ -86,3 +86,9 @@ abbrev pub LostStaysAtOtherTimers : Type 0
 LostStaysAtOtherTimers = (pick : Pick) (o : Course) (entry : ℕ × Timer) (a : App) (m : Node) → same_timer entry.1 (Failover a) ≡ false
     → standing_of o.state a ≡ Lost m
     → (standing_of (fired pick o entry).state a ≡ Lost m) ⊎ Contains (fired pick o entry).notices (notice.Up m)
+
+-- and through each tick that ends before its timer is due (kernel(6), distributed)
+abbrev pub LostUntilDue : Type 0
+LostUntilDue = (s : StateView) (ms : ℕ) (pick : Pick) (a : App) (m : Node) (due : ℕ) → IsValid s → standing_of s a ≡ Lost m
+    → due_of s (Failover a) ≡ Some due → s.time + ms < due
+    → (standing_of (next s (Tick ms) pick).state a ≡ Lost m) ⊎ Contains (next s (Tick ms) pick).notices (notice.Up m)

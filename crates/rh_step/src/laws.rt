@@ -1,6 +1,6 @@
 //! Laws of the definitions that the contracts of this crate cite. Each function does nothing: its contract is the law.
 
-ghost use Rattle.rh_step.specs.Laws.{FirstIsValid, NextIsValid, NextIsAllowed, TicksAddUp, TimeGoesOn, UpUntilEnded, StopLeavesQuiet, EndsWithoutMandatory, LostStays, LostStaysAtOtherTimers};
+ghost use Rattle.rh_step.specs.Laws.{FirstIsValid, NextIsValid, NextIsAllowed, TicksAddUp, TimeGoesOn, UpUntilEnded, StopLeavesQuiet, EndsWithoutMandatory, LostStays, LostStaysAtOtherTimers, LostUntilDue};
 
 /// The first state of a cluster is one that it reaches.
 pub fn first_is_valid()
@@ -51,4 +51,9 @@ pub fn lost_stays()
 /// And it stays lost at each timer but its own, unless that node comes up.
 pub fn lost_stays_at_other_timers()
     ensures { LostStaysAtOtherTimers }
+{}
+
+/// And it stays lost through a tick that ends before its timer is due, unless that node comes up.
+pub fn lost_until_due()
+    ensures { LostUntilDue }
 {}
