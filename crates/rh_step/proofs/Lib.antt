@@ -22,3 +22,4 @@ pub mod Stops
 pub mod EndedWaits
 pub mod LostStays
 pub mod LostInTime
+pub mod QuietStays

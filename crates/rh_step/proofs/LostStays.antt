@@ -51,7 +51,7 @@ abbrev StaysLost : App → Node → Course → Type 0
 StaysLost a m o = (standing_of o.state a ≡ Lost m) ⊎ Contains o.notices (notice.Up m)
 
 -- ---- another application is given another standing
-differs : (s : StateView) (a b : App) (new : Standing) → (standing_of s a ≡ standing_of s b → ⊥) → standing_of (with_standing s b new) a ≡ standing_of s a
+pub differs : (s : StateView) (a b : App) (new : Standing) → (standing_of s a ≡ standing_of s b → ⊥) → standing_of (with_standing s b new) a ≡ standing_of s a
 differs s a b new apart = at_set s.standings b.0 a.0 new Quiet
     (λ same. same)
     (λ here e. absurd (apart (ap (λ k. unwrap_or (slice_get s.standings k) Quiet) here)))
@@ -125,7 +125,7 @@ mark_elsewhere s n b r a m is other = by (standing_of s b) refl
     by (Wanted from) stands = refl
     by (Running k) stands = refl
 
-mark_of_another : (s : StateView) (n : Node) (b : App) (r : Restart) (a : App) → a.0 ≢ b.0 → standing_of (with_mark s n b r) a ≡ standing_of s a
+pub mark_of_another : (s : StateView) (n : Node) (b : App) (r : Restart) (a : App) → a.0 ≢ b.0 → standing_of (with_mark s n b r) a ≡ standing_of s a
 unfolding with_mark
 mark_of_another s n b r a other = by (standing_of s b)
   where
@@ -211,7 +211,7 @@ lost_stays_at_other_timers pick o entry a m another is =
     rest_stays a m pick (effect (taken_off o entry) entry.1) (effect_stays a m (taken_off o entry) entry.1 another is)
 
 -- ---- an event's own change
-booted_standings : (s : StateView) (n : Node) → (booted s n).standings ≡ s.standings
+pub booted_standings : (s : StateView) (n : Node) → (booted s n).standings ≡ s.standings
 unfolding booted
 booted_standings s n = by (with_mode (with_incarnation s n (incarnation_of s n + 1)) n mode.Waiting) (sync_wait_of s.cluster n)
   where

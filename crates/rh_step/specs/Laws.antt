@@ -92,3 +92,14 @@ abbrev pub LostUntilDue : Type 0
 LostUntilDue = (s : StateView) (ms : ℕ) (pick : Pick) (a : App) (m : Node) (due : ℕ) → IsValid s → standing_of s a ≡ Lost m
     → due_of s (Failover a) ≡ Some due → s.time + ms < due
     → (standing_of (next s (Tick ms) pick).state a ≡ Lost m) ⊎ Contains (next s (Tick ms) pick).notices (notice.Up m)
+
+-- a command that starts an application
+abbrev pub starts : Event → App → Bool
+starts (Start n b r) a = same_app a b
+starts _ a = false
+
+-- an application that is to run nowhere is started by no other one, and by no time that passes, unless a node comes up
+-- (application(3), start/2, stop/1)
+abbrev pub QuietUntilStarted : Type 0
+QuietUntilStarted = (s : StateView) (e : Event) (pick : Pick) (a : App) → IsValid s → refused s e ≡ None → standing_of s a ≡ Quiet → starts e a ≡ false
+    → (standing_of (next s e pick).state a ≡ Quiet) ⊎ ((n : Node) × Contains (next s e pick).notices (notice.Up n))

@@ -1,6 +1,6 @@
 //! Laws of the definitions that the contracts of this crate cite. Each function does nothing: its contract is the law.
 
-ghost use Rattle.rh_step.specs.Laws.{FirstIsValid, NextIsValid, NextIsAllowed, TicksAddUp, TimeGoesOn, UpUntilEnded, StopLeavesQuiet, EndsWithoutMandatory, LostStays, LostStaysAtOtherTimers, LostUntilDue};
+ghost use Rattle.rh_step.specs.Laws.{FirstIsValid, NextIsValid, NextIsAllowed, TicksAddUp, TimeGoesOn, UpUntilEnded, StopLeavesQuiet, EndsWithoutMandatory, LostStays, LostStaysAtOtherTimers, LostUntilDue, QuietUntilStarted};
 
 /// The first state of a cluster is one that it reaches.
 pub fn first_is_valid()
@@ -56,4 +56,9 @@ pub fn lost_stays_at_other_timers()
 /// And it stays lost through a tick that ends before its timer is due, unless that node comes up.
 pub fn lost_until_due()
     ensures { LostUntilDue }
+{}
+
+/// An application that is to run nowhere stays so until it is started, or a node comes up.
+pub fn quiet_until_started()
+    ensures { QuietUntilStarted }
 {}
