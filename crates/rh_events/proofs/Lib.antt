@@ -29,3 +29,8 @@ pub mod Reasons
 pub mod ModesKept
 pub mod StaysUp
 pub mod EachEvent
+pub mod Scene
+mod RowsRefusals
+mod RowsNodes
+mod RowsByHand
+pub mod EndLaws

@@ -4,3 +4,4 @@ pub mod Ending
 pub mod ByHand
 pub mod Changes
 pub mod Refusals
+pub mod Laws

@@ -24,3 +24,6 @@ pub mod LocalFirsts
 pub mod NextFirsts
 pub mod FieldLaws
 mod Rows
+mod RowsReady
+mod RowsOrder
+pub mod Resting

@@ -1,9 +1,10 @@
 -- Laws of settling, in the field's words (Distributed Applications; application(3); ours).
-use Rattle.std.specs.Prelude.{◌≡◌, ◌≤◌, ◌*◌, ◌⊎◌, ◌↔◌, length, List, [], Option, true, false, Contains, IsSome}
+use Rattle.std.specs.Prelude.{◌≡◌, ◌≤◌, ◌*◌, ◌⊎◌, ◌↔◌, ◌||◌, length, List, [], Option, true, false, Contains, IsSome}
 use Rattle.rh_model.specs.ClusterView.{group_of}
 use Rattle.rh_model.specs.declared.node.Node.{Node}
 use Rattle.rh_model.specs.declared.node.App.{App}
 use Rattle.rh_state.specs.declared.status.Standing.TheVariants.{Wanted}
+use Rattle.rh_state.specs.Standings.{is_quiet, is_lost}
 use Rattle.rh_state.specs.Shape.{IsShaped, IsNodeOf, IsAppOf}
 use Rattle.rh_state.specs.StateView.{StateView, runs_at, waits_at, is_allowed, standing_of}
 use Rattle.rh_place.specs.declared.choosing.Pick.{Pick}
@@ -69,3 +70,10 @@ abbrev pub WaitsForAReason : Type 0
 WaitsForAReason =
     (s : StateView) (n : Node) (a : App) → next_moves s [] ≡ [] → IsNodeOf s.cluster n → is_local s.cluster a ≡ true → waits_at s n a ≡ true
     → (is_allowed s n a ≡ false) ⊎ (deps_run s n a ≡ false)
+
+-- settling starts no application that is to run nowhere, and none that was lost with a node: such a one stays as it stands
+-- (application(3), stop/1; Distributed Applications, Failover)
+abbrev pub QuietAndLostStay : Type 0
+QuietAndLostStay =
+    (pick : Pick) (o : Course) (a : App) → is_quiet (standing_of o.state a) || is_lost (standing_of o.state a) ≡ true
+    → standing_of (settled pick o).state a ≡ standing_of o.state a

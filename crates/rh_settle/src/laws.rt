@@ -1,6 +1,6 @@
 //! Laws of the definitions that the contracts of this crate cite. Each function does nothing: its contract is the law.
 
-ghost use Rattle.rh_settle.specs.Laws.{SettlesByPick, FewMoves, SettlingKeeps, NextAreFirst, StillIfNoneEnabled, RunsAtOneNode, TakenOverByEarlierGroups, PlacedInFirstGroup, NeverLeftWanted, WaitsForAReason};
+ghost use Rattle.rh_settle.specs.Laws.{SettlesByPick, FewMoves, SettlingKeeps, NextAreFirst, StillIfNoneEnabled, RunsAtOneNode, TakenOverByEarlierGroups, PlacedInFirstGroup, NeverLeftWanted, WaitsForAReason, QuietAndLostStay};
 
 /// The settling that the pick takes is one that the rules allow.
 pub fn settles_by_pick()
@@ -53,4 +53,9 @@ pub fn never_left_wanted()
 /// it needs doesn't run.
 pub fn waits_for_a_reason()
     ensures { WaitsForAReason }
+{}
+
+/// Settling starts no application that is to run nowhere, and none that was lost with a node.
+pub fn quiet_and_lost_stay()
+    ensures { QuietAndLostStay }
 {}

@@ -12,9 +12,9 @@ mod settling;
 mod trace;
 
 pub use laws::{
-    few_moves, never_left_wanted, next_are_first, placed_in_first_group, runs_at_one_node,
-    settles_by_pick, settling_keeps, still_if_none_enabled, taken_over_by_earlier_groups,
-    waits_for_a_reason,
+    few_moves, never_left_wanted, next_are_first, placed_in_first_group, quiet_and_lost_stay,
+    runs_at_one_node, settles_by_pick, settling_keeps, still_if_none_enabled,
+    taken_over_by_earlier_groups, waits_for_a_reason,
 };
 pub use make::make_move;
 pub use notice::{Move, Notice, Pair};

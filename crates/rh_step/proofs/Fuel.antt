@@ -118,7 +118,7 @@ fired_fewer pick limit o entry sound h =
     omega (arith, rising, settling, effective, without, all, off)
 
 -- it is due by the limit
-due_within : (limit : ℕ) (found : Option (ℕ × Timer)) (entry : ℕ × Timer) → due_by limit found ≡ Some entry → entry.0 ≤ limit
+pub due_within : (limit : ℕ) (found : Option (ℕ × Timer)) (entry : ℕ × Timer) → due_by limit found ≡ Some entry → entry.0 ≤ limit
 due_within limit None entry h = absurd (cc h)
 due_within limit (Some x) entry h = by (nat_le x.0 limit) refl h
   where

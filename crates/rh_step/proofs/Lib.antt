@@ -16,3 +16,10 @@ pub mod Performing
 pub mod Firing
 mod Rows
 mod RowsElsewhere
+mod RowsTime
+mod RowsByItself
+pub mod Stops
+pub mod EndedWaits
+pub mod LostStays
+pub mod LostInTime
+pub mod QuietStays

@@ -42,7 +42,7 @@ settled_stays : (n : Node) (pick : Pick) (o : Course) → StaysUp n o → StaysU
 settled_stays n pick o (inl up) = inl (ap (λ modes. mode_in modes n) (settled_modes pick o) ∙ up)
 settled_stays n pick o (inr has) = inr (told_still (settled pick) (λ base p. settled_after base pick p) o (notice.Ended n) has)
 
-rest_stays : (n : Node) (pick : Pick) (o : Course) → StaysUp n o → StaysUp n (settled pick (ready_come_up o))
+pub rest_stays : (n : Node) (pick : Pick) (o : Course) → StaysUp n o → StaysUp n (settled pick (ready_come_up o))
 unfolding ready_come_up
 rest_stays n pick o stays = settled_stays n pick (ready_come_up o) (ready_stays n (nodes_of o.state.cluster) o stays)
 

@@ -1,16 +1,25 @@
 -- Laws of steps, in the field's own words (ours).
-use Rattle.std.specs.Prelude.{◌≡◌, ◌≤◌, ◌+◌, ◌++◌, ◌⊎◌, ℕ, Contains, None}
-use Rattle.rh_model.specs.ClusterView.{ClusterView, IsWithin}
+use Rattle.std.specs.Prelude.{◌≡◌, ◌≤◌, ◌<◌, ◌+◌, ◌++◌, ◌⊎◌, ◌&&◌, ℕ, Bool, true, false, Contains, Some, None}
+use Rattle.rh_model.specs.ClusterView.{ClusterView, IsWithin, mandatory_of}
 use Rattle.rh_model.specs.declared.node.Node.{Node}
-use Rattle.rh_state.specs.declared.status.Mode.TheVariants.{Up}
+use Rattle.rh_model.specs.declared.node.App.{App}
+use Rattle.rh_state.specs.declared.status.Mode.TheVariants.{Down, Up}
+use Rattle.rh_state.specs.declared.status.Standing.TheVariants.{Quiet, Lost}
+use Rattle.rh_state.specs.declared.status.Timer.{Timer}
+use Rattle.rh_state.specs.declared.status.Timer.TheVariants.{Sync, Failover}
 use Rattle.rh_state.specs.First.{first}
-use Rattle.rh_state.specs.StateView.{StateView, mode_of}
+use Rattle.rh_state.specs.Numbers.{same_node, same_app}
+use Rattle.rh_state.specs.Timers.{same_timer}
+use Rattle.rh_state.specs.StateView.{StateView, mode_of, is_alive, runs_at, standing_of, due_of}
 use Rattle.rh_place.specs.declared.choosing.Pick.{Pick}
-use Rattle.rh_settle.specs.declared.notice.Notice.TheVariants.{Ended}
+use Rattle.rh_settle.specs.declared.notice.Notice.TheVariants as notice
+use Rattle.rh_settle.specs.Course.{Course}
+use Rattle.rh_settle.specs.Moves.{is_local}
 use Rattle.rh_events.specs.declared.event.Event.{Event}
-use Rattle.rh_events.specs.declared.event.Event.TheVariants.{Tick}
+use Rattle.rh_events.specs.declared.event.Event.TheVariants.{Tick, Start, Stop}
 use Rattle.rh_events.specs.Refusals.{refused}
 use Rattle.rh_step.specs.Allowed.{Allowed}
+use Rattle.rh_step.specs.Ticks.{fired}
 use Rattle.rh_step.specs.Outcomes.{next, outcome}
 use Rattle.rh_settle.specs.Validity.{IsValid}
 
@@ -41,4 +50,56 @@ TimeGoesOn = (s : StateView) (e : Event) (pick : Pick) → refused s e ≡ None 
 -- a node that is up stays up, unless it ends
 abbrev pub UpUntilEnded : Type 0
 UpUntilEnded = (s : StateView) (e : Event) (pick : Pick) (n : Node) → refused s e ≡ None → mode_of s n ≡ Up
-    → (mode_of (next s e pick).state n ≡ Up) ⊎ Contains (next s e pick).notices (Ended n)
+    → (mode_of (next s e pick).state n ≡ Up) ⊎ Contains (next s e pick).notices (notice.Ended n)
+
+-- a distributed application that is stopped where it runs is quiet then: it runs nowhere, and is to run nowhere
+-- (application(3), stop/1)
+abbrev pub StopLeavesQuiet : Type 0
+StopLeavesQuiet = (s : StateView) (n : Node) (a : App) (pick : Pick) → IsValid s → refused s (Stop n a) ≡ None → is_local s.cluster a ≡ false
+    → runs_at s n a ≡ true
+    → (standing_of (next s (Stop n a) pick).state a ≡ Quiet)
+    × ((m : Node) → runs_at (next s (Stop n a) pick).state m a ≡ false)
+
+-- a node that isn't alive is a mandatory one of another, whose wait ends: that one ends, and doesn't come up (kernel(6),
+-- sync_nodes_mandatory, sync_nodes_timeout)
+abbrev pub EndsWithoutMandatory : Type 0
+EndsWithoutMandatory = (pick : Pick) (o : Course) (due : ℕ) (n m : Node) → Contains (mandatory_of o.state.cluster n) m → is_alive (mode_of o.state m) ≡ false
+    → (mode_of (fired pick o (due, Sync n)).state n ≡ Down)
+    × Contains (fired pick o (due, Sync n)).notices (notice.Ended n)
+
+-- the commands that may end the wait of an application that was lost with a node: it is started there, or stopped somewhere;
+-- and time
+abbrev pub may_end_wait : Event → App → Node → Bool
+may_end_wait (Tick ms) a m = true
+may_end_wait (Start n b r) a m = same_app a b && same_node m n
+may_end_wait (Stop n b) a m = same_app a b
+may_end_wait _ a m = false
+
+-- through any other one it stays lost, unless that node comes up (Distributed Applications, Failover)
+abbrev pub LostStays : Type 0
+LostStays = (s : StateView) (e : Event) (pick : Pick) (a : App) (m : Node) → IsValid s → refused s e ≡ None → standing_of s a ≡ Lost m
+    → may_end_wait e a m ≡ false
+    → (standing_of (next s e pick).state a ≡ Lost m) ⊎ Contains (next s e pick).notices (notice.Up m)
+
+-- and so it does at each timer but its own (kernel(6), distributed)
+abbrev pub LostStaysAtOtherTimers : Type 0
+LostStaysAtOtherTimers = (pick : Pick) (o : Course) (entry : ℕ × Timer) (a : App) (m : Node) → same_timer entry.1 (Failover a) ≡ false
+    → standing_of o.state a ≡ Lost m
+    → (standing_of (fired pick o entry).state a ≡ Lost m) ⊎ Contains (fired pick o entry).notices (notice.Up m)
+
+-- and through each tick that ends before its timer is due (kernel(6), distributed)
+abbrev pub LostUntilDue : Type 0
+LostUntilDue = (s : StateView) (ms : ℕ) (pick : Pick) (a : App) (m : Node) (due : ℕ) → IsValid s → standing_of s a ≡ Lost m
+    → due_of s (Failover a) ≡ Some due → s.time + ms < due
+    → (standing_of (next s (Tick ms) pick).state a ≡ Lost m) ⊎ Contains (next s (Tick ms) pick).notices (notice.Up m)
+
+-- a command that starts an application
+abbrev pub starts : Event → App → Bool
+starts (Start n b r) a = same_app a b
+starts _ a = false
+
+-- an application that is to run nowhere is started by no other one, and by no time that passes, unless a node comes up
+-- (application(3), start/2, stop/1)
+abbrev pub QuietUntilStarted : Type 0
+QuietUntilStarted = (s : StateView) (e : Event) (pick : Pick) (a : App) → IsValid s → refused s e ≡ None → standing_of s a ≡ Quiet → starts e a ≡ false
+    → (standing_of (next s e pick).state a ≡ Quiet) ⊎ ((n : Node) × Contains (next s e pick).notices (notice.Up n))

@@ -1,6 +1,6 @@
 //! Laws of the definitions that the contracts of this crate cite. Each function does nothing: its contract is the law.
 
-ghost use Rattle.rh_step.specs.Laws.{FirstIsValid, NextIsValid, NextIsAllowed, TicksAddUp, TimeGoesOn, UpUntilEnded};
+ghost use Rattle.rh_step.specs.Laws.{FirstIsValid, NextIsValid, NextIsAllowed, TicksAddUp, TimeGoesOn, UpUntilEnded, StopLeavesQuiet, EndsWithoutMandatory, LostStays, LostStaysAtOtherTimers, LostUntilDue, QuietUntilStarted};
 
 /// The first state of a cluster is one that it reaches.
 pub fn first_is_valid()
@@ -30,4 +30,35 @@ pub fn time_goes_on()
 /// A node that is up stays up unless it ends: it never waits again before that.
 pub fn up_until_ended()
     ensures { UpUntilEnded }
+{}
+
+/// A distributed application that is stopped where it runs is to run nowhere then, and runs nowhere.
+pub fn stop_leaves_quiet()
+    ensures { StopLeavesQuiet }
+{}
+
+/// A node whose wait ends while one of its mandatory nodes isn't alive ends, and doesn't come up.
+pub fn ends_without_mandatory()
+    ensures { EndsWithoutMandatory }
+{}
+
+/// An application that was lost with a node stays lost through any step but a tick, unless it is stopped, that node comes
+/// up, or it is started there.
+pub fn lost_stays()
+    ensures { LostStays }
+{}
+
+/// And it stays lost at each timer but its own, unless that node comes up.
+pub fn lost_stays_at_other_timers()
+    ensures { LostStaysAtOtherTimers }
+{}
+
+/// And it stays lost through a tick that ends before its timer is due, unless that node comes up.
+pub fn lost_until_due()
+    ensures { LostUntilDue }
+{}
+
+/// An application that is to run nowhere stays so until it is started, or a node comes up.
+pub fn quiet_until_started()
+    ensures { QuietUntilStarted }
 {}

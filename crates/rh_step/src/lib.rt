@@ -9,7 +9,9 @@ mod step;
 mod ticks;
 
 pub use laws::{
-    first_is_valid, next_is_allowed, next_is_valid, ticks_add_up, time_goes_on, up_until_ended,
+    ends_without_mandatory, first_is_valid, lost_stays, lost_stays_at_other_timers, lost_until_due,
+    next_is_allowed, next_is_valid, quiet_until_started, stop_leaves_quiet, ticks_add_up,
+    time_goes_on, up_until_ended,
 };
 pub use notices::Notices;
 pub use rh_events::{Event, Refusal, refusal_of};

@@ -1,0 +1,95 @@
+-- Two nodes and five applications, for rows that are computed: job and twin run at p or q, far at q alone, tool and aid are
+-- local; and job, far and tool need aid.
+use Rattle.std.proofs.Common.{ℕ, List, [], ◌∷◌, true, false, None, Some}
+use Rattle.rh_model.specs.ClusterView.{ClusterView, NodeView, AppView}
+use Rattle.rh_model.specs.declared.node.Node.{Node}
+use Rattle.rh_model.specs.declared.node.App.{App}
+use Rattle.rh_model.specs.declared.settings.Dep.{Dep}
+use Rattle.rh_model.specs.declared.settings.Dep.TheVariants.{Listed}
+use Rattle.rh_model.specs.declared.settings.Restart.{Restart}
+use Rattle.rh_model.specs.declared.settings.Restart.TheVariants.{Permanent, Transient, Temporary}
+use Rattle.rh_model.specs.declared.settings.SyncWait.{SyncWait}
+use Rattle.rh_model.specs.declared.settings.SyncWait.TheVariants.{Unset, After}
+use Rattle.rh_state.specs.declared.status.Mode.{Mode}
+use Rattle.rh_state.specs.declared.status.Standing.{Standing}
+use Rattle.rh_state.specs.First.{first}
+use Rattle.rh_state.specs.StateView.{StateView}
+use Rattle.rh_settle.specs.declared.notice.Pair.{Pair}
+
+abbrev pub p : Node
+p = record { 0 = 0 }
+
+abbrev pub q : Node
+q = record { 0 = 1 }
+
+-- no node of the cluster, and no application of it
+abbrev pub nowhere : Node
+nowhere = record { 0 = 2 }
+
+abbrev pub nothing : App
+nothing = record { 0 = 5 }
+
+abbrev pub job : App
+job = record { 0 = 0 }
+
+abbrev pub twin : App
+twin = record { 0 = 1 }
+
+abbrev pub far : App
+far = record { 0 = 2 }
+
+abbrev pub tool : App
+tool = record { 0 = 3 }
+
+abbrev pub aid : App
+aid = record { 0 = 4 }
+
+abbrev pub at : Node → App → Pair
+at n a = record { node = n; app = a }
+
+abbrev local_app : List Dep → AppView
+local_app deps = record { deps = deps; start_arg = None; phases = false; spread = None }
+
+abbrev spread_app : List Dep → ℕ → List (List Node) → AppView
+spread_app deps timeout groups = record { deps = deps; start_arg = None; phases = false; spread = Some (record { timeout = timeout; groups = groups }) }
+
+abbrev node : List Node → SyncWait → List (App × Restart) → NodeView
+node mandatory wait boot = record {
+  mandatory = mandatory;
+  optional = [];
+  sync_wait = wait;
+  boot = boot;
+  permissions = true ∷ true ∷ true ∷ true ∷ true ∷ [];
+  platforms = [];
+}
+
+-- q waits for p, and boots tool and then job
+abbrev pub lab : SyncWait → ClusterView
+lab wait = record {
+  node_names = (1 ∷ []) ∷ (2 ∷ []) ∷ [];
+  app_names = (3 ∷ []) ∷ (4 ∷ []) ∷ (5 ∷ []) ∷ (6 ∷ []) ∷ (7 ∷ []) ∷ [];
+  platform_names = [];
+  nodes = node [] Unset ((job, Permanent) ∷ []) ∷ node (p ∷ []) wait ((tool, Transient) ∷ (job, Temporary) ∷ []) ∷ [];
+  apps = spread_app (Listed aid ∷ []) 1000 ((p ∷ []) ∷ (q ∷ []) ∷ [])
+      ∷ spread_app [] 1000 ((p ∷ q ∷ []) ∷ [])
+      ∷ spread_app (Listed aid ∷ []) 0 ((q ∷ []) ∷ [])
+      ∷ local_app (Listed aid ∷ [])
+      ∷ local_app []
+      ∷ [];
+}
+
+-- all is permitted, and no timer set: the modes, what runs, what waits, and where job, twin and far stand
+abbrev pub scene_of : SyncWait → List Mode → List (List App) → List (List App) → List Standing → StateView
+scene_of wait modes running waiting standings = record (first (lab wait)) {
+  modes = modes;
+  running = running;
+  waiting = waiting;
+  allowed = (true ∷ true ∷ true ∷ true ∷ true ∷ []) ∷ (true ∷ true ∷ true ∷ true ∷ true ∷ []) ∷ [];
+  standings = standings;
+}
+
+abbrev pub scene : List Mode → List (List App) → List (List App) → List Standing → StateView
+scene = scene_of (After 500)
+
+abbrev pub none : List (List App)
+none = [] ∷ [] ∷ []
