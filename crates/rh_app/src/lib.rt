@@ -16,7 +16,7 @@ mod watched;
 
 pub use checking::run_check;
 pub use fault::RunFault;
-pub use laws::rehearsals_are_reversible;
+pub use laws::{rehearsals_are_reversible, sessions_are_reversible};
 pub use rh_trail::report;
 pub use running::run;
 pub use sessions::run_sessions;
