@@ -15,8 +15,7 @@ use rh_trail::Sim;
 use std::alloc::Global;
 
 /// Opens a room in the first state of a cluster, with an empty log, and gives a pass for each session, in order. Log and
-/// passes have room for all calls that the room will serve, so that none is answered want of it. The cluster is dropped if
-/// there is a fault.
+/// passes have the memory for all calls that the room will serve. The cluster is dropped if there is a fault.
 ///
 /// # Errors
 /// `SessionCount` unless the number of sessions is 1 to [`Room::SESSION_LIMIT`], and `OutOfMemory`.

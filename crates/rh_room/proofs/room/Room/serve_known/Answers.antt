@@ -27,8 +27,8 @@ invariant_of-self-2 c =
       room = omega (arith, c.push_reserved.ensures.capacity, c.self.invariant.room);
     }
 
-pub push_reserved-2-requires : goal.push_reserved-2-requires
-push_reserved-2-requires c =
+pub push_reserved-requires-2 : goal.push_reserved-requires-2
+push_reserved-requires-2 c =
     let p = c.pass.inside in
     let room : RoomView = record { sim = c.self.inside.sim; sessions = c.self.inside.sessions; log = c.self.inside.log.items } in
     let pass : PassView = record { session = p.session; receipts = p.receipts.items } in
@@ -38,8 +38,8 @@ push_reserved-2-requires c =
     let few = few_receipts room p.session p.receipts.items c.pass.invariant.order known.1 in
     omega (arith, few, below, p.receipts.ok.0, c.pass.invariant.room)
 
-pub invariant_of-pass-2 : goal.invariant_of-pass-2
-invariant_of-pass-2 c =
+pub invariant_of-pass : goal.invariant_of-pass
+invariant_of-pass c =
     let p = c.pass.inside in
     let room : RoomView = record { sim = c.self.inside.sim; sessions = c.self.inside.sessions; log = c.self.inside.log.items } in
     let pass : PassView = record { session = p.session; receipts = p.receipts.items } in
