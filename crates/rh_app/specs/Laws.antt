@@ -1,13 +1,38 @@
--- The promise of the product for one caller (ours).
-use Rattle.std.specs.Prelude.{◌≡◌, ℕ, List, Ok}
+-- The promise of the product, for one caller and for several sessions (ours).
+use Rattle.std.specs.Prelude.{◌≡◌, ◌++◌, ◌∷◌, ℕ, List, Ok, true}
 use Rattle.rh_model.specs.ClusterView.{ClusterView}
 use Rattle.rh_cluster.specs.ClusterOf.{cluster_of}
 use Rattle.rh_place.specs.declared.choosing.Pick.{Pick}
+use Rattle.rh_settle.specs.declared.notice.Notice.{Notice}
+use Rattle.rh_events.specs.declared.event.Event.{Event}
 use Rattle.rh_trail.specs.declared.call.Call.{Call}
+use Rattle.rh_trail.specs.declared.call.Call.TheVariants as call
+use Rattle.rh_trail.specs.declared.call.Reply.TheVariants as reply
+use Rattle.rh_trail.specs.SimView.{SimView}
 use Rattle.rh_trail.specs.Lone.{opened, sim_after}
-use Rattle.rh_trail.specs.Laws.{IsReversible}
+use Rattle.rh_trail.specs.Laws.{IsReversible, IsStepReversible, is_refusal, next_sim}
+use Rattle.rh_room.specs.declared.pass.Entry.{Entry}
+use Rattle.rh_room.specs.Legal.{IsLegal, calls}
 
 -- from every state that a cluster file and any list of calls reach
 abbrev pub RehearsalsAreReversible : Type 0
 RehearsalsAreReversible =
     (bytes : List ℕ) (c : ClusterView) (pick : Pick) (calls : List Call) → cluster_of bytes ≡ Ok c → IsReversible (sim_after (opened c pick) calls)
+
+-- ---- several sessions
+
+-- an entry of a log, from the simulation that its call was made of: a step that was accepted is one that the rules allow, undoing
+-- it restores the whole earlier state, and redoing it the whole later simulation; a call that was refused changed nothing
+pub record IsEntryReversible (s : SimView) (e : Entry) : Type 0 where
+  pub step : (event : Event) (notices : List Notice) → e.call ≡ call.Step event → e.reply ≡ reply.Done notices → IsStepReversible s event notices
+  pub refused : is_refusal e.reply ≡ true → next_sim s e.call ≡ s
+
+-- wherever a log is parted, the simulation behind the earlier calls is reversible, and so is the entry that comes next
+pub record IsLogReversible (start : SimView) (log : List Entry) : Type 0 where
+  pub behind : (earlier later : List Entry) → log ≡ earlier ++ later → IsReversible (sim_after start (calls earlier))
+  pub entries : (earlier : List Entry) (e : Entry) (later : List Entry) → log ≡ earlier ++ e ∷ later → IsEntryReversible (sim_after start (calls earlier)) e
+
+-- over every legal log, in whatever order the calls of the sessions stand there
+abbrev pub SessionsAreReversible : Type 0
+SessionsAreReversible =
+    (bytes : List ℕ) (c : ClusterView) (pick : Pick) (log : List Entry) → cluster_of bytes ≡ Ok c → IsLegal (opened c pick) log → IsLogReversible (opened c pick) log

@@ -25,7 +25,7 @@ mod watched;
 pub use checking::run_check;
 pub use device::{Failed, Sink, Source};
 pub use fault::{RunFault, Told};
-pub use laws::rehearsals_are_reversible;
+pub use laws::{rehearsals_are_reversible, sessions_are_reversible};
 pub use memory::{Bytes, InMemory, Text, run_in_memory};
 pub use rh_trail::report;
 pub use running::run;

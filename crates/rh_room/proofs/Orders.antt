@@ -1,5 +1,5 @@
 -- One more receipt behind those of a pass.
-use Rattle.std.proofs.Common.{◌≡◌, ℕ, ◌-◌, ◌<◌, List, [], ◌∷◌, ◌++◌, length, Some, get_or, sym, subst, inl, inr, arith}
+use Rattle.std.proofs.Common.{◌≡◌, ℕ, zero, suc, ◌-◌, ◌<◌, ◌≤◌, List, [], ◌∷◌, ◌++◌, length, Some, get_or, sym, subst, inl, inr, arith}
 use Rattle.std.proofs.lemmas.List.Quantifiers.{all_pairs_push}
 use Rattle.std.proofs.lemmas.Option.{slice_get-get_or, slice_get_within}
 use Rattle.std.proofs.lemmas.Bool.{cases_lt}
@@ -24,3 +24,19 @@ order_goes_on room session rs r ordered logged at =
       | inr behind ↦ let here : k ≡ length rs - 1 = omega (arith, inside, behind) in
           subst (λ j. (get_or rs j d).place < r.place) (sym here) (omega (arith, last, at))
     ])
+
+-- each receipt has a place that is no less than the number of those before it
+place_from : (rs : List Receipt) (k : ℕ) (d : Receipt) → InOrder rs → k < length rs → k ≤ (get_or rs k d).place
+place_from rs zero d ordered inside = omega arith
+place_from rs (suc k) d ordered inside =
+    let before : k ≤ (get_or rs k d).place = place_from rs k d ordered (omega (arith, inside)) in
+    let below : (get_or rs k d).place < (get_or rs (suc k) d).place = ordered k (suc k) d (omega arith) inside in
+    omega (arith, before, below)
+
+-- a pass has no more receipts than the log has entries
+pub few_receipts : (room : RoomView) (session : ℕ) (rs : List Receipt) → InOrder rs → IsLogged room session (last_of rs) → length rs ≤ length room.log
+few_receipts room session [] ordered logged = omega arith
+few_receipts room session (r ∷ rs) ordered logged =
+    let last = last_inside room session (r ∷ rs) r (omega arith) logged in
+    let from = place_from (r ∷ rs) (length (r ∷ rs) - 1) r ordered (omega arith) in
+    omega (arith, last, from)

@@ -1,7 +1,7 @@
 -- When a room serves a pass, and what it answers (ours).
 use Rattle.std.specs.Prelude.{◌≡◌, ◌<◌, ℕ, ◌-◌, List, length, Option, Some, None, slice_get}
 use Rattle.rh_trail.specs.declared.call.Call.{Call}
-use Rattle.rh_trail.specs.Lone.{served}
+use Rattle.rh_trail.specs.Lone.{served, TakesMemory}
 use Rattle.rh_room.specs.declared.pass.Receipt.{Receipt}
 use Rattle.rh_room.specs.declared.pass.RoomFault.{RoomFault}
 use Rattle.rh_room.specs.declared.pass.RoomFault.TheVariants.{SessionCount, WrongRoom, LogFull, OutOfMemory}
@@ -29,12 +29,12 @@ IsPassOf room pass = IsSession room.sessions pass.session × IsLogged room pass.
 abbrev pub receipt_of : RoomView → Call → Receipt
 receipt_of room call = receipt (length room.log) call (served room.sim.seen call).reply
 
--- why a room doesn't serve a pass: the first reason that applies
-abbrev pub WhyNot : RoomView → PassView → RoomFault → Type 0
-WhyNot room pass SessionCount = ⊥
-WhyNot room pass (WrongRoom place) = (IsPassOf room pass → ⊥) × (place ≡ place_of (last_of pass.receipts))
-WhyNot room pass LogFull = IsPassOf room pass × (length room.log ≡ log_limit)
-WhyNot room pass OutOfMemory = IsPassOf room pass × (length room.log < log_limit)
+-- why a room doesn't serve a call of a pass: the first reason that applies, and want of memory last
+abbrev pub WhyNot : RoomView → PassView → Call → RoomFault → Type 0
+WhyNot room pass call SessionCount = ⊥
+WhyNot room pass call (WrongRoom place) = (IsPassOf room pass → ⊥) × (place ≡ place_of (last_of pass.receipts))
+WhyNot room pass call LogFull = IsPassOf room pass × (length room.log ≡ log_limit)
+WhyNot room pass call OutOfMemory = IsPassOf room pass × (length room.log < log_limit) × TakesMemory room.sim.seen call
 
 -- why none is opened
 abbrev pub WhyNotOpened : ℕ → RoomFault → Type 0

@@ -14,8 +14,8 @@ use rh_step::Pick;
 use rh_trail::Sim;
 use std::alloc::Global;
 
-/// Opens a room in the first state of a cluster, with an empty log, and gives a pass for each session, in order. The
-/// cluster is dropped if there is a fault.
+/// Opens a room in the first state of a cluster, with an empty log, and gives a pass for each session, in order. Log and
+/// passes have the memory for all calls that the room will serve. The cluster is dropped if there is a fault.
 ///
 /// # Errors
 /// `SessionCount` unless the number of sessions is 1 to [`Room::SESSION_LIMIT`], and `OutOfMemory`.
@@ -55,8 +55,9 @@ fn room_with_passes(
     ensures passes { IfOk result (λ opening. opening.1.items ≡ map new_pass (range_with_len 1 sessions)) }
 {
     let passes = new_passes(alloc, sessions)?;
+    let log = Vec::with_capacity(alloc, Room::LOG_LIMIT)?;
     let sim = Sim::open(alloc, cluster, pick)?;
-    Ok((Room::of(alloc, sim, sessions), passes))
+    Ok((Room::of(sim, sessions, log), passes))
 }
 
 // A pass for each session.
@@ -65,7 +66,8 @@ fn new_passes(alloc: Global, sessions: u8) -> Result<Vec<Pass>, OutOfMemory>
 {
     let mut passes = Vec::new(alloc);
     for before in 0..sessions {
-        passes.push(Pass::new(alloc, before + 1))?;
+        let pass = Pass::new(alloc, before + 1)?;
+        passes.push(pass)?;
     }
     Ok(passes)
 }

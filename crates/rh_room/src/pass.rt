@@ -1,8 +1,10 @@
 //! Entries of a log, and the passes of sessions.
 
-ghost use Rattle.std.specs.Prelude.{◌≡◌, []};
+ghost use Rattle.std.specs.Prelude.{◌≡◌, [], IfOk};
 ghost use Rattle.rh_room.specs.Legal.{InOrder, new_pass};
 
+use crate::room::Room;
+use rh_base::OutOfMemory;
 use rh_trail::{Call, Reply};
 use std::alloc::Global;
 use std::marker::Model;
@@ -33,28 +35,28 @@ pub struct Receipt {
 #[derive(Drop)]
 pub struct Pass {
     pub(crate) session: u8,
+    // Has room for all calls that a room serves.
     pub(crate) receipts: Vec<Receipt>,
 }
 
 impl Model for Pass {
-    ghost use Rattle.rh_room.specs.Legal.{PassView, InOrder};
+    ghost use Rattle.std.specs.Prelude.{◌≤◌, vec_capacity};
+    ghost use Rattle.rh_room.specs.Legal.{PassView, InOrder, log_limit};
 
     ghost Value = { PassView };
 
     ghost view = { λ p. record { session = p.session; receipts = p.receipts.items } };
 
-    ghost invariant = { λ p. InOrder p.receipts.items };
+    ghost invariant = { λ p. record { order : InOrder p.receipts.items; room : log_limit ≤ vec_capacity p.receipts } };
 }
 
 impl Pass {
     // A pass without receipts.
-    pub(crate) fn new(alloc: Global, session: u8) -> Pass
-        ensures { result ≡ new_pass session }
+    pub(crate) fn new(alloc: Global, session: u8) -> Result<Pass, OutOfMemory>
+        ensures { IfOk result (λ pass. pass ≡ new_pass session) }
     {
-        Pass {
-            session,
-            receipts: Vec::new(alloc),
-        }
+        let receipts = Vec::with_capacity(alloc, Room::LOG_LIMIT)?;
+        Ok(Pass { session, receipts })
     }
 
     /// The number of the session, counted from 1.

@@ -4,7 +4,7 @@ ghost use Rattle.std.specs.Prelude.{◌≡◌, true, IfOk, OnErr};
 ghost use Rattle.rh_trail.specs.declared.call.Call.TheVariants as call;
 ghost use Rattle.rh_trail.specs.declared.call.Reply.TheVariants as reply;
 ghost use Rattle.rh_trail.specs.Laws.{is_refusal};
-ghost use Rattle.rh_trail.specs.Lone.{served, answered};
+ghost use Rattle.rh_trail.specs.Lone.{served, answered, TakesMemory};
 
 use rh_base::OutOfMemory;
 use rh_step::{Event, Refusal};
@@ -26,6 +26,7 @@ pub fn replies_to(alloc: Global, sim: &mut Sim, call: Call) -> Result<Replies, O
     ensures told { IfOk result (λ r. r.told ≡ r.logged) }
     ensures refused { IfOk result (λ r. is_refusal r.logged ≡ true → sim.new ≡ sim.old) }
     ensures same { OnErr result (sim.new ≡ sim.old) }
+    ensures last { OnErr result (TakesMemory sim.old.seen call) }
 {
     match call {
         Call::Step(event) => step(alloc, sim, event),
@@ -44,6 +45,7 @@ fn step(alloc: Global, sim: &mut Sim, event: Event) -> Result<Replies, OutOfMemo
     ensures told { IfOk result (λ r. r.told ≡ r.logged) }
     ensures refused { IfOk result (λ r. is_refusal r.logged ≡ true → sim.new ≡ sim.old) }
     ensures same { OnErr result (sim.new ≡ sim.old) }
+    ensures last { OnErr result (TakesMemory sim.old.seen (call.Step event)) }
 {
     match sim.step_copies(alloc, event, 3) {
         Ok(mut copies) => {

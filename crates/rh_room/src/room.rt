@@ -1,8 +1,8 @@
 //! The room.
 
-ghost use Rattle.std.specs.Prelude.{◌≡◌, ◌<◌, ◌↔◌, ◌++◌, ◌∷◌, [], IsTrue, true, length, IfOk, IfErr, OnOk, OnErr};
+ghost use Rattle.std.specs.Prelude.{◌≡◌, ◌<◌, ◌≤◌, ◌↔◌, ◌++◌, ◌∷◌, [], IsTrue, true, length, vec_capacity, IfOk, IfErr, OnOk, OnErr};
 ghost use Rattle.std.specs.Option.{option_map};
-ghost use Rattle.rh_trail.specs.Lone.{served, opened};
+ghost use Rattle.rh_trail.specs.Lone.{served, opened, TakesMemory};
 ghost use Rattle.rh_trail.specs.Laws.{IsReversible, is_refusal};
 ghost use Rattle.rh_room.specs.Legal.{IsSession, IsRoom, entry, session_limit, log_limit};
 ghost use Rattle.rh_room.specs.Serving.{last_of, place_of, IsPassOf, receipt_of, WhyNot};
@@ -20,6 +20,7 @@ use std::sync::Mutex;
 pub struct Room {
     sim: Sim,
     sessions: u8,
+    // Has room for all entries that it may hold.
     log: Vec<Entry>,
 }
 
@@ -27,13 +28,14 @@ pub struct Room {
 pub type Shared = Mutex<Room>;
 
 impl Model for Room {
-    ghost use Rattle.rh_room.specs.Legal.{RoomView, IsRoom};
+    ghost use Rattle.std.specs.Prelude.{◌≤◌, vec_capacity};
+    ghost use Rattle.rh_room.specs.Legal.{RoomView, IsRoom, log_limit};
 
     ghost Value = { RoomView };
 
     ghost view = { λ r. record { sim = r.sim; sessions = r.sessions; log = r.log.items } };
 
-    ghost invariant = { λ r. IsRoom r.sim.seen r.sessions r.log.items };
+    ghost invariant = { λ r. record { legal : IsRoom r.sim.seen r.sessions r.log.items; room : log_limit ≤ vec_capacity r.log } };
 }
 
 impl Room {
@@ -43,19 +45,17 @@ impl Room {
     /// The greatest number of entries in a log.
     pub const LOG_LIMIT: usize = 65_535;
 
-    // A room with an empty log.
-    pub(crate) fn of(alloc: Global, sim: Sim, sessions: u8) -> Room
+    // A room with an empty log, which has room for all entries.
+    pub(crate) fn of(sim: Sim, sessions: u8, log: Vec<Entry>) -> Room
         requires sim { sim.seen ≡ opened sim.seen.cluster sim.seen.pick }
         requires sessions { IsSession session_limit sessions }
+        requires empty { log.items ≡ [] }
+        requires room { log_limit ≤ vec_capacity log }
         ensures sim { result.sim ≡ sim }
         ensures sessions { result.sessions ≡ sessions }
         ensures log { result.log ≡ [] }
     {
-        Room {
-            sim,
-            sessions,
-            log: Vec::new(alloc),
-        }
+        Room { sim, sessions, log }
     }
 
     /// The calls of all sessions, in the order in which they were served, with their replies. Each reply is the one that a
@@ -104,8 +104,8 @@ impl Room {
     /// neither the room nor the pass.
     ///
     /// # Errors
-    /// `WrongRoom` if the pass isn't one of this room's, else `LogFull` if the log is full, and `OutOfMemory`. A step that is
-    /// refused isn't an error: that is the reply.
+    /// `WrongRoom` if the pass isn't one of this room's, else `LogFull` if the log is full, else `OutOfMemory`, and that only
+    /// for a step that isn't refused and for a look. A step that is refused isn't an error: that is the reply.
     pub fn serve(
         &mut self,
         alloc: Global,
@@ -121,7 +121,7 @@ impl Room {
         ensures receipts { IfOk result (λ receipt. pass.new.receipts ≡ pass.old.receipts ++ receipt ∷ []) }
         ensures fine { OnOk result (IsPassOf self.old pass.old × (length self.old.log < log_limit)) }
         ensures kept { OnErr result ((self.new ≡ self.old) × (pass.new ≡ pass.old)) }
-        ensures fault { IfErr result (WhyNot self.old pass.old) }
+        ensures fault { IfErr result (WhyNot self.old pass.old call) }
     {
         if !self.knows(pass) {
             let place = last_place(pass.receipts());
@@ -153,24 +153,23 @@ impl Room {
         ensures session { pass.new.session ≡ pass.old.session }
         ensures receipts { IfOk result (λ receipt. pass.new.receipts ≡ pass.old.receipts ++ receipt ∷ []) }
         ensures kept { OnErr result ((self.new ≡ self.old) × (pass.new ≡ pass.old)) }
+        ensures last { OnErr result (TakesMemory self.old.sim.seen call) }
     {
         let session = pass.session();
         let place = self.log.len();
-        self.log.reserve(1)?;
-        pass.receipts.reserve(1)?;
         let Replies { logged, kept, told } = replies_to(alloc, &mut self.sim, call)?;
         let entry = Entry {
             session,
             call,
             reply: logged,
         };
-        self.log.push(entry).unwrap();
+        self.log.push_reserved(entry);
         let receipt = Receipt {
             place,
             call,
             reply: kept,
         };
-        pass.receipts.push(receipt).unwrap();
+        pass.receipts.push_reserved(receipt);
         Ok(Receipt {
             place,
             call,

@@ -8,7 +8,9 @@ use Rattle.rh_state.specs.Records.{CanGoBack, CanGoForth}
 use Rattle.rh_state.specs.Stored.{Stored, read}
 use Rattle.rh_settle.specs.Validity.{IsValid}
 use Rattle.rh_trail.specs.Runs.{after}
-use Rattle.rh_trail.specs.SimView.{Held}
+use Rattle.rh_trail.specs.SimView.{SimView, Held}
+use Rattle.rh_trail.specs.declared.call.Call.{Call}
+use Rattle.rh_trail.specs.declared.call.Call.TheVariants as call
 use Rattle.rh_trail.specs.declared.sim.TheConstants.Sim.{TRAIL_LIMIT}
 
 -- the words after records are exchanged from the last to the first, each from its last edit to its first
@@ -26,6 +28,15 @@ chain_at w records c k = if nat_le k c then backs w (drop k (take c records)) el
 -- the words behind k events, from those that are kept
 abbrev pub chain : Held → ℕ → Stored
 chain s k = chain_at s.words s.records s.seen.cursor k
+
+-- how far the words stay that undo and redo lead to: a step keeps those up to the cursor, each other call all of them
+abbrev pub kept_to : SimView → Call → ℕ
+kept_to s (call.Step e) = s.cursor
+kept_to s call.Undo = length s.trail
+kept_to s call.Redo = length s.trail
+kept_to s call.UndoAll = length s.trail
+kept_to s call.RedoAll = length s.trail
+kept_to s call.Look = length s.trail
 
 -- undo and redo lead to the state behind each number of events of the trail, over words that are well formed before and
 -- after each single exchange; and back to the words of the first state

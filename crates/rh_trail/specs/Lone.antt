@@ -1,5 +1,5 @@
 -- The calls of one caller, with their replies (ours).
-use Rattle.std.specs.Prelude.{ℕ, ◌+◌, ◌-◌, List, [], ◌∷◌, ◌++◌, length, take, Option, Some, None, Result, Ok, Err, ◌==◌, if◌then◌else◌}
+use Rattle.std.specs.Prelude.{◌≡◌, ◌<◌, ℕ, ◌+◌, ◌-◌, List, [], ◌∷◌, ◌++◌, length, take, Option, Some, None, Result, Ok, Err, ◌==◌, if◌then◌else◌}
 use Rattle.rh_model.specs.ClusterView.{ClusterView}
 use Rattle.rh_events.specs.declared.event.Event.{Event}
 use Rattle.rh_place.specs.declared.choosing.Pick.{Pick}
@@ -54,6 +54,15 @@ served s call.Redo = if s.cursor == length s.trail then answered reply.AtEnd s e
 served s call.UndoAll = answered (reply.Moved s.cursor) (record s { cursor = 0 })
 served s call.RedoAll = answered (reply.Moved (length s.trail - s.cursor)) (record s { cursor = length s.trail })
 served s call.Look = answered (reply.Seen s.cursor (length s.trail) (report_text (state_of s))) s
+
+-- the calls that take memory, and so may be answered want of it: a step that isn't refused, and the report
+abbrev pub TakesMemory : SimView → Call → Type 0
+TakesMemory s (call.Step e) = (refused (state_of s) e ≡ None) × (s.cursor < trail_limit)
+TakesMemory s call.Undo = ⊥
+TakesMemory s call.Redo = ⊥
+TakesMemory s call.UndoAll = ⊥
+TakesMemory s call.RedoAll = ⊥
+TakesMemory s call.Look = Unit {0}
 
 -- the reply that an answer of undo or redo stands for
 abbrev pub undo_reply : Result ℕ AtStart → Reply

@@ -9,10 +9,10 @@ ghost use Rattle.rh_state.specs.Stored.{read};
 ghost use Rattle.rh_events.specs.Refusals.{refused};
 ghost use Rattle.rh_step.specs.Outcomes.{next};
 ghost use Rattle.rh_settle.specs.Validity.{IsValid};
-ghost use Rattle.rh_trail.specs.Chain.{chain};
+ghost use Rattle.rh_trail.specs.Chain.{chain, kept_to};
 ghost use Rattle.rh_trail.specs.Laws.{is_refusal};
 ghost use Rattle.rh_trail.specs.SimView.{state_of, record_at};
-ghost use Rattle.rh_trail.specs.Lone.{served, answered, undo_reply, redo_reply, trail_limit, cut};
+ghost use Rattle.rh_trail.specs.Lone.{served, answered, undo_reply, redo_reply, trail_limit, cut, TakesMemory};
 ghost use Rattle.rh_trail.specs.declared.call.Call.TheVariants as call;
 ghost use Rattle.rh_trail.specs.declared.call.Reply.TheVariants as reply;
 
@@ -237,9 +237,12 @@ impl Sim {
     /// Serves a call of any kind, and gives the reply. Want of memory changes nothing.
     pub fn answer(&mut self, alloc: Global, call: Call) -> Result<Reply, OutOfMemory>
         ensures ok { IfOk result (λ reply. served self.old.seen call ≡ answered reply self.new.seen) }
-        ensures chain { (k : ℕ) → k ≤ self.old.seen.cursor → chain self.new k ≡ chain self.old k }
+        ensures chain { (k : ℕ) → k ≤ kept_to self.old.seen call → chain self.new k ≡ chain self.old k }
         ensures refused { IfOk result (λ reply. is_refusal reply ≡ true → self.new ≡ self.old) }
         ensures err { OnErr result (self.new ≡ self.old) }
+
+        // No call that takes none wants memory, and no step that is refused.
+        ensures last { OnErr result (TakesMemory self.old.seen call) }
     {
         self.is_chained();
         match call {

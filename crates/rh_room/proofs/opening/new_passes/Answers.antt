@@ -8,6 +8,6 @@ pub loop-before-preserved : goal.loop-before-preserved
 loop-before-preserved c =
     let n = c.loop-before.before in
     c.in_ok-push.ensures.items
-    ∙ ap (λ (ps : List PassView). ps ++ c.new.result ∷ []) c.loop-before.invariant
-    ∙ ap (λ (p : PassView). map new_pass (range_with_len 1 n) ++ p ∷ []) c.new.ensures
+    ∙ ap (λ (ps : List PassView). ps ++ c.in_ok-pass.pass ∷ []) c.loop-before.invariant
+    ∙ ap (λ (p : PassView). map new_pass (range_with_len 1 n) ++ p ∷ []) c.in_ok-pass.ensures
     ∙ sym (map-range_with_len_more new_pass 1 n (n + 1) (omega arith))
