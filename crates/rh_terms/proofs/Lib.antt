@@ -8,3 +8,4 @@ pub mod Read
 pub mod Found
 pub mod Enough
 pub mod Nesting
+pub mod Rows
