@@ -1,5 +1,5 @@
 -- Worked rows: each fault of a cluster file, where it comes.
-use Rattle.std.proofs.Common.{◌≡◌, [], ◌∷◌, Some, None, codes, refl}
+use Rattle.std.proofs.Common.{◌≡◌, [], ◌∷◌, Some, None, codes, refl, ℕ, List, ◌++◌, Option, map, replicate}
 use Rattle.std.specs.Str.{is_utf8, chars}
 use lib.Utf8.{encode}
 use Rattle.rh_terms.specs.Bytes.{past}
@@ -23,7 +23,6 @@ use Rattle.rh_cluster.specs.Agreement.{agreement_stage}
 use Rattle.rh_cluster.specs.ClusterOf.{names_of, node_views, all_shares, app_views, faults_behind_headers, faults_in, cluster_view, cluster_of}
 use Rattle.rh_terms.specs.Tokens.{text_at}
 use Rattle.rh_sections.specs.Sections.{permission_faults, as_truth, platform_faults, is_start, are_phases}
-use Rattle.std.proofs.Common.{ℕ, List, ◌++◌, Option, map, replicate}
 use Rattle.std.specs.Result.{result_err}
 use Rattle.rh_sections.specs.declared.fault.ClusterFault.{ClusterFault}
 use Rattle.rh_sections.specs.declared.fault.ClusterFault.TheVariants.{NoNodes, DuplicateName, UnknownName, DuplicateInList, DuplicateParameter, BadValue, BadName}
