@@ -1,5 +1,5 @@
 -- Worked rows: which fault of a cluster file comes before which, and what its nodes agree on.
-use Rattle.std.proofs.Common.{◌≡◌, [], ◌∷◌, true, false, Some, None, codes, refl, ℕ, List, ◌++◌, Option, map, replicate, length, filter}
+use Rattle.std.proofs.Common.{◌≡◌, [], ◌∷◌, true, false, Some, None, codes, refl, ℕ, List, ◌++◌, Option, map, replicate, length}
 use Rattle.std.specs.Str.{is_utf8, chars}
 use lib.Utf8.{encode}
 use Rattle.rh_terms.specs.Bytes.{past}
@@ -30,7 +30,6 @@ use Rattle.rh_terms.specs.declared.fault.TermFault.TheVariants.{Syntax}
 use Rattle.rh_sections.specs.declared.fault.ClusterFault.TheVariants.{Term}
 use Rattle.rh_base.specs.Tree.{Tree, atom, list, tuple, none, more}
 use Rattle.std.specs.List.{range_with_len}
-use Rattle.rh_sections.specs.NameRule.{is_name_byte}
 
 -- the fault of a text, if it has one
 abbrev fault_of : List ℕ → Option ClusterFault
@@ -127,13 +126,6 @@ unfolding is_utf8 chars encode terms_of dotted dot_at inside terms_up_to some_te
     same_shares same_share same_group boot_list_faults boot_entry_faults cluster_view app_views app_view dep_named
 bad_dependency_row = refl
 
--- of one name of the platform: that it is there before, that an application has it, that it is one too many
-platform_name_row : (platform_faults (record { nodes = []; apps = codes "p" ∷ []; platforms = [] }) (atom (codes "p") ∷ []) (atom (codes "p"))
-    ≡ DuplicateInList ∷ DuplicateName ∷ TooMany ∷ [])
-    × (platform_faults (record { nodes = []; apps = []; platforms = codes "r" ∷ [] }) [] (atom (codes "r")) ≡ [])
-unfolding platform_faults name_faults word_faults as_atom is_name
-platform_name_row = (refl, refl)
-
 -- of the name of a term: the rule, a name that is taken, one too many
 new_name_row : (new_name_faults 1 false (codes "x y" ∷ []) (codes "x y") ≡ BadName ∷ DuplicateName ∷ TooMany ∷ [])
     × (new_name_faults 1 true [] (codes "kernel") ≡ DuplicateName ∷ []) × (new_name_faults 1 false [] (codes "x") ≡ [])
@@ -157,14 +149,6 @@ most_platforms_row : (length (with_first_name (replicate 255 []) (codes "x")) �
     × (platforms_in [] ≡ record { first = codes "kernel" ∷ codes "stdlib" ∷ []; known = codes "kernel" ∷ codes "stdlib" ∷ [] })
 unfolding with_first_name with_name platforms_in
 most_platforms_row = (refl, refl, refl)
-
--- 1 to 255 bytes, none of them a control byte or a space
-names_row : map is_name ([] ∷ codes "x" ∷ replicate 255 120 ∷ replicate 256 120 ∷ (194 ∷ 160 ∷ []) ∷ []) ≡ false ∷ true ∷ true ∷ false ∷ true ∷ []
-unfolding is_name
-names_row = refl
-
-name_bytes_row : filter is_name_byte (range_with_len 0 256) ≡ range_with_len 33 94 ++ range_with_len 128 128
-name_bytes_row = refl
 
 -- ---- what the nodes agree on
 
