@@ -1,17 +1,16 @@
 -- Worked rows: when a room serves a pass, what it answers, and when it closes.
-use Rattle.std.proofs.Common.{◌≡◌, ◌≤◌, ◌<◌, ℕ, List, [], ◌∷◌, length, All, Some, sym, ◌∙◌, subst, refl, arith}
+use Rattle.std.proofs.Common.{◌≡◌, ◌<◌, ℕ, List, [], ◌∷◌, length, All, refl, arith}
 use Rattle.rh_model.specs.ClusterView.{ClusterView}
 use Rattle.rh_place.specs.declared.choosing.Pick.{Pick}
 use Rattle.rh_trail.specs.declared.call.Call.{Call}
-use Rattle.rh_trail.specs.declared.call.Call.TheVariants.{Undo, Redo, Look}
-use Rattle.rh_trail.specs.declared.call.Reply.{Reply}
-use Rattle.rh_trail.specs.declared.call.Reply.TheVariants.{AtStart, AtEnd, Undone}
+use Rattle.rh_trail.specs.declared.call.Call.TheVariants.{Undo, Redo}
+use Rattle.rh_trail.specs.declared.call.Reply.TheVariants.{AtStart, AtEnd}
 use Rattle.rh_trail.specs.SimView.{Held}
 use Rattle.rh_trail.specs.Lone.{served}
 use Rattle.rh_room.specs.declared.pass.Entry.{Entry}
 use Rattle.rh_room.specs.declared.pass.RoomFault.TheVariants.{SessionCount, WrongRoom, LogFull, OutOfMemory}
-use Rattle.rh_room.specs.declared.closing.CloseReason.TheVariants.{MissingPass, Disagree, OtherBase}
-use Rattle.rh_room.specs.Legal.{PassView, RoomView, IsSession, session_limit, log_limit, entry, receipt, new_pass, of_session}
+use Rattle.rh_room.specs.declared.closing.CloseReason.TheVariants.{Disagree, OtherBase}
+use Rattle.rh_room.specs.Legal.{PassView, RoomView, session_limit, log_limit, entry, receipt, new_pass, of_session}
 use Rattle.rh_room.specs.Serving.{IsPassOf, receipt_of, WhyNot, WhyNotOpened}
 use Rattle.rh_room.specs.Closing.{AreAll, Agrees, WhyOpen}
 
@@ -22,29 +21,29 @@ limits_row = (refl, refl)
 
 -- a room has 1 to 8 sessions
 sessions_row : (WhyNotOpened 0 SessionCount) × (WhyNotOpened 9 SessionCount) × (WhyNotOpened 1 SessionCount → ⊥) × (WhyNotOpened 8 SessionCount → ⊥)
-sessions_row = (λ few. omega arith few.0, λ few. omega arith few.1, λ why. why (omega arith, omega arith), λ why. why (omega arith, omega arith))
+sessions_row = (λ few. omega (arith, few.0), λ few. omega (arith, few.1), λ why. why (omega arith, omega arith), λ why. why (omega arith, omega arith))
 
 -- ---- whose turn a call is
 
 -- an unused pass is of each room that has its session
 unused_pass_row : (sim : Held) (log : List Entry) → IsPassOf (record { sim = sim; sessions = 2; log = log }) (new_pass 2)
     × (IsPassOf (record { sim = sim; sessions = 2; log = log }) (new_pass 3) → ⊥) × (IsPassOf (record { sim = sim; sessions = 2; log = log }) (new_pass 0) → ⊥)
-unused_pass_row sim log = (((omega arith, omega arith), tt), λ is. omega arith is.0.1, λ is. omega arith is.0.0)
+unused_pass_row sim log = (((omega arith, omega arith), tt), λ is. omega (arith, is.0.1), λ is. omega (arith, is.0.0))
 
 -- a pass that was told what isn't logged is of another room, and the place of its last receipt is told; without receipts that is 0
 foreign_row : (sim : Held) → WhyNot (record { sim = sim; sessions = 1; log = [] })
     (record { session = 1; receipts = receipt 3 Undo AtStart ∷ receipt 7 Redo AtEnd ∷ [] }) (WrongRoom 7)
-foreign_row sim = (λ is. elim is.1 [ ], refl)
+foreign_row sim = (λ is. cc is.1, refl)
 
 other_session_row : (sim : Held) (log : List Entry) → WhyNot (record { sim = sim; sessions = 2; log = log }) (new_pass 3) (WrongRoom 0)
-other_session_row sim log = (λ is. omega arith is.0.1, refl)
+other_session_row sim log = (λ is. omega (arith, is.0.1), refl)
 
 -- a log takes 65,535 entries; that the pass is another room's comes before that the log is full, and want of memory behind both
 full_row : (room : RoomView) (pass : PassView) → IsPassOf room pass → length room.log ≡ 65535 → WhyNot room pass LogFull × (WhyNot room pass OutOfMemory → ⊥)
-full_row room pass is full = ((is, full), λ why. omega arith full why.1)
+full_row room pass is full = ((is, full), λ why. omega (arith, full, why.1))
 
 almost_full_row : (room : RoomView) (pass : PassView) → length room.log ≡ 65534 → WhyNot room pass LogFull → ⊥
-almost_full_row room pass almost why = omega arith almost why.1
+almost_full_row room pass almost why = omega (arith, almost, why.1)
 
 foreign_before_full_row : (room : RoomView) (pass : PassView) → (IsPassOf room pass → ⊥) → WhyNot room pass LogFull → ⊥
 foreign_before_full_row room pass foreign why = foreign why.0
@@ -68,11 +67,11 @@ receipt_row sim call = refl
 
 -- a pass is missing
 one_of_two_row : AreAll 2 (new_pass 1 ∷ []) → ⊥
-one_of_two_row all = omega arith (all.once 2 (omega arith, omega arith))
+one_of_two_row all = omega (arith, all.once 2 (omega arith, omega arith))
 
 -- or there is one too many
 twice_row : AreAll 1 (new_pass 1 ∷ new_pass 1 ∷ []) → ⊥
-twice_row all = omega arith (all.once 1 (omega arith, omega arith))
+twice_row all = omega (arith, all.once 1 (omega arith, omega arith))
 
 -- that a pass is missing comes before that one disagrees, and that before another base; of those that disagree the first session counts
 missing_first_row : (room : RoomView) (passes : List PassView) (cluster : ClusterView) (pick : Pick) (session place : ℕ)

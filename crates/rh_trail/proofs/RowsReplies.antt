@@ -1,9 +1,9 @@
 -- Worked rows: what a caller is told by calls that go back and forth, and by steps at the end of a trail's room.
-use Rattle.std.proofs.Common.{◌≡◌, List, [], ◌∷◌, codes, map, refl}
+use Rattle.std.proofs.Common.{◌≡◌, ℕ, List, [], ◌∷◌, codes, map, refl}
 use Rattle.rh_model.specs.ClusterView.{ClusterView, numbered}
 use Rattle.rh_events.specs.declared.event.Event.{Event}
 use Rattle.rh_events.specs.declared.event.Event.TheVariants.{Boot, Crash, Tick}
-use Rattle.rh_settle.specs.declared.notice.Notice.TheVariants.{Up, Ended}
+use Rattle.rh_settle.specs.declared.notice.Notice.TheVariants.{Up}
 use Rattle.rh_place.specs.declared.choosing.Pick.TheVariants.{First}
 use Rattle.rh_events.specs.declared.refusal.Refusal.TheVariants.{UnknownNode, NotAlive, ZeroTick, TimeLimit, TrailFull}
 use Rattle.rh_trail.specs.declared.call.Call.TheVariants.{Step, Undo, Redo, UndoAll, RedoAll}
@@ -58,7 +58,7 @@ cut_row = refl
 -- ---- the limit of a trail
 
 -- behind so many events; they are no part of what is refused
-abbrev behind : _ → SimView
+abbrev behind : ℕ → SimView
 behind cursor = record { cluster = one_node; pick = First; trail = []; cursor = cursor }
 
 abbrev told : SimView → List Event → List Reply
