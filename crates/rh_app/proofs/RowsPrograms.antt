@@ -1,5 +1,5 @@
 -- Worked rows: what each program writes for the bytes that it reads, and the fault that its text tells at the end.
-use Rattle.std.proofs.Common.{◌≡◌, [], ◌∷◌, Some, None, codes, refl}
+use Rattle.std.proofs.Common.{◌≡◌, ℕ, List, [], ◌∷◌, Option, Some, None, codes, refl}
 use Rattle.std.specs.Fmt.{digits}
 use Rattle.std.specs.Str.{is_utf8, chars}
 use lib.Utf8.{encode}
@@ -29,6 +29,7 @@ use Rattle.rh_trail.specs.declared.call.Reply.TheVariants.{Done, AtStart}
 use Rattle.rh_trail.specs.Runs.{step}
 use Rattle.rh_trail.specs.Lone.{opened}
 use Rattle.rh_trail.specs.Report.{node_line, line_if_forbidden, standing_line, app_line, timer_line, node_lines}
+use Rattle.rh_room.specs.declared.pass.Entry.{Entry}
 use Rattle.rh_room.specs.Legal.{entry}
 use Rattle.rh_sweep.specs.declared.fault.SweepFault.TheVariants.{BaseNotAtEnd}
 use Rattle.rh_script.specs.Lines.{content}
@@ -36,8 +37,10 @@ use Rattle.rh_script.specs.SessionLines.{command, session_line_of}
 use Rattle.rh_script.specs.declared.session_lines.SessionLine.TheVariants as session
 use Rattle.rh_script.specs.Answers.{notice_line, answer_text, fault_text, bad_text}
 use Rattle.rh_script.specs.CommandWords.{event_words, command_words}
+use Rattle.rh_script.specs.declared.sweep_lines.SweepLine.{SweepLine}
 use Rattle.rh_script.specs.SweepLines.{sweep_line_of, sweep_lines_asked, bad_sweep_line}
 use Rattle.rh_script.specs.SweepAnswers.{sweep_fault_text}
+use Rattle.rh_app.specs.declared.fault.Told.{Told}
 use Rattle.rh_app.specs.declared.fault.Told.TheVariants as told
 use Rattle.rh_app.specs.RunText.{run_text, run_end}
 use Rattle.rh_app.specs.CheckText.{count_text, check_text, check_end}
@@ -64,22 +67,23 @@ counts_row = refl
 
 -- ---- sweeps
 
+abbrev swept : List SweepLine → List ℕ × Option Told
+swept lines = (lines_text one_node First lines (bad_sweep_line lines), lines_end one_node First lines (bad_sweep_line lines))
+
 -- a bad line of a sweep is told alone; behind the answers to the base, why there is no sweep
-bad_line_alone_row : (λ lines. (lines_text one_node First lines (bad_sweep_line lines), lines_end one_node First lines (bad_sweep_line lines)))
-    (sweep_lines_asked one_node (codes "undo" ∷ codes "boot a" ∷ codes "undo" ∷ codes "plan p" ∷ codes "flip" ∷ []))
+bad_line_alone_row : swept (sweep_lines_asked one_node (codes "undo" ∷ codes "boot a" ∷ codes "undo" ∷ codes "plan p" ∷ codes "flip" ∷ []))
     ≡ (codes "bad line 5\n", Some (told.BadLine 5))
 unfolding sweep_line_of bad_text is_utf8 chars encode digits
 bad_line_alone_row = refl
 
-no_sweep_row : (λ lines. (lines_text one_node First lines (bad_sweep_line lines), lines_end one_node First lines (bad_sweep_line lines)))
-    (sweep_lines_asked one_node (codes "undo" ∷ codes "boot a" ∷ codes "undo" ∷ codes "plan p" ∷ codes "crash a" ∷ []))
+no_sweep_row : swept (sweep_lines_asked one_node (codes "undo" ∷ codes "boot a" ∷ codes "undo" ∷ codes "plan p" ∷ codes "crash a" ∷ []))
     ≡ (codes "refused at_start\nok\nup a\nok\nsweep refused V2 base_not_at_end\n", Some (told.Sweep BaseNotAtEnd))
 unfolding sweep_line_of answer_text notice_line sweep_fault_text nodes_of apps_of configured moved_by all_moved all_alive is_ready mark_all come_up come_up_if_ready
     ready_come_up booted followed refused next step is_utf8 chars encode
 no_sweep_row = refl
 
 -- that the base isn't at its end comes before that there is no room
-why_not_row : (λ plans. why_not_swept (record (opened one_node First) { cursor = 65535 }) plans) [] ≡ Some BaseNotAtEnd
+why_not_row : why_not_swept (record (opened one_node First) { cursor = 65535 }) (record { name = codes "p"; events = Boot (numbered 0) ∷ [] } ∷ []) ≡ Some BaseNotAtEnd
 why_not_row = refl
 
 -- ---- sessions
@@ -99,9 +103,11 @@ by_session_row : by_session 2 (commands_of (session_lines_asked one_node (codes 
 unfolding session_line_of is_utf8 chars encode
 by_session_row = refl
 
+abbrev told_of : List Entry → List ℕ
+told_of log = history_text one_node log (last_state one_node First log)
+
 -- each entry with its session and its answer, and at last the report
-history_row : (λ log. history_text one_node log (last_state one_node First log))
-    (entry 2 Undo AtStart ∷ entry 1 (Step (Boot (numbered 0))) (Done (Up (numbered 0) ∷ [])) ∷ [])
+history_row : told_of (entry 2 Undo AtStart ∷ entry 1 (Step (Boot (numbered 0))) (Done (Up (numbered 0) ∷ [])) ∷ [])
     ≡ codes "entry 2 undo\nrefused at_start\nentry 1 boot a\nok\nup a\nfinal\nnow 0\nnode a up 1\n"
 unfolding command_words event_words answer_text notice_line nodes_of apps_of configured moved_by all_moved all_alive is_ready mark_all come_up come_up_if_ready
     ready_come_up booted followed refused next step node_line line_if_forbidden standing_line app_line timer_line node_lines digits

@@ -1,5 +1,5 @@
 -- Worked rows: each command, the lines that are none, and what a script of sessions or of a sweep asks.
-use Rattle.std.proofs.Common.{◌≡◌, [], ◌∷◌, true, false, Some, None, codes, map, replicate, refl}
+use Rattle.std.proofs.Common.{◌≡◌, ℕ, List, [], ◌∷◌, true, false, Option, Some, None, codes, map, replicate, refl}
 use Rattle.std.specs.Str.{is_utf8, chars}
 use lib.Utf8.{encode}
 use Rattle.rh_model.specs.ClusterView.{ClusterView, numbered, app_numbered}
@@ -13,7 +13,9 @@ use Rattle.rh_script.specs.declared.sweep_lines.SweepLine.TheVariants as asks
 use Rattle.rh_script.specs.Lines.{content, cluster_text, script_lines}
 use Rattle.rh_script.specs.Commands.{milliseconds, four_word_command, line_of}
 use Rattle.rh_script.specs.SessionLines.{command, session_line_of}
-use Rattle.rh_script.specs.SweepLines.{sweep_line_of, bad_sweep_line, base_lines, plans_of, sweep_lines_asked}
+use Rattle.rh_script.specs.declared.script.Line.{Line}
+use Rattle.rh_script.specs.declared.sweep_lines.SweepLine.{SweepLine}
+use Rattle.rh_script.specs.SweepLines.{PlanText, sweep_line_of, bad_sweep_line, base_lines, plans_of, sweep_lines_asked}
 
 -- nodes a and b, and an application w
 abbrev c : ClusterView
@@ -95,8 +97,11 @@ unfolding sweep_line_of four_word_command is_utf8 chars encode
 plan_lines_row = refl
 
 -- what stands before the first plan is the base; names may be the same, and a plan may be empty
-plans_row : (λ lines. (base_lines lines, plans_of lines, bad_sweep_line lines))
-    (sweep_lines_asked c (codes "undo" ∷ [] ∷ codes "plan p" ∷ codes "boot a" ∷ codes "#" ∷ codes "crash a" ∷ codes "plan p" ∷ codes "plan q" ∷ codes "tick 1" ∷ []))
+abbrev parts : List SweepLine → List Line × List PlanText × Option ℕ
+parts lines = (base_lines lines, plans_of lines, bad_sweep_line lines)
+
+plans_row : parts (sweep_lines_asked c (
+    codes "undo" ∷ [] ∷ codes "plan p" ∷ codes "boot a" ∷ codes "#" ∷ codes "crash a" ∷ codes "plan p" ∷ codes "plan q" ∷ codes "tick 1" ∷ []))
     ≡ (
       Asks Undo ∷ Nothing ∷ [],
       record { name = codes "p"; events = Boot (numbered 0) ∷ Crash (numbered 0) ∷ [] } ∷ record { name = codes "p"; events = [] }
