@@ -3,3 +3,4 @@ pub mod Orders
 pub mod Shares
 pub mod Differences
 pub mod Crossing
+pub mod Rows

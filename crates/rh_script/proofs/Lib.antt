@@ -1,6 +1,8 @@
 pub mod LineLemmas
 pub mod Numerals
 pub mod Rows
+pub mod RowsLines
+pub mod RowsTexts
 pub mod SweepReading
 pub mod Words
 pub mod Telling

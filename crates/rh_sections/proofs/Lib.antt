@@ -1,3 +1,4 @@
 pub mod MemberNames
 pub mod InTurn
 pub mod Unrepeated
+pub mod Rows

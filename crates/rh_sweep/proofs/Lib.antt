@@ -2,3 +2,4 @@ pub mod Chained
 pub mod Trying
 pub mod Strides
 pub mod Rows
+pub mod RowsSweeping

@@ -17,3 +17,4 @@ pub mod GoesOn
 pub mod GoesOnInside
 pub mod GoesOnText
 pub mod Longest
+pub mod Rows

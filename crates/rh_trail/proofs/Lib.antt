@@ -5,5 +5,7 @@ pub mod Moves
 pub mod Rewinding
 pub mod Reversals
 pub mod Rows
+pub mod RowsReplies
+pub mod RowsReport
 pub mod Crossing
 pub mod Walks
