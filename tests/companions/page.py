@@ -8,7 +8,7 @@ import subprocess
 import tempfile
 import time
 
-from support import TOP, files_below
+from support import TOP, example_files
 
 NEEDS = ("chromium",)
 COMPANION = os.path.join(TOP, "companions", "page")
@@ -373,7 +373,7 @@ def refusals(program, folder):
 
 def all_examples(program, _):
     """Each example of a run makes a page, on standard output; no script makes one too."""
-    for path in files_below(os.path.join(TOP, "examples")):
+    for path in example_files():
         with open(path, "rb") as file:
             text = file.read()
         if b"\nplan " in text or b"\n1 " in text or "refused" in path or "bad-line" in path:
