@@ -67,11 +67,12 @@ ended(App, Why) ->
     end.
 
 %% What runs here, in the order of the starts, what is started with its type, forbidden or not, and what is being started. What
-%% runs elsewhere has no process.
+%% runs elsewhere, or did, has no process. What ended here by itself still counts as started, and is left out.
 standing() ->
     Info = application_controller:info(),
     Of = fun(Key) -> proplists:get_value(Key, Info, []) end,
-    Types = [{element(1, S), element(2, S)} || S <- Of(started) ++ Of(start_p_false)],
+    Ended = [App || {App, _} <- Of(started), not lists:keymember(App, 1, Of(running))],
+    Types = [{element(1, S), element(2, S)} || S <- Of(started) ++ Of(start_p_false), not lists:member(element(1, S), Ended)],
     {lists:reverse([App || {App, Id} <- Of(running), is_pid(Id)]), Types, [element(1, S) || S <- Of(starting)]}.
 
 %% ---- In place of epmd: see `-epmd_module` in erl(1)

@@ -163,7 +163,7 @@ def refusals(program, folder):
             ("a bad line", one + "===\nboot a@x\nreboot a@x\n", [], 2, "bad line"),
             ("a cluster file", one + one, [], 2, "cluster refused C4 duplicate_name"),
             ("a node without a host", "{node, a, []}.\n===\nboot a\n", [], 2, "a live node can't be called a"),
-            ("long and short names", one + "{node, a@x.y, []}.\n", [], 2, "don't see one another"),
+            ("long and short names", one + "{node, 'a@x.y', []}.\n", [], 2, "don't see one another"),
             ("long ticks", one + "===\ntick 700000\n", [], 2, "the ticks take 700 s"),
             ("a factor", one, ["--factor", "0"], 1, "--factor"), ("an option", one, ["--nonsense"], 1, "--nonsense"),
             ("no program", one, ["--rehearse", "/nowhere/rehearse"], 1, "no program /nowhere/rehearse")]:
