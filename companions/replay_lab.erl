@@ -44,11 +44,12 @@ cookie(File) ->
     ok = file:change_mode(File, 8#400),
     list_to_atom(integer_to_list(Number, 36)).
 
-%% Ends all nodes, and removes what they wrote.
+%% Ends all nodes, and then removes what they wrote.
 close(#{alive := Alive, folder := Folder}) ->
-    Ports = maps:values(Alive),
-    [end_kept(Port) || Port <- Ports ++ [Folder]],
-    [receive {Port, {exit_status, _}} -> ok after ?LONGEST_END -> ok end || Port <- Ports ++ [Folder]].
+    [begin
+         [end_kept(Port) || Port <- Ports],
+         [receive {Port, {exit_status, _}} -> ok after ?LONGEST_END -> ok end || Port <- Ports]
+     end || Ports <- [maps:values(Alive), [Folder]]].
 
 shell(Text, Words, Options) ->
     open_port({spawn_executable, "/bin/sh"}, [{args, ["-c", Text | Words]}, exit_status, binary | Options]).
@@ -73,8 +74,8 @@ boot_script(Boot, Platform, Apps) ->
     {ok, Bytes} = file:read_file(filename:join([code:root_dir(), "bin", "start_clean.boot"])),
     {script, Id, Steps} = binary_to_term(Bytes),
     Specs = [{application, App, [{applications, []} | about(App)]} || App <- Platform]
-        ++ [{application, App, about(App) ++ [{mod, {replay_node, App}}
-            | [Key || {Name, _} = Key <- Keys, Name =:= applications orelse Name =:= start_phases]]} || {application, App, Keys} <- Apps],
+        ++ [{application, App, [{mod, {replay_node, App}} | about(App)]
+             ++ [Key || {Name, _} = Key <- Keys, lists:member(Name, [applications, start_phases])]} || {application, App, Keys} <- Apps],
     Loads = [{apply, {application, load, [Spec]}} || Spec <- Specs],
     Starts = [{apply, {replay_node, up, []}}]
         ++ [{apply, {application, start_boot, [App, permanent]}} || App <- Platform]
@@ -161,7 +162,9 @@ next(Time, #{alive := Alive, channels := Channels} = Lab) ->
         {tcp_closed, _} -> next(max(0, End - now_ms()), Lab);
         {Port, {exit_status, _}} ->
             case [Node || {Node, Keeper} <- maps:to_list(Alive), Keeper =:= Port] of
-                [Node] -> {{os:system_time(microsecond), {ended, Node}}, Lab#{alive := maps:remove(Node, Alive), channels := maps:remove(Node, Channels)}};
+                [Node] ->
+                    Left = Lab#{alive := maps:remove(Node, Alive), channels := maps:remove(Node, Channels)},
+                    {{os:system_time(microsecond), {ended, Node}}, Left};
                 [] -> throw({nodes, "the folder of the nodes is gone"})
             end
     after max(0, Time) -> {none, Lab}

@@ -47,6 +47,7 @@ booted() -> tell({booted, node()}).
 %% ---- Every application
 
 start(Kind, App) ->
+    _ = persistent_term:erase({ended, App}),
     tell({started, App, node(), Kind}),
     {ok, spawn_link(fun() -> register(top(App), self()), receive {ends, Why} -> exit(Why) end end)}.
 
@@ -63,7 +64,10 @@ top(App) -> list_to_atom("replay_" ++ atom_to_list(App)).
 ended(App, Why) ->
     case whereis(top(App)) of
         undefined -> not_running;
-        Top -> Top ! {ends, Why}, ok
+        Top ->
+            persistent_term:put({ended, App}, true),
+            Top ! {ends, Why},
+            ok
     end.
 
 %% What runs here, in the order of the starts, what is started with its type, forbidden or not, and what is being started. What
@@ -71,7 +75,7 @@ ended(App, Why) ->
 standing() ->
     Info = application_controller:info(),
     Of = fun(Key) -> proplists:get_value(Key, Info, []) end,
-    Ended = [App || {App, _} <- Of(started), not lists:keymember(App, 1, Of(running))],
+    Ended = [App || {App, _} <- Of(started), not lists:keymember(App, 1, Of(running)), persistent_term:get({ended, App}, false)],
     Types = [{element(1, S), element(2, S)} || S <- Of(started) ++ Of(start_p_false), not lists:member(element(1, S), Ended)],
     {lists:reverse([App || {App, Id} <- Of(running), is_pid(Id)]), Types, [element(1, S) || S <- Of(starting)]}.
 
