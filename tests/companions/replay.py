@@ -8,6 +8,7 @@ import signal
 import subprocess
 import tempfile
 import time
+from concurrent.futures import ThreadPoolExecutor
 
 from support import TOP, fault_of
 
@@ -129,30 +130,42 @@ def waited(is_done):
     return True
 
 
+def ending(program, folder, name, number):
+    """Tests that the nodes of a rehearsal which a signal ends are gone, and so is their folder; and where they listened."""
+    place = os.path.join(folder, name)
+    os.mkdir(place)
+    with subprocess.Popen([COMPANION, "--rehearse", program, written(place, LONG)], stdin=subprocess.DEVNULL,
+                          stdout=subprocess.PIPE, stderr=subprocess.STDOUT, text=True, env={**os.environ, "TMPDIR": place}) as child:
+        told = next((line for line in child.stdout if line == "tick 300000\n"), None)
+        there = processes(place)
+        addresses = sockets(there)
+        child.send_signal(number)
+        child.wait(LONGEST_WAIT)
+        is_gone = waited(lambda: not processes(place) and not glob.glob(f"{place}/rehearse-replay.*"))
+    is_local = len(addresses) >= 2 and set(addresses) == {"0100007F"}
+    is_ended = told and len(there) >= 4 and is_gone and child.returncode == -number
+    return [(f"{name}: the nodes listen on the loopback alone", None if is_local else f"{addresses}"),
+            (f"{name} ends the nodes", None if is_ended else
+             f"status {child.returncode}, {len(there)} processes, left {processes(place)} {os.listdir(place)}")]
+
+
+def most(program, folder):
+    """Tests that the nodes end when the time of --most is over."""
+    words = ["--most", "6", "--patience", "100000", written(folder, DIFFERENT)]
+    done = replay(program, words, env={**os.environ, "TMPDIR": folder})
+    is_right = done.returncode == 4 and "the time of --most is over" in done.stderr and "boot a@x\n" in done.stdout
+    is_gone = waited(lambda: not processes(folder) and not glob.glob(f"{folder}/rehearse-replay.*"))
+    return [("--most ends the nodes", None if is_right and is_gone else f"{done} {processes(folder)}")]
+
+
 def endings(program, folder):
-    """The nodes of a rehearsal that is ended by a signal end with it, and so does their folder."""
-    for name, number in (("SIGINT", signal.SIGINT), ("SIGTERM", signal.SIGTERM), ("SIGKILL", signal.SIGKILL)):
-        place = os.path.join(folder, name)
-        os.mkdir(place)
-        with subprocess.Popen([COMPANION, "--rehearse", program, written(place, LONG)], stdin=subprocess.DEVNULL,
-                              stdout=subprocess.PIPE, stderr=subprocess.STDOUT, text=True, env={**os.environ, "TMPDIR": place}) as child:
-            told = next((line for line in child.stdout if line == "tick 300000\n"), None)
-            there = processes(place)
-            if number == signal.SIGINT:
-                addresses = sockets(there)
-                is_local = len(addresses) >= 2 and set(addresses) == {"0100007F"}
-                yield "the nodes listen on the loopback alone", None if is_local else f"{addresses}"
-            child.send_signal(number)
-            child.wait(LONGEST_WAIT)
-            is_gone = waited(lambda: not processes(place) and not glob.glob(f"{place}/rehearse-replay.*"))
-        is_right = told and len(there) >= 4 and is_gone and child.returncode == -number
-        yield f"{name} ends the nodes", None if is_right else (
-            f"status {child.returncode}, {len(there)} processes, left {processes(place)} {os.listdir(place)}")
-    done = replay(program, ["--most", "4", "--factor", "0.00001", "--patience", "100000", written(folder, DIFFERENT)],
-                  env={**os.environ, "TMPDIR": folder})
-    is_right = done.returncode == 4 and "the time of --most is over" in done.stderr
-    gone = waited(lambda: not processes(folder))
-    yield "--most ends the nodes", None if is_right and gone else f"status {done.returncode}: {done.stderr}{processes(folder)}"
+    """The nodes end with the companion, by whatever it ends."""
+    signals = [("SIGINT", signal.SIGINT), ("SIGTERM", signal.SIGTERM), ("SIGKILL", signal.SIGKILL)]
+    os.mkdir(os.path.join(folder, "most"))
+    with ThreadPoolExecutor(4) as pool:
+        tests = [pool.submit(ending, program, folder, *pair) for pair in signals]
+        for test in [*tests, pool.submit(most, program, os.path.join(folder, "most"))]:
+            yield from test.result()
 
 
 def refusals(program, folder):
