@@ -46,8 +46,8 @@ def made(program, folder):
 
 
 def screenshot(folder, browser):
-    """The picture of the page that the fifth command wrote."""
-    browser.open(os.path.join(folder, "plans.html"))
+    """The picture of the page that the fifth command wrote, at its last step."""
+    browser.open(os.path.join(folder, "plans.html"), "#step=3")
     browser.call("Emulation.setDeviceMetricsOverride", width=SIZE[0], height=SIZE[1], deviceScaleFactor=1, mobile=False)
     return base64.b64decode(browser.call("Page.captureScreenshot", format="png")["data"])
 
