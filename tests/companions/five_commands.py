@@ -15,7 +15,7 @@ from support import TOP, difference, read
 NEEDS = ("erl", "escript", "erlc", "chromium")
 LONGEST_COMMAND = 120
 PICTURE = os.path.join(TOP, "docs", "images", "five-commands.png")
-SIZE = (1280, 900)
+SIZE = (1280, 1020)
 # The plans' table: what became of both applications.
 TABLE = """Object.fromEntries([...document.querySelectorAll('#sweep tbody tr')].map(
   (row) => [row.firstChild.textContent, [...row.children].slice(-2).map((cell) => cell.textContent)]))"""
