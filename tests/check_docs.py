@@ -7,7 +7,7 @@ begins with `$ ` (up to the line EOF where it has a <<), is run from the top of 
 has the exit status 0 (a document shows another one by `; echo "status $?"`). Each block ```erlang is a cluster file that
 `check` accepts. Each command in a help text runs, and docs/help has these texts. Each text that the program can print
 stands in docs/ANSWERS.md. Each definition that docs/RULES.md names stands where it says. Each construct that
-docs/CLUSTER_FILES.md calls refused is.
+docs/CLUSTER_FILES.md calls refused is. Each script of tests/live in which live nodes differ names sections of docs/LIVE_OTP.md.
 
 run_program.py counts these tests too. The last line is 'N passed, M failed'.
 """
@@ -226,6 +226,19 @@ def constructs_refused(program):
         yield f"refused: {name}", "; ".join(wrong) or None
 
 
+def live_scripts(program):
+    """Each script of tests/live in which live nodes differ names the sections of docs/LIVE_OTP.md that tell so, and no other
+    script does."""
+    heads = set(re.findall(r"(?m)^## (.*)$", text_of("docs/LIVE_OTP.md")))
+    for path in sorted(glob.glob(os.path.join(TOP, "tests", "live", "*.txt"))):
+        text = text_of(path)
+        told = re.findall(r"(?m)^# LIVE_OTP\.md: (.*)\.$", text)
+        named = {name for line in told for name in re.sub(r" \([^)]*\)", "", line).split(", ")}
+        differs = re.search(r"(?m)^#[<>] ", text) is not None
+        wrong = f"it differs: {differs}; it names {named}" if differs != bool(named) or named - heads else None
+        yield os.path.relpath(path, TOP), wrong
+
+
 def help_files(program):
     """What ./rehearse shows before the program is built is what the program says."""
     for name, words in [("rehearse", ["--help"]), ("version", ["--version"])] + [(w[0], w) for w in HELPS[1:]]:
@@ -234,7 +247,8 @@ def help_files(program):
         yield f"docs/help/{name}.txt", None if is_same else f"it isn't what the program says to {' '.join(words)}"
 
 
-TESTS = (links, answers_told, definitions_named, constructs_refused, shown_examples, help_examples, help_links, help_files)
+TESTS = (links, answers_told, definitions_named, constructs_refused, shown_examples, help_examples, help_links,
+         live_scripts, help_files)
 
 
 def main():

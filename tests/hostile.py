@@ -12,7 +12,7 @@ import subprocess
 from concurrent.futures import ThreadPoolExecutor
 
 from row_files import read_row
-from support import LONGEST_RUN, TOP, fault_of, files_below, read, run
+from support import LONGEST_RUN, TOP, example_files, fault_of, read, run
 
 INPUT_LIMIT = 16_777_216
 TWO_NODES = b"{node, a@x, []}. {node, b@x, []}."
@@ -29,7 +29,7 @@ def sources():
         nodes = re.findall(rb"\{node, ([^,]*),", cluster)
         lines = [b"boot %s" % node for node in nodes] + [b"tick 5000", b"", b"# again", b"crash %s" % nodes[0], b"show"]
         yield f"sample cluster {number}", cluster.rstrip(b"\n") + MARK + b"\n".join(lines) + b"\nplan p\nboot %s\n" % nodes[0]
-    for path in files_below(os.path.join(TOP, "examples")):
+    for path in example_files():
         yield os.path.relpath(path, TOP), read(path)
 
 

@@ -22,7 +22,7 @@ import sweeps
 from cluster_limits import cluster_limits
 from no_threads import without_threads
 from row_files import RowFault, read_row
-from support import TOP, chain, fault_of, files_below, finish, read, run
+from support import TOP, chain, example_files, fault_of, files_below, finish, read, run
 from term_faults import term_faults
 
 ROWS = os.path.join(TOP, "tests", "rows")
@@ -73,7 +73,7 @@ def rows(program):
 def examples(program):
     """Each example but the one of chance has its row, and each file of tests/examples is a row of one."""
     owed = set()
-    for example in files_below(EXAMPLES):
+    for example in example_files():
         name = f"examples/{os.path.relpath(example, EXAMPLES)}"
         path = example_row(example)
         if example == BY_CHANCE:

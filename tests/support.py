@@ -23,6 +23,11 @@ def files_below(folder):
     return sorted(os.path.join(where, name) for where, _, names in os.walk(folder) for name in names)
 
 
+def example_files():
+    """The paths of all examples: the files examples/**/NAME.txt. In examples/shop are the sources of a release."""
+    return [path for path in files_below(os.path.join(TOP, "examples")) if path.endswith(".txt")]
+
+
 def run(program, words, **options):
     """A finished run of the program, by default with no input and with its output kept."""
     if "input" not in options:

@@ -12,7 +12,7 @@ from support import TOP, difference, fault_of, read, run
 
 NEEDS = ("python3",)
 COMPANION = os.path.join(TOP, "companions", "shell")
-LONGEST_WAIT = 20
+LONGEST_WAIT = 120
 # Only the first four names are applications: the others stand in a comment, a string, other places, or in quotes.
 CLUSTER = """% Here a quote isn't closed: {application, nobody, []}. {node, no@where, []}.
 {node, a@x, [{kernel, [{distributed, [{web, 700, [a@x, 'b-1@x']}]}, {sync_nodes_optional, ['b-1@x']},
@@ -192,23 +192,41 @@ class Terminal:
             pass
         os.close(self.side)
 
-    def fault(self, keys, owed):
-        """Presses keys, and gives None as soon as the screen shows what is owed, else what it shows."""
-        # No person is quicker. Python may miss a Ctrl-C right behind a prompt.
-        time.sleep(0.05)
-        os.write(self.side, keys.encode())
+    def fault(self, keys, *owed):
+        """Presses keys, and gives None as soon as the screen shows what is owed, one text behind the other, else what it
+        shows."""
+        if keys:
+            self.wait_for_idleness()
+            os.write(self.side, keys.encode())
+        for text in owed:
+            if not self.shows(text):
+                return f"the screen shows {self.text!r}, want {text!r}"
+            self.text = self.text.split(text, 1)[1] if text else self.text
+        return None
+
+    def shows(self, text):
+        """Whether the screen shows a text in time."""
         end = time.monotonic() + LONGEST_WAIT
-        while owed not in self.text:
+        while text not in self.text:
             ready, _, _ = select.select([self.side], [], [], max(0, end - time.monotonic()))
             try:
                 more = os.read(self.side, 65536) if ready else b""
             except OSError:
                 more = b""
             if not more:
-                return f"the screen shows {self.text!r}, want {owed!r}"
-            self.text += re.sub(r"\x1b\[[0-9;?]*[a-zA-Z]", "", more.decode().replace("\r\n", "\n"))
-        self.text = self.text.split(owed, 1)[1] if owed else self.text
-        return None
+                return False
+            # A read may end within an escape sequence, or between CR and LF.
+            self.text = re.sub(r"\x1b\[[0-9;?]*[a-zA-Z]", "", (self.text + more.decode()).replace("\r\n", "\n"))
+        return True
+
+    def wait_for_idleness(self):
+        """Waits until the companion waits for keys. Python misses a Ctrl-C between what it shows and that."""
+        end = time.monotonic() + LONGEST_WAIT
+        while time.monotonic() < end:
+            with open(f"/proc/{self.child}/stat") as file:
+                if file.read().rsplit(")", 1)[1].split()[0] == "S":
+                    return
+            time.sleep(0.005)
 
     def status(self):
         """The exit status, once the companion has ended."""
@@ -224,22 +242,24 @@ class Terminal:
 def keys(program):
     """The TAB key, Ctrl-C and Ctrl-D."""
     with Files() as files, Terminal(program, files.path("cluster", CLUSTER)) as terminal:
-        for name, pressed, owed in [
+        # Where a command was answered the next keys wait for the prompt.
+        for name, pressed, *owed in [
                 ("the prompt", "", "0 ms> "),
-                ("a command", "bo\t", "boot "), ("a node", "b\t", "b-1@x "), ("a command is done", "\r", "up b-1@x\n"),
+                ("a command", "bo\t", "boot "), ("a node", "b\t", "b-1@x "), ("a command is done", "\r", "up b-1@x\n", "0 ms> "),
                 ("another command", "sta\t", "start "), ("another node", "b\t", "b-1@x "), ("an application", "O\t", "Ops "),
-                ("a restart type", "tr\t", "transient "), ("it starts", "\r", "started Ops b-1@x normal\n"),
-                ("a node that is down", "boot \t", "boot a@x "), ("it boots", "\r", "started web a@x takeover b-1@x\n"),
-                ("its application is lost", "crash a@x\r", "ended a@x\n"),
-                ("the time to the next timer", "tick \t", "tick 700 "), ("time passes", "\r", "started web b-1@x normal\n"),
-                ("the clock", "", "700 ms> "), ("a line is begun", "crash", "crash"),
-                ("it is left", "\x03", "700 ms> "),
-                ("the next line", "sh\t", "show "), ("the state", "\r", "now 700\n"),
-                ("it is lost again", "crash b-1@x\r", "ended b-1@x\n"), ("the time from now on", "tick \t", "tick 700 "),
-                ("a line is wiped out", "\x15", ""),
+                ("a restart type", "tr\t", "transient "), ("it starts", "\r", "started Ops b-1@x normal\n", "0 ms> "),
+                ("a node that is down", "boot \t", "boot a@x "),
+                ("it boots", "\r", "started web a@x takeover b-1@x\n", "0 ms> "),
+                ("its application is lost", "crash a@x\r", "ended a@x\n", "0 ms> "),
+                ("the time to the next timer", "tick \t", "tick 700 "),
+                ("time passes", "\r", "started web b-1@x normal\n", "700 ms> "),
+                ("a line is begun", "crash", "crash"), ("it is left", "\x03", "700 ms> "),
+                ("the next line", "sh\t", "show "), ("the state", "\r", "now 700\n", "700 ms> "),
+                ("it is lost again", "crash b-1@x\r", "ended b-1@x\n", "700 ms> "),
+                ("the time from now on", "tick \t", "tick 700 "), ("a line is wiped out", "\x15", ""),
                 ("what two commands begin with", "un\t", "do"), ("a list of them", "\t\t", "undo_all"),
-                ("all of them", "_\t\r", "ok 6\n"), ("the clock at first", "", "0 ms> ")]:
-            yield f"at a terminal: {name}", terminal.fault(pressed, owed)
+                ("all of them", "_\t\r", "ok 6\n", "0 ms> ")]:
+            yield f"at a terminal: {name}", terminal.fault(pressed, *owed)
         yield "at a terminal: Ctrl-D", terminal.fault("\x04", "\n")
         status = terminal.status()
         yield "at a terminal: the status", None if status == 0 else f"{status}"
@@ -261,7 +281,6 @@ def faults(program):
     yield "--help", fault_of(done, 0, None) or (None if b"save PATH" in done.stdout else f"{done}")
 
 
-# Those at a terminal (keys) aren't among them: what a screen shows by when depends on how busy the machine is.
 def group(program):
-    for tests in (conversations, like_a_run, stories, faults):
+    for tests in (conversations, like_a_run, stories, keys, faults):
         yield from tests(program)

@@ -1,0 +1,196 @@
+"""Tests of companions/replay, with real OTP nodes of this machine: one small rehearsal, what is refused, and that the nodes listen
+on the loopback alone and end with the companion, by whatever it ends. tests/run_live.py makes the rehearsals of tests/live.
+"""
+import glob
+import os
+import re
+import signal
+import subprocess
+import tempfile
+import time
+from concurrent.futures import ThreadPoolExecutor
+
+from support import TOP, fault_of
+
+NEEDS = ("erl", "escript", "erlc")
+COMPANION = os.path.join(TOP, "companions", "replay")
+LONGEST_WAIT = 120
+KERNEL = "{distributed, [{web, 500, [a@x, 'b-1@x']}]}, {sync_nodes_optional, [a@x, 'b-1@x']}, {sync_nodes_timeout, 5000}"
+CLUSTER = "".join(f"{{node, {node}, [\n  {{kernel, [{KERNEL}]}},\n  {{rehearse, [{{boot, [{{log, permanent}}, {{web, permanent}}]}}, "
+                  "{platform, [ssl]}]}]}.\n" for node in ("a@x", "'b-1@x'"))
+CLUSTER += "{application, log, [{applications, [ssl]}]}. {application, web, [{applications, [log]}, {start_phases, [{go, []}]}]}.\n"
+SMALL = """# A failover, and a node that ends by itself.
+boot a@x
+boot b-1@x
+crash a@x
+tick 500
+stop b-1@x web
+stop b-1@x web
+exit b-1@x log abnormal
+boot c@x
+"""
+# All of it agrees, so both columns are the answers of the rules.
+SMALL_TOLD = [
+    ("boot a@x", ["ok"]),
+    ("boot b-1@x", ["ok", "up a@x", "up b-1@x", "started log a@x normal", "started web a@x normal", "started log b-1@x normal",
+                    "waits web b-1@x"]),
+    ("crash a@x", ["ok", "ended a@x"]), ("tick 500", ["ok", "started web b-1@x failover a@x"]),
+    ("stop b-1@x web", ["ok", "stopped web b-1@x"]), ("stop b-1@x web", ["refused S12 never_started"]),
+    ("exit b-1@x log abnormal", ["ok", "ended b-1@x"]), ("boot c@x", ["refused S1 unknown_node"])]
+# The boot list has x before y, which it needs: the program lets it wait, and a live node leaves it out (docs/LIVE_OTP.md).
+DIFFERENT = """{node, a@x, [{rehearse, [{boot, [{x, permanent}, {y, permanent}]}]}]}.
+{application, x, [{applications, [y]}]}. {application, y, []}.
+===
+boot a@x
+"""
+DIFFERENT_TOLD = {"  ok ok", "  up a@x up a@x", "  started y a@x normal started y a@x normal", "< started x a@x normal",
+                  "> failed x a@x {not_started,y}"}
+LONG = CLUSTER + "===\nboot a@x\nboot b-1@x\ntick 300000\n"
+
+
+def replay(program, words, **options):
+    """A finished run of the companion."""
+    return subprocess.run([COMPANION, "--rehearse", program, *words], stdin=subprocess.DEVNULL, capture_output=True, text=True,
+                          timeout=LONGEST_WAIT, **options)
+
+
+def written(folder, text, name="input.txt"):
+    """The path of a file with a text."""
+    path = os.path.join(folder, name)
+    with open(path, "w", encoding="utf-8") as file:
+        file.write(text)
+    return path
+
+
+def answers(output):
+    """The commands of what is printed, each with the sorted lines of the program and of the nodes."""
+    found = []
+    for line in output.splitlines()[1:-1]:
+        if line[0] in " <>":
+            parts = re.split(r" {2,}", line[2:].strip(), maxsplit=1)
+            found[-1][1].append(parts[0])
+            found[-1][2].append(parts[-1])
+        elif line[0] != "#":
+            found.append((line, [], []))
+    return [(command, sorted(left), sorted(right)) for command, left, right in found]
+
+
+def rehearsals(program, folder):
+    """A rehearsal in which all agrees, and one that differs."""
+    done = replay(program, [written(folder, CLUSTER + "===\n" + SMALL)])
+    owed = [(command, sorted(lines), sorted(lines)) for command, lines in SMALL_TOLD]
+    have = answers(done.stdout)
+    is_right = have == owed and done.returncode == 0 and done.stdout.endswith("\n8 of 8 commands agree\n") and not done.stderr
+    yield "all agrees", None if is_right else f"status {done.returncode}\n{done.stdout}{done.stderr}"
+    done = replay(program, ["--factor", "0.5", "--patience", "1000", written(folder, DIFFERENT)])
+    rows = {re.sub(r"(?<=\S) {2,}|(?<=[<>]) +", " ", line) for line in done.stdout.splitlines()[2:-1]}
+    is_right = done.returncode == 3 and rows == DIFFERENT_TOLD and done.stdout.endswith("\n0 of 1 commands agree\n")
+    yield "a difference", None if is_right else f"status {done.returncode}, {rows}\n{done.stdout}{done.stderr}"
+
+
+# ---- Processes
+
+def processes(folder):
+    """The ids of the processes that have this folder in their command line, but for the companion and its program."""
+    found = []
+    for path in glob.glob("/proc/[0-9]*/cmdline"):
+        try:
+            with open(path, "rb") as file:
+                if f"{folder}/rehearse-replay.".encode() in file.read():
+                    found.append(int(path.split("/")[2]))
+        except OSError:
+            pass
+    return found
+
+
+def sockets(ids):
+    """The local addresses on which processes listen, as /proc has them."""
+    own = set()
+    for number in ids:
+        for path in glob.glob(f"/proc/{number}/fd/*"):
+            try:
+                own.add(os.readlink(path))
+            except OSError:
+                pass
+    found = []
+    for name in ("tcp", "tcp6", "udp", "udp6"):
+        with open(f"/proc/net/{name}", encoding="ascii") as file:
+            rows = [row.split() for row in file.readlines()[1:]]
+        found += [row[1].split(":")[0] for row in rows if f"socket:[{row[9]}]" in own and row[3] in ("0A", "07")]
+    return found
+
+
+def waited(is_done):
+    """Whether something is so in time."""
+    end = time.monotonic() + LONGEST_WAIT
+    while not is_done():
+        if time.monotonic() > end:
+            return False
+        time.sleep(0.05)
+    return True
+
+
+def ending(program, folder, name, number):
+    """Tests that the nodes of a rehearsal which a signal ends are gone, and so is their folder; and where they listened."""
+    place = os.path.join(folder, name)
+    os.mkdir(place)
+    with subprocess.Popen([COMPANION, "--rehearse", program, written(place, LONG)], stdin=subprocess.DEVNULL,
+                          stdout=subprocess.PIPE, stderr=subprocess.STDOUT, text=True, env={**os.environ, "TMPDIR": place}) as child:
+        told = next((line for line in child.stdout if line == "tick 300000\n"), None)
+        there = processes(place)
+        addresses = sockets(there)
+        child.send_signal(number)
+        child.wait(LONGEST_WAIT)
+        is_gone = waited(lambda: not processes(place) and not glob.glob(f"{place}/rehearse-replay.*"))
+    is_local = len(addresses) >= 2 and set(addresses) == {"0100007F"}
+    is_ended = told and len(there) >= 4 and is_gone and child.returncode == -number
+    return [(f"{name}: the nodes listen on the loopback alone", None if is_local else f"{addresses}"),
+            (f"{name} ends the nodes", None if is_ended else
+             f"status {child.returncode}, {len(there)} processes, left {processes(place)} {os.listdir(place)}")]
+
+
+def most(program, folder):
+    """Tests that the nodes end when the time of --most is over."""
+    words = ["--most", "6", "--patience", "100000", written(folder, DIFFERENT)]
+    done = replay(program, words, env={**os.environ, "TMPDIR": folder})
+    is_right = done.returncode == 4 and "the time of --most is over" in done.stderr and "boot a@x\n" in done.stdout
+    is_gone = waited(lambda: not processes(folder) and not glob.glob(f"{folder}/rehearse-replay.*"))
+    return [("--most ends the nodes", None if is_right and is_gone else f"{done} {processes(folder)}")]
+
+
+def endings(program, folder):
+    """The nodes end with the companion, by whatever it ends."""
+    signals = [("SIGINT", signal.SIGINT), ("SIGTERM", signal.SIGTERM), ("SIGKILL", signal.SIGKILL)]
+    os.mkdir(os.path.join(folder, "most"))
+    with ThreadPoolExecutor(4) as pool:
+        tests = [pool.submit(ending, program, folder, *pair) for pair in signals]
+        for test in [*tests, pool.submit(most, program, os.path.join(folder, "most"))]:
+            yield from test.result()
+
+
+def refusals(program, folder):
+    """What is refused, with its status and words of what is told."""
+    one = "{node, a@x, []}.\n"
+    for name, text, words, status, told in [
+            ("undo", one + "===\nboot a@x\nundo\n", [], 2, "real nodes can't do this: undo"),
+            ("a bad line", one + "===\nboot a@x\nreboot a@x\n", [], 2, "bad line"),
+            ("a cluster file", one + one, [], 2, "cluster refused C4 duplicate_name"),
+            ("a node without a host", "{node, a, []}.\n===\nboot a\n", [], 2, "a live node can't be called a"),
+            ("long and short names", one + "{node, 'a@x.y', []}.\n", [], 2, "don't see one another"),
+            ("long ticks", one + "===\ntick 700000\n", [], 2, "the ticks take 700 s"),
+            ("a factor", one, ["--factor", "0"], 1, "--factor"), ("an option", one, ["--nonsense"], 1, "--nonsense"),
+            ("no program", one, ["--rehearse", "/nowhere/rehearse"], 1, "no program /nowhere/rehearse")]:
+        done = replay(program, [*words, written(folder, text)])
+        is_right = done.returncode == status and not done.stdout and told in done.stderr
+        yield f"refused: {name}", None if is_right else f"status {done.returncode}: {done.stdout}{done.stderr}"
+    done = replay(program, ["/nowhere/input"])
+    yield "refused: no file", None if done.returncode == 2 and "/nowhere/input" in done.stderr else f"{done}"
+    done = subprocess.run([COMPANION, "--help"], capture_output=True, timeout=LONGEST_WAIT)
+    yield "--help", fault_of(done, 0, None) or (None if b"--factor F" in done.stdout else f"{done}")
+
+
+def group(program):
+    """All of them."""
+    for part in (refusals, rehearsals, endings):
+        with tempfile.TemporaryDirectory() as folder:
+            yield from part(program, folder)
