@@ -9,6 +9,8 @@ mod devices;
 #[cfg(test)]
 mod lists;
 #[cfg(test)]
+mod passes;
+#[cfg(test)]
 mod places;
 #[cfg(test)]
 mod records;
