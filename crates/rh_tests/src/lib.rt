@@ -3,6 +3,8 @@
 #![tactic(auto)]
 
 #[cfg(test)]
+mod check_runs;
+#[cfg(test)]
 mod clusters;
 #[cfg(test)]
 mod devices;
@@ -18,6 +20,8 @@ mod records;
 mod rehearsals;
 #[cfg(test)]
 mod rooms;
+#[cfg(test)]
+mod session_runs;
 #[cfg(test)]
 mod sims;
 #[cfg(test)]
