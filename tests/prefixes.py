@@ -131,6 +131,8 @@ class Told:
         before = self.told["run"][first][1]
         if told[0] == 6:
             return told[1] == before + OFF_END
+        if not plans:
+            return told == (0, before)
         if told[0] != 0 or not told[1].startswith(before):
             return False
         behind = told[1][len(before):]
@@ -138,7 +140,7 @@ class Told:
         done, last, _ = behind.rpartition(b"plan ")
         whole = self.told["sweep"][-1]
         found = len(re.findall(rb"^plan ", behind, re.MULTILINE))
-        return found == plans and bool(last) == bool(plans) and (whole[0] != 0 or whole[1].startswith(before + done))
+        return found == plans and bool(last) and (whole[0] != 0 or whole[1].startswith(before + done))
 
 
 def wrong_front(told, word):
