@@ -4,10 +4,10 @@
 The worked rows are the files GROUP/NAME.row in tests/rows (row_files.py says what stands in one). Each example of the
 repository, examples/NAME.txt, has its row tests/examples/NAME.row, without an input: that is the example. A file in these
 folders that is no such row is a failed test. Then come inputs that are too large for a file, which are made here, devices
-and memory that fail, cut inputs and more devices (hostile.py), sweeps (sweeps.py), texts that are no terms (term_faults.py),
-cluster files at the limits (cluster_limits.py) and the documents (check_docs.py). Calls that the program `rh_growths` beside
-PROGRAM makes have each growth of memory refused in turn, and have to leave all as it was (growths.py). The last line is
-'N passed, M failed'. Where paths of rows are given, these alone are run.
+and memory that fail, more devices (hostile.py) and each of their calls (failing_calls.py), cut inputs (prefixes.py), sweeps
+(sweeps.py), texts that are no terms (term_faults.py), cluster files at the limits (cluster_limits.py) and the documents
+(check_docs.py). Calls that the program `rh_growths` beside PROGRAM makes have each growth of memory refused in turn, and have
+to leave all as it was (growths.py). The last line is 'N passed, M failed'. Where paths of rows are given, these alone are run.
 """
 import os
 import re
@@ -16,8 +16,10 @@ import sys
 import tempfile
 
 import check_docs
+import failing_calls
 import growths
 import hostile
+import prefixes
 import sweeps
 from cluster_limits import cluster_limits
 from no_threads import without_threads
@@ -159,6 +161,13 @@ def large_inputs(program):
     answers = b"ok\nup a@x\nok\nended a@x\n" * 9_998 + b"ok\nup a@x\nrefused S3 already_alive\nok\nended a@x\n"
     done = run(program, ["run"], input=TWO_NODES + b"\n===\n" + turns)
     yield "a node starts 9,999 times", fault_of(done, 0, answers + b"refused S4 incarnation_limit\n")
+    sample = row_at(os.path.join(ROWS, "whole-files", "sample-cluster-3.row")).input + b"===\n"
+    started = b"ok\nup one@lab\n" + b"".join(b"started %s one@lab normal\n" % app for app in (b"a", b"b", b"c"))
+    done = run(program, ["run"], input=sample + b"boot one@lab\ncrash one@lab\n" * 9_999 + b"boot one@lab\n")
+    yield "a node with three applications starts 9,999 times", fault_of(
+        done, 0, (started + b"ok\nended one@lab\n") * 9_999 + b"refused S4 incarnation_limit\n")
+    done = run(program, ["run"], input=sample + b"tick 1\n" * 65_536 + b"undo\ntick 1\n")
+    yield "a trail has 65,535 ticks", fault_of(done, 0, b"ok\n" * 65_535 + b"refused S18 trail_full\nok\nok\n")
     nodes = [b"n%d" % number for number in range(4)]
     text = b" ".join(b"{node, %s, []}." % node for node in nodes)
     steps = [(b"boot", b"up") if step // 4 % 2 == 0 else (b"crash", b"ended") for step in range(65_535)]
@@ -294,7 +303,8 @@ def main():
             yield path, row_fault(program, path)
 
     all_groups = (rows, examples, term_faults, cluster_limits, command_lines, large_inputs, long_chains, several_sessions,
-                  failing_devices, refused_memory, no_threads, *growths.TESTS, *sweeps.TESTS, *hostile.TESTS, *check_docs.TESTS)
+                  failing_devices, refused_memory, no_threads, *growths.TESTS, *sweeps.TESTS, *hostile.TESTS, *failing_calls.TESTS,
+                  *prefixes.TESTS, *check_docs.TESTS)
     finish((named_rows,) if sys.argv[2:] else all_groups, os.path.abspath(sys.argv[1]))
 
 

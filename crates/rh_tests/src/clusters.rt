@@ -1,20 +1,31 @@
 //! Readers of a cluster that no step asks, copies, and which clusters are the same.
 
 use crate::support::{ONE_NODE, TWO_NODES, cluster_of};
+use crate::trees::show_term;
 use rh_cluster::{App, Cluster};
 use std::alloc::Global;
 use std::process::Abort;
 
-// An application with a module and a start argument.
+// An application with start phases, a module and a start argument.
 static SERVICE: &str = "\
 {node, n1@lab, [{rehearse, [{platform, [crypto]}]}]}.
-{application, svc, [{mod, {svc_app, [primary]}}]}.
+{application, svc, [{start_phases, [{go, []}]}, {mod, {svc_app, [primary]}}]}.
 ";
 
 fn has_start_and_platform(rt: &impl Abort, cluster: &Cluster) {
     assert!(rt; cluster.app_count() == 1 && cluster.platform_count() == 3);
     let (module, _) = cluster.start_arg(App(0)).expect(rt, "it has a module");
     assert!(rt; module == "svc_app");
+}
+
+// Is a copy of the start argument shown so?
+fn has_argument(rt: &impl Abort, alloc: Global, cluster: &Cluster, want: &str) {
+    assert!(rt; cluster.app_count() == 1 && cluster.phases(App(0)));
+    let (_, argument) = cluster.start_arg(App(0)).expect(rt, "it has a module");
+    let copy = argument.copy(alloc).ok().expect(rt, "memory");
+    let mut text = String::new(alloc);
+    assert!(rt; show_term(&mut text, &copy).is_ok());
+    assert_eq!(rt; text.as_str(), want);
 }
 
 fn is_copied(rt: &impl Abort, alloc: Global, cluster: &Cluster) {
@@ -27,7 +38,22 @@ fn is_copied(rt: &impl Abort, alloc: Global, cluster: &Cluster) {
 fn a_copy_answers_the_same(rt: HostRuntime) {
     let cluster = cluster_of(&rt, rt.alloc(), SERVICE);
     has_start_and_platform(&rt, &cluster);
+    has_argument(&rt, rt.alloc(), &cluster, "[primary,]");
     is_copied(&rt, rt.alloc(), &cluster);
+}
+
+// The same as the cluster of the first text, and not as that of the second.
+fn stands_for(rt: &impl Abort, alloc: Global, copy: &Cluster, same: &str, other: &str) {
+    assert!(rt; copy.same(&cluster_of(rt, alloc, same)));
+    assert!(rt; !copy.same(&cluster_of(rt, alloc, other)));
+}
+
+#[test]
+fn a_copy_stands_for_its_cluster_alone(rt: HostRuntime) {
+    let cluster = cluster_of(&rt, rt.alloc(), ONE_NODE);
+    let copy = cluster.copy(rt.alloc()).ok().expect(&rt, "memory");
+    assert!(rt; copy.node_count() == 1 && copy.app_count() == 3);
+    stands_for(&rt, rt.alloc(), &copy, ONE_NODE, TWO_NODES);
 }
 
 // Are the clusters of the two texts the same?

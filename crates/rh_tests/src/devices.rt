@@ -65,31 +65,45 @@ pub enum Failure {
     Full,
 }
 
-/// Takes at most three bytes a call, and fails at one of the calls. It counts how often it was flushed.
+/// Takes at most so many bytes a call, and fails at one of the calls. It counts how often it was flushed.
 #[derive(Drop)]
 pub struct Sink {
     pub bytes: Vec<u8>,
     pub flushes: u32,
+    piece: usize,
     until_failure: Option<u32>,
     failure: Failure,
 }
 
 impl Sink {
-    /// Never fails.
+    /// Takes three bytes a call, and never fails.
     pub fn new(alloc: Global) -> Sink {
         Sink {
             bytes: Vec::new(alloc),
             flushes: 0,
+            piece: 3,
             until_failure: None,
             failure: Failure::Error,
         }
     }
 
-    /// Fails once, after so many calls.
+    /// Takes one byte a call, and never fails.
+    pub fn slow(alloc: Global) -> Sink {
+        Sink {
+            bytes: Vec::new(alloc),
+            flushes: 0,
+            piece: 1,
+            until_failure: None,
+            failure: Failure::Error,
+        }
+    }
+
+    /// Takes three bytes a call, so many times, and fails once.
     pub fn failing(alloc: Global, calls: u32, failure: Failure) -> Sink {
         Sink {
             bytes: Vec::new(alloc),
             flushes: 0,
+            piece: 3,
             until_failure: Some(calls),
             failure,
         }
@@ -106,7 +120,7 @@ impl Write for Sink {
             };
         }
         self.until_failure = self.until_failure.map(|calls| calls.saturating_sub(1));
-        let count = buf.len().min(3);
+        let count = buf.len().min(self.piece);
         match self.bytes.extend_from_slice(&buf[..count]) {
             Ok(()) => Ok(count),
             Err(_) => Err(io::ErrorKind::OutOfMemory.into()),

@@ -3,11 +3,15 @@
 #![tactic(auto)]
 
 #[cfg(test)]
+mod check_runs;
+#[cfg(test)]
 mod clusters;
 #[cfg(test)]
 mod devices;
 #[cfg(test)]
 mod lists;
+#[cfg(test)]
+mod passes;
 #[cfg(test)]
 mod places;
 #[cfg(test)]
@@ -16,6 +20,8 @@ mod records;
 mod rehearsals;
 #[cfg(test)]
 mod rooms;
+#[cfg(test)]
+mod session_runs;
 #[cfg(test)]
 mod sims;
 #[cfg(test)]

@@ -1,22 +1,11 @@
 //! Where applications can run, asked of states that rehearsals reach.
 
-use crate::support::{make_all, sim_on};
+use crate::support::{CAVE, make_all, sim_on};
 use rh_cluster::{App, Node};
 use rh_place::{NodeSet, best, candidates, choose, deps_run, missing_dep, operational, start_kind};
 use rh_state::{Kind, State};
 use rh_step::{Event, Pick};
 use std::process::Abort;
-
-// The three nodes of the OTP Design Principles, without waits.
-static THREE_NODES: &str = "\
-{node, cp1@cave, [{kernel, [{distributed, [{myapp, 5000, [cp1@cave, {cp2@cave, cp3@cave}]}]}]},
-  {rehearse, [{boot, [{myapp, permanent}]}]}]}.
-{node, cp2@cave, [{kernel, [{distributed, [{myapp, 5000, [cp1@cave, {cp2@cave, cp3@cave}]}]}]},
-  {rehearse, [{boot, [{myapp, permanent}]}]}]}.
-{node, cp3@cave, [{kernel, [{distributed, [{myapp, 5000, [cp1@cave, {cp2@cave, cp3@cave}]}]}]},
-  {rehearse, [{boot, [{myapp, permanent}]}]}]}.
-{application, myapp, []}.
-";
 
 // Two nodes, and start phases.
 static TWO_NODES: &str = "\
@@ -69,7 +58,7 @@ fn tuple_has_them(rt: &impl Abort, state: &State) {
 
 #[test]
 fn candidates_of_three_nodes(rt: HostRuntime) {
-    let mut sim = sim_on(&rt, rt.alloc(), THREE_NODES);
+    let mut sim = sim_on(&rt, rt.alloc(), CAVE);
     make_all(&rt, rt.alloc(), &mut sim, ALL_BOOT.as_slice());
     first_group_has_them(&rt, sim.state());
     best_of_a_set(&rt, sim.state());

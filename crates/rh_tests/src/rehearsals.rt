@@ -71,6 +71,14 @@ fn reads_one_byte_a_call(rt: HostRuntime) {
     assert!(rt; is_end(&rt, rt.alloc(), source, "done", TWO_NODES_TEXT));
 }
 
+#[test]
+fn writes_one_byte_a_call(rt: HostRuntime) {
+    let mut sink = Sink::slow(rt.alloc());
+    let source = Source::of(TWO_NODES.as_bytes());
+    assert!(rt; end_of(rt.alloc(), source, &mut sink) == "done");
+    assert!(rt; sink.bytes.as_slice() == TWO_NODES_TEXT.as_bytes());
+}
+
 // The last call of the reader is the one that tells the end; it isn't called again behind that.
 #[test]
 fn writes_nothing_after_a_failed_read(rt: HostRuntime) {

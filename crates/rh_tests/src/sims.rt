@@ -17,10 +17,16 @@ fn is_new(rt: &impl Abort, alloc: Global, sim: &Sim) {
     assert!(rt; text.as_slice() == b"now 0\nnode one@lab down 0\n".as_slice());
 }
 
+fn is_new_in_copy(rt: &impl Abort, alloc: Global, sim: &Sim) {
+    let copy = sim.copy(alloc).ok().expect(rt, "memory");
+    is_new(rt, alloc, &copy);
+}
+
 #[test]
 fn a_simulation_tells_what_it_was_opened_with(rt: HostRuntime) {
     let sim = sim_on(&rt, rt.alloc(), ONE_NODE);
     is_new(&rt, rt.alloc(), &sim);
+    is_new_in_copy(&rt, rt.alloc(), &sim);
 }
 
 // Are these two equal lists of so many notices?

@@ -68,6 +68,8 @@ fn the_first_state_and_its_copy_report_the_same(rt: HostRuntime) {
     is_reported(&rt, rt.alloc(), &state);
     reports_in_copy(&rt, rt.alloc(), &state);
     assert!(rt; state.earliest().is_none());
+    let timers = state.timers(rt.alloc()).ok().expect(&rt, "memory");
+    assert!(rt; timers.is_empty());
 }
 
 // A part that was set has its old value again.

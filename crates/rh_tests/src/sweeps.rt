@@ -118,17 +118,19 @@ fn booted(rt: &impl Abort, alloc: Global) -> Sim {
     base
 }
 
-// Two workers wait for one another here, each before its first plan, for 10,000,000 turns at most.
+// Two workers wait for one another here, each before its first plan, for so many turns at most.
 #[derive(Drop)]
 struct Meeting {
+    turns: u32,
     first: AtomicBool,
     second: AtomicBool,
     missed: AtomicU64,
 }
 
 impl Meeting {
-    fn new() -> Meeting {
+    fn new(turns: u32) -> Meeting {
         Meeting {
+            turns,
             first: AtomicBool::new(false),
             second: AtomicBool::new(false),
             missed: AtomicU64::new(0),
@@ -137,7 +139,7 @@ impl Meeting {
 
     fn meet(&self, mine: &AtomicBool, other: &AtomicBool) {
         mine.store(true, Ordering::SeqCst);
-        for _ in 0..10_000_000 {
+        for _ in 0..self.turns {
             if other.load(Ordering::SeqCst) {
                 return;
             }
@@ -161,7 +163,7 @@ impl Gate for Meeting {
 
 // Do two workers meet, and give what one gives?
 fn meet<R: Threads + Wait + Abort + Sync>(rt: &R, alloc: Global, base: &Sim, plans: &[Plan]) {
-    let gate = Meeting::new();
+    let gate = Meeting::new(10_000_000);
     let outcomes = sweep(rt, alloc, base, plans, 2, &gate)
         .ok()
         .expect(rt, "outcomes");
@@ -170,11 +172,25 @@ fn meet<R: Threads + Wait + Abort + Sync>(rt: &R, alloc: Global, base: &Sim, pla
     assert_eq!(rt; text.as_str(), TOLD);
 }
 
+// Does the first of two plans wait for the other in vain, where one worker has both?
+fn miss<R: Threads + Wait + Abort + Sync>(rt: &R, alloc: Global, base: &Sim, plans: &[Plan]) {
+    let gate = Meeting::new(100);
+    assert!(rt; sweep(rt, alloc, base, plans, 1, &gate).is_ok());
+    assert!(rt; gate.missed.load(Ordering::SeqCst) == 1);
+}
+
 #[test]
 fn two_workers_are_at_work_at_once(rt: HostRuntime) {
     let base = booted(&rt, rt.alloc());
     let plans = plans(&rt, rt.alloc());
     meet(&rt, rt.alloc(), &base, plans.as_slice());
+}
+
+#[test]
+fn one_worker_meets_nobody(rt: HostRuntime) {
+    let base = booted(&rt, rt.alloc());
+    let plans = plans(&rt, rt.alloc());
+    miss(&rt, rt.alloc(), &base, plans.as_slice());
 }
 
 // What so many workers give.
@@ -271,16 +287,18 @@ fn tried(rt: &impl Abort, alloc: Global, sim: &mut Sim, plan: &Plan) -> Outcome 
     try_plan(alloc, sim, plan).ok().expect(rt, "an outcome")
 }
 
-// Does each of these plans leave it as it was?
+// Has each of these plans its outcome, and leaves it as it was?
 fn stays(rt: &impl Abort, alloc: Global, sim: &mut Sim, plans: &[Plan]) {
     let before = seen(rt, alloc, sim);
     let words = copied(rt, alloc, sim);
+    let mut text = String::new(alloc);
     for plan in plans {
         let outcome = tried(rt, alloc, sim, plan);
-        assert!(rt; outcome.accepted <= 2);
+        assert!(rt; tell_outcome(&mut text, &outcome).is_ok());
         assert!(rt; before.same(&seen(rt, alloc, sim)));
         assert!(rt; sim.state().same_words(&words));
     }
+    assert_eq!(rt; text.as_str(), TOLD);
 }
 
 // How many edits the last of the three boots made.

@@ -5,9 +5,9 @@ use rh_terms::read_terms;
 use std::alloc::{AllocError, Global};
 use std::process::Abort;
 
-// The term as Erlang writes it, but an atom without quotes and a text as it stands.
+/// The term as Erlang writes it, but an atom without quotes and a text as it stands, and a comma behind each part.
 #[cycle(showing)]
-fn show_term(out: &mut String, term: &Term) -> Result<(), AllocError> {
+pub fn show_term(out: &mut String, term: &Term) -> Result<(), AllocError> {
     match term {
         Term::Atom(name) => out.push_str(name.as_str()),
         Term::Int(n) => write!(out, "{n}"),

@@ -1,0 +1,214 @@
+"""Inputs of at most 16 MiB that are made to take long or much memory: texts() gives a subcommand with its words, what the input
+is, and a function that makes it.
+
+The clusters have 32 nodes, 64 applications and 256 platform names, the most that there can be, and the scripts fill a trail or a
+log, or the 16 MiB.
+"""
+MIB = 1_048_576
+MOST = 16 * MIB
+TRAIL = 65_535
+BARE = b"{node, a@x, []}.\n===\n"
+NODES = [b"n%d" % number for number in range(32)]
+APPS = [b"a%d" % number for number in range(64)]
+LONGEST = 255
+# Of the 256 platform names these are there in any case.
+PLATFORM = [b"kernel", b"stdlib"] + [b"p%d" % number for number in range(254)]
+
+
+def filled(front, piece, back, size=MOST):
+    """A text of nearly this size: the piece as often as it fits."""
+    return front + piece * ((size - len(front) - len(back)) // len(piece)) + back
+
+
+def listing(names):
+    return b"[" + b", ".join(names) + b"]"
+
+
+def section(piece, back):
+    """One node with a section that is skipped."""
+    return filled(b"{node, a@x, [{skipped, [", piece, back + b"]}]}.\n===\n")
+
+
+def argument(piece, back, script):
+    """An application with a long start argument, which is kept."""
+    return filled(b"{node, a@x, []}. {application, p, [{mod, {m, [", piece, back + b"]}}]}.\n===\n" + script)
+
+
+def dense(count):
+    """A list of so many atoms."""
+    return b"[" + b",".join([b"a"] * count) + b"],"
+
+
+def checks():
+    """Texts for `check`, by what takes memory or time in them."""
+    nest = b"[" * 60 + b"]" * 60 + b","
+    yield "a list of 8 million atoms", lambda: section(b"a,", b"a")
+    yield "4 million lists of one atom", lambda: section(b"[a],", b"a")
+    yield "lists of 33 atoms", lambda: section(dense(33), b"a")
+    yield "60 lists inside each other, again and again", lambda: section(nest, b"a")
+    yield "64 lists inside each other that are never closed", lambda: filled(b"", b"[" * 64 + b"]" * 64 + b".\n", b"[" * 64)
+    yield "16 million lists that are never closed", lambda: b"[" * MOST
+    yield "one atom", lambda: section(b"a", b"")
+    yield "one quoted atom of escapes", lambda: filled(b"{node, a@x, [{skipped, ['", b"\\n", b"']}]}.")
+    yield "one text", lambda: filled(b"{node, a@x, [{skipped, [\"", b"t", b"\"]}]}.")
+    yield "one comment", lambda: filled(b"{node, a@x, []}. %", b"c", b"")
+    yield "16 million blanks", lambda: filled(b"{node, a@x, []}.", b" ", b"")
+    yield "8 million comments", lambda: filled(b"{node, a@x, []}.\n", b"%\n", b"")
+    yield "5 million terms", lambda: filled(b"", b"a.\n", b"")
+    yield "one number of zeros", lambda: section(b"0", b"0")
+    yield "a name of 16 MiB", lambda: filled(b"{node, '", b"q", b"', []}.")
+    yield "2 million sections", lambda: filled(b"{node, a@x, [", b"{a,[]},", b"{a,[]}]}.")
+    yield "a list of 2 million names", lambda: filled(
+        b"{node, a@x, []}. {application, p, [{applications, [kernel", b",stdlib", b"]}]}.")
+    yield "1.8 million platform names", lambda: b"{node, a@x, [{rehearse, [{platform, %s}]}]}." % listing(
+        [b"p%d" % number for number in range(1_500_000)])
+    yield "a start argument of lists of 33 atoms", lambda: argument(dense(33), b"a", b"")
+    yield "64 start arguments of lists of 33 atoms", start_arguments
+
+
+def start_arguments():
+    """As many start arguments as there can be, 256 KiB each."""
+    each = [filled(b"{application, %s, [{mod, {m, [" % app, dense(33), b"a]}}]}.\n", MOST // 64 - 16) for app in APPS]
+    return b"{node, a@x, []}.\n" + b"".join(each)
+
+
+def kept(words):
+    """Start arguments in a cluster of which every run keeps a copy."""
+    script = {"run": b"boot a@x\n", "sessions": b"8 boot a@x\n", "sweep": b"boot a@x\nplan p\ncrash a@x\n" * 1}[words.split()[0]]
+    return lambda: argument(dense(33), b"a", script)
+
+
+def everywhere(apps=APPS, nodes=NODES, timeout=0):
+    """Every application may run at every node, the earlier ones first, each boots all of them, and each needs every platform
+    name; its start phases are defined."""
+    groups = listing(nodes)
+    entries = listing([b"{%s, %d, %s}" % (app, timeout, groups) for app in apps])
+    boot = listing([b"{%s, transient}" % app for app in apps])
+    text = b"".join(b"{node, %s, [{kernel, [{distributed, %s}]}, {rehearse, [{boot, %s}, {platform, %s}]}]}.\n" % (
+        node, entries, boot, listing(PLATFORM)) for node in nodes)
+    keys = b"{applications, %s}, {start_phases, []}" % listing(PLATFORM)
+    return text + b"".join(b"{application, %s, [%s]}.\n" % (app, keys) for app in apps) + b"===\n"
+
+
+def long_names(letter, count):
+    return [b"%s%s%03d" % (letter, letter * (LONGEST - 4), number) for number in range(count)]
+
+
+def boots(nodes=NODES):
+    return [b"boot %s" % node for node in nodes]
+
+
+def turns(count, nodes=NODES):
+    """Crashes and boots of the node that all applications prefer, then of the next: each moves all of them."""
+    lines = boots(nodes)
+    for node in nodes:
+        for _ in range(9_998):
+            lines += [b"crash " + node, b"boot " + node]
+            if len(lines) >= count:
+                return lines[:count]
+        lines += [b"crash " + node]
+    raise ValueError("too few nodes")
+
+
+def joined(lines):
+    return b"\n".join(lines) + b"\n"
+
+
+def chains():
+    """All applications are local and need every platform name. The last four nodes have them all, and there each needs the next
+    one too, in the worst order; at the others they wait for the last platform name."""
+    deps = [PLATFORM + [app] for app in APPS[1:]] + [PLATFORM]
+    boot = listing([b"{%s, temporary}" % app for app in APPS])
+    names = [listing(PLATFORM[2:-1])] * 28 + [listing(PLATFORM[2:])] * 4
+    text = b"".join(b"{node, %s, [{rehearse, [{boot, %s}, {platform, %s}]}]}.\n" % (node, boot, has)
+                    for node, has in zip(NODES, names))
+    return text + b"".join(b"{application, %s, [{applications, %s}]}.\n" % (app, listing(needs))
+                           for app, needs in zip(APPS, deps)) + b"===\n"
+
+
+def chain_turns(count):
+    """The last four nodes boot and crash by turns, and each boot starts all applications there."""
+    lines = boots(NODES[:28])
+    for node in NODES[28:]:
+        for _ in range(9_998):
+            lines += [b"boot " + node, b"crash " + node]
+            if len(lines) >= count:
+                return lines[:count]
+    raise ValueError("too few nodes")
+
+
+def largest_report():
+    """32 nodes at which 64 applications wait that are forbidden, with names of 255 bytes."""
+    nodes, apps = long_names(b"n", 32), long_names(b"a", 64)
+    boot = listing([b"{%s, transient}" % app for app in apps])
+    forbidden = listing([b"{%s, false}" % app for app in apps])
+    text = b"".join(b"{node, %s, [{kernel, [{permissions, %s}]}, {rehearse, [{boot, %s}]}]}.\n" % (node, forbidden, boot)
+                    for node in nodes)
+    return text + b"".join(b"{application, %s, []}.\n" % app for app in apps) + b"===\n" + joined(boots(nodes))
+
+
+def by_sessions(lines):
+    """The lines, by eight sessions in turn."""
+    return [b"%d %s" % (number % 8 + 1, line) for number, line in enumerate(lines)]
+
+
+def runs():
+    """Texts for `run`."""
+    yield "one line", lambda: filled(BARE + b"#", b"c", b"")
+    yield "one word", lambda: filled(BARE + b"boot ", b"c", b"")
+    yield "8 million words in a line", lambda: filled(BARE + b"boot", b" a", b"")
+    yield "16 million empty lines", lambda: filled(BARE, b"\n", b"")
+    yield "a number of zeros", lambda: filled(BARE + b"tick ", b"0", b"")
+    yield "a start argument of lists of 33 atoms", kept("run")
+    yield "3 million times undo", lambda: filled(BARE, b"undo\n", b"")
+    yield "3 million times show, of one node", lambda: filled(BARE, b"show\n", b"")
+    yield "1,000 times show, of a report of 1 MiB", lambda: largest_report() + b"show\n" * 1_000
+    yield "65,535 ticks", lambda: BARE + b"tick 1\n" * TRAIL
+    yield "65,535 ticks, 800 thousand times undone and redone", lambda: filled(
+        BARE + b"tick 1\n" * TRAIL, b"undo_all\nredo_all\n", b"")
+    yield "65,535 steps that move 64 applications", lambda: everywhere() + joined(turns(TRAIL))
+    yield "these steps, 20 times undone and redone", lambda: everywhere() + joined(turns(TRAIL)) + b"undo_all\nredo_all\n" * 20
+    yield "1.6 million undos and redos of such a step", lambda: filled(everywhere() + joined(boots() + [b"crash n0"]), b"undo\nredo\n", b"")
+    yield "such a step, 1.2 million times anew", lambda: filled(everywhere() + joined(boots()), b"crash n0\nundo\n", b"")
+    yield "65,535 steps that move 64, of long names", lambda: everywhere(long_names(b"a", 64)) + joined(turns(TRAIL))
+    yield "65,535 steps, each other one starts a chain of 64", lambda: chains() + joined(chain_turns(TRAIL))
+
+
+def sessions():
+    """Texts for `sessions`."""
+    yield "16 million digits of a session", lambda: filled(BARE, b"1", b"")
+    yield "a start argument of lists of 33 atoms", kept("sessions")
+    yield "65,535 times undo", lambda: BARE + joined(by_sessions([b"undo"] * TRAIL))
+    yield "65,535 times show, of one node", lambda: BARE + joined(by_sessions([b"show"] * TRAIL))
+    yield "1,000 times show, of a report of 1 MiB", lambda: _shown(1_000 - 32)
+    yield "65,535 steps that move 64 applications", lambda: everywhere() + joined(by_sessions(turns(TRAIL)))
+
+
+def _shown(count):
+    cluster, mark, script = largest_report().partition(b"===\n")
+    return cluster + mark + joined(by_sessions(script.splitlines() + [b"show"] * count))
+
+
+def sweeps():
+    """Texts for `sweep`."""
+    base = everywhere() + joined(boots())
+    each = b"crash n0\nboot n0\n"
+    yield "2 million empty plans, without applications", lambda: filled(BARE, b"plan p\n", b"")
+    yield "2 million empty plans, of 64 applications", lambda: filled(base, b"plan p\n", b"")
+    yield "a start argument of lists of 33 atoms", kept("sweep")
+    yield "20,000 plans of 100 steps that move 64", lambda: filled(base, b"plan p\n" + each * 50, b"")
+    yield "plans of 19,000 steps that move 64", lambda: filled(base, b"plan p\n" + each * 9_500, b"")
+    yield "a base of 65,535 steps that move 64, and a plan for each worker", lambda: (
+        everywhere() + joined(turns(TRAIL)) + b"plan p\n" * 16)
+
+
+def texts():
+    """Triples of the words of the command line, what the input is, and a function that makes it."""
+    for name, make in checks():
+        yield ["check"], name, make
+    for name, make in runs():
+        yield ["run"], name, make
+    for name, make in sessions():
+        yield ["sessions"], name, make
+    for name, make in sweeps():
+        yield ["sweep", "--workers", "16"], name, make
