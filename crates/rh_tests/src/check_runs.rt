@@ -2,7 +2,7 @@
 
 use crate::devices::{Failure, Sink, Source};
 use crate::rehearsals::said;
-use rh_app::{Watched, run_check};
+use rh_app::{Reader, Watched, Writer, run_check};
 use std::alloc::Global;
 use std::process::Abort;
 
@@ -17,8 +17,8 @@ static TEXT: &str = "ok 1 nodes 1 applications\n";
 
 // How a check over these devices ends.
 fn end_of(alloc: Global, source: Source<'_>, sink: &mut Sink) -> &'static str {
-    let mut reader = Watched::new(source);
-    let mut writer = Watched::new(sink);
+    let mut reader = Watched::new(Reader::new(source));
+    let mut writer = Watched::new(Writer::new(sink));
     said(run_check(alloc, &mut reader, &mut writer))
 }
 

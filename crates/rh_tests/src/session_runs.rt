@@ -2,7 +2,7 @@
 
 use crate::devices::{Failure, Sink, Source};
 use crate::rehearsals::said;
-use rh_app::{Watched, run_sessions};
+use rh_app::{Reader, Watched, Writer, run_sessions};
 use rh_step::Pick;
 use std::alloc::Global;
 use std::rt::Runtime;
@@ -35,8 +35,8 @@ fn end_of<T: Runtime<A = Global> + Threads + Wait + Sync>(
     source: Source<'_>,
     sink: &mut Sink,
 ) -> &'static str {
-    let mut reader = Watched::new(source);
-    let mut writer = Watched::new(sink);
+    let mut reader = Watched::new(Reader::new(source));
+    let mut writer = Watched::new(Writer::new(sink));
     said(run_sessions(rt, rt.alloc(), &mut reader, &mut writer, Pick::First))
 }
 
