@@ -31,25 +31,30 @@ unused_pass_row : (sim : Held) (log : List Entry) → IsPassOf (record { sim = s
 unused_pass_row sim log = (((omega arith, omega arith), tt), λ is. omega (arith, is.0.1), λ is. omega (arith, is.0.0))
 
 -- a pass that was told what isn't logged is of another room, and the place of its last receipt is told; without receipts that is 0
-foreign_row : (sim : Held) → WhyNot (record { sim = sim; sessions = 1; log = [] })
-    (record { session = 1; receipts = receipt 3 Undo AtStart ∷ receipt 7 Redo AtEnd ∷ [] }) (WrongRoom 7)
-foreign_row sim = (λ is. cc is.1, refl)
+foreign_row : (sim : Held) (call : Call) → WhyNot (record { sim = sim; sessions = 1; log = [] })
+    (record { session = 1; receipts = receipt 3 Undo AtStart ∷ receipt 7 Redo AtEnd ∷ [] }) call (WrongRoom 7)
+foreign_row sim call = (λ is. cc is.1, refl)
 
-other_session_row : (sim : Held) (log : List Entry) → WhyNot (record { sim = sim; sessions = 2; log = log }) (new_pass 3) (WrongRoom 0)
-other_session_row sim log = (λ is. omega (arith, is.0.1), refl)
+other_session_row : (sim : Held) (log : List Entry) (call : Call) → WhyNot (record { sim = sim; sessions = 2; log = log }) (new_pass 3) call (WrongRoom 0)
+other_session_row sim log call = (λ is. omega (arith, is.0.1), refl)
 
 -- a log takes 65,535 entries; that the pass is another room's comes before that the log is full, and want of memory behind both
-full_row : (room : RoomView) (pass : PassView) → IsPassOf room pass → length room.log ≡ 65535 → WhyNot room pass LogFull × (WhyNot room pass OutOfMemory → ⊥)
-full_row room pass is full = ((is, full), λ why. omega (arith, full, why.1))
+full_row : (room : RoomView) (pass : PassView) (call : Call) → IsPassOf room pass → length room.log ≡ 65535
+    → WhyNot room pass call LogFull × (WhyNot room pass call OutOfMemory → ⊥)
+full_row room pass call is full = ((is, full), λ why. omega (arith, full, why.1))
 
-almost_full_row : (room : RoomView) (pass : PassView) → length room.log ≡ 65534 → WhyNot room pass LogFull → ⊥
-almost_full_row room pass almost why = omega (arith, almost, why.1)
+almost_full_row : (room : RoomView) (pass : PassView) (call : Call) → length room.log ≡ 65534 → WhyNot room pass call LogFull → ⊥
+almost_full_row room pass call almost why = omega (arith, almost, why.1)
 
-foreign_before_full_row : (room : RoomView) (pass : PassView) → (IsPassOf room pass → ⊥) → WhyNot room pass LogFull → ⊥
-foreign_before_full_row room pass foreign why = foreign why.0
+foreign_before_full_row : (room : RoomView) (pass : PassView) (call : Call) → (IsPassOf room pass → ⊥) → WhyNot room pass call LogFull → ⊥
+foreign_before_full_row room pass call foreign why = foreign why.0
 
-memory_last_row : (room : RoomView) (pass : PassView) → WhyNot room pass OutOfMemory → IsPassOf room pass × (length room.log < 65535)
-memory_last_row room pass why = (why.0, why.1)
+memory_last_row : (room : RoomView) (pass : PassView) (call : Call) → WhyNot room pass call OutOfMemory → IsPassOf room pass × (length room.log < 65535)
+memory_last_row room pass call why = (why.0, why.1)
+
+-- which an undo never lacks
+no_memory_for_undo_row : (room : RoomView) (pass : PassView) → WhyNot room pass Undo OutOfMemory → ⊥
+no_memory_for_undo_row room pass why = why.2
 
 -- ---- what a session is told
 
