@@ -7,7 +7,7 @@ which is distributed over eight nodes, and sweeps of 20,000 plans of 10 to 30 ev
 inputs of hostile_texts.py, which are made to take long or much memory. Where words are given, these are the rows whose text
 has them all.
 
-A run is ended after 60 seconds, and is refused memory behind 4 GiB; its output is thrown away. Nothing is asserted: the times
+A run is ended after 20 seconds, and is refused memory behind 4 GiB; its output is thrown away. Nothing is asserted: the times
 depend on the machine.
 """
 import os
@@ -20,7 +20,7 @@ import hostile_texts
 from hostile_texts import MIB
 from support import chain
 
-LONGEST, GREATEST = 60, 4_096
+LONGEST, GREATEST = 20, 4_096
 
 
 def large():

@@ -86,13 +86,17 @@ class Devices:
 
 def failed_fault(devices, word, piece, call, count, how):
     """What is wrong where each of so many calls fails in turn, or None: status 4, and nothing was written behind a failed read,
-    and a front of the text behind a failed write."""
+    and a front of the text behind a failed write. The buffer before standard output makes a write that was interrupted again, as
+    std's does: then the status is 0, and the text is whole."""
     text = INPUTS[word][1]
     for number in range(1, count + 1):
         done = devices.over(word, piece, call, number, how)
-        out = done.stdout
-        is_front = text.startswith(out) and len(out) < len(text) if call == "write" else out == b""
-        wrong = fault_of(done, 4, None) or (None if is_front else f"{out!r} was written")
+        if (call, how, done.returncode) == ("write", EINTR, 0):
+            wrong = fault_of(done, 0, text)
+        else:
+            # What the buffer still held may come behind the failure.
+            is_front = text.startswith(done.stdout) if call == "write" else done.stdout == b""
+            wrong = fault_of(done, 4, None) or (None if is_front else f"{done.stdout!r} was written")
         if wrong is not None:
             return f"{call} {number}: {wrong}"
     return None
