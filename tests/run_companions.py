@@ -10,8 +10,11 @@ import glob
 import importlib.util
 import os
 import shutil
+import signal
 import sys
 
+# A shell's command in the background ignores SIGINT, and so would all companions that are started here.
+signal.signal(signal.SIGINT, signal.default_int_handler)
 # No file is left behind.
 sys.dont_write_bytecode = True
 from support import TOP, finish  # noqa: E402
