@@ -1,11 +1,10 @@
 """The built program over devices of which each call fails in turn: a library that is loaded before the others gives or takes at
 most so many bytes a call, and fails at the read or the write of a number."""
 import os
-import subprocess
 import sys
 import tempfile
 
-from support import fault_of, read, run
+from support import fault_of, library_of, read, run
 
 # Counts the reads of standard input and the writes to standard output in the file COUNT_FILE. FAIL_CALL is `read` or `write`,
 # FAIL_NUMBER the call's number from 1, and FAIL_HOW the error, or 0 for an answer of 0 bytes.
@@ -66,11 +65,7 @@ class Devices:
     """The program over such devices."""
 
     def __init__(self, program, folder):
-        code, self.library, self.counted = (os.path.join(folder, name) for name in ("devices.c", "devices.so", "count"))
-        self.program = program
-        with open(code, "w") as file:
-            file.write(DEVICES)
-        subprocess.run(["cc", "-shared", "-fPIC", "-O1", "-o", self.library, code, "-ldl"], check=True)
+        self.program, self.library, self.counted = program, library_of(DEVICES, folder), os.path.join(folder, "count")
 
     def over(self, word, piece, call, number, how):
         """The finished run."""

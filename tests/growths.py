@@ -7,11 +7,10 @@ answered what it has to), `refused` (it was refused memory, and all is as before
 """
 import itertools
 import os
-import subprocess
 import sys
 import tempfile
 
-from support import fault_of, read, run
+from support import fault_of, library_of, read, run
 
 # The calls that take memory: each growth is refused in turn.
 GROWING = ("read", "first_state", "copy_state", "timers", "perform", "open", "copy", "step_timers", "step_boot", "step_undone",
@@ -80,11 +79,7 @@ class Calls:
     """The program that makes the calls, with growths refused."""
 
     def __init__(self, program, folder):
-        code, self.library, self.counted = (os.path.join(folder, name) for name in ("growths.c", "growths.so", "count"))
-        self.program = program
-        with open(code, "w") as file:
-            file.write(REFUSING)
-        subprocess.run(["cc", "-shared", "-fPIC", "-O1", "-o", self.library, code, "-ldl"], check=True)
+        self.program, self.library, self.counted = program, library_of(REFUSING, folder), os.path.join(folder, "count")
 
     def refusing(self, name, number):
         """What is said of a call of this name with this growth refused, how many growths were asked for, and what is wrong

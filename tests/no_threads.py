@@ -1,8 +1,7 @@
 """The built program where no thread can be made."""
 import os
-import subprocess
 
-from support import read
+from support import library_of, read
 
 # Refuses each thread, and adds a byte to the file REFUSED for it.
 REFUSING = r"""
@@ -24,10 +23,7 @@ int pthread_create(pthread_t *thread, const pthread_attr_t *with, void *(*run)(v
 def without_threads(program, folder):
     """The path of a script that runs the program so, and a function that tells how many threads were refused since it was
     last asked."""
-    code, library, refused, script = (os.path.join(folder, name) for name in ("none.c", "none.so", "refused", "program"))
-    with open(code, "w") as file:
-        file.write(REFUSING)
-    subprocess.run(["cc", "-shared", "-fPIC", "-O1", "-o", library, code], check=True)
+    library, refused, script = library_of(REFUSING, folder), os.path.join(folder, "refused"), os.path.join(folder, "program")
     with open(script, "w") as file:
         file.write(f"#!/bin/sh\nREFUSED='{refused}' LD_PRELOAD='{library}' exec '{program}' \"$@\"\n")
     os.chmod(script, 0o700)

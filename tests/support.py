@@ -28,6 +28,15 @@ def example_files():
     return [path for path in files_below(os.path.join(TOP, "examples")) if path.endswith(".txt")]
 
 
+def library_of(code, folder):
+    """The path of a library that is made of this C code in the folder, to be loaded before the others."""
+    source, library = os.path.join(folder, "library.c"), os.path.join(folder, "library.so")
+    with open(source, "w") as file:
+        file.write(code)
+    subprocess.run(["cc", "-shared", "-fPIC", "-O1", "-o", library, source, "-ldl"], check=True)
+    return library
+
+
 def run(program, words, **options):
     """A finished run of the program, by default with no input and with its output kept."""
     if "input" not in options:
