@@ -1,8 +1,9 @@
 //! Edits.
 
-ghost use Rattle.std.specs.Prelude.{◌≡◌, false};
+ghost use Rattle.std.specs.Prelude.{◌≡◌, false, slice_index_or};
 ghost use Rattle.rh_arena.specs.Exchange.{exchange, turned};
-ghost use Rattle.rh_arena.specs.Spots.{changes_at, IsBetween};
+ghost use Rattle.rh_arena.specs.Spots.{changes_at, entry_in, list_in, IsBetween};
+ghost use Rattle.rh_arena.specs.Words.{Words};
 
 use crate::links::Links;
 use crate::spot::{Spot, Values};
@@ -50,6 +51,24 @@ impl LinkEdit {
         ensures { result ≡ self.now.is_done }
     {
         self.is_done
+    }
+
+    /// Which entry it puts into a list, or takes out of one. On its other side it is of the same entry.
+    #[tactic(auto, unfolding(crate::specs::Exchange::turned))]
+    pub fn entry(&self) -> u16
+        ensures entry { result ≡ entry_in self.now.changes }
+        ensures turned { (words : Words) → entry_in (turned words self.now).changes ≡ result }
+    {
+        self.spot.entry
+    }
+
+    /// The list that an exchange gives the entry, if it gives it one. On its other side the edit has the one that there was.
+    #[tactic(auto, unfolding(crate::specs::Exchange::turned))]
+    pub fn list(&self) -> Option<u32>
+        ensures list { result ≡ list_in self.now.changes }
+        ensures turned { (words : Words) → list_in (turned words self.now).changes ≡ slice_index_or words.owner (entry_in self.now.changes) result }
+    {
+        self.values.owner.wide()
     }
 
     /// An equal edit.

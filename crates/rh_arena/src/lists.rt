@@ -6,6 +6,7 @@ ghost use Rattle.rh_arena.specs.Lists.{listed, without, after, before};
 ghost use Rattle.rh_arena.specs.Linking.{pushed, removed};
 ghost use Rattle.rh_arena.specs.WellFormed.{IsWellFormed};
 ghost use Rattle.rh_arena.specs.Exchange.{exchange, turned};
+ghost use Rattle.rh_arena.specs.Spots.{entry_in, list_in};
 
 use crate::edit::LinkEdit;
 use crate::link::Link;
@@ -151,6 +152,8 @@ impl Lists {
         ensures list_count { list_count self.new ≡ list_count self.old }
         ensures done { result.is_done ≡ true }
         ensures exact { exchange self.new result ≡ self.old }
+        ensures entry { entry_in result.changes ≡ entry }
+        ensures taken_from { list_in result.changes ≡ None }
     {
         let last = self.links.tail[list as usize];
         let count = self.links.count[list as usize];
@@ -183,6 +186,8 @@ impl Lists {
         ensures list_count { list_count self.new ≡ list_count self.old }
         ensures done { result.is_done ≡ true }
         ensures exact { exchange self.new result ≡ self.old }
+        ensures entry { entry_in result.changes ≡ entry }
+        ensures taken_from { list_in result.changes ≡ owner_of self.old entry }
     {
         let before = self.links.prev[entry as usize];
         let after = self.links.next[entry as usize];

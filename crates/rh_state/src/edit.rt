@@ -41,7 +41,7 @@ pub enum Edit {
 }
 
 // A trail keeps an edit for each change of its way, so millions of them.
-const _: () = prove!(size_of::<Edit>() == 48);
+const _: () = prove!(size_of::<Edit>() == 32);
 
 impl Edit {
     /// An equal edit.

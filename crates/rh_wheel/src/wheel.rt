@@ -7,7 +7,7 @@ ghost use Rattle.rh_wheel.specs.Stored.{unarmed, listed, timer_count, in_slot};
 ghost use Rattle.rh_wheel.specs.Formed.{IsFormed};
 ghost use Rattle.rh_wheel.specs.Edits.{exchange, turned};
 
-use crate::edit::TimerEdit;
+use crate::edit::{TimerEdit, bytes_of};
 use rh_arena::Lists;
 use std::alloc::{AllocError, Global};
 use std::marker::Model;
@@ -108,11 +108,7 @@ impl Wheel {
         self.dues[timer as usize] = Some(due);
         let links = self.slots.push_back((due % Wheel::SLOTS) as u32, timer);
         self.slots.formed();
-        TimerEdit {
-            links,
-            timer: timer as u16,
-            due: None,
-        }
+        TimerEdit::new(links, None)
     }
 
     /// Cancels a timer that is armed.
@@ -134,11 +130,7 @@ impl Wheel {
         self.dues[timer as usize] = None;
         let links = self.slots.remove(timer);
         self.slots.formed();
-        TimerEdit {
-            links,
-            timer: timer as u16,
-            due,
-        }
+        TimerEdit::new(links, due)
     }
 
     /// Takes the change of a done edit back, or whatever exchange of it leaves timers; the edit is undone then.
@@ -150,8 +142,9 @@ impl Wheel {
         ensures exact { exchange self.new edit.new ≡ self.old }
         ensures again { turned self.new edit.new ≡ edit.old }
     {
+        let due = exchanged(&mut self.dues, edit.timer(), edit.due());
         self.slots.revert(&mut edit.links);
-        edit.due = exchanged(&mut self.dues, edit.timer, edit.due);
+        edit.due = bytes_of(due);
     }
 
     /// Makes the change of an undone edit again, or whatever exchange of it leaves timers; the edit is done then.
@@ -163,8 +156,9 @@ impl Wheel {
         ensures exact { exchange self.new edit.new ≡ self.old }
         ensures again { turned self.new edit.new ≡ edit.old }
     {
+        let due = exchanged(&mut self.dues, edit.timer(), edit.due());
         self.slots.reapply(&mut edit.links);
-        edit.due = exchanged(&mut self.dues, edit.timer, edit.due);
+        edit.due = bytes_of(due);
     }
 
     /// The due time and the number of the timer that fires first; `None` exactly if no timer is armed.

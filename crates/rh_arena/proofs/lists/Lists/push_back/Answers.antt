@@ -1,10 +1,11 @@
-use Rattle.std.proofs.Common.{◌≡◌, ◌<◌, ◌≤◌, ◌+◌, ℕ, not, ap, sym, subst, ◌∙◌, arith}
+use Rattle.std.proofs.Common.{◌≡◌, ◌<◌, ◌≤◌, ◌+◌, ℕ, None, not, ap, sym, subst, ◌∙◌, arith}
+use Rattle.std.proofs.lemmas.List.{get_or_default}
 use Rattle.std.proofs.lemmas.Grind.{common_steps}
 use Rattle.rh_arena.specs.Words.{Words, entry_count, list_count, count_of, tail_of}
 use Rattle.rh_arena.specs.Lists.{listed}
 use Rattle.rh_arena.specs.Linking.{pushed}
 use Rattle.rh_arena.specs.Exchange.{exchange, turned, puts}
-use Rattle.rh_arena.specs.Spots.{changes_at}
+use Rattle.rh_arena.specs.Spots.{changes_at, entry_in, list_in}
 use Rattle.rh_arena.specs.WellFormed.{IsWellFormed}
 use Rattle.rh_arena.proofs.Linking.{entry_count-pushed, list_count-pushed}
 use Rattle.rh_arena.proofs.Pushes.{pushed_formed, pushed_listed, pushed_others, room_for_one}
@@ -74,3 +75,19 @@ returns-clause-list_count c = ap list_count (words_are c) ∙ list_count-pushed 
 pub returns-clause-done : goal.returns-clause-done
 unfolding turned
 returns-clause-done c = ap (λ e. e.is_done) c.exchange.ensures.edit ∙ ap (λ e. not e.is_done) c.new-edit.ensures
+
+-- the edit has the words of the same entry, with what they had
+pub returns-clause-entry : goal.returns-clause-entry
+unfolding turned
+returns-clause-entry c = ap (λ e. entry_in e.changes) c.exchange.ensures.edit
+    ∙ (λ k. entry_in (turned (c.self.view_is k) (c.new-edit.ensures k)).changes)
+
+pub returns-clause-taken_from : goal.returns-clause-taken_from
+unfolding turned
+returns-clause-taken_from c =
+    let w : Words = c.args.self.now in
+    let inside : c.args.entry < entry_count w = c.requires.entry in
+    ap (λ e. list_in e.changes) c.exchange.ensures.edit
+    ∙ (λ k. list_in (turned (c.self.view_is k) (c.new-edit.ensures k)).changes)
+    ∙ get_or_default w.owner c.args.entry _ None (omega (arith, inside, (formed c).owner))
+    ∙ c.requires.free

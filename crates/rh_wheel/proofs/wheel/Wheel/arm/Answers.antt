@@ -1,4 +1,4 @@
-use Rattle.std.proofs.Common.{◌≡◌, ◌<◌, Some, None, length, set, refl, arith}
+use Rattle.std.proofs.Common.{◌≡◌, ◌<◌, ◌∙◌, Some, None, IsSome, length, set, refl, sym, subst, arith}
 use Rattle.std.proofs.lemmas.List.{length-set}
 use Rattle.rh_wheel.specs.Firing.{behind}
 use Rattle.rh_wheel.specs.Stored.{Stored, listed, timer_count, due_of}
@@ -25,23 +25,20 @@ pub push_back-links-requires-clause-free : goal.push_back-links-requires-clause-
 push_back-links-requires-clause-free c =
     (unarmed_from_listed _ c.self.invariant.formed c.args.timer (rw (← c.self.view_is) at c.requires.unarmed)).1
 
-pub overflow_cast-result : goal.overflow_cast-result
-unfolding timer_count
-overflow_cast-result c =
-    let numbered : c.args.timer < length c.self.inside.dues.items = rw (← c.self.view_is) at c.requires.numbered in
-    omega (arith, numbered, c.self.invariant.few)
+pub new-requires : goal.new-requires
+new-requires c = (subst IsSome (sym c.push_back-links.ensures.taken_from), subst IsSome c.push_back-links.ensures.taken_from)
 
 -- what is kept before, and what is kept after
-abbrev kept : goal.After-formed → Stored
+abbrev kept : goal.After-new → Stored
 kept c = record { links = c.self.inside.slots; dues = c.self.inside.dues.items }
 
-abbrev left : goal.After-formed → Stored
+abbrev left : goal.After-new → Stored
 left c = record { links = c.push_back-links.new.self; dues = set c.self.inside.dues.items c.args.timer (Some c.args.due) }
 
-free : (c : goal.After-formed) → due_of (kept c) c.args.timer ≡ None
+free : (c : goal.After-new) → due_of (kept c) c.args.timer ≡ None
 free c = (unarmed_from_listed (kept c) c.self.invariant.formed c.args.timer (rw (← c.self.view_is) at c.requires.unarmed)).0
 
-armed : (c : goal.After-formed) → IsArmed (kept c) (left c) c.args.timer c.args.due
+armed : (c : goal.After-new) → IsArmed (kept c) (left c) c.args.timer c.args.due
 unfolding timer_count
 armed c = record {
   numbered = rw (← c.self.view_is) at c.requires.numbered;
@@ -51,7 +48,7 @@ armed c = record {
   others = c.push_back-links.ensures.others;
 }
 
-list : (c : goal.After-formed) → listed (left c) ≡ behind (c.args.due, c.args.timer) (listed c.args.self.now)
+list : (c : goal.After-new) → listed (left c) ≡ behind (c.args.due, c.args.timer) (listed c.args.self.now)
 list c = rw (← c.self.view_is) (listed-armed (kept c) (left c) c.args.timer c.args.due c.self.invariant.formed (armed c))
 
 pub returns-clause-list : goal.returns-clause-list
@@ -77,6 +74,10 @@ returns-clause-last_of_equals c =
 
 pub returns-clause-exact : goal.returns-clause-exact
 unfolding exchange
-returns-clause-exact c = rw (← c.self.view_is)
-    (Stored-same _ (kept c) c.push_back-links.ensures.exact
-    (set-back c.self.inside.dues.items c.args.timer (Some c.args.due) None None (free c)))
+returns-clause-exact c =
+    let links = c.push_back-links.result in
+    (λ k. exchange (left c) (c.new.ensures k))
+    ∙ (λ k. exchange (left c) (record { is_done = links.is_done; changes = links.changes; timer = c.push_back-links.ensures.entry k; due = None }))
+    ∙ Stored-same _ (kept c) c.push_back-links.ensures.exact
+    (set-back c.self.inside.dues.items c.args.timer (Some c.args.due) None None (free c))
+    ∙ c.self.view_is

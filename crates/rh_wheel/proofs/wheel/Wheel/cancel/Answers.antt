@@ -1,5 +1,5 @@
 use Rattle.std.proofs.Common.{◌≡◌, ◌%◌, ◌∙◌, ℕ, Some, None, IsSome, set, refl, sym, ap, arith}
-use Rattle.std.proofs.lemmas.List.{length-set}
+use Rattle.std.proofs.lemmas.List.{length-set, get_or_default}
 use Rattle.rh_arena.specs.Words.{Words, owner_of}
 use Rattle.rh_wheel.specs.Firing.{without, due_in}
 use Rattle.rh_wheel.specs.Stored.{Stored, listed, timer_count, due_of}
@@ -25,22 +25,24 @@ remove-links-requires c =
     let armed = armed_from_listed _ c.self.invariant.formed c.args.timer (rw (← c.self.view_is) at c.requires) in
     rw armed.2 refl
 
-pub overflow_cast-result : goal.overflow_cast-result
-overflow_cast-result c =
+pub new-requires : goal.new-requires
+new-requires c =
     let armed = armed_from_listed _ c.self.invariant.formed c.args.timer (rw (← c.self.view_is) at c.requires) in
-    omega (arith, within_from_due c.self.inside.dues.items c.args.timer armed.0 armed.1, c.self.invariant.few)
+    let within = within_from_due c.self.inside.dues.items c.args.timer armed.0 armed.1 in
+    let due = c.index-due.ensures ∙ get_or_default c.self.inside.dues.items c.args.timer c.index-due.result.now None within ∙ armed.1 in
+    (λ e. rw (c.remove-links.ensures.taken_from, armed.2) refl, λ e. rw due refl)
 
 -- what is kept before, and what is kept after
-abbrev kept : goal.After-formed → Stored
+abbrev kept : goal.After-new → Stored
 kept c = record { links = c.self.inside.slots; dues = c.self.inside.dues.items }
 
-abbrev left : goal.After-formed → Stored
+abbrev left : goal.After-new → Stored
 left c = record { links = c.remove-links.new.self; dues = set c.self.inside.dues.items c.args.timer None }
 
-armed : (c : goal.After-formed) → (d : ℕ) × (due_of (kept c) c.args.timer ≡ Some d) × (owner_of c.self.inside.slots c.args.timer ≡ Some (d % 64))
+armed : (c : goal.After-new) → (d : ℕ) × (due_of (kept c) c.args.timer ≡ Some d) × (owner_of c.self.inside.slots c.args.timer ≡ Some (d % 64))
 armed c = armed_from_listed (kept c) c.self.invariant.formed c.args.timer (rw (← c.self.view_is) at c.requires)
 
-cancelled : (c : goal.After-formed) → IsCancelled (kept c) (left c) c.args.timer (armed c).0
+cancelled : (c : goal.After-new) → IsCancelled (kept c) (left c) c.args.timer (armed c).0
 cancelled c = record {
   armed = (armed c).1;
   dues = refl;
@@ -56,7 +58,7 @@ invariant_of-self c = record {
   few = let same = length-set c.self.inside.dues.items c.args.timer None in omega (arith, same, c.self.invariant.few);
 }
 
-list : (c : goal.After-formed) → listed (left c) ≡ without c.args.timer (listed c.args.self.now)
+list : (c : goal.After-new) → listed (left c) ≡ without c.args.timer (listed c.args.self.now)
 list c = rw (← c.self.view_is) (listed-cancelled (kept c) (left c) c.args.timer (armed c).0 c.self.invariant.formed (cancelled c))
 
 pub returns-clause-list : goal.returns-clause-list
@@ -79,6 +81,10 @@ returns-clause-one_less c =
 
 pub returns-clause-exact : goal.returns-clause-exact
 unfolding exchange
-returns-clause-exact c = rw (← c.self.view_is)
-    (Stored-same _ (kept c) c.remove-links.ensures.exact
-    (set-back c.self.inside.dues.items c.args.timer None c.index-due.result.now c.index-due.result.now (sym c.index-due.ensures)))
+returns-clause-exact c =
+    let links = c.remove-links.result in
+    let due = c.index-due.result.now in
+    (λ k. exchange (left c) (c.new.ensures k))
+    ∙ (λ k. exchange (left c) (record { is_done = links.is_done; changes = links.changes; timer = c.remove-links.ensures.entry k; due = due }))
+    ∙ Stored-same _ (kept c) c.remove-links.ensures.exact (set-back c.self.inside.dues.items c.args.timer None due due (sym c.index-due.ensures))
+    ∙ c.self.view_is
