@@ -1,44 +1,19 @@
 -- The atoms that a text in UTF-8 spells are in UTF-8.
-use Rattle.std.proofs.Common.{◌≡◌, ◌<◌, ℕ, List, [], ◌∷◌, ◌++◌, Bool, true, false, cond, Some, Result, Ok, Err, refl, subst, append_assoc, append-nil, arith}
+use Rattle.std.proofs.Common.{◌≡◌, ◌<◌, ℕ, List, [], ◌∷◌, ◌++◌, Bool, true, false, cond, Result, Ok, Err, refl, subst, append_assoc, append-nil, arith}
 use Rattle.std.specs.Str.{IsUtf8, is_utf8}
-use Rattle.std.proofs.lemmas.Bool.Decides.{nat_tests}
-use Rattle.std.proofs.lemmas.Str.{IsUtf8-append, IsUtf8-from_ascii, IsUtf8-from_is_utf8}
+use Rattle.std.proofs.lemmas.Str.{IsUtf8-from_is_utf8}
 use Rattle.rh_base.specs.Tree.{Tree, Trees, atom, int, text, list, tuple, none, more}
 use Rattle.rh_terms.specs.declared.nest.TheConstants.{MAX_DEPTH}
 use Rattle.rh_terms.specs.declared.fault.TermFault.{TermFault}
 use Rattle.rh_terms.specs.declared.fault.TermFault.TheVariants as faults
 use Rattle.rh_terms.specs.declared.fault.Fault.{Fault}
-use Rattle.rh_terms.specs.Bytes.{is_white, past_blank}
-use Rattle.rh_terms.specs.Tokens.{escape}
+use Rattle.rh_terms.specs.Bytes.{past_blank}
 use Rattle.rh_terms.specs.Grammar.{terms_of, terms_from, told}
-use Rattle.rh_terms.specs.Spelling.{IsBlank, IsQuoted, Spells, IsInside, AreSeparated, AreDotted}
-use Rattle.rh_terms.proofs.Cut.{cut_at, behind_ascii}
+use Rattle.rh_terms.specs.Spelling.{IsBlank, Spells, IsInside, AreSeparated, AreDotted}
+use Rattle.rh_terms.proofs.Cut.{cut_at, behind_ascii, quoted_text, white_ascii}
 use Rattle.rh_terms.proofs.Whole.{text_spelled}
 
--- ---- between quotes
-
-escape_ascii : (b x : ℕ) → escape b ≡ Some x → (b < 128) × (x < 128)
-escape_ascii b x e = grind (arith, nat_tests, e)
-
-byte_text : (x : ℕ) → x < 128 → IsUtf8 (x ∷ [])
-byte_text x small = IsUtf8-from_ascii (x ∷ []) (λ i. grind arith)
-
-quoted_text : (quote : ℕ) (seg s content : List ℕ) → IsQuoted quote s content → IsUtf8 (seg ++ s) → IsUtf8 (seg ++ content)
-quoted_text quote seg s content IsQuoted.nothing utf8 = utf8
-quoted_text quote seg s content (IsQuoted.plain b bs others q e h) utf8 =
-    let longer : IsUtf8 ((seg ++ b ∷ []) ++ bs) = rw append_assoc utf8 in
-    let all : IsUtf8 ((seg ++ b ∷ []) ++ others) = quoted_text quote (seg ++ b ∷ []) bs others h longer in
-    rw append_assoc at all
-quoted_text quote seg s content (IsQuoted.escaped b x bs others e h) utf8 =
-    let ascii = escape_ascii b x e in
-    let parts = cut_at seg (b ∷ bs) 92 (omega arith) utf8 in
-    let rest : IsUtf8 others = quoted_text quote [] bs others h (behind_ascii b bs ascii.0 parts.1) in
-    IsUtf8-append seg (x ∷ others) parts.0 (IsUtf8-append (x ∷ []) others (byte_text x ascii.1) rest)
-
 -- ---- round blanks
-
-white_ascii : (b : ℕ) → is_white b ≡ true → b < 128
-white_ascii b e = grind (arith, nat_tests, e)
 
 -- what stands before blanks and an ASCII byte, and what stands behind it
 round_blank : (s a rest : List ℕ) (c : ℕ) → c < 128 → IsBlank a → IsUtf8 (s ++ (a ++ c ∷ rest)) → IsUtf8 s × IsUtf8 rest

@@ -45,7 +45,8 @@ on_cond : (P : List ℕ → Type 0) (b : Bool) (x y : List ℕ) → (b ≡ true 
 on_cond P true x y f g = f refl
 on_cond P false x y f g = g refl
 
-white_ascii : (b : ℕ) → is_white b ≡ true → b < 128
+-- white space is ASCII
+pub white_ascii : (b : ℕ) → is_white b ≡ true → b < 128
 white_ascii b e = grind (arith, nat_tests, e)
 
 is_byte : (b c : ℕ) → (b == c) ≡ true → c < 128 → b < 128
@@ -79,7 +80,7 @@ byte_text : (x : ℕ) → x < 128 → IsUtf8 (x ∷ [])
 byte_text x small = IsUtf8-from_ascii (x ∷ []) (byte_ascii x small)
 
 -- what text between quotes stands for
-quoted_text : (quote : ℕ) (seg s content : List ℕ) → IsQuoted quote s content → IsUtf8 (seg ++ s) → IsUtf8 (seg ++ content)
+pub quoted_text : (quote : ℕ) (seg s content : List ℕ) → IsQuoted quote s content → IsUtf8 (seg ++ s) → IsUtf8 (seg ++ content)
 quoted_text quote seg s content IsQuoted.nothing text = text
 quoted_text quote seg s content (IsQuoted.plain b bs others q e h) text =
     let longer_text : IsUtf8 ((seg ++ b ∷ []) ++ others) = quoted_text quote (seg ++ b ∷ []) bs others h (longer seg bs b text) in

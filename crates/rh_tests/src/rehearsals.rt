@@ -1,7 +1,7 @@
 //! Whole runs over memory, with devices that give or take a little at a time, and devices that fail.
 
 use crate::devices::{Failure, Sink, Source};
-use rh_app::{Reader, RunFault, Sink as _, Watched, Writer, run};
+use rh_app::{Reader, RunFault, Sink as _, Watched, Writer, run, run_in_memory};
 use rh_step::Pick;
 use std::alloc::Global;
 use std::process::Abort;
@@ -77,6 +77,16 @@ fn writes_one_byte_a_call(rt: HostRuntime) {
     let source = Source::of(TWO_NODES.as_bytes());
     assert!(rt; end_of(rt.alloc(), source, &mut sink) == "done");
     assert!(rt; sink.bytes.as_slice() == TWO_NODES_TEXT.as_bytes());
+}
+
+// No clause can say that memory is there. Here it is, so the whole text is answered, and how the run ended.
+#[test]
+fn runs_over_memory(rt: HostRuntime) {
+    let answer = run_in_memory(rt.alloc(), TWO_NODES.as_bytes(), Pick::First)
+        .ok()
+        .expect(&rt, "memory");
+    assert!(rt; answer.text.as_slice() == TWO_NODES_TEXT.as_bytes());
+    assert!(rt; said(answer.end) == "done");
 }
 
 // The last call of the reader is the one that tells the end; it isn't called again behind that.
