@@ -95,8 +95,8 @@ pub fn operational_among(state: &State, app: App, set: NodeSet) -> NodeSet
     nodes
 }
 
-// The nodes at which an application can run.
-fn operational_nodes(state: &State, app: App) -> NodeSet
+/// The nodes at which an application can run (Distributed Applications).
+pub fn operational_nodes(state: &State, app: App) -> NodeSet
     requires { app.0 < app_count (read state.now).cluster }
     ensures { (n : Node) → has result n ≡ is_operational (read state.now) app n }
 {
