@@ -1,11 +1,13 @@
 -- The bits of a set.
-use Rattle.std.proofs.Common.{not, nat_lt, IsTrue, nat_eq, ◌≡◌, ◌<◌, ◌≤◌, ◌*◌, ◌^◌, ◌%◌, ◌==◌, ◌||◌, ℕ, true, false, bit_and, w64, sym, ap, ◌∙◌, inl, inr}
+use Rattle.std.proofs.Common.{not, nat_lt, IsTrue, nat_eq, ◌≡◌, ◌≢◌, ◌<◌, ◌≤◌, ◌*◌, ◌-◌, ◌^◌, ◌%◌, ◌==◌, ◌||◌, ◌&&◌, ◌⊎◌, ℕ, true, false, bit_and, w64, sym, ap, ◌∙◌, inl, inr, min}
 use Rattle.std.proofs.Common.{arith}
-use Rattle.std.specs.Int.{bit_at}
+use Rattle.std.specs.Int.{bit_at, bit_not, trailing_zeros}
 use Rattle.std.specs.Int.RustNames.{bit_or}
 use Rattle.std.proofs.lemmas.Bool.Decides.{nat_tests, eqb_tells}
-use Rattle.std.proofs.lemmas.Nat.{one_shl, pow_pos, or_lt}
+use Rattle.std.proofs.lemmas.Bool.{cases_lt}
+use Rattle.std.proofs.lemmas.Nat.{one_shl, pow_pos, or_lt, and_le_l}
 use Rattle.std.proofs.lemmas.Nat.Bits.{and_pow, bit_at-lt, bit_at-zero, bit_at_above, bit_at_set_same, bit_at_set_other, same_from_bits}
+use Rattle.std.proofs.lemmas.Nat.Bits.{bit_at_and, bit_at_ones, bit_at_clear_same, bit_at_clear_other, bit_at-trailing_zeros}
 use Rattle.rh_model.specs.declared.node.Node.{Node}
 use Rattle.rh_state.specs.Numbers.{same_node}
 use Rattle.rh_place.specs.Sets.{NodeBits, has}
@@ -67,3 +69,52 @@ bits_more bits node small = or_lt 64 bits (1 * 2 ^ node.0 % 2 ^ 64) small (below
 
 pub is_above : (n k : ℕ) → k ≤ n → nat_lt n k ≡ false
 is_above n k h = grind (arith, nat_tests)
+
+-- all nodes that a set can have
+pub has_every : (n : Node) → n.0 < 64 → has (record { bits = 2 ^ 64 - 1 }) n ≡ true
+unfolding has
+has_every n small = ap (λ b. b == 1) (bit_at_ones 64 n.0 small)
+
+-- those of two sets
+pub has_both : (b c : ℕ) (n : Node) → has (record { bits = bit_and b c }) n ≡ (has (record { bits = b }) n && has (record { bits = c }) n)
+unfolding has
+has_both b c n = ap (λ m. m == 1) (bit_at_and b c n.0) ∙ least (bit_at b n.0) (bit_at c n.0) (bit_at-lt b n.0) (bit_at-lt c n.0)
+  where
+    least : (i j : ℕ) → i < 2 → j < 2 → (min i j == 1) ≡ ((i == 1) && (j == 1))
+    least i j h k = grind (arith, nat_tests)
+
+-- one node less
+pub has_less : (bits : ℕ) (node n : Node) → bits < 2 ^ 64 → node.0 < 64 → has (record { bits = bit_and bits (bit_not w64 (1 * 2 ^ node.0 % 2 ^ 64)) }) n
+    ≡ (not (same_node n node) && has (record { bits = bits }) n)
+unfolding has
+has_less bits node n small below = elim (eqb_tells n.0 node.0) [
+  | inl same ↦ rw same.0 (ap (λ b. b == 1) (ap (bit_at (bit_and bits (bit_not w64 (1 * 2 ^ node.0 % 2 ^ 64)))) same.1 ∙ bit_at_clear_same w64 bits node.0 below))
+  | inr other ↦ rw other.0 (beyond_or_not (cases_lt n.0 64) other.1)
+]
+  where
+    mask : ℕ
+    mask = bit_not w64 (1 * 2 ^ node.0 % 2 ^ 64)
+
+    beyond_or_not : (n.0 < 64) ⊎ (64 ≤ n.0) → n.0 ≢ node.0 → (bit_at (bit_and bits mask) n.0 == 1) ≡ (bit_at bits n.0 == 1)
+    beyond_or_not (inl lt) other = ap (λ b. b == 1) (bit_at_clear_other w64 bits node.0 below n.0 lt other)
+    beyond_or_not (inr ge) other = ap (λ b. b == 1) (bit_at_above (bit_and bits mask) 64 n.0 (let l = and_le_l bits mask in omega arith) ge
+        ∙ sym (bit_at_above bits 64 n.0 small ge))
+
+-- the lowest node
+module _ (set : NodeBits) (small : set.bits < 2 ^ 64) (some : set.bits ≢ 0) where
+  positive : 0 < set.bits
+  positive = omega (arith, some)
+
+  pub first_below : trailing_zeros w64 set.bits < 64
+  first_below = (bit_at-trailing_zeros w64 set.bits positive small).0
+
+  pub first_member : has set (record { 0 = trailing_zeros w64 set.bits }) ≡ true
+  unfolding has
+  first_member = ap (λ b. b == 1) (bit_at-trailing_zeros w64 set.bits positive small).1
+
+  pub first_lowest : (k : Node) → k.0 < trailing_zeros w64 set.bits → has set k ≡ false
+  unfolding has
+  first_lowest k below = ap (λ b. b == 1) ((bit_at-trailing_zeros w64 set.bits positive small).2 k.0 below)
+
+  pub not_none : ((n : Node) → has set n ≡ false) → true ≡ false
+  not_none none = sym first_member ∙ none (record { 0 = trailing_zeros w64 set.bits })

@@ -1,4 +1,5 @@
 pub mod Bits
 pub mod Picks
 pub mod Nowhere
+pub mod Beyond
 mod Rows

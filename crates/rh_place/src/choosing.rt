@@ -67,20 +67,42 @@ pub fn best(state: &State, app: App, set: NodeSet, pick: Pick) -> Option<Node>
     one_of_lightest(state, group, set, count, pick)
 }
 
-// The nodes at which an application can run.
-fn operational_nodes(state: &State, app: App) -> NodeSet
+// Is the node in the set, and can the application run there?
+fn is_able(state: &State, app: App, node: Node, set: NodeSet) -> bool
+    requires node { IsNodeOf (read state.now).cluster node }
+    requires app { app.0 < app_count (read state.now).cluster }
+    ensures { result ≡ (has set node && is_operational (read state.now) app node) }
+{
+    set.has(node) && operational(state, app, node)
+}
+
+/// The nodes of a set at which an application can run (Distributed Applications).
+pub fn operational_among(state: &State, app: App, set: NodeSet) -> NodeSet
     requires { app.0 < app_count (read state.now).cluster }
-    ensures { (n : Node) → has result n ≡ is_operational (read state.now) app n }
+    ensures { (n : Node) → has result n ≡ (has set n && is_operational (read state.now) app n) }
 {
     state.formed();
     let mut nodes = NodeSet::empty();
+    if set.is_empty() {
+        return nodes;
+    }
     'nodes: for number in 0..state.cluster().node_count() {
         let node = Node(number as u8);
-        if operational(state, app, node) {
+        if is_able(state, app, node, set) {
             nodes = nodes.with(node);
         }
     }
     nodes
+}
+
+/// The nodes at which an application can run (Distributed Applications).
+pub fn operational_nodes(state: &State, app: App) -> NodeSet
+    requires { app.0 < app_count (read state.now).cluster }
+    ensures { (n : Node) → has result n ≡ is_operational (read state.now) app n }
+{
+    state.formed();
+    let _few = state.cluster().node_count();
+    operational_among(state, app, NodeSet::all())
 }
 
 // Has the group a node of the set?

@@ -8,7 +8,7 @@ mod node_set;
 mod operating;
 mod starting;
 
-pub use choosing::{Pick, best, candidates, choose};
+pub use choosing::{Pick, best, candidates, choose, operational_among, operational_nodes};
 pub use node_set::NodeSet;
 pub use operating::{deps_run, missing_dep, operational};
 pub use starting::start_kind;

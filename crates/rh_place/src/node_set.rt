@@ -1,6 +1,6 @@
 //! Sets of nodes.
 
-ghost use Rattle.std.specs.Prelude.{◌≡◌, ◌<◌, ◌↔◌, ◌||◌, false, IsTrue};
+ghost use Rattle.std.specs.Prelude.{◌≡◌, ◌<◌, ◌↔◌, ◌||◌, ◌&&◌, true, false, IsTrue, IsNone, IfSome, not, if◌then◌else◌};
 ghost use Rattle.rh_model.specs.declared.node.Node.{Node};
 ghost use Rattle.rh_state.specs.Numbers.{same_node};
 ghost use Rattle.rh_place.specs.Sets.{has};
@@ -50,6 +50,60 @@ impl NodeSet {
         NodeSet {
             bits: self.bits | 1 << node.0,
         }
+    }
+
+    /// The set with all nodes below [`NodeSet::LIMIT`].
+    #[tactic(auto, unfolding(crate::specs::Sets::has))]
+    pub fn all() -> NodeSet
+        ensures { (n : Node) → n.0 < Self.LIMIT → has result n ≡ true }
+    {
+        NodeSet { bits: u64::MAX }
+    }
+
+    // The set without a node of it.
+    #[tactic(auto, unfolding(crate::specs::Sets::has))]
+    fn without(self, node: Node) -> NodeSet
+        requires { node.0 < Self.LIMIT }
+        ensures { (n : Node) → has result n ≡ (not (same_node n node) && has self n) }
+    {
+        NodeSet {
+            bits: self.bits & !(1 << node.0),
+        }
+    }
+
+    /// The set with a node or without it.
+    pub fn put(self, node: Node, member: bool) -> NodeSet
+        requires { node.0 < Self.LIMIT }
+        ensures { (n : Node) → has result n ≡ (if same_node n node then member else has self n) }
+    {
+        if member {
+            self.with(node)
+        } else {
+            self.without(node)
+        }
+    }
+
+    /// The nodes that are in both sets.
+    #[tactic(auto, unfolding(crate::specs::Sets::has))]
+    pub fn and(self, other: NodeSet) -> NodeSet
+        ensures { (n : Node) → has result n ≡ (has self n && has other n) }
+    {
+        NodeSet {
+            bits: self.bits & other.bits,
+        }
+    }
+
+    /// The lowest node of the set, `None` exactly if it has none.
+    #[tactic(auto, unfolding(crate::specs::Sets::has))]
+    pub fn first(self) -> Option<Node>
+        ensures member { IfSome result (λ n. has self n ≡ true) }
+        ensures lowest { IfSome result (λ n. (k : Node) → k.0 < n.0 → has self k ≡ false) }
+        ensures none { IsNone result ↔ ((n : Node) → has self n ≡ false) }
+    {
+        if self.bits == 0 {
+            return None;
+        }
+        Some(Node(self.bits.trailing_zeros() as u8))
     }
 
     /// Is the node in the set?

@@ -23,6 +23,8 @@ pub mod Best
 pub mod LocalFirsts
 pub mod NextFirsts
 pub mod FieldLaws
+pub mod SetTables
+pub mod Boards
 mod Rows
 mod RowsReady
 mod RowsOrder

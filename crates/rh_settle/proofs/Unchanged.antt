@@ -85,7 +85,7 @@ pub settles_marked : (o p : Course) → Settles o p → p.marked ≡ o.marked
 settles_marked o p run = ap (λ (q : Course). q.marked) run.outcome ∙ waits_told_marked (fold moved o run.moves) ∙ moves_marked o run.moves
 
 -- ---- parts of the state
-cluster_same : (s : StateView) (m : Move) → (moved_state s m).cluster ≡ s.cluster
+pub cluster_same : (s : StateView) (m : Move) → (moved_state s m).cluster ≡ s.cluster
 cluster_same s (Local n a) = refl
 cluster_same s (Placement a from n) = refl
 cluster_same s (Takeover a m n) = refl

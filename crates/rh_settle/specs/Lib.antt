@@ -2,6 +2,7 @@ pub mod Course
 pub mod Ways
 pub mod Moves
 pub mod Enabled
+pub mod Boards
 pub mod Readiness
 pub mod Validity
 pub mod Settling

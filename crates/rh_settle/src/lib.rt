@@ -3,6 +3,8 @@
 //! [`settle`] makes them, and [`next_move`] is the one that comes next in a state.
 #![tactic(auto)]
 
+mod app_sets;
+mod board;
 mod laws;
 mod make;
 mod notice;

@@ -1,7 +1,8 @@
 //! Which move comes next.
 
-ghost use Rattle.std.specs.Prelude.{◌≡◌, ◌<◌};
+ghost use Rattle.std.specs.Prelude.{◌≡◌, ◌<◌, ◌≤◌, ◌&&◌, List, false};
 ghost use Rattle.rh_model.specs.ClusterView.{node_count, app_count};
+ghost use Rattle.rh_model.specs.ClusterView.{group_of};
 ghost use Rattle.rh_model.specs.declared.node.Node.{Node};
 ghost use Rattle.rh_state.specs.Numbers.{nodes_of, apps_of};
 ghost use Rattle.rh_state.specs.Stored.{read};
@@ -9,12 +10,16 @@ ghost use Rattle.rh_place.specs.declared.choosing.Pick.{Pick};
 ghost use Rattle.rh_base.specs.Lists.{first_given};
 ghost use Rattle.rh_place.specs.Picks.{picked};
 ghost use Rattle.rh_place.specs.Sets.{has};
+ghost use Rattle.rh_settle.specs.declared.notice.Pair.{Pair};
+ghost use Rattle.rh_place.specs.Placing.{is_operational};
 ghost use Rattle.rh_settle.specs.Course.{is_fresh};
-ghost use Rattle.rh_settle.specs.Moves.{is_local, can_start, local_moves, placements, comes_before, calls_away, takeovers, next_moves};
+ghost use Rattle.rh_settle.specs.Boards.{IsExactAt, IsBoardOf};
+ghost use Rattle.rh_settle.specs.Moves.{is_local, can_start, local_moves, placements, comes_before, takeovers, next_moves};
 
+use crate::board::Board;
 use crate::notice::{Move, Pair};
 use rh_model::{App, Cluster, Node};
-use rh_place::{NodeSet, Pick, best, choose, deps_run, operational};
+use rh_place::{NodeSet, Pick, best, deps_run};
 use rh_state::{Standing, State};
 
 // Isn't the application distributed?
@@ -36,7 +41,7 @@ fn can_start(state: &State, node: Node, app: App) -> bool
 }
 
 // The local move that comes next at a node.
-fn local_at(state: &State, node: Node) -> Option<Move>
+pub(crate) fn local_at(state: &State, node: Node) -> Option<Move>
     requires { node.0 < node_count (read state.now).cluster }
     ensures { (pick : Pick) → result ≡ picked pick (local_moves (read state.now) node) }
 {
@@ -52,25 +57,26 @@ fn local_at(state: &State, node: Node) -> Option<Move>
 }
 
 // The local move that comes next.
-fn next_local(state: &State) -> Option<Move>
+fn next_local(state: &State, board: &Board) -> Option<Move>
+    requires { (n : Node) → IsExactAt (read state.now) board.now n }
     ensures { (pick : Pick) → result ≡ picked pick (first_given (local_moves (read state.now)) (nodes_of (read state.now).cluster)) }
 {
-    let count = state.cluster().node_count();
-    'nodes: for number in 0..count {
-        if let Some(next) = local_at(state, Node(number as u8)) {
-            return Some(next);
-        }
+    state.formed();
+    match board.locals().first() {
+        Some(node) => local_at(state, node),
+        None => None,
     }
-    None
 }
 
 // The placement of an application.
-fn placement_of(state: &State, app: App, pick: Pick) -> Option<Move>
-    requires { app.0 < app_count (read state.now).cluster }
+fn placement_of(state: &State, board: &Board, app: App, pick: Pick) -> Option<Move>
+    requires app { app.0 < app_count (read state.now).cluster }
+    requires board { (n : Node) → IsExactAt (read state.now) board.now n }
     ensures { result ≡ picked pick (placements (read state.now) app) }
 {
+    let _few = state.cluster().app_count();
     match state.standing(app) {
-        Standing::Wanted(from) => match choose(state, app, pick) {
+        Standing::Wanted(from) => match best(state, app, board.able(app), pick) {
             Some(node) => Some(Move::Placement { app, from, node }),
             None => None,
         },
@@ -79,12 +85,13 @@ fn placement_of(state: &State, app: App, pick: Pick) -> Option<Move>
 }
 
 // The placement that comes next.
-fn next_placement(state: &State, pick: Pick) -> Option<Move>
+fn next_placement(state: &State, board: &Board, pick: Pick) -> Option<Move>
+    requires { (n : Node) → IsExactAt (read state.now) board.now n }
     ensures { result ≡ picked pick (first_given (placements (read state.now)) (apps_of (read state.now).cluster)) }
 {
     let count = state.cluster().app_count();
     'apps: for number in 0..count {
-        if let Some(next) = placement_of(state, App(number as u8), pick) {
+        if let Some(next) = placement_of(state, board, App(number as u8), pick) {
             return Some(next);
         }
     }
@@ -102,72 +109,95 @@ fn comes_before(place: Option<usize>, other: Option<usize>) -> bool
     }
 }
 
-// Was a pair marked?
-fn is_fresh(marked: &[Pair], node: Node, app: App) -> bool
-    ensures { result ≡ is_fresh marked.now node app }
-{
-    marked
-        .iter()
-        .any(|pair| node.0 == pair.node.0 && app.0 == pair.app.0)
-}
-
-// Does a node call an application away from another?
-#[tactic(auto, unfolding(crate::specs::Moves::calls_away))]
-fn calls_away(state: &State, marked: &[Pair], app: App, from: Node, node: Node) -> bool
+// Is a node in the set, and does its group come before that of another?
+fn is_earlier(state: &State, app: App, from: Node, set: NodeSet, node: Node) -> bool
     requires node { node.0 < node_count (read state.now).cluster }
     requires app { app.0 < app_count (read state.now).cluster }
-    ensures { result ≡ calls_away (read state.now) marked.now app from node }
+    ensures { result ≡ (comes_before (group_of (read state.now).cluster app node) (group_of (read state.now).cluster app from) && has set node) }
 {
-    comes_before(
-        state.cluster().group_of(app, node),
-        state.cluster().group_of(app, from),
-    ) && is_fresh(marked, node, app)
-        && operational(state, app, node)
+    set.has(node)
+        && comes_before(
+            state.cluster().group_of(app, node),
+            state.cluster().group_of(app, from),
+        )
 }
 
-// The nodes that call an application away from where it runs.
-fn callers_away(state: &State, marked: &[Pair], app: App, from: Node) -> NodeSet
+// The nodes of the set whose groups come before that of a node.
+fn earlier(state: &State, app: App, from: Node, set: NodeSet) -> NodeSet
     requires { app.0 < app_count (read state.now).cluster }
-    ensures { (n : Node) → has result n ≡ calls_away (read state.now) marked.now app from n }
+    ensures nodes { (n : Node) → n.0 < node_count (read state.now).cluster → has result n ≡ (comes_before (group_of (read state.now).cluster app n) (group_of (read state.now).cluster app from) && has set n) }
+    ensures others { (n : Node) → node_count (read state.now).cluster ≤ n.0 → has result n ≡ false }
 {
-    state.formed();
     let mut nodes = NodeSet::empty();
-    'nodes: for number in 0..state.cluster().node_count() {
+    let count = state.cluster().node_count();
+    'nodes: for number in 0..count {
         let node = Node(number as u8);
-        if calls_away(state, marked, app, from, node) {
+        if is_earlier(state, app, from, set, node) {
             nodes = nodes.with(node);
         }
     }
     nodes
 }
 
-// The takeover of an application.
-fn takeover_of(state: &State, marked: &[Pair], app: App, pick: Pick) -> Option<Move>
+// The takeover of an application by one of these nodes.
+fn takeover_by(state: &State, app: App, callers: NodeSet, pick: Pick) -> Option<Move>
     requires { app.0 < app_count (read state.now).cluster }
-    ensures { result ≡ picked pick (takeovers (read state.now) marked.now app) }
+    ensures { (fresh : List Pair) → ((n : Node) → n.0 < node_count (read state.now).cluster → has callers n ≡ (is_fresh fresh n app && is_operational (read state.now) app n)) → result ≡ picked pick (takeovers (read state.now) fresh app) }
 {
+    state.formed();
     match state.standing(app) {
-        Standing::Running(from) => {
-            match best(state, app, callers_away(state, marked, app, from), pick) {
-                Some(node) => Some(Move::Takeover { app, from, node }),
-                None => None,
-            }
-        }
+        Standing::Running(from) => match best(
+            state,
+            app,
+            earlier(state, app, from, callers),
+            pick,
+        ) {
+            Some(node) => Some(Move::Takeover { app, from, node }),
+            None => None,
+        },
         _ => None,
     }
 }
 
+// The takeover of an application.
+fn takeover_of(state: &State, board: &Board, app: App, pick: Pick) -> Option<Move>
+    requires { app.0 < app_count (read state.now).cluster }
+    ensures { (fresh : List Pair) → IsBoardOf (read state.now) fresh board.now → result ≡ picked pick (takeovers (read state.now) fresh app) }
+{
+    state.formed();
+    let _few = state.cluster().app_count();
+    let callers = board.callers(app);
+    if callers.is_empty() {
+        return None;
+    }
+    takeover_by(state, app, callers, pick)
+}
+
 // The takeover that comes next.
-fn next_takeover(state: &State, marked: &[Pair], pick: Pick) -> Option<Move>
-    ensures { result ≡ picked pick (first_given (takeovers (read state.now) marked.now) (apps_of (read state.now).cluster)) }
+fn next_takeover(state: &State, board: &Board, pick: Pick) -> Option<Move>
+    ensures { (fresh : List Pair) → IsBoardOf (read state.now) fresh board.now → result ≡ picked pick (first_given (takeovers (read state.now) fresh) (apps_of (read state.now).cluster)) }
 {
     let count = state.cluster().app_count();
     'apps: for number in 0..count {
-        if let Some(next) = takeover_of(state, marked, App(number as u8), pick) {
+        if let Some(next) = takeover_of(state, board, App(number as u8), pick) {
             return Some(next);
         }
     }
     None
+}
+
+/// The move that comes next, by the state's board.
+pub(crate) fn next_on(state: &State, board: &Board, pick: Pick) -> Option<Move>
+    requires { (n : Node) → IsExactAt (read state.now) board.now n }
+    ensures { (fresh : List Pair) → IsBoardOf (read state.now) fresh board.now → result ≡ picked pick (next_moves (read state.now) fresh) }
+{
+    if let Some(next) = next_local(state, board) {
+        return Some(next);
+    }
+    if let Some(next) = next_placement(state, board, pick) {
+        return Some(next);
+    }
+    next_takeover(state, board, pick)
 }
 
 /// The move that comes next, after the pairs that are given were marked: a local application starts, at the first node where
@@ -176,11 +206,6 @@ fn next_takeover(state: &State, marked: &[Pair], pick: Pick) -> Option<Move>
 pub fn next_move(state: &State, marked: &[Pair], pick: Pick) -> Option<Move>
     ensures { result ≡ picked pick (next_moves (read state.now) marked.now) }
 {
-    if let Some(next) = next_local(state) {
-        return Some(next);
-    }
-    if let Some(next) = next_placement(state, pick) {
-        return Some(next);
-    }
-    next_takeover(state, marked, pick)
+    let board = Board::of(state, marked);
+    next_on(state, &board, pick)
 }

@@ -9,9 +9,10 @@ ghost use Rattle.rh_settle.specs.Ways.{Goes};
 ghost use Rattle.rh_settle.specs.Settling.{all_moved, tell_waiting, waits_told, settled, Settles, pair_count};
 ghost use Rattle.rh_settle.specs.Validity.{RunsWhereItStands};
 
+use crate::board::Board;
 use crate::make::make_move;
 use crate::notice::{Notice, Pair};
-use crate::search::next_move;
+use crate::search::next_on;
 use crate::trace::Trace;
 use rh_base::OutOfMemory;
 use rh_place::Pick;
@@ -27,9 +28,11 @@ fn make_moves(state: &mut State, pick: Pick, trace: &mut Trace) -> Result<(), Ou
     ensures runs { OnOk result (RunsWhereItStands (read state.new)) }
     ensures way { Goes state.old trace.old state.new trace.new }
 {
-    'moves: while let Some(next) = next_move(state, trace.marked(), pick) {
+    let mut board = Board::of(state, trace.marked());
+    'moves: while let Some(next) = next_on(state, &board, pick) {
         state.formed();
         make_move(state, next, trace)?;
+        board.follow(state, next);
     }
     Ok(())
 }
@@ -73,7 +76,7 @@ fn tell_waiting(state: &State, trace: &mut Trace) -> Result<(), OutOfMemory>
     Ok(())
 }
 
-/// Makes the [`next_move`], one after the other, until there is none; then tells which of the marked pairs wait, in marking
+/// Makes the [`next_move`](crate::next_move), one after the other, until there is none; then tells which of the marked pairs wait, in marking
 /// order. Where memory is refused, the state is one on the way.
 pub fn settle(state: &mut State, pick: Pick, trace: &mut Trace) -> Result<(), OutOfMemory>
     requires marked { All (IsPairOf (read state.old).cluster) trace.old.marked }

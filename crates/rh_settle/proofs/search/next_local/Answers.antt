@@ -1,24 +1,29 @@
-use Rattle.std.proofs.Common.{ap, ◌∙◌, arith}
-use Rattle.rh_model.specs.ClusterView.{ClusterView, node_count}
-use Rattle.rh_place.specs.declared.choosing.Pick.TheVariants.{First}
-use Rattle.rh_settle.specs.Moves.{local_moves}
-use Rattle.rh_settle.proofs.Searches.{found_node, later_node, no_node_left}
+use Rattle.std.proofs.Common.{ap, sym, ◌∙◌, refl}
 use Rattle.rh_state.specs.Stored.{read}
+use Rattle.rh_place.specs.Picks.{picked}
+use Rattle.rh_settle.specs.Moves.{local_moves}
+use Rattle.rh_settle.proofs.Boards.{given_node, given_nowhere, local_within, no_head}
+use Rattle.rh_settle.proofs.Searches.{none_of_none}
 use Rattle.rh_settle.proofs.search.next_local.Goals as goal
+
+pub local_at-requires : goal.local_at-requires
+local_at-requires c =
+    local_within (read c.args.state.now) c.in-Some.node c.formed.ensures.shape
+    (sym (c.requires c.in-Some.node).locals ∙ sym (c.locals.ensures c.in-Some.node) ∙ c.in-Some.ensures.member)
 
 pub returns-in-Some : goal.returns-in-Some
 returns-in-Some c = λ pick.
-    let e = c.node_count-count.ensures.count ∙ ap (λ (v : ClusterView). node_count v) c.cluster.ensures in
-    found_node pick (read c.args.state.now).cluster (local_moves (read c.args.state.now)) c.nodes.number c.nodes.invariant c.in-Some.next
-    (omega (arith, c.nodes-test.true)) (c.in-Some.ensures pick)
+    let s = read c.args.state.now in
+    let n = c.in-Some.node in
+    let some = sym (c.requires n).locals ∙ sym (c.locals.ensures n) ∙ c.in-Some.ensures.member in
+    c.local_at.ensures pick
+    ∙ ap (picked pick) (sym (given_node s.cluster (local_moves s) n (local_within s n c.formed.ensures.shape some)
+    (λ k less. no_head (local_moves s k) (sym (c.requires k).locals ∙ sym (c.locals.ensures k) ∙ c.in-Some.ensures.lowest k less))
+    some))
 
-pub nodes-preserved : goal.nodes-preserved
-nodes-preserved c =
-    let e = c.node_count-count.ensures.count ∙ ap (λ (v : ClusterView). node_count v) c.cluster.ensures in
-    later_node First (read c.args.state.now).cluster (local_moves (read c.args.state.now)) c.nodes.number c.nodes.invariant (omega (arith, c.nodes-test.true))
-    (c.in_default.ensures First)
-
-pub returns : goal.returns
-returns c = λ pick.
-    let e = c.node_count-count.ensures.count ∙ ap (λ (v : ClusterView). node_count v) c.cluster.ensures in
-    no_node_left pick (read c.args.state.now).cluster (local_moves (read c.args.state.now)) c.nodes.number c.nodes.invariant (omega (arith, c.nodes-test.false))
+pub returns-in-None : goal.returns-in-None
+returns-in-None c = λ pick.
+    let s = read c.args.state.now in
+    none_of_none pick
+    ∙ ap (picked pick) (sym (given_nowhere s.cluster (local_moves s)
+    (λ n. no_head (local_moves s n) (sym (c.requires n).locals ∙ sym (c.locals.ensures n) ∙ c.in-None.ensures.none.0 refl n))))

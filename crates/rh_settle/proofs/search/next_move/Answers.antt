@@ -1,37 +1,7 @@
-use Rattle.std.proofs.Common.{List, Some}
-use Rattle.rh_state.specs.Numbers.{nodes_of, apps_of}
-use Rattle.rh_base.specs.Lists.{first_given, or_else}
-use Rattle.rh_settle.specs.declared.notice.Move.{Move}
-use Rattle.rh_settle.specs.Moves.{local_moves, placements, takeovers, next_moves}
-use Rattle.rh_settle.proofs.Searches.{either_some, either_none}
-use Rattle.rh_state.specs.Stored.{read}
 use Rattle.rh_settle.proofs.search.next_move.Goals as goal
 
-pub returns-in-Some-next_placement : goal.returns-in-Some-next_placement
-unfolding next_moves
-returns-in-Some-next_placement c =
-    let s = read c.args.state.now in
-    let locals : List Move = first_given (local_moves s) (nodes_of s.cluster) in
-    let places : List Move = first_given (placements s) (apps_of s.cluster) in
-    let takes : List Move = first_given (takeovers s c.args.marked.now) (apps_of s.cluster) in
-    either_none c.args.pick locals (or_else places takes) (Some c.in-Some-next_placement.next) (c.in_default.ensures c.args.pick)
-    (either_some c.args.pick places takes c.in-Some-next_placement.next c.in-Some-next_placement.ensures)
+pub next_on-requires : goal.next_on-requires
+next_on-requires c = λ n. c.of-board.ensures.exact n
 
 pub returns : goal.returns
-unfolding next_moves
-returns c =
-    let s = read c.args.state.now in
-    let locals : List Move = first_given (local_moves s) (nodes_of s.cluster) in
-    let places : List Move = first_given (placements s) (apps_of s.cluster) in
-    let takes : List Move = first_given (takeovers s c.args.marked.now) (apps_of s.cluster) in
-    either_none c.args.pick locals (or_else places takes) c.next_takeover.result (c.in_default.ensures c.args.pick)
-    (either_none c.args.pick places takes c.next_takeover.result c.in_default-next_placement.ensures c.next_takeover.ensures)
-
-pub returns-in-Some : goal.returns-in-Some
-unfolding next_moves
-returns-in-Some c =
-    let s = read c.args.state.now in
-    let locals : List Move = first_given (local_moves s) (nodes_of s.cluster) in
-    let places : List Move = first_given (placements s) (apps_of s.cluster) in
-    let takes : List Move = first_given (takeovers s c.args.marked.now) (apps_of s.cluster) in
-    either_some c.args.pick locals (or_else places takes) c.in-Some.next (c.in-Some.ensures c.args.pick)
+returns c = c.next_on.ensures c.args.marked.now c.of-board.ensures

@@ -1,0 +1,59 @@
+-- What settling keeps between its moves, so that no move is searched for from the beginning (ours).
+use Rattle.std.specs.Prelude.{◌≡◌, ◌||◌, List, [], ◌∷◌, Bool, true, false, slice_get, unwrap_or, is_some}
+use Rattle.rh_model.specs.declared.node.Node.{Node}
+use Rattle.rh_model.specs.declared.node.App.{App}
+use Rattle.rh_state.specs.declared.status.Standing.{Standing}
+use Rattle.rh_state.specs.declared.status.Standing.TheVariants.{Wanted}
+use Rattle.rh_state.specs.Shape.{IsNodeOf, IsAppOf}
+use Rattle.rh_state.specs.StateView.{StateView, standing_of}
+use Rattle.rh_base.specs.Lists.{head}
+use Rattle.rh_place.specs.Placing.{is_operational}
+use Rattle.rh_place.specs.Sets.{NodeBits, has}
+use Rattle.rh_settle.specs.declared.notice.Move.{Move}
+use Rattle.rh_settle.specs.declared.notice.Move.TheVariants.{Local, Placement, Takeover}
+use Rattle.rh_settle.specs.declared.notice.Pair.{Pair}
+use Rattle.rh_settle.specs.Course.{is_fresh}
+use Rattle.rh_settle.specs.Moves.{local_moves}
+
+-- for each application, by its number, a set of nodes
+pub record AppSets : Type 0 where
+  pub sets : List NodeBits
+
+-- an application without a set has the one without a node
+abbrev pub set_of : AppSets → App → NodeBits
+set_of t a = unwrap_or (slice_get t.sets a.0) (record { bits = 0 })
+
+-- a node is in the set of an application
+unfoldable pub is_among : AppSets → App → Node → Bool
+is_among t a n = has (set_of t a) n
+
+-- a set of nodes, and two for each application
+pub record BoardView : Type 0 where
+  pub locals : NodeBits
+  pub fresh : AppSets
+  pub able : AppSets
+
+-- an application is to run
+abbrev pub is_wanted : Standing → Bool
+is_wanted (Wanted from) = true
+is_wanted _ = false
+
+-- where an application can run matters to its placement, and at the nodes of its fresh pairs to its takeover
+abbrev pub matters : StateView → AppSets → App → Node → Bool
+matters s fresh a n = is_wanted (standing_of s a) || is_among fresh a n
+
+-- at a node: a local application can start there, and an application can run there, wherever that matters
+pub record IsExactAt (s : StateView) (b : BoardView) (n : Node) : Type 0 where
+  pub locals : has b.locals n ≡ is_some (head (local_moves s n))
+  pub able : (a : App) → IsAppOf s.cluster a → matters s b.fresh a n ≡ true → is_among b.able a n ≡ is_operational s a n
+
+-- the same of each node, and the fresh pairs are these
+pub record IsBoardOf (s : StateView) (pairs : List Pair) (b : BoardView) : Type 0 where
+  pub fresh : (a : App) (n : Node) → IsAppOf s.cluster a → IsNodeOf s.cluster n → is_among b.fresh a n ≡ is_fresh pairs n a
+  pub exact : (n : Node) → IsExactAt s b n
+
+-- the nodes whose lists a move changes
+abbrev pub nodes_changed : Move → List Node
+nodes_changed (Local n a) = n ∷ []
+nodes_changed (Placement a from n) = n ∷ []
+nodes_changed (Takeover a m n) = n ∷ m ∷ []

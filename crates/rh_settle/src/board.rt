@@ -1,0 +1,197 @@
+//! What settling keeps between its moves, so that no move is searched for from the beginning.
+
+ghost use Rattle.std.specs.Prelude.{◌≡◌, ◌≢◌, ◌<◌, ◌&&◌, ◌||◌, List, All, true, false, is_some};
+ghost use Rattle.rh_model.specs.declared.limits.TheConstants.{MAX_APPS};
+ghost use Rattle.rh_model.specs.declared.node.App.{App};
+ghost use Rattle.rh_model.specs.declared.node.Node.{Node};
+ghost use Rattle.rh_model.specs.ClusterView.{node_count, app_count};
+ghost use Rattle.rh_state.specs.Numbers.{same_app, same_node};
+ghost use Rattle.rh_state.specs.Shape.{IsNodeOf, IsAppOf};
+ghost use Rattle.rh_state.specs.StateView.{StateView, standing_of};
+ghost use Rattle.rh_state.specs.Stored.{read};
+ghost use Rattle.rh_base.specs.Lists.{head};
+ghost use Rattle.rh_place.specs.declared.node_set.TheConstants.NodeSet.{LIMIT};
+ghost use Rattle.rh_place.specs.Placing.{is_operational};
+ghost use Rattle.rh_place.specs.Sets.{has};
+ghost use Rattle.rh_settle.specs.declared.notice.Pair.{Pair};
+ghost use Rattle.rh_settle.specs.Boards.{is_among, is_wanted, matters, nodes_changed, IsExactAt, IsBoardOf};
+ghost use Rattle.rh_settle.specs.Course.{is_fresh};
+ghost use Rattle.rh_settle.specs.Moves.{local_moves, moved_state};
+
+use crate::app_sets::AppSets;
+use crate::notice::{Move, Pair};
+use crate::search::local_at;
+use rh_model::{App, MAX_APPS, Node};
+use rh_place::{NodeSet, operational, operational_among, operational_nodes};
+use rh_state::{Standing, State};
+use std::marker::Model;
+
+/// Where moves can be found.
+#[derive(Drop)]
+pub(crate) struct Board {
+    // The nodes at which a local application can start.
+    locals: NodeSet,
+    // For each application the nodes of its fresh pairs.
+    fresh: AppSets,
+    // For each application the nodes at which it can run: all of them where it is to run, else those of its fresh pairs.
+    able: AppSets,
+}
+
+impl Model for Board {
+    ghost use Rattle.rh_settle.specs.Boards.{BoardView};
+
+    ghost Value = { BoardView };
+
+    ghost view = { λ b. record { locals = b.locals; fresh = b.fresh; able = b.able } };
+}
+
+impl Board {
+    /// The board of a state, after these pairs were marked.
+    pub fn of(state: &State, marked: &[Pair]) -> Board
+        ensures { IsBoardOf (read state.now) marked.now result }
+    {
+        let _few_apps = state.cluster().app_count();
+        let _few_nodes = state.cluster().node_count();
+        let mut fresh = AppSets::empty();
+        add_fresh(&mut fresh, marked);
+        let able = able_sets(state, &fresh);
+        Board {
+            locals: local_nodes(state),
+            fresh,
+            able,
+        }
+    }
+
+    /// The nodes at which a local application can start.
+    pub fn locals(&self) -> NodeSet
+        ensures { (n : Node) → has result n ≡ has self.now.locals n }
+    {
+        self.locals
+    }
+
+    /// The nodes at which an application can run, if it is to run.
+    pub fn able(&self, app: App) -> NodeSet
+        requires { app.0 < MAX_APPS }
+        ensures { (n : Node) → has result n ≡ is_among self.now.able app n }
+    {
+        self.able.of(app)
+    }
+
+    /// The nodes at which an application can run and has a fresh pair.
+    pub fn callers(&self, app: App) -> NodeSet
+        requires { app.0 < MAX_APPS }
+        ensures { (n : Node) → has result n ≡ (is_among self.now.fresh app n && is_among self.now.able app n) }
+    {
+        self.fresh.of(app).and(self.able.of(app))
+    }
+
+    // Looks at a node again.
+    fn look_again(&mut self, state: &State, node: Node)
+        requires { IsNodeOf (read state.now).cluster node }
+        ensures fresh { self.new.fresh ≡ self.old.fresh }
+        ensures here { IsExactAt (read state.now) self.new node }
+        ensures locals { (n : Node) → same_node n node ≡ false → has self.new.locals n ≡ has self.old.locals n }
+        ensures able { (n : Node) → same_node n node ≡ false → (a : App) → is_among self.new.able a n ≡ is_among self.old.able a n }
+    {
+        let _few = state.cluster().node_count();
+        self.locals = self.locals.put(node, local_at(state, node).is_some());
+        look_again_at(state, &self.fresh, node, &mut self.able);
+    }
+
+    /// Follows a move that was made.
+    pub fn follow(&mut self, state: &State, made: Move)
+        requires { All (IsNodeOf (read state.now).cluster) (nodes_changed made) }
+        ensures { (s : StateView) (fresh : List Pair) → IsBoardOf s fresh self.old → read state.now ≡ moved_state s made → IsBoardOf (read state.now) fresh self.new }
+    {
+        match made {
+            Move::Local { node, .. } => self.look_again(state, node),
+            Move::Placement { node, .. } => self.look_again(state, node),
+            Move::Takeover { from, node, .. } => {
+                self.look_again(state, node);
+                self.look_again(state, from);
+            }
+        }
+    }
+}
+
+// Puts a pair to the fresh ones.
+fn add_pair(sets: &mut AppSets, pair: Pair)
+    ensures { (a : App) (n : Node) → a.0 < MAX_APPS → n.0 < LIMIT → is_among sets.new a n ≡ (is_among sets.old a n || (same_node n pair.node && same_app a pair.app)) }
+{
+    if (pair.app.0 as usize) < MAX_APPS && pair.node.0 < NodeSet::LIMIT {
+        sets.put(pair.app, pair.node, true);
+    }
+}
+
+// Puts pairs to the fresh ones.
+fn add_fresh(sets: &mut AppSets, pairs: &[Pair])
+    ensures { (a : App) (n : Node) → a.0 < MAX_APPS → n.0 < LIMIT → is_among sets.new a n ≡ (is_among sets.old a n || is_fresh pairs.now n a) }
+{
+    'pairs: for pair in pairs {
+        add_pair(sets, *pair);
+    }
+}
+
+// The nodes at which an application can run, as far as that matters.
+fn able_nodes(state: &State, app: App, fresh: NodeSet) -> NodeSet
+    requires { IsAppOf (read state.now).cluster app }
+    ensures { (n : Node) → is_wanted (standing_of (read state.now) app) || has fresh n ≡ true → has result n ≡ is_operational (read state.now) app n }
+{
+    match state.standing(app) {
+        Standing::Wanted(_) => operational_nodes(state, app),
+        _ => operational_among(state, app, fresh),
+    }
+}
+
+// The same for each application.
+fn able_sets(state: &State, fresh: &AppSets) -> AppSets
+    ensures { (n : Node) (a : App) → IsAppOf (read state.now).cluster a → matters (read state.now) fresh.now a n ≡ true → is_among result a n ≡ is_operational (read state.now) a n }
+{
+    let mut sets = AppSets::empty();
+    let count = state.cluster().app_count();
+    'apps: for number in 0..count {
+        let app = App(number as u8);
+        sets.set(app, able_nodes(state, app, fresh.of(app)));
+    }
+    sets
+}
+
+// The nodes at which a local application can start.
+fn local_nodes(state: &State) -> NodeSet
+    ensures { (n : Node) → has result n ≡ is_some (head (local_moves (read state.now) n)) }
+{
+    state.formed();
+    let mut nodes = NodeSet::empty();
+    let count = state.cluster().node_count();
+    'nodes: for number in 0..count {
+        let node = Node(number as u8);
+        nodes = nodes.put(node, local_at(state, node).is_some());
+    }
+    nodes
+}
+
+// Looks again whether an application can run at a node, if that matters.
+fn look_again_for(state: &State, fresh: &AppSets, app: App, node: Node, able: &mut AppSets)
+    requires app { IsAppOf (read state.now).cluster app }
+    requires node { IsNodeOf (read state.now).cluster node }
+    ensures here { matters (read state.now) fresh.now app node ≡ true → is_among able.new app node ≡ is_operational (read state.now) app node }
+    ensures others { (a : App) (n : Node) → same_app a app && same_node n node ≡ false → is_among able.new a n ≡ is_among able.old a n }
+{
+    let _few = state.cluster().app_count();
+    let _nodes = state.cluster().node_count();
+    if matches!(state.standing(app), Standing::Wanted(_)) || fresh.of(app).has(node) {
+        able.put(app, node, operational(state, app, node));
+    }
+}
+
+// The same for each application.
+fn look_again_at(state: &State, fresh: &AppSets, node: Node, able: &mut AppSets)
+    requires { IsNodeOf (read state.now).cluster node }
+    ensures here { (a : App) → IsAppOf (read state.now).cluster a → matters (read state.now) fresh.now a node ≡ true → is_among able.new a node ≡ is_operational (read state.now) a node }
+    ensures others { (n : Node) → same_node n node ≡ false → (a : App) → is_among able.new a n ≡ is_among able.old a n }
+{
+    let count = state.cluster().app_count();
+    'apps: for number in 0..count {
+        look_again_for(state, fresh, App(number as u8), node, able);
+    }
+}
