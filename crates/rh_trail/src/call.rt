@@ -6,11 +6,12 @@ use rh_base::OutOfMemory;
 use rh_step::{Event, Notices, Refusal};
 use std::alloc::Global;
 use std::marker::Model;
+use std::sync::Arc;
 
-/// Some bytes.
+/// Some bytes, which copies share.
 #[derive(Drop)]
 pub struct Bytes {
-    items: Vec<u8>,
+    items: Arc<Vec<u8>>,
 }
 
 impl Model for Bytes {
@@ -18,15 +19,16 @@ impl Model for Bytes {
 
     ghost Value = { List ℕ };
 
-    ghost view = { λ b. b.items.items };
+    ghost view = { λ b. b.items.value.items };
 }
 
 impl Bytes {
     /// These bytes.
-    pub fn of(items: Vec<u8>) -> Bytes
-        ensures { result ≡ items.items }
+    pub fn of(alloc: Global, items: Vec<u8>) -> Result<Bytes, OutOfMemory>
+        ensures { IfOk result (λ bytes. bytes ≡ items.items) }
     {
-        Bytes { items }
+        let items = Arc::new(alloc, items)?;
+        Ok(Bytes { items })
     }
 
     /// The bytes.
@@ -36,11 +38,11 @@ impl Bytes {
         self.items.as_slice()
     }
 
-    /// Equal bytes.
-    pub fn copy(&self, alloc: Global) -> Result<Bytes, OutOfMemory>
+    /// The same bytes, which lie in memory once. The error says that there are too many who share them.
+    pub fn share(&self) -> Result<Bytes, OutOfMemory>
         ensures { IfOk result (λ copy. copy ≡ self.now) }
     {
-        let items = Vec::from_slice(alloc, self.as_slice())?;
+        let items = Arc::try_clone(&self.items)?;
         Ok(Bytes { items })
     }
 
@@ -95,7 +97,7 @@ pub enum Reply {
 }
 
 impl Reply {
-    /// An equal reply.
+    /// An equal reply, which shares the report.
     pub fn copy(&self, alloc: Global) -> Result<Reply, OutOfMemory>
         ensures { IfOk result (λ copy. copy ≡ self.now) }
     {
@@ -114,7 +116,7 @@ impl Reply {
             } => Reply::Seen {
                 cursor: *cursor,
                 trail: *trail,
-                text: text.copy(alloc)?,
+                text: text.share()?,
             },
         })
     }

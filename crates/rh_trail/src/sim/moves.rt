@@ -274,7 +274,7 @@ impl Sim {
         Ok(Reply::Seen {
             cursor: self.cursor(),
             trail: self.trail().len(),
-            text: Bytes::of(text),
+            text: Bytes::of(alloc, text)?,
         })
     }
 }
