@@ -4,6 +4,7 @@ use crate::app_settings::AppSettings;
 use crate::groups::{Group, is_in};
 use crate::limits::{MAX_APPS, MAX_NODES};
 use crate::names::Names;
+use crate::needs::{Needs, needs_in};
 use crate::node::{App, Node};
 use crate::node_settings::NodeSettings;
 use crate::settings::{Dep, Restart, Spread, SyncWait};
@@ -17,11 +18,14 @@ pub struct Cluster {
     names: Names,
     nodes: Vec<NodeSettings>,
     apps: Vec<AppSettings>,
+    // For each application what it needs, which the settings tell.
+    needs: Vec<Needs>,
 }
 
 impl Model for Cluster {
     ghost use Rattle.std.specs.Prelude.{◌≡◌, length};
     ghost use Rattle.rh_model.specs.ClusterView.{ClusterView, IsWithin};
+    ghost use Rattle.rh_model.specs.Needs.{needs_in};
 
     ghost Value = { ClusterView };
 
@@ -34,7 +38,7 @@ impl Model for Cluster {
     } };
 
     ghost invariant = { λ c.
-        (length c.nodes.items ≡ length c.names.nodes) × (length c.apps.items ≡ length c.names.apps) × IsWithin (record {
+        (length c.nodes.items ≡ length c.names.nodes) × (length c.apps.items ≡ length c.names.apps) × (c.needs.items ≡ needs_in c.nodes.items c.apps.items) × IsWithin (record {
           node_names = c.names.nodes;
           app_names = c.names.apps;
           platform_names = c.names.platforms;
@@ -52,10 +56,16 @@ impl Cluster {
     ghost use Rattle.rh_model.specs.ClusterView.{optional_of, sync_wait_of, boot_of, is_permitted, is_platform};
     ghost use Rattle.rh_model.specs.ClusterView.{deps_of, start_arg_of, has_phases, spread_of, group_of, IsWithin};
     ghost use Rattle.rh_model.specs.Limits.{IsWithinLimit};
+    ghost use Rattle.rh_model.specs.Needs.{is_home, needed_apps, needs_in};
 
     /// The cluster of these names, with the settings of each node and of each application in the order of
     /// their names.
-    pub fn of(names: Names, nodes: Vec<NodeSettings>, apps: Vec<AppSettings>) -> Cluster
+    pub fn of(
+        alloc: Global,
+        names: Names,
+        nodes: Vec<NodeSettings>,
+        apps: Vec<AppSettings>,
+    ) -> Result<Cluster, OutOfMemory>
         requires nodes { length nodes.items ≡ length names.nodes }
         requires apps { length apps.items ≡ length names.apps }
         requires within { IsWithin (record {
@@ -65,15 +75,21 @@ impl Cluster {
           nodes = nodes.items;
           apps = apps.items;
         }) }
-        ensures { result ≡ record {
+        ensures { IfOk result (λ cluster. cluster ≡ record {
           node_names = names.nodes;
           app_names = names.apps;
           platform_names = names.platforms;
           nodes = nodes.items;
           apps = apps.items;
-        } }
+        }) }
     {
-        Cluster { names, nodes, apps }
+        let needs = needs_in(alloc, nodes.as_slice(), apps.as_slice())?;
+        Ok(Cluster {
+            names,
+            nodes,
+            apps,
+            needs,
+        })
     }
 
     /// The lists of each cluster fit together, and each number in them is one of the cluster's; names are few, and
@@ -99,6 +115,14 @@ impl Cluster {
         ensures { slice_get self.now.apps app.0 ≡ Some result.now }
     {
         &self.apps[app.0 as usize]
+    }
+
+    // What an application needs.
+    fn needs_of(&self, app: App) -> &Needs
+        requires { app.0 < app_count self.now }
+        ensures { slice_get (needs_in self.now.nodes self.now.apps) app.0 ≡ Some result.now }
+    {
+        &self.needs[app.0 as usize]
     }
 
     /// The number of nodes, [`MAX_NODES`] at most.
@@ -215,6 +239,23 @@ impl Cluster {
         self.keys_of(app).deps()
     }
 
+    /// Has the node all platform names that the application needs (app(4), `applications`)?
+    pub fn is_home(&self, app: App, node: Node) -> bool
+        requires app { app.0 < app_count self.now }
+        requires node { node.0 < node_count self.now }
+        ensures { result ≡ is_home self.now app node }
+    {
+        self.needs_of(app).is_home(node)
+    }
+
+    /// The applications that the application needs, in written order (app(4), `applications`).
+    pub fn needs(&self, app: App) -> &[App]
+        requires { app.0 < app_count self.now }
+        ensures { result.now ≡ needed_apps self.now app }
+    {
+        self.needs_of(app).apps()
+    }
+
     /// The module and the start argument of the application (app(4), `mod`).
     pub fn start_arg(&self, app: App) -> Option<(&str, &Term)>
         requires { app.0 < app_count self.now }
@@ -266,7 +307,13 @@ impl Cluster {
         let names = self.names.copy()?;
         let nodes = copies_of(alloc, self.nodes.as_slice())?;
         let apps = copies_of(alloc, self.apps.as_slice())?;
-        Ok(Cluster { names, nodes, apps })
+        let needs = copies_of(alloc, self.needs.as_slice())?;
+        Ok(Cluster {
+            names,
+            nodes,
+            apps,
+            needs,
+        })
     }
 
     /// Are the clusters equal, so that all readers answer alike?

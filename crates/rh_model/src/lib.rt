@@ -8,6 +8,7 @@ mod laws;
 mod limits;
 mod name_set;
 mod names;
+mod needs;
 mod node;
 mod node_settings;
 mod platforms;
