@@ -48,7 +48,7 @@ impl Model for Cluster {
 }
 
 impl Cluster {
-    ghost use Rattle.std.specs.Prelude.{◌≡◌, ◌↔◌, ◌<◌, ◌≤◌, length, IfOk, IsTrue, IsSome, Some, slice_get, map};
+    ghost use Rattle.std.specs.Prelude.{◌≡◌, ◌↔◌, ◌<◌, ◌≤◌, All, length, IfOk, IsTrue, IsSome, Some, slice_get, map};
     ghost use Rattle.std.specs.Option.{option_map};
     ghost use Rattle.rh_base.specs.Tree.{tree_of};
     ghost use Rattle.rh_model.specs.TermSymbols.{symbols_of};
@@ -251,8 +251,10 @@ impl Cluster {
     /// The applications that the application needs, in written order (app(4), `applications`).
     pub fn needs(&self, app: App) -> &[App]
         requires { app.0 < app_count self.now }
-        ensures { result.now ≡ needed_apps self.now app }
+        ensures apps { result.now ≡ needed_apps self.now app }
+        ensures numbers { All (λ (b : App). b.0 < app_count self.now) result.now }
     {
+        self.is_within();
         self.needs_of(app).apps()
     }
 

@@ -2,6 +2,9 @@
 
 ghost use Rattle.std.specs.Prelude.{◌≡◌, ◌<◌, IsSome};
 ghost use Rattle.rh_model.specs.ClusterView.{node_count, app_count, dep_name};
+ghost use Rattle.std.specs.List.{list_all};
+ghost use Rattle.rh_model.specs.Needs.{needed_apps};
+ghost use Rattle.rh_state.specs.StateView.{runs_at};
 ghost use Rattle.rh_state.specs.Stored.{read};
 ghost use Rattle.rh_place.specs.Placing.{dep_runs, deps_run, missing_dep, is_operational};
 
@@ -38,13 +41,29 @@ pub fn missing_dep(state: &State, node: Node, app: App) -> Option<Dep>
     None
 }
 
+// Do all applications among the dependencies of an application run at a node?
+fn needs_run(state: &State, node: Node, app: App) -> bool
+    requires node { node.0 < node_count (read state.now).cluster }
+    requires app { app.0 < app_count (read state.now).cluster }
+    ensures { result ≡ list_all (runs_at (read state.now) node) (needed_apps (read state.now).cluster app) }
+{
+    state.cluster().is_within();
+    let needs = state.cluster().needs(app);
+    'needs: for need in needs {
+        if !matches!(state.place_of(node, *need), Place::InRunning) {
+            return false;
+        }
+    }
+    true
+}
+
 /// Do all dependencies of an application run at a node (app(4), `applications`)?
 pub fn deps_run(state: &State, node: Node, app: App) -> bool
     requires node { node.0 < node_count (read state.now).cluster }
     requires app { app.0 < app_count (read state.now).cluster }
     ensures { result ≡ deps_run (read state.now) node app }
 {
-    missing_dep(state, node, app).is_none()
+    state.cluster().is_home(app, node) && needs_run(state, node, app)
 }
 
 /// Can an application run at a node (Distributed Applications)? The node must be up, the application started there and
