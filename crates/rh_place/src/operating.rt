@@ -11,6 +11,15 @@ ghost use Rattle.rh_place.specs.Placing.{dep_runs, deps_run, missing_dep, is_ope
 use rh_model::{App, Dep, Node};
 use rh_state::{Mode, Place, State};
 
+// Does an application run at a node?
+fn runs(state: &State, node: Node, app: App) -> bool
+    requires node { node.0 < node_count (read state.now).cluster }
+    requires app { app.0 < app_count (read state.now).cluster }
+    ensures { result ≡ runs_at (read state.now) node app }
+{
+    matches!(state.place_of(node, app), Place::InRunning)
+}
+
 // Does what an application depends on run at a node?
 fn dep_runs(state: &State, node: Node, dep: Dep) -> bool
     requires node { node.0 < node_count (read state.now).cluster }
@@ -18,7 +27,7 @@ fn dep_runs(state: &State, node: Node, dep: Dep) -> bool
     ensures { result ≡ dep_runs (read state.now) node dep }
 {
     match dep {
-        Dep::Listed(app) => matches!(state.place_of(node, app), Place::InRunning),
+        Dep::Listed(app) => runs(state, node, app),
         Dep::Platform(name) => state.cluster().is_platform(node, name),
     }
 }
@@ -50,7 +59,7 @@ fn needs_run(state: &State, node: Node, app: App) -> bool
     state.cluster().is_within();
     let needs = state.cluster().needs(app);
     'needs: for need in needs {
-        if !matches!(state.place_of(node, *need), Place::InRunning) {
+        if !runs(state, node, *need) {
             return false;
         }
     }
@@ -63,7 +72,9 @@ pub fn deps_run(state: &State, node: Node, app: App) -> bool
     requires app { app.0 < app_count (read state.now).cluster }
     ensures { result ≡ deps_run (read state.now) node app }
 {
-    state.cluster().is_home(app, node) && needs_run(state, node, app)
+    let cluster = state.cluster();
+    cluster.is_within();
+    cluster.is_home(app, node) && needs_run(state, node, app)
 }
 
 /// Can an application run at a node (Distributed Applications)? The node must be up, the application started there and
