@@ -22,7 +22,7 @@ kept_of : (c : ClusterView) (a : App) (k : NeedsView) (o : Option AppView) → s
 kept_of c a k None found h = absurd (none-some k h)
 kept_of c a k (Some v) found h = sym (some_same (needs_of c.nodes v) k h)
     ∙ ap (λ o. needs_of c.nodes (record { deps = unwrap_or (option_map (λ (w : AppView). w.deps) o) []; start_arg = None; phases = false; spread = None }))
-        (sym found)
+    (sym found)
 
 kept : (c : ClusterView) (a : App) (k : NeedsView) → slice_get (needs_in c.nodes c.apps) a.0 ≡ Some k
     → k ≡ record { homes = map (has_platforms (deps_of c a)) c.nodes; apps = filter_map listed (deps_of c a) }

@@ -31,7 +31,7 @@ by_kind s n v is (Listed b ∷ deps) = ap (λ x. runs_at s n b && x) (by_kind s 
     ∙ swapped (runs_at s n b) (list_all (is_at_hand v.platforms) deps) (list_all (runs_at s n) (filter_map listed deps))
 by_kind s n v is (Platform p ∷ deps) = ap (λ x. is_platform s.cluster n p && x) (by_kind s n v is deps)
     ∙ ap (λ o. unwrap_or (option_and_then (λ (w : NodeView). slice_get w.platforms p) o) false
-        && (list_all (is_at_hand v.platforms) deps && list_all (runs_at s n) (filter_map listed deps))) is
+    && (list_all (is_at_hand v.platforms) deps && list_all (runs_at s n) (filter_map listed deps))) is
     ∙ grouped (unwrap_or (slice_get v.platforms p) false) (list_all (is_at_hand v.platforms) deps) (list_all (runs_at s n) (filter_map listed deps))
 
 pub deps_by_kind : (s : StateView) (n : Node) (a : App) → n.0 < node_count s.cluster → IsWithin s.cluster
@@ -41,9 +41,9 @@ deps_by_kind s n a known within = by (slice_get s.cluster.nodes n.0) refl (some_
   where
     by : (o : Option NodeView) → slice_get s.cluster.nodes n.0 ≡ o → IsSome (slice_get s.cluster.nodes n.0)
         → unwrap_or (option_map (has_platforms (deps_of s.cluster a)) (slice_get s.cluster.nodes n.0)) false
-            && list_all (runs_at s n) (filter_map listed (deps_of s.cluster a))
+        && list_all (runs_at s n) (filter_map listed (deps_of s.cluster a))
         ≡ list_all (dep_runs s n) (deps_of s.cluster a)
     by (Some v) is there = ap (λ o. unwrap_or (option_map (has_platforms (deps_of s.cluster a)) o) false
-            && list_all (runs_at s n) (filter_map listed (deps_of s.cluster a))) is
+        && list_all (runs_at s n) (filter_map listed (deps_of s.cluster a))) is
         ∙ sym (by_kind s n v is (deps_of s.cluster a))
     by None is there = absurd (let none : IsSome {T = NodeView} None = subst IsSome is there in cc none)
