@@ -14,6 +14,8 @@ use std::marker::Model;
 /// A cluster of nodes and applications, in the order of the file that it was read from.
 #[derive(Drop)]
 pub struct Cluster {
+    // The profile of the file (ours).
+    profile: u8,
     names: Names,
     nodes: Vec<NodeSettings>,
     apps: Vec<AppSettings>,
@@ -26,6 +28,7 @@ impl Model for Cluster {
     ghost Value = { ClusterView };
 
     ghost view = { λ c. record {
+      profile = c.profile;
       node_names = c.names.nodes;
       app_names = c.names.apps;
       platform_names = c.names.platforms;
@@ -35,6 +38,7 @@ impl Model for Cluster {
 
     ghost invariant = { λ c.
         (length c.nodes.items ≡ length c.names.nodes) × (length c.apps.items ≡ length c.names.apps) × IsWithin (record {
+          profile = c.profile;
           node_names = c.names.nodes;
           app_names = c.names.apps;
           platform_names = c.names.platforms;
@@ -53,12 +57,18 @@ impl Cluster {
     ghost use Rattle.rh_model.specs.ClusterView.{deps_of, start_arg_of, has_phases, spread_of, group_of, IsWithin};
     ghost use Rattle.rh_model.specs.Limits.{IsWithinLimit};
 
-    /// The cluster of these names, with the settings of each node and of each application in the order of
-    /// their names.
-    pub fn of(names: Names, nodes: Vec<NodeSettings>, apps: Vec<AppSettings>) -> Cluster
+    /// The cluster of this profile and these names, with the settings of each node and of each application in the
+    /// order of their names.
+    pub fn of(
+        profile: u8,
+        names: Names,
+        nodes: Vec<NodeSettings>,
+        apps: Vec<AppSettings>,
+    ) -> Cluster
         requires nodes { length nodes.items ≡ length names.nodes }
         requires apps { length apps.items ≡ length names.apps }
         requires within { IsWithin (record {
+          profile = profile;
           node_names = names.nodes;
           app_names = names.apps;
           platform_names = names.platforms;
@@ -66,6 +76,7 @@ impl Cluster {
           apps = apps.items;
         }) }
         ensures { result ≡ record {
+          profile = profile;
           node_names = names.nodes;
           app_names = names.apps;
           platform_names = names.platforms;
@@ -73,12 +84,18 @@ impl Cluster {
           apps = apps.items;
         } }
     {
-        Cluster { names, nodes, apps }
+        Cluster {
+            profile,
+            names,
+            nodes,
+            apps,
+        }
     }
 
-    /// The lists of each cluster fit together, and each number in them is one of the cluster's; names are few, and
-    /// those of a kind differ; a node boots no application twice, and none that doesn't list it; waits and timeouts
-    /// are within their limit. (It does nothing: its contract is what it is for.)
+    /// The profile of each cluster is 1 or 2. Its lists fit together, and each number in them is one of the
+    /// cluster's; names are few, as the profile says, and those of a kind differ; a node boots no application
+    /// twice, and none that doesn't list it; waits and timeouts are within their limit. (It does nothing: its
+    /// contract is what it is for.)
     pub fn is_within(&self)
         ensures { IsWithin self.now }
     {
@@ -99,6 +116,13 @@ impl Cluster {
         ensures { slice_get self.now.apps app.0 ≡ Some result.now }
     {
         &self.apps[app.0 as usize]
+    }
+
+    /// The profile: by which of the two sets of rules the cluster is simulated, and how much it may hold (ours).
+    pub fn profile(&self) -> u8
+        ensures { result ≡ self.now.profile }
+    {
+        self.profile
     }
 
     /// The number of nodes, [`MAX_NODES`] at most.
@@ -266,14 +290,20 @@ impl Cluster {
         let names = self.names.copy()?;
         let nodes = copies_of(alloc, self.nodes.as_slice())?;
         let apps = copies_of(alloc, self.apps.as_slice())?;
-        Ok(Cluster { names, nodes, apps })
+        Ok(Cluster {
+            profile: self.profile,
+            names,
+            nodes,
+            apps,
+        })
     }
 
     /// Are the clusters equal, so that all readers answer alike?
     pub fn same(&self, other: &Cluster) -> bool
         ensures { IsTrue result ↔ (self.now ≡ other.now) }
     {
-        self.names.same(&other.names)
+        self.profile == other.profile
+            && self.names.same(&other.names)
             && are_same(self.nodes.as_slice(), other.nodes.as_slice())
             && are_same(self.apps.as_slice(), other.apps.as_slice())
     }
