@@ -15,6 +15,8 @@ use std::marker::Model;
 /// A cluster of nodes and applications, in the order of the file that it was read from.
 #[derive(Drop)]
 pub struct Cluster {
+    // The profile of the file (ours).
+    profile: u8,
     names: Names,
     nodes: Vec<NodeSettings>,
     apps: Vec<AppSettings>,
@@ -30,6 +32,7 @@ impl Model for Cluster {
     ghost Value = { ClusterView };
 
     ghost view = { λ c. record {
+      profile = c.profile;
       node_names = c.names.nodes;
       app_names = c.names.apps;
       platform_names = c.names.platforms;
@@ -39,6 +42,7 @@ impl Model for Cluster {
 
     ghost invariant = { λ c.
         (length c.nodes.items ≡ length c.names.nodes) × (length c.apps.items ≡ length c.names.apps) × (c.needs.items ≡ needs_in c.nodes.items c.apps.items) × IsWithin (record {
+          profile = c.profile;
           node_names = c.names.nodes;
           app_names = c.names.apps;
           platform_names = c.names.platforms;
@@ -58,10 +62,11 @@ impl Cluster {
     ghost use Rattle.rh_model.specs.Limits.{IsWithinLimit};
     ghost use Rattle.rh_model.specs.Needs.{is_home, needed_apps, needs_in};
 
-    /// The cluster of these names, with the settings of each node and of each application in the order of
-    /// their names.
+    /// The cluster of this profile and these names, with the settings of each node and of each application in the
+    /// order of their names.
     pub fn of(
         alloc: Global,
+        profile: u8,
         names: Names,
         nodes: Vec<NodeSettings>,
         apps: Vec<AppSettings>,
@@ -69,6 +74,7 @@ impl Cluster {
         requires nodes { length nodes.items ≡ length names.nodes }
         requires apps { length apps.items ≡ length names.apps }
         requires within { IsWithin (record {
+          profile = profile;
           node_names = names.nodes;
           app_names = names.apps;
           platform_names = names.platforms;
@@ -76,6 +82,7 @@ impl Cluster {
           apps = apps.items;
         }) }
         ensures { IfOk result (λ cluster. cluster ≡ record {
+          profile = profile;
           node_names = names.nodes;
           app_names = names.apps;
           platform_names = names.platforms;
@@ -85,6 +92,7 @@ impl Cluster {
     {
         let needs = needs_in(alloc, nodes.as_slice(), apps.as_slice())?;
         Ok(Cluster {
+            profile,
             names,
             nodes,
             apps,
@@ -92,9 +100,10 @@ impl Cluster {
         })
     }
 
-    /// The lists of each cluster fit together, and each number in them is one of the cluster's; names are few, and
-    /// those of a kind differ; a node boots no application twice, and none that doesn't list it; waits and timeouts
-    /// are within their limit. (It does nothing: its contract is what it is for.)
+    /// The profile of each cluster is 1 or 2. Its lists fit together, and each number in them is one of the
+    /// cluster's; names are few, as the profile says, and those of a kind differ; a node boots no application
+    /// twice, and none that doesn't list it; waits and timeouts are within their limit. (It does nothing: its
+    /// contract is what it is for.)
     pub fn is_within(&self)
         ensures { IsWithin self.now }
     {
@@ -123,6 +132,13 @@ impl Cluster {
         ensures { slice_get (needs_in self.now.nodes self.now.apps) app.0 ≡ Some result.now }
     {
         &self.needs[app.0 as usize]
+    }
+
+    /// The profile: by which of the two sets of rules the cluster is simulated, and how much it may hold (ours).
+    pub fn profile(&self) -> u8
+        ensures { result ≡ self.now.profile }
+    {
+        self.profile
     }
 
     /// The number of nodes, [`MAX_NODES`] at most.
@@ -311,6 +327,7 @@ impl Cluster {
         let apps = copies_of(alloc, self.apps.as_slice())?;
         let needs = copies_of(alloc, self.needs.as_slice())?;
         Ok(Cluster {
+            profile: self.profile,
             names,
             nodes,
             apps,
@@ -322,7 +339,8 @@ impl Cluster {
     pub fn same(&self, other: &Cluster) -> bool
         ensures { IsTrue result ↔ (self.now ≡ other.now) }
     {
-        self.names.same(&other.names)
+        self.profile == other.profile
+            && self.names.same(&other.names)
             && are_same(self.nodes.as_slice(), other.nodes.as_slice())
             && are_same(self.apps.as_slice(), other.apps.as_slice())
     }
