@@ -59,6 +59,7 @@ c = app_numbered 2
 
 abbrev three_apps : ClusterView
 three_apps = record {
+  profile = 1;
   node_names = codes "one@lab" ∷ [];
   app_names = codes "a" ∷ codes "b" ∷ codes "c" ∷ [];
   platform_names = codes "kernel" ∷ codes "stdlib" ∷ [];
@@ -120,6 +121,7 @@ d2 = app_numbered 2
 
 abbrev needs : ClusterView
 needs = record {
+  profile = 1;
   node_names = codes "v@lab" ∷ codes "w@lab" ∷ [];
   app_names = codes "x" ∷ codes "d1" ∷ codes "d2" ∷ [];
   platform_names = codes "kernel" ∷ codes "stdlib" ∷ [];
@@ -141,6 +143,7 @@ needs_row = refl
 -- two that need each other wait for ever
 abbrev circle : ClusterView
 circle = record {
+  profile = 1;
   node_names = codes "z" ∷ [];
   app_names = codes "f" ∷ codes "g" ∷ [];
   platform_names = codes "kernel" ∷ codes "stdlib" ∷ [];

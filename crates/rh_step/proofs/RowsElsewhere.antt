@@ -55,6 +55,7 @@ job = app_numbered 1
 
 abbrev busy : ClusterView
 busy = record {
+  profile = 1;
   node_names = codes "m1@lab" ∷ codes "m2@lab" ∷ codes "m3@lab" ∷ [];
   app_names = codes "load" ∷ codes "job" ∷ [];
   platform_names = [];
@@ -85,6 +86,7 @@ svc = app_numbered 0
 
 abbrev waiting : ClusterView
 waiting = record {
+  profile = 1;
   node_names = codes "n1@lab" ∷ codes "n2@lab" ∷ codes "n3@lab" ∷ [];
   app_names = codes "svc" ∷ [];
   platform_names = [];
