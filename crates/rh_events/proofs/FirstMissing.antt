@@ -17,7 +17,7 @@ use Rattle.rh_events.specs.Everywhere.{is_target, targets, first_missing, missin
 
 module _ (s : StateView) (a : App) where
   -- node after node, each only if the application is still to be started there
-  first_if : List Node → Option Dep
+  abbrev first_if : List Node → Option Dep
   first_if [] = None
   first_if (n ∷ ns) = option_or (missing_if_target s a n) (first_if ns)
 
@@ -44,8 +44,8 @@ module _ (s : StateView) (a : App) where
   found start (suc len) k ge lt none some = cases (nat_eq start k)
       (λ t. ap (λ i. option_or (missing_if_target s a (numbered i)) (first_if (in_range (start + 1) len))) (same_number start k t)
       ∙ or_found (missing_if_target s a (numbered k)) (first_if (in_range (start + 1) len)) some)
-      (λ d. ap (λ o. option_or o (first_if (in_range (start + 1) len))) (none start (let e = other_number start k d in below e))
-      ∙ found (start + 1) len k (below (other_number start k d)) (omega arith) none some)
+      (λ d. ap (λ o. option_or o (first_if (in_range (start + 1) len))) (none start (below (other_number start k d)))
+      ∙ found (start + 1) len k (let e = below (other_number start k d) in omega (arith, e)) (omega (arith, lt)) none some)
     where
       below : (start ≡ k → ⊥) → start < k
       below e = cases (nat_eq start k) (λ t. absurd (e (same_number start k t))) (λ f. apart start k f ge)

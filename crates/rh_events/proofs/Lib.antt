@@ -36,4 +36,5 @@ pub mod Scene
 mod RowsRefusals
 mod RowsNodes
 mod RowsByHand
+mod RowsEverywhere
 pub mod EndLaws

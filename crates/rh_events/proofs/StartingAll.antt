@@ -1,7 +1,8 @@
 -- An application that is started at all its nodes, one node after the other.
-use Rattle.std.proofs.Common.{◌≡◌, ◌≢◌, ◌≤◌, ◌+◌, ◌&&◌, ◌||◌, ℕ, zero, suc, Bool, true, false, cond, not, List, [], ◌∷◌, fold, map, All, get_or, nat_eq, refl, sym, ap}
+use Rattle.std.proofs.Common.{◌≡◌, ◌≢◌, ◌≤◌, ◌+◌, ◌&&◌, ◌||◌, ℕ, zero, suc, Bool, true, false, cond, not, List, [], ◌∷◌, fold, map, All, get_or, refl, sym, ap}
 use Rattle.std.proofs.Common.{◌∙◌, arith, subst}
 use Rattle.std.specs.List.{filter, range_with_len}
+use Rattle.std.proofs.lemmas.List.Elements.{All-push}
 use Rattle.std.proofs.lemmas.List.FromFn.{map-range_with_len_more}
 use Rattle.std.proofs.lemmas.List.Sums.{fold_push}
 use Rattle.rh_model.specs.ClusterView.{ClusterView, node_count, numbered, is_listed_at}
@@ -140,3 +141,18 @@ pub sound_started_all : (o : Course) (a : App) (r : Restart) → IsAppOf o.state
 sound_started_all o a r app h =
     subst (λ (p : Course). IsSound p.state) (sym (start_all_each o a r))
     (turns_sound (nodes_of o.state.cluster) o a r (all_nodes o.state.cluster) app h)
+
+-- ---- only pairs of the cluster are marked
+turns_pairs : (c : ClusterView) (ns : List Node) (o : Course) (a : App) (r : Restart) → All (IsNodeOf c) ns → IsAppOf c a → All (IsPairOf c) o.marked
+    → All (IsPairOf c) (each_target a r o ns).marked
+turns_pairs c [] o a r known app before = before
+turns_pairs c (n ∷ ns) o a r known app before =
+    turns_pairs c ns (start_if_target a r o n) a r (λ k d l. known (suc k) d (omega arith)) app
+    (turn (λ p. All (IsPairOf c) p.marked) o n a r
+    (λ _. All-push (IsPairOf c) o.marked (pair n a) before (record { node = known 0 n (omega arith); app = app })) before)
+
+pub started_all_pairs : (o : Course) (a : App) (r : Restart) → IsAppOf o.state.cluster a → All (IsPairOf o.state.cluster) o.marked
+    → All (IsPairOf o.state.cluster) (start_all o a r).marked
+started_all_pairs o a r app before =
+    subst (λ (p : Course). All (IsPairOf o.state.cluster) p.marked) (sym (start_all_each o a r))
+    (turns_pairs o.state.cluster (nodes_of o.state.cluster) o a r (all_nodes o.state.cluster) app before)
