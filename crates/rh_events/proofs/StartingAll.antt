@@ -1,6 +1,7 @@
 -- An application that is started at all its nodes, one node after the other.
-use Rattle.std.proofs.Common.{◌≡◌, ◌≢◌, ◌≤◌, ◌+◌, ◌&&◌, ◌||◌, ℕ, zero, suc, Bool, true, false, cond, not, List, [], ◌∷◌, fold, map, All, get_or, refl, sym, ap}
-use Rattle.std.proofs.Common.{◌∙◌, arith, subst}
+use Rattle.std.proofs.Common.{◌≡◌, ◌≢◌, ◌<◌, ◌≤◌, ◌+◌, ◌&&◌, ◌||◌, ℕ, zero, suc, Bool, true, false, cond, not, List, [], ◌∷◌, length, fold, map, All, get_or, refl, sym, ap}
+use Rattle.std.proofs.Common.{◌∙◌, arith, nat_eq, subst}
+use Rattle.std.proofs.lemmas.Bool.Decides.{nat_tests}
 use Rattle.std.specs.List.{filter, range_with_len}
 use Rattle.std.proofs.lemmas.List.Elements.{All-push}
 use Rattle.std.proofs.lemmas.List.FromFn.{map-range_with_len_more}
@@ -17,7 +18,9 @@ use Rattle.rh_settle.specs.declared.notice.Notice.{Notice}
 use Rattle.rh_settle.specs.Course.{Course, IsPairOf}
 use Rattle.rh_settle.specs.Validity.{IsSound}
 use Rattle.rh_settle.proofs.Behind.{after_notices, fold_after}
-use Rattle.rh_settle.proofs.Entries.{there}
+use Rattle.rh_base.proofs.Lists.{cases}
+use Rattle.rh_settle.proofs.Entries.{has, put, there, put_keeps, put_gives, length_put, either, same_number}
+use Rattle.rh_settle.proofs.Places.{or_left, or_right, same_refl}
 use Rattle.rh_events.specs.Marking.{pair, with_mark, mark}
 use Rattle.rh_events.specs.Everywhere.{is_host, is_target, targets, start_at, start_if_target, start_all}
 use Rattle.rh_events.proofs.Fields.{SameNodes, same_then, marked_same}
@@ -156,3 +159,74 @@ pub started_all_pairs : (o : Course) (a : App) (r : Restart) → IsAppOf o.state
 started_all_pairs o a r app before =
     subst (λ (p : Course). All (IsPairOf o.state.cluster) p.marked) (sym (start_all_each o a r))
     (turns_pairs o.state.cluster (nodes_of o.state.cluster) o a r (all_nodes o.state.cluster) app before)
+
+-- ---- behind it the application is started at each node that is up and may start it
+mark_keeps : (s : StateView) (n m : Node) (a : App) (r : Restart) → is_started s m a ≡ true → is_started (with_mark s n a r) m a ≡ true
+unfolding with_mark
+mark_keeps s n m a r h =
+    wanted_any (λ t. is_started t m a ≡ true) (with_restart (with_waiting s n a) n a r) n a (standing_of s a)
+    (λ standings timers. either (runs_at s m a) (waits_at s m a) h
+    (λ runs. or_left (runs_at s m a) _ runs)
+    (λ waits. or_right (runs_at s m a) _ (put_keeps s.waiting n.0 m.0 a a waits)))
+
+mark_starts : (s : StateView) (n m : Node) (a : App) (r : Restart) → m.0 ≡ n.0 → n.0 < length s.waiting → is_started (with_mark s n a r) m a ≡ true
+unfolding with_mark
+mark_starts s n m a r e lt =
+    wanted_any (λ t. is_started t m a ≡ true) (with_restart (with_waiting s n a) n a r) n a (standing_of s a)
+    (λ standings timers. or_right (runs_at s m a) _ (ap (λ k. has (put s.waiting n.0 a) k a) e ∙ put_gives s.waiting n.0 a a lt (same_refl a.0)))
+
+turn_keeps : (o : Course) (n m : Node) (a : App) (r : Restart) → is_started o.state m a ≡ true → is_started (start_if_target a r o n).state m a ≡ true
+turn_keeps o n m a r h = turn (λ p. is_started p.state m a ≡ true) o n a r (λ _. mark_keeps o.state n m a r h) h
+
+turns_keep : (ns : List Node) (o : Course) (m : Node) (a : App) (r : Restart) → is_started o.state m a ≡ true → is_started (each_target a r o ns).state m a ≡ true
+turns_keep [] o m a r h = h
+turns_keep (n ∷ ns) o m a r h = turns_keep ns (start_if_target a r o n) m a r (turn_keeps o n m a r h)
+
+-- at its own turn: it is started already, or now
+host_started : (p b : Bool) → p ≡ true → p && not b ≡ false → b ≡ true
+host_started true true h e = refl
+host_started true false h e = absurd (cc e)
+host_started false b h e = absurd (cc h)
+
+turn_starts : (o : Course) (n m : Node) (a : App) (r : Restart) → m.0 ≡ n.0 → is_host o.state a m ≡ true → n.0 < length o.state.waiting
+    → is_started (start_if_target a r o n).state m a ≡ true
+turn_starts o n m a r e host lt = by (is_target o.state a n) refl
+  where
+    by : (b : Bool) → is_target o.state a n ≡ b → is_started (cond b (mark o n a r) o).state m a ≡ true
+    by true t = mark_starts o.state n m a r e lt
+    by false f = host_started (is_host o.state a m) (is_started o.state m a) host (ap (λ k. is_target o.state a (numbered k)) e ∙ f)
+
+turn_hosts : (o : Course) (n m : Node) (a : App) (r : Restart) → is_host (start_if_target a r o n).state a m ≡ is_host o.state a m
+turn_hosts o n m a r = turn (λ p. is_host p.state a m ≡ is_host o.state a m) o n a r
+    (λ _. mark_any (λ t. is_host t a m ≡ is_host o.state a m) o.state n a r (λ w restarts st ts. refl)) refl
+
+turn_waiting : (o : Course) (n : Node) (a : App) (r : Restart) → length (start_if_target a r o n).state.waiting ≡ length o.state.waiting
+unfolding with_mark
+turn_waiting o n a r = turn (λ p. length p.state.waiting ≡ length o.state.waiting) o n a r
+    (λ _. wanted_any (λ t. length t.waiting ≡ length o.state.waiting) (with_restart (with_waiting o.state n a) n a r) n a (standing_of o.state a)
+    (λ standings timers. length_put o.state.waiting n.0 a)) refl
+
+started_in : (start len : ℕ) (o : Course) (m : Node) (a : App) (r : Restart) → is_host o.state a m ≡ true → m.0 < length o.state.waiting
+    → start ≤ m.0 → m.0 < start + len → is_started (each_target a r o (map numbered (range_with_len start len))).state m a ≡ true
+started_in start zero o m a r host lt ge below = absurd (omega (arith, ge, below))
+started_in start (suc len) o m a r host lt ge below = cases (nat_eq start m.0)
+    (λ t. let e = same_number start m.0 t in
+    turns_keep ns p m a r (turn_starts o (numbered start) m a r (sym e) host (omega (arith, e, lt))))
+    (λ d. started_in (start + 1) len p m a r (turn_hosts o (numbered start) m a r ∙ host)
+    (let e = turn_waiting o (numbered start) a r in omega (arith, e, lt)) (above start m.0 d ge) (omega (arith, below)))
+  where
+    p : Course
+    p = start_if_target a r o (numbered start)
+
+    ns : List Node
+    ns = map numbered (range_with_len (start + 1) len)
+
+    above : (i j : ℕ) → nat_eq i j ≡ false → i ≤ j → i + 1 ≤ j
+    above i j d l = grind (arith, nat_tests)
+
+pub started_at_hosts : (o : Course) (a : App) (r : Restart) (m : Node) → length o.state.waiting ≡ node_count o.state.cluster → is_host o.state a m ≡ true
+    → IsNodeOf o.state.cluster m → is_started (start_all o a r).state m a ≡ true
+unfolding nodes_of
+started_at_hosts o a r m long host node =
+    ap (λ (p : Course). is_started p.state m a) (start_all_each o a r)
+    ∙ started_in 0 (node_count o.state.cluster) o m a r host (omega (arith, long, node)) (omega arith) (omega (arith, node))

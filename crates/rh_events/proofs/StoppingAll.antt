@@ -1,6 +1,6 @@
 -- An application that is stopped at all its nodes, one node after the other.
-use Rattle.std.proofs.Common.{◌≡◌, ◌<◌, ◌≤◌, ◌+◌, ◌||◌, ℕ, zero, suc, Bool, true, false, cond, not, List, [], ◌∷◌, fold, map, length, slice_set, nat_eq, refl, sym, ap}
-use Rattle.std.proofs.Common.{◌∙◌, arith, subst}
+use Rattle.std.proofs.Common.{◌≡◌, ◌≢◌, ◌<◌, ◌≤◌, ◌+◌, ◌||◌, ℕ, zero, suc, Bool, true, false, cond, not, List, [], ◌∷◌, fold, map, length, slice_set, nat_eq, refl, sym, ap}
+use Rattle.std.proofs.Common.{◌∙◌, arith, slice_get, subst, unwrap_or}
 use Rattle.std.specs.List.{range_with_len}
 use Rattle.std.proofs.lemmas.List.FromFn.{map-range_with_len_more}
 use Rattle.std.proofs.lemmas.List.Sums.{fold_push}
@@ -22,8 +22,9 @@ use Rattle.rh_settle.specs.Course.{Course, told, now_in}
 use Rattle.rh_settle.specs.Moves.{is_local}
 use Rattle.rh_settle.specs.Validity.{IsSound}
 use Rattle.rh_settle.proofs.Behind.{after_notices, told_after, fold_after}
-use Rattle.rh_settle.proofs.Entries.{same_number, other_number, is_false, both, taken, has, taken_has, taken_not, taken_keeps, row_there}
+use Rattle.rh_settle.proofs.Entries.{same_number, is_false, both, taken, has, taken_has, taken_not, taken_keeps, row_there}
 use Rattle.rh_settle.proofs.Every.{filter_yes}
+use Rattle.rh_settle.proofs.Places.{at_set, at_set_here, at_set_there}
 use Rattle.rh_settle.proofs.Kept.{at_pair}
 use Rattle.rh_events.specs.Everywhere.{leave_at, left_everywhere, quietened, stop_all}
 use Rattle.rh_events.proofs.Emptying.{set_same}
@@ -259,3 +260,27 @@ left_marks a (n ∷ ns) o = left_marks a ns (leave_at a o n) ∙ by (runs_at o.s
 pub stop_all_marks : (o : Course) (a : App) → (stop_all o a).marked ≡ o.marked
 unfolding stop_all left_everywhere
 stop_all_marks o a = left_marks a (nodes_of o.state.cluster) o
+
+-- ---- behind it the application is started nowhere and quiet, and the others stand as they did
+pub stopped_all_nowhere : (o : Course) (a : App) (m : Node) → ListsFit o.state → is_started (stop_all o a).state m a ≡ false
+unfolding stop_all
+stopped_all_nowhere o a m h = left_nowhere o a m h
+
+stopped_all_standings : (o : Course) (a : App) → (stop_all o a).state.standings ≡ slice_set o.state.standings a.0 Quiet
+unfolding stop_all left_everywhere
+stopped_all_standings o a =
+    let ns = nodes_of o.state.cluster in
+    ap (λ (s : StateView). slice_set s.standings a.0 Quiet) (left_state a ns o ∙ only_lists a ns o.state)
+
+pub stopped_all_quiet : (o : Course) (a : App) → a.0 < length o.state.standings → standing_of (stop_all o a).state a ≡ Quiet
+stopped_all_quiet o a lt =
+    ap (λ standings. unwrap_or (slice_get standings a.0) Quiet) (stopped_all_standings o a) ∙ at_set_here o.state.standings a.0 Quiet Quiet lt
+
+pub stop_all_of_another : (o : Course) (b a : App) → a.0 ≢ b.0 → standing_of (stop_all o b).state a ≡ standing_of o.state a
+stop_all_of_another o b a other =
+    ap (λ standings. unwrap_or (slice_get standings a.0) Quiet) (stopped_all_standings o b) ∙ at_set_there o.state.standings b.0 a.0 Quiet Quiet other
+
+pub quiet_stays_quiet : (o : Course) (b a : App) → standing_of o.state a ≡ Quiet → standing_of (stop_all o b).state a ≡ Quiet
+quiet_stays_quiet o b a is =
+    ap (λ standings. unwrap_or (slice_get standings a.0) Quiet) (stopped_all_standings o b)
+    ∙ at_set o.state.standings b.0 a.0 Quiet Quiet (λ same. same ∙ is) (λ here v. v)

@@ -23,3 +23,5 @@ pub mod EndedWaits
 pub mod LostStays
 pub mod LostInTime
 pub mod QuietStays
+pub mod StartedStays
+pub mod Everywhere
