@@ -18,6 +18,7 @@ mod Rows
 mod RowsElsewhere
 mod RowsTime
 mod RowsByItself
+mod RowsEverywhere
 pub mod Stops
 pub mod EndedWaits
 pub mod LostStays

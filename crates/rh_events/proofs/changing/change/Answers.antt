@@ -71,7 +71,9 @@ returns-in-Start-clause-course c =
     on_ok_weaker c.mark.result (λ made. made ∙ ap (change (course (read c.args.state.now) c.args.trace.now)) (sym c.in-Start.is)) c.mark.ensures.course
 
 pub start_all-requires : goal.start_all-requires
-start_all-requires c = (accepted_start_all _ _ _ (sym (ap (refused (read c.args.state.now)) c.in-StartAll.is) ∙ c.requires.accepted)).app
+start_all-requires c =
+    record { app = (accepted_start_all _ _ _ (sym (ap (refused (read c.args.state.now)) c.in-StartAll.is) ∙ c.requires.accepted)).app }
 
 pub stop_all-requires : goal.stop_all-requires
-stop_all-requires c = (accepted_stop_all _ _ (sym (ap (refused (read c.args.state.now)) c.in-StopAll.is) ∙ c.requires.accepted)).app
+stop_all-requires c =
+    record { app = (accepted_stop_all _ _ (sym (ap (refused (read c.args.state.now)) c.in-StopAll.is) ∙ c.requires.accepted)).app }
