@@ -13,7 +13,7 @@ use Rattle.rh_model.specs.declared.settings.Restart.{Restart}
 use Rattle.rh_model.specs.declared.settings.Restart.TheVariants.{Temporary}
 use Rattle.rh_state.specs.Numbers.{nodes_of}
 use Rattle.rh_state.specs.Shape.{IsNodeOf, IsAppOf}
-use Rattle.rh_state.specs.StateView.{StateView, mode_of, is_up, waiting_at, runs_at, waits_at, is_started, restart_of, standing_of}
+use Rattle.rh_state.specs.StateView.{StateView, mode_of, is_up, runs_at, waits_at, is_started, restart_of, standing_of}
 use Rattle.rh_state.specs.Setters.{with_restart, with_waiting}
 use Rattle.rh_settle.specs.declared.notice.Notice.{Notice}
 use Rattle.rh_settle.specs.Course.{Course, IsPairOf}
@@ -25,7 +25,7 @@ use Rattle.rh_settle.proofs.Places.{at_set_there, or_left, or_right, same_refl}
 use Rattle.rh_events.specs.Marking.{pair, with_mark, mark}
 use Rattle.rh_events.specs.Everywhere.{is_host, is_target, targets, start_at, start_if_target, start_all}
 use Rattle.rh_events.proofs.Fields.{SameNodes, same_then, marked_same}
-use Rattle.rh_events.proofs.Marks.{mark_any, wanted_any, mark_cluster}
+use Rattle.rh_events.proofs.Marks.{mark_any, wanted_any}
 use Rattle.rh_events.proofs.SoundMarks.{sound_mark}
 use Rattle.rh_events.proofs.SoundComingUp.{all_nodes}
 
