@@ -45,7 +45,7 @@ profile_in text = option_map (λ (c : ClusterView). c.profile) (result_ok (clust
 -- the first profile, unless the first term names the second
 profiles_row : map profile_in (
     codes "{node, a, []}." ∷ codes "{profile, 1}. {node, a, []}." ∷ codes "{profile, 2}. {node, a, []}." ∷
-    codes "{'profile', 16#2} . {application, p, []}. {node, a, []}." ∷ [])
+    codes "{ 'profile',2 } .\n{application, p, []}. {node, a, []}." ∷ [])
     ≡ Some 1 ∷ Some 1 ∷ Some 2 ∷ Some 2 ∷ []
 unfolding is_utf8 chars encode terms_of dotted dot_at inside terms_up_to some_terms next_at term_by word_at name_at past quoted quoted_atom_at text_at
     integer_at digits_at cluster_of cluster_of_terms profile_of behind_profile as_profile faults_in headers_stage header_faults new_name_faults node_names app_names as_headed as_triple as_tuple as_atom is_name
