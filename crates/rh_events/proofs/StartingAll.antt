@@ -1,6 +1,6 @@
 -- An application that is started at all its nodes, one node after the other.
 use Rattle.std.proofs.Common.{◌≡◌, ◌≢◌, ◌<◌, ◌≤◌, ◌+◌, ◌&&◌, ◌||◌, ℕ, zero, suc, Bool, true, false, cond, not, List, [], ◌∷◌, length, fold, map, All, get_or, refl, sym, ap}
-use Rattle.std.proofs.Common.{◌∙◌, arith, nat_eq, subst}
+use Rattle.std.proofs.Common.{◌∙◌, arith, nat_eq, slice_get, subst, unwrap_or}
 use Rattle.std.proofs.lemmas.Bool.Decides.{nat_tests}
 use Rattle.std.specs.List.{filter, range_with_len}
 use Rattle.std.proofs.lemmas.List.Elements.{All-push}
@@ -10,21 +10,22 @@ use Rattle.rh_model.specs.ClusterView.{ClusterView, node_count, numbered, is_lis
 use Rattle.rh_model.specs.declared.node.Node.{Node}
 use Rattle.rh_model.specs.declared.node.App.{App}
 use Rattle.rh_model.specs.declared.settings.Restart.{Restart}
+use Rattle.rh_model.specs.declared.settings.Restart.TheVariants.{Temporary}
 use Rattle.rh_state.specs.Numbers.{nodes_of}
 use Rattle.rh_state.specs.Shape.{IsNodeOf, IsAppOf}
-use Rattle.rh_state.specs.StateView.{StateView, mode_of, is_up, waiting_at, runs_at, waits_at, is_started, standing_of}
+use Rattle.rh_state.specs.StateView.{StateView, mode_of, is_up, runs_at, waits_at, is_started, restart_of, standing_of}
 use Rattle.rh_state.specs.Setters.{with_restart, with_waiting}
 use Rattle.rh_settle.specs.declared.notice.Notice.{Notice}
 use Rattle.rh_settle.specs.Course.{Course, IsPairOf}
 use Rattle.rh_settle.specs.Validity.{IsSound}
 use Rattle.rh_settle.proofs.Behind.{after_notices, fold_after}
 use Rattle.rh_base.proofs.Lists.{cases}
-use Rattle.rh_settle.proofs.Entries.{has, put, there, put_keeps, put_gives, length_put, either, same_number}
-use Rattle.rh_settle.proofs.Places.{or_left, or_right, same_refl}
+use Rattle.rh_settle.proofs.Entries.{both, has, put, there, put_keeps, put_gives, length_put, either, same_number}
+use Rattle.rh_settle.proofs.Places.{at_set_there, or_left, or_right, same_refl}
 use Rattle.rh_events.specs.Marking.{pair, with_mark, mark}
 use Rattle.rh_events.specs.Everywhere.{is_host, is_target, targets, start_at, start_if_target, start_all}
 use Rattle.rh_events.proofs.Fields.{SameNodes, same_then, marked_same}
-use Rattle.rh_events.proofs.Marks.{mark_any, wanted_any, mark_cluster}
+use Rattle.rh_events.proofs.Marks.{mark_any, wanted_any}
 use Rattle.rh_events.proofs.SoundMarks.{sound_mark}
 use Rattle.rh_events.proofs.SoundComingUp.{all_nodes}
 
@@ -230,3 +231,25 @@ unfolding nodes_of
 started_at_hosts o a r m long host node =
     ap (λ (p : Course). is_started p.state m a) (start_all_each o a r)
     ∙ started_in 0 (node_count o.state.cluster) o m a r host (omega (arith, long, node)) (omega arith) (omega (arith, node))
+
+-- ---- what is started keeps its restart type
+turn_types : (o : Course) (n m : Node) (a : App) (r : Restart) → is_started o.state m a ≡ true
+    → restart_of (start_if_target a r o n).state m a ≡ restart_of o.state m a
+unfolding with_mark
+turn_types o n m a r h = turn (λ p. restart_of p.state m a ≡ restart_of o.state m a) o n a r
+    (λ t. wanted_any (λ s. restart_of s m a ≡ restart_of o.state m a) (with_restart (with_waiting o.state n a) n a r) n a (standing_of o.state a)
+    (λ standings timers. ap (λ cells. unwrap_or (slice_get cells a.0) Temporary) (at_set_there o.state.restarts n.0 m.0 _ [] (other t))))
+    refl
+  where
+    other : is_target o.state a n ≡ true → m.0 ≢ n.0
+    other t e = both (is_started o.state n a) (ap (λ k. is_started o.state (numbered k) a) (sym e) ∙ h) (of_target o.state a n t).off
+
+turns_types : (ns : List Node) (o : Course) (m : Node) (a : App) (r : Restart) → is_started o.state m a ≡ true
+    → restart_of (each_target a r o ns).state m a ≡ restart_of o.state m a
+turns_types [] o m a r h = refl
+turns_types (n ∷ ns) o m a r h = turns_types ns (start_if_target a r o n) m a r (turn_keeps o n m a r h) ∙ turn_types o n m a r h
+
+pub started_all_types : (o : Course) (a : App) (r : Restart) (m : Node) → is_started o.state m a ≡ true
+    → restart_of (start_all o a r).state m a ≡ restart_of o.state m a
+started_all_types o a r m h =
+    ap (λ (p : Course). restart_of p.state m a) (start_all_each o a r) ∙ turns_types (nodes_of o.state.cluster) o m a r h

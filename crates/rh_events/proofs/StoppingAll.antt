@@ -1,5 +1,5 @@
 -- An application that is stopped at all its nodes, one node after the other.
-use Rattle.std.proofs.Common.{◌≡◌, ◌≢◌, ◌<◌, ◌≤◌, ◌+◌, ◌||◌, ℕ, zero, suc, Bool, true, false, cond, not, List, [], ◌∷◌, fold, map, length, slice_set, nat_eq, refl, sym, ap}
+use Rattle.std.proofs.Common.{◌≡◌, ◌≢◌, ◌<◌, ◌≤◌, ◌+◌, ℕ, zero, suc, Bool, true, false, cond, not, List, [], ◌∷◌, fold, map, length, slice_set, nat_eq, refl, sym, ap}
 use Rattle.std.proofs.Common.{◌∙◌, arith, slice_get, subst, unwrap_or}
 use Rattle.std.specs.List.{range_with_len}
 use Rattle.std.proofs.lemmas.List.FromFn.{map-range_with_len_more}
@@ -14,7 +14,7 @@ use Rattle.rh_state.specs.Numbers.{same_app, nodes_of}
 use Rattle.rh_state.specs.Shape.{IsNodeOf, IsAppOf}
 use Rattle.rh_state.specs.Lists.{has_app, without_app}
 use Rattle.rh_state.specs.StateView.{StateView, running_at, waiting_at, runs_at, waits_at, is_started, standing_of}
-use Rattle.rh_state.specs.Setters.{with_standing, without_due, unlisted}
+use Rattle.rh_state.specs.Setters.{without_due, unlisted}
 use Rattle.rh_base.proofs.Lists.{cases}
 use Rattle.rh_settle.specs.declared.notice.Notice.{Notice}
 use Rattle.rh_settle.specs.declared.notice.Notice.TheVariants as notice

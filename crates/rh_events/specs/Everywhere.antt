@@ -43,20 +43,22 @@ abbrev pub first_missing : StateView → App → List Node → Option Dep
 first_missing s a [] = None
 first_missing s a (n ∷ ns) = option_or (missing_dep s n a) (first_missing s a ns)
 
+-- the first that doesn't run at one node, if it is still to be started there
 abbrev pub missing_if_target : StateView → App → Node → Option Dep
 missing_if_target s a n = if is_target s a n then missing_dep s n a else None
 
--- of those at which it is still to be started
+-- and at the first of all nodes at which it is still to be started
 unfoldable pub missing_at_targets : StateView → App → Option Dep
 missing_at_targets s a = first_missing s a (targets s a)
 
+-- it is started at a node, or only if it is still to be started there
 abbrev pub start_at : App → Restart → Course → Node → Course
 start_at a r o n = mark o n a r
 
 abbrev pub start_if_target : App → Restart → Course → Node → Course
 start_if_target a r o n = if is_target o.state a n then start_at a r o n else o
 
--- it is started at each of them; where it is started it keeps its place and its restart type
+-- it is started at each node at which it is still to be started; at the others it keeps its place and its restart type
 unfoldable pub start_all : Course → App → Restart → Course
 start_all o a r = fold (start_at a r) o (targets o.state a)
 
@@ -66,12 +68,14 @@ leave_at a o n =
     if runs_at o.state n a then told (now_in o (unlisted o.state n a)) (notice.Stopped a n)
     else now_in o (unlisted o.state n a)
 
+-- so at each node, in node order
 unfoldable pub left_everywhere : Course → App → Course
 left_everywhere o a = fold (leave_at a) o (nodes_of o.state.cluster)
 
--- so at each node; then it is to run nowhere, and no timer awaits its return
+-- it is to run nowhere, and no timer awaits its return
 abbrev pub quietened : StateView → App → StateView
 quietened s a = without_due (with_standing s a Quiet) (Failover a)
 
+-- it leaves all lists, and is quiet then
 unfoldable pub stop_all : Course → App → Course
 stop_all o a = now_in (left_everywhere o a) (quietened (left_everywhere o a).state a)

@@ -23,15 +23,15 @@ pub enum Refusal {
     ZeroTick,
     /// The time would be above 10^12 milliseconds.
     TimeLimit,
-    /// The node isn't up.
+    /// The node isn't up, or no node of the application's list is.
     NodeNotUp,
     /// The application isn't distributed (kernel(6), `distributed`).
     NotDistributed,
     /// The application's list has no such node (kernel(6), `distributed`).
     NotListed,
-    /// The application is started there already (application(3), `start/2`).
+    /// The application is started there already, or wherever it can be (application(3), `start/2`).
     AlreadyStarted,
-    /// The application isn't started there (application(3), `stop/1`).
+    /// The application isn't started there, or isn't started at any node (application(3), `stop/1`).
     NeverStarted,
     /// The application runs nowhere (application(3), `takeover/2`).
     NotRunning,

@@ -1,13 +1,15 @@
 -- What is left of an application that is stopped at all its nodes, and where one is started that is started at all of them.
-use Rattle.std.proofs.Common.{◌≡◌, ◌&&◌, Bool, true, false, [], Option, Some, None, is_some, ap, ◌∙◌, arith}
+use Rattle.std.proofs.Common.{◌≡◌, ◌&&◌, Bool, true, false, List, [], Option, Some, None, is_some, ap, ◌∙◌, arith}
 use Rattle.rh_model.specs.declared.node.Node.{Node}
 use Rattle.rh_model.specs.declared.node.App.{App}
 use Rattle.rh_model.specs.declared.settings.Restart.{Restart}
+use Rattle.rh_model.specs.declared.settings.Restart.TheVariants.{Temporary}
 use Rattle.rh_model.specs.ClusterView.{ClusterView, is_listed_at}
 use Rattle.rh_state.specs.declared.status.Standing.TheVariants.{Quiet}
 use Rattle.rh_state.specs.declared.status.Timer.TheVariants.{Failover}
 use Rattle.rh_state.specs.Standings.{is_lost}
-use Rattle.rh_state.specs.StateView.{StateView, mode_of, is_up, is_started, standing_of, due_of}
+use Rattle.rh_state.specs.Tables.{cell}
+use Rattle.rh_state.specs.StateView.{StateView, mode_of, is_up, is_started, restart_of, standing_of, due_of}
 use Rattle.rh_place.specs.declared.choosing.Pick.{Pick}
 use Rattle.rh_settle.specs.Course.{Course, course_of}
 use Rattle.rh_settle.specs.Moves.{is_local}
@@ -15,6 +17,7 @@ use Rattle.rh_settle.specs.Settling.{settled}
 use Rattle.rh_settle.specs.Validity.{IsValid}
 use Rattle.rh_settle.proofs.NextMoves.{up_within}
 use Rattle.rh_settle.proofs.Resting.{rests, settled_rests}
+use Rattle.rh_settle.proofs.Unchanged.{settled_restarts}
 use Rattle.rh_events.specs.declared.event.Event.{Event}
 use Rattle.rh_events.specs.declared.event.Event.TheVariants.{StartAll, StopAll}
 use Rattle.rh_events.specs.Changes.{change}
@@ -24,10 +27,10 @@ use Rattle.rh_events.proofs.Accepted.{accepted_stop_all}
 use Rattle.rh_events.proofs.EachEvent.{sound_changed}
 use Rattle.rh_events.proofs.Fields.{SameNodes}
 use Rattle.rh_events.proofs.SoundEndingLists.{lists_fit}
-use Rattle.rh_events.proofs.StartingAll.{started_all_same, started_at_hosts}
+use Rattle.rh_events.proofs.StartingAll.{started_all_same, started_at_hosts, started_all_types}
 use Rattle.rh_events.proofs.StoppingAll.{stopped_all_same, stopped_all_nowhere, stopped_all_quiet}
 use Rattle.rh_step.specs.Outcomes.{followed, next}
-use Rattle.rh_step.specs.Laws.{StopAllLeavesNothing, StartAllStartsEverywhere}
+use Rattle.rh_step.specs.Laws.{StopAllLeavesNothing, StartAllStartsEverywhere, StartAllKeepsTypes}
 use Rattle.rh_step.proofs.AnyTime.{ready_alike}
 use Rattle.rh_step.proofs.StartedStays.{settled_keeps, settled_starts_none}
 use Rattle.rh_step.proofs.Stops.{none_rises}
@@ -80,3 +83,11 @@ start_all_starts_everywhere s a r pick n valid fine up listed =
     ap (λ (p : Course). is_started p.state n a) (only_settles s (StartAll a r) pick valid (started_all_same o a r))
     ∙ settled_keeps pick t n a sound
     (started_at_hosts o a r n valid.sound.shaped.waiting (both_hold (is_up (mode_of s n)) (is_listed_at s.cluster a n) up listed) node)
+
+pub start_all_keeps_types : StartAllKeepsTypes
+unfolding next
+start_all_keeps_types s a r pick n valid fine on =
+    let o : Course = course_of s [] [] in
+    ap (λ (p : Course). restart_of p.state n a) (only_settles s (StartAll a r) pick valid (started_all_same o a r))
+    ∙ ap (λ (table : List (List Restart)). cell table n.0 a.0 Temporary) (settled_restarts pick (start_all o a r))
+    ∙ started_all_types o a r n on

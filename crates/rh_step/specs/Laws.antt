@@ -11,7 +11,7 @@ use Rattle.rh_state.specs.declared.status.Timer.TheVariants.{Sync, Failover}
 use Rattle.rh_state.specs.First.{first}
 use Rattle.rh_state.specs.Numbers.{same_node, same_app}
 use Rattle.rh_state.specs.Timers.{same_timer}
-use Rattle.rh_state.specs.StateView.{StateView, mode_of, is_alive, is_up, runs_at, is_started, standing_of, due_of}
+use Rattle.rh_state.specs.StateView.{StateView, mode_of, is_alive, is_up, runs_at, is_started, restart_of, standing_of, due_of}
 use Rattle.rh_place.specs.declared.choosing.Pick.{Pick}
 use Rattle.rh_settle.specs.declared.notice.Notice.TheVariants as notice
 use Rattle.rh_settle.specs.Course.{Course}
@@ -122,3 +122,9 @@ abbrev pub StartAllStartsEverywhere : Type 0
 StartAllStartsEverywhere = (s : StateView) (a : App) (r : Restart) (pick : Pick) (n : Node) → IsValid s → refused s (StartAll a r) ≡ None
     → is_up (mode_of s n) ≡ true → is_listed_at s.cluster a n ≡ true
     → is_started (next s (StartAll a r) pick).state n a ≡ true
+
+-- and where it was started before, it keeps its restart type (application(3), start/2)
+abbrev pub StartAllKeepsTypes : Type 0
+StartAllKeepsTypes = (s : StateView) (a : App) (r : Restart) (pick : Pick) (n : Node) → IsValid s → refused s (StartAll a r) ≡ None
+    → is_started s n a ≡ true
+    → restart_of (next s (StartAll a r) pick).state n a ≡ restart_of s n a

@@ -1,6 +1,6 @@
 //! Laws of the definitions that the contracts of this crate cite. Each function does nothing: its contract is the law.
 
-ghost use Rattle.rh_step.specs.Laws.{FirstIsValid, NextIsValid, NextIsAllowed, TicksAddUp, TimeGoesOn, UpUntilEnded, StopLeavesQuiet, EndsWithoutMandatory, LostStays, LostStaysAtOtherTimers, LostUntilDue, QuietUntilStarted, StopAllLeavesNothing, StartAllStartsEverywhere};
+ghost use Rattle.rh_step.specs.Laws.{FirstIsValid, NextIsValid, NextIsAllowed, TicksAddUp, TimeGoesOn, UpUntilEnded, StopLeavesQuiet, EndsWithoutMandatory, LostStays, LostStaysAtOtherTimers, LostUntilDue, QuietUntilStarted, StopAllLeavesNothing, StartAllStartsEverywhere, StartAllKeepsTypes};
 
 /// The first state of a cluster is one that it reaches.
 pub fn first_is_valid()
@@ -71,4 +71,9 @@ pub fn stop_all_leaves_nothing()
 /// An application that is started at all its nodes is started then at each node of its list that is up.
 pub fn start_all_starts_everywhere()
     ensures { StartAllStartsEverywhere }
+{}
+
+/// And where it was started before, it keeps its restart type.
+pub fn start_all_keeps_types()
+    ensures { StartAllKeepsTypes }
 {}

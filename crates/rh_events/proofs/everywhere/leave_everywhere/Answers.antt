@@ -1,4 +1,4 @@
-use Rattle.std.proofs.Common.{ap, sym, ◌∙◌, arith}
+use Rattle.std.proofs.Common.{ap, sym, ◌∙◌}
 use Rattle.rh_model.specs.ClusterView.{numbered}
 use Rattle.rh_state.specs.Stored.{read}
 use Rattle.rh_settle.specs.Course.{Course, course}
