@@ -5,7 +5,6 @@ ghost use Rattle.rh_state.specs.Shape.{IsNodeOf, IsAppOf};
 ghost use Rattle.rh_state.specs.Stored.{read};
 ghost use Rattle.rh_settle.specs.Course.{course};
 ghost use Rattle.rh_settle.specs.Ways.{Goes};
-ghost use Rattle.rh_settle.specs.Validity.{IsSound};
 ghost use Rattle.rh_events.specs.Everywhere.{start_if_target, start_all, leave_at, left_everywhere, stop_all};
 
 use crate::marking::mark;
@@ -79,6 +78,7 @@ fn leave(state: &mut State, node: Node, app: App, trace: &mut Trace) -> Result<(
 fn leave_everywhere(state: &mut State, app: App, trace: &mut Trace) -> Result<(), OutOfMemory>
     requires app { IsAppOf (read state.old).cluster app }
     ensures course { OnOk result (course (read state.new) trace.new ≡ left_everywhere (course (read state.old) trace.old) app) }
+    ensures cluster { OnOk result ((read state.new).cluster ≡ (read state.old).cluster) }
     ensures way { Goes state.old trace.old state.new trace.new }
 {
     let count = state.cluster().node_count();

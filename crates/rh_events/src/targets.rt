@@ -1,6 +1,6 @@
 //! At which nodes a distributed application can be started by hand, and what refuses that it is started or stopped at all nodes.
 
-ghost use Rattle.std.specs.Prelude.{◌≡◌, IsSome};
+ghost use Rattle.std.specs.Prelude.{◌≡◌};
 ghost use Rattle.rh_state.specs.Shape.{IsNodeOf, IsAppOf};
 ghost use Rattle.rh_state.specs.Stored.{read};
 ghost use Rattle.rh_events.specs.declared.event.Event.TheVariants.{StartAll, StopAll};

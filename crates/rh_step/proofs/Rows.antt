@@ -45,10 +45,10 @@ abbrev local : List Dep → AppView
 local deps = record { deps = deps; start_arg = None; phases = false; spread = None }
 
 -- ---- one node that boots three applications
-abbrev one : Node
+abbrev pub one : Node
 one = numbered 0
 
-abbrev a : App
+abbrev pub a : App
 a = app_numbered 0
 
 abbrev b : App
@@ -57,7 +57,7 @@ b = app_numbered 1
 abbrev c : App
 c = app_numbered 2
 
-abbrev three_apps : ClusterView
+abbrev pub three_apps : ClusterView
 three_apps = record {
   node_names = codes "one@lab" ∷ [];
   app_names = codes "a" ∷ codes "b" ∷ codes "c" ∷ [];
