@@ -33,7 +33,7 @@ use Rattle.rh_room.specs.Legal.{session_limit, log_limit}
 use Rattle.rh_app.specs.Devices.{input_limit}
 
 abbrev one_node : ClusterView
-one_node = record { node_names = codes "a" ∷ []; app_names = []; platform_names = []; nodes = []; apps = [] }
+one_node = record { profile = 1; node_names = codes "a" ∷ []; app_names = []; platform_names = []; nodes = []; apps = [] }
 
 -- the limits of a run: milliseconds, incarnations of a node, events of a trail, sessions, entries of a log, bytes of the input
 limits_row : (time_limit ≡ 1000000000000) × (incarnation_limit ≡ 9999) × (trail_limit ≡ 65535)

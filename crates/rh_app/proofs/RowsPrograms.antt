@@ -100,7 +100,7 @@ unfolding sweep_text sweep_end content sweep_line_of sweep_fault_text answer_tex
 no_sweep_row = (refl, refl)
 
 abbrev one_node : ClusterView
-one_node = record { node_names = codes "a" ∷ []; app_names = []; platform_names = []; nodes = []; apps = [] }
+one_node = record { profile = 1; node_names = codes "a" ∷ []; app_names = []; platform_names = []; nodes = []; apps = [] }
 
 abbrev short : PlanText
 short = record { name = codes "p"; events = Boot (numbered 0) ∷ [] }

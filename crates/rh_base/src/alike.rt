@@ -39,7 +39,7 @@ impl<A: Same, B: Same> Same for (A, B) {
 pub fn copies_of<T: Duplicate + Drop>(alloc: Global, items: &[T]) -> Result<Vec<T>, OutOfMemory>
     ensures { IfOk result (λ copies. copies.items ≡ items.now) }
 {
-    let mut copies = Vec::new(alloc);
+    let mut copies = Vec::with_capacity(alloc, items.len())?;
     'items: for item in items {
         copies.push(item.copy(alloc)?)?;
     }

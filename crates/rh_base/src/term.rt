@@ -81,7 +81,7 @@ impl Terms {
     pub fn copy(&self, alloc: Global) -> Result<Terms, OutOfMemory>
         ensures { IfOk result (λ ts. trees_of (items_of ts) ≡ trees_of (items_of self.now)) }
     {
-        let mut items = Vec::new(alloc);
+        let mut items = Vec::with_capacity(alloc, self.items.len())?;
         'terms: for term in &self.items {
             items.push(term.copy(alloc)?)?;
         }

@@ -43,6 +43,7 @@ faults_in ts = headers_stage ts ++ faults_behind_headers ts
 -- the cluster of terms that have no fault
 unfoldable pub cluster_view : List Tree → ClusterView
 cluster_view ts = record {
+  profile = 1;
   node_names = node_names ts;
   app_names = app_names ts;
   platform_names = (platforms_in ts).first;

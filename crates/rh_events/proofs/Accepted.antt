@@ -15,7 +15,7 @@ use Rattle.rh_state.specs.Shape.{IsNodeOf, IsAppOf}
 use Rattle.rh_state.specs.StateView.{StateView, mode_of, incarnation_of, is_alive, is_up, is_started, is_allowed, runs_at, standing_of}
 use Rattle.rh_place.specs.Placing.{missing_dep}
 use Rattle.rh_settle.specs.Moves.{is_local}
-use Rattle.rh_events.specs.declared.event.Event.TheVariants.{Boot, Crash, Tick, Start, Stop, Permit, Takeover, Exit}
+use Rattle.rh_events.specs.declared.event.Event.TheVariants.{Boot, Crash, Tick, Start, Stop, Permit, Takeover, Exit, StartAll, StopAll}
 use Rattle.rh_events.specs.declared.refusal.Refusal.{Refusal}
 use Rattle.rh_events.specs.declared.refusal.Refusal.TheVariants.{NotListed, AlreadyStarted, NeverStarted, NotRunningHere}
 use Rattle.rh_events.specs.Refusals.{refused, tests, tests_by_hand, first_that_applies, dep_tests}
@@ -179,3 +179,20 @@ unfolding refused
 accepted_exit s n a normal e =
     let h = none_applies (tests s (Exit n a normal)) e in
     record { hand = by_hand s n a ((not (runs_at s n a), NotRunningHere) ∷ []) h; runs = holds _ h.1.1.1.0 }
+
+-- ---- at all nodes
+pub record OfDistributed (s : StateView) (a : App) : Type 0 where
+  pub app : IsAppOf s.cluster a
+  pub distributed : is_local s.cluster a ≡ false
+
+pub accepted_start_all : (s : StateView) (a : App) (r : Restart) → refused s (StartAll a r) ≡ None → OfDistributed s a
+unfolding refused
+accepted_start_all s a r e =
+    let h = none_applies (tests s (StartAll a r)) e in
+    record { app = known _ _ h.0; distributed = h.1.1.0 }
+
+pub accepted_stop_all : (s : StateView) (a : App) → refused s (StopAll a) ≡ None → OfDistributed s a
+unfolding refused
+accepted_stop_all s a e =
+    let h = none_applies (tests s (StopAll a)) e in
+    record { app = known _ _ h.0; distributed = h.1.0 }

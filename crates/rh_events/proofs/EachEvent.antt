@@ -15,14 +15,14 @@ use Rattle.rh_settle.specs.Course.{Course, IsPairOf, course_of, now_in}
 use Rattle.rh_settle.specs.Validity.{IsSound}
 use Rattle.rh_settle.proofs.Behind.{after_notices}
 use Rattle.rh_events.specs.declared.event.Event.{Event}
-use Rattle.rh_events.specs.declared.event.Event.TheVariants.{Boot, Crash, Tick, Start, Stop, Permit, Takeover, Exit}
+use Rattle.rh_events.specs.declared.event.Event.TheVariants.{Boot, Crash, Tick, Start, Stop, Permit, Takeover, Exit, StartAll, StopAll}
 use Rattle.rh_events.specs.Marking.{pair, with_mark}
 use Rattle.rh_events.specs.Ending.{ended}
 use Rattle.rh_events.specs.ByHand.{stopped, left_waiting, forbidden, permitted, taken_from, taken_over, ends_node, exited}
 use Rattle.rh_events.specs.Changes.{change}
 use Rattle.rh_events.specs.Refusals.{refused}
 use Rattle.rh_events.proofs.Accepted.{same_standing, accepted_boot, accepted_crash, accepted_start, accepted_stop, accepted_permit, accepted_takeover}
-use Rattle.rh_events.proofs.Accepted.{accepted_exit}
+use Rattle.rh_events.proofs.Accepted.{accepted_exit, accepted_start_all, accepted_stop_all}
 use Rattle.rh_events.proofs.Fields.{SameTime, in_time, booted_same, ended_same, marked_same, stopped_same, left_waiting_same, permitted_same}
 use Rattle.rh_events.proofs.Fields.{taken_over_same, exited_same}
 use Rattle.rh_events.proofs.Notices.{mark_after, ended_after, stopped_after, left_waiting_after, permitted_after, taken_over_after, exited_after}
@@ -32,6 +32,8 @@ use Rattle.rh_events.proofs.SoundEnding.{sound_ended}
 use Rattle.rh_events.proofs.SoundByHand.{sound_stopped, sound_left_waiting, sound_permitted, sound_exited}
 use Rattle.rh_events.proofs.SoundByHandTakeover.{sound_taken_over}
 use Rattle.rh_events.proofs.StaysUp.{StaysUp, ended_stays, booted_stays, still_up, stopped_stays, exited_stays}
+use Rattle.rh_events.proofs.StartingAll.{started_all_same, start_all_after, sound_started_all, started_all_pairs}
+use Rattle.rh_events.proofs.StoppingAll.{stopped_all_same, stop_all_after, sound_stopped_all, stop_all_marks}
 
 -- ---- the cluster and the time are as they were
 pub change_same : (o : Course) (e : Event) → SameTime o.state (change o e).state
@@ -47,6 +49,8 @@ change_same o (Stop n a) = by (runs_at o.state n a)
 change_same o (Permit n a allow) = in_time o.state (permitted o n a allow).state (permitted_same o n a allow)
 change_same o (Takeover n a r) = in_time o.state (taken_over o n a r).state (taken_over_same o n a r)
 change_same o (Exit n a normal) = exited_same o n a normal
+change_same o (StartAll a r) = in_time o.state _ (started_all_same o a r)
+change_same o (StopAll a) = in_time o.state _ (stopped_all_same o a)
 
 pub change_cluster : (o : Course) (e : Event) → (change o e).state.cluster ≡ o.state.cluster
 change_cluster o e = (change_same o e).cluster
@@ -69,6 +73,8 @@ change_after base o (Stop n a) = by (runs_at o.state n a)
 change_after base o (Permit n a allow) = permitted_after base o n a allow
 change_after base o (Takeover n a r) = taken_over_after base o n a r
 change_after base o (Exit n a normal) = exited_after base o n a normal
+change_after base o (StartAll a r) = start_all_after base o a r
+change_after base o (StopAll a) = stop_all_after base o a
 
 -- ---- a sound state stays sound
 -- what is started and doesn't run waits
@@ -96,6 +102,8 @@ sound_changed o (Takeover n a r) sound fine =
     (λ m is. subst (λ (k : Node). same_node k n ≡ false) (same_standing h.from m (sym h.stands ∙ is)) h.elsewhere)
 sound_changed o (Exit n a normal) sound fine =
     let h = accepted_exit o.state n a normal fine in sound_exited o n a normal sound h.hand.node h.hand.app h.runs
+sound_changed o (StartAll a r) sound fine = sound_started_all o a r (accepted_start_all o.state a r fine).app sound
+sound_changed o (StopAll a) sound fine = let h = accepted_stop_all o.state a fine in sound_stopped_all o a h.distributed h.app sound
 
 -- ---- only pairs of the cluster are marked
 abbrev ArePairs : StateView → List Pair → Type 0
@@ -130,6 +138,8 @@ marked_changed o (Exit n a normal) fine before = by (ends_node (restart_of o.sta
     by : (b : Bool) → ArePairs o.state (cond b (ended o n) (stopped o n a)).marked
     by true = before
     by false = before
+marked_changed o (StartAll a r) fine before = started_all_pairs o a r (accepted_start_all o.state a r fine).app before
+marked_changed o (StopAll a) fine before = subst (ArePairs o.state) (sym (stop_all_marks o a)) before
 
 -- ---- a node that is up stays up, unless its end is told
 pub change_stays : (s : StateView) (e : Event) (n : Node) → refused s e ≡ None → mode_of s n ≡ Up → StaysUp n (change (course_of s [] []) e)
@@ -143,3 +153,5 @@ change_stays s (Permit m a allow) n fine up =
 change_stays s (Takeover m a r) n fine up =
     still_up n (course_of s [] []) (change (course_of s [] []) (Takeover m a r)) up (taken_over_same (course_of s [] []) m a r).modes
 change_stays s (Exit m a normal) n fine up = exited_stays n m a normal (course_of s [] []) up
+change_stays s (StartAll a r) n fine up = still_up n (course_of s [] []) (change (course_of s [] []) (StartAll a r)) up (started_all_same (course_of s [] []) a r).modes
+change_stays s (StopAll a) n fine up = still_up n (course_of s [] []) (change (course_of s [] []) (StopAll a)) up (stopped_all_same (course_of s [] []) a).modes

@@ -4,6 +4,7 @@ pub mod Configuring
 pub mod Losing
 pub mod Moving
 pub mod Anywhere
+pub mod FirstMissing
 pub mod TimersToldApart
 pub mod TimersArmed
 pub mod Tables
@@ -28,9 +29,12 @@ pub mod Requirements
 pub mod Reasons
 pub mod ModesKept
 pub mod StaysUp
+pub mod StartingAll
+pub mod StoppingAll
 pub mod EachEvent
 pub mod Scene
 mod RowsRefusals
 mod RowsNodes
 mod RowsByHand
+mod RowsEverywhere
 pub mod EndLaws

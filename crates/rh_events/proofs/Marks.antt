@@ -18,7 +18,7 @@ use Rattle.rh_settle.proofs.Entries.{is_false, both, same_number, put_has}
 use Rattle.rh_events.proofs.SoundMarks.{not_started, neither}
 
 -- what holds whatever the standings and the timers are, holds after a pair is wanted by a mark
-wanted_any : (P : StateView → Type 0) (s : StateView) (n : Node) (a : App) (st : Standing)
+pub wanted_any : (P : StateView → Type 0) (s : StateView) (n : Node) (a : App) (st : Standing)
     → ((standings : List Standing) (timers : List (ℕ × Timer)) → P (record s { standings = standings; timers = timers }))
     → P (wanted_by_mark s n a st)
 wanted_any P s n a Quiet each = by (is_local s.cluster a)

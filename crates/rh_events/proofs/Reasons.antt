@@ -5,9 +5,10 @@ use Rattle.rh_model.specs.declared.settings.Dep.{Dep}
 use Rattle.rh_state.specs.StateView.{StateView}
 use Rattle.rh_place.specs.Placing.{missing_dep}
 use Rattle.rh_events.specs.declared.event.Event.{Event}
-use Rattle.rh_events.specs.declared.event.Event.TheVariants.{Start, Takeover}
+use Rattle.rh_events.specs.declared.event.Event.TheVariants.{Start, Takeover, StartAll}
 use Rattle.rh_events.specs.declared.refusal.Refusal.{Refusal}
 use Rattle.rh_events.specs.declared.refusal.Refusal.TheVariants.{OutOfMemory}
+use Rattle.rh_events.specs.Everywhere.{missing_at_targets}
 use Rattle.rh_events.specs.Refusals.{refused, tests, dep_tests, first_that_applies}
 
 abbrev pub is_memory : Refusal → Bool
@@ -41,6 +42,7 @@ deps_without (Some dep) = refl
 tests_without : (s : StateView) (e : Event) → without_memory (tests s e) ≡ true
 tests_without s (Start n a r) = deps_without (missing_dep s n a)
 tests_without s (Takeover n a r) = deps_without (missing_dep s n a)
+tests_without s (StartAll a r) = deps_without (missing_at_targets s a)
 tests_without s _ = refl
 
 -- no event is refused for want of memory

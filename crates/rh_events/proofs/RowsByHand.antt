@@ -20,13 +20,13 @@ use Rattle.rh_events.specs.ByHand.{stopped, is_started_anywhere, left_waiting, f
 use Rattle.rh_events.specs.Changes.{change}
 use Rattle.rh_events.proofs.Scene.{p, q, job, twin, far, tool, aid, at, scene, none}
 
-abbrev after : StateView → Event → Course
+abbrev pub after : StateView → Event → Course
 after s e = change (course_of s [] []) e
 
-abbrev up : List (List App) → List (List App) → List Standing → StateView
+abbrev pub up : List (List App) → List (List App) → List Standing → StateView
 up running waiting standings = scene (Up ∷ Up ∷ []) running waiting standings
 
-abbrev all_temporary : List Restart
+abbrev pub all_temporary : List Restart
 all_temporary = Temporary ∷ Temporary ∷ Temporary ∷ Temporary ∷ Temporary ∷ []
 
 -- ---- start: behind all that wait there, with its restart type, and fresh

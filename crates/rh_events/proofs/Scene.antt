@@ -66,6 +66,7 @@ node mandatory wait boot = record {
 -- q waits for p, and boots tool and then job
 abbrev pub lab : SyncWait → ClusterView
 lab wait = record {
+  profile = 1;
   node_names = (1 ∷ []) ∷ (2 ∷ []) ∷ [];
   app_names = (3 ∷ []) ∷ (4 ∷ []) ∷ (5 ∷ []) ∷ (6 ∷ []) ∷ (7 ∷ []) ∷ [];
   platform_names = [];

@@ -11,10 +11,11 @@ use Rattle.rh_state.specs.StateView.{StateView, incarnation_of, runs_at}
 use Rattle.rh_state.specs.Setters.{with_mode, with_incarnation, with_timer}
 use Rattle.rh_settle.specs.Course.{Course, now_in}
 use Rattle.rh_events.specs.declared.event.Event.{Event}
-use Rattle.rh_events.specs.declared.event.Event.TheVariants.{Boot, Crash, Tick, Start, Stop, Permit, Takeover, Exit}
+use Rattle.rh_events.specs.declared.event.Event.TheVariants.{Boot, Crash, Tick, Start, Stop, Permit, Takeover, Exit, StartAll, StopAll}
 use Rattle.rh_events.specs.Marking.{mark}
 use Rattle.rh_events.specs.Ending.{ended}
 use Rattle.rh_events.specs.ByHand.{stopped, left_waiting, permitted, taken_over, exited}
+use Rattle.rh_events.specs.Everywhere.{start_all, stop_all}
 
 -- a node whose wait ends by itself has a timer for that
 abbrev pub with_sync_timer : StateView → Node → SyncWait → StateView
@@ -35,3 +36,5 @@ change o (Stop n a) = if runs_at o.state n a then stopped o n a else left_waitin
 change o (Permit n a allow) = permitted o n a allow
 change o (Takeover n a r) = taken_over o n a r
 change o (Exit n a normal) = exited o n a normal
+change o (StartAll a r) = start_all o a r
+change o (StopAll a) = stop_all o a

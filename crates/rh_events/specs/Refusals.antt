@@ -1,5 +1,5 @@
 -- When a step is refused: of the tests of its event, in their order, the first that applies counts (ours).
-use Rattle.std.specs.Prelude.{ℕ, ◌+◌, List, [], ◌∷◌, Bool, true, not, nat_lt, ◌==◌, if◌then◌else◌, Option, Some, None, codes}
+use Rattle.std.specs.Prelude.{ℕ, ◌+◌, List, [], ◌∷◌, Bool, true, not, nat_lt, ◌==◌, ◌&&◌, if◌then◌else◌, Option, Some, None, codes}
 use Rattle.rh_model.specs.ClusterView.{node_count, app_count, is_listed_at}
 use Rattle.rh_model.specs.declared.node.Node.{Node}
 use Rattle.rh_model.specs.declared.node.App.{App}
@@ -9,8 +9,10 @@ use Rattle.rh_state.specs.Standings.{is_running, is_running_at}
 use Rattle.rh_state.specs.StateView.{StateView, mode_of, incarnation_of, is_alive, is_up, is_started, is_allowed, runs_at, standing_of}
 use Rattle.rh_place.specs.Placing.{missing_dep}
 use Rattle.rh_settle.specs.Moves.{is_local}
+use Rattle.rh_events.specs.ByHand.{is_started_anywhere}
+use Rattle.rh_events.specs.Everywhere.{has_host, has_target, missing_at_targets}
 use Rattle.rh_events.specs.declared.event.Event.{Event}
-use Rattle.rh_events.specs.declared.event.Event.TheVariants.{Boot, Crash, Tick, Start, Stop, Permit, Takeover, Exit}
+use Rattle.rh_events.specs.declared.event.Event.TheVariants.{Boot, Crash, Tick, Start, Stop, Permit, Takeover, Exit, StartAll, StopAll}
 use Rattle.rh_events.specs.declared.refusal.Refusal.{Refusal}
 use Rattle.rh_events.specs.declared.refusal.Refusal.TheVariants.{UnknownNode, UnknownApp, AlreadyAlive, IncarnationLimit, NotAlive, ZeroTick, TimeLimit}
 use Rattle.rh_events.specs.declared.refusal.Refusal.TheVariants.{NodeNotUp, NotDistributed, NotListed, AlreadyStarted, NeverStarted, NotRunning, RunsHere}
@@ -44,6 +46,11 @@ tests s (Takeover n a r) = tests_by_hand s n a (
     (is_local s.cluster a, NotDistributed) ∷ (not (is_listed_at s.cluster a n), NotListed) ∷ (not (is_running (standing_of s a)), NotRunning)
     ∷ (is_running_at n (standing_of s a), RunsHere) ∷ (not (is_allowed s n a), NotPermitted) ∷ dep_tests (missing_dep s n a))
 tests s (Exit n a normal) = tests_by_hand s n a ((not (runs_at s n a), NotRunningHere) ∷ [])
+tests s (StartAll a r) =
+    (is_unknown_app s a, UnknownApp) ∷ (not (is_local s.cluster a) && not (has_host s a), NodeNotUp) ∷ (is_local s.cluster a, NotDistributed)
+    ∷ (not (has_target s a), AlreadyStarted) ∷ dep_tests (missing_at_targets s a)
+tests s (StopAll a) =
+    (is_unknown_app s a, UnknownApp) ∷ (is_local s.cluster a, NotDistributed) ∷ (not (is_started_anywhere s a), NeverStarted) ∷ []
 
 abbrev pub first_that_applies : List (Bool × Refusal) → Option Refusal
 first_that_applies [] = None

@@ -44,8 +44,8 @@ fn stop_running(
     set_distributed_standing(state, app, Standing::Quiet, trace)
 }
 
-// Is an application started at a node?
-fn is_started_at(state: &State, node: Node, app: App) -> bool
+/// Is an application started at a node?
+pub fn is_started_at(state: &State, node: Node, app: App) -> bool
     requires node { IsNodeOf (read state.now).cluster node }
     requires app { IsAppOf (read state.now).cluster app }
     ensures { result ≡ is_started (read state.now) node app }
@@ -56,9 +56,9 @@ fn is_started_at(state: &State, node: Node, app: App) -> bool
     }
 }
 
-// Is an application started at some node?
+/// Is an application started at some node?
 #[tactic(auto, unfolding(crate::specs::ByHand::is_started_anywhere, rh_state::specs::Numbers::nodes_of))]
-fn is_started_anywhere(state: &State, app: App) -> bool
+pub fn is_started_anywhere(state: &State, app: App) -> bool
     requires { IsAppOf (read state.now).cluster app }
     ensures { result ≡ is_started_anywhere (read state.now) app }
 {

@@ -12,6 +12,7 @@ use crate::booting::boot;
 use crate::by_hand::{exit, permit, stop, take_over};
 use crate::ending::end;
 use crate::event::Event;
+use crate::everywhere::{start_all, stop_all};
 use crate::marking::mark;
 use rh_base::OutOfMemory;
 use rh_settle::Trace;
@@ -35,5 +36,7 @@ pub fn change(state: &mut State, event: &Event, trace: &mut Trace) -> Result<(),
         Event::Permit { node, app, allow } => permit(state, node, app, allow, trace),
         Event::Takeover { node, app, restart } => take_over(state, node, app, restart, trace),
         Event::Exit { node, app, normal } => exit(state, node, app, normal, trace),
+        Event::StartAll { app, restart } => start_all(state, app, restart, trace),
+        Event::StopAll { app } => stop_all(state, app, trace),
     }
 }

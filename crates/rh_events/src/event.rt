@@ -46,4 +46,14 @@ pub enum Event {
         app: App,
         normal: bool,
     },
+    /// A distributed application is started at every node at which it can be (`application:start/2` at all its nodes), in one
+    /// step, behind which applications settle once.
+    StartAll {
+        app: App,
+        restart: Restart,
+    },
+    /// It is stopped at all its nodes (`application:stop/1` at all of them), in one step.
+    StopAll {
+        app: App,
+    },
 }

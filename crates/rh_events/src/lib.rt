@@ -11,11 +11,13 @@ mod changing;
 mod coming_up;
 mod ending;
 mod event;
+mod everywhere;
 mod laws;
 mod marking;
 mod readiness;
 mod refusal;
 mod refusing;
+mod targets;
 
 pub use changing::change;
 pub use coming_up::{come_up, let_ready_come_up};

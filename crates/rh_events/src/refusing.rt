@@ -14,6 +14,7 @@ ghost use Rattle.rh_state.specs.Standings.{is_running, is_running_at};
 
 use crate::event::Event;
 use crate::refusal::Refusal;
+use crate::targets::{start_all_refusal, stop_all_refusal};
 use rh_model::{App, Node, Restart};
 use rh_place::missing_dep;
 use rh_state::{Mode, Place, Standing, State};
@@ -32,6 +33,8 @@ pub fn refusal_of(state: &State, event: &Event) -> Option<Refusal>
         Event::Permit { node, app, allow } => permit_refusal(state, node, app, allow),
         Event::Takeover { node, app, restart } => takeover_refusal(state, node, app, restart),
         Event::Exit { node, app, normal } => exit_refusal(state, node, app, normal),
+        Event::StartAll { app, restart } => start_all_refusal(state, app, restart),
+        Event::StopAll { app } => stop_all_refusal(state, app),
     }
 }
 
@@ -100,8 +103,8 @@ fn refusal_by_hand(state: &State, node: Node, app: App) -> Option<Refusal>
     }
 }
 
-// May the application be started at the node, as its list has it?
-fn is_listed_at(state: &State, app: App, node: Node) -> bool
+/// May the application be started at the node, as its list has it?
+pub fn is_listed_at(state: &State, app: App, node: Node) -> bool
     requires { IsAppOf (read state.now).cluster app }
     ensures { result ≡ is_listed_at (read state.now).cluster app node }
 {

@@ -2,3 +2,4 @@ pub mod Alike
 pub mod Texts
 pub mod Prefix
 pub mod Crossing
+mod NeedsKept

@@ -13,8 +13,8 @@ use Rattle.rh_model.specs.declared.settings.SyncWait.{SyncWait}
 use Rattle.rh_model.specs.declared.settings.SyncWait.TheVariants.{Unset}
 use Rattle.rh_model.specs.declared.settings.Spread.{Spread}
 use Rattle.rh_model.specs.TermSymbols.{TermSymbol}
-use Rattle.rh_model.specs.declared.limits.TheConstants.{MAX_NODES, MAX_APPS, MAX_PLATFORMS}
-use Rattle.rh_model.specs.Limits.{timeout_limit, IsWithinLimit}
+use Rattle.rh_model.specs.declared.limits.TheConstants.{MAX_PLATFORMS}
+use Rattle.rh_model.specs.Limits.{is_profile, node_limit, app_limit, timeout_limit, IsWithinLimit}
 
 -- what a cluster file says of one node; permissions by application, platforms by platform name
 pub record NodeView : Type 0 where
@@ -32,8 +32,10 @@ pub record AppView : Type 0 where
   pub phases : Bool
   pub spread : Option Spread
 
--- the parts of a cluster, nodes and applications in the order of their terms
+-- the parts of a cluster, nodes and applications in the order of their terms; its profile says by which rules it is
+-- simulated, and how much it may hold
 pub record ClusterView : Type 0 where
+  pub profile : ℕ
   pub node_names : List (List ℕ)
   pub app_names : List (List ℕ)
   pub platform_names : List (List ℕ)
@@ -123,14 +125,16 @@ group_of c a n = option_and_then (λ (s : Spread). position (is_in n) s.groups) 
 abbrev pub is_listed_at : ClusterView → App → Node → Bool
 is_listed_at c a n = is_none (spread_of c a) || is_some (group_of c a n)
 
--- The lists of a cluster fit together: there are parts for each name, as many tests as what they are of, and each
--- number is that of a node, of an application or of a platform name of the cluster. There are 1 to 32 nodes, and at most
--- 64 applications and 256 platform names, and no two of a kind have one name. What a node boots, it boots once, and may
+-- The profile of a cluster is 1 or 2. Its lists fit together: there are parts for each name, as many tests as what they
+-- are of, and each number is that of a node, of an application or of a platform name of the cluster. There is a node,
+-- there are at most as many nodes and applications as the profile allows, and at most 256 platform names, and no two of
+-- a kind have one name. What a node boots, it boots once, and may
 -- start; and each wait and each timeout of `distributed` is within the limit.
 pub record IsWithin (c : ClusterView) : Type 0 where
+  pub profile : is_profile c.profile ≡ true
   pub some_node : 1 ≤ node_count c
-  pub few_nodes : node_count c ≤ MAX_NODES
-  pub few_apps : app_count c ≤ MAX_APPS
+  pub few_nodes : node_count c ≤ node_limit c.profile
+  pub few_apps : app_count c ≤ app_limit c.profile
   pub few_platforms : length c.platform_names ≤ MAX_PLATFORMS
   pub node_names : AllPairs (λ (name later : List ℕ). name ≢ later) c.node_names
   pub app_names : AllPairs (λ (name later : List ℕ). name ≢ later) c.app_names

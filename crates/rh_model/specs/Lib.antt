@@ -2,3 +2,4 @@ pub mod TermSymbols
 pub mod ClusterView
 pub mod Limits
 pub mod Names
+pub mod Needs

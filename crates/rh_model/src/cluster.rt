@@ -4,6 +4,7 @@ use crate::app_settings::AppSettings;
 use crate::groups::{Group, is_in};
 use crate::limits::{MAX_APPS, MAX_NODES};
 use crate::names::Names;
+use crate::needs::{Needs, needs_in};
 use crate::node::{App, Node};
 use crate::node_settings::NodeSettings;
 use crate::settings::{Dep, Restart, Spread, SyncWait};
@@ -14,18 +15,24 @@ use std::marker::Model;
 /// A cluster of nodes and applications, in the order of the file that it was read from.
 #[derive(Drop)]
 pub struct Cluster {
+    // The profile of the file (ours).
+    profile: u8,
     names: Names,
     nodes: Vec<NodeSettings>,
     apps: Vec<AppSettings>,
+    // For each application what it needs, which the settings tell.
+    needs: Vec<Needs>,
 }
 
 impl Model for Cluster {
     ghost use Rattle.std.specs.Prelude.{◌≡◌, length};
     ghost use Rattle.rh_model.specs.ClusterView.{ClusterView, IsWithin};
+    ghost use Rattle.rh_model.specs.Needs.{needs_in};
 
     ghost Value = { ClusterView };
 
     ghost view = { λ c. record {
+      profile = c.profile;
       node_names = c.names.nodes;
       app_names = c.names.apps;
       platform_names = c.names.platforms;
@@ -34,7 +41,8 @@ impl Model for Cluster {
     } };
 
     ghost invariant = { λ c.
-        (length c.nodes.items ≡ length c.names.nodes) × (length c.apps.items ≡ length c.names.apps) × IsWithin (record {
+        (length c.nodes.items ≡ length c.names.nodes) × (length c.apps.items ≡ length c.names.apps) × (c.needs.items ≡ needs_in c.nodes.items c.apps.items) × IsWithin (record {
+          profile = c.profile;
           node_names = c.names.nodes;
           app_names = c.names.apps;
           platform_names = c.names.platforms;
@@ -44,7 +52,7 @@ impl Model for Cluster {
 }
 
 impl Cluster {
-    ghost use Rattle.std.specs.Prelude.{◌≡◌, ◌↔◌, ◌<◌, ◌≤◌, length, IfOk, IsTrue, IsSome, Some, slice_get, map};
+    ghost use Rattle.std.specs.Prelude.{◌≡◌, ◌↔◌, ◌<◌, ◌≤◌, All, length, IfOk, IsTrue, IsSome, Some, slice_get, map};
     ghost use Rattle.std.specs.Option.{option_map};
     ghost use Rattle.rh_base.specs.Tree.{tree_of};
     ghost use Rattle.rh_model.specs.TermSymbols.{symbols_of};
@@ -52,33 +60,50 @@ impl Cluster {
     ghost use Rattle.rh_model.specs.ClusterView.{optional_of, sync_wait_of, boot_of, is_permitted, is_platform};
     ghost use Rattle.rh_model.specs.ClusterView.{deps_of, start_arg_of, has_phases, spread_of, group_of, IsWithin};
     ghost use Rattle.rh_model.specs.Limits.{IsWithinLimit};
+    ghost use Rattle.rh_model.specs.Needs.{is_home, needed_apps, needs_in};
 
-    /// The cluster of these names, with the settings of each node and of each application in the order of
-    /// their names.
-    pub fn of(names: Names, nodes: Vec<NodeSettings>, apps: Vec<AppSettings>) -> Cluster
+    /// The cluster of this profile and these names, with the settings of each node and of each application in the
+    /// order of their names.
+    pub fn of(
+        alloc: Global,
+        profile: u8,
+        names: Names,
+        nodes: Vec<NodeSettings>,
+        apps: Vec<AppSettings>,
+    ) -> Result<Cluster, OutOfMemory>
         requires nodes { length nodes.items ≡ length names.nodes }
         requires apps { length apps.items ≡ length names.apps }
         requires within { IsWithin (record {
+          profile = profile;
           node_names = names.nodes;
           app_names = names.apps;
           platform_names = names.platforms;
           nodes = nodes.items;
           apps = apps.items;
         }) }
-        ensures { result ≡ record {
+        ensures { IfOk result (λ cluster. cluster ≡ record {
+          profile = profile;
           node_names = names.nodes;
           app_names = names.apps;
           platform_names = names.platforms;
           nodes = nodes.items;
           apps = apps.items;
-        } }
+        }) }
     {
-        Cluster { names, nodes, apps }
+        let needs = needs_in(alloc, nodes.as_slice(), apps.as_slice())?;
+        Ok(Cluster {
+            profile,
+            names,
+            nodes,
+            apps,
+            needs,
+        })
     }
 
-    /// The lists of each cluster fit together, and each number in them is one of the cluster's; names are few, and
-    /// those of a kind differ; a node boots no application twice, and none that doesn't list it; waits and timeouts
-    /// are within their limit. (It does nothing: its contract is what it is for.)
+    /// The profile of each cluster is 1 or 2. Its lists fit together, and each number in them is one of the
+    /// cluster's; names are few, as the profile says, and those of a kind differ; a node boots no application
+    /// twice, and none that doesn't list it; waits and timeouts are within their limit. (It does nothing: its
+    /// contract is what it is for.)
     pub fn is_within(&self)
         ensures { IsWithin self.now }
     {
@@ -99,6 +124,21 @@ impl Cluster {
         ensures { slice_get self.now.apps app.0 ≡ Some result.now }
     {
         &self.apps[app.0 as usize]
+    }
+
+    // What an application needs.
+    fn needs_of(&self, app: App) -> &Needs
+        requires { app.0 < app_count self.now }
+        ensures { slice_get (needs_in self.now.nodes self.now.apps) app.0 ≡ Some result.now }
+    {
+        &self.needs[app.0 as usize]
+    }
+
+    /// The profile: by which of the two sets of rules the cluster is simulated, and how much it may hold (ours).
+    pub fn profile(&self) -> u8
+        ensures { result ≡ self.now.profile }
+    {
+        self.profile
     }
 
     /// The number of nodes, [`MAX_NODES`] at most.
@@ -215,6 +255,25 @@ impl Cluster {
         self.keys_of(app).deps()
     }
 
+    /// Has the node all platform names that the application needs (app(4), `applications`)?
+    pub fn is_home(&self, app: App, node: Node) -> bool
+        requires app { app.0 < app_count self.now }
+        requires node { node.0 < node_count self.now }
+        ensures { result ≡ is_home self.now app node }
+    {
+        self.needs_of(app).is_home(node)
+    }
+
+    /// The applications that the application needs, in written order (app(4), `applications`).
+    pub fn needs(&self, app: App) -> &[App]
+        requires { app.0 < app_count self.now }
+        ensures apps { result.now ≡ needed_apps self.now app }
+        ensures numbers { All (λ (b : App). b.0 < app_count self.now) result.now }
+    {
+        self.is_within();
+        self.needs_of(app).apps()
+    }
+
     /// The module and the start argument of the application (app(4), `mod`).
     pub fn start_arg(&self, app: App) -> Option<(&str, &Term)>
         requires { app.0 < app_count self.now }
@@ -266,14 +325,22 @@ impl Cluster {
         let names = self.names.copy()?;
         let nodes = copies_of(alloc, self.nodes.as_slice())?;
         let apps = copies_of(alloc, self.apps.as_slice())?;
-        Ok(Cluster { names, nodes, apps })
+        let needs = copies_of(alloc, self.needs.as_slice())?;
+        Ok(Cluster {
+            profile: self.profile,
+            names,
+            nodes,
+            apps,
+            needs,
+        })
     }
 
     /// Are the clusters equal, so that all readers answer alike?
     pub fn same(&self, other: &Cluster) -> bool
         ensures { IsTrue result ↔ (self.now ≡ other.now) }
     {
-        self.names.same(&other.names)
+        self.profile == other.profile
+            && self.names.same(&other.names)
             && are_same(self.nodes.as_slice(), other.nodes.as_slice())
             && are_same(self.apps.as_slice(), other.apps.as_slice())
     }

@@ -8,6 +8,7 @@ mod laws;
 mod limits;
 mod name_set;
 mod names;
+mod needs;
 mod node;
 mod node_settings;
 mod platforms;
@@ -17,7 +18,10 @@ pub use app_settings::{AppSettings, Start, copy_of_spread, copy_of_start};
 pub use cluster::Cluster;
 pub use groups::{Group, Groups, is_in};
 pub use laws::symbols_tell_terms;
-pub use limits::{MAX_APPS, MAX_NODES, MAX_PLATFORMS, TIMEOUT_LIMIT};
+pub use limits::{
+    FIRST_PROFILE_APPS, FIRST_PROFILE_NODES, MAX_APPS, MAX_NODES, MAX_PLATFORMS, TIMEOUT_LIMIT,
+    app_limit, is_profile, node_limit,
+};
 pub use name_set::NameSet;
 pub use names::Names;
 pub use node::{App, Node};

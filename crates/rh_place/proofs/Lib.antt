@@ -3,3 +3,4 @@ pub mod Picks
 pub mod Nowhere
 pub mod Beyond
 mod Rows
+mod Needs

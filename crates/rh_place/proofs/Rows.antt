@@ -49,6 +49,7 @@ app_view phases = record { deps = []; start_arg = None; phases = phases; spread 
 
 abbrev cluster : Bool → ClusterView
 cluster phases = record {
+  profile = 1;
   node_names = (1 ∷ []) ∷ (2 ∷ []) ∷ (3 ∷ []) ∷ [];
   app_names = (4 ∷ []) ∷ (5 ∷ []) ∷ (6 ∷ []) ∷ [];
   platform_names = (7 ∷ []) ∷ (8 ∷ []) ∷ [];

@@ -2,11 +2,23 @@
 
 ghost use Rattle.std.specs.Prelude.{◌≡◌, ◌<◌, IsSome};
 ghost use Rattle.rh_model.specs.ClusterView.{node_count, app_count, dep_name};
+ghost use Rattle.std.specs.List.{list_all};
+ghost use Rattle.rh_model.specs.Needs.{needed_apps};
+ghost use Rattle.rh_state.specs.StateView.{runs_at};
 ghost use Rattle.rh_state.specs.Stored.{read};
 ghost use Rattle.rh_place.specs.Placing.{dep_runs, deps_run, missing_dep, is_operational};
 
 use rh_model::{App, Dep, Node};
 use rh_state::{Mode, Place, State};
+
+// Does an application run at a node?
+fn runs(state: &State, node: Node, app: App) -> bool
+    requires node { node.0 < node_count (read state.now).cluster }
+    requires app { app.0 < app_count (read state.now).cluster }
+    ensures { result ≡ runs_at (read state.now) node app }
+{
+    matches!(state.place_of(node, app), Place::InRunning)
+}
 
 // Does what an application depends on run at a node?
 fn dep_runs(state: &State, node: Node, dep: Dep) -> bool
@@ -15,7 +27,7 @@ fn dep_runs(state: &State, node: Node, dep: Dep) -> bool
     ensures { result ≡ dep_runs (read state.now) node dep }
 {
     match dep {
-        Dep::Listed(app) => matches!(state.place_of(node, app), Place::InRunning),
+        Dep::Listed(app) => runs(state, node, app),
         Dep::Platform(name) => state.cluster().is_platform(node, name),
     }
 }
@@ -38,13 +50,31 @@ pub fn missing_dep(state: &State, node: Node, app: App) -> Option<Dep>
     None
 }
 
+// Do all applications among the dependencies of an application run at a node?
+fn needs_run(state: &State, node: Node, app: App) -> bool
+    requires node { node.0 < node_count (read state.now).cluster }
+    requires app { app.0 < app_count (read state.now).cluster }
+    ensures { result ≡ list_all (runs_at (read state.now) node) (needed_apps (read state.now).cluster app) }
+{
+    state.cluster().is_within();
+    let needs = state.cluster().needs(app);
+    'needs: for need in needs {
+        if !runs(state, node, *need) {
+            return false;
+        }
+    }
+    true
+}
+
 /// Do all dependencies of an application run at a node (app(4), `applications`)?
 pub fn deps_run(state: &State, node: Node, app: App) -> bool
     requires node { node.0 < node_count (read state.now).cluster }
     requires app { app.0 < app_count (read state.now).cluster }
     ensures { result ≡ deps_run (read state.now) node app }
 {
-    missing_dep(state, node, app).is_none()
+    let cluster = state.cluster();
+    cluster.is_within();
+    cluster.is_home(app, node) && needs_run(state, node, app)
 }
 
 /// Can an application run at a node (Distributed Applications)? The node must be up, the application started there and

@@ -24,10 +24,10 @@ use Rattle.rh_sections.specs.declared.fault.ClusterFault.TheVariants.{Mismatch, 
 use Rattle.rh_terms.specs.declared.fault.TermFault.TheVariants.{Syntax}
 
 abbrev one_node : ClusterView
-one_node = record { node_names = codes "a" ∷ []; app_names = []; platform_names = []; nodes = []; apps = [] }
+one_node = record { profile = 1; node_names = codes "a" ∷ []; app_names = []; platform_names = []; nodes = []; apps = [] }
 
 abbrev one_app : ClusterView
-one_app = record { node_names = codes "a" ∷ codes "b" ∷ []; app_names = codes "w" ∷ []; platform_names = codes "kernel" ∷ []; nodes = []; apps = [] }
+one_app = record { profile = 1; node_names = codes "a" ∷ codes "b" ∷ []; app_names = codes "w" ∷ []; platform_names = codes "kernel" ∷ []; nodes = []; apps = [] }
 
 boot_row : line_of one_node (codes "  boot   a ") ≡ Asks (Step (Boot (numbered 0)))
 unfolding line_of four_word_command is_utf8 chars encode
@@ -228,7 +228,7 @@ unknown_again_row = refl
 
 -- what the law asks of names is needed: none is `?`, none is parted by a space, and no two are one
 abbrev odd_names : ClusterView
-odd_names = record { node_names = codes "?" ∷ codes "a b" ∷ codes "?" ∷ []; app_names = []; platform_names = []; nodes = []; apps = [] }
+odd_names = record { profile = 1; node_names = codes "?" ∷ codes "a b" ∷ codes "?" ∷ []; app_names = []; platform_names = []; nodes = []; apps = [] }
 
 named_as_unknown_row : line_of odd_names (command_words odd_names (Step (Boot NO_NODE))) ≡ Asks (Step (Boot (numbered 0)))
 unfolding line_of command_words event_words four_word_command is_utf8 chars encode

@@ -19,7 +19,7 @@ use Rattle.rh_script.specs.SweepLines.{PlanText, sweep_line_of, bad_sweep_line, 
 
 -- nodes a and b, and an application w
 abbrev c : ClusterView
-c = record { node_names = codes "a" ∷ codes "b" ∷ []; app_names = codes "w" ∷ []; platform_names = []; nodes = []; apps = [] }
+c = record { profile = 1; node_names = codes "a" ∷ codes "b" ∷ []; app_names = codes "w" ∷ []; platform_names = []; nodes = []; apps = [] }
 
 plain_commands_row : map (line_of c) (codes "undo" ∷ codes "redo" ∷ codes "undo_all" ∷ codes "redo_all" ∷ codes "show" ∷ [])
     ≡ Asks Undo ∷ Asks Redo ∷ Asks UndoAll ∷ Asks RedoAll ∷ Asks Look ∷ []

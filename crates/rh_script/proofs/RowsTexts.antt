@@ -24,6 +24,7 @@ use Rattle.rh_script.specs.SweepAnswers.{plan_line, refused_line, outcome_text, 
 -- nodes a and b, and applications w and v
 abbrev c : ClusterView
 c = record {
+  profile = 1;
   node_names = codes "a" ∷ codes "b" ∷ [];
   app_names = codes "w" ∷ codes "v" ∷ [];
   platform_names = codes "kernel" ∷ [];

@@ -24,7 +24,7 @@ fold_after base f each o (x ∷ xs) = ap (λ p. fold f p xs) (each o x) ∙ fold
 
 -- what is told is told behind them
 pub told_after : (base : List Notice) (o : Course) (notice : Notice) → told (after_notices base o) notice ≡ after_notices base (told o notice)
-told_after base o notice = λ i. record { state = o.state; notices = append_assoc base o.notices (notice ∷ []) i; marked = o.marked }
+told_after base o notice = λ i. record { state = o.state; notices = append_assoc base o.notices (notice ∷ []) i; marked = o.marked; freed = o.freed }
 
 pub moved_after : (base : List Notice) (o : Course) (m : Move) → moved (after_notices base o) m ≡ after_notices base (moved o m)
 moved_after base o (Local n a) = told_after base (now_in o (moved_state o.state (Local n a))) _

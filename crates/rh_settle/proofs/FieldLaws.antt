@@ -17,35 +17,36 @@ use Rattle.rh_settle.specs.declared.notice.Pair.{Pair}
 use Rattle.rh_settle.specs.Course.{is_fresh}
 use Rattle.rh_settle.specs.Moves.{is_local, comes_before, next_moves}
 use Rattle.rh_settle.specs.Enabled.{IsBest}
+use Rattle.rh_settle.specs.Settling.{NoneEnabled}
 use Rattle.rh_settle.specs.Validity.{IsSound}
 use Rattle.rh_settle.proofs.Kept.{same_running}
 use Rattle.rh_settle.proofs.Firsts.{every_in, empty_of}
 use Rattle.rh_settle.proofs.Best.{each_best}
 use Rattle.rh_settle.proofs.NextMoves.{all_called}
-use Rattle.rh_settle.proofs.NextFirsts.{next_are_first, still_if_none_enabled}
+use Rattle.rh_settle.proofs.NextFirsts.{next_are_first}
 
 -- ---- at one node
 pub runs_at_one_node : (s : StateView) (a : App) (m n : Node) → IsSound s → is_local s.cluster a ≡ false → runs_at s m a ≡ true → runs_at s n a ≡ true → m ≡ n
 runs_at_one_node s a m n sound far r t = same_running m n (sym (sound.standing.stands m a far r) ∙ sound.standing.stands n a far t)
 
 -- ---- what is known of the next moves
-pub taken_over_by_earlier_groups : (s : StateView) (marked : List Pair) (a : App) (m n : Node) → Contains (next_moves s marked) (Takeover a m n)
-    → (comes_before (group_of s.cluster a n) (group_of s.cluster a m) ≡ true) × (is_fresh marked n a ≡ true) × (is_operational s a n ≡ true)
-taken_over_by_earlier_groups s marked a m n h = all_called s marked a m n ((next_are_first s marked (Takeover a m n)).0 h).enabled.2.passes
+pub taken_over_by_earlier_groups : (s : StateView) (fresh : List Pair) (a : App) (m n : Node) → Contains (next_moves s fresh) (Takeover a m n)
+    → (comes_before (group_of s.cluster a n) (group_of s.cluster a m) ≡ true) × (is_fresh fresh n a ≡ true) × (is_operational s a n ≡ true)
+taken_over_by_earlier_groups s fresh a m n h = all_called s fresh a m n ((next_are_first s fresh (Takeover a m n)).0 h).enabled.2.passes
 
-pub placed_in_first_group : (s : StateView) (marked : List Pair) (a : App) (from : Option Node) (n : Node) → Contains (next_moves s marked) (Placement a from n)
+pub placed_in_first_group : (s : StateView) (fresh : List Pair) (a : App) (from : Option Node) (n : Node) → Contains (next_moves s fresh) (Placement a from n)
     → IsBest s a (is_operational s a) n
-placed_in_first_group s marked a from n h = ((next_are_first s marked (Placement a from n)).0 h).enabled.2
+placed_in_first_group s fresh a from n h = ((next_are_first s fresh (Placement a from n)).0 h).enabled.2
 
 -- ---- where nothing moves
 -- an application that is to run can run nowhere
 none_best : (s : StateView) (a : App) (test : Node → Bool) → ((n : Node) → IsBest s a test n → ⊥) → best s a test ≡ []
 none_best s a test none = empty_of (best s a test) (λ n i. none n (every_in (IsBest s a test) (best s a test) n (each_best s a test) i))
 
-pub never_left_wanted : (s : StateView) (a : App) (from : Option Node) → next_moves s [] ≡ [] → IsAppOf s.cluster a → standing_of s a ≡ Wanted from
+pub never_left_wanted : (s : StateView) (a : App) (from : Option Node) → NoneEnabled s [] → IsAppOf s.cluster a → standing_of s a ≡ Wanted from
     → (n : Node) → IsSome (group_of s.cluster a n) → is_operational s a n ≡ false
 never_left_wanted s a from h at e n listed =
-    let none = none_best s a (is_operational s a) (λ k b. (still_if_none_enabled s []).0 h (Placement a from k) (at, e, b)) in
+    let none = none_best s a (is_operational s a) (λ k b. h (Placement a from k) (at, e, b)) in
     cases (is_operational s a n)
     (λ t. not_some (group_of s.cluster a n) listed ((none_chosen s a First (is_operational s a)).0 (no_first (best s a (is_operational s a)) none) n t))
     (λ f. f)
@@ -59,12 +60,12 @@ never_left_wanted s a from h at e n listed =
     not_some (Some x) h k = cc
 
 -- a local application that waits has a reason
-pub waits_for_a_reason : (s : StateView) (n : Node) (a : App) → next_moves s [] ≡ [] → IsNodeOf s.cluster n → is_local s.cluster a ≡ true
+pub waits_for_a_reason : (s : StateView) (n : Node) (a : App) → NoneEnabled s [] → IsNodeOf s.cluster n → is_local s.cluster a ≡ true
     → waits_at s n a ≡ true
     → (is_allowed s n a ≡ false) ⊎ (deps_run s n a ≡ false)
 waits_for_a_reason s n a h at l w =
     cases (is_allowed s n a)
     (λ t. cases (deps_run s n a)
-    (λ u. absurd ((still_if_none_enabled s []).0 h (Local n a) (at, l, w, t, u)))
+    (λ u. absurd (h (Local n a) (at, l, w, t, u)))
     (λ f. inr f))
     (λ f. inl f)

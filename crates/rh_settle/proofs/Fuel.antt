@@ -7,7 +7,7 @@ use Rattle.rh_place.specs.declared.choosing.Pick.{Pick}
 use Rattle.rh_place.specs.Picks.{picked}
 use Rattle.rh_settle.specs.declared.notice.Move.{Move}
 use Rattle.rh_settle.specs.declared.notice.Move.TheVariants.{Local, Placement, Takeover}
-use Rattle.rh_settle.specs.Course.{Course}
+use Rattle.rh_settle.specs.Course.{Course, fresh_of}
 use Rattle.rh_settle.specs.Moves.{moved, moved_state}
 use Rattle.rh_settle.specs.Settling.{nexts, after_move, moved_by, pair_count, all_moved}
 use Rattle.rh_settle.proofs.Searches.{contains_picked}
@@ -16,7 +16,7 @@ use Rattle.rh_settle.proofs.Falls.{Progresses, falls}
 use Rattle.rh_settle.proofs.Shapes.{shaped_moved}
 use Rattle.rh_settle.proofs.NextMoves.{progresses}
 
--- the state, the marks and the cluster after a move
+-- the state, the marks, the fresh pairs and the cluster after a move
 pub state_moved : (o : Course) (m : Move) → (moved o m).state ≡ moved_state o.state m
 state_moved o (Local n a) = refl
 state_moved o (Placement a f n) = refl
@@ -27,6 +27,11 @@ marks_moved o (Local n a) = refl
 marks_moved o (Placement a f n) = refl
 marks_moved o (Takeover a m n) = refl
 
+pub fresh_moved : (o : Course) (m : Move) → fresh_of (moved o m) ≡ fresh_of o
+fresh_moved o (Local n a) = refl
+fresh_moved o (Placement a f n) = refl
+fresh_moved o (Takeover a m n) = refl
+
 pub cluster_moved : (o : Course) (m : Move) → (moved o m).state.cluster ≡ o.state.cluster
 cluster_moved o (Local n a) = refl
 cluster_moved o (Placement a f n) = refl
@@ -36,7 +41,7 @@ pub shaped_on : (o : Course) (m : Move) → IsShaped o.state → Progresses o.st
 shaped_on o m h p = subst IsShaped (sym (state_moved o m)) (shaped_moved o.state m h p)
 
 pub progress : (o : Course) (pick : Pick) (m : Move) → IsShaped o.state → picked pick (nexts o) ≡ Some m → Progresses o.state m
-progress o pick m h e = progresses o.state o.marked h m (contains_picked pick (nexts o) m e)
+progress o pick m h e = progresses o.state (fresh_of o) h m (contains_picked pick (nexts o) m e)
 
 pub shaped_next : (o : Course) (pick : Pick) (m : Move) → IsShaped o.state → picked pick (nexts o) ≡ Some m → IsShaped (moved o m).state
 shaped_next o pick m h e = shaped_on o m h (progress o pick m h e)

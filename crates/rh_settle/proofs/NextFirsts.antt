@@ -15,6 +15,7 @@ use Rattle.rh_settle.specs.declared.notice.Move.TheVariants.{Local, Placement, T
 use Rattle.rh_settle.specs.declared.notice.Pair.{Pair}
 use Rattle.rh_settle.specs.Moves.{is_local, can_start, local_moves, placements, placements_from, takeovers, takeovers_from, calls_away, next_moves}
 use Rattle.rh_settle.specs.Enabled.{IsBest, IsEnabled, IsFirst, goes_before}
+use Rattle.rh_settle.specs.Settling.{NoneEnabled}
 use Rattle.rh_settle.proofs.Falls.{app_of}
 use Rattle.rh_settle.proofs.Best.{each_best, in_best}
 use Rattle.rh_settle.proofs.Firsts.{In, in_contained, contained_in, every_in, empty_of, in_map, of_map, either_of, Firsts, firsts_flat, firsts_nil, firsts_as}
@@ -27,8 +28,8 @@ PlacedAs s k m = (from : Option Node) × (n : Node) × (m ≡ Placement (app_num
     × IsBest s (app_numbered k) (is_operational s (app_numbered k)) n
 
 abbrev TakenAs : StateView → List Pair → ℕ → Move → Type 0
-TakenAs s marked k m = (j : Node) × (n : Node) × (m ≡ Takeover (app_numbered k) j n) × (standing_of s (app_numbered k) ≡ Running j)
-    × IsBest s (app_numbered k) (calls_away s marked (app_numbered k) j) n
+TakenAs s fresh k m = (j : Node) × (n : Node) × (m ≡ Takeover (app_numbered k) j n) × (standing_of s (app_numbered k) ≡ Running j)
+    × IsBest s (app_numbered k) (calls_away s fresh (app_numbered k) j) n
 
 not_placed : (s : StateView) (k : ℕ) (st : Standing) → ((from : Option Node) → st ≡ Wanted from → ⊥) → standing_of s (app_numbered k) ≡ st
     → Firsts (goes_before s) (PlacedAs s k) []
@@ -62,34 +63,34 @@ placed_from s k (Wanted from) e =
     same_from : (f g : Option Node) → Wanted f ≡ Wanted g → f ≡ g
     same_from f g c = cc
 
-not_taken : (s : StateView) (marked : List Pair) (k : ℕ) (st : Standing) → ((j : Node) → st ≡ Running j → ⊥) → standing_of s (app_numbered k) ≡ st
-    → Firsts (goes_before s) (TakenAs s marked k) []
-not_taken s marked k st other e = firsts_nil (goes_before s) (TakenAs s marked k) (λ m p. other p.0 (sym e ∙ p.3))
+not_taken : (s : StateView) (fresh : List Pair) (k : ℕ) (st : Standing) → ((j : Node) → st ≡ Running j → ⊥) → standing_of s (app_numbered k) ≡ st
+    → Firsts (goes_before s) (TakenAs s fresh k) []
+not_taken s fresh k st other e = firsts_nil (goes_before s) (TakenAs s fresh k) (λ m p. other p.0 (sym e ∙ p.3))
 
-taken_from : (s : StateView) (marked : List Pair) (k : ℕ) (st : Standing) → standing_of s (app_numbered k) ≡ st
-    → Firsts (goes_before s) (TakenAs s marked k) (takeovers_from s marked (app_numbered k) st)
-taken_from s marked k Quiet e = not_taken s marked k Quiet (λ j c. wrong j c) e
+taken_from : (s : StateView) (fresh : List Pair) (k : ℕ) (st : Standing) → standing_of s (app_numbered k) ≡ st
+    → Firsts (goes_before s) (TakenAs s fresh k) (takeovers_from s fresh (app_numbered k) st)
+taken_from s fresh k Quiet e = not_taken s fresh k Quiet (λ j c. wrong j c) e
   where
     wrong : (j : Node) → Quiet ≡ Running j → ⊥
     wrong j c = cc
-taken_from s marked k (Wanted from) e = not_taken s marked k (Wanted from) (λ j c. wrong from j c) e
+taken_from s fresh k (Wanted from) e = not_taken s fresh k (Wanted from) (λ j c. wrong from j c) e
   where
     wrong : (from : Option Node) (j : Node) → Wanted from ≡ Running j → ⊥
     wrong from j c = cc
-taken_from s marked k (Lost l) e = not_taken s marked k (Lost l) (λ j c. wrong l j c) e
+taken_from s fresh k (Lost l) e = not_taken s fresh k (Lost l) (λ j c. wrong l j c) e
   where
     wrong : (l j : Node) → Lost l ≡ Running j → ⊥
     wrong l j c = cc
-taken_from s marked k (Running j) e =
+taken_from s fresh k (Running j) e =
     let a : App = app_numbered k in
-    let test : Node → Bool = calls_away s marked a j in
-    firsts_flat (goes_before s) (TakenAs s marked k) (map (Takeover a j) (best s a test))
+    let test : Node → Bool = calls_away s fresh a j in
+    firsts_flat (goes_before s) (TakenAs s fresh k) (map (Takeover a j) (best s a test))
     (λ m o p q. before_is s m o (Takeover a p.0 p.1) (Takeover a q.0 q.1) p.2 q.2 ∙ not_itself k)
     (λ m i. let r = of_map (Takeover a j) (best s a test) m i in
     (j, r.0, sym r.2, e, every_in (IsBest s a test) (best s a test) r.0 (each_best s a test) r.1))
     (λ m p. let same = same_node j p.0 (sym e ∙ p.3) in
     subst (λ o. In o (map (Takeover a j) (best s a test))) (ap (λ f. Takeover a f p.1) same ∙ sym p.2)
-    (in_map (Takeover a j) (best s a test) p.1 (in_best s a test p.1 (subst (λ f. IsBest s a (calls_away s marked a f) p.1) (sym same) p.4))))
+    (in_map (Takeover a j) (best s a test) p.1 (in_best s a test p.1 (subst (λ f. IsBest s a (calls_away s fresh a f) p.1) (sym same) p.4))))
   where
     same_node : (f g : Node) → Running f ≡ Running g → f ≡ g
     same_node f g c = cc
@@ -100,9 +101,9 @@ placed_apart s i j lt m o p q = (
   before_is s o m (Placement (app_numbered j) q.0 q.1) (Placement (app_numbered i) p.0 p.1) q.2 p.2 ∙ not_less i j lt,
 )
 
-taken_apart : (s : StateView) (marked : List Pair) (i j : ℕ) → i < j → (m o : Move) → TakenAs s marked i m → TakenAs s marked j o
+taken_apart : (s : StateView) (fresh : List Pair) (i j : ℕ) → i < j → (m o : Move) → TakenAs s fresh i m → TakenAs s fresh j o
     → (goes_before s m o ≡ true) × (goes_before s o m ≡ false)
-taken_apart s marked i j lt m o p q = (
+taken_apart s fresh i j lt m o p q = (
   before_is s m o (Takeover (app_numbered i) p.0 p.1) (Takeover (app_numbered j) q.0 q.1) p.2 q.2 ∙ less i j lt,
   before_is s o m (Takeover (app_numbered j) q.0 q.1) (Takeover (app_numbered i) p.0 p.1) q.2 p.2 ∙ not_less i j lt,
 )
@@ -115,7 +116,7 @@ abbrev Placed : StateView → Move → Type 0
 Placed s = Numbered (PlacedAs s) 0 (app_count s.cluster)
 
 abbrev Taken : StateView → List Pair → Move → Type 0
-Taken s marked = Numbered (TakenAs s marked) 0 (app_count s.cluster)
+Taken s fresh = Numbered (TakenAs s fresh) 0 (app_count s.cluster)
 
 locals : (s : StateView) → Firsts (goes_before s) (Locals s) (first_given (local_moves s) (nodes_of s.cluster))
 unfolding nodes_of
@@ -126,14 +127,14 @@ unfolding apps_of placements
 placed s = firsts_range (goes_before s) app_numbered (placements s) (PlacedAs s) (placed_apart s) (λ k. placed_from s k (standing_of s (app_numbered k)) refl) 0
     (app_count s.cluster)
 
-taken : (s : StateView) (marked : List Pair) → Firsts (goes_before s) (Taken s marked) (first_given (takeovers s marked) (apps_of s.cluster))
+taken : (s : StateView) (fresh : List Pair) → Firsts (goes_before s) (Taken s fresh) (first_given (takeovers s fresh) (apps_of s.cluster))
 unfolding apps_of takeovers
-taken s marked = firsts_range (goes_before s) app_numbered (takeovers s marked) (TakenAs s marked) (taken_apart s marked)
-    (λ k. taken_from s marked k (standing_of s (app_numbered k)) refl) 0 (app_count s.cluster)
+taken s fresh = firsts_range (goes_before s) app_numbered (takeovers s fresh) (TakenAs s fresh) (taken_apart s fresh)
+    (λ k. taken_from s fresh k (standing_of s (app_numbered k)) refl) 0 (app_count s.cluster)
 
 -- ---- all of them
 abbrev AnyKind : StateView → List Pair → Move → Type 0
-AnyKind s marked m = Locals s m ⊎ (Placed s m ⊎ Taken s marked m)
+AnyKind s fresh m = Locals s m ⊎ (Placed s m ⊎ Taken s fresh m)
 
 can_start_all : (s : StateView) (n : Node) (a : App) → is_local s.cluster a ≡ true → is_allowed s n a ≡ true → deps_run s n a ≡ true → can_start s n a ≡ true
 unfolding can_start
@@ -149,28 +150,28 @@ can_start_parts s n a h = by (is_local s.cluster a) (is_allowed s n a) (deps_run
     by true false r h = cc
     by false q r h = cc
 
-kind_of_enabled : (s : StateView) (marked : List Pair) (m : Move) → IsEnabled s marked m → AnyKind s marked m
-kind_of_enabled s marked (Local n a) e = inl (n.0, omega arith, (let l = e.0 in omega arith), (refl, e.2, can_start_all s n a e.1 e.3 e.4))
-kind_of_enabled s marked (Placement a from n) e = inr (inl (a.0, omega arith, (let l = e.0 in omega arith), (from, n, refl, e.1, e.2)))
-kind_of_enabled s marked (Takeover a j n) e = inr (inr (a.0, omega arith, (let l = e.0 in omega arith), (j, n, refl, e.1, e.2)))
+kind_of_enabled : (s : StateView) (fresh : List Pair) (m : Move) → IsEnabled s fresh m → AnyKind s fresh m
+kind_of_enabled s fresh (Local n a) e = inl (n.0, omega arith, (let l = e.0 in omega arith), (refl, e.2, can_start_all s n a e.1 e.3 e.4))
+kind_of_enabled s fresh (Placement a from n) e = inr (inl (a.0, omega arith, (let l = e.0 in omega arith), (from, n, refl, e.1, e.2)))
+kind_of_enabled s fresh (Takeover a j n) e = inr (inr (a.0, omega arith, (let l = e.0 in omega arith), (j, n, refl, e.1, e.2)))
 
-enabled_kind : (s : StateView) (marked : List Pair) (m : Move) → AnyKind s marked m → IsEnabled s marked m
-enabled_kind s marked m k = either_of k
-    (λ l. subst (IsEnabled s marked) (sym l.3.0)
+enabled_kind : (s : StateView) (fresh : List Pair) (m : Move) → AnyKind s fresh m → IsEnabled s fresh m
+enabled_kind s fresh m k = either_of k
+    (λ l. subst (IsEnabled s fresh) (sym l.3.0)
     (let c = can_start_parts s (numbered l.0) (app_of m) l.3.2 in ((let h = l.2 in omega arith), c.0, l.3.1, c.1, c.2)))
     (λ r. either_of r
-    (λ p. subst (IsEnabled s marked) (sym p.3.2) ((let h = p.2 in omega arith), p.3.3, p.3.4))
-    (λ t. subst (IsEnabled s marked) (sym t.3.2) ((let h = t.2 in omega arith), t.3.3, t.3.4)))
+    (λ p. subst (IsEnabled s fresh) (sym p.3.2) ((let h = p.2 in omega arith), p.3.3, p.3.4))
+    (λ t. subst (IsEnabled s fresh) (sym t.3.2) ((let h = t.2 in omega arith), t.3.3, t.3.4)))
 
-firsts : (s : StateView) (marked : List Pair) → Firsts (goes_before s) (IsEnabled s marked) (next_moves s marked)
+firsts : (s : StateView) (fresh : List Pair) → Firsts (goes_before s) (IsEnabled s fresh) (next_moves s fresh)
 unfolding next_moves
-firsts s marked =
-    firsts_as (goes_before s) (goes_before s) (AnyKind s marked) (IsEnabled s marked)
+firsts s fresh =
+    firsts_as (goes_before s) (goes_before s) (AnyKind s fresh) (IsEnabled s fresh)
     (or_else (first_given (local_moves s) (nodes_of s.cluster))
-    (or_else (first_given (placements s) (apps_of s.cluster)) (first_given (takeovers s marked) (apps_of s.cluster))))
-    (enabled_kind s marked) (kind_of_enabled s marked) (λ m o e k. refl)
-    (firsts_else (goes_before s) (Locals s) (λ m. Placed s m ⊎ Taken s marked m) (first_given (local_moves s) (nodes_of s.cluster))
-    (or_else (first_given (placements s) (apps_of s.cluster)) (first_given (takeovers s marked) (apps_of s.cluster)))
+    (or_else (first_given (placements s) (apps_of s.cluster)) (first_given (takeovers s fresh) (apps_of s.cluster))))
+    (enabled_kind s fresh) (kind_of_enabled s fresh) (λ m o e k. refl)
+    (firsts_else (goes_before s) (Locals s) (λ m. Placed s m ⊎ Taken s fresh m) (first_given (local_moves s) (nodes_of s.cluster))
+    (or_else (first_given (placements s) (apps_of s.cluster)) (first_given (takeovers s fresh) (apps_of s.cluster)))
     (λ m o l r. either_of r
     (λ p. (
       before_is s m o (Local (numbered l.0) (app_of m)) (Placement (app_numbered p.0) p.3.0 p.3.1) l.3.0 p.3.2,
@@ -181,22 +182,22 @@ firsts s marked =
       before_is s o m (Takeover (app_numbered t.0) t.3.0 t.3.1) (Local (numbered l.0) (app_of m)) t.3.2 l.3.0,
     )))
     (locals s)
-    (firsts_else (goes_before s) (Placed s) (Taken s marked) (first_given (placements s) (apps_of s.cluster))
-    (first_given (takeovers s marked) (apps_of s.cluster))
+    (firsts_else (goes_before s) (Placed s) (Taken s fresh) (first_given (placements s) (apps_of s.cluster))
+    (first_given (takeovers s fresh) (apps_of s.cluster))
     (λ m o p t. (
       before_is s m o (Placement (app_numbered p.0) p.3.0 p.3.1) (Takeover (app_numbered t.0) t.3.0 t.3.1) p.3.2 t.3.2,
       before_is s o m (Takeover (app_numbered t.0) t.3.0 t.3.1) (Placement (app_numbered p.0) p.3.0 p.3.1) t.3.2 p.3.2,
     ))
-    (placed s) (taken s marked)))
+    (placed s) (taken s fresh)))
 
-pub next_are_first : (s : StateView) (marked : List Pair) (m : Move) → Contains (next_moves s marked) m ↔ IsFirst s marked m
-next_are_first s marked m = (
-  (λ c. let r = (firsts s marked).each m (in_contained (next_moves s marked) c.0 m c.1 c.2) in record { enabled = r.0; first = r.1 }),
-  (λ f. contained_in (next_moves s marked) m ((firsts s marked).all m f.enabled f.first)),
+pub next_are_first : (s : StateView) (fresh : List Pair) (m : Move) → Contains (next_moves s fresh) m ↔ IsFirst s fresh m
+next_are_first s fresh m = (
+  (λ c. let r = (firsts s fresh).each m (in_contained (next_moves s fresh) c.0 m c.1 c.2) in record { enabled = r.0; first = r.1 }),
+  (λ f. contained_in (next_moves s fresh) m ((firsts s fresh).all m f.enabled f.first)),
 )
 
-pub still_if_none_enabled : (s : StateView) (marked : List Pair) → (next_moves s marked ≡ []) ↔ ((m : Move) → IsEnabled s marked m → ⊥)
-still_if_none_enabled s marked = (
-  (firsts s marked).none,
-  (λ h. empty_of (next_moves s marked) (λ m i. h m ((firsts s marked).each m i).0)),
+pub still_if_none_enabled : (s : StateView) (fresh : List Pair) → (next_moves s fresh ≡ []) ↔ NoneEnabled s fresh
+still_if_none_enabled s fresh = (
+  (firsts s fresh).none,
+  (λ h. empty_of (next_moves s fresh) (λ m i. h m ((firsts s fresh).each m i).0)),
 )

@@ -48,12 +48,12 @@ unfolding is_operational
 operational_started s a n h = left_true (is_started s n a) (is_allowed s n a && deps_run s n a) (right_true (is_up (mode_of s n)) _ h)
 
 -- ---- which nodes call away
-pub all_called : (s : StateView) (marked : List Pair) (a : App) (m n : Node) → calls_away s marked a m n ≡ true
-    → (comes_before (group_of s.cluster a n) (group_of s.cluster a m) ≡ true) × (is_fresh marked n a ≡ true) × (is_operational s a n ≡ true)
+pub all_called : (s : StateView) (fresh : List Pair) (a : App) (m n : Node) → calls_away s fresh a m n ≡ true
+    → (comes_before (group_of s.cluster a n) (group_of s.cluster a m) ≡ true) × (is_fresh fresh n a ≡ true) × (is_operational s a n ≡ true)
 unfolding calls_away
-all_called s marked a m n h =
+all_called s fresh a m n h =
     let rest = right_true (comes_before (group_of s.cluster a n) (group_of s.cluster a m)) _ h in
-    (left_true _ _ h, left_true (is_fresh marked n a) _ rest, right_true (is_fresh marked n a) _ rest)
+    (left_true _ _ h, left_true (is_fresh fresh n a) _ rest, right_true (is_fresh fresh n a) _ rest)
 
 -- a local application has no groups, so none comes before another
 not_local : (c : ClusterView) (a : App) (n : Node) (p : Option ℕ) → comes_before (group_of c a n) p ≡ true → is_local c a ≡ false
@@ -64,13 +64,13 @@ not_local c a n p h = by (spread_of c a) h
     by (Some v) h = refl
 
 -- ---- what is known
-pub enabled_progresses : (s : StateView) (marked : List Pair) → IsShaped s → (m : Move) → IsEnabled s marked m → Progresses s m
-enabled_progresses s marked shape (Local n a) e = (e.0, started_within s n a shape (or_right (runs_at s n a) _ e.2), e.1, e.2)
-enabled_progresses s marked shape (Placement a from n) e =
+pub enabled_progresses : (s : StateView) (fresh : List Pair) → IsShaped s → (m : Move) → IsEnabled s fresh m → Progresses s m
+enabled_progresses s fresh shape (Local n a) e = (e.0, started_within s n a shape (or_right (runs_at s n a) _ e.2), e.1, e.2)
+enabled_progresses s fresh shape (Placement a from n) e =
     let o = e.2.passes in (operational_within s a n shape.modes o, e.0, e.1, operational_started s a n o)
-enabled_progresses s marked shape (Takeover a m n) e =
-    let c = all_called s marked a m n e.2.passes in
+enabled_progresses s fresh shape (Takeover a m n) e =
+    let c = all_called s fresh a m n e.2.passes in
     (operational_within s a n shape.modes c.2, e.0, e.1, c.0, not_local s.cluster a n (group_of s.cluster a m) c.0, operational_started s a n c.2)
 
-pub progresses : (s : StateView) (marked : List Pair) → IsShaped s → (m : Move) → Contains (next_moves s marked) m → Progresses s m
-progresses s marked shape m h = enabled_progresses s marked shape m ((next_are_first s marked m).0 h).enabled
+pub progresses : (s : StateView) (fresh : List Pair) → IsShaped s → (m : Move) → Contains (next_moves s fresh) m → Progresses s m
+progresses s fresh shape m h = enabled_progresses s fresh shape m ((next_are_first s fresh m).0 h).enabled

@@ -11,7 +11,7 @@ use Rattle.rh_place.specs.Picks.{picked}
 use Rattle.rh_settle.specs.declared.notice.Move.{Move}
 use Rattle.rh_settle.specs.declared.notice.Move.TheVariants.{Local, Placement, Takeover}
 use Rattle.rh_settle.specs.declared.notice.Pair.{Pair}
-use Rattle.rh_settle.specs.Course.{Course}
+use Rattle.rh_settle.specs.Course.{Course, fresh_of}
 use Rattle.rh_settle.specs.Moves.{moved, moved_state}
 use Rattle.rh_settle.specs.Enabled.{IsEnabled}
 use Rattle.rh_settle.specs.Settling.{nexts, after_move, moved_by, pair_count, all_moved, settled}
@@ -37,16 +37,16 @@ set_beside standings a b st new r is moves = at_set standings b.0 a.0 new Quiet
     (λ here v. absurd (both (rests (stands standings a)) r (ap rests (ap (λ k. unwrap_or (slice_get standings k) Quiet) here ∙ is) ∙ moves)))
 
 -- a move that is enabled moves none that rests
-moved_rests : (s : StateView) (marked : List Pair) (m : Move) (a : App) → rests (standing_of s a) ≡ true → IsEnabled s marked m
+moved_rests : (s : StateView) (fresh : List Pair) (m : Move) (a : App) → rests (standing_of s a) ≡ true → IsEnabled s fresh m
     → standing_of (moved_state s m) a ≡ standing_of s a
-moved_rests s marked (Local n b) a r h = refl
-moved_rests s marked (Placement b from n) a r h = set_beside s.standings a b (Wanted from) (Running n) r h.1 refl
-moved_rests s marked (Takeover b m n) a r h = set_beside s.standings a b (Running m) (Running n) r h.1 refl
+moved_rests s fresh (Local n b) a r h = refl
+moved_rests s fresh (Placement b from n) a r h = set_beside s.standings a b (Wanted from) (Running n) r h.1 refl
+moved_rests s fresh (Takeover b m n) a r h = set_beside s.standings a b (Running m) (Running n) r h.1 refl
 
 step_rests : (o : Course) (m : Move) (a : App) → rests (standing_of o.state a) ≡ true → Contains (nexts o) m
     → standing_of (moved o m).state a ≡ standing_of o.state a
 step_rests o m a r h =
-    ap (λ s. standing_of s a) (state_moved o m) ∙ moved_rests o.state o.marked m a r ((next_are_first o.state o.marked m).0 h).enabled
+    ap (λ s. standing_of s a) (state_moved o m) ∙ moved_rests o.state (fresh_of o) m a r ((next_are_first o.state (fresh_of o) m).0 h).enabled
 
 moves_rest : (pick : Pick) (k : ℕ) (o : Course) (a : App) → rests (standing_of o.state a) ≡ true
     → standing_of (moved_by pick k o).state a ≡ standing_of o.state a

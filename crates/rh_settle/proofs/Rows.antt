@@ -61,6 +61,7 @@ node_view = record {
 
 abbrev cluster : Bool → ClusterView
 cluster phases = record {
+  profile = 1;
   node_names = (1 ∷ []) ∷ (2 ∷ []) ∷ (3 ∷ []) ∷ [];
   app_names = (4 ∷ []) ∷ (5 ∷ []) ∷ (6 ∷ []) ∷ [];
   platform_names = [];

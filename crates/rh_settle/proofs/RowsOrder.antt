@@ -49,6 +49,7 @@ app = record { deps = []; start_arg = None; phases = false; spread = Some (recor
 
 abbrev cluster : ClusterView
 cluster = record {
+  profile = 1;
   node_names = (1 ∷ []) ∷ (2 ∷ []) ∷ (3 ∷ []) ∷ [];
   app_names = (4 ∷ []) ∷ (5 ∷ []) ∷ [];
   platform_names = [];

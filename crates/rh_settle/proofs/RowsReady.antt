@@ -24,6 +24,7 @@ node mandatory optional wait = record { mandatory = mandatory; optional = option
 -- the first node has itself and the second for mandatory ones, and itself and the third for optional ones
 abbrev cluster : SyncWait → ClusterView
 cluster wait = record {
+  profile = 1;
   node_names = (1 ∷ []) ∷ (2 ∷ []) ∷ (3 ∷ []) ∷ [];
   app_names = [];
   platform_names = [];

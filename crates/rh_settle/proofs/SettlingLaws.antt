@@ -5,7 +5,7 @@ use Rattle.rh_place.specs.declared.choosing.Pick.{Pick}
 use Rattle.rh_place.specs.Picks.{picked}
 use Rattle.rh_settle.proofs.Searches.{none_picked, contains_picked}
 use Rattle.rh_settle.specs.declared.notice.Move.{Move}
-use Rattle.rh_settle.specs.Course.{Course}
+use Rattle.rh_settle.specs.Course.{Course, fresh_of}
 use Rattle.rh_settle.specs.Moves.{moved}
 use Rattle.rh_settle.specs.Enabled.{IsFirst}
 use Rattle.rh_settle.specs.Settling.{nexts, NoneEnabled, AreFirst, Settles, pair_count, all_moved, waits_told, settled}
@@ -19,7 +19,7 @@ use Rattle.rh_settle.proofs.Fuel.{state_moved, shaped_on, shaped_next, falls_nex
 spent : (o : Course) (ms : List Move) → IsShaped o.state → AreFirst o ms → length ms ≤ points o.state
 spent o [] shape h = omega arith
 spent o (m ∷ ms) shape h =
-    let p = enabled_progresses o.state o.marked shape m h.0.enabled in
+    let p = enabled_progresses o.state (fresh_of o) shape m h.0.enabled in
     let f = falls o.state m shape p in
     let g = ap points (state_moved o m) in
     let r = spent (moved o m) ms (shaped_on o m shape p) h.1 in omega arith
@@ -29,11 +29,11 @@ pub few_moves : (o p : Course) → IsShaped o.state → (s : Settles o p) → le
 few_moves o p shape s = let h = spent o s.moves shape s.are_first in let w = within o.state in omega arith
 
 -- what the pick takes of the next moves goes before all others, and where it takes none, none is enabled
-comes_first : (o : Course) (pick : Pick) (m : Move) → picked pick (nexts o) ≡ Some m → IsFirst o.state o.marked m
-comes_first o pick m e = (next_are_first o.state o.marked m).0 (contains_picked pick (nexts o) m e)
+comes_first : (o : Course) (pick : Pick) (m : Move) → picked pick (nexts o) ≡ Some m → IsFirst o.state (fresh_of o) m
+comes_first o pick m e = (next_are_first o.state (fresh_of o) m).0 (contains_picked pick (nexts o) m e)
 
-none_left : (o : Course) (pick : Pick) → picked pick (nexts o) ≡ None → NoneEnabled o.state o.marked
-none_left o pick e = (still_if_none_enabled o.state o.marked).0 (none_picked pick (nexts o) e)
+none_left : (o : Course) (pick : Pick) → picked pick (nexts o) ≡ None → NoneEnabled o.state (fresh_of o)
+none_left o pick e = (still_if_none_enabled o.state (fresh_of o)).0 (none_picked pick (nexts o) e)
 
 -- settling where each tie goes to the pick makes first moves
 by_pick : (pick : Pick) (n : ℕ) (o : Course) → IsShaped o.state → points o.state ≤ n → (ms : List Move) × AreFirst o ms × (fold moved o ms ≡ all_moved pick o)

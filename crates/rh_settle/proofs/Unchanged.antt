@@ -5,38 +5,32 @@ use Rattle.rh_place.specs.declared.choosing.Pick.{Pick}
 use Rattle.rh_place.specs.Picks.{picked}
 use Rattle.rh_settle.specs.declared.notice.Move.{Move}
 use Rattle.rh_settle.specs.declared.notice.Move.TheVariants.{Local, Placement, Takeover}
+use Rattle.rh_settle.specs.declared.notice.Notice.{Notice}
 use Rattle.rh_settle.specs.declared.notice.Notice.TheVariants as notice
 use Rattle.rh_settle.specs.declared.notice.Pair.{Pair}
-use Rattle.rh_settle.specs.Course.{Course, told}
+use Rattle.rh_settle.specs.Course.{Course, told, fresh_of}
 use Rattle.rh_settle.specs.Moves.{moved, moved_state}
 use Rattle.rh_settle.specs.Settling.{nexts, after_move, moved_by, pair_count, all_moved, tell_waiting, waits_told, settled, Settles}
-use Rattle.rh_settle.proofs.Fuel.{state_moved, marks_moved}
+use Rattle.rh_settle.proofs.Fuel.{state_moved, marks_moved, fresh_moved}
 
 -- ---- the pairs that wait are told, and no more
-tell_state : (o : Course) (p : Pair) → (tell_waiting o p).state ≡ o.state
-tell_state o p = by (waits_at o.state p.node p.app)
-  where
-    by : (b : Bool) → (cond b (told o (notice.Waits p.app p.node)) o).state ≡ o.state
-    by true = refl
-    by false = refl
+module _ {A : Type 0} (F : Course → A) (each : (o : Course) (n : Notice) → F (told o n) ≡ F o) where
+  tell_keeps : (o : Course) (p : Pair) → F (tell_waiting o p) ≡ F o
+  tell_keeps o p = by (waits_at o.state p.node p.app)
+    where
+      by : (b : Bool) → F (cond b (told o (notice.Waits p.app p.node)) o) ≡ F o
+      by true = each o (notice.Waits p.app p.node)
+      by false = refl
+
+  tells_keep : (o : Course) (ps : List Pair) → F (fold tell_waiting o ps) ≡ F o
+  tells_keep o [] = refl
+  tells_keep o (p ∷ ps) = tells_keep (tell_waiting o p) ps ∙ tell_keeps o p
 
 pub tell_marked : (o : Course) (p : Pair) → (tell_waiting o p).marked ≡ o.marked
-tell_marked o p = by (waits_at o.state p.node p.app)
-  where
-    by : (b : Bool) → (cond b (told o (notice.Waits p.app p.node)) o).marked ≡ o.marked
-    by true = refl
-    by false = refl
-
-tells_state : (o : Course) (ps : List Pair) → (fold tell_waiting o ps).state ≡ o.state
-tells_state o [] = refl
-tells_state o (p ∷ ps) = tells_state (tell_waiting o p) ps ∙ tell_state o p
-
-tells_marked : (o : Course) (ps : List Pair) → (fold tell_waiting o ps).marked ≡ o.marked
-tells_marked o [] = refl
-tells_marked o (p ∷ ps) = tells_marked (tell_waiting o p) ps ∙ tell_marked o p
+tell_marked = tell_keeps (λ o. o.marked) (λ o n. refl)
 
 pub waits_told_state : (o : Course) → (waits_told o).state ≡ o.state
-waits_told_state o = tells_state o o.marked
+waits_told_state o = tells_keep (λ p. p.state) (λ p n. refl) o o.marked
 
 -- ---- what no move changes, settling doesn't
 module _ {A : Type 0} (F : Course → A) (each : (o : Course) (m : Move) → F (moved o m) ≡ F o) where
@@ -68,21 +62,15 @@ module _ {A : Type 0} (F : StateView → A) (each : (s : StateView) (m : Move) �
   settles_keeps o p run = ap (λ (q : Course). F q.state) run.outcome ∙ ap F (waits_told_state (fold moved o run.moves))
       ∙ by_moves (λ q. F q.state) each_course o run.moves
 
--- ---- the marks
+-- ---- the marks and the fresh pairs
 pub all_moved_marked : (pick : Pick) (o : Course) → (all_moved pick o).marked ≡ o.marked
 all_moved_marked pick o = by_all (λ p. p.marked) marks_moved pick o
 
-pub waits_told_marked : (o : Course) → (waits_told o).marked ≡ o.marked
-waits_told_marked o = tells_marked o o.marked
+pub waits_told_fresh : (o : Course) → fresh_of (waits_told o) ≡ fresh_of o
+waits_told_fresh o = tells_keep fresh_of (λ p n. refl) o o.marked
 
-pub settled_marked : (pick : Pick) (o : Course) → (settled pick o).marked ≡ o.marked
-settled_marked pick o = waits_told_marked (all_moved pick o) ∙ all_moved_marked pick o
-
-pub moves_marked : (o : Course) (ms : List Move) → (fold moved o ms).marked ≡ o.marked
-moves_marked o ms = by_moves (λ p. p.marked) marks_moved o ms
-
-pub settles_marked : (o p : Course) → Settles o p → p.marked ≡ o.marked
-settles_marked o p run = ap (λ (q : Course). q.marked) run.outcome ∙ waits_told_marked (fold moved o run.moves) ∙ moves_marked o run.moves
+pub moves_fresh : (o : Course) (ms : List Move) → fresh_of (fold moved o ms) ≡ fresh_of o
+moves_fresh o ms = by_moves fresh_of fresh_moved o ms
 
 -- ---- parts of the state
 pub cluster_same : (s : StateView) (m : Move) → (moved_state s m).cluster ≡ s.cluster

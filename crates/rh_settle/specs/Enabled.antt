@@ -26,10 +26,10 @@ pub record IsBest (s : StateView) (a : App) (test : Node → Bool) (n : Node) : 
 -- at a best node (Starting and Stopping Distributed Applications, Failover); and a best node of those that call it away
 -- takes one over (Takeover)
 abbrev pub IsEnabled : StateView → List Pair → Move → Type 0
-IsEnabled s marked (Local n a) =
+IsEnabled s fresh (Local n a) =
     IsNodeOf s.cluster n × (is_local s.cluster a ≡ true) × (waits_at s n a ≡ true) × (is_allowed s n a ≡ true) × (deps_run s n a ≡ true)
-IsEnabled s marked (Placement a from n) = IsAppOf s.cluster a × (standing_of s a ≡ Wanted from) × IsBest s a (is_operational s a) n
-IsEnabled s marked (Takeover a m n) = IsAppOf s.cluster a × (standing_of s a ≡ Running m) × IsBest s a (calls_away s marked a m) n
+IsEnabled s fresh (Placement a from n) = IsAppOf s.cluster a × (standing_of s a ≡ Wanted from) × IsBest s a (is_operational s a) n
+IsEnabled s fresh (Takeover a m n) = IsAppOf s.cluster a × (standing_of s a ≡ Running m) × IsBest s a (calls_away s fresh a m) n
 
 -- an application stands before another in a list
 abbrev pub stands_before : List App → App → App → Bool
@@ -49,6 +49,6 @@ goes_before s (Takeover a k n) (Placement b from m) = false
 goes_before s (Takeover a k n) (Takeover b l m) = nat_lt a.0 b.0
 
 -- a move is enabled, and no enabled one goes before it
-pub record IsFirst (s : StateView) (marked : List Pair) (move : Move) : Type 0 where
-  pub enabled : IsEnabled s marked move
-  pub first : (other : Move) → IsEnabled s marked other → goes_before s other move ≡ false
+pub record IsFirst (s : StateView) (fresh : List Pair) (move : Move) : Type 0 where
+  pub enabled : IsEnabled s fresh move
+  pub first : (other : Move) → IsEnabled s fresh other → goes_before s other move ≡ false

@@ -14,8 +14,8 @@ use Rattle.rh_settle.specs.declared.notice.Move.TheVariants.{Placement, Takeover
 use Rattle.rh_settle.specs.declared.notice.Pair.{Pair}
 use Rattle.rh_settle.specs.Course.{Course, is_fresh}
 use Rattle.rh_settle.specs.Moves.{is_local, comes_before, next_moves}
-use Rattle.rh_settle.specs.Enabled.{IsBest, IsEnabled, IsFirst}
-use Rattle.rh_settle.specs.Settling.{Settles, settled, pair_count}
+use Rattle.rh_settle.specs.Enabled.{IsBest, IsFirst}
+use Rattle.rh_settle.specs.Settling.{NoneEnabled, Settles, settled, pair_count}
 use Rattle.rh_settle.specs.Validity.{IsSound}
 
 -- the settling that the pick takes is one of those that are allowed (ours)
@@ -32,11 +32,11 @@ SettlingKeeps = (o p : Course) → IsSound o.state → Settles o p → IsSound p
 
 -- the next moves are the enabled ones before which no other enabled one goes (ours)
 abbrev pub NextAreFirst : Type 0
-NextAreFirst = (s : StateView) (marked : List Pair) (move : Move) → Contains (next_moves s marked) move ↔ IsFirst s marked move
+NextAreFirst = (s : StateView) (fresh : List Pair) (move : Move) → Contains (next_moves s fresh) move ↔ IsFirst s fresh move
 
 -- there is no next move exactly where none is enabled (ours)
 abbrev pub StillIfNoneEnabled : Type 0
-StillIfNoneEnabled = (s : StateView) (marked : List Pair) → (next_moves s marked ≡ []) ↔ ((move : Move) → IsEnabled s marked move → ⊥)
+StillIfNoneEnabled = (s : StateView) (fresh : List Pair) → (next_moves s fresh ≡ []) ↔ NoneEnabled s fresh
 
 -- a distributed application runs at one node only (Distributed Applications)
 abbrev pub RunsAtOneNode : Type 0
@@ -47,28 +47,28 @@ RunsAtOneNode =
 -- where the event started it there, and only if it can run there (Distributed Applications, Takeover)
 abbrev pub TakenOverByEarlierGroups : Type 0
 TakenOverByEarlierGroups =
-    (s : StateView) (marked : List Pair) (a : App) (m n : Node) → Contains (next_moves s marked) (Takeover a m n)
-    → (comes_before (group_of s.cluster a n) (group_of s.cluster a m) ≡ true) × (is_fresh marked n a ≡ true) × (is_operational s a n ≡ true)
+    (s : StateView) (fresh : List Pair) (a : App) (m n : Node) → Contains (next_moves s fresh) (Takeover a m n)
+    → (comes_before (group_of s.cluster a n) (group_of s.cluster a m) ≡ true) × (is_fresh fresh n a ≡ true) × (is_operational s a n ≡ true)
 
 -- an application is placed in the first group that has a node at which it can run, there at a node at which fewest
 -- applications run (Distributed Applications, Starting and Stopping Distributed Applications, Failover)
 abbrev pub PlacedInFirstGroup : Type 0
 PlacedInFirstGroup =
-    (s : StateView) (marked : List Pair) (a : App) (from : Option Node) (n : Node) → Contains (next_moves s marked) (Placement a from n)
+    (s : StateView) (fresh : List Pair) (a : App) (from : Option Node) (n : Node) → Contains (next_moves s fresh) (Placement a from n)
     → IsBest s a (is_operational s a) n
 
 -- where nothing moves, an application that is to run can run at no node of its node list (Distributed Applications,
 -- Failover)
 abbrev pub NeverLeftWanted : Type 0
 NeverLeftWanted =
-    (s : StateView) (a : App) (from : Option Node) → next_moves s [] ≡ [] → IsAppOf s.cluster a → standing_of s a ≡ Wanted from
+    (s : StateView) (a : App) (from : Option Node) → NoneEnabled s [] → IsAppOf s.cluster a → standing_of s a ≡ Wanted from
     → (n : Node) → IsSome (group_of s.cluster a n) → is_operational s a n ≡ false
 
 -- where nothing moves, an application that isn't distributed waits at a node only because it may not run there, or
 -- because something that it needs doesn't run there (application(3), permit/2; app(4), applications)
 abbrev pub WaitsForAReason : Type 0
 WaitsForAReason =
-    (s : StateView) (n : Node) (a : App) → next_moves s [] ≡ [] → IsNodeOf s.cluster n → is_local s.cluster a ≡ true → waits_at s n a ≡ true
+    (s : StateView) (n : Node) (a : App) → NoneEnabled s [] → IsNodeOf s.cluster n → is_local s.cluster a ≡ true → waits_at s n a ≡ true
     → (is_allowed s n a ≡ false) ⊎ (deps_run s n a ≡ false)
 
 -- settling starts no application that is to run nowhere, and none that was lost with a node: such a one stays as it stands

@@ -4,6 +4,6 @@ pub mod Moves
 pub mod Enabled
 pub mod Boards
 pub mod Readiness
-pub mod Validity
 pub mod Settling
+pub mod Validity
 pub mod Laws

@@ -53,23 +53,23 @@ comes_before (Some i) (Some j) = nat_lt i j
 
 -- a node calls an application away from m: its pair is fresh, the application can run there, and its group comes before
 unfoldable pub calls_away : StateView → List Pair → App → Node → Node → Bool
-calls_away s marked a m n = comes_before (group_of s.cluster a n) (group_of s.cluster a m) && (is_fresh marked n a && is_operational s a n)
+calls_away s fresh a m n = comes_before (group_of s.cluster a n) (group_of s.cluster a m) && (is_fresh fresh n a && is_operational s a n)
 
 -- an application that runs is taken over by any of the best nodes that call it away
 abbrev pub takeovers_from : StateView → List Pair → App → Standing → List Move
-takeovers_from s marked a (Running m) = map (Takeover a m) (best s a (calls_away s marked a m))
-takeovers_from s marked a _ = []
+takeovers_from s fresh a (Running m) = map (Takeover a m) (best s a (calls_away s fresh a m))
+takeovers_from s fresh a _ = []
 
 unfoldable pub takeovers : StateView → List Pair → App → List Move
-takeovers s marked a = takeovers_from s marked a (standing_of s a)
+takeovers s fresh a = takeovers_from s fresh a (standing_of s a)
 
 -- the next moves, which are equally good: a local one at the first node that has any, else the placements of the first
 -- application that has any, else the takeovers of the first application that has any
 unfoldable pub next_moves : StateView → List Pair → List Move
-next_moves s marked =
+next_moves s fresh =
     or_else (first_given (local_moves s) (nodes_of s.cluster))
     (or_else (first_given (placements s) (apps_of s.cluster))
-    (first_given (takeovers s marked) (apps_of s.cluster)))
+    (first_given (takeovers s fresh) (apps_of s.cluster)))
 
 -- a pair of the cluster that is started
 pub record IsStartedPair (s : StateView) (n : Node) (a : App) : Type 0 where

@@ -7,18 +7,18 @@ use Rattle.rh_place.specs.Picks.{picked}
 use Rattle.rh_settle.specs.declared.notice.Move.{Move}
 use Rattle.rh_settle.specs.declared.notice.Notice.TheVariants as notice
 use Rattle.rh_settle.specs.declared.notice.Pair.{Pair}
-use Rattle.rh_settle.specs.Course.{Course, told}
+use Rattle.rh_settle.specs.Course.{Course, told, fresh_of}
 use Rattle.rh_settle.specs.Moves.{next_moves, moved}
 use Rattle.rh_settle.specs.Enabled.{IsEnabled, IsFirst}
 
 -- ---- what the rules allow, without a search and without a bound
 abbrev pub NoneEnabled : StateView → List Pair → Type 0
-NoneEnabled s marked = (move : Move) → IsEnabled s marked move → ⊥
+NoneEnabled s fresh = (move : Move) → IsEnabled s fresh move → ⊥
 
 -- when a move is made no other that is enabled goes before it, and behind the last none is enabled
 abbrev pub AreFirst : Course → List Move → Type 0
-AreFirst o [] = NoneEnabled o.state o.marked
-AreFirst o (move ∷ moves) = IsFirst o.state o.marked move × AreFirst (moved o move) moves
+AreFirst o [] = NoneEnabled o.state (fresh_of o)
+AreFirst o (move ∷ moves) = IsFirst o.state (fresh_of o) move × AreFirst (moved o move) moves
 
 -- each marked pair that waits is told, in marking order
 abbrev pub tell_waiting : Course → Pair → Course
@@ -35,7 +35,7 @@ pub record Settles (o p : Course) : Type 0 where
 
 -- ---- what is taken, by the search
 abbrev pub nexts : Course → List Move
-nexts o = next_moves o.state o.marked
+nexts o = next_moves o.state (fresh_of o)
 
 -- the moves in which each tie goes to the pick, at most so many
 abbrev pub after_move : Course → Option Move → (Course → Course) → Course

@@ -1,6 +1,6 @@
 //! What settling keeps between its moves, so that no move is searched for from the beginning.
 
-ghost use Rattle.std.specs.Prelude.{◌≡◌, ◌≢◌, ◌<◌, ◌&&◌, ◌||◌, List, All, true, false, is_some};
+ghost use Rattle.std.specs.Prelude.{◌≡◌, ◌≢◌, ◌<◌, ◌&&◌, ◌||◌, ◌++◌, List, All, true, false, is_some};
 ghost use Rattle.rh_model.specs.declared.limits.TheConstants.{MAX_APPS};
 ghost use Rattle.rh_model.specs.declared.node.App.{App};
 ghost use Rattle.rh_model.specs.declared.node.Node.{Node};
@@ -46,13 +46,14 @@ impl Model for Board {
 }
 
 impl Board {
-    /// The board of a state, after these pairs were marked.
-    pub fn of(state: &State, marked: &[Pair]) -> Board
-        ensures { IsBoardOf (read state.now) marked.now result }
+    /// The board of a state, after these pairs were marked and these were freed.
+    pub fn of(state: &State, marked: &[Pair], freed: &[Pair]) -> Board
+        ensures { IsBoardOf (read state.now) (freed.now ++ marked.now) result }
     {
         let _few_apps = state.cluster().app_count();
         let _few_nodes = state.cluster().node_count();
         let mut fresh = AppSets::empty();
+        add_fresh(&mut fresh, freed);
         add_fresh(&mut fresh, marked);
         let able = able_sets(state, &fresh);
         Board {

@@ -32,6 +32,7 @@ fn start_at(
     ensures part { OnOk result (read state.new ≡ with_started (read state.old) node app kind) }
     ensures told { trace.new.notices ≡ trace.old.notices }
     ensures marked { trace.new.marked ≡ trace.old.marked }
+    ensures freed { trace.new.freed ≡ trace.old.freed }
     ensures way { Goes state.old trace.old state.new trace.new }
 {
     state.formed();
@@ -47,6 +48,7 @@ fn stop_at(state: &mut State, node: Node, app: App, trace: &mut Trace) -> Result
     ensures part { OnOk result (read state.new ≡ with_stopped (read state.old) node app) }
     ensures told { trace.new.notices ≡ trace.old.notices }
     ensures marked { trace.new.marked ≡ trace.old.marked }
+    ensures freed { trace.new.freed ≡ trace.old.freed }
     ensures way { Goes state.old trace.old state.new trace.new }
 {
     state.formed();
@@ -112,6 +114,7 @@ fn place(
 fn tell_takeover(app: App, from: Node, node: Node, trace: &mut Trace) -> Result<(), OutOfMemory>
     ensures told { OnOk result (trace.new.notices ≡ (trace.old.notices ++ Started app node (kind.Takeover from) None ∷ []) ++ Stopped app from ∷ []) }
     ensures marked { trace.new.marked ≡ trace.old.marked }
+    ensures freed { trace.new.freed ≡ trace.old.freed }
     ensures edits { trace.new.edits ≡ trace.old.edits }
     ensures grows { Tells trace.old.notices trace.new.notices }
 {

@@ -22,6 +22,7 @@ pub fn set_now(state: &mut State, time: u64, trace: &mut Trace) -> Result<(), Ou
     ensures part { OnOk result (read state.new ≡ with_time (read state.old) time) }
     ensures told { trace.new.notices ≡ trace.old.notices }
     ensures marked { trace.new.marked ≡ trace.old.marked }
+    ensures freed { trace.new.freed ≡ trace.old.freed }
     ensures way { Goes state.old trace.old state.new trace.new }
     ensures kept_state { OnErr result (state.new ≡ state.old) }
     ensures kept_trace { OnErr result (trace.new ≡ trace.old) }
@@ -46,6 +47,7 @@ pub fn set_mode(
     ensures part { OnOk result (read state.new ≡ with_mode (read state.old) node mode) }
     ensures told { trace.new.notices ≡ trace.old.notices }
     ensures marked { trace.new.marked ≡ trace.old.marked }
+    ensures freed { trace.new.freed ≡ trace.old.freed }
     ensures way { Goes state.old trace.old state.new trace.new }
     ensures kept_state { OnErr result (state.new ≡ state.old) }
     ensures kept_trace { OnErr result (trace.new ≡ trace.old) }
@@ -71,6 +73,7 @@ pub fn set_incarnation(
     ensures part { OnOk result (read state.new ≡ with_incarnation (read state.old) node incarnation) }
     ensures told { trace.new.notices ≡ trace.old.notices }
     ensures marked { trace.new.marked ≡ trace.old.marked }
+    ensures freed { trace.new.freed ≡ trace.old.freed }
     ensures way { Goes state.old trace.old state.new trace.new }
     ensures kept_state { OnErr result (state.new ≡ state.old) }
     ensures kept_trace { OnErr result (trace.new ≡ trace.old) }
@@ -97,6 +100,7 @@ pub fn set_allowed(
     ensures part { OnOk result (read state.new ≡ with_allowed (read state.old) node app allow) }
     ensures told { trace.new.notices ≡ trace.old.notices }
     ensures marked { trace.new.marked ≡ trace.old.marked }
+    ensures freed { trace.new.freed ≡ trace.old.freed }
     ensures way { Goes state.old trace.old state.new trace.new }
     ensures kept_state { OnErr result (state.new ≡ state.old) }
     ensures kept_trace { OnErr result (trace.new ≡ trace.old) }
@@ -123,6 +127,7 @@ pub fn set_restart(
     ensures part { OnOk result (read state.new ≡ with_restart (read state.old) node app restart) }
     ensures told { trace.new.notices ≡ trace.old.notices }
     ensures marked { trace.new.marked ≡ trace.old.marked }
+    ensures freed { trace.new.freed ≡ trace.old.freed }
     ensures way { Goes state.old trace.old state.new trace.new }
     ensures kept_state { OnErr result (state.new ≡ state.old) }
     ensures kept_trace { OnErr result (trace.new ≡ trace.old) }
@@ -150,6 +155,7 @@ pub fn set_kind(
     ensures part { OnOk result (read state.new ≡ with_kind (read state.old) node app kind) }
     ensures told { trace.new.notices ≡ trace.old.notices }
     ensures marked { trace.new.marked ≡ trace.old.marked }
+    ensures freed { trace.new.freed ≡ trace.old.freed }
     ensures way { Goes state.old trace.old state.new trace.new }
     ensures kept_state { OnErr result (state.new ≡ state.old) }
     ensures kept_trace { OnErr result (trace.new ≡ trace.old) }
@@ -175,6 +181,7 @@ pub fn set_standing(
     ensures part { OnOk result (read state.new ≡ with_standing (read state.old) app standing) }
     ensures told { trace.new.notices ≡ trace.old.notices }
     ensures marked { trace.new.marked ≡ trace.old.marked }
+    ensures freed { trace.new.freed ≡ trace.old.freed }
     ensures way { Goes state.old trace.old state.new trace.new }
     ensures kept_state { OnErr result (state.new ≡ state.old) }
     ensures kept_trace { OnErr result (trace.new ≡ trace.old) }
@@ -201,6 +208,7 @@ pub fn push_running(
     ensures part { OnOk result (read state.new ≡ with_running (read state.old) node app) }
     ensures told { trace.new.notices ≡ trace.old.notices }
     ensures marked { trace.new.marked ≡ trace.old.marked }
+    ensures freed { trace.new.freed ≡ trace.old.freed }
     ensures way { Goes state.old trace.old state.new trace.new }
     ensures kept_state { OnErr result (state.new ≡ state.old) }
     ensures kept_trace { OnErr result (trace.new ≡ trace.old) }
@@ -227,6 +235,7 @@ pub fn push_waiting(
     ensures part { OnOk result (read state.new ≡ with_waiting (read state.old) node app) }
     ensures told { trace.new.notices ≡ trace.old.notices }
     ensures marked { trace.new.marked ≡ trace.old.marked }
+    ensures freed { trace.new.freed ≡ trace.old.freed }
     ensures way { Goes state.old trace.old state.new trace.new }
     ensures kept_state { OnErr result (state.new ≡ state.old) }
     ensures kept_trace { OnErr result (trace.new ≡ trace.old) }
@@ -248,6 +257,7 @@ pub fn unlink(state: &mut State, node: Node, app: App, trace: &mut Trace) -> Res
     ensures part { OnOk result (read state.new ≡ unlisted (read state.old) node app) }
     ensures told { trace.new.notices ≡ trace.old.notices }
     ensures marked { trace.new.marked ≡ trace.old.marked }
+    ensures freed { trace.new.freed ≡ trace.old.freed }
     ensures way { Goes state.old trace.old state.new trace.new }
     ensures kept_state { OnErr result (state.new ≡ state.old) }
     ensures kept_trace { OnErr result (trace.new ≡ trace.old) }
@@ -273,6 +283,7 @@ pub fn arm_timer(
     ensures part { OnOk result (read state.new ≡ with_timer (read state.old) due timer) }
     ensures told { trace.new.notices ≡ trace.old.notices }
     ensures marked { trace.new.marked ≡ trace.old.marked }
+    ensures freed { trace.new.freed ≡ trace.old.freed }
     ensures way { Goes state.old trace.old state.new trace.new }
     ensures kept_state { OnErr result (state.new ≡ state.old) }
     ensures kept_trace { OnErr result (trace.new ≡ trace.old) }
@@ -293,6 +304,7 @@ pub fn cancel_timer(state: &mut State, timer: Timer, trace: &mut Trace) -> Resul
     ensures part { OnOk result (read state.new ≡ without_due (read state.old) timer) }
     ensures told { trace.new.notices ≡ trace.old.notices }
     ensures marked { trace.new.marked ≡ trace.old.marked }
+    ensures freed { trace.new.freed ≡ trace.old.freed }
     ensures way { Goes state.old trace.old state.new trace.new }
     ensures kept_state { OnErr result (state.new ≡ state.old) }
     ensures kept_trace { OnErr result (trace.new ≡ trace.old) }

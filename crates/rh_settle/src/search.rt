@@ -200,12 +200,12 @@ pub(crate) fn next_on(state: &State, board: &Board, pick: Pick) -> Option<Move>
     next_takeover(state, board, pick)
 }
 
-/// The move that comes next, after the pairs that are given were marked: a local application starts, at the first node where
-/// one can; else one that is to run is placed; else one that runs is taken over by a marked pair's node. Of several equally
+/// The move that comes next, where the pairs that are given are fresh: a local application starts, at the first node where
+/// one can; else one that is to run is placed; else one that runs is taken over by a fresh pair's node. Of several equally
 /// good ones it is the one that the pick takes, and `None` exactly if there is none. Takes no memory.
-pub fn next_move(state: &State, marked: &[Pair], pick: Pick) -> Option<Move>
-    ensures { result ≡ picked pick (next_moves (read state.now) marked.now) }
+pub fn next_move(state: &State, fresh: &[Pair], pick: Pick) -> Option<Move>
+    ensures { result ≡ picked pick (next_moves (read state.now) fresh.now) }
 {
-    let board = Board::of(state, marked);
+    let board = Board::of(state, fresh, &[]);
     next_on(state, &board, pick)
 }

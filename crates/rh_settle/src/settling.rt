@@ -3,10 +3,9 @@
 ghost use Rattle.std.specs.Prelude.{◌≡◌, ◌≤◌, ◌*◌, [], length, All, OnOk};
 ghost use Rattle.rh_state.specs.StateView.{waits_at};
 ghost use Rattle.rh_state.specs.Stored.{read};
-ghost use Rattle.rh_settle.specs.Course.{Course, IsPairOf, course};
-ghost use Rattle.rh_settle.specs.Moves.{next_moves};
+ghost use Rattle.rh_settle.specs.Course.{Course, IsPairOf, course, fresh_of};
 ghost use Rattle.rh_settle.specs.Ways.{Goes};
-ghost use Rattle.rh_settle.specs.Settling.{all_moved, tell_waiting, waits_told, settled, Settles, pair_count};
+ghost use Rattle.rh_settle.specs.Settling.{NoneEnabled, nexts, all_moved, tell_waiting, waits_told, settled, Settles, pair_count};
 ghost use Rattle.rh_settle.specs.Validity.{RunsWhereItStands};
 
 use crate::board::Board;
@@ -23,12 +22,12 @@ use rh_state::{Place, State};
 fn make_moves(state: &mut State, pick: Pick, trace: &mut Trace) -> Result<(), OutOfMemory>
     requires runs { RunsWhereItStands (read state.old) }
     ensures moved { OnOk result (course (read state.new) trace.new ≡ all_moved pick (course (read state.old) trace.old)) }
-    ensures still { OnOk result (next_moves (read state.new) trace.new.marked ≡ []) }
+    ensures still { OnOk result (nexts (course (read state.new) trace.new) ≡ []) }
     ensures cluster { (read state.new).cluster ≡ (read state.old).cluster }
     ensures runs { OnOk result (RunsWhereItStands (read state.new)) }
     ensures way { Goes state.old trace.old state.new trace.new }
 {
-    let mut board = Board::of(state, trace.marked());
+    let mut board = Board::of(state, trace.marked(), trace.freed());
     'moves: while let Some(next) = next_on(state, &board, pick) {
         state.formed();
         make_move(state, next, trace)?;
@@ -84,7 +83,7 @@ pub fn settle(state: &mut State, pick: Pick, trace: &mut Trace) -> Result<(), Ou
     ensures settled { OnOk result (course (read state.new) trace.new ≡ settled pick (course (read state.old) trace.old)) }
     ensures allowed { OnOk result (Settles (course (read state.old) trace.old) (course (read state.new) trace.new)) }
     ensures few { (p : Course) (run : Settles (course (read state.old) trace.old) p) → length run.moves ≤ 2 * pair_count (read state.old).cluster }
-    ensures still { OnOk result (next_moves (read state.new) trace.new.marked ≡ []) }
+    ensures still { OnOk result (NoneEnabled (read state.new) (fresh_of (course (read state.new) trace.new))) }
     ensures cluster { (read state.new).cluster ≡ (read state.old).cluster }
     ensures runs { OnOk result (RunsWhereItStands (read state.new)) }
     ensures way { Goes state.old trace.old state.new trace.new }

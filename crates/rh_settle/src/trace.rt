@@ -1,4 +1,4 @@
-//! What is told and marked on the way through an event.
+//! What is told, marked and freed on the way through an event.
 
 ghost use Rattle.std.specs.Prelude.{◌≡◌, ◌++◌, ◌∷◌, [], OnOk, OnErr};
 ghost use Rattle.rh_settle.specs.Course.{trace_of};
@@ -9,11 +9,13 @@ use rh_state::Edit;
 use std::alloc::Global;
 use std::marker::Model;
 
-/// What was told on the way through an event, which pairs it marked, and what it changed in the state, each in order.
+/// What was told on the way through an event, which pairs it marked, which it freed, and what it changed in the state, each
+/// in order.
 #[derive(Drop)]
 pub struct Trace {
     notices: Vec<Notice>,
     marked: Vec<Pair>,
+    freed: Vec<Pair>,
     pub(crate) edits: Vec<Edit>,
 }
 
@@ -22,17 +24,18 @@ impl Model for Trace {
 
     ghost Value = { TraceView };
 
-    ghost view = { λ t. record { notices = t.notices.items; marked = t.marked.items; edits = t.edits.items } };
+    ghost view = { λ t. record { notices = t.notices.items; marked = t.marked.items; freed = t.freed.items; edits = t.edits.items } };
 }
 
 impl Trace {
-    /// A trace that told these notices and has these edits, and marked nothing yet.
+    /// A trace that told these notices and has these edits, and has marked and freed nothing yet.
     pub fn of(notices: Vec<Notice>, edits: Vec<Edit>, alloc: Global) -> Trace
-        ensures { result ≡ trace_of notices.items [] edits.items }
+        ensures { result ≡ trace_of notices.items [] [] edits.items }
     {
         Trace {
             notices,
             marked: Vec::new(alloc),
+            freed: Vec::new(alloc),
             edits,
         }
     }
@@ -59,9 +62,16 @@ impl Trace {
         self.marked.as_slice()
     }
 
+    /// The freed pairs, in the order in which they were freed.
+    pub fn freed(&self) -> &[Pair]
+        ensures { result.now ≡ self.now.freed }
+    {
+        self.freed.as_slice()
+    }
+
     /// Tells a notice. Where memory is refused nothing is told.
     pub fn tell(&mut self, notice: Notice) -> Result<(), OutOfMemory>
-        ensures told { OnOk result (self.new ≡ trace_of (self.old.notices ++ notice ∷ []) self.old.marked self.old.edits) }
+        ensures told { OnOk result (self.new ≡ trace_of (self.old.notices ++ notice ∷ []) self.old.marked self.old.freed self.old.edits) }
         ensures err { OnErr result (self.new ≡ self.old) }
     {
         self.notices.push(notice)?;
@@ -70,17 +80,27 @@ impl Trace {
 
     /// Marks a pair. Where memory is refused nothing is marked.
     pub fn mark(&mut self, pair: Pair) -> Result<(), OutOfMemory>
-        ensures marked { OnOk result (self.new ≡ trace_of self.old.notices (self.old.marked ++ pair ∷ []) self.old.edits) }
+        ensures marked { OnOk result (self.new ≡ trace_of self.old.notices (self.old.marked ++ pair ∷ []) self.old.freed self.old.edits) }
         ensures err { OnErr result (self.new ≡ self.old) }
     {
         self.marked.push(pair)?;
         Ok(())
     }
 
-    /// From now on no pair is marked.
+    /// Frees a pair: it is fresh, and isn't marked. Where memory is refused nothing is freed.
+    pub fn free(&mut self, pair: Pair) -> Result<(), OutOfMemory>
+        ensures freed { OnOk result (self.new ≡ trace_of self.old.notices self.old.marked (self.old.freed ++ pair ∷ []) self.old.edits) }
+        ensures err { OnErr result (self.new ≡ self.old) }
+    {
+        self.freed.push(pair)?;
+        Ok(())
+    }
+
+    /// From now on no pair is marked, and none is freed.
     pub fn forget_marks(&mut self)
-        ensures { self.new ≡ trace_of self.old.notices [] self.old.edits }
+        ensures { self.new ≡ trace_of self.old.notices [] [] self.old.edits }
     {
         self.marked.clear();
+        self.freed.clear();
     }
 }

@@ -35,6 +35,7 @@ app = record { deps = []; start_arg = None; phases = false; spread = None }
 -- two nodes, and four applications, the last of which isn't permitted at the second node
 abbrev cluster : ClusterView
 cluster = record {
+  profile = 1;
   node_names = (97 ∷ []) ∷ (98 ∷ []) ∷ [];
   app_names = (97 ∷ []) ∷ (98 ∷ []) ∷ (99 ∷ []) ∷ (100 ∷ []) ∷ [];
   platform_names = [];

@@ -18,8 +18,11 @@ mod Rows
 mod RowsElsewhere
 mod RowsTime
 mod RowsByItself
+mod RowsEverywhere
 pub mod Stops
 pub mod EndedWaits
 pub mod LostStays
 pub mod LostInTime
 pub mod QuietStays
+pub mod StartedStays
+pub mod Everywhere

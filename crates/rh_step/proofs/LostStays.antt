@@ -27,11 +27,12 @@ use Rattle.rh_settle.specs.Readiness.{all_alive, is_ready}
 use Rattle.rh_settle.specs.Settling.{settled}
 use Rattle.rh_settle.specs.Validity.{IsSound}
 use Rattle.rh_events.specs.declared.event.Event.{Event}
-use Rattle.rh_events.specs.declared.event.Event.TheVariants.{Boot, Crash, Tick, Start, Stop, Permit, Takeover, Exit}
+use Rattle.rh_events.specs.declared.event.Event.TheVariants.{Boot, Crash, Tick, Start, Stop, Permit, Takeover, Exit, StartAll, StopAll}
 use Rattle.rh_events.specs.Marking.{wanted_by_mark, with_mark, mark, mark_booted, mark_all}
 use Rattle.rh_events.specs.ComingUp.{come_up, come_up_if_ready, ready_come_up}
 use Rattle.rh_events.specs.Ending.{timeout_of, cleared, lost_at, lost_from, lost_if_ran, all_lost, ended}
 use Rattle.rh_events.specs.ByHand.{stopped, is_started_anywhere, quiet_if_nowhere, left_waiting, forbidden, permitted, taken_from, taken_over, ends_node, exited}
+use Rattle.rh_events.specs.Everywhere.{targets, start_at, start_all}
 use Rattle.rh_events.specs.Changes.{with_sync_timer, booted, change}
 use Rattle.rh_events.specs.Refusals.{refused}
 use Rattle.rh_step.specs.Ticks.{wanted_if_lost, effect, taken_off, fired}
@@ -43,6 +44,7 @@ use Rattle.rh_settle.proofs.Entries.{same_number, other_number, both}
 use Rattle.rh_settle.proofs.Places.{at_set, at_set_there}
 use Rattle.rh_settle.proofs.Resting.{rests, set_beside, settled_rests}
 use Rattle.rh_events.proofs.Accepted.{accepted_exit}
+use Rattle.rh_events.proofs.StoppingAll.{stop_all_of_another}
 use Rattle.rh_events.proofs.Notices.{come_up_after, ended_after}
 use Rattle.rh_events.proofs.StaysUp.{told_still}
 
@@ -148,6 +150,15 @@ marks_elsewhere : (n : Node) (boot : List (App × Restart)) (o : Course) (a : Ap
     → standing_of (fold (mark_booted n) o boot).state a ≡ Lost m
 marks_elsewhere n [] o a m is other = is
 marks_elsewhere n (b ∷ boot) o a m is other = marks_elsewhere n boot (mark o n b.0 b.1) a m (mark_elsewhere o.state n b.0 b.1 a m is other ∙ is) other
+
+marks_of_another : (b : App) (r : Restart) (ns : List Node) (o : Course) (a : App) → a.0 ≢ b.0
+    → standing_of (fold (start_at b r) o ns).state a ≡ standing_of o.state a
+marks_of_another b r [] o a other = refl
+marks_of_another b r (n ∷ ns) o a other = marks_of_another b r ns (mark o n b r) a other ∙ mark_of_another o.state n b r a other
+
+pub start_all_of_another : (o : Course) (b : App) (r : Restart) (a : App) → a.0 ≢ b.0 → standing_of (start_all o b r).state a ≡ standing_of o.state a
+unfolding start_all
+start_all_of_another o b r a other = marks_of_another b r (targets o.state b) o a other
 
 marks_tell_none : (n : Node) (boot : List (App × Restart)) (o : Course) → (fold (mark_booted n) o boot).notices ≡ o.notices
 marks_tell_none n [] o = refl
@@ -308,6 +319,8 @@ change_stays s (Permit n b allow) a m sound fine is calls = inl (permit_lost (co
 change_stays s (Takeover n b r) a m sound fine is calls = inl (takeover_lost (course_of s [] []) n b r a m is)
 change_stays s (Exit n b normal) a m sound fine is calls =
     inl (exit_lost (course_of s [] []) n b normal a m sound (accepted_exit s n b normal fine).runs is)
+change_stays s (StartAll b r) a m sound fine is calls = inl (start_all_of_another (course_of s [] []) b r a (other_number a.0 b.0 calls) ∙ is)
+change_stays s (StopAll b) a m sound fine is calls = inl (stop_all_of_another (course_of s [] []) b a (other_number a.0 b.0 calls) ∙ is)
 
 followed_stays : (s : StateView) (e : Event) (pick : Pick) (a : App) (m : Node) → IsSound s → refused s e ≡ None → standing_of s a ≡ Lost m
     → may_end_wait e a m ≡ false → StaysLost a m (followed pick (course_of s [] []) e)

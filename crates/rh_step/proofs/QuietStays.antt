@@ -22,7 +22,7 @@ use Rattle.rh_settle.specs.Readiness.{all_alive, is_ready}
 use Rattle.rh_settle.specs.Settling.{settled}
 use Rattle.rh_settle.specs.Validity.{IsSound}
 use Rattle.rh_events.specs.declared.event.Event.{Event}
-use Rattle.rh_events.specs.declared.event.Event.TheVariants.{Boot, Crash, Tick, Start, Stop, Permit, Takeover, Exit}
+use Rattle.rh_events.specs.declared.event.Event.TheVariants.{Boot, Crash, Tick, Start, Stop, Permit, Takeover, Exit, StartAll, StopAll}
 use Rattle.rh_events.specs.ComingUp.{come_up, come_up_if_ready, ready_come_up}
 use Rattle.rh_events.specs.Ending.{timeout_of, cleared, lost_at, lost_from, lost_if_ran, all_lost, ended}
 use Rattle.rh_events.specs.ByHand.{stopped, is_started_anywhere, quiet_if_nowhere, left_waiting, forbidden, permitted, taken_from, taken_over, ends_node, exited}
@@ -36,10 +36,11 @@ use Rattle.rh_settle.proofs.Entries.{other_number}
 use Rattle.rh_settle.proofs.Places.{at_set, same_refl}
 use Rattle.rh_settle.proofs.Resting.{rests, set_beside, settled_rests}
 use Rattle.rh_events.proofs.Accepted.{accepted_exit}
+use Rattle.rh_events.proofs.StoppingAll.{quiet_stays_quiet}
 use Rattle.rh_events.proofs.Notices.{ended_after}
 use Rattle.rh_events.proofs.StaysUp.{told_still}
 use Rattle.rh_step.proofs.Fuel.{timer_count, by_firing}
-use Rattle.rh_step.proofs.LostStays.{differs, mark_of_another, up_told, booted_standings}
+use Rattle.rh_step.proofs.LostStays.{differs, mark_of_another, start_all_of_another, up_told, booted_standings}
 
 -- it is quiet, or a node came up
 abbrev StaysQuiet : App → Course → Type 0
@@ -209,6 +210,8 @@ change_stays s (Stop n b) a sound fine is other = stop_stays (course_of s [] [])
 change_stays s (Permit n b allow) a sound fine is other = inl (permit_quiet (course_of s [] []) n b allow a sound is)
 change_stays s (Takeover n b r) a sound fine is other = inl (takeover_quiet (course_of s [] []) n b r a is)
 change_stays s (Exit n b normal) a sound fine is other = inl (exit_quiet (course_of s [] []) n b normal a sound (accepted_exit s n b normal fine).runs is)
+change_stays s (StartAll b r) a sound fine is other = inl (start_all_of_another (course_of s [] []) b r a (other_number a.0 b.0 other) ∙ is)
+change_stays s (StopAll b) a sound fine is other = inl (quiet_stays_quiet (course_of s [] []) b a is)
 
 followed_stays : (s : StateView) (e : Event) (pick : Pick) (a : App) → IsSound s → refused s e ≡ None → standing_of s a ≡ Quiet → starts e a ≡ false
     → StaysQuiet a (followed pick (course_of s [] []) e)

@@ -45,10 +45,10 @@ abbrev local : List Dep → AppView
 local deps = record { deps = deps; start_arg = None; phases = false; spread = None }
 
 -- ---- one node that boots three applications
-abbrev one : Node
+abbrev pub one : Node
 one = numbered 0
 
-abbrev a : App
+abbrev pub a : App
 a = app_numbered 0
 
 abbrev b : App
@@ -57,8 +57,9 @@ b = app_numbered 1
 abbrev c : App
 c = app_numbered 2
 
-abbrev three_apps : ClusterView
+abbrev pub three_apps : ClusterView
 three_apps = record {
+  profile = 1;
   node_names = codes "one@lab" ∷ [];
   app_names = codes "a" ∷ codes "b" ∷ codes "c" ∷ [];
   platform_names = codes "kernel" ∷ codes "stdlib" ∷ [];
@@ -120,6 +121,7 @@ d2 = app_numbered 2
 
 abbrev needs : ClusterView
 needs = record {
+  profile = 1;
   node_names = codes "v@lab" ∷ codes "w@lab" ∷ [];
   app_names = codes "x" ∷ codes "d1" ∷ codes "d2" ∷ [];
   platform_names = codes "kernel" ∷ codes "stdlib" ∷ [];
@@ -141,6 +143,7 @@ needs_row = refl
 -- two that need each other wait for ever
 abbrev circle : ClusterView
 circle = record {
+  profile = 1;
   node_names = codes "z" ∷ [];
   app_names = codes "f" ∷ codes "g" ∷ [];
   platform_names = codes "kernel" ∷ codes "stdlib" ∷ [];

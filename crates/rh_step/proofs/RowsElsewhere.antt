@@ -37,10 +37,10 @@ node mandatory optional wait boot = record {
   platforms = [];
 }
 
-abbrev p : Node
+abbrev pub p : Node
 p = numbered 0
 
-abbrev q : Node
+abbrev pub q : Node
 q = numbered 1
 
 abbrev r : Node
@@ -55,6 +55,7 @@ job = app_numbered 1
 
 abbrev busy : ClusterView
 busy = record {
+  profile = 1;
   node_names = codes "m1@lab" ∷ codes "m2@lab" ∷ codes "m3@lab" ∷ [];
   app_names = codes "load" ∷ codes "job" ∷ [];
   platform_names = [];
@@ -80,11 +81,12 @@ unfolding nodes_of apps_of configured all_alive is_ready booted with_mark mark_a
 takeover_row = refl
 
 -- ---- two nodes that wait for each other and for a third, which they can do without; an application with start phases
-abbrev svc : App
+abbrev pub svc : App
 svc = app_numbered 0
 
-abbrev waiting : ClusterView
+abbrev pub waiting : ClusterView
 waiting = record {
+  profile = 1;
   node_names = codes "n1@lab" ∷ codes "n2@lab" ∷ codes "n3@lab" ∷ [];
   app_names = codes "svc" ∷ [];
   platform_names = [];

@@ -38,7 +38,7 @@ unfolding come_up_if_ready
 none_comes [] o h = refl
 none_comes (n ∷ ns) o h = ap (λ b. fold come_up_if_ready (cond b (come_up o n) o) ns) (h n) ∙ none_comes ns o h
 
-none_rises : (o : Course) → ((m : Node) → is_ready o.state m ≡ false) → ready_come_up o ≡ o
+pub none_rises : (o : Course) → ((m : Node) → is_ready o.state m ≡ false) → ready_come_up o ≡ o
 unfolding ready_come_up
 none_rises o h = none_comes (nodes_of o.state.cluster) o h
 

@@ -1,8 +1,9 @@
 -- Laws of steps, in the field's own words (ours).
 use Rattle.std.specs.Prelude.{◌≡◌, ◌≤◌, ◌<◌, ◌+◌, ◌++◌, ◌⊎◌, ◌&&◌, ℕ, Bool, true, false, Contains, Some, None}
-use Rattle.rh_model.specs.ClusterView.{ClusterView, IsWithin, mandatory_of}
+use Rattle.rh_model.specs.ClusterView.{ClusterView, IsWithin, mandatory_of, is_listed_at}
 use Rattle.rh_model.specs.declared.node.Node.{Node}
 use Rattle.rh_model.specs.declared.node.App.{App}
+use Rattle.rh_model.specs.declared.settings.Restart.{Restart}
 use Rattle.rh_state.specs.declared.status.Mode.TheVariants.{Down, Up}
 use Rattle.rh_state.specs.declared.status.Standing.TheVariants.{Quiet, Lost}
 use Rattle.rh_state.specs.declared.status.Timer.{Timer}
@@ -10,13 +11,13 @@ use Rattle.rh_state.specs.declared.status.Timer.TheVariants.{Sync, Failover}
 use Rattle.rh_state.specs.First.{first}
 use Rattle.rh_state.specs.Numbers.{same_node, same_app}
 use Rattle.rh_state.specs.Timers.{same_timer}
-use Rattle.rh_state.specs.StateView.{StateView, mode_of, is_alive, runs_at, standing_of, due_of}
+use Rattle.rh_state.specs.StateView.{StateView, mode_of, is_alive, is_up, runs_at, is_started, standing_of, due_of}
 use Rattle.rh_place.specs.declared.choosing.Pick.{Pick}
 use Rattle.rh_settle.specs.declared.notice.Notice.TheVariants as notice
 use Rattle.rh_settle.specs.Course.{Course}
 use Rattle.rh_settle.specs.Moves.{is_local}
 use Rattle.rh_events.specs.declared.event.Event.{Event}
-use Rattle.rh_events.specs.declared.event.Event.TheVariants.{Tick, Start, Stop}
+use Rattle.rh_events.specs.declared.event.Event.TheVariants.{Tick, Start, Stop, StartAll, StopAll}
 use Rattle.rh_events.specs.Refusals.{refused}
 use Rattle.rh_step.specs.Allowed.{Allowed}
 use Rattle.rh_step.specs.Ticks.{fired}
@@ -67,12 +68,14 @@ EndsWithoutMandatory = (pick : Pick) (o : Course) (due : ℕ) (n m : Node) → C
     → (mode_of (fired pick o (due, Sync n)).state n ≡ Down)
     × Contains (fired pick o (due, Sync n)).notices (notice.Ended n)
 
--- the commands that may end the wait of an application that was lost with a node: it is started there, or stopped somewhere;
--- and time
+-- the commands that may end the wait of an application that was lost with a node: it is started there or at all its nodes, or
+-- stopped somewhere; and time
 abbrev pub may_end_wait : Event → App → Node → Bool
 may_end_wait (Tick ms) a m = true
 may_end_wait (Start n b r) a m = same_app a b && same_node m n
 may_end_wait (Stop n b) a m = same_app a b
+may_end_wait (StartAll b r) a m = same_app a b
+may_end_wait (StopAll b) a m = same_app a b
 may_end_wait _ a m = false
 
 -- through any other one it stays lost, unless that node comes up (Distributed Applications, Failover)
@@ -96,6 +99,7 @@ LostUntilDue = (s : StateView) (ms : ℕ) (pick : Pick) (a : App) (m : Node) (du
 -- a command that starts an application
 abbrev pub starts : Event → App → Bool
 starts (Start n b r) a = same_app a b
+starts (StartAll b r) a = same_app a b
 starts _ a = false
 
 -- an application that is to run nowhere is started by no other one, and by no time that passes, unless a node comes up
@@ -103,3 +107,18 @@ starts _ a = false
 abbrev pub QuietUntilStarted : Type 0
 QuietUntilStarted = (s : StateView) (e : Event) (pick : Pick) (a : App) → IsValid s → refused s e ≡ None → standing_of s a ≡ Quiet → starts e a ≡ false
     → (standing_of (next s e pick).state a ≡ Quiet) ⊎ ((n : Node) × Contains (next s e pick).notices (notice.Up n))
+
+-- an application that is stopped at all its nodes is started nowhere then: it is to run nowhere, and nothing awaits its return
+-- (application(3), stop/1)
+abbrev pub StopAllLeavesNothing : Type 0
+StopAllLeavesNothing = (s : StateView) (a : App) (pick : Pick) → IsValid s → refused s (StopAll a) ≡ None
+    → (standing_of (next s (StopAll a) pick).state a ≡ Quiet)
+    × ((n : Node) → is_started (next s (StopAll a) pick).state n a ≡ false)
+    × (due_of (next s (StopAll a) pick).state (Failover a) ≡ None)
+
+-- one that is started at all its nodes is started then at each node of its list that is up (application(3), start/2; kernel(6),
+-- distributed)
+abbrev pub StartAllStartsEverywhere : Type 0
+StartAllStartsEverywhere = (s : StateView) (a : App) (r : Restart) (pick : Pick) (n : Node) → IsValid s → refused s (StartAll a r) ≡ None
+    → is_up (mode_of s n) ≡ true → is_listed_at s.cluster a n ≡ true
+    → is_started (next s (StartAll a r) pick).state n a ≡ true

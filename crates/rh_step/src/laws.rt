@@ -1,6 +1,6 @@
 //! Laws of the definitions that the contracts of this crate cite. Each function does nothing: its contract is the law.
 
-ghost use Rattle.rh_step.specs.Laws.{FirstIsValid, NextIsValid, NextIsAllowed, TicksAddUp, TimeGoesOn, UpUntilEnded, StopLeavesQuiet, EndsWithoutMandatory, LostStays, LostStaysAtOtherTimers, LostUntilDue, QuietUntilStarted};
+ghost use Rattle.rh_step.specs.Laws.{FirstIsValid, NextIsValid, NextIsAllowed, TicksAddUp, TimeGoesOn, UpUntilEnded, StopLeavesQuiet, EndsWithoutMandatory, LostStays, LostStaysAtOtherTimers, LostUntilDue, QuietUntilStarted, StopAllLeavesNothing, StartAllStartsEverywhere};
 
 /// The first state of a cluster is one that it reaches.
 pub fn first_is_valid()
@@ -61,4 +61,14 @@ pub fn lost_until_due()
 /// An application that is to run nowhere stays so until it is started, or a node comes up.
 pub fn quiet_until_started()
     ensures { QuietUntilStarted }
+{}
+
+/// An application that is stopped at all its nodes is started nowhere then: it is to run nowhere, and no timer of it is set.
+pub fn stop_all_leaves_nothing()
+    ensures { StopAllLeavesNothing }
+{}
+
+/// An application that is started at all its nodes is started then at each node of its list that is up.
+pub fn start_all_starts_everywhere()
+    ensures { StartAllStartsEverywhere }
 {}

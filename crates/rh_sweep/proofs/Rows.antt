@@ -20,7 +20,7 @@ use Rattle.rh_trail.specs.declared.call.Reply.TheVariants.{Done, Refused}
 use Rattle.rh_sweep.specs.Outcomes.{outcome_in, outcome_by}
 
 abbrev one_node : ClusterView
-one_node = record { node_names = codes "a" ∷ []; app_names = []; platform_names = []; nodes = []; apps = [] }
+one_node = record { profile = 1; node_names = codes "a" ∷ []; app_names = []; platform_names = []; nodes = []; apps = [] }
 
 -- the first refused event ends the plan, though the one behind it would be accepted
 ends_at_refused_row : (pick : _) → outcome_in (opened one_node pick) (Boot (numbered 0) ∷ Boot (numbered 0) ∷ Crash (numbered 0) ∷ [])

@@ -15,7 +15,7 @@ use Rattle.rh_sweep.specs.Outcomes.{outcome_in, standing_in, standings_in}
 use Rattle.rh_sweep.specs.Sweeping.{AreWorkers, IsAtEnd, HasRoomFor, MaySweep, WhyNotSwept, fault_words}
 
 abbrev one_node : ClusterView
-one_node = record { node_names = codes "a" ∷ []; app_names = []; platform_names = []; nodes = []; apps = [] }
+one_node = record { profile = 1; node_names = codes "a" ∷ []; app_names = []; platform_names = []; nodes = []; apps = [] }
 
 -- 1 to 16 workers
 workers_row : (MAX_WORKERS ≡ 16) × (AreWorkers 0 → ⊥) × AreWorkers 1 × AreWorkers 16 × (AreWorkers 17 → ⊥)
@@ -56,6 +56,7 @@ app spread = record { deps = []; start_arg = None; phases = false; spread = spre
 
 abbrev apps : ClusterView
 apps = record {
+  profile = 1;
   node_names = codes "a" ∷ codes "b" ∷ [];
   app_names = codes "w" ∷ codes "x" ∷ codes "y" ∷ [];
   platform_names = [];

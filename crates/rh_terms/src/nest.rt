@@ -35,10 +35,12 @@ impl Shape {
         }
     }
 
-    // The list or the tuple of these elements.
+    // The list or the tuple of these elements, which keeps no more memory than they need where there is a block of that size.
     fn term_of(self, items: Vec<Term>) -> Term
         ensures { tree_of result ≡ tree_in self (trees_of items.items) }
     {
+        let mut items = items;
+        items.shrink_to_fit();
         match self {
             Shape::List => Term::List(Terms::of(items)),
             Shape::Tuple => Term::Tuple(Terms::of(items)),

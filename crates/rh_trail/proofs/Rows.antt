@@ -30,10 +30,10 @@ use Rattle.rh_trail.specs.Report.{standing_line, app_line, timer_line, node_line
 use Rattle.rh_trail.specs.Lone.{opened, replies, served}
 
 abbrev two_nodes : ClusterView
-two_nodes = record { node_names = codes "a@x" ∷ codes "b@x" ∷ []; app_names = []; platform_names = []; nodes = []; apps = [] }
+two_nodes = record { profile = 1; node_names = codes "a@x" ∷ codes "b@x" ∷ []; app_names = []; platform_names = []; nodes = []; apps = [] }
 
 abbrev one_node : ClusterView
-one_node = record { node_names = codes "a" ∷ []; app_names = []; platform_names = []; nodes = []; apps = [] }
+one_node = record { profile = 1; node_names = codes "a" ∷ []; app_names = []; platform_names = []; nodes = []; apps = [] }
 
 -- boot, crash, undo, look, redo, undo all, undo, redo all
 two_nodes_row : replies (opened two_nodes First) (Step (Boot (numbered 0)) ∷ Step (Crash (numbered 0)) ∷ Undo ∷ Look ∷ Redo ∷ UndoAll ∷ Undo ∷ RedoAll ∷ [])
@@ -64,6 +64,7 @@ full_trail_row = refl
 -- ---- the report of a state with applications: one that is distributed, and one that isn't
 abbrev with_apps : ClusterView
 with_apps = record {
+  profile = 1;
   node_names = codes "n1" ∷ codes "n2" ∷ [];
   app_names = codes "job" ∷ codes "load" ∷ [];
   platform_names = [];

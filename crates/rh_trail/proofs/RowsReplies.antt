@@ -24,7 +24,7 @@ use Rattle.rh_trail.specs.SimView.{SimView}
 use Rattle.rh_trail.specs.Lone.{opened, cut, replies, served, trail_limit}
 
 abbrev one_node : ClusterView
-one_node = record { node_names = codes "a" ∷ []; app_names = []; platform_names = []; nodes = []; apps = [] }
+one_node = record { profile = 1; node_names = codes "a" ∷ []; app_names = []; platform_names = []; nodes = []; apps = [] }
 
 -- nothing stands and nothing can be made again
 nothing_row : (pick : _) → replies (opened one_node pick) (Undo ∷ Redo ∷ UndoAll ∷ RedoAll ∷ []) ≡ AtStart ∷ AtEnd ∷ Moved 0 ∷ Moved 0 ∷ []

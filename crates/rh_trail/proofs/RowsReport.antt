@@ -22,6 +22,7 @@ distributed = record local { spread = Some (record { timeout = 0; groups = [] })
 
 abbrev cluster : ClusterView
 cluster = record {
+  profile = 1;
   node_names = codes "n1" ∷ codes "n2" ∷ codes "n3" ∷ [];
   app_names = codes "job" ∷ codes "load" ∷ codes "web" ∷ codes "db" ∷ codes "old" ∷ codes "new" ∷ [];
   platform_names = [];

@@ -30,7 +30,7 @@ of-requires-clause-apps c =
 pub returns-clause-cluster : goal.returns-clause-cluster
 unfolding cluster_view names_of
 returns-clause-cluster c =
-    c.of.ensures ∙ (λ i. record {
+    c.in_ok-cluster.ensures ∙ (λ i. record {
       node_names = (c.in_ok-names.ensures.names i).nodes;
       app_names = (c.in_ok-names.ensures.names i).apps;
       platform_names = (c.in_ok-names.ensures.names i).platforms;

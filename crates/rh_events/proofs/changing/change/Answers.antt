@@ -5,6 +5,7 @@ use Rattle.rh_settle.specs.Course.{course}
 use Rattle.rh_events.specs.Changes.{change}
 use Rattle.rh_events.specs.Refusals.{refused}
 use Rattle.rh_events.proofs.Accepted.{accepted_boot, accepted_crash, accepted_start, accepted_stop, accepted_permit, accepted_takeover, accepted_exit}
+use Rattle.rh_events.proofs.Accepted.{accepted_start_all, accepted_stop_all}
 use Rattle.rh_events.proofs.Requirements.{unset_sync, unset_failover, off_to_start, on_to_stop, runs_elsewhere}
 use Rattle.rh_events.proofs.changing.change.Goals as goal
 
@@ -68,3 +69,11 @@ exit-requires-clause-runs c = (accepted_exit _ _ _ _ (sym (ap (refused (read c.a
 pub returns-in-Start-clause-course : goal.returns-in-Start-clause-course
 returns-in-Start-clause-course c =
     on_ok_weaker c.mark.result (λ made. made ∙ ap (change (course (read c.args.state.now) c.args.trace.now)) (sym c.in-Start.is)) c.mark.ensures.course
+
+pub start_all-requires : goal.start_all-requires
+start_all-requires c =
+    record { app = (accepted_start_all _ _ _ (sym (ap (refused (read c.args.state.now)) c.in-StartAll.is) ∙ c.requires.accepted)).app }
+
+pub stop_all-requires : goal.stop_all-requires
+stop_all-requires c =
+    record { app = (accepted_stop_all _ _ (sym (ap (refused (read c.args.state.now)) c.in-StopAll.is) ∙ c.requires.accepted)).app }

@@ -1,15 +1,22 @@
-use Rattle.std.proofs.Common.{◌≡◌, sym, ap, ◌∙◌, not, Bool, true, false, is_none}
-use Rattle.rh_model.specs.ClusterView.{deps_of}
+use Rattle.std.proofs.Common.{◌&&◌, ◌∙◌, ap, sym, subst, Bool}
+use Rattle.std.specs.List.{list_all}
+use Rattle.rh_model.specs.ClusterView.{IsWithin}
+use Rattle.rh_model.specs.Needs.{is_home, needed_apps}
+use Rattle.rh_state.specs.StateView.{runs_at}
 use Rattle.rh_state.specs.Stored.{read}
-use Rattle.rh_place.specs.Placing.{dep_runs, deps_run, missing_dep}
-use Rattle.rh_base.proofs.Lists.{all_pass}
+use Rattle.rh_place.proofs.Needs.{deps_by_kind}
 use Rattle.rh_place.proofs.operating.deps_run.Goals as goal
 
-turned : (a b : Bool) → a ≡ not b → b ≡ not a
-turned a true h = ap not (sym h)
-turned a false h = ap not (sym h)
+pub returns-then-is_home : goal.returns-then-is_home
+returns-then-is_home c =
+    let s = read c.args.state.now in
+    let home = ap (λ k. is_home k c.args.app c.args.node) (sym c.cluster-cluster.ensures) ∙ sym c.is_home.ensures ∙ c.if-is_home.true in
+    c.needs_run.ensures ∙ ap (λ (b : Bool). b && list_all (runs_at s c.args.node) (needed_apps s.cluster c.args.app)) (sym home)
+    ∙ deps_by_kind s c.args.node c.args.app c.requires.node (subst IsWithin c.cluster-cluster.ensures c.is_within.ensures)
 
-pub returns : goal.returns
-unfolding deps_run missing_dep
-returns c = turned _ _ c.is_none.ensures ∙ ap is_none c.missing_dep.ensures ∙ all_pass (dep_runs (read c.args.state.now) c.args.node)
-    (deps_of (read c.args.state.now).cluster c.args.app)
+pub returns-else-is_home : goal.returns-else-is_home
+returns-else-is_home c =
+    let s = read c.args.state.now in
+    let home = ap (λ k. is_home k c.args.app c.args.node) (sym c.cluster-cluster.ensures) ∙ sym c.is_home.ensures ∙ c.if-is_home.false in
+    c.if-is_home.false ∙ ap (λ (b : Bool). b && list_all (runs_at s c.args.node) (needed_apps s.cluster c.args.app)) (sym home)
+    ∙ deps_by_kind s c.args.node c.args.app c.requires.node (subst IsWithin c.cluster-cluster.ensures c.is_within.ensures)

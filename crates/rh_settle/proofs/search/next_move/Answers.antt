@@ -4,4 +4,4 @@ pub next_on-requires : goal.next_on-requires
 next_on-requires c = λ n. c.of-board.ensures.exact n
 
 pub returns : goal.returns
-returns c = c.next_on.ensures c.args.marked.now c.of-board.ensures
+returns c = c.next_on.ensures c.args.fresh.now c.of-board.ensures

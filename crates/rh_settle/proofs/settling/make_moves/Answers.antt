@@ -4,9 +4,9 @@ use Rattle.rh_state.specs.Shape.{IsNodeOf}
 use Rattle.rh_state.specs.Stored.{read}
 use Rattle.rh_settle.specs.declared.notice.Pair.{Pair}
 use Rattle.rh_settle.specs.Boards.{nodes_changed, IsBoardOf}
-use Rattle.rh_settle.specs.Course.{Course, course}
+use Rattle.rh_settle.specs.Course.{Course, course, fresh_of}
 use Rattle.rh_settle.proofs.Boards.{changed_nodes}
-use Rattle.rh_settle.proofs.Fuel.{state_moved, marks_moved}
+use Rattle.rh_settle.proofs.Fuel.{state_moved, fresh_moved}
 use Rattle.rh_settle.proofs.Making.{makeable, smaller, same, runs_still, none_left}
 use Rattle.rh_settle.proofs.Ways.{goes_more, goes_cluster}
 use Rattle.rh_settle.proofs.settling.make_moves.Goals as goal
@@ -17,12 +17,12 @@ next_on-requires c = λ n. c.moves.invariant.board.exact n
 pub make_move-requires : goal.make_move-requires
 make_move-requires c =
     let o = course (read c.moves.state) c.moves.trace in
-    makeable o c.args.pick c.in-Some.next c.formed.ensures.shape (c.in-Some.ensures c.moves.trace.marked c.moves.invariant.board) c.moves.invariant.runs
+    makeable o c.args.pick c.in-Some.next c.formed.ensures.shape (c.in-Some.ensures (fresh_of o) c.moves.invariant.board) c.moves.invariant.runs
 
 pub follow-requires : goal.follow-requires
 follow-requires c =
     let o = course (read c.moves.state) c.moves.trace in
-    let made = makeable o c.args.pick c.in-Some.next c.formed.ensures.shape (c.in-Some.ensures c.moves.trace.marked c.moves.invariant.board) c.moves.invariant.runs in
+    let made = makeable o c.args.pick c.in-Some.next c.formed.ensures.shape (c.in-Some.ensures (fresh_of o) c.moves.invariant.board) c.moves.invariant.runs in
     subst (λ (v : ClusterView). All (IsNodeOf v) (nodes_changed c.in-Some.next)) (sym (goes_cluster _ _ _ _ c.make_move.ensures.way))
     (changed_nodes (read c.moves.state) c.in-Some.next made)
 
@@ -30,12 +30,12 @@ pub moves-preserved : goal.moves-preserved
 moves-preserved c =
     let o = course (read c.moves.state) c.moves.trace in
     let p = course (read c.make_move.new.state) c.make_move.new.trace in
-    let next = c.in-Some.ensures c.moves.trace.marked c.moves.invariant.board in
+    let next = c.in-Some.ensures (fresh_of o) c.moves.invariant.board in
     let made = c.in_ok-make_move.ensures.course in
     record {
       board = subst (λ (ps : List Pair). IsBoardOf p.state ps c.follow.new.self)
-          (sym (ap (λ (q : Course). q.marked) made ∙ marks_moved o c.in-Some.next))
-          (c.follow.ensures o.state o.marked c.moves.invariant.board (ap (λ (q : Course). q.state) made ∙ state_moved o c.in-Some.next));
+          (sym (ap fresh_of made ∙ fresh_moved o c.in-Some.next))
+          (c.follow.ensures o.state (fresh_of o) c.moves.invariant.board (ap (λ (q : Course). q.state) made ∙ state_moved o c.in-Some.next));
       same = same o c.args.pick c.in-Some.next c.formed.ensures.shape next p made ∙ c.moves.invariant.same;
       runs = runs_still o c.args.pick c.in-Some.next c.formed.ensures.shape next p made c.moves.invariant.runs;
       way = goes_more _ _ _ _ _ _ c.moves.invariant.way c.make_move.ensures.way;
@@ -45,18 +45,18 @@ pub moves-smaller : goal.moves-smaller
 moves-smaller c =
     let o = course (read c.moves.state) c.moves.trace in
     let p = course (read c.make_move.new.state) c.make_move.new.trace in
-    let next = c.in-Some.ensures c.moves.trace.marked c.moves.invariant.board in
+    let next = c.in-Some.ensures (fresh_of o) c.moves.invariant.board in
     smaller o c.args.pick c.in-Some.next c.formed.ensures.shape next p c.in_ok-make_move.ensures.course
 
 pub returns-clause-moved : goal.returns-clause-moved
 returns-clause-moved c =
     let o = course (read c.moves.state) c.moves.trace in
-    sym (none_left o c.args.pick (c.in_default.ensures c.moves.trace.marked c.moves.invariant.board)).0 ∙ c.moves.invariant.same
+    sym (none_left o c.args.pick (c.in_default.ensures (fresh_of o) c.moves.invariant.board)).0 ∙ c.moves.invariant.same
 
 pub returns-clause-still : goal.returns-clause-still
 returns-clause-still c =
     let o = course (read c.moves.state) c.moves.trace in
-    (none_left o c.args.pick (c.in_default.ensures c.moves.trace.marked c.moves.invariant.board)).1
+    (none_left o c.args.pick (c.in_default.ensures (fresh_of o) c.moves.invariant.board)).1
 
 pub returns-clause-cluster : goal.returns-clause-cluster
 returns-clause-cluster c = goes_cluster _ _ _ _ c.moves.invariant.way

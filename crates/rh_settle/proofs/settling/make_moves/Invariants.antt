@@ -1,7 +1,7 @@
 use Rattle.std.proofs.Common.{◌≡◌}
 use Rattle.rh_state.specs.Stored.{read}
 use Rattle.rh_settle.specs.Boards.{IsBoardOf}
-use Rattle.rh_settle.specs.Course.{course}
+use Rattle.rh_settle.specs.Course.{course, fresh_of}
 use Rattle.rh_settle.specs.Settling.{all_moved}
 use Rattle.rh_settle.specs.Validity.{RunsWhereItStands}
 use Rattle.rh_settle.specs.Ways.{Goes}
@@ -10,7 +10,7 @@ use Rattle.rh_settle.proofs.settling.make_moves.Given as goal
 
 abbrev pub invariant-moves : goal.invariant-moves
 invariant-moves l = record {
-  board : IsBoardOf (read l.state) l.trace.marked l.board;
+  board : IsBoardOf (read l.state) (fresh_of (course (read l.state) l.trace)) l.board;
   same : all_moved l.pick (course (read l.state) l.trace) ≡ all_moved l.pick (course (read l.fn.state) l.fn.trace);
   runs : RunsWhereItStands (read l.state);
   way : Goes l.fn.state l.fn.trace l.state l.trace;

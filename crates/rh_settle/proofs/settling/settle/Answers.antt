@@ -3,11 +3,11 @@ use Rattle.std.proofs.lemmas.Result.{on_ok_weaker}
 use Rattle.rh_model.specs.ClusterView.{ClusterView}
 use Rattle.rh_state.specs.Stored.{read}
 use Rattle.rh_settle.specs.declared.notice.Pair.{Pair}
-use Rattle.rh_settle.specs.Course.{Course, IsPairOf, course}
-use Rattle.rh_settle.specs.Moves.{next_moves}
-use Rattle.rh_settle.specs.Settling.{Settles, waits_told}
+use Rattle.rh_settle.specs.Course.{Course, IsPairOf, course, fresh_of}
+use Rattle.rh_settle.specs.Settling.{NoneEnabled, Settles, waits_told}
+use Rattle.rh_settle.proofs.NextFirsts.{still_if_none_enabled}
 use Rattle.rh_settle.proofs.SettlingLaws.{settles_by_pick, few_moves}
-use Rattle.rh_settle.proofs.Unchanged.{all_moved_marked, waits_told_marked}
+use Rattle.rh_settle.proofs.Unchanged.{all_moved_marked, waits_told_fresh}
 use Rattle.rh_settle.proofs.Ways.{goes_more}
 use Rattle.rh_settle.proofs.settling.settle.Goals as goal
 
@@ -38,7 +38,8 @@ pub returns-clause-still : goal.returns-clause-still
 returns-clause-still c =
     let o = course (read c.make_moves.new.state) c.make_moves.new.trace in
     on_ok_weaker c.tell_waiting.result
-    (λ told. ap (λ (ps : List Pair). next_moves o.state ps) (ap (λ (p : Course). p.marked) told ∙ waits_told_marked o) ∙ c.in_ok-make_moves.ensures.still)
+    (λ told. subst (NoneEnabled o.state) (sym (ap fresh_of told ∙ waits_told_fresh o))
+    ((still_if_none_enabled o.state (fresh_of o)).0 c.in_ok-make_moves.ensures.still))
     c.tell_waiting.ensures.course
 
 pub returns-clause-way : goal.returns-clause-way

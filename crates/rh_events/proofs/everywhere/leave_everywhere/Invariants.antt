@@ -1,0 +1,13 @@
+use Rattle.std.proofs.Common.{◌≡◌}
+use Rattle.rh_state.specs.Stored.{read}
+use Rattle.rh_settle.specs.Course.{course}
+use Rattle.rh_settle.specs.Ways.{Goes}
+use Rattle.rh_events.proofs.StoppingAll.{left_below}
+use Rattle.rh_events.proofs.everywhere.leave_everywhere.Given as goal
+
+abbrev pub invariant-nodes : goal.invariant-nodes
+invariant-nodes l = record {
+  same : course (read l.state) l.trace ≡ left_below (course (read l.fn.state) l.fn.trace) l.app l.number;
+  cluster : (read l.state).cluster ≡ (read l.fn.state).cluster;
+  way : Goes l.fn.state l.fn.trace l.state l.trace;
+}
