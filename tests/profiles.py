@@ -102,7 +102,7 @@ def greatest_clusters(program):
     lines = [f"boot {node}" for node in reversed(nodes)]
     lines += ["crash n63", "crash n42", "tick 499", "boot n42", "tick 1", "show", "permit n20 a127 false", "permit n20 a127 true",
               "stop_all a127", "start_all a127 permanent", "start_all a128 permanent", "boot n64", "boot n255", "stop_all a255",
-              "takeover n41 a127 temporary", "exit n41 a127 abnormal", "boot n63", "permit n63 a127 false", "permit n63 a127 true",
+              "takeover n62 a127 temporary", "exit n62 a127 abnormal", "boot n63", "permit n63 a127 false", "permit n63 a127 true",
               "crash n0", "show", "undo", "undo", "show", "undo_all", "redo_all", "show"]
     for pick in ("first", "last"):
         whole = text + model.joined(lines)
