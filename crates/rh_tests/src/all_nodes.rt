@@ -133,7 +133,11 @@ fn comes_back(rt: &impl Abort, alloc: Global, sim: &mut Sim) {
 fn a_lost_application_comes_back_and_undo_takes_that_back(rt: HostRuntime) {
     let mut sim = sim_on(&rt, rt.alloc(), THREE);
     make_all(&rt, rt.alloc(), &mut sim, BOOTS.as_slice());
-    let events = [start_all(0), Event::Crash { node: Node(0) }, Event::Boot { node: Node(0) }];
+    let events = [
+        start_all(0),
+        Event::Crash { node: Node(0) },
+        Event::Boot { node: Node(0) },
+    ];
     make_all(&rt, rt.alloc(), &mut sim, events.as_slice());
     let before = copied(&rt, rt.alloc(), &sim);
     comes_back(&rt, rt.alloc(), &mut sim);
@@ -156,7 +160,13 @@ fn refused_at_the_start(rt: &impl Abort, alloc: Global, sim: &mut Sim) {
 // Reasons where all are.
 fn refused_where_nodes_are_up(rt: &impl Abort, alloc: Global, sim: &mut Sim) {
     let dep = Dep::Listed(App(2));
-    is_refused(rt, alloc, sim, start_all(1), Refusal::DependencyNotStarted { dep });
+    is_refused(
+        rt,
+        alloc,
+        sim,
+        start_all(1),
+        Refusal::DependencyNotStarted { dep },
+    );
     make_all(rt, alloc, sim, [start_all(0)].as_slice());
     is_refused(rt, alloc, sim, start_all(0), Refusal::AlreadyStarted);
     assert!(rt; tells(rt, alloc, sim, stop_all(0), [stopped(0)].as_slice()));

@@ -72,7 +72,13 @@ fn away(rt: &impl Abort, alloc: Global, text: &str) -> Sim {
     let boots = [Event::Boot { node: Node(0) }, Event::Boot { node: Node(1) }];
     make_all(rt, alloc, &mut sim, boots.as_slice());
     let restart = Restart::Temporary;
-    let starts = [Event::StartAll { app: App(0), restart }, permission(false)];
+    let starts = [
+        Event::StartAll {
+            app: App(0),
+            restart,
+        },
+        permission(false),
+    ];
     make_all(rt, alloc, &mut sim, starts.as_slice());
     sim
 }
@@ -82,7 +88,12 @@ fn pulled_back() -> [Notice; 2] {
     let app = App(0);
     let kind = Kind::Takeover(Node(1));
     [
-        Notice::Started { app, node: Node(0), kind, lost: None },
+        Notice::Started {
+            app,
+            node: Node(0),
+            kind,
+            lost: None,
+        },
         Notice::Stopped { app, node: Node(1) },
     ]
 }
@@ -146,9 +157,15 @@ fn last_runs(rt: &impl Abort, state: &State) {
 
 // Numbers behind the last ones are unknown.
 fn knows_no_more(rt: &impl Abort, alloc: Global, sim: &mut Sim) {
-    let boot = sim.step(alloc, Event::Boot { node: Node(64) }).err().expect(rt, "refused");
+    let boot = sim
+        .step(alloc, Event::Boot { node: Node(64) })
+        .err()
+        .expect(rt, "refused");
     assert!(rt; boot == Refusal::UnknownNode);
-    let stop = sim.step(alloc, Event::StopAll { app: App(128) }).err().expect(rt, "refused");
+    let stop = sim
+        .step(alloc, Event::StopAll { app: App(128) })
+        .err()
+        .expect(rt, "refused");
     assert!(rt; stop == Refusal::UnknownApp);
 }
 
@@ -158,7 +175,13 @@ fn the_last_node_and_the_last_application(rt: HostRuntime) {
     let mut sim = sim_on(&rt, rt.alloc(), text.as_str());
     has_the_last(&rt, sim.cluster());
     let restart = Restart::Permanent;
-    let events = [Event::Boot { node: Node(63) }, Event::StartAll { app: App(127), restart }];
+    let events = [
+        Event::Boot { node: Node(63) },
+        Event::StartAll {
+            app: App(127),
+            restart,
+        },
+    ];
     make_all(&rt, rt.alloc(), &mut sim, events.as_slice());
     last_runs(&rt, sim.state());
     knows_no_more(&rt, rt.alloc(), &mut sim);
