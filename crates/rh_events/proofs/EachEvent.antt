@@ -7,18 +7,17 @@ use Rattle.rh_state.specs.declared.status.Standing.{Standing}
 use Rattle.rh_state.specs.declared.status.Standing.TheVariants.{Running}
 use Rattle.rh_state.specs.Numbers.{same_node}
 use Rattle.rh_state.specs.StateView.{StateView, mode_of, is_allowed, runs_at, restart_of, standing_of}
-use Rattle.rh_state.specs.Setters.{with_allowed}
 use Rattle.rh_base.proofs.Lists.{cases}
 use Rattle.rh_settle.specs.declared.notice.Notice.{Notice}
 use Rattle.rh_settle.specs.declared.notice.Pair.{Pair}
-use Rattle.rh_settle.specs.Course.{Course, IsPairOf, course_of, now_in}
+use Rattle.rh_settle.specs.Course.{Course, IsPairOf, course_of}
 use Rattle.rh_settle.specs.Validity.{IsSound}
 use Rattle.rh_settle.proofs.Behind.{after_notices}
 use Rattle.rh_events.specs.declared.event.Event.{Event}
 use Rattle.rh_events.specs.declared.event.Event.TheVariants.{Boot, Crash, Tick, Start, Stop, Permit, Takeover, Exit, StartAll, StopAll}
 use Rattle.rh_events.specs.Marking.{pair, with_mark}
 use Rattle.rh_events.specs.Ending.{ended}
-use Rattle.rh_events.specs.ByHand.{stopped, left_waiting, forbidden, permitted, taken_from, taken_over, ends_node, exited}
+use Rattle.rh_events.specs.ByHand.{stopped, left_waiting, forbidden, permitted, permission_set, taken_from, taken_over, ends_node, exited}
 use Rattle.rh_events.specs.Changes.{change}
 use Rattle.rh_events.specs.Refusals.{refused}
 use Rattle.rh_events.proofs.Accepted.{same_standing, accepted_boot, accepted_crash, accepted_start, accepted_stop, accepted_permit, accepted_takeover}
@@ -125,7 +124,7 @@ marked_changed o (Stop n a) fine before = by (runs_at o.state n a)
     by false = before
 marked_changed o (Permit n a allow) fine before = by (not allow && (is_allowed o.state n a && runs_at o.state n a))
   where
-    by : (b : Bool) → ArePairs o.state (cond b (forbidden o n a) (now_in o (with_allowed o.state n a allow))).marked
+    by : (b : Bool) → ArePairs o.state (cond b (forbidden o n a) (permission_set o n a allow)).marked
     by true = before
     by false = before
 marked_changed o (Takeover n a r) fine before = by (standing_of o.state a)

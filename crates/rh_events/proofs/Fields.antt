@@ -17,7 +17,7 @@ use Rattle.rh_settle.specs.Course.{Course}
 use Rattle.rh_settle.specs.Moves.{is_local, with_stopped}
 use Rattle.rh_events.specs.Marking.{with_distributed_standing, with_mark}
 use Rattle.rh_events.specs.Ending.{timeout_of, cleared, lost_at, lost_from, lost_if_ran, all_lost, ended}
-use Rattle.rh_events.specs.ByHand.{stopped, is_started_anywhere, quiet_if_nowhere, left_waiting, forbidden, permitted, taken_from, taken_over, ends_node}
+use Rattle.rh_events.specs.ByHand.{stopped, is_started_anywhere, quiet_if_nowhere, left_waiting, forbidden, permitted, permission_set, taken_from, taken_over, ends_node}
 use Rattle.rh_events.specs.ByHand.{exited}
 use Rattle.rh_events.specs.Changes.{with_sync_timer, booted}
 use Rattle.rh_events.proofs.Marks.{mark_any}
@@ -115,7 +115,7 @@ pub permitted_same : (o : Course) (n : Node) (a : App) (allow : Bool) → SameNo
 unfolding permitted forbidden
 permitted_same o n a allow = by (not allow && (is_allowed o.state n a && runs_at o.state n a))
   where
-    by : (b : Bool) → SameNodes o.state (cond b (forbidden o n a) (record o { state = with_allowed o.state n a allow })).state
+    by : (b : Bool) → SameNodes o.state (cond b (forbidden o n a) (permission_set o n a allow)).state
     by true = distributed_same o.state (with_stopped (with_allowed o.state n a false) n a) a (Wanted None)
         record { cluster = refl; time = refl; modes = refl; incarnations = refl }
     by false = record { cluster = refl; time = refl; modes = refl; incarnations = refl }

@@ -15,7 +15,7 @@ use Rattle.rh_settle.proofs.Every.{filter_no}
 use Rattle.rh_settle.proofs.Places.{at_set_here, same_refl, or_right, append_gives, started_on}
 use Rattle.rh_settle.specs.declared.notice.Move.TheVariants.{Takeover}
 use Rattle.rh_settle.specs.declared.notice.Notice.TheVariants as notice
-use Rattle.rh_settle.specs.Course.{TraceView, course_of, course, told}
+use Rattle.rh_settle.specs.Course.{TraceView, course, told}
 use Rattle.rh_settle.specs.Moves.{moved, with_stopped}
 
 -- an application that enters a list and leaves it again
@@ -50,10 +50,11 @@ abbrev taken_to : StateView → App → Node → Node → StateView
 taken_to u a m n = with_standing (with_stopped (with_kind (with_running u n a) n a (kind.Takeover m)) m a) a (Running n)
 
 pub same_takeover : (s t : StateView) (a : App) (m n : Node) (old new : TraceView) → new.notices ≡ old.notices → new.marked ≡ old.marked
-    → unlisted t n a ≡ unlisted s n a → moved (course t new) (Takeover a m n) ≡ moved (course s old) (Takeover a m n)
-same_takeover s t a m n old new notices marked e =
-    λ i. told (told (course_of (taken_to (e i) a m n) (notices i) (marked i)) (notice.Started a n (kind.Takeover m) None)) (notice.Stopped a m)
+    → new.freed ≡ old.freed → unlisted t n a ≡ unlisted s n a → moved (course t new) (Takeover a m n) ≡ moved (course s old) (Takeover a m n)
+same_takeover s t a m n old new notices marked freed e =
+    λ i. told (told (record { state = taken_to (e i) a m n; notices = notices i; marked = marked i; freed = freed i }) (notice.Started a n (kind.Takeover m) None)) (notice.Stopped a m)
 
--- a state that is said otherwise, with a trace that told and marked nothing more
-pub same_course : (s t : StateView) (old new : TraceView) → t ≡ s → new.notices ≡ old.notices → new.marked ≡ old.marked → course t new ≡ course s old
-same_course s t old new e notices marked = λ i. course_of (e i) (notices i) (marked i)
+-- a state that is said otherwise, with a trace that told, marked and freed nothing more
+pub same_course : (s t : StateView) (old new : TraceView) → t ≡ s → new.notices ≡ old.notices → new.marked ≡ old.marked → new.freed ≡ old.freed
+    → course t new ≡ course s old
+same_course s t old new e notices marked freed = λ i. record { state = e i; notices = notices i; marked = marked i; freed = freed i }

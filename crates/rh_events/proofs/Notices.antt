@@ -21,7 +21,7 @@ use Rattle.rh_settle.specs.Readiness.{is_ready}
 use Rattle.rh_events.specs.Marking.{with_distributed_standing, mark, mark_booted, mark_all}
 use Rattle.rh_events.specs.ComingUp.{come_up, come_up_if_ready, ready_come_up}
 use Rattle.rh_events.specs.Ending.{cleared, all_lost, ended}
-use Rattle.rh_events.specs.ByHand.{stopped, left_waiting, forbidden, permitted, taken_from, taken_over, ends_node, exited}
+use Rattle.rh_events.specs.ByHand.{stopped, left_waiting, forbidden, permitted, permission_set, taken_from, taken_over, ends_node, exited}
 
 -- ---- marks, and nodes that come up
 pub mark_after : (base : List Notice) (o : Course) (n : Node) (a : App) (r : Restart) → mark (after_notices base o) n a r ≡ after_notices base (mark o n a r)
@@ -77,8 +77,8 @@ pub permitted_after : (base : List Notice) (o : Course) (n : Node) (a : App) (al
 unfolding permitted
 permitted_after base o n a allow = by (not allow && (is_allowed o.state n a && runs_at o.state n a))
   where
-    by : (b : Bool) → cond b (forbidden (after_notices base o) n a) (now_in (after_notices base o) (with_allowed o.state n a allow))
-        ≡ after_notices base (cond b (forbidden o n a) (now_in o (with_allowed o.state n a allow)))
+    by : (b : Bool) → cond b (forbidden (after_notices base o) n a) (permission_set (after_notices base o) n a allow)
+        ≡ after_notices base (cond b (forbidden o n a) (permission_set o n a allow))
     by true = forbidden_after base o n a
     by false = refl
 

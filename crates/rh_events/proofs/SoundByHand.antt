@@ -21,7 +21,7 @@ use Rattle.rh_base.proofs.Lists.{cases}
 use Rattle.rh_settle.proofs.Places.{or_left}
 use Rattle.rh_events.specs.Marking.{with_distributed_standing}
 use Rattle.rh_events.specs.Ending.{ended}
-use Rattle.rh_events.specs.ByHand.{stopped, is_started_anywhere, quiet_if_nowhere, left_waiting, forbidden, permitted, ends_node, exited}
+use Rattle.rh_events.specs.ByHand.{stopped, is_started_anywhere, quiet_if_nowhere, left_waiting, forbidden, permitted, permission_set, ends_node, exited}
 use Rattle.rh_settle.proofs.Entries.{same_number, both, taken, has, taken_has, taken_not, taken_keeps, there}
 use Rattle.rh_settle.proofs.Kept.{at_pair}
 use Rattle.rh_events.proofs.SoundEndingFits.{stands_here, stands_there, same_standing, fit_standing, fit_found}
@@ -226,7 +226,7 @@ unfolding permitted
 sound_permitted o n a allow h node app up = by (not allow && (is_allowed o.state n a && runs_at o.state n a)) refl
   where
     by : (b : Bool) → (not allow && (is_allowed o.state n a && runs_at o.state n a)) ≡ b
-        → IsSound (cond b (forbidden o n a) (record o { state = with_allowed o.state n a allow })).state
+        → IsSound (cond b (forbidden o n a) (permission_set o n a allow)).state
     by true t = sound_forbidden o n a h node app up (last_of (not allow) (is_allowed o.state n a) (runs_at o.state n a) t)
     by false f = sound_allowed o.state n a allow h up
 

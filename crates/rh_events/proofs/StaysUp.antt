@@ -11,7 +11,7 @@ use Rattle.rh_state.specs.declared.status.Mode.TheVariants.{Down, Waiting, Up}
 use Rattle.rh_state.specs.StateView.{StateView, mode_of, runs_at, restart_of, is_alive, is_up}
 use Rattle.rh_settle.specs.declared.notice.Notice.{Notice}
 use Rattle.rh_settle.specs.declared.notice.Notice.TheVariants as notice
-use Rattle.rh_settle.specs.Course.{Course, course_of}
+use Rattle.rh_settle.specs.Course.{Course}
 use Rattle.rh_settle.proofs.Places.{at_set}
 use Rattle.rh_events.specs.declared.event.Event.TheVariants.{Boot, Stop, Exit}
 use Rattle.rh_events.specs.ComingUp.{come_up}
@@ -36,9 +36,9 @@ mode_in modes n = unwrap_or (slice_get modes n.0) Down
 pub told_still : (F : Course → Course) → ((base : List Notice) (o : Course) → F (after_notices base o) ≡ after_notices base (F o))
     → (o : Course) (x : Notice) → Contains o.notices x → Contains (F o).notices x
 told_still F after o x has =
-    let none : Course = course_of o.state [] o.marked in
+    let none : Course = record o { notices = [] } in
     let extends : (F o).notices ≡ o.notices ++ (F none).notices =
-    ap (λ notices. (F (course_of o.state notices o.marked)).notices) (sym (append-nil o.notices)) ∙ ap (λ (p : Course). p.notices) (after o.notices none) in
+    ap (λ notices. (F (record o { notices = notices })).notices) (sym (append-nil o.notices)) ∙ ap (λ (p : Course). p.notices) (after o.notices none) in
     subst (λ notices. Contains notices x) (sym extends) (Contains-append_left o.notices (F none).notices x has)
 
 -- a node that is up is one of the list

@@ -1,5 +1,5 @@
 -- What an operator changes by hand (application(3), stop/1, permit/2, takeover/2; ours for standings).
-use Rattle.std.specs.Prelude.{◌&&◌, not, Bool, true, false, None, if◌then◌else◌}
+use Rattle.std.specs.Prelude.{ℕ, ◌&&◌, ◌==◌, not, Bool, true, false, List, [], ◌∷◌, ◌++◌, None, if◌then◌else◌}
 use Rattle.std.specs.List.{list_any}
 use Rattle.rh_model.specs.declared.node.Node.{Node}
 use Rattle.rh_model.specs.declared.node.App.{App}
@@ -13,9 +13,10 @@ use Rattle.rh_state.specs.StateView.{StateView, runs_at, is_started, is_allowed,
 use Rattle.rh_state.specs.Setters.{with_allowed, with_restart, with_standing, without_due, unlisted}
 use Rattle.rh_settle.specs.declared.notice.Move.TheVariants as move
 use Rattle.rh_settle.specs.declared.notice.Notice.TheVariants as notice
+use Rattle.rh_settle.specs.declared.notice.Pair.{Pair}
 use Rattle.rh_settle.specs.Course.{Course, told, now_in}
 use Rattle.rh_settle.specs.Moves.{with_stopped, moved}
-use Rattle.rh_events.specs.Marking.{with_distributed_standing}
+use Rattle.rh_events.specs.Marking.{with_distributed_standing, pair}
 use Rattle.rh_events.specs.Ending.{ended}
 
 -- an application that runs at a node stops there, and is to run nowhere
@@ -40,10 +41,26 @@ unfoldable pub forbidden : Course → Node → App → Course
 forbidden o n a =
     told (now_in o (with_distributed_standing (with_stopped (with_allowed o.state n a false) n a) a (Wanted None))) (notice.Stopped a n)
 
+-- the profiles in which a permission that is given back calls an application back (ours; a live OTP does so)
+abbrev pub pulls_back : ℕ → Bool
+pulls_back profile = profile == 2
+
+-- such a permission frees a pair that is started and may run again
+abbrev pub frees : StateView → Node → App → Bool → Bool
+frees s n a allow = pulls_back s.cluster.profile && (allow && (not (is_allowed s n a) && is_started s n a))
+
+-- the pair that a permission frees
+abbrev pub freed_by : StateView → Node → App → Bool → List Pair
+freed_by s n a allow = if frees s n a allow then pair n a ∷ [] else []
+
+-- a permission is set, and may free a pair
+abbrev pub permission_set : Course → Node → App → Bool → Course
+permission_set o n a allow = record o { state = with_allowed o.state n a allow; freed = o.freed ++ freed_by o.state n a allow }
+
 unfoldable pub permitted : Course → Node → App → Bool → Course
 permitted o n a allow =
     if not allow && (is_allowed o.state n a && runs_at o.state n a) then forbidden o n a
-    else now_in o (with_allowed o.state n a allow)
+    else permission_set o n a allow
 
 -- one that runs elsewhere is taken over, and has the given restart type
 abbrev pub taken_from : Course → Node → App → Restart → Standing → Course

@@ -24,6 +24,7 @@ pub fn boot(state: &mut State, node: Node, trace: &mut Trace) -> Result<(), OutO
     ensures part { OnOk result (read state.new ≡ booted (read state.old) node) }
     ensures told { trace.new.notices ≡ trace.old.notices }
     ensures marked { trace.new.marked ≡ trace.old.marked }
+    ensures freed { trace.new.freed ≡ trace.old.freed }
     ensures way { Goes state.old trace.old state.new trace.new }
 {
     let incarnation = state.incarnation(node) + 1;

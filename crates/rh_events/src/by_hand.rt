@@ -1,6 +1,6 @@
 //! What an operator changes by hand.
 
-ghost use Rattle.std.specs.Prelude.{◌≡◌, ◌≢◌, true, OnOk};
+ghost use Rattle.std.specs.Prelude.{◌≡◌, ◌≢◌, ◌++◌, true, OnOk};
 ghost use Rattle.rh_model.specs.declared.node.Node.{Node};
 ghost use Rattle.rh_state.specs.Shape.{IsNodeOf, IsAppOf};
 ghost use Rattle.rh_state.specs.StateView.{place_of, runs_at, is_started, standing_of};
@@ -13,7 +13,7 @@ ghost use Rattle.rh_settle.specs.Course.{course};
 ghost use Rattle.rh_settle.specs.Ways.{Goes};
 ghost use Rattle.rh_settle.specs.Moves.{moved};
 ghost use Rattle.rh_settle.specs.Validity.{RunsWhereItStands, IsSound};
-ghost use Rattle.rh_events.specs.ByHand.{stopped, is_started_anywhere, quiet_if_nowhere, left_waiting, forbidden, permitted, taken_over, ends_node, exited};
+ghost use Rattle.rh_events.specs.ByHand.{stopped, is_started_anywhere, quiet_if_nowhere, left_waiting, forbidden, pulls_back, frees, freed_by, permitted, taken_over, ends_node, exited};
 ghost use Rattle.rh_events.specs.Changes.{change};
 ghost use Rattle.rh_events.specs.declared.event.Event.TheVariants.{Stop};
 
@@ -22,7 +22,7 @@ use crate::marking::set_distributed_standing;
 use crate::readiness::cancel_if_set;
 use rh_base::OutOfMemory;
 use rh_model::{App, Node, Restart};
-use rh_settle::{Move, Notice, Trace, make_move, recording};
+use rh_settle::{Move, Notice, Pair, Trace, make_move, recording};
 use rh_state::{Place, Standing, State, Timer};
 
 // An application that runs at a node stops there.
@@ -78,6 +78,7 @@ fn quieten_if_nowhere(state: &mut State, app: App, trace: &mut Trace) -> Result<
     ensures part { OnOk result (read state.new ≡ quiet_if_nowhere (read state.old) app (standing_of (read state.old) app)) }
     ensures told { trace.new.notices ≡ trace.old.notices }
     ensures marked { trace.new.marked ≡ trace.old.marked }
+    ensures freed { trace.new.freed ≡ trace.old.freed }
     ensures way { Goes state.old trace.old state.new trace.new }
 {
     match state.standing(app) {
@@ -109,6 +110,7 @@ fn leave_waiting(
     ensures part { OnOk result (read state.new ≡ quiet_if_nowhere (unlisted (read state.old) node app) app (standing_of (read state.old) app)) }
     ensures told { trace.new.notices ≡ trace.old.notices }
     ensures marked { trace.new.marked ≡ trace.old.marked }
+    ensures freed { trace.new.freed ≡ trace.old.freed }
     ensures way { Goes state.old trace.old state.new trace.new }
 {
     recording::unlink(state, node, app, trace)?;
@@ -147,8 +149,50 @@ fn forbid(state: &mut State, node: Node, app: App, trace: &mut Trace) -> Result<
     set_distributed_standing(state, app, Standing::Wanted(None), trace)
 }
 
-/// An application may run at a node from now on, or may not (application(3), `permit/2`).
-#[tactic(auto, unfolding(crate::specs::ByHand::permitted))]
+// Does a permission that is given back call an application back in this profile?
+fn pulls_back(profile: u8) -> bool
+    ensures { result ≡ pulls_back profile }
+{
+    profile == 2
+}
+
+// Does a permission free a pair?
+fn frees(state: &State, node: Node, app: App, allow: bool) -> bool
+    requires node { IsNodeOf (read state.now).cluster node }
+    requires app { IsAppOf (read state.now).cluster app }
+    ensures { result ≡ frees (read state.now) node app allow }
+{
+    pulls_back(state.cluster().profile())
+        && allow
+        && !state.allowed(node, app)
+        && is_started_at(state, node, app)
+}
+
+// A permission frees the pair that it may free.
+#[tactic(auto, using(rh_settle::proofs::Ways::goes_none, rh_settle::proofs::Ways::goes_marked))]
+fn free(
+    state: &State,
+    node: Node,
+    app: App,
+    allow: bool,
+    trace: &mut Trace,
+) -> Result<(), OutOfMemory>
+    requires node { IsNodeOf (read state.now).cluster node }
+    requires app { IsAppOf (read state.now).cluster app }
+    ensures freed { OnOk result (trace.new.freed ≡ trace.old.freed ++ freed_by (read state.now) node app allow) }
+    ensures told { trace.new.notices ≡ trace.old.notices }
+    ensures marked { trace.new.marked ≡ trace.old.marked }
+    ensures way { Goes state.now trace.old state.now trace.new }
+{
+    if frees(state, node, app, allow) {
+        trace.free(Pair { node, app })?;
+    }
+    Ok(())
+}
+
+/// An application may run at a node from now on, or may not (application(3), `permit/2`). In the second profile (ours) one that
+/// is started there and may run there again is taken back from a node of a later group.
+#[tactic(auto, unfolding(crate::specs::ByHand::permitted), using(rh_settle::proofs::Ways::goes_more))]
 pub fn permit(
     state: &mut State,
     node: Node,
@@ -164,6 +208,7 @@ pub fn permit(
     if !allow && state.allowed(node, app) && state.place_of(node, app) == Place::InRunning {
         return forbid(state, node, app, trace);
     }
+    free(state, node, app, allow, trace)?;
     recording::set_allowed(state, node, app, allow, trace)
 }
 
@@ -183,6 +228,7 @@ fn start_if_off(
     ensures others { OnOk result (unlisted (read state.new) node app ≡ unlisted (read state.old) node app) }
     ensures told { trace.new.notices ≡ trace.old.notices }
     ensures marked { trace.new.marked ≡ trace.old.marked }
+    ensures freed { trace.new.freed ≡ trace.old.freed }
     ensures way { Goes state.old trace.old state.new trace.new }
 {
     state.formed();

@@ -40,6 +40,7 @@ fn empty(state: &mut State, node: Node, trace: &mut Trace) -> Result<(), OutOfMe
     ensures part { OnOk result (read state.new ≡ emptied (read state.old) node) }
     ensures told { trace.new.notices ≡ trace.old.notices }
     ensures marked { trace.new.marked ≡ trace.old.marked }
+    ensures freed { trace.new.freed ≡ trace.old.freed }
     ensures way { Goes state.old trace.old state.new trace.new }
 {
     'started: while let Some(app) = first_started(state, node) {
@@ -61,6 +62,7 @@ fn configure_app(
     ensures part { OnOk result (read state.new ≡ with_allowed (read state.old) node app (is_permitted (read state.old).cluster node app)) }
     ensures told { trace.new.notices ≡ trace.old.notices }
     ensures marked { trace.new.marked ≡ trace.old.marked }
+    ensures freed { trace.new.freed ≡ trace.old.freed }
     ensures way { Goes state.old trace.old state.new trace.new }
 {
     let allow = state.cluster().permitted(node, app);
@@ -77,6 +79,7 @@ fn configure(state: &mut State, node: Node, trace: &mut Trace) -> Result<(), Out
     ensures part { OnOk result (read state.new ≡ with_configured (read state.old) node) }
     ensures told { trace.new.notices ≡ trace.old.notices }
     ensures marked { trace.new.marked ≡ trace.old.marked }
+    ensures freed { trace.new.freed ≡ trace.old.freed }
     ensures way { Goes state.old trace.old state.new trace.new }
 {
     state.formed();
@@ -94,6 +97,7 @@ fn clear(state: &mut State, node: Node, trace: &mut Trace) -> Result<(), OutOfMe
     ensures part { OnOk result (read state.new ≡ cleared (read state.old) node) }
     ensures told { trace.new.notices ≡ trace.old.notices }
     ensures marked { trace.new.marked ≡ trace.old.marked }
+    ensures freed { trace.new.freed ≡ trace.old.freed }
     ensures way { Goes state.old trace.old state.new trace.new }
 {
     cancel_if_set(state, Timer::Sync(node), trace)?;
@@ -124,6 +128,7 @@ fn lose_at(state: &mut State, node: Node, app: App, trace: &mut Trace) -> Result
     ensures part { OnOk result (read state.new ≡ lost_at (read state.old) node app) }
     ensures told { trace.new.notices ≡ trace.old.notices }
     ensures marked { trace.new.marked ≡ trace.old.marked }
+    ensures freed { trace.new.freed ≡ trace.old.freed }
     ensures way { Goes state.old trace.old state.new trace.new }
 {
     let timeout = timeout_of(state.cluster(), app);
@@ -149,6 +154,7 @@ fn lose_if_ran(
     ensures part { OnOk result (read state.new ≡ lost_if_ran node (read state.old) app) }
     ensures told { trace.new.notices ≡ trace.old.notices }
     ensures marked { trace.new.marked ≡ trace.old.marked }
+    ensures freed { trace.new.freed ≡ trace.old.freed }
     ensures way { Goes state.old trace.old state.new trace.new }
 {
     match state.standing(app) {
@@ -165,6 +171,7 @@ fn lose_all(state: &mut State, node: Node, trace: &mut Trace) -> Result<(), OutO
     ensures part { OnOk result (read state.new ≡ all_lost (read state.old) node) }
     ensures told { trace.new.notices ≡ trace.old.notices }
     ensures marked { trace.new.marked ≡ trace.old.marked }
+    ensures freed { trace.new.freed ≡ trace.old.freed }
     ensures way { Goes state.old trace.old state.new trace.new }
 {
     let count = state.cluster().app_count();

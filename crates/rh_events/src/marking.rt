@@ -28,6 +28,7 @@ pub fn set_distributed_standing(
     ensures part { OnOk result (read state.new ≡ with_distributed_standing (read state.old) app standing) }
     ensures told { trace.new.notices ≡ trace.old.notices }
     ensures marked { trace.new.marked ≡ trace.old.marked }
+    ensures freed { trace.new.freed ≡ trace.old.freed }
     ensures way { Goes state.old trace.old state.new trace.new }
 {
     if state.cluster().spread(app).is_some() {
@@ -49,6 +50,7 @@ fn want_by_mark(
     ensures part { OnOk result (read state.new ≡ wanted_by_mark (read state.old) node app (standing_of (read state.old) app)) }
     ensures told { trace.new.notices ≡ trace.old.notices }
     ensures marked { trace.new.marked ≡ trace.old.marked }
+    ensures freed { trace.new.freed ≡ trace.old.freed }
     ensures way { Goes state.old trace.old state.new trace.new }
 {
     match state.standing(app) {

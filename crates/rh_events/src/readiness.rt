@@ -21,6 +21,7 @@ pub fn cancel_if_set(state: &mut State, timer: Timer, trace: &mut Trace) -> Resu
     ensures part { OnOk result (read state.new ≡ without_due (read state.old) timer) }
     ensures told { trace.new.notices ≡ trace.old.notices }
     ensures marked { trace.new.marked ≡ trace.old.marked }
+    ensures freed { trace.new.freed ≡ trace.old.freed }
     ensures way { Goes state.old trace.old state.new trace.new }
 {
     if state.due_of(timer).is_some() {

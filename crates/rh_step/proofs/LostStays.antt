@@ -31,7 +31,7 @@ use Rattle.rh_events.specs.declared.event.Event.TheVariants.{Boot, Crash, Tick, 
 use Rattle.rh_events.specs.Marking.{wanted_by_mark, with_mark, mark, mark_booted, mark_all}
 use Rattle.rh_events.specs.ComingUp.{come_up, come_up_if_ready, ready_come_up}
 use Rattle.rh_events.specs.Ending.{timeout_of, cleared, lost_at, lost_from, lost_if_ran, all_lost, ended}
-use Rattle.rh_events.specs.ByHand.{stopped, is_started_anywhere, quiet_if_nowhere, left_waiting, forbidden, permitted, taken_from, taken_over, ends_node, exited}
+use Rattle.rh_events.specs.ByHand.{stopped, is_started_anywhere, quiet_if_nowhere, left_waiting, forbidden, permitted, permission_set, taken_from, taken_over, ends_node, exited}
 use Rattle.rh_events.specs.Everywhere.{targets, start_at, start_all}
 use Rattle.rh_events.specs.Changes.{with_sync_timer, booted, change}
 use Rattle.rh_events.specs.Refusals.{refused}
@@ -286,7 +286,7 @@ unfolding permitted forbidden
 permit_lost o n b allow a m sound is = by (not allow && (is_allowed o.state n b && runs_at o.state n b)) refl
   where
     by : (p : Bool) → not allow && (is_allowed o.state n b && runs_at o.state n b) ≡ p
-        → standing_of (cond p (forbidden o n b) (now_in o (with_allowed o.state n b allow))).state a ≡ Lost m
+        → standing_of (cond p (forbidden o n b) (permission_set o n b allow)).state a ≡ Lost m
     by true e = quiets o.state (with_stopped (with_allowed o.state n b false) n b) a b m n (Wanted None) sound is (and_parts _ _ (and_parts _ _ e).1).1 refl
     by false e = is
 

@@ -16,7 +16,7 @@ use Rattle.rh_state.specs.StateView.{StateView, standing_of, runs_at, is_allowed
 use Rattle.rh_state.specs.Setters.{with_standing, with_timer, with_allowed, without_due, unlisted}
 use Rattle.rh_place.specs.declared.choosing.Pick.{Pick}
 use Rattle.rh_settle.specs.declared.notice.Notice.TheVariants as notice
-use Rattle.rh_settle.specs.Course.{Course, course_of, now_in}
+use Rattle.rh_settle.specs.Course.{Course, course_of}
 use Rattle.rh_settle.specs.Moves.{is_local, with_stopped}
 use Rattle.rh_settle.specs.Readiness.{all_alive, is_ready}
 use Rattle.rh_settle.specs.Settling.{settled}
@@ -25,7 +25,7 @@ use Rattle.rh_events.specs.declared.event.Event.{Event}
 use Rattle.rh_events.specs.declared.event.Event.TheVariants.{Boot, Crash, Tick, Start, Stop, Permit, Takeover, Exit, StartAll, StopAll}
 use Rattle.rh_events.specs.ComingUp.{come_up, come_up_if_ready, ready_come_up}
 use Rattle.rh_events.specs.Ending.{timeout_of, cleared, lost_at, lost_from, lost_if_ran, all_lost, ended}
-use Rattle.rh_events.specs.ByHand.{stopped, is_started_anywhere, quiet_if_nowhere, left_waiting, forbidden, permitted, taken_from, taken_over, ends_node, exited}
+use Rattle.rh_events.specs.ByHand.{stopped, is_started_anywhere, quiet_if_nowhere, left_waiting, forbidden, permitted, permission_set, taken_from, taken_over, ends_node, exited}
 use Rattle.rh_events.specs.Changes.{change}
 use Rattle.rh_events.specs.Refusals.{refused}
 use Rattle.rh_step.specs.Ticks.{wanted_if_lost, effect, taken_off, fired, all_fired, ticked}
@@ -179,7 +179,7 @@ unfolding permitted forbidden
 permit_quiet o n b allow a sound is = by (not allow && (is_allowed o.state n b && runs_at o.state n b)) refl
   where
     by : (p : Bool) → not allow && (is_allowed o.state n b && runs_at o.state n b) ≡ p
-        → standing_of (cond p (forbidden o n b) (now_in o (with_allowed o.state n b allow))).state a ≡ Quiet
+        → standing_of (cond p (forbidden o n b) (permission_set o n b allow)).state a ≡ Quiet
     by true e = beside o.state (with_stopped (with_allowed o.state n b false) n b) a b n (Wanted None) sound is (and_parts _ _ (and_parts _ _ e).1).1 refl
     by false e = is
 

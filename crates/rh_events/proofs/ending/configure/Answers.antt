@@ -8,7 +8,7 @@ use Rattle.rh_events.proofs.Configuring.{with_first, none_written, one_written, 
 use Rattle.rh_events.proofs.ending.configure.Goals as goal
 
 pub apps-init : goal.apps-init
-apps-init c = record { cluster = refl; written = none_written (read c.args.state.now) c.args.node; told = refl; marked = refl; way = goes_none _ _ }
+apps-init c = record { cluster = refl; written = none_written (read c.args.state.now) c.args.node; told = refl; marked = refl; freed = refl; way = goes_none _ _ }
 
 pub apps-preserved : goal.apps-preserved
 apps-preserved c =
@@ -24,6 +24,7 @@ apps-preserved c =
           ∙ one_written s n c.formed.ensures.shape c.requires i lt;
       told = c.in_ok-configure_app.ensures.told ∙ c.apps.invariant.told;
       marked = c.in_ok-configure_app.ensures.marked ∙ c.apps.invariant.marked;
+      freed = c.in_ok-configure_app.ensures.freed ∙ c.apps.invariant.freed;
       way = goes_more _ _ _ _ _ _ c.apps.invariant.way c.in_ok-configure_app.ensures.way;
     }
 

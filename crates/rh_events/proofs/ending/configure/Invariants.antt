@@ -10,5 +10,6 @@ invariant-apps l = record {
   written : read l.state ≡ with_first (read l.fn.state) l.node l.number;
   told : l.trace.notices ≡ l.fn.trace.notices;
   marked : l.trace.marked ≡ l.fn.trace.marked;
+  freed : l.trace.freed ≡ l.fn.trace.freed;
   way : Goes l.fn.state l.fn.trace l.state l.trace;
 }

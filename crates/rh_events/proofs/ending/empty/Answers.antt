@@ -19,6 +19,7 @@ started-preserved c = record {
   cluster = ap (λ (s : StateView). s.cluster) c.in_ok-unlink.ensures.part ∙ c.started.invariant.cluster;
   told = c.in_ok-unlink.ensures.told ∙ c.started.invariant.told;
   marked = c.in_ok-unlink.ensures.marked ∙ c.started.invariant.marked;
+  freed = c.in_ok-unlink.ensures.freed ∙ c.started.invariant.freed;
   way = goes_more _ _ _ _ _ _ c.started.invariant.way c.in_ok-unlink.ensures.way;
 }
 

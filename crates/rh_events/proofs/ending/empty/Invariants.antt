@@ -11,6 +11,7 @@ invariant-started l = record {
   cluster : (read l.state).cluster ≡ (read l.fn.state).cluster;
   told : l.trace.notices ≡ l.fn.trace.notices;
   marked : l.trace.marked ≡ l.fn.trace.marked;
+  freed : l.trace.freed ≡ l.fn.trace.freed;
   way : Goes l.fn.state l.fn.trace l.state l.trace;
 }
 

@@ -18,5 +18,6 @@ apps-preserved c =
       unset = subst (λ t. UnsetFrom t n (i + 1)) (sym c.in_ok-lose_if_ran.ensures.part) (unset_later s n i c.apps.invariant.unset);
       told = c.in_ok-lose_if_ran.ensures.told ∙ c.apps.invariant.told;
       marked = c.in_ok-lose_if_ran.ensures.marked ∙ c.apps.invariant.marked;
+      freed = c.in_ok-lose_if_ran.ensures.freed ∙ c.apps.invariant.freed;
       way = goes_more _ _ _ _ _ _ c.apps.invariant.way c.in_ok-lose_if_ran.ensures.way;
     }
