@@ -3,9 +3,9 @@
 
 The table has a row for each input: the subcommand, what the input is, its size in MiB, the exit status, the seconds, those of
 all processors together, and the peak memory in MiB. First come rehearsals of a cluster of 32 nodes and 64 applications, each of
-which is distributed over eight nodes, and sweeps of 20,000 plans of 10 to 30 events from a base of 100 steps. Then come the
-inputs of hostile_texts.py, which are made to take long or much memory. Where words are given, these are the rows whose text
-has them all.
+which is distributed over eight nodes, and sweeps of 20,000 plans of 10 to 30 events from a base of 100 steps; then those of
+64 nodes and 128 applications in the second profile. Then come the inputs of hostile_texts.py, which are made to take long or
+much memory. Where words are given, these are the rows whose text has them all.
 
 A run is ended after 20 seconds, and is refused memory behind 4 GiB; its output is thrown away. Nothing is asserted: the times
 depend on the machine.
@@ -23,21 +23,20 @@ from support import chain
 LONGEST, GREATEST = 20, 4_096
 
 
-def large():
-    """32 nodes and 64 applications, each of them distributed over eight nodes in four groups."""
-    nodes = [b"n%d@lab" % number for number in range(32)]
+def large(front=b"", node_count=32, app_count=64):
+    """So many nodes and applications, each of these distributed over eight nodes in four groups."""
+    nodes = [b"n%d@lab" % number for number in range(node_count)]
     lists = {}
-    for app in range(64):
-        eight = [nodes[(app + step) % 32] for step in range(8)]
+    for app in range(app_count):
+        eight = [nodes[(app + step) % node_count] for step in range(8)]
         lists[b"a%d" % app] = eight
     entries = b", ".join(
         b"{%s, 500, [{%s, %s}, {%s, %s}, {%s, %s}, {%s, %s}]}" % (name, *eight) for name, eight in lists.items())
-    text = b""
+    text = front
     for node in nodes:
         boot = b", ".join(b"{%s, temporary}" % name for name, eight in lists.items() if node in eight)
         text += b"{node, %s, [{kernel, [{distributed, [%s]}]}, {rehearse, [{boot, [%s]}]}]}.\n" % (node, entries, boot)
-    text += b" ".join(b"{application, %s, []}." % name for name in lists)
-    return nodes, text + b"\n===\n"
+    return nodes, text + b" ".join(b"{application, %s, []}." % name for name in lists) + b"\n===\n"
 
 
 def steps(nodes, count):
@@ -75,20 +74,41 @@ def plans(nodes, count):
     return b"\n".join(lines) + b"\n"
 
 
-def rehearsals():
-    """Triples as those of hostile_texts.py."""
-    nodes, text = large()
-    yield ["run"], "a step in which 64 applications start, in a chain", lambda: chain(64)[1] + b"boot z\n"
-    yield ["run"], "2,000 steps of a large cluster", lambda: text + steps(nodes, 2_000)
-    yield ["run"], "200 times show of it", lambda: text + steps(nodes, 32) + b"show\n" * 200
-    for name, script in ("ticks of it", ticks(nodes, 60_000)), ("crashes and boots of it", steps(nodes, 60_000)):
-        yield ["run"], f"60,000 {name}", lambda script=script: text + script
-        yield ["run"], f"60,000 {name}, 40 times undone and redone", lambda script=script: (
+def everywhere(nodes, app_count, count):
+    """All nodes boot; then one application after the other stops at all its nodes and starts there again."""
+    script = [b"boot %s" % node for node in nodes]
+    for turn in range((count - len(nodes)) // 2):
+        app = turn % app_count
+        script += [b"stop_all a%d" % app, b"start_all a%d temporary" % app]
+    return b"\n".join(script) + b"\n"
+
+
+def permissions(nodes, app_count, count):
+    """All nodes boot; then one application after the other may not run at its first node, and may again."""
+    script = [b"boot %s" % node for node in nodes]
+    for turn in range((count - len(nodes)) // 2):
+        app = turn % app_count
+        script += [b"permit %s a%d %s" % (nodes[app % len(nodes)], app, allow) for allow in (b"false", b"true")]
+    return b"\n".join(script) + b"\n"
+
+
+def rehearsals(kind, front, node_count, app_count):
+    """Triples as those of hostile_texts.py, of a large cluster of this kind."""
+    nodes, text = large(front, node_count, app_count)
+    yield ["run"], f"a step in which {app_count} applications start, in a chain", lambda: front + chain(app_count)[1] + b"boot z\n"
+    yield ["run"], f"2,000 steps of {kind}", lambda: text + steps(nodes, 2_000)
+    yield ["run"], f"200 times show of {kind}", lambda: text + steps(nodes, node_count) + b"show\n" * 200
+    for name, script in [
+            ("ticks", ticks(nodes, 60_000)), ("crashes and boots", steps(nodes, 60_000)),
+            ("stops and starts at all nodes", everywhere(nodes, app_count, 60_000)),
+            ("permissions taken and given back", permissions(nodes, app_count, 60_000))]:
+        yield ["run"], f"60,000 {name} of {kind}", lambda script=script: text + script
+        yield ["run"], f"60,000 {name} of {kind}, 40 times undone and redone", lambda script=script: (
             text + script + b"undo_all\nredo_all\n" * 40)
-    # Behind 100 steps all nodes are up.
+    # Behind so many steps all nodes are up.
     for workers in ("1", "2", "4", "16"):
-        yield ["sweep", "--workers", workers], f"20,000 plans by {workers} workers", lambda: (
-            text + steps(nodes, 100) + plans(nodes, 20_000))
+        yield ["sweep", "--workers", workers], f"20,000 plans of {kind} by {workers} workers", lambda: (
+            text + steps(nodes, node_count + 68) + plans(nodes, 20_000))
 
 
 # Runs the program from a process that is small: a peak counts that of the process that it began as.
@@ -123,7 +143,8 @@ def measured(program, text, words):
 
 
 def rows():
-    yield from rehearsals()
+    yield from rehearsals("a large cluster", b"", 32, 64)
+    yield from rehearsals("the second profile", b"{profile, 2}.\n", 64, 128)
     yield from hostile_texts.texts()
 
 

@@ -49,30 +49,50 @@ def long_names(length):
         yield f"a module {letters}", NODE + b"{application, a, [{mod, {%s, []}}]}.\n" % name, None
 
 
-def cases():
-    yield "32 nodes", nodes(32), accepted(32, 0)
-    yield "33 nodes", nodes(33), refused(TOO_MANY)
-    yield "a 33rd node that is there already", nodes(32) + b"{node, n0, []}.\n", refused(b"C4 duplicate_name")
-    yield "a 33rd node with a bad name", nodes(32) + b"{node, 'a b', []}.\n", refused(BAD_NAME)
-    yield "64 applications", NODE + apps(64), accepted(1, 64)
-    yield "65 applications", NODE + apps(65), refused(TOO_MANY)
-    yield "65 applications and no node", apps(65), refused(TOO_MANY)
-    yield "32 nodes and 64 applications", apps(64) + nodes(32), accepted(32, 64)
-    # `kernel` and `stdlib` are among the 256.
-    yield "256 platform names", platform(numbered(b"p", 254)), accepted(1, 1)
-    yield "257 platform names", platform(numbered(b"p", 255)), refused(TOO_MANY)
-    yield "256 platform names that name kernel and stdlib", platform([b"kernel", b"stdlib"] + numbered(b"p", 254)), accepted(1, 1)
-    yield "257 platform names that name kernel", platform([b"kernel"] + numbered(b"p", 255)), refused(TOO_MANY)
-    yield "256 platform names of two nodes", platform(numbered(b"p", 254), numbered(b"p", 254)), accepted(2, 1)
-    yield "257 platform names of two nodes", platform(numbered(b"p", 254), [b"p0", b"q"]), refused(TOO_MANY)
-    yield "257 platform names and one of them twice", platform(numbered(b"p", 255) + [b"p0"]), refused(TOO_MANY)
-    yield "256 platform names and one of them twice", platform(numbered(b"p", 254) + [b"p0"]), refused(b"C6 duplicate_in_list")
+def most(front, node_count, app_count):
+    """As many nodes and applications as a profile has, and one more. The front says which profile it is."""
+    yield f"{node_count} nodes", front + nodes(node_count), accepted(node_count, 0)
+    yield f"{node_count + 1} nodes", front + nodes(node_count + 1), refused(TOO_MANY)
+    again = front + nodes(node_count) + b"{node, n0, []}.\n"
+    yield "one node too many that is there already", again, refused(b"C4 duplicate_name")
+    yield "one node too many with a bad name", front + nodes(node_count) + b"{node, 'a b', []}.\n", refused(BAD_NAME)
+    yield f"{app_count} applications", front + NODE + apps(app_count), accepted(1, app_count)
+    yield f"{app_count + 1} applications", front + NODE + apps(app_count + 1), refused(TOO_MANY)
+    again = front + NODE + apps(app_count) + b"{application, a0, []}.\n"
+    yield "one application too many that is there already", again, refused(b"C4 duplicate_name")
+    yield f"{app_count + 1} applications and no node", front + apps(app_count + 1), refused(TOO_MANY)
+    both = front + apps(app_count) + nodes(node_count)
+    yield f"{node_count} nodes and {app_count} applications", both, accepted(node_count, app_count)
+    yield "one node more than both", both + NODE, refused(TOO_MANY)
+    yield "one application more than both", both + b"{application, b, []}.\n", refused(TOO_MANY)
+
+
+def platforms(front):
+    """As many platform names as there may be, in every profile. `kernel` and `stdlib` are among the 256."""
+    for what, lists, want in [
+            ("256 platform names", [numbered(b"p", 254)], accepted(1, 1)),
+            ("257 platform names", [numbered(b"p", 255)], refused(TOO_MANY)),
+            ("256 platform names that name kernel and stdlib", [[b"kernel", b"stdlib"] + numbered(b"p", 254)], accepted(1, 1)),
+            ("257 platform names that name kernel", [[b"kernel"] + numbered(b"p", 255)], refused(TOO_MANY)),
+            ("256 platform names of two nodes", [numbered(b"p", 254), numbered(b"p", 254)], accepted(2, 1)),
+            ("257 platform names of two nodes", [numbered(b"p", 254), [b"p0", b"q"]], refused(TOO_MANY)),
+            ("257 platform names and one of them twice", [numbered(b"p", 255) + [b"p0"]], refused(TOO_MANY)),
+            ("256 platform names and one of them twice", [numbered(b"p", 254) + [b"p0"]], refused(b"C6 duplicate_in_list"))]:
+        yield what, front + platform(*lists), want
+
+
+def cases(front, node_count, app_count):
+    """The limits of a profile. The front says which it is."""
+    yield from most(front, node_count, app_count)
+    yield from platforms(front)
     for what, text, want in long_names(255):
-        yield f"{what}, 255 bytes", text, want or accepted(1, 1)
+        yield f"{what}, 255 bytes", front + text, want or accepted(1, 1)
     for what, text, want in long_names(256):
-        yield f"{what}, 256 bytes", text, accepted(1, 1) if want is None else refused(BAD_NAME)
+        yield f"{what}, 256 bytes", front + text, accepted(1, 1) if want is None else refused(BAD_NAME)
 
 
 def cluster_limits(program):
-    for name, text, (status, output) in cases():
-        yield f"check of {name}", fault_of(run(program, ["check"], input=text), status, output)
+    for front, node_count, app_count in (b"", 32, 64), (b"{profile, 1}. ", 32, 64), (b"{profile, 2}. ", 64, 128):
+        for name, text, (status, output) in cases(front, node_count, app_count):
+            found = fault_of(run(program, ["check"], input=text), status, output)
+            yield f"check of {front.decode()}{name}", found

@@ -1,8 +1,8 @@
 """Inputs of at most 16 MiB that are made to take long or much memory: texts() gives a subcommand with its words, what the input
 is, and a function that makes it.
 
-The clusters have 32 nodes, 64 applications and 256 platform names, the most that there can be, and the scripts fill a trail or a
-log, or the 16 MiB.
+The clusters have 32 nodes, 64 applications and 256 platform names, the most that there can be in the first profile, or 64 nodes
+and 128 applications, the most in the second. The scripts fill a trail or a log, or the 16 MiB.
 """
 MIB = 1_048_576
 MOST = 16 * MIB
@@ -10,6 +10,9 @@ TRAIL = 65_535
 BARE = b"{node, a@x, []}.\n===\n"
 NODES = [b"n%d" % number for number in range(32)]
 APPS = [b"a%d" % number for number in range(64)]
+SECOND = b"{profile, 2}.\n"
+MORE_NODES = [b"n%d" % number for number in range(64)]
+MORE_APPS = [b"a%d" % number for number in range(128)]
 LONGEST = 255
 # Of the 256 platform names these are there in any case.
 PLATFORM = [b"kernel", b"stdlib"] + [b"p%d" % number for number in range(254)]
@@ -64,11 +67,13 @@ def checks():
         [b"p%d" % number for number in range(1_500_000)])
     yield "a start argument of lists of 33 atoms", lambda: argument(dense(33), b"a", b"")
     yield "64 start arguments of lists of 33 atoms", start_arguments
+    yield "128 start arguments of lists of 33 atoms", lambda: SECOND + start_arguments(MORE_APPS)
+    yield "64 nodes and 128 applications", lambda: everywhere_twice()
 
 
-def start_arguments():
-    """As many start arguments as there can be, 256 KiB each."""
-    each = [filled(b"{application, %s, [{mod, {m, [" % app, dense(33), b"a]}}]}.\n", MOST // 64 - 16) for app in APPS]
+def start_arguments(apps=APPS):
+    """As many start arguments as there can be, 16 MiB together."""
+    each = [filled(b"{application, %s, [{mod, {m, [" % app, dense(33), b"a]}}]}.\n", MOST // len(apps) - 16) for app in apps]
     return b"{node, a@x, []}.\n" + b"".join(each)
 
 
@@ -88,6 +93,11 @@ def everywhere(apps=APPS, nodes=NODES, timeout=0):
         node, entries, boot, listing(PLATFORM)) for node in nodes)
     keys = b"{applications, %s}, {start_phases, []}" % listing(PLATFORM)
     return text + b"".join(b"{application, %s, [%s]}.\n" % (app, keys) for app in apps) + b"===\n"
+
+
+def everywhere_twice(apps=MORE_APPS, timeout=0):
+    """The same in the second profile, with twice as many."""
+    return SECOND + everywhere(apps, MORE_NODES, timeout)
 
 
 def long_names(letter, count):
@@ -114,22 +124,22 @@ def joined(lines):
     return b"\n".join(lines) + b"\n"
 
 
-def chains():
+def chains(apps=APPS, nodes=NODES):
     """All applications are local and need every platform name. The last four nodes have them all, and there each needs the next
     one too, in the worst order; at the others they wait for the last platform name."""
-    deps = [PLATFORM + [app] for app in APPS[1:]] + [PLATFORM]
-    boot = listing([b"{%s, temporary}" % app for app in APPS])
-    names = [listing(PLATFORM[2:-1])] * 28 + [listing(PLATFORM[2:])] * 4
+    deps = [PLATFORM + [app] for app in apps[1:]] + [PLATFORM]
+    boot = listing([b"{%s, temporary}" % app for app in apps])
+    names = [listing(PLATFORM[2:-1])] * (len(nodes) - 4) + [listing(PLATFORM[2:])] * 4
     text = b"".join(b"{node, %s, [{rehearse, [{boot, %s}, {platform, %s}]}]}.\n" % (node, boot, has)
-                    for node, has in zip(NODES, names))
+                    for node, has in zip(nodes, names))
     return text + b"".join(b"{application, %s, [{applications, %s}]}.\n" % (app, listing(needs))
-                           for app, needs in zip(APPS, deps)) + b"===\n"
+                           for app, needs in zip(apps, deps)) + b"===\n"
 
 
-def chain_turns(count):
+def chain_turns(count, nodes=NODES):
     """The last four nodes boot and crash by turns, and each boot starts all applications there."""
-    lines = boots(NODES[:28])
-    for node in NODES[28:]:
+    lines = boots(nodes[:-4])
+    for node in nodes[-4:]:
         for _ in range(9_998):
             lines += [b"boot " + node, b"crash " + node]
             if len(lines) >= count:
@@ -137,14 +147,32 @@ def chain_turns(count):
     raise ValueError("too few nodes")
 
 
-def largest_report():
-    """32 nodes at which 64 applications wait that are forbidden, with names of 255 bytes."""
-    nodes, apps = long_names(b"n", 32), long_names(b"a", 64)
+def largest_report(front=b"", node_count=32, app_count=64):
+    """Nodes at each of which applications wait that are forbidden, with names of 255 bytes."""
+    nodes, apps = long_names(b"n", node_count), long_names(b"a", app_count)
     boot = listing([b"{%s, transient}" % app for app in apps])
     forbidden = listing([b"{%s, false}" % app for app in apps])
-    text = b"".join(b"{node, %s, [{kernel, [{permissions, %s}]}, {rehearse, [{boot, %s}]}]}.\n" % (node, forbidden, boot)
-                    for node in nodes)
+    text = front + b"".join(b"{node, %s, [{kernel, [{permissions, %s}]}, {rehearse, [{boot, %s}]}]}.\n" % (node, forbidden, boot)
+                            for node in nodes)
     return text + b"".join(b"{application, %s, []}.\n" % app for app in apps) + b"===\n" + joined(boots(nodes))
+
+
+def all_nodes(apps, nodes, count):
+    """All nodes are up, and one application after the other stops at all of them and starts there again."""
+    lines = boots(nodes)
+    for turn in range((count - len(lines) + 1) // 2):
+        app = apps[turn % len(apps)]
+        lines += [b"stop_all " + app, b"start_all %s temporary" % app]
+    return lines[:count]
+
+
+def permissions(count):
+    """All nodes of the second profile are up, and one application after the other leaves the first node, and is pulled back."""
+    lines = boots(MORE_NODES)
+    for turn in range((count - len(lines) + 1) // 2):
+        app = MORE_APPS[turn % len(MORE_APPS)]
+        lines += [b"permit n0 %s false" % app, b"permit n0 %s true" % app]
+    return lines[:count]
 
 
 def by_sessions(lines):
@@ -172,6 +200,26 @@ def runs():
     yield "such a step, 1.2 million times anew", lambda: filled(everywhere() + joined(boots()), b"crash n0\nundo\n", b"")
     yield "65,535 steps that move 64, of long names", lambda: everywhere(long_names(b"a", 64)) + joined(turns(TRAIL))
     yield "65,535 steps, each other one starts a chain of 64", lambda: chains() + joined(chain_turns(TRAIL))
+    yield "65,535 steps that stop and start one at 32 nodes", lambda: everywhere() + joined(all_nodes(APPS, NODES, TRAIL))
+    yield from more_runs()
+
+
+def more_runs():
+    """Texts for `run` of the second profile."""
+    yield "250 times show, of a report of 4 MiB", lambda: largest_report(SECOND, 64, 128) + b"show\n" * 250
+    yield "65,535 steps that move 128 applications", lambda: everywhere_twice() + joined(turns(TRAIL, MORE_NODES))
+    yield "10,000 steps that move 128, 20 times undone and redone", lambda: (
+        everywhere_twice() + joined(turns(10_000, MORE_NODES)) + b"undo_all\nredo_all\n" * 20)
+    yield "500 thousand undos and redos of a step that moves 128", lambda: (
+        everywhere_twice() + joined(boots(MORE_NODES) + [b"crash n0"]) + b"undo\nredo\n" * 250_000)
+    yield "such a step, 100 thousand times anew", lambda: everywhere_twice() + joined(boots(MORE_NODES)) + b"crash n0\nundo\n" * 100_000
+    yield "65,535 steps that move 128, of long names", lambda: (
+        everywhere_twice(long_names(b"a", 128)) + joined(turns(TRAIL, MORE_NODES)))
+    yield "65,535 steps, each other one starts a chain of 128", lambda: (
+        SECOND + chains(MORE_APPS, MORE_NODES) + joined(chain_turns(TRAIL, MORE_NODES)))
+    yield "65,535 steps that stop and start one at 64 nodes", lambda: (
+        everywhere_twice() + joined(all_nodes(MORE_APPS, MORE_NODES, TRAIL)))
+    yield "65,535 permissions that move one away and back", lambda: everywhere_twice() + joined(permissions(TRAIL))
 
 
 def sessions():
@@ -183,6 +231,8 @@ def sessions():
     yield "1,000 times show, of a report of 1 MiB", lambda: _shown(1_000 - 32)
     # One session makes them all: those of several come in any order, and most would be refused.
     yield "65,535 steps that move 64 applications", lambda: everywhere() + joined([b"8 " + line for line in turns(TRAIL)])
+    yield "65,535 steps that move 128 applications", lambda: (
+        everywhere_twice() + joined([b"8 " + line for line in turns(TRAIL, MORE_NODES)]))
 
 
 def _shown(count):
@@ -201,6 +251,12 @@ def sweeps():
     yield "plans of 19,000 steps that move 64", lambda: filled(base, b"plan p\n" + each * 9_500, b"")
     yield "a base of 65,535 steps that move 64, and a plan for each worker", lambda: (
         everywhere() + joined(turns(TRAIL)) + b"plan p\n" * 16)
+    base_twice = everywhere_twice() + joined(boots(MORE_NODES))
+    yield "2 million empty plans, of 128 applications", lambda: filled(base_twice, b"plan p\n", b"")
+    yield "5,000 plans of 100 steps that move 128", lambda: base_twice + (b"plan p\n" + each * 50) * 5_000
+    yield "plans of 19,000 steps that move 128", lambda: filled(base_twice, b"plan p\n" + each * 9_500, b"")
+    yield "a base of 10,000 steps that move 128, and a plan for each worker", lambda: (
+        everywhere_twice() + joined(turns(10_000, MORE_NODES)) + b"plan p\n" * 16)
 
 
 def texts():

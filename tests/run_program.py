@@ -5,8 +5,8 @@ The worked rows are the files GROUP/NAME.row in tests/rows (row_files.py says wh
 repository, examples/NAME.txt, has its row tests/examples/NAME.row, without an input: that is the example. A file in these
 folders that is no such row is a failed test. Then come inputs that are too large for a file, which are made here, devices
 and memory that fail, more devices (hostile.py) and each of their calls (failing_calls.py), cut inputs (prefixes.py), sweeps
-(sweeps.py), texts that are no terms (term_faults.py), cluster files at the limits (cluster_limits.py) and the documents
-(check_docs.py). Calls that the program `rh_growths` beside PROGRAM makes have each growth of memory refused in turn, and have
+(sweeps.py), texts that are no terms (term_faults.py), cluster files at the limits (cluster_limits.py), both profiles
+(profiles.py), random scripts beside a model (random_scripts.py) and the documents (check_docs.py). Calls that the program `rh_growths` beside PROGRAM makes have each growth of memory refused in turn, and have
 to leave all as it was (growths.py). The last line is 'N passed, M failed'. Where paths of rows are given, these alone are run.
 """
 import os
@@ -20,6 +20,8 @@ import failing_calls
 import growths
 import hostile
 import prefixes
+import profiles
+import random_scripts
 import sweeps
 from cluster_limits import cluster_limits
 from no_threads import without_threads
@@ -152,10 +154,13 @@ def command_lines(program):
     yield "a word that isn't UTF-8", fault_of(done, 1, b"") or (None if is_refused else f"standard error: {done.stderr}")
 
 
-def large_inputs(program):
+def full_inputs(program):
     filled = TWO_NODES + b" " * (INPUT_LIMIT - len(TWO_NODES))
     yield "16,777,216 bytes", fault_of(run(program, ["run"], input=filled), 0, b"")
     yield "16,777,217 bytes", fault_of(run(program, ["run"], input=filled + b" "), 4, b"")
+
+
+def large_inputs(program):
     turns = b"boot a@x\ncrash a@x\n" * 9_998 + b"boot a@x\nboot a@x\ncrash a@x\nboot a@x\n"
     # At its last start it is alive, which is the first reason to refuse another.
     answers = b"ok\nup a@x\nok\nended a@x\n" * 9_998 + b"ok\nup a@x\nrefused S3 already_alive\nok\nended a@x\n"
@@ -302,9 +307,10 @@ def main():
         for path in sys.argv[2:]:
             yield path, row_fault(program, path)
 
-    all_groups = (rows, examples, term_faults, cluster_limits, command_lines, large_inputs, long_chains, several_sessions,
-                  failing_devices, refused_memory, no_threads, *growths.TESTS, *sweeps.TESTS, *hostile.TESTS, *failing_calls.TESTS,
-                  *prefixes.TESTS, *check_docs.TESTS)
+    made = (term_faults, large_inputs, long_chains, *sweeps.TESTS)
+    all_groups = (rows, examples, *made, profiles.first_profile(row_at), profiles.under_profile_1(*made), *profiles.TESTS,
+                  *random_scripts.TESTS, cluster_limits, command_lines, full_inputs, several_sessions, failing_devices, refused_memory,
+                  no_threads, *growths.TESTS, *hostile.TESTS, *failing_calls.TESTS, *prefixes.TESTS, *check_docs.TESTS)
     finish((named_rows,) if sys.argv[2:] else all_groups, os.path.abspath(sys.argv[1]))
 
 

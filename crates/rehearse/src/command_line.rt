@@ -56,6 +56,8 @@ behind it is a command, is blank, or begins with `#`:
   permit N A B    lets A run at N, or forbids it    permit a@x web false
   takeover N A T  moves A to N from where it runs   takeover a@x web permanent
   exit N A R      A, running at N, ends by itself   exit a@x web abnormal
+  start_all A T   starts A at all its nodes         start_all web permanent
+  stop_all A      stops A at all its nodes          stop_all web
   undo            takes the last step back          undo
   redo            makes the next step again         redo
   undo_all        takes all steps back              undo_all
@@ -66,7 +68,9 @@ N and A are names of the cluster file, without quotes. D is 1 to 10^12, and the
 clock goes up to 10^12 milliseconds; it moves by `tick` alone. B is true or
 false, R normal or abnormal. T says what the exit of A does to its node:
 permanent ends it, transient ends it where the exit is abnormal, temporary lets
-it go on. `crash` stands for an orderly stop of the node too.
+it go on. `crash` stands for an orderly stop of the node too. `start_all` and
+`stop_all` are for a distributed application: one step starts it at each node
+that is up and may run it, or stops it at each node at which it is started.
 
 A step is answered by `ok` and by what follows from it, one line each:
 
@@ -200,8 +204,8 @@ EOF
 The base is answered as in `rehearse run`. Each plan begins from the state that
 is reached then, whatever the other plans do, and ends behind its last event or
 at the first that is refused. Its lines are events, the commands from `boot` to
-`exit` of `rehearse run --help`, and blank lines and comments. NAME is one word,
-and several plans may have the same. For each plan is told
+`stop_all` of `rehearse run --help`, and blank lines and comments. NAME is one
+word, and several plans may have the same. For each plan is told
 
   plan NAME accepted K failovers K takeovers K
   refused J ..               if event J of the plan was refused: why, as in

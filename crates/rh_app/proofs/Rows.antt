@@ -1,18 +1,23 @@
 -- Worked rows: the definitions of the texts compute to what an operator sees.
-use Rattle.std.proofs.Common.{◌≡◌, [], ◌∷◌, Some, None, codes, refl}
+use Rattle.std.proofs.Common.{◌≡◌, true, false, [], ◌∷◌, Some, None, codes, refl}
 use Rattle.std.specs.Fmt.{digits}
 use Rattle.std.specs.Str.{is_utf8, chars}
 use lib.Utf8.{encode}
-use Rattle.rh_model.specs.ClusterView.{ClusterView}
+use Rattle.rh_model.specs.ClusterView.{ClusterView, numbered}
+use Rattle.rh_model.specs.declared.settings.SyncWait.TheVariants.{Unset}
 use Rattle.rh_state.specs.Limits.{time_limit, incarnation_limit}
 use Rattle.rh_state.specs.Numbers.{nodes_of, apps_of}
 use Rattle.rh_state.specs.First.{configured}
+use Rattle.rh_place.specs.Placing.{missing_dep, deps_run, is_operational, best, candidates}
 use Rattle.rh_place.specs.declared.choosing.Pick.TheVariants.{First}
+use Rattle.rh_settle.specs.Moves.{can_start, local_moves, placements, calls_away, takeovers, next_moves}
 use Rattle.rh_settle.specs.Settling.{moved_by, all_moved}
 use Rattle.rh_settle.specs.Readiness.{all_alive, is_ready}
-use Rattle.rh_events.specs.Marking.{mark_all}
+use Rattle.rh_events.specs.Marking.{with_mark, mark_all}
 use Rattle.rh_events.specs.ComingUp.{come_up, come_up_if_ready, ready_come_up}
 use Rattle.rh_events.specs.Changes.{booted}
+use Rattle.rh_events.specs.ByHand.{is_started_anywhere}
+use Rattle.rh_events.specs.Everywhere.{targets, has_host, has_target, missing_at_targets, start_all, left_everywhere, stop_all}
 use Rattle.rh_events.specs.Ending.{cleared, lost_if_ran, all_lost, ended}
 use Rattle.rh_events.specs.Refusals.{refused}
 use Rattle.rh_step.specs.Outcomes.{followed, next}
@@ -45,6 +50,22 @@ script_row : script_text one_node (opened one_node First) 1 (lines_asked one_nod
 unfolding content line_of answer_text notice_line bad_text nodes_of apps_of configured moved_by all_moved all_alive is_ready mark_all come_up come_up_if_ready
     ready_come_up booted followed refused next step digits is_utf8 chars encode
 script_row = refl
+
+-- an application that may run at the one node
+abbrev one_spread : ClusterView
+one_spread = record one_node {
+  app_names = codes "w" ∷ [];
+  nodes = record { mandatory = []; optional = []; sync_wait = Unset; boot = []; permissions = true ∷ []; platforms = [] } ∷ [];
+  apps = record { deps = []; start_arg = None; phases = false; spread = Some (record { timeout = 0; groups = (numbered 0 ∷ []) ∷ [] }) } ∷ [];
+}
+
+all_nodes_row : script_text one_spread (opened one_spread First) 1
+    (lines_asked one_spread (script_lines (codes "===\nboot a\nstart_all w permanent\nstart_all w temporary\nstop_all w\nstop_all w\nstop_all a\n")))
+    ≡ codes "ok\nup a\nok\nstarted w a normal\nrefused S11 already_started\nok\nstopped w a\nrefused S12 never_started\nrefused S2 unknown_app\n"
+unfolding content line_of answer_text notice_line nodes_of apps_of configured moved_by all_moved all_alive is_ready with_mark mark_all come_up come_up_if_ready
+    ready_come_up booted start_all targets stop_all left_everywhere missing_dep deps_run is_operational best candidates can_start local_moves placements
+    calls_away takeovers next_moves followed refused has_host has_target missing_at_targets is_started_anywhere next step is_utf8 chars encode
+all_nodes_row = refl
 
 bad_line_row : bad_line 1 (lines_asked one_node (script_lines (codes "===\nboot a\nundo\nflip a\nshow\n"))) ≡ Some 3
 unfolding content line_of is_utf8 chars encode

@@ -7,6 +7,7 @@ use Rattle.rh_terms.specs.Bytes.{past}
 use Rattle.rh_terms.specs.Tokens.{name_at}
 use Rattle.rh_terms.specs.Grammar.{terms_of, dotted, dot_at, inside, terms_up_to, some_terms, next_at, term_by, word_at}
 use Rattle.rh_model.specs.ClusterView.{ClusterView, numbered}
+use Rattle.rh_model.specs.declared.settings.Restart.TheVariants.{Permanent}
 use Rattle.rh_sections.specs.NameRule.{is_name}
 use Rattle.rh_sections.specs.Shapes.{as_atom, as_list, as_tuple, as_triple, as_headed}
 use Rattle.rh_sections.specs.Faults.{list_faults}
@@ -27,10 +28,11 @@ use Rattle.rh_events.specs.Marking.{mark_all}
 use Rattle.rh_events.specs.ComingUp.{come_up, come_up_if_ready, ready_come_up}
 use Rattle.rh_events.specs.Changes.{booted}
 use Rattle.rh_events.specs.Refusals.{refused}
-use Rattle.rh_events.specs.declared.event.Event.TheVariants.{Boot}
+use Rattle.rh_events.specs.declared.event.Event.TheVariants.{Boot, StartAll, StopAll}
+use Rattle.rh_events.specs.declared.refusal.Refusal.TheVariants.{UnknownApp}
 use Rattle.rh_step.specs.Outcomes.{followed, next}
 use Rattle.rh_trail.specs.declared.call.Call.TheVariants.{Step, Undo}
-use Rattle.rh_trail.specs.declared.call.Reply.TheVariants.{Done, Undone, AtStart}
+use Rattle.rh_trail.specs.declared.call.Reply.TheVariants.{Done, Refused, Undone, AtStart}
 use Rattle.rh_trail.specs.Runs.{step}
 use Rattle.rh_trail.specs.Lone.{opened}
 use Rattle.rh_trail.specs.Report.{node_line, line_if_forbidden, standing_line, app_line, timer_line, node_lines}
@@ -40,6 +42,7 @@ use Rattle.rh_sweep.specs.declared.fault.SweepFault.TheVariants.{BaseNotAtEnd, T
 use Rattle.rh_script.specs.Lines.{content, script_lines}
 use Rattle.rh_script.specs.Commands.{line_of}
 use Rattle.rh_script.specs.SessionLines.{command, session_line_of}
+use Rattle.rh_script.specs.declared.script.TheConstants.{NO_APP}
 use Rattle.rh_script.specs.declared.session_lines.Command.{Command}
 use Rattle.rh_script.specs.declared.session_lines.SessionLine.TheVariants as session
 use Rattle.rh_script.specs.Answers.{notice_line, answer_text, fault_text, bad_text}
@@ -141,6 +144,13 @@ history_row : told_of (entry 2 Undo AtStart ∷ entry 1 (Step (Boot (numbered 0)
 unfolding entry_text command_words event_words answer_text notice_line nodes_of apps_of configured moved_by all_moved all_alive is_ready mark_all come_up
     come_up_if_ready ready_come_up booted followed refused next step node_line line_if_forbidden standing_line app_line timer_line node_lines digits
 history_row = refl
+
+-- a command names the application, or what is shown for a name that nothing has
+all_nodes_row : told_of (entry 3 (Step (StartAll NO_APP Permanent)) (Refused UnknownApp) ∷ entry 1 (Step (StopAll NO_APP)) (Refused UnknownApp) ∷ [])
+    ≡ codes "entry 3 start_all ? permanent\nrefused S2 unknown_app\nentry 1 stop_all ?\nrefused S2 unknown_app\nfinal\nnow 0\nnode a down 0\n"
+unfolding entry_text command_words event_words answer_text nodes_of apps_of configured refused next step node_line line_if_forbidden standing_line app_line
+    timer_line node_lines digits
+all_nodes_row = refl
 
 -- of one session the log is its commands in their order
 lone_session_row : MayGive First (codes "{node, a, []}.\n===\n1 boot a\n1 undo\n")

@@ -9,7 +9,8 @@ use Rattle.rh_sections.specs.declared.fault.ClusterFault.{ClusterFault}
 use Rattle.rh_sections.specs.declared.fault.ClusterFault.TheVariants as fault
 use Rattle.rh_model.specs.ClusterView.{ClusterView}
 use Rattle.rh_sections.specs.Faults.{Finds, Gives, first, unless}
-use Rattle.rh_cluster.specs.ClusterOf.{faults_in, cluster_view, cluster_in, cluster_of}
+use Rattle.rh_cluster.specs.ClusterOf.{faults_in, cluster_view, cluster_of_terms, cluster_in, cluster_of}
+use Rattle.rh_cluster.specs.Profile.{profile_of, behind_profile}
 use Rattle.rh_base.proofs.Trees.{list_of_trees-trees_from}
 
 unless_err : {A : Type 0} (fs : List ClusterFault) (v : A) (f : ClusterFault) → first fs ≡ Some f → unless fs v ≡ Err f
@@ -23,15 +24,18 @@ gives (Ok x) [] v read e h is = e ∙ ap Ok (sym is)
 gives (Ok x) (f ∷ fs) v read e h is = cc
 gives (Err f) fs v read e h is = λ n m. e ∙ unless_err fs v f (h n)
 
-cluster_of_terms : (bytes : List ℕ) (ts : List Tree) → terms_of bytes ≡ Ok (trees_from ts) → cluster_of bytes ≡ unless (faults_in ts) (cluster_view ts)
+read_terms : (bytes : List ℕ) (ts : List Tree) → terms_of bytes ≡ Ok (trees_from ts) → cluster_of bytes ≡ cluster_of_terms ts
 unfolding cluster_of
-cluster_of_terms bytes ts h = ap cluster_in h ∙ ap (λ us. unless (faults_in us) (cluster_view us)) (list_of_trees-trees_from ts)
+read_terms bytes ts h = ap cluster_in h ∙ ap cluster_of_terms (list_of_trees-trees_from ts)
 
--- the text is a list of these terms
-pub read_gives : (bytes : List ℕ) (ts : List Tree) (r : Result ClusterView ClusterFault) → terms_of bytes ≡ Ok (trees_from ts)
-    → Finds r (faults_in ts) → IfOk r (λ c. c ≡ cluster_view ts)
+-- the text is a list of these terms, of which those behind the profile are these
+pub read_gives : (bytes : List ℕ) (ts behind : List Tree) (p : ℕ) (r : Result ClusterView ClusterFault) → terms_of bytes ≡ Ok (trees_from ts)
+    → p ≡ profile_of ts → behind ≡ behind_profile ts → Finds r (faults_in p behind) → IfOk r (λ c. c ≡ cluster_view p behind)
     → Gives (λ c. c) r (cluster_of bytes)
-read_gives bytes ts r h finds is = gives r (faults_in ts) (cluster_view ts) (cluster_of bytes) (cluster_of_terms bytes ts h) finds is
+unfolding cluster_of_terms
+read_gives bytes ts behind p r h profile rest finds is =
+    gives r (faults_in p behind) (cluster_view p behind) (cluster_of bytes)
+    (read_terms bytes ts h ∙ sym (λ i. unless (faults_in (profile i) (rest i)) (cluster_view (profile i) (rest i)))) finds is
 
 -- the text is none
 pub no_terms : (bytes : List ℕ) (e : TermFault) → FaultIs e (terms_of bytes) → fault.Term e ≢ fault.Term terms.OutOfMemory

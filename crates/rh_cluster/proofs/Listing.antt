@@ -17,7 +17,7 @@ use Rattle.rh_model.specs.declared.node.App.{App}
 use Rattle.rh_model.specs.declared.settings.Restart.{Restart}
 use Rattle.rh_model.specs.declared.settings.Spread.{Spread}
 use Rattle.rh_model.specs.ClusterView.{NodeView, AppView, app_numbered, is_in, is_listed_at}
-use Rattle.rh_model.specs.declared.limits.TheConstants.{MAX_APPS}
+use Rattle.rh_model.specs.Limits.{app_limit}
 use Rattle.rh_model.specs.Names.{is_among}
 use Rattle.rh_model.proofs.Texts.{position-map}
 use Rattle.rh_sections.specs.declared.fault.ClusterFault.TheVariants as fault
@@ -48,25 +48,25 @@ unfolding new_name_faults
 new_name most reserved earlier name none =
     or_false reserved (is_among earlier name) (not_when (reserved || is_among earlier name) fault.DuplicateName (none_right _ _ (none_left _ _ none)))
 
-new_by : (nodes apps : List (List ℕ)) (n a : Option (List ℕ × Tree)) (m : List ℕ) → ((x : List ℕ × Tree) → a ≡ Some x → n ≡ None)
-    → header_faults_by nodes apps n a ≡ [] → option_map (λ (x : List ℕ × Tree). x.0) a ≡ Some m
+new_by : (p : ℕ) (nodes apps : List (List ℕ)) (n a : Option (List ℕ × Tree)) (m : List ℕ) → ((x : List ℕ × Tree) → a ≡ Some x → n ≡ None)
+    → header_faults_by p nodes apps n a ≡ [] → option_map (λ (x : List ℕ × Tree). x.0) a ≡ Some m
     → is_among apps m ≡ false
-new_by nodes apps n None m one none h = cc
-new_by nodes apps n (Some x) m one none h =
+new_by p nodes apps n None m one none h = cc
+new_by p nodes apps n (Some x) m one none h =
     ap (is_among apps) (sym (same_Some x.0 m h))
-    ∙ new_name MAX_APPS (is_among every_platform x.0) apps x.0 (ap (λ o. header_faults_by nodes apps o (Some x)) (sym (one x refl)) ∙ none)
+    ∙ new_name (app_limit p) (is_among every_platform x.0) apps x.0 (ap (λ o. header_faults_by p nodes apps o (Some x)) (sym (one x refl)) ∙ none)
 
-new_app : (earlier : List Tree) (t : Tree) (m : List ℕ) → header_faults (node_names earlier) (app_names earlier) t ≡ [] → app_name_of t ≡ Some m
+new_app : (p : ℕ) (earlier : List Tree) (t : Tree) (m : List ℕ) → header_faults p (node_names earlier) (app_names earlier) t ≡ [] → app_name_of t ≡ Some m
     → is_among (filter_map app_name_of earlier) m ≡ false
 unfolding header_faults
-new_app earlier t m none h =
-    ap (λ ns. is_among ns m) (app_names_are earlier) ∙ new_by (node_names earlier) (app_names earlier) (as_node t) (as_app t) m (no_node t) none h
+new_app p earlier t m none h =
+    ap (λ ns. is_among ns m) (app_names_are earlier) ∙ new_by p (node_names earlier) (app_names earlier) (as_node t) (as_app t) m (no_node t) none h
 
 -- the names of two applications differ
-apps_differ : (ts : List Tree) → headers_stage ts ≡ [] → AllPairs (λ (a b : List ℕ × Tree). a.0 ≢ b.0) (apps_in ts)
+apps_differ : (p : ℕ) (ts : List Tree) → headers_stage p ts ≡ [] → AllPairs (λ (a b : List ℕ × Tree). a.0 ≢ b.0) (apps_in ts)
 unfolding headers_stage
-apps_differ ts none =
-    each_once (λ earlier t. header_faults (node_names earlier) (app_names earlier) t) app_name_of new_app as_app (λ m a. a.0 ≡ m)
+apps_differ p ts none =
+    each_once (λ earlier t. header_faults p (node_names earlier) (app_names earlier) t) app_name_of (new_app p) as_app (λ m a. a.0 ≡ m)
     (λ (a b : List ℕ × Tree). a.0 ≢ b.0)
     (λ t a h. (a.0, ap (option_map (λ (a : List ℕ × Tree). a.0)) h, refl)) (λ m n a b p q differ same. differ (sym p ∙ same ∙ q)) [] ts (none_left _ _ none)
 
@@ -95,7 +95,7 @@ listed : (n : Node) (o : Option Spread) → is_elsewhere n.0 o ≡ false → lis
 listed n None h = refl
 listed n (Some s) h = place_any (is_in n) s.groups ∙ not-false (list_any (is_in n) s.groups) h
 
-module _ (ts : List Tree) (headers : headers_stage ts ≡ []) where
+module _ (p : ℕ) (ts : List Tree) (headers : headers_stage p ts ≡ []) where
   abbrev shares : List Share
   shares = agreed_shares (all_shares (names_of ts) ts)
 
@@ -105,9 +105,9 @@ module _ (ts : List Tree) (headers : headers_stage ts ≡ []) where
   -- what the application of a name says is what that of a number says
   spread_here : (a : App) (x : List ℕ × Tree) → slice_get (apps_in ts) a.0 ≡ Some x → spread_named (names_of ts) shares x.0 ≡ spread_for shares a
   unfolding names_of app_names
-  spread_here a x h = ap (λ (o : Option ℕ). option_map app_numbered o >>= spread_for shares) (place_of_name (apps_in ts) (apps_differ ts headers) a.0 x h)
+  spread_here a x h = ap (λ (o : Option ℕ). option_map app_numbered o >>= spread_for shares) (place_of_name (apps_in ts) (apps_differ p ts headers) a.0 x h)
 
-  listed_app : (n : Node) (a : App) → is_elsewhere n.0 (spread_for shares a) ≡ false → is_listed_at (cluster_view ts) a n ≡ true
+  listed_app : (n : Node) (a : App) → is_elsewhere n.0 (spread_for shares a) ≡ false → is_listed_at (cluster_view p ts) a n ≡ true
   unfolding cluster_view app_views app_view
   listed_app n a h =
       ap (λ o. listed_by n (option_and_then (λ (v : AppView). v.spread) o)) (slice_get-map app_at (apps_in ts) a.0) ∙ by (slice_get (apps_in ts) a.0) refl
@@ -117,27 +117,27 @@ module _ (ts : List Tree) (headers : headers_stage ts ≡ []) where
       by None e = refl
       by (Some x) e = ap (listed_by n) (spread_here a x e) ∙ listed n (spread_for shares a) h
 
-  listed_entry : (n : Node) (e : App × Restart) → boot_entry_faults shares n.0 e.0 ≡ [] → is_listed_at (cluster_view ts) e.0 n ≡ true
+  listed_entry : (n : Node) (e : App × Restart) → boot_entry_faults shares n.0 e.0 ≡ [] → is_listed_at (cluster_view p ts) e.0 n ≡ true
   unfolding boot_entry_faults
   listed_entry n e none = listed_app n e.0 (not_when (is_elsewhere n.0 (spread_for shares e.0)) fault.BootNotListed none)
 
   listed_entries : (n : Node) (nodes : List NodeView) → boot_list_faults shares nodes n.0 ≡ []
-      → All (λ (e : App × Restart). is_listed_at (cluster_view ts) e.0 n ≡ true) (boot_at nodes n.0)
+      → All (λ (e : App × Restart). is_listed_at (cluster_view p ts) e.0 n ≡ true) (boot_at nodes n.0)
   unfolding boot_list_faults
   listed_entries n nodes none =
-      All-weaker (λ (e : App × Restart). boot_entry_faults shares n.0 e.0 ≡ []) (λ (e : App × Restart). is_listed_at (cluster_view ts) e.0 n ≡ true)
+      All-weaker (λ (e : App × Restart). boot_entry_faults shares n.0 e.0 ≡ []) (λ (e : App × Restart). is_listed_at (cluster_view p ts) e.0 n ≡ true)
       (listed_entry n) (boot_at nodes n.0)
       (none_each (λ (e : App × Restart). boot_entry_faults shares n.0 e.0) (boot_at nodes n.0) none)
 
   no_boots : (n : Node) (nodes : List NodeView) → length nodes ≤ n.0
-      → All (λ (e : App × Restart). is_listed_at (cluster_view ts) e.0 n ≡ true) (boot_at nodes n.0)
+      → All (λ (e : App × Restart). is_listed_at (cluster_view p ts) e.0 n ≡ true) (boot_at nodes n.0)
   no_boots n nodes past =
-      subst (λ o. All (λ (e : App × Restart). is_listed_at (cluster_view ts) e.0 n ≡ true) (unwrap_or (option_map (λ (v : NodeView). v.boot) o) []))
+      subst (λ o. All (λ (e : App × Restart). is_listed_at (cluster_view p ts) e.0 n ≡ true) (unwrap_or (option_map (λ (v : NodeView). v.boot) o) []))
       (sym (slice_get_past nodes n.0 past))
-      (All-nil (λ (e : App × Restart). is_listed_at (cluster_view ts) e.0 n ≡ true))
+      (All-nil (λ (e : App × Restart). is_listed_at (cluster_view p ts) e.0 n ≡ true))
 
   pub boots_listed : (nodes : List NodeView) → agreement_stage (names_of ts).nodes nodes (all_shares (names_of ts) ts) ≡ [] → (n : Node)
-      → All (λ (e : App × Restart). is_listed_at (cluster_view ts) e.0 n ≡ true) (boot_at nodes n.0)
+      → All (λ (e : App × Restart). is_listed_at (cluster_view p ts) e.0 n ≡ true) (boot_at nodes n.0)
   unfolding agreement_stage
   boots_listed nodes none n =
       ⊎_elim

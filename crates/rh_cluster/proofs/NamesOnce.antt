@@ -9,7 +9,8 @@ use Rattle.std.proofs.lemmas.Slice.Eq.{bytes_eq-Decides}
 use Rattle.std.proofs.lemmas.List.Folds.{list_any_at}
 use Rattle.std.proofs.lemmas.List.Quantifiers.{all_pairs_push}
 use Rattle.rh_base.specs.Tree.{Tree}
-use Rattle.rh_model.specs.declared.limits.TheConstants.{MAX_NODES, MAX_APPS, MAX_PLATFORMS}
+use Rattle.rh_model.specs.declared.limits.TheConstants.{MAX_PLATFORMS}
+use Rattle.rh_model.specs.Limits.{node_limit, app_limit}
 use Rattle.rh_model.specs.declared.platforms.Platforms.{Platforms}
 use Rattle.rh_model.specs.Names.{is_among}
 use Rattle.rh_sections.specs.declared.fault.ClusterFault.TheVariants as fault
@@ -62,42 +63,42 @@ few_named most reserved names name none few =
 
 -- ---- the headers
 
-abbrev HaveFew : List Tree → Type 0
-HaveFew ts = AreFew MAX_NODES (node_names ts) × AreFew MAX_APPS (app_names ts)
+abbrev HaveFew : ℕ → List Tree → Type 0
+HaveFew p ts = AreFew (node_limit p) (node_names ts) × AreFew (app_limit p) (app_names ts)
 
-module _ (e : List Tree) (t : Tree) where
-  one_more : (n a : Option (List ℕ × Tree)) → as_node t ≡ n → as_app t ≡ a → header_faults_by (node_names e) (app_names e) n a ≡ [] → HaveFew e
-      → HaveFew (e ++ t ∷ [])
+module _ (p : ℕ) (e : List Tree) (t : Tree) where
+  one_more : (n a : Option (List ℕ × Tree)) → as_node t ≡ n → as_app t ≡ a → header_faults_by p (node_names e) (app_names e) n a ≡ [] → HaveFew p e
+      → HaveFew p (e ++ t ∷ [])
   one_more (Some x) a node app none few = (
-    subst (AreFew MAX_NODES) (sym (node_names-append e t ∙ ap (λ ns. node_names e ++ ns) (node_names_one t x node)))
-        (few_named MAX_NODES false (node_names e) x.0 none few.0),
-    subst (AreFew MAX_APPS) (sym (app_names-append e t ∙ ap (λ ns. app_names e ++ ns) (app_names_none t (no_app t x node)) ∙ append-nil (app_names e)))
+    subst (AreFew (node_limit p)) (sym (node_names-append e t ∙ ap (λ ns. node_names e ++ ns) (node_names_one t x node)))
+        (few_named (node_limit p) false (node_names e) x.0 none few.0),
+    subst (AreFew (app_limit p)) (sym (app_names-append e t ∙ ap (λ ns. app_names e ++ ns) (app_names_none t (no_app t x node)) ∙ append-nil (app_names e)))
         few.1,
   )
   one_more None (Some x) node app none few = (
-    subst (AreFew MAX_NODES) (sym (node_names-append e t ∙ ap (λ ns. node_names e ++ ns) (node_names_none t node) ∙ append-nil (node_names e))) few.0,
-    subst (AreFew MAX_APPS) (sym (app_names-append e t ∙ ap (λ ns. app_names e ++ ns) (app_names_one t x app)))
-        (few_named MAX_APPS (is_among every_platform x.0) (app_names e) x.0 none few.1),
+    subst (AreFew (node_limit p)) (sym (node_names-append e t ∙ ap (λ ns. node_names e ++ ns) (node_names_none t node) ∙ append-nil (node_names e))) few.0,
+    subst (AreFew (app_limit p)) (sym (app_names-append e t ∙ ap (λ ns. app_names e ++ ns) (app_names_one t x app)))
+        (few_named (app_limit p) (is_among every_platform x.0) (app_names e) x.0 none few.1),
   )
   one_more None None node app none few = cc
 
-all_more : (e ts : List Tree) → in_turn (λ earlier t. header_faults (node_names earlier) (app_names earlier) t) e ts ≡ [] → HaveFew e → HaveFew (e ++ ts)
+all_more : (p : ℕ) (e ts : List Tree) → in_turn (λ earlier t. header_faults p (node_names earlier) (app_names earlier) t) e ts ≡ [] → HaveFew p e → HaveFew p (e ++ ts)
 unfolding header_faults
-all_more e [] none few = subst HaveFew (sym (append-nil e)) few
-all_more e (t ∷ ts) none few =
-    subst HaveFew (append_assoc e (t ∷ []) ts)
-    (all_more (e ++ t ∷ []) ts (none_right _ _ none) (one_more e t (as_node t) (as_app t) refl refl (none_left _ _ none) few))
+all_more p e [] none few = subst (HaveFew p) (sym (append-nil e)) few
+all_more p e (t ∷ ts) none few =
+    subst (HaveFew p) (append_assoc e (t ∷ []) ts)
+    (all_more p (e ++ t ∷ []) ts (none_right _ _ none) (one_more p e t (as_node t) (as_app t) refl refl (none_left _ _ none) few))
 
 no_names : (most : ℕ) → AreFew most []
 no_names most = (omega arith, λ i j d l k. absurd (omega arith))
 
-pub headers_few : (ts : List Tree) → headers_stage ts ≡ [] → HaveFew ts
+pub headers_few : (p : ℕ) (ts : List Tree) → headers_stage p ts ≡ [] → HaveFew p ts
 unfolding headers_stage node_names app_names
-headers_few ts none = all_more [] ts (none_left _ _ none) (no_names MAX_NODES, no_names MAX_APPS)
+headers_few p ts none = all_more p [] ts (none_left _ _ none) (no_names (node_limit p), no_names (app_limit p))
 
-pub some_node : (ts : List Tree) → headers_stage ts ≡ [] → 1 ≤ length (node_names ts)
+pub some_node : (p : ℕ) (ts : List Tree) → headers_stage p ts ≡ [] → 1 ≤ length (node_names ts)
 unfolding headers_stage
-some_node ts none = by (length (node_names ts)) (not_when _ _ (none_right _ _ none))
+some_node p ts none = by (length (node_names ts)) (not_when _ _ (none_right _ _ none))
   where
     by : (n : ℕ) → (n == 0) ≡ false → 1 ≤ n
     by zero h = cc

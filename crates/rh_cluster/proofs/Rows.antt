@@ -13,12 +13,12 @@ use Rattle.rh_model.specs.declared.settings.Dep.TheVariants.{Listed, Platform}
 use Rattle.rh_model.specs.declared.settings.Restart.TheVariants.{Temporary}
 use Rattle.rh_model.specs.declared.settings.SyncWait.TheVariants.{Unset}
 use Rattle.rh_model.specs.ClusterView.{ClusterView, AppView, app_numbered, deps_of}
-use Rattle.rh_model.specs.Limits.{timeout_limit}
-use Rattle.rh_model.specs.declared.limits.TheConstants.{MAX_NODES, MAX_APPS, MAX_PLATFORMS}
+use Rattle.rh_model.specs.Limits.{node_limit, app_limit, timeout_limit}
+use Rattle.rh_model.specs.declared.limits.TheConstants.{MAX_PLATFORMS}
 use Rattle.rh_sections.specs.declared.fault.ClusterFault.TheVariants as fault
 use Rattle.rh_sections.specs.NameRule.{is_name}
 use Rattle.rh_sections.specs.declared.name_rule.TheConstants.{LONGEST_NAME}
-use Rattle.rh_sections.specs.Shapes.{as_atom, as_list, as_tuple, as_int, as_pair, as_triple, as_entry, as_headed, as_time}
+use Rattle.rh_sections.specs.Shapes.{as_atom, as_list, as_tuple, as_int, as_pair, as_triple, as_entry, as_headed, as_profile, as_time}
 use Rattle.rh_sections.specs.Faults.{list_faults}
 use Rattle.rh_sections.specs.Sections.{has_key, entry_faults, word_faults, name_faults, node_name_faults, app_in}
 use Rattle.rh_sections.specs.Sections.{app_name_faults, members, desc_faults, as_share, share_faults, as_sync_wait}
@@ -32,18 +32,20 @@ use Rattle.rh_cluster.specs.Values.{dep_named, group_in, share_of, shares_in, ap
 use Rattle.rh_cluster.specs.Agreement.{same_group, same_share, same_shares, is_involved, first_involved, agreed_shares}
 use Rattle.rh_cluster.specs.Agreement.{agree, mismatch_faults, mismatches, boot_entry_faults, boot_list_faults}
 use Rattle.rh_cluster.specs.Agreement.{agreement_stage}
-use Rattle.rh_cluster.specs.ClusterOf.{names_of, node_views, all_shares, app_views, faults_behind_headers, faults_in, cluster_view, cluster_of}
+use Rattle.rh_cluster.specs.ClusterOf.{names_of, node_views, all_shares, app_views, faults_behind_headers, faults_in, cluster_view, cluster_of_terms, cluster_of}
+use Rattle.rh_cluster.specs.Profile.{profile_of, behind_profile}
 
 -- an application whose keys are empty
 abbrev bare : AppView
 bare = record { deps = []; start_arg = None; phases = false; spread = None }
 
--- the limits of a file: nestings, nodes, applications, names of the platform, bytes of a name, milliseconds of a timeout
-limits_row : (MAX_DEPTH ≡ 64) × (MAX_NODES ≡ 32) × (MAX_APPS ≡ 64) × (MAX_PLATFORMS ≡ 256) × (LONGEST_NAME ≡ 255) × (timeout_limit ≡ 1000000000000)
-limits_row = (refl, refl, refl, refl, refl, refl)
+-- the limits of a file: nestings, nodes and applications of either profile, names of the platform, bytes of a name, milliseconds of a timeout
+limits_row : (MAX_DEPTH ≡ 64) × (node_limit 1 ≡ 32) × (app_limit 1 ≡ 64) × (node_limit 2 ≡ 64) × (app_limit 2 ≡ 128)
+    × (MAX_PLATFORMS ≡ 256) × (LONGEST_NAME ≡ 255) × (timeout_limit ≡ 1000000000000)
+limits_row = (refl, refl, refl, refl, refl, refl, refl, refl)
 
 no_node_row : cluster_of [] ≡ Err fault.NoNodes
-unfolding is_utf8 chars encode terms_of dotted past cluster_of faults_in headers_stage node_names
+unfolding is_utf8 chars encode terms_of dotted past cluster_of cluster_of_terms profile_of behind_profile as_profile as_pair as_entry as_tuple faults_in headers_stage node_names
 no_node_row = refl
 
 cut_row : cluster_of (codes "a") ≡ Err (fault.Term (terms.Syntax 1))
@@ -60,40 +62,40 @@ bytes_row = refl
 
 same_name_row : cluster_of (codes "{node, a, []}. {node, a, []}.") ≡ Err fault.DuplicateName
 unfolding is_utf8 chars encode terms_of dotted dot_at inside terms_up_to some_terms next_at term_by word_at name_at past
-    cluster_of faults_in headers_stage header_faults new_name_faults node_names app_names as_headed as_triple as_tuple
+    cluster_of cluster_of_terms profile_of behind_profile as_profile as_pair as_entry faults_in headers_stage header_faults new_name_faults node_names app_names as_headed as_triple as_tuple
     as_atom is_name
 same_name_row = refl
 
 space_row : cluster_of (codes "{node, 'a b', []}.") ≡ Err fault.BadName
 unfolding is_utf8 chars encode terms_of dotted dot_at inside terms_up_to some_terms next_at term_by word_at name_at past
-    quoted_atom_at quoted cluster_of faults_in headers_stage header_faults new_name_faults node_names app_names as_headed
+    quoted_atom_at quoted cluster_of cluster_of_terms profile_of behind_profile as_profile as_pair as_entry faults_in headers_stage header_faults new_name_faults node_names app_names as_headed
     as_triple as_tuple as_atom is_name
 space_row = refl
 
 unknown_name_row : cluster_of (codes "{node, a, [{kernel, [{sync_nodes_optional, [b]}]}]}.") ≡ Err fault.UnknownName
 unfolding is_utf8 chars encode terms_of dotted dot_at inside terms_up_to some_terms next_at term_by word_at name_at past
-    cluster_of faults_in headers_stage header_faults new_name_faults node_names app_names as_headed as_triple as_tuple
+    cluster_of cluster_of_terms profile_of behind_profile as_profile faults_in headers_stage header_faults new_name_faults node_names app_names as_headed as_triple as_tuple
     as_atom is_name faults_behind_headers names_of parts_stage parts_faults section_faults entry_faults has_key
     list_faults as_list as_entry as_pair kernel_faults node_name_faults name_faults word_faults
 unknown_name_row = refl
 
 twice_in_list_row : cluster_of (codes "{node, a, [{kernel, [{sync_nodes_optional, [a, a]}]}]}.") ≡ Err fault.DuplicateInList
 unfolding is_utf8 chars encode terms_of dotted dot_at inside terms_up_to some_terms next_at term_by word_at name_at past
-    cluster_of faults_in headers_stage header_faults new_name_faults node_names app_names as_headed as_triple as_tuple
+    cluster_of cluster_of_terms profile_of behind_profile as_profile faults_in headers_stage header_faults new_name_faults node_names app_names as_headed as_triple as_tuple
     as_atom is_name faults_behind_headers names_of parts_stage parts_faults section_faults entry_faults has_key
     list_faults as_list as_entry as_pair kernel_faults node_name_faults name_faults word_faults
 twice_in_list_row = refl
 
 twice_a_parameter_row : cluster_of (codes "{node, a, [{kernel, [{permissions, []}, {permissions, []}]}]}.") ≡ Err fault.DuplicateParameter
 unfolding is_utf8 chars encode terms_of dotted dot_at inside terms_up_to some_terms next_at term_by word_at name_at past
-    cluster_of faults_in headers_stage header_faults new_name_faults node_names app_names as_headed as_triple as_tuple
+    cluster_of cluster_of_terms profile_of behind_profile as_profile faults_in headers_stage header_faults new_name_faults node_names app_names as_headed as_triple as_tuple
     as_atom is_name faults_behind_headers names_of parts_stage parts_faults section_faults entry_faults has_key
     list_faults as_list as_entry as_pair kernel_faults
 twice_a_parameter_row = refl
 
 negative_time_row : cluster_of (codes "{node, a, [{kernel, [{sync_nodes_timeout, -1}]}]}.") ≡ Err fault.BadValue
 unfolding is_utf8 chars encode terms_of dotted dot_at inside terms_up_to some_terms next_at term_by word_at name_at past
-    integer_at digits_at cluster_of faults_in headers_stage header_faults new_name_faults node_names app_names as_headed
+    integer_at digits_at cluster_of cluster_of_terms profile_of behind_profile as_profile faults_in headers_stage header_faults new_name_faults node_names app_names as_headed
     as_triple as_tuple as_atom is_name faults_behind_headers names_of parts_stage parts_faults section_faults
     entry_faults has_key list_faults as_list as_entry as_pair kernel_faults as_sync_wait as_time as_int
 negative_time_row = refl
@@ -101,7 +103,7 @@ negative_time_row = refl
 unlisted_boot_row : cluster_of (codes
     "{node, a, [{kernel, [{distributed, [{p, [a]}]}]}]}. {node, b, [{rehearse, [{boot, [{p, temporary}]}]}]}. {application, p, []}.") ≡ Err fault.BootNotListed
 unfolding is_utf8 chars encode terms_of dotted dot_at inside terms_up_to some_terms next_at term_by word_at name_at past
-    cluster_of faults_in headers_stage header_faults new_name_faults node_names app_names as_headed as_triple as_tuple
+    cluster_of cluster_of_terms profile_of behind_profile as_profile faults_in headers_stage header_faults new_name_faults node_names app_names as_headed as_triple as_tuple
     as_atom is_name faults_behind_headers names_of parts_stage parts_faults section_faults entry_faults has_key
     list_faults as_list as_entry as_pair kernel_faults share_faults app_name_faults app_in node_name_faults name_faults
     word_faults as_share desc_faults members rehearse_faults boot_faults as_restart key_faults node_views all_shares
@@ -114,6 +116,7 @@ unlisted_boot_row = refl
 -- one node, three applications, of which it starts each
 three_apps_row : cluster_of (codes
     "{node, one@lab, [{rehearse,\n  [{boot, [{a, temporary}, {b, temporary}, {c, temporary}]}]}]}.\n{application, a, []}. {application, b, []}. {application, c, []}.\n") ≡ Ok (record {
+      profile = 1;
       node_names = codes "one@lab" ∷ [];
       app_names = codes "a" ∷ codes "b" ∷ codes "c" ∷ [];
       platform_names = codes "kernel" ∷ codes "stdlib" ∷ [];
@@ -128,7 +131,7 @@ three_apps_row : cluster_of (codes
       apps = bare ∷ bare ∷ bare ∷ [];
     })
 unfolding is_utf8 chars encode terms_of dotted dot_at inside terms_up_to some_terms next_at term_by word_at name_at past
-    cluster_of faults_in headers_stage header_faults new_name_faults node_names app_names as_headed as_triple as_tuple
+    cluster_of cluster_of_terms profile_of behind_profile as_profile faults_in headers_stage header_faults new_name_faults node_names app_names as_headed as_triple as_tuple
     as_atom is_name faults_behind_headers names_of parts_stage parts_faults section_faults entry_faults has_key
     list_faults as_list as_entry as_pair kernel_faults share_faults app_name_faults app_in node_name_faults name_faults
     word_faults as_share desc_faults members rehearse_faults boot_faults as_restart key_faults node_views all_shares
@@ -144,7 +147,7 @@ deps_row : option_map (λ (c : ClusterView). deps_of c (app_numbered 0))
     (result_ok (cluster_of (codes "{node, v@lab, []}.\n{application, x, [{applications, [kernel, d1, d2]}]}.\n{application, d1, []}. {application, d2, []}.\n")))
     ≡ Some (Platform 0 ∷ Listed (app_numbered 1) ∷ Listed (app_numbered 2) ∷ [])
 unfolding is_utf8 chars encode terms_of dotted dot_at inside terms_up_to some_terms next_at term_by word_at name_at past
-    cluster_of faults_in headers_stage header_faults new_name_faults node_names app_names as_headed as_triple as_tuple
+    cluster_of cluster_of_terms profile_of behind_profile as_profile faults_in headers_stage header_faults new_name_faults node_names app_names as_headed as_triple as_tuple
     as_atom is_name faults_behind_headers names_of parts_stage parts_faults section_faults entry_faults has_key
     list_faults as_list as_entry as_pair kernel_faults share_faults app_name_faults app_in node_name_faults name_faults
     word_faults as_share desc_faults members rehearse_faults boot_faults as_restart key_faults node_views all_shares

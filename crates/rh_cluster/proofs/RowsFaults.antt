@@ -6,7 +6,7 @@ use Rattle.rh_terms.specs.Bytes.{past}
 use Rattle.rh_terms.specs.Tokens.{digits_at, integer_at, name_at, quoted, quoted_atom_at}
 use Rattle.rh_terms.specs.Grammar.{terms_of, dotted, dot_at, inside, terms_up_to, some_terms, next_at, term_by, word_at}
 use Rattle.rh_sections.specs.NameRule.{is_name}
-use Rattle.rh_sections.specs.Shapes.{as_atom, as_list, as_tuple, as_int, as_pair, as_triple, as_entry, as_headed, as_time}
+use Rattle.rh_sections.specs.Shapes.{as_atom, as_list, as_tuple, as_int, as_pair, as_triple, as_entry, as_headed, as_profile, as_time}
 use Rattle.rh_sections.specs.Faults.{list_faults}
 use Rattle.rh_sections.specs.Sections.{has_key, entry_faults, word_faults, name_faults, node_name_faults, app_in}
 use Rattle.rh_sections.specs.Sections.{app_name_faults, members, desc_faults, as_share, share_faults, as_sync_wait}
@@ -20,7 +20,8 @@ use Rattle.rh_cluster.specs.Values.{dep_named, group_in, share_of, shares_in, ap
 use Rattle.rh_cluster.specs.Agreement.{same_group, same_share, same_shares, is_involved, first_involved, agreed_shares}
 use Rattle.rh_cluster.specs.Agreement.{agree, mismatch_faults, mismatches, boot_entry_faults, boot_list_faults}
 use Rattle.rh_cluster.specs.Agreement.{agreement_stage}
-use Rattle.rh_cluster.specs.ClusterOf.{names_of, node_views, all_shares, app_views, faults_behind_headers, faults_in, cluster_view, cluster_of}
+use Rattle.rh_cluster.specs.ClusterOf.{names_of, node_views, all_shares, app_views, faults_behind_headers, faults_in, cluster_view, cluster_of_terms, cluster_of}
+use Rattle.rh_cluster.specs.Profile.{profile_of, behind_profile}
 use Rattle.rh_terms.specs.Tokens.{text_at}
 use Rattle.rh_sections.specs.Sections.{permission_faults, as_truth, platform_faults, is_start, are_phases}
 use Rattle.std.specs.Result.{result_err}
@@ -52,7 +53,7 @@ term_shapes_row : map fault_of (
     codes "{node, 1, []}." ∷ codes "{application, \"p\", []}." ∷ [])
     ≡ replicate 8 (Some BadValue)
 unfolding is_utf8 chars encode terms_of dotted dot_at inside terms_up_to some_terms next_at term_by word_at name_at past quoted quoted_atom_at text_at
-    integer_at digits_at cluster_of faults_in headers_stage header_faults new_name_faults node_names app_names as_headed as_triple as_tuple as_atom is_name
+    integer_at digits_at cluster_of cluster_of_terms profile_of behind_profile as_profile faults_in headers_stage header_faults new_name_faults node_names app_names as_headed as_triple as_tuple as_atom is_name
     faults_behind_headers names_of parts_stage parts_faults section_faults entry_faults has_key list_faults as_list as_entry as_pair kernel_faults share_faults
     app_name_faults app_in node_name_faults name_faults word_faults as_share desc_faults members permission_faults as_truth as_sync_wait as_time as_int
     rehearse_faults boot_faults as_restart platform_faults key_faults dep_faults is_start are_phases node_views all_shares node_view shares_in share_of group_in
@@ -66,7 +67,7 @@ names_row : map fault_of (
     codes "{node, '', []}." ∷ codes "{node, 'a\\tb', []}." ∷ codes "{node, a, []}. {application, 'p q', []}." ∷ [])
     ≡ replicate 3 (Some BadName)
 unfolding is_utf8 chars encode terms_of dotted dot_at inside terms_up_to some_terms next_at term_by word_at name_at past quoted quoted_atom_at text_at
-    integer_at digits_at cluster_of faults_in headers_stage header_faults new_name_faults node_names app_names as_headed as_triple as_tuple as_atom is_name
+    integer_at digits_at cluster_of cluster_of_terms profile_of behind_profile as_profile faults_in headers_stage header_faults new_name_faults node_names app_names as_headed as_triple as_tuple as_atom is_name
     faults_behind_headers names_of parts_stage parts_faults section_faults entry_faults has_key list_faults as_list as_entry as_pair kernel_faults share_faults
     app_name_faults app_in node_name_faults name_faults word_faults as_share desc_faults members permission_faults as_truth as_sync_wait as_time as_int
     rehearse_faults boot_faults as_restart platform_faults key_faults dep_faults is_start are_phases node_views all_shares node_view shares_in share_of group_in
@@ -81,7 +82,7 @@ names_once_row : map fault_of (
     codes "{node, a, []}. {application, stdlib, []}." ∷ [])
     ≡ replicate 3 (Some DuplicateName)
 unfolding is_utf8 chars encode terms_of dotted dot_at inside terms_up_to some_terms next_at term_by word_at name_at past quoted quoted_atom_at text_at
-    integer_at digits_at cluster_of faults_in headers_stage header_faults new_name_faults node_names app_names as_headed as_triple as_tuple as_atom is_name
+    integer_at digits_at cluster_of cluster_of_terms profile_of behind_profile as_profile faults_in headers_stage header_faults new_name_faults node_names app_names as_headed as_triple as_tuple as_atom is_name
     faults_behind_headers names_of parts_stage parts_faults section_faults entry_faults has_key list_faults as_list as_entry as_pair kernel_faults share_faults
     app_name_faults app_in node_name_faults name_faults word_faults as_share desc_faults members permission_faults as_truth as_sync_wait as_time as_int
     rehearse_faults boot_faults as_restart platform_faults key_faults dep_faults is_start are_phases node_views all_shares node_view shares_in share_of group_in
@@ -95,7 +96,7 @@ names_of_two_kinds_row : map fault_of (
     codes "{node, kernel, []}. {node, q, []}. {application, q, []}." ∷ codes "{node, 'A.b@c-d', []}." ∷ [])
     ≡ replicate 2 None
 unfolding is_utf8 chars encode terms_of dotted dot_at inside terms_up_to some_terms next_at term_by word_at name_at past quoted quoted_atom_at text_at
-    integer_at digits_at cluster_of faults_in headers_stage header_faults new_name_faults node_names app_names as_headed as_triple as_tuple as_atom is_name
+    integer_at digits_at cluster_of cluster_of_terms profile_of behind_profile as_profile faults_in headers_stage header_faults new_name_faults node_names app_names as_headed as_triple as_tuple as_atom is_name
     faults_behind_headers names_of parts_stage parts_faults section_faults entry_faults has_key list_faults as_list as_entry as_pair kernel_faults share_faults
     app_name_faults app_in node_name_faults name_faults word_faults as_share desc_faults members permission_faults as_truth as_sync_wait as_time as_int
     rehearse_faults boot_faults as_restart platform_faults key_faults dep_faults is_start are_phases node_views all_shares node_view shares_in share_of group_in
@@ -109,7 +110,7 @@ no_node_among_terms_row : map fault_of (
     codes "{application, p, []}." ∷ [])
     ≡ Some NoNodes ∷ []
 unfolding is_utf8 chars encode terms_of dotted dot_at inside terms_up_to some_terms next_at term_by word_at name_at past quoted quoted_atom_at text_at
-    integer_at digits_at cluster_of faults_in headers_stage header_faults new_name_faults node_names app_names as_headed as_triple as_tuple as_atom is_name
+    integer_at digits_at cluster_of cluster_of_terms profile_of behind_profile as_profile faults_in headers_stage header_faults new_name_faults node_names app_names as_headed as_triple as_tuple as_atom is_name
     faults_behind_headers names_of parts_stage parts_faults section_faults entry_faults has_key list_faults as_list as_entry as_pair kernel_faults share_faults
     app_name_faults app_in node_name_faults name_faults word_faults as_share desc_faults members permission_faults as_truth as_sync_wait as_time as_int
     rehearse_faults boot_faults as_restart platform_faults key_faults dep_faults is_start are_phases node_views all_shares node_view shares_in share_of group_in
@@ -127,7 +128,7 @@ sections_row : map fault_of (
     codes "{node, a, [{sasl, [x]}, {kernel, [{logger_level, info}]}, {sasl, []}]}." ∷ [])
     ≡ replicate 7 (Some BadValue) ++ None ∷ []
 unfolding is_utf8 chars encode terms_of dotted dot_at inside terms_up_to some_terms next_at term_by word_at name_at past quoted quoted_atom_at text_at
-    integer_at digits_at cluster_of faults_in headers_stage header_faults new_name_faults node_names app_names as_headed as_triple as_tuple as_atom is_name
+    integer_at digits_at cluster_of cluster_of_terms profile_of behind_profile as_profile faults_in headers_stage header_faults new_name_faults node_names app_names as_headed as_triple as_tuple as_atom is_name
     faults_behind_headers names_of parts_stage parts_faults section_faults entry_faults has_key list_faults as_list as_entry as_pair kernel_faults share_faults
     app_name_faults app_in node_name_faults name_faults word_faults as_share desc_faults members permission_faults as_truth as_sync_wait as_time as_int
     rehearse_faults boot_faults as_restart platform_faults key_faults dep_faults is_start are_phases node_views all_shares node_view shares_in share_of group_in
@@ -147,7 +148,7 @@ parameter_twice_row : map fault_of (
     sections (codes "{rehearse, [{platform, []}, {platform, x}]}") ∷ sections (codes "{kernel, [{logger_level, info}, {logger_level, 1}]}") ∷ [])
     ≡ replicate 9 (Some DuplicateParameter) ++ None ∷ []
 unfolding is_utf8 chars encode terms_of dotted dot_at inside terms_up_to some_terms next_at term_by word_at name_at past quoted quoted_atom_at text_at
-    integer_at digits_at cluster_of faults_in headers_stage header_faults new_name_faults node_names app_names as_headed as_triple as_tuple as_atom is_name
+    integer_at digits_at cluster_of cluster_of_terms profile_of behind_profile as_profile faults_in headers_stage header_faults new_name_faults node_names app_names as_headed as_triple as_tuple as_atom is_name
     faults_behind_headers names_of parts_stage parts_faults section_faults entry_faults has_key list_faults as_list as_entry as_pair kernel_faults share_faults
     app_name_faults app_in node_name_faults name_faults word_faults as_share desc_faults members permission_faults as_truth as_sync_wait as_time as_int
     rehearse_faults boot_faults as_restart platform_faults key_faults dep_faults is_start are_phases node_views all_shares node_view shares_in share_of group_in
@@ -169,7 +170,7 @@ distributed_row : map fault_of (
     kernel (codes "{distributed, [{p, [a]}, {p, [a]}]}") ∷ kernel (codes "{distributed, [{p, [a, {a}]}]}") ∷ [])
     ≡ None ∷ [] ++ replicate 12 (Some BadValue) ++ (Some BadName) ∷ [] ++ replicate 2 (Some UnknownName) ++ replicate 2 (Some DuplicateInList)
 unfolding is_utf8 chars encode terms_of dotted dot_at inside terms_up_to some_terms next_at term_by word_at name_at past quoted quoted_atom_at text_at
-    integer_at digits_at cluster_of faults_in headers_stage header_faults new_name_faults node_names app_names as_headed as_triple as_tuple as_atom is_name
+    integer_at digits_at cluster_of cluster_of_terms profile_of behind_profile as_profile faults_in headers_stage header_faults new_name_faults node_names app_names as_headed as_triple as_tuple as_atom is_name
     faults_behind_headers names_of parts_stage parts_faults section_faults entry_faults has_key list_faults as_list as_entry as_pair kernel_faults share_faults
     app_name_faults app_in node_name_faults name_faults word_faults as_share desc_faults members permission_faults as_truth as_sync_wait as_time as_int
     rehearse_faults boot_faults as_restart platform_faults key_faults dep_faults is_start are_phases node_views all_shares node_view shares_in share_of group_in
@@ -188,7 +189,7 @@ sync_nodes_row : map fault_of (
     kernel (codes "{sync_nodes_optional, [p]}") ∷ kernel (codes "{sync_nodes_mandatory, [a, a]}") ∷ kernel (codes "{sync_nodes_optional, [a, a]}") ∷ [])
     ≡ replicate 5 None ++ replicate 6 (Some BadValue) ++ (Some BadName) ∷ [] ++ replicate 2 (Some UnknownName) ++ replicate 2 (Some DuplicateInList)
 unfolding is_utf8 chars encode terms_of dotted dot_at inside terms_up_to some_terms next_at term_by word_at name_at past quoted quoted_atom_at text_at
-    integer_at digits_at cluster_of faults_in headers_stage header_faults new_name_faults node_names app_names as_headed as_triple as_tuple as_atom is_name
+    integer_at digits_at cluster_of cluster_of_terms profile_of behind_profile as_profile faults_in headers_stage header_faults new_name_faults node_names app_names as_headed as_triple as_tuple as_atom is_name
     faults_behind_headers names_of parts_stage parts_faults section_faults entry_faults has_key list_faults as_list as_entry as_pair kernel_faults share_faults
     app_name_faults app_in node_name_faults name_faults word_faults as_share desc_faults members permission_faults as_truth as_sync_wait as_time as_int
     rehearse_faults boot_faults as_restart platform_faults key_faults dep_faults is_start are_phases node_views all_shares node_view shares_in share_of group_in
@@ -205,7 +206,7 @@ permissions_row : map fault_of (
     kernel (codes "{permissions, [{p, true}, {p, false}]}") ∷ [])
     ≡ None ∷ [] ++ replicate 5 (Some BadValue) ++ (Some BadName) ∷ [] ++ (Some UnknownName) ∷ [] ++ (Some DuplicateInList) ∷ []
 unfolding is_utf8 chars encode terms_of dotted dot_at inside terms_up_to some_terms next_at term_by word_at name_at past quoted quoted_atom_at text_at
-    integer_at digits_at cluster_of faults_in headers_stage header_faults new_name_faults node_names app_names as_headed as_triple as_tuple as_atom is_name
+    integer_at digits_at cluster_of cluster_of_terms profile_of behind_profile as_profile faults_in headers_stage header_faults new_name_faults node_names app_names as_headed as_triple as_tuple as_atom is_name
     faults_behind_headers names_of parts_stage parts_faults section_faults entry_faults has_key list_faults as_list as_entry as_pair kernel_faults share_faults
     app_name_faults app_in node_name_faults name_faults word_faults as_share desc_faults members permission_faults as_truth as_sync_wait as_time as_int
     rehearse_faults boot_faults as_restart platform_faults key_faults dep_faults is_start are_phases node_views all_shares node_view shares_in share_of group_in
@@ -224,7 +225,7 @@ boot_row : map fault_of (
     rehearse (codes "{boot, [{p, permanent}, {p, permanent}]}") ∷ [])
     ≡ replicate 2 None ++ replicate 6 (Some BadValue) ++ (Some BadName) ∷ [] ++ (Some UnknownName) ∷ [] ++ (Some DuplicateInList) ∷ []
 unfolding is_utf8 chars encode terms_of dotted dot_at inside terms_up_to some_terms next_at term_by word_at name_at past quoted quoted_atom_at text_at
-    integer_at digits_at cluster_of faults_in headers_stage header_faults new_name_faults node_names app_names as_headed as_triple as_tuple as_atom is_name
+    integer_at digits_at cluster_of cluster_of_terms profile_of behind_profile as_profile faults_in headers_stage header_faults new_name_faults node_names app_names as_headed as_triple as_tuple as_atom is_name
     faults_behind_headers names_of parts_stage parts_faults section_faults entry_faults has_key list_faults as_list as_entry as_pair kernel_faults share_faults
     app_name_faults app_in node_name_faults name_faults word_faults as_share desc_faults members permission_faults as_truth as_sync_wait as_time as_int
     rehearse_faults boot_faults as_restart platform_faults key_faults dep_faults is_start are_phases node_views all_shares node_view shares_in share_of group_in
@@ -239,7 +240,7 @@ platform_row : map fault_of (
     rehearse (codes "{platform, ['']}") ∷ rehearse (codes "{platform, [sasl, sasl]}") ∷ rehearse (codes "{platform, [sasl, p]}") ∷ [])
     ≡ None ∷ [] ++ replicate 2 (Some BadValue) ++ (Some BadName) ∷ [] ++ (Some DuplicateInList) ∷ [] ++ (Some DuplicateName) ∷ []
 unfolding is_utf8 chars encode terms_of dotted dot_at inside terms_up_to some_terms next_at term_by word_at name_at past quoted quoted_atom_at text_at
-    integer_at digits_at cluster_of faults_in headers_stage header_faults new_name_faults node_names app_names as_headed as_triple as_tuple as_atom is_name
+    integer_at digits_at cluster_of cluster_of_terms profile_of behind_profile as_profile faults_in headers_stage header_faults new_name_faults node_names app_names as_headed as_triple as_tuple as_atom is_name
     faults_behind_headers names_of parts_stage parts_faults section_faults entry_faults has_key list_faults as_list as_entry as_pair kernel_faults share_faults
     app_name_faults app_in node_name_faults name_faults word_faults as_share desc_faults members permission_faults as_truth as_sync_wait as_time as_int
     rehearse_faults boot_faults as_restart platform_faults key_faults dep_faults is_start are_phases node_views all_shares node_view shares_in share_of group_in
@@ -257,7 +258,7 @@ keys_row : map fault_of (
     keys (codes "{\"vsn\", x}") ∷ keys (codes "vsn") ∷ [])
     ≡ replicate 3 (Some DuplicateParameter) ++ None ∷ [] ++ replicate 3 (Some BadValue)
 unfolding is_utf8 chars encode terms_of dotted dot_at inside terms_up_to some_terms next_at term_by word_at name_at past quoted quoted_atom_at text_at
-    integer_at digits_at cluster_of faults_in headers_stage header_faults new_name_faults node_names app_names as_headed as_triple as_tuple as_atom is_name
+    integer_at digits_at cluster_of cluster_of_terms profile_of behind_profile as_profile faults_in headers_stage header_faults new_name_faults node_names app_names as_headed as_triple as_tuple as_atom is_name
     faults_behind_headers names_of parts_stage parts_faults section_faults entry_faults has_key list_faults as_list as_entry as_pair kernel_faults share_faults
     app_name_faults app_in node_name_faults name_faults word_faults as_share desc_faults members permission_faults as_truth as_sync_wait as_time as_int
     rehearse_faults boot_faults as_restart platform_faults key_faults dep_faults is_start are_phases node_views all_shares node_view shares_in share_of group_in
@@ -273,7 +274,7 @@ applications_row : map fault_of (
     keys (codes "{applications, [a]}") ∷ keys (codes "{applications, [q, q]}") ∷ [])
     ≡ None ∷ [] ++ replicate 3 (Some BadValue) ++ (Some BadName) ∷ [] ++ replicate 2 (Some UnknownName) ++ (Some DuplicateInList) ∷ []
 unfolding is_utf8 chars encode terms_of dotted dot_at inside terms_up_to some_terms next_at term_by word_at name_at past quoted quoted_atom_at text_at
-    integer_at digits_at cluster_of faults_in headers_stage header_faults new_name_faults node_names app_names as_headed as_triple as_tuple as_atom is_name
+    integer_at digits_at cluster_of cluster_of_terms profile_of behind_profile as_profile faults_in headers_stage header_faults new_name_faults node_names app_names as_headed as_triple as_tuple as_atom is_name
     faults_behind_headers names_of parts_stage parts_faults section_faults entry_faults has_key list_faults as_list as_entry as_pair kernel_faults share_faults
     app_name_faults app_in node_name_faults name_faults word_faults as_share desc_faults members permission_faults as_truth as_sync_wait as_time as_int
     rehearse_faults boot_faults as_restart platform_faults key_faults dep_faults is_start are_phases node_views all_shares node_view shares_in share_of group_in
@@ -289,7 +290,7 @@ mod_row : map fault_of (
     keys (codes "{start_phases, x}") ∷ keys (codes "{start_phases, [x]}") ∷ keys (codes "{start_phases, [{1, x}]}") ∷ [])
     ≡ replicate 3 None ++ replicate 7 (Some BadValue)
 unfolding is_utf8 chars encode terms_of dotted dot_at inside terms_up_to some_terms next_at term_by word_at name_at past quoted quoted_atom_at text_at
-    integer_at digits_at cluster_of faults_in headers_stage header_faults new_name_faults node_names app_names as_headed as_triple as_tuple as_atom is_name
+    integer_at digits_at cluster_of cluster_of_terms profile_of behind_profile as_profile faults_in headers_stage header_faults new_name_faults node_names app_names as_headed as_triple as_tuple as_atom is_name
     faults_behind_headers names_of parts_stage parts_faults section_faults entry_faults has_key list_faults as_list as_entry as_pair kernel_faults share_faults
     app_name_faults app_in node_name_faults name_faults word_faults as_share desc_faults members permission_faults as_truth as_sync_wait as_time as_int
     rehearse_faults boot_faults as_restart platform_faults key_faults dep_faults is_start are_phases node_views all_shares node_view shares_in share_of group_in
@@ -307,7 +308,7 @@ known_platforms_row : map fault_of (
     codes "{application, p, [{applications, [r]}]}. {node, a, [{rehearse, [{platform, [r, 1]}]}]}." ∷ [])
     ≡ None ∷ [] ++ (Some DuplicateParameter) ∷ [] ++ (Some UnknownName) ∷ []
 unfolding is_utf8 chars encode terms_of dotted dot_at inside terms_up_to some_terms next_at term_by word_at name_at past quoted quoted_atom_at text_at
-    integer_at digits_at cluster_of faults_in headers_stage header_faults new_name_faults node_names app_names as_headed as_triple as_tuple as_atom is_name
+    integer_at digits_at cluster_of cluster_of_terms profile_of behind_profile as_profile faults_in headers_stage header_faults new_name_faults node_names app_names as_headed as_triple as_tuple as_atom is_name
     faults_behind_headers names_of parts_stage parts_faults section_faults entry_faults has_key list_faults as_list as_entry as_pair kernel_faults share_faults
     app_name_faults app_in node_name_faults name_faults word_faults as_share desc_faults members permission_faults as_truth as_sync_wait as_time as_int
     rehearse_faults boot_faults as_restart platform_faults key_faults dep_faults is_start are_phases node_views all_shares node_view shares_in share_of group_in

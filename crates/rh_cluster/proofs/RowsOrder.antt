@@ -6,7 +6,7 @@ use Rattle.rh_terms.specs.Bytes.{past}
 use Rattle.rh_terms.specs.Tokens.{digits_at, integer_at, name_at, quoted, quoted_atom_at}
 use Rattle.rh_terms.specs.Grammar.{terms_of, dotted, dot_at, inside, terms_up_to, some_terms, next_at, term_by, word_at}
 use Rattle.rh_sections.specs.NameRule.{is_name}
-use Rattle.rh_sections.specs.Shapes.{as_atom, as_list, as_tuple, as_int, as_pair, as_triple, as_entry, as_headed, as_time}
+use Rattle.rh_sections.specs.Shapes.{as_atom, as_list, as_tuple, as_int, as_pair, as_triple, as_entry, as_headed, as_profile, as_time}
 use Rattle.rh_sections.specs.Faults.{list_faults}
 use Rattle.rh_sections.specs.Sections.{has_key, entry_faults, word_faults, name_faults, node_name_faults, app_in}
 use Rattle.rh_sections.specs.Sections.{app_name_faults, members, desc_faults, as_share, share_faults, as_sync_wait}
@@ -20,7 +20,8 @@ use Rattle.rh_cluster.specs.Values.{dep_named, group_in, share_of, shares_in, ap
 use Rattle.rh_cluster.specs.Agreement.{same_group, same_share, same_shares, is_involved, first_involved, agreed_shares}
 use Rattle.rh_cluster.specs.Agreement.{agree, mismatch_faults, mismatches, boot_entry_faults, boot_list_faults}
 use Rattle.rh_cluster.specs.Agreement.{agreement_stage}
-use Rattle.rh_cluster.specs.ClusterOf.{names_of, node_views, all_shares, app_views, faults_behind_headers, faults_in, cluster_view, cluster_of}
+use Rattle.rh_cluster.specs.ClusterOf.{names_of, node_views, all_shares, app_views, faults_behind_headers, faults_in, cluster_view, cluster_of_terms, cluster_of}
+use Rattle.rh_cluster.specs.Profile.{profile_of, behind_profile}
 use Rattle.rh_terms.specs.Tokens.{text_at}
 use Rattle.rh_sections.specs.Sections.{permission_faults, as_truth, platform_faults, is_start, are_phases}
 use Rattle.std.specs.Result.{result_err}
@@ -52,7 +53,7 @@ stages_row : map fault_of (
     codes "{node, a, [{kernel, [{distributed, [{p, [a, b]}]}]}]}. {node, b, []}. {application, p, [{applications, [q]}]}." ∷ [])
     ≡ (Some (Term (Syntax 1))) ∷ [] ++ (Some DuplicateName) ∷ [] ++ (Some BadName) ∷ [] ++ (Some NoNodes) ∷ [] ++ (Some UnknownName) ∷ []
 unfolding is_utf8 chars encode terms_of dotted dot_at inside terms_up_to some_terms next_at term_by word_at name_at past quoted quoted_atom_at text_at
-    integer_at digits_at cluster_of faults_in headers_stage header_faults new_name_faults node_names app_names as_headed as_triple as_tuple as_atom is_name
+    integer_at digits_at cluster_of cluster_of_terms profile_of behind_profile as_profile faults_in headers_stage header_faults new_name_faults node_names app_names as_headed as_triple as_tuple as_atom is_name
     faults_behind_headers names_of parts_stage parts_faults section_faults entry_faults has_key list_faults as_list as_entry as_pair kernel_faults share_faults
     app_name_faults app_in node_name_faults name_faults word_faults as_share desc_faults members permission_faults as_truth as_sync_wait as_time as_int
     rehearse_faults boot_faults as_restart platform_faults key_faults dep_faults is_start are_phases node_views all_shares node_view shares_in share_of group_in
@@ -67,7 +68,7 @@ terms_in_order_row : map fault_of (
     codes "{application, p, [{applications, [q]}]}. {node, a, [{sasl, x}]}." ∷ [])
     ≡ replicate 2 (Some BadValue) ++ (Some BadName) ∷ [] ++ (Some UnknownName) ∷ []
 unfolding is_utf8 chars encode terms_of dotted dot_at inside terms_up_to some_terms next_at term_by word_at name_at past quoted quoted_atom_at text_at
-    integer_at digits_at cluster_of faults_in headers_stage header_faults new_name_faults node_names app_names as_headed as_triple as_tuple as_atom is_name
+    integer_at digits_at cluster_of cluster_of_terms profile_of behind_profile as_profile faults_in headers_stage header_faults new_name_faults node_names app_names as_headed as_triple as_tuple as_atom is_name
     faults_behind_headers names_of parts_stage parts_faults section_faults entry_faults has_key list_faults as_list as_entry as_pair kernel_faults share_faults
     app_name_faults app_in node_name_faults name_faults word_faults as_share desc_faults members permission_faults as_truth as_sync_wait as_time as_int
     rehearse_faults boot_faults as_restart platform_faults key_faults dep_faults is_start are_phases node_views all_shares node_view shares_in share_of group_in
@@ -85,7 +86,7 @@ bad_before_unknown_row : map fault_of (
     sections (codes "{rehearse, [{boot, [{'x y', permanent}]}]}") ∷ [])
     ≡ replicate 5 (Some BadName)
 unfolding is_utf8 chars encode terms_of dotted dot_at inside terms_up_to some_terms next_at term_by word_at name_at past quoted quoted_atom_at text_at
-    integer_at digits_at cluster_of faults_in headers_stage header_faults new_name_faults node_names app_names as_headed as_triple as_tuple as_atom is_name
+    integer_at digits_at cluster_of cluster_of_terms profile_of behind_profile as_profile faults_in headers_stage header_faults new_name_faults node_names app_names as_headed as_triple as_tuple as_atom is_name
     faults_behind_headers names_of parts_stage parts_faults section_faults entry_faults has_key list_faults as_list as_entry as_pair kernel_faults share_faults
     app_name_faults app_in node_name_faults name_faults word_faults as_share desc_faults members permission_faults as_truth as_sync_wait as_time as_int
     rehearse_faults boot_faults as_restart platform_faults key_faults dep_faults is_start are_phases node_views all_shares node_view shares_in share_of group_in
@@ -103,7 +104,7 @@ left_to_right_row : map fault_of (
     sections (codes "{kernel, [{permissions, [{p, true}, {p, x}]}]}") ∷ [])
     ≡ replicate 4 (Some UnknownName) ++ replicate 4 (Some BadValue) ++ (Some DuplicateInList) ∷ []
 unfolding is_utf8 chars encode terms_of dotted dot_at inside terms_up_to some_terms next_at term_by word_at name_at past quoted quoted_atom_at text_at
-    integer_at digits_at cluster_of faults_in headers_stage header_faults new_name_faults node_names app_names as_headed as_triple as_tuple as_atom is_name
+    integer_at digits_at cluster_of cluster_of_terms profile_of behind_profile as_profile faults_in headers_stage header_faults new_name_faults node_names app_names as_headed as_triple as_tuple as_atom is_name
     faults_behind_headers names_of parts_stage parts_faults section_faults entry_faults has_key list_faults as_list as_entry as_pair kernel_faults share_faults
     app_name_faults app_in node_name_faults name_faults word_faults as_share desc_faults members permission_faults as_truth as_sync_wait as_time as_int
     rehearse_faults boot_faults as_restart platform_faults key_faults dep_faults is_start are_phases node_views all_shares node_view shares_in share_of group_in
@@ -117,7 +118,7 @@ bad_dependency_row : map fault_of (
     codes "{node, a, []}. {application, p, [{applications, ['x y']}]}." ∷ [])
     ≡ (Some BadName) ∷ []
 unfolding is_utf8 chars encode terms_of dotted dot_at inside terms_up_to some_terms next_at term_by word_at name_at past quoted quoted_atom_at text_at
-    integer_at digits_at cluster_of faults_in headers_stage header_faults new_name_faults node_names app_names as_headed as_triple as_tuple as_atom is_name
+    integer_at digits_at cluster_of cluster_of_terms profile_of behind_profile as_profile faults_in headers_stage header_faults new_name_faults node_names app_names as_headed as_triple as_tuple as_atom is_name
     faults_behind_headers names_of parts_stage parts_faults section_faults entry_faults has_key list_faults as_list as_entry as_pair kernel_faults share_faults
     app_name_faults app_in node_name_faults name_faults word_faults as_share desc_faults members permission_faults as_truth as_sync_wait as_time as_int
     rehearse_faults boot_faults as_restart platform_faults key_faults dep_faults is_start are_phases node_views all_shares node_view shares_in share_of group_in
@@ -138,9 +139,9 @@ new_name_row = (refl, refl, refl)
 abbrev named : List ℕ → List ℕ → List Tree
 named word letters = map (λ letter. tuple (more (atom word) (more (atom (letter ∷ [])) (more (list none) none)))) letters
 
-most_terms_row : (headers_stage (named (codes "node") (range_with_len 65 32)) ≡ []) × (headers_stage (named (codes "node") (range_with_len 65 33)) ≡ TooMany ∷ [])
-    × (headers_stage (named (codes "node") (65 ∷ []) ++ named (codes "application") (range_with_len 128 64)) ≡ [])
-    × (headers_stage (named (codes "node") (65 ∷ []) ++ named (codes "application") (range_with_len 128 65)) ≡ TooMany ∷ [])
+most_terms_row : (headers_stage 1 (named (codes "node") (range_with_len 65 32)) ≡ []) × (headers_stage 1 (named (codes "node") (range_with_len 65 33)) ≡ TooMany ∷ [])
+    × (headers_stage 1 (named (codes "node") (65 ∷ []) ++ named (codes "application") (range_with_len 128 64)) ≡ [])
+    × (headers_stage 1 (named (codes "node") (65 ∷ []) ++ named (codes "application") (range_with_len 128 65)) ≡ TooMany ∷ [])
 unfolding headers_stage header_faults new_name_faults node_names app_names as_headed as_triple as_tuple as_atom is_name
 most_terms_row = (refl, refl, refl, refl)
 
@@ -164,7 +165,7 @@ agreement_row : map fault_of (
     nodes (codes "{kernel, [{distributed, [{p, [a, b]}]}]}", codes "{kernel, [{distributed, [{p, [b]}]}]}") ∷ [])
     ≡ None ∷ [] ++ replicate 7 (Some (Mismatch (codes "b")))
 unfolding is_utf8 chars encode terms_of dotted dot_at inside terms_up_to some_terms next_at term_by word_at name_at past quoted quoted_atom_at text_at
-    integer_at digits_at cluster_of faults_in headers_stage header_faults new_name_faults node_names app_names as_headed as_triple as_tuple as_atom is_name
+    integer_at digits_at cluster_of cluster_of_terms profile_of behind_profile as_profile faults_in headers_stage header_faults new_name_faults node_names app_names as_headed as_triple as_tuple as_atom is_name
     faults_behind_headers names_of parts_stage parts_faults section_faults entry_faults has_key list_faults as_list as_entry as_pair kernel_faults share_faults
     app_name_faults app_in node_name_faults name_faults word_faults as_share desc_faults members permission_faults as_truth as_sync_wait as_time as_int
     rehearse_faults boot_faults as_restart platform_faults key_faults dep_faults is_start are_phases node_views all_shares node_view shares_in share_of group_in
@@ -184,7 +185,7 @@ equal_waits_row : map fault_of (
     nodes (codes "{kernel, [{distributed, [{p, [a, b]}]}, {sync_nodes_timeout, 0}]}", codes "{kernel, [{distributed, [{p, [a, b]}]}, {sync_nodes_timeout, undefined}]}") ∷ [])
     ≡ replicate 3 None ++ replicate 4 (Some (Mismatch (codes "b")))
 unfolding is_utf8 chars encode terms_of dotted dot_at inside terms_up_to some_terms next_at term_by word_at name_at past quoted quoted_atom_at text_at
-    integer_at digits_at cluster_of faults_in headers_stage header_faults new_name_faults node_names app_names as_headed as_triple as_tuple as_atom is_name
+    integer_at digits_at cluster_of cluster_of_terms profile_of behind_profile as_profile faults_in headers_stage header_faults new_name_faults node_names app_names as_headed as_triple as_tuple as_atom is_name
     faults_behind_headers names_of parts_stage parts_faults section_faults entry_faults has_key list_faults as_list as_entry as_pair kernel_faults share_faults
     app_name_faults app_in node_name_faults name_faults word_faults as_share desc_faults members permission_faults as_truth as_sync_wait as_time as_int
     rehearse_faults boot_faults as_restart platform_faults key_faults dep_faults is_start are_phases node_views all_shares node_view shares_in share_of group_in
@@ -204,7 +205,7 @@ involved_row : map fault_of (
     nodes (codes "{kernel, [{distributed, []}]}", codes "{kernel, [{distributed, [{p, [a]}]}]}") ∷ [])
     ≡ replicate 2 None ++ replicate 3 (Some (Mismatch (codes "c"))) ++ replicate 2 (Some (Mismatch (codes "b")))
 unfolding is_utf8 chars encode terms_of dotted dot_at inside terms_up_to some_terms next_at term_by word_at name_at past quoted quoted_atom_at text_at
-    integer_at digits_at cluster_of faults_in headers_stage header_faults new_name_faults node_names app_names as_headed as_triple as_tuple as_atom is_name
+    integer_at digits_at cluster_of cluster_of_terms profile_of behind_profile as_profile faults_in headers_stage header_faults new_name_faults node_names app_names as_headed as_triple as_tuple as_atom is_name
     faults_behind_headers names_of parts_stage parts_faults section_faults entry_faults has_key list_faults as_list as_entry as_pair kernel_faults share_faults
     app_name_faults app_in node_name_faults name_faults word_faults as_share desc_faults members permission_faults as_truth as_sync_wait as_time as_int
     rehearse_faults boot_faults as_restart platform_faults key_faults dep_faults is_start are_phases node_views all_shares node_view shares_in share_of group_in
@@ -221,7 +222,7 @@ boot_lists_row : map fault_of (
     nodes (codes "{kernel, [{distributed, [{p, [a, c]}]}]}", codes "{rehearse, [{boot, [{p, permanent}]}]}") ∷ [])
     ≡ replicate 2 None ++ (Some BootNotListed) ∷ [] ++ (Some (Mismatch (codes "c"))) ∷ []
 unfolding is_utf8 chars encode terms_of dotted dot_at inside terms_up_to some_terms next_at term_by word_at name_at past quoted quoted_atom_at text_at
-    integer_at digits_at cluster_of faults_in headers_stage header_faults new_name_faults node_names app_names as_headed as_triple as_tuple as_atom is_name
+    integer_at digits_at cluster_of cluster_of_terms profile_of behind_profile as_profile faults_in headers_stage header_faults new_name_faults node_names app_names as_headed as_triple as_tuple as_atom is_name
     faults_behind_headers names_of parts_stage parts_faults section_faults entry_faults has_key list_faults as_list as_entry as_pair kernel_faults share_faults
     app_name_faults app_in node_name_faults name_faults word_faults as_share desc_faults members permission_faults as_truth as_sync_wait as_time as_int
     rehearse_faults boot_faults as_restart platform_faults key_faults dep_faults is_start are_phases node_views all_shares node_view shares_in share_of group_in

@@ -13,7 +13,7 @@ use Rattle.rh_model.specs.ClusterView.{ClusterView, NodeView, AppView, app_numbe
 use Rattle.rh_model.specs.declared.node.Node.{Node}
 use Rattle.rh_model.specs.declared.node.App.{App}
 use Rattle.rh_sections.specs.NameRule.{is_name}
-use Rattle.rh_sections.specs.Shapes.{as_atom, as_list, as_tuple, as_int, as_pair, as_triple, as_entry, as_headed, as_time}
+use Rattle.rh_sections.specs.Shapes.{as_atom, as_list, as_tuple, as_int, as_pair, as_triple, as_entry, as_headed, as_profile, as_time}
 use Rattle.rh_sections.specs.Faults.{list_faults}
 use Rattle.rh_sections.specs.Sections.{has_key, entry_faults, word_faults, name_faults, node_name_faults, app_in}
 use Rattle.rh_sections.specs.Sections.{app_name_faults, members, desc_faults, as_share, share_faults, as_sync_wait}
@@ -27,7 +27,8 @@ use Rattle.rh_cluster.specs.Values.{dep_named, group_in, share_of, shares_in, ap
 use Rattle.rh_cluster.specs.Agreement.{same_group, same_share, same_shares, is_involved, first_involved, agreed_shares}
 use Rattle.rh_cluster.specs.Agreement.{agree, mismatch_faults, mismatches, boot_entry_faults, boot_list_faults}
 use Rattle.rh_cluster.specs.Agreement.{agreement_stage}
-use Rattle.rh_cluster.specs.ClusterOf.{names_of, node_views, all_shares, app_views, faults_behind_headers, faults_in, cluster_view, cluster_of}
+use Rattle.rh_cluster.specs.ClusterOf.{names_of, node_views, all_shares, app_views, faults_behind_headers, faults_in, cluster_view, cluster_of_terms, cluster_of}
+use Rattle.rh_cluster.specs.Profile.{profile_of, behind_profile}
 use Rattle.rh_terms.specs.Tokens.{text_at}
 use Rattle.rh_sections.specs.Sections.{permission_faults, as_truth, platform_faults, is_start, are_phases}
 use Rattle.rh_model.specs.declared.settings.Restart.TheVariants.{Permanent, Transient}
@@ -62,6 +63,7 @@ log = app_numbered 1
 -- its cluster; a group of several is written as the first involved node writes it
 abbrev view : ClusterView
 view = record {
+  profile = 1;
   node_names = codes "n1" ∷ codes "n2" ∷ codes "n3" ∷ [];
   app_names = codes "svc" ∷ codes "log" ∷ [];
   platform_names = codes "kernel" ∷ codes "stdlib" ∷ codes "sasl" ∷ codes "tools" ∷ [];
@@ -97,7 +99,7 @@ view = record {
 
 whole_file_row : cluster_of file ≡ Ok view
 unfolding is_utf8 chars encode terms_of dotted dot_at inside terms_up_to some_terms next_at term_by word_at name_at past quoted quoted_atom_at text_at
-    integer_at digits_at cluster_of faults_in headers_stage header_faults new_name_faults node_names app_names as_headed as_triple as_tuple as_atom is_name
+    integer_at digits_at cluster_of cluster_of_terms profile_of behind_profile as_profile faults_in headers_stage header_faults new_name_faults node_names app_names as_headed as_triple as_tuple as_atom is_name
     faults_behind_headers names_of parts_stage parts_faults section_faults entry_faults has_key list_faults as_list as_entry as_pair kernel_faults share_faults
     app_name_faults app_in node_name_faults name_faults word_faults as_share desc_faults members permission_faults as_truth as_sync_wait as_time as_int
     rehearse_faults boot_faults as_restart platform_faults key_faults dep_faults is_start are_phases node_views all_shares node_view shares_in share_of group_in
@@ -111,7 +113,7 @@ waits_row : map (λ text. option_map (λ (c : ClusterView). map (λ (v : NodeVie
     (codes "{node, a, []}. {node, b, [{kernel, [{sync_nodes_timeout, undefined}]}]}. {node, c, [{kernel, [{sync_nodes_timeout, infinity}]}]}." ∷ [])
     ≡ Some (Unset ∷ Unset ∷ Forever ∷ []) ∷ []
 unfolding is_utf8 chars encode terms_of dotted dot_at inside terms_up_to some_terms next_at term_by word_at name_at past quoted quoted_atom_at text_at
-    integer_at digits_at cluster_of faults_in headers_stage header_faults new_name_faults node_names app_names as_headed as_triple as_tuple as_atom is_name
+    integer_at digits_at cluster_of cluster_of_terms profile_of behind_profile as_profile faults_in headers_stage header_faults new_name_faults node_names app_names as_headed as_triple as_tuple as_atom is_name
     faults_behind_headers names_of parts_stage parts_faults section_faults entry_faults has_key list_faults as_list as_entry as_pair kernel_faults share_faults
     app_name_faults app_in node_name_faults name_faults word_faults as_share desc_faults members permission_faults as_truth as_sync_wait as_time as_int
     rehearse_faults boot_faults as_restart platform_faults key_faults dep_faults is_start are_phases node_views all_shares node_view shares_in share_of group_in
@@ -124,7 +126,7 @@ phases_row : option_map (λ (c : ClusterView). map (λ (v : AppView). v.phases) 
     (result_ok (cluster_of (codes "{node, a, []}. {application, p, [{start_phases, []}]}. {application, q, [{start_phases, undefined}]}. {application, r, []}.")))
     ≡ Some (true ∷ false ∷ false ∷ [])
 unfolding is_utf8 chars encode terms_of dotted dot_at inside terms_up_to some_terms next_at term_by word_at name_at past quoted quoted_atom_at text_at
-    integer_at digits_at cluster_of faults_in headers_stage header_faults new_name_faults node_names app_names as_headed as_triple as_tuple as_atom is_name
+    integer_at digits_at cluster_of cluster_of_terms profile_of behind_profile as_profile faults_in headers_stage header_faults new_name_faults node_names app_names as_headed as_triple as_tuple as_atom is_name
     faults_behind_headers names_of parts_stage parts_faults section_faults entry_faults has_key list_faults as_list as_entry as_pair kernel_faults share_faults
     app_name_faults app_in node_name_faults name_faults word_faults as_share desc_faults members permission_faults as_truth as_sync_wait as_time as_int
     rehearse_faults boot_faults as_restart platform_faults key_faults dep_faults is_start are_phases node_views all_shares node_view shares_in share_of group_in

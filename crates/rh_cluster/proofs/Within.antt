@@ -1,5 +1,5 @@
 -- What the terms of a file say of nodes and of applications is within the cluster.
-use Rattle.std.proofs.Common.{◌≡◌, ◌≢◌, ◌<◌, ◌≤◌, ℕ, List, [], ◌∷◌, length, map, position, Option, Some, None, refl}
+use Rattle.std.proofs.Common.{true, ◌≡◌, ◌≢◌, ◌<◌, ◌≤◌, ℕ, List, [], ◌∷◌, length, map, position, Option, Some, None, refl}
 use Rattle.std.proofs.Common.{sym, ap, ◌∙◌, subst, slice_get, codes, ◌||◌, arith}
 use Rattle.std.specs.Prelude.{All, AllPairs, IsSome, unwrap_or, not, ◌==◌}
 use Rattle.std.specs.List.{filter_map, list_any}
@@ -18,7 +18,7 @@ use Rattle.rh_model.specs.declared.settings.Restart.{Restart}
 use Rattle.rh_model.specs.declared.settings.Spread.{Spread}
 use Rattle.rh_model.specs.ClusterView.{NodeView, AppView, IsWithin, numbered, app_numbered, dep_name}
 use Rattle.rh_model.specs.Names.{NamesView, is_among}
-use Rattle.rh_model.specs.Limits.{timeout_limit, IsWithinLimit}
+use Rattle.rh_model.specs.Limits.{is_profile, timeout_limit, IsWithinLimit}
 use Rattle.rh_model.specs.declared.settings.SyncWait.TheVariants.{Unset}
 use Rattle.rh_sections.specs.Shapes.{as_atom, as_pair, atoms, ◌>>=◌}
 use Rattle.rh_sections.specs.Sections.{as_share, as_restart, members, parts_stage}
@@ -209,12 +209,12 @@ module _ (ts : List Tree) where
       (λ x. length-platforms (names_of ts) (elements_under (codes "platform") (rehearse_of x.1))) (slice_get (nodes_in ts) n) v
       (sym (slice_get-map node_at (nodes_in ts) n) ∙ h)
 
-  deps_within : (a : ℕ) → All (λ d. IsSome (dep_name (cluster_view ts) d))
+  deps_within : (p a : ℕ) → All (λ d. IsSome (dep_name (cluster_view p ts) d))
       (unwrap_or (option_map (λ (v : AppView). v.deps) (slice_get (map app_at (apps_in ts)) a)) [])
   unfolding app_view cluster_view names_of
-  deps_within a = in_mapped app_at (λ (v : AppView). v.deps) (λ d. IsSome (dep_name (cluster_view ts) d))
-      (λ x. All-filter_map (λ d. IsSome (dep_name (cluster_view ts) d)) (dep_named (names_of ts))
-      (dep_within (names_of ts) (λ d. IsSome (dep_name (cluster_view ts) d)) (λ i. some_inside (names_of ts).apps i [])
+  deps_within p a = in_mapped app_at (λ (v : AppView). v.deps) (λ d. IsSome (dep_name (cluster_view p ts) d))
+      (λ x. All-filter_map (λ d. IsSome (dep_name (cluster_view p ts) d)) (dep_named (names_of ts))
+      (dep_within (names_of ts) (λ d. IsSome (dep_name (cluster_view p ts) d)) (λ i. some_inside (names_of ts).apps i [])
       (λ i. some_inside (names_of ts).platforms i [])) (elements_under (codes "applications") (elements x.1))) (apps_in ts) a
 
   spreads_within : (a : ℕ) (s : Spread) → option_and_then (λ (v : AppView). v.spread) (slice_get (map app_at (apps_in ts)) a) ≡ Some s
@@ -236,15 +236,16 @@ module _ (ts : List Tree) where
       (boot_once_in (names_of ts)) (nodes_in ts) (in_order (names_of ts) (platforms_in ts).known ts none) n
 
   -- terms in which no stage finds a fault
-  pub view_is_within : headers_stage ts ≡ [] → faults_behind_headers ts ≡ [] → IsWithin (cluster_view ts)
+  pub view_is_within : (p : ℕ) → is_profile p ≡ true → headers_stage p ts ≡ [] → faults_behind_headers ts ≡ [] → IsWithin (cluster_view p ts)
   unfolding cluster_view names_of node_views app_views faults_behind_headers
-  view_is_within headers behind = record {
-    some_node = some_node ts headers;
-    few_nodes = (headers_few ts headers).0.0;
-    few_apps = (headers_few ts headers).1.0;
+  view_is_within p known headers behind = record {
+    profile = known;
+    some_node = some_node p ts headers;
+    few_nodes = (headers_few p ts headers).0.0;
+    few_apps = (headers_few p ts headers).1.0;
     few_platforms = (platforms_few ts).0;
-    node_names = (headers_few ts headers).0.1;
-    app_names = (headers_few ts headers).1.1;
+    node_names = (headers_few p ts headers).0.1;
+    app_names = (headers_few p ts headers).1.1;
     platform_names = (platforms_few ts).1;
     nodes = length-node_views (names_of ts) ts;
     apps = length-app_views (names_of ts) (agreed_shares (all_shares (names_of ts) ts)) ts;
@@ -253,10 +254,10 @@ module _ (ts : List Tree) where
     sync_wait = λ n. waits_within n.0;
     boot = λ n. boots_within n.0;
     boot_once = λ n. boots_once (none_left _ _ behind) n.0;
-    boot_listed = boots_listed ts headers (node_views (names_of ts) ts) (none_right _ _ behind);
+    boot_listed = boots_listed p ts headers (node_views (names_of ts) ts) (none_right _ _ behind);
     permissions = permissions_within;
     platforms = platforms_within;
-    deps = λ a. deps_within a.0;
+    deps = λ a. deps_within p a.0;
     groups = λ a s h. (spreads_within a.0 s h).0;
     timeouts = λ a s h. (spreads_within a.0 s h).1;
   }

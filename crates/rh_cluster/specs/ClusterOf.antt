@@ -10,6 +10,7 @@ use Rattle.rh_model.specs.ClusterView.{ClusterView, NodeView, AppView}
 use Rattle.rh_sections.specs.Faults.{unless}
 use Rattle.rh_model.specs.Names.{NamesView}
 use Rattle.rh_cluster.specs.Headers.{nodes_in, apps_in, node_names, app_names, headers_stage}
+use Rattle.rh_cluster.specs.Profile.{profile_of, behind_profile}
 use Rattle.rh_sections.specs.Sections.{parts_stage}
 use Rattle.rh_cluster.specs.Values.{platforms_in, node_view, shares_in, app_view}
 use Rattle.rh_cluster.specs.Agreement.{agreed_shares, agreement_stage}
@@ -36,14 +37,14 @@ faults_behind_headers ts =
     parts_stage (names_of ts) (platforms_in ts).known ts
     ++ agreement_stage (names_of ts).nodes (node_views (names_of ts) ts) (all_shares (names_of ts) ts)
 
--- the faults of the second, the third and the fourth stage, in this order
-unfoldable pub faults_in : List Tree → List ClusterFault
-faults_in ts = headers_stage ts ++ faults_behind_headers ts
+-- the faults of the second, the third and the fourth stage, in this order, in a file of this profile
+unfoldable pub faults_in : ℕ → List Tree → List ClusterFault
+faults_in profile ts = headers_stage profile ts ++ faults_behind_headers ts
 
--- the cluster of terms that have no fault
-unfoldable pub cluster_view : List Tree → ClusterView
-cluster_view ts = record {
-  profile = 1;
+-- the cluster of this profile, of terms that have no fault
+unfoldable pub cluster_view : ℕ → List Tree → ClusterView
+cluster_view profile ts = record {
+  profile = profile;
   node_names = node_names ts;
   app_names = app_names ts;
   platform_names = (platforms_in ts).first;
@@ -51,12 +52,17 @@ cluster_view ts = record {
   apps = app_views (names_of ts) (agreed_shares (all_shares (names_of ts) ts)) ts;
 }
 
+-- the cluster of the terms of a file, or the first fault
+unfoldable pub cluster_of_terms : List Tree → Result ClusterView ClusterFault
+cluster_of_terms ts =
+    unless (faults_in (profile_of ts) (behind_profile ts)) (cluster_view (profile_of ts) (behind_profile ts))
+
 -- the cluster of terms that were read, or the first fault
 abbrev pub cluster_in : Result Trees TermFault → Result ClusterView ClusterFault
-cluster_in (Ok ts) = unless (faults_in (list_of_trees ts)) (cluster_view (list_of_trees ts))
+cluster_in (Ok ts) = cluster_of_terms (list_of_trees ts)
 cluster_in (Err f) = Err (fault.Term f)
 
--- The first stage reads the terms. Then the first fault of the stages over the terms counts; without one, this is the
+-- The first stage reads the terms, of which the first may name the profile. Then the first fault of the stages over the terms counts; without one, this is the
 -- cluster.
 unfoldable pub cluster_of : List ℕ → Result ClusterView ClusterFault
 cluster_of bytes = cluster_in (terms_of bytes)

@@ -4,7 +4,7 @@ use Rattle.std.specs.Prelude.{Bool, false, not, ◌||◌, ◌==◌, nat_le, Opti
 use Rattle.rh_base.specs.Tree.{Tree}
 use Rattle.rh_sections.specs.declared.fault.ClusterFault.{ClusterFault}
 use Rattle.rh_sections.specs.declared.fault.ClusterFault.TheVariants as fault
-use Rattle.rh_model.specs.declared.limits.TheConstants.{MAX_NODES, MAX_APPS}
+use Rattle.rh_model.specs.Limits.{node_limit, app_limit}
 use Rattle.rh_model.specs.Names.{is_among}
 use Rattle.rh_sections.specs.NameRule.{is_name}
 use Rattle.rh_sections.specs.Shapes.{as_node, as_app}
@@ -37,19 +37,20 @@ new_name_faults most reserved earlier name =
     ++ when (reserved || is_among earlier name) fault.DuplicateName
     ++ when (nat_le most (length earlier)) fault.TooMany
 
--- the same, where the term is seen as a node term and as an application term
+-- the same, where the term is seen as a node term and as an application term of a file of this profile
 abbrev pub header_faults_by :
-    List (List ℕ) → List (List ℕ) → Option (List ℕ × Tree) → Option (List ℕ × Tree) → List ClusterFault
-header_faults_by nodes apps (Some node) app = new_name_faults MAX_NODES false nodes node.0
-header_faults_by nodes apps None (Some app) = new_name_faults MAX_APPS (is_among every_platform app.0) apps app.0
-header_faults_by nodes apps None None = fault.BadValue ∷ []
+    ℕ → List (List ℕ) → List (List ℕ) → Option (List ℕ × Tree) → Option (List ℕ × Tree) → List ClusterFault
+header_faults_by profile nodes apps (Some node) app = new_name_faults (node_limit profile) false nodes node.0
+header_faults_by profile nodes apps None (Some app) =
+    new_name_faults (app_limit profile) (is_among every_platform app.0) apps app.0
+header_faults_by profile nodes apps None None = fault.BadValue ∷ []
 
 -- what is wrong with a term's shape or name, behind terms with these names
-unfoldable pub header_faults : List (List ℕ) → List (List ℕ) → Tree → List ClusterFault
-header_faults nodes apps t = header_faults_by nodes apps (as_node t) (as_app t)
+unfoldable pub header_faults : ℕ → List (List ℕ) → List (List ℕ) → Tree → List ClusterFault
+header_faults profile nodes apps t = header_faults_by profile nodes apps (as_node t) (as_app t)
 
 -- The second stage: each term in order; at last, whether there is a node.
-unfoldable pub headers_stage : List Tree → List ClusterFault
-headers_stage ts =
-    in_turn (λ earlier t. header_faults (node_names earlier) (app_names earlier) t) [] ts
+unfoldable pub headers_stage : ℕ → List Tree → List ClusterFault
+headers_stage profile ts =
+    in_turn (λ earlier t. header_faults profile (node_names earlier) (app_names earlier) t) [] ts
     ++ when (length (node_names ts) == 0) fault.NoNodes

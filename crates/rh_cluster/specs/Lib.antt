@@ -1,4 +1,5 @@
 pub mod Headers
+pub mod Profile
 pub mod Values
 pub mod Agreement
 pub mod ClusterOf

@@ -7,7 +7,7 @@ ghost use Rattle.rh_model.specs.Names.{is_among};
 ghost use Rattle.rh_cluster.specs.Headers.{every_platform, new_name_faults, header_faults, headers_stage, node_names, app_names};
 
 use rh_base::Term;
-use rh_model::{MAX_APPS, MAX_NODES, NameSet};
+use rh_model::{MAX_APPS, MAX_NODES, NameSet, app_limit, node_limit};
 use rh_sections::{ClusterFault, is_name, shapes};
 use std::alloc::Global;
 
@@ -45,35 +45,40 @@ fn add_name(
     Ok(())
 }
 
-// Adds the name of a term to the nodes or to the applications.
+// Adds the name of a term to the nodes or to the applications of a file of this profile.
 #[tactic(auto, unfolding(crate::specs::Headers::header_faults))]
 fn add_header(
     alloc: Global,
+    profile: u8,
     nodes: &mut NameSet,
     apps: &mut NameSet,
     term: &Term,
 ) -> Result<(), ClusterFault>
-    ensures faults { Finds result (header_faults nodes.old apps.old (tree_of term.now)) }
-    ensures last { WantsLast result (header_faults nodes.old apps.old (tree_of term.now)) }
+    ensures faults { Finds result (header_faults profile nodes.old apps.old (tree_of term.now)) }
+    ensures last { WantsLast result (header_faults profile nodes.old apps.old (tree_of term.now)) }
     ensures nodes { OnOk result (nodes.new ≡ nodes.old ++ node_names (tree_of term.now ∷ [])) }
     ensures apps { OnOk result (apps.new ≡ apps.old ++ app_names (tree_of term.now ∷ [])) }
     ensures few_nodes { OnOk result (length nodes.old ≤ MAX_NODES → length nodes.new ≤ MAX_NODES) }
     ensures few_apps { OnOk result (length apps.old ≤ MAX_APPS → length apps.new ≤ MAX_APPS) }
 {
     if let Some((name, _)) = shapes::node(term) {
-        return add_name(alloc, MAX_NODES, false, nodes, name);
+        return add_name(alloc, node_limit(profile), false, nodes, name);
     }
     if let Some((name, _)) = shapes::app(term) {
         let reserved = is_platform_everywhere(name);
-        return add_name(alloc, MAX_APPS, reserved, apps, name);
+        return add_name(alloc, app_limit(profile), reserved, apps, name);
     }
     Err(ClusterFault::BadValue)
 }
 
-/// The names of the nodes and of the applications.
+/// The names of the nodes and of the applications of a file of this profile.
 #[tactic(auto, unfolding(crate::specs::Headers::headers_stage))]
-pub fn headers(alloc: Global, terms: &[Term]) -> Result<(NameSet, NameSet), ClusterFault>
-    ensures faults { Finds result (headers_stage (map tree_of terms.now)) }
+pub fn headers(
+    alloc: Global,
+    profile: u8,
+    terms: &[Term],
+) -> Result<(NameSet, NameSet), ClusterFault>
+    ensures faults { Finds result (headers_stage profile (map tree_of terms.now)) }
     ensures nodes { IfOk result (λ names. names.0 ≡ node_names (map tree_of terms.now)) }
     ensures apps { IfOk result (λ names. names.1 ≡ app_names (map tree_of terms.now)) }
     ensures few_nodes { IfOk result (λ names. length names.0 ≤ MAX_NODES) }
@@ -82,7 +87,7 @@ pub fn headers(alloc: Global, terms: &[Term]) -> Result<(NameSet, NameSet), Clus
     let mut nodes = NameSet::new(alloc);
     let mut apps = NameSet::new(alloc);
     for term in terms {
-        add_header(alloc, &mut nodes, &mut apps, term)?;
+        add_header(alloc, profile, &mut nodes, &mut apps, term)?;
     }
     if nodes.len() == 0 {
         return Err(ClusterFault::NoNodes);

@@ -9,6 +9,7 @@ mod building_shares;
 mod gathering;
 mod headers;
 mod laws;
+mod profile;
 mod reading;
 mod shares;
 mod values;

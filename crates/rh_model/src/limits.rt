@@ -22,7 +22,7 @@ pub const MAX_PLATFORMS: usize = 256;
 pub const TIMEOUT_LIMIT: u64 = 1_000_000_000_000;
 
 /// Is there a profile of this number?
-pub fn is_profile(number: u8) -> bool
+pub fn is_profile(number: u64) -> bool
     ensures { result ≡ is_profile number }
 {
     number == 1 || number == 2

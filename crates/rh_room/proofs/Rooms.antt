@@ -1,5 +1,5 @@
 -- One more entry in the log of a room.
-use Rattle.std.proofs.Common.{◌≡◌, ℕ, ◌<◌, ◌==◌, List, [], ◌∷◌, ◌++◌, length, Option, Some, None, Bool, true, false, cond, refl, sym, ap, ◌∙◌, arith}
+use Rattle.std.proofs.Common.{◌≡◌, ℕ, suc, ◌-◌, ◌<◌, ◌==◌, List, [], ◌∷◌, ◌++◌, length, map, Option, Some, None, Bool, true, false, cond, slice_get, refl, sym, ap, subst, ◌∙◌, arith}
 use Rattle.std.proofs.lemmas.List.{length_push, map-append}
 use Rattle.std.proofs.lemmas.List.Elements.{All-push}
 use Rattle.rh_events.specs.declared.event.Event.{Event}
@@ -12,6 +12,7 @@ use Rattle.rh_trail.specs.SimView.{SimView, state_of}
 use Rattle.rh_trail.specs.Lone.{Served, answered, served, stepped, opened, replies, sim_after, trail_limit}
 use Rattle.rh_room.specs.declared.pass.Entry.{Entry}
 use Rattle.rh_room.specs.Legal.{IsRoom, IsSession, calls, entry, log_limit}
+use Rattle.rh_room.specs.Serving.{look_reply, look_in, last_look, IsStill}
 
 -- the new simulation of the cluster and the pick of another
 abbrev base_of : Served → SimView
@@ -73,3 +74,39 @@ module _ (s t : SimView) (k : ℕ) (log : List Entry) (session : ℕ) (c : Call)
 
       base : opened t.cluster t.pick ≡ start
       base = sym (ap base_of is) ∙ base-served s c
+
+-- ---- a look right behind another
+
+-- behind a look a look is answered the same
+still_behind : (s : SimView) (c : Call) (r : Reply) → r ≡ (served s c).reply → IsStill (served s c).sim (look_reply c r)
+still_behind s (call.Step e) r is = tt
+still_behind s call.Undo r is = tt
+still_behind s call.Redo r is = tt
+still_behind s call.UndoAll r is = tt
+still_behind s call.RedoAll r is = tt
+still_behind s call.Look r is = ap (λ (q : Reply). answered q s) (sym is)
+
+abbrev first_or : Reply → List Reply → Reply
+first_or d [] = d
+first_or d (r ∷ rs) = r
+
+abbrev rest_of : List Reply → List Reply
+rest_of [] = []
+rest_of (r ∷ rs) = rs
+
+last_behind : (e f : Entry) (log : List Entry) → last_look (e ∷ f ∷ log) ≡ last_look (f ∷ log)
+last_behind e f log =
+    let one : length (e ∷ f ∷ log) - 1 ≡ suc (length log) = omega arith in
+    let other : length (f ∷ log) - 1 ≡ length log = omega arith in
+    ap (λ (k : ℕ). look_in (slice_get (e ∷ f ∷ log) k)) one ∙ sym (ap (λ (k : ℕ). look_in (slice_get (f ∷ log) k)) other)
+
+still_from : (s : SimView) (log : List Entry) → map (λ e. e.reply) log ≡ replies s (calls log) → IsStill (sim_after s (calls log)) (last_look log)
+still_from s [] legal = tt
+still_from s (e ∷ []) legal = still_behind s e.call e.reply (ap (first_or e.reply) legal)
+still_from s (e ∷ f ∷ log) legal =
+    subst (IsStill (sim_after s (calls (e ∷ f ∷ log)))) (sym (last_behind e f log)) (still_from (served s e.call).sim (f ∷ log) (ap rest_of legal))
+
+-- where the last call of a room was a look, one more is answered the same
+pub look_is_still : (s : SimView) (k : ℕ) (log : List Entry) → IsRoom s k log → IsStill s (last_look log)
+look_is_still s k log room =
+    subst (λ (t : SimView). IsStill t (last_look log)) (sym room.is) (still_from (opened s.cluster s.pick) log room.legal)

@@ -1,7 +1,11 @@
 -- When a room serves a pass, and what it answers (ours).
-use Rattle.std.specs.Prelude.{◌≡◌, ◌<◌, ℕ, ◌-◌, List, length, Option, Some, None, slice_get}
+use Rattle.std.specs.Prelude.{◌≡◌, ◌<◌, ℕ, ◌-◌, List, length, Option, Some, None, slice_get, IfSome}
 use Rattle.rh_trail.specs.declared.call.Call.{Call}
-use Rattle.rh_trail.specs.Lone.{served, TakesMemory}
+use Rattle.rh_trail.specs.declared.call.Call.TheVariants as call
+use Rattle.rh_trail.specs.declared.call.Reply.{Reply}
+use Rattle.rh_trail.specs.SimView.{SimView}
+use Rattle.rh_trail.specs.Lone.{served, answered, TakesMemory}
+use Rattle.rh_room.specs.declared.pass.Entry.{Entry}
 use Rattle.rh_room.specs.declared.pass.Receipt.{Receipt}
 use Rattle.rh_room.specs.declared.pass.RoomFault.{RoomFault}
 use Rattle.rh_room.specs.declared.pass.RoomFault.TheVariants.{SessionCount, WrongRoom, LogFull, OutOfMemory}
@@ -42,3 +46,27 @@ WhyNotOpened sessions SessionCount = IsSession session_limit sessions → ⊥
 WhyNotOpened sessions (WrongRoom place) = ⊥
 WhyNotOpened sessions LogFull = ⊥
 WhyNotOpened sessions OutOfMemory = IsSession session_limit sessions
+
+-- ---- a look right behind another
+
+-- the reply to a call, if that is a look
+abbrev pub look_reply : Call → Reply → Option Reply
+look_reply (call.Step e) reply = None
+look_reply call.Undo reply = None
+look_reply call.Redo reply = None
+look_reply call.UndoAll reply = None
+look_reply call.RedoAll reply = None
+look_reply call.Look reply = Some reply
+
+-- the reply to an entry's call, if that is a look
+abbrev pub look_in : Option Entry → Option Reply
+look_in None = None
+look_in (Some e) = look_reply e.call e.reply
+
+-- the reply to the last call of a log, if that is a look
+abbrev pub last_look : List Entry → Option Reply
+last_look log = look_in (slice_get log (length log - 1))
+
+-- a look is still answered so
+abbrev pub IsStill : SimView → Option Reply → Type 0
+IsStill sim told = IfSome told (λ reply. served sim call.Look ≡ answered reply sim)

@@ -1,11 +1,14 @@
 //! The reply to a call, once for the log, once for the pass and once for the caller.
 
 ghost use Rattle.std.specs.Prelude.{◌≡◌, true, IfOk, OnErr};
+ghost use Rattle.std.specs.Option.{option_map};
 ghost use Rattle.rh_trail.specs.declared.call.Call.TheVariants as call;
 ghost use Rattle.rh_trail.specs.declared.call.Reply.TheVariants as reply;
 ghost use Rattle.rh_trail.specs.Laws.{is_refusal};
 ghost use Rattle.rh_trail.specs.Lone.{served, answered, TakesMemory};
+ghost use Rattle.rh_room.specs.Serving.{last_look, look_reply, IsStill};
 
+use crate::pass::Entry;
 use rh_base::OutOfMemory;
 use rh_step::{Event, Refusal};
 use rh_trail::{Call, Reply, Sim};
@@ -19,8 +22,15 @@ pub struct Replies {
     pub told: Reply,
 }
 
-/// Makes a call of a simulation, and gives the reply three times. Want of memory changes nothing.
-pub fn replies_to(alloc: Global, sim: &mut Sim, call: Call) -> Result<Replies, OutOfMemory>
+/// Makes a call of a simulation with the log of the calls so far, and gives the reply three times. Want of memory changes
+/// nothing.
+pub fn replies_to(
+    alloc: Global,
+    sim: &mut Sim,
+    log: &[Entry],
+    call: Call,
+) -> Result<Replies, OutOfMemory>
+    requires { IsStill sim.old.seen (last_look log.now) }
     ensures logged { IfOk result (λ r. served sim.old.seen call ≡ answered r.logged sim.new.seen) }
     ensures kept { IfOk result (λ r. r.kept ≡ r.logged) }
     ensures told { IfOk result (λ r. r.told ≡ r.logged) }
@@ -34,7 +44,7 @@ pub fn replies_to(alloc: Global, sim: &mut Sim, call: Call) -> Result<Replies, O
         Call::Redo => Ok(redo(sim)),
         Call::UndoAll => Ok(moved(sim.undo_all())),
         Call::RedoAll => Ok(moved(sim.redo_all())),
-        Call::Look => look(alloc, sim),
+        Call::Look => look(alloc, sim, log),
     }
 }
 
@@ -131,14 +141,39 @@ fn moved(count: u32) -> Replies
     }
 }
 
-// Looks at the simulation.
-fn look(alloc: Global, sim: &Sim) -> Result<Replies, OutOfMemory>
+// Looks at the simulation. Right behind another look the reply is the same, and shares its report.
+fn look(alloc: Global, sim: &Sim, log: &[Entry]) -> Result<Replies, OutOfMemory>
+    requires { IsStill sim.now.seen (last_look log.now) }
     ensures logged { IfOk result (λ r. served sim.now.seen call.Look ≡ answered r.logged sim.now.seen) }
     ensures kept { IfOk result (λ r. r.kept ≡ r.logged) }
     ensures told { IfOk result (λ r. r.told ≡ r.logged) }
 {
-    let logged = sim.look(alloc)?;
+    let logged = match looked_last(log) {
+        Some(reply) => reply.copy(alloc)?,
+        None => sim.look(alloc)?,
+    };
     let kept = logged.copy(alloc)?;
     let told = logged.copy(alloc)?;
     Ok(Replies { logged, kept, told })
+}
+
+// The reply to the last call, if that is a look.
+fn looked_last(log: &[Entry]) -> Option<&Reply>
+    ensures { option_map (λ r. r.now) result ≡ last_look log.now }
+{
+    match log.last() {
+        Some(entry) => reply_if_look(entry),
+        None => None,
+    }
+}
+
+// The reply to a call, if that is a look.
+fn reply_if_look(entry: &Entry) -> Option<&Reply>
+    ensures { option_map (λ r. r.now) result ≡ look_reply entry.now.call entry.now.reply }
+{
+    if entry.call == Call::Look {
+        Some(&entry.reply)
+    } else {
+        None
+    }
 }

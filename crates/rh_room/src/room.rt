@@ -157,7 +157,7 @@ impl Room {
     {
         let session = pass.session();
         let place = self.log.len();
-        let Replies { logged, kept, told } = replies_to(alloc, &mut self.sim, call)?;
+        let Replies { logged, kept, told } = replies_to(alloc, &mut self.sim, &self.log, call)?;
         let entry = Entry {
             session,
             call,

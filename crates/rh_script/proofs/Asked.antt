@@ -9,7 +9,7 @@ use Rattle.std.proofs.lemmas.Bool.Decides.{nat_tests}
 use Rattle.std.proofs.lemmas.List.Quantifiers.{position-Some}
 use Rattle.rh_model.specs.ClusterView.{ClusterView, node_of, app_of, numbered, app_numbered}
 use Rattle.rh_events.specs.declared.event.Event.{Event}
-use Rattle.rh_events.specs.declared.event.Event.TheVariants.{Tick, Start, Stop, Permit, Takeover, Exit}
+use Rattle.rh_events.specs.declared.event.Event.TheVariants.{Tick, Start, Stop, Permit, Takeover, Exit, StartAll, StopAll}
 use Rattle.rh_trail.specs.declared.call.Call.{Call}
 use Rattle.rh_trail.specs.declared.call.Call.TheVariants as call
 use Rattle.rh_trail.specs.Report.{no_name}
@@ -75,16 +75,19 @@ module _ (c : ClusterView) (node_free : node_of c no_name ≡ None) (app_free : 
   two_told word name =
       either (AsksTold c) (bytes_eq word (codes "boot")) _ _ (node_told name)
       (either (AsksTold c) (bytes_eq word (codes "crash")) _ _ (node_told name)
-      (either (AsksTold c) (bytes_eq word (codes "tick")) _ Bad (tick_told c name (milliseconds name) refl) tt))
-
-  three_told : (word node app : List ℕ) → AsksTold c (three_word_command word (named c node) (named_app c app))
-  three_told word node app =
-      either (AsksTold c) (bytes_eq word (codes "stop")) (Asks (call.Step (Stop (named c node) (named_app c app)))) Bad (node_told node, app_told app) tt
+      (either (AsksTold c) (bytes_eq word (codes "tick")) _ _ (tick_told c name (milliseconds name) refl)
+      (either (AsksTold c) (bytes_eq word (codes "stop_all")) (Asks (call.Step (StopAll (named_app c name)))) Bad (app_told name) tt)))
 
   -- an event that needs an option
   with_option : {A : Type 0} (event : A → Event) (o : Option A) → ((x : A) → IsTold c (call.Step (event x))) → AsksTold c (step_command (option_map event o))
   with_option event None told = tt
   with_option event (Some x) told = told x
+
+  three_told : (word name other : List ℕ) → AsksTold c (three_word_command c word name other)
+  three_told word name other =
+      either (AsksTold c) (bytes_eq word (codes "stop")) _ _ (node_told name, app_told other)
+      (either (AsksTold c) (bytes_eq word (codes "start_all")) _ Bad
+      (with_option (λ restart. StartAll (named_app c name) restart) (restart_named other) (λ _. app_told name)) tt)
 
   four_told : (word node app option : List ℕ) → AsksTold c (four_word_command word (named c node) (named_app c app) option)
   unfolding four_word_command
@@ -104,7 +107,7 @@ module _ (c : ClusterView) (node_free : node_of c no_name ≡ None) (app_free : 
   words_told [] = tt
   words_told (word ∷ []) = one_told word
   words_told (word ∷ name ∷ []) = two_told word name
-  words_told (word ∷ node ∷ app ∷ []) = three_told word node app
+  words_told (word ∷ name ∷ other ∷ []) = three_told word name other
   words_told (word ∷ node ∷ app ∷ option ∷ []) = four_told word node app option
   words_told (word ∷ node ∷ app ∷ option ∷ other ∷ more) = tt
 

@@ -8,7 +8,7 @@ use Rattle.rh_model.specs.declared.settings.Dep.TheVariants.{Listed, Platform}
 use Rattle.rh_model.specs.declared.settings.Restart.TheVariants.{Permanent, Transient, Temporary}
 use Rattle.rh_state.specs.declared.status.Kind.TheVariants as kind
 use Rattle.rh_settle.specs.declared.notice.Notice.TheVariants.{Started, Stopped, Waits}
-use Rattle.rh_events.specs.declared.event.Event.TheVariants.{Boot, Tick, Start, Stop, Permit, Takeover, Exit}
+use Rattle.rh_events.specs.declared.event.Event.TheVariants.{Boot, Tick, Start, Stop, Permit, Takeover, Exit, StartAll, StopAll}
 use Rattle.rh_events.specs.declared.refusal.Refusal.TheVariants.{DependencyNotStarted}
 use Rattle.rh_trail.specs.declared.call.Call.TheVariants.{Step, Undo, Look}
 use Rattle.rh_trail.specs.declared.call.Reply.TheVariants.{Refused}
@@ -84,6 +84,18 @@ exit_row = refl
 abnormal_exit_row : line_of one_app (codes "exit b w abnormal") ≡ Asks (Step (Exit (numbered 1) (app_numbered 0) false))
 unfolding line_of four_word_command is_utf8 chars encode
 abnormal_exit_row = refl
+
+start_all_row : line_of one_app (codes "start_all w transient") ≡ Asks (Step (StartAll (app_numbered 0) Transient))
+unfolding line_of four_word_command is_utf8 chars encode
+start_all_row = refl
+
+stop_all_row : line_of one_app (codes "stop_all w") ≡ Asks (Step (StopAll (app_numbered 0)))
+unfolding line_of four_word_command is_utf8 chars encode
+stop_all_row = refl
+
+stop_all_with_node_row : line_of one_app (codes "stop_all b w") ≡ Bad
+unfolding line_of four_word_command is_utf8 chars encode
+stop_all_with_node_row = refl
 
 unknown_app_row : line_of one_app (codes "start w b permanent") ≡ Asks (Step (Start NO_NODE NO_APP Permanent))
 unfolding line_of four_word_command is_utf8 chars encode
@@ -221,6 +233,15 @@ exit_again_row :
     line_of one_app (command_words one_app (Step (Exit (numbered 0) (app_numbered 0) false))) ≡ Asks (Step (Exit (numbered 0) (app_numbered 0) false))
 unfolding line_of command_words event_words four_word_command is_utf8 chars encode
 exit_again_row = refl
+
+start_all_again_row :
+    line_of one_app (command_words one_app (Step (StartAll (app_numbered 0) Permanent))) ≡ Asks (Step (StartAll (app_numbered 0) Permanent))
+unfolding line_of command_words event_words four_word_command is_utf8 chars encode
+start_all_again_row = refl
+
+stop_all_again_row : line_of one_app (command_words one_app (Step (StopAll NO_APP))) ≡ Asks (Step (StopAll NO_APP))
+unfolding line_of command_words event_words four_word_command is_utf8 chars encode
+stop_all_again_row = refl
 
 unknown_again_row : line_of one_app (command_words one_app (Step (Stop NO_NODE NO_APP))) ≡ Asks (Step (Stop NO_NODE NO_APP))
 unfolding line_of command_words event_words four_word_command is_utf8 chars encode

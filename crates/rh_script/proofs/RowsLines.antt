@@ -3,8 +3,8 @@ use Rattle.std.proofs.Common.{◌≡◌, ℕ, List, [], ◌∷◌, true, false, 
 use Rattle.std.specs.Str.{is_utf8, chars}
 use lib.Utf8.{encode}
 use Rattle.rh_model.specs.ClusterView.{ClusterView, numbered, app_numbered}
-use Rattle.rh_model.specs.declared.settings.Restart.TheVariants.{Permanent, Transient}
-use Rattle.rh_events.specs.declared.event.Event.TheVariants.{Boot, Crash, Tick, Start, Stop, Permit, Takeover, Exit}
+use Rattle.rh_model.specs.declared.settings.Restart.TheVariants.{Permanent, Transient, Temporary}
+use Rattle.rh_events.specs.declared.event.Event.TheVariants.{Boot, Crash, Tick, Start, Stop, Permit, Takeover, Exit, StartAll, StopAll}
 use Rattle.rh_trail.specs.declared.call.Call.TheVariants.{Step, Undo, Redo, UndoAll, RedoAll, Look}
 use Rattle.rh_script.specs.declared.script.TheConstants.{NO_NODE, NO_APP}
 use Rattle.rh_script.specs.declared.script.Line.TheVariants.{Nothing, Asks, Bad}
@@ -27,17 +27,18 @@ unfolding line_of four_word_command is_utf8 chars encode
 plain_commands_row = refl
 
 events_row : map (line_of c) (codes "boot b" ∷ codes "crash b" ∷ codes "tick 5" ∷ codes "start b w permanent" ∷ codes "stop b w" ∷ codes "permit b w true"
-    ∷ codes "takeover b w transient" ∷ codes "exit b w normal" ∷ codes "exit b w abnormal" ∷ [])
+    ∷ codes "takeover b w transient" ∷ codes "exit b w normal" ∷ codes "exit b w abnormal" ∷ codes "start_all w temporary" ∷ codes "stop_all w" ∷ [])
     ≡ map (λ event. Asks (Step event)) (Boot (numbered 1) ∷ Crash (numbered 1) ∷ Tick 5 ∷ Start (numbered 1) (app_numbered 0) Permanent
     ∷ Stop (numbered 1) (app_numbered 0) ∷ Permit (numbered 1) (app_numbered 0) true ∷ Takeover (numbered 1) (app_numbered 0) Transient
-    ∷ Exit (numbered 1) (app_numbered 0) true ∷ Exit (numbered 1) (app_numbered 0) false ∷ [])
+    ∷ Exit (numbered 1) (app_numbered 0) true ∷ Exit (numbered 1) (app_numbered 0) false ∷ StartAll (app_numbered 0) Temporary ∷ StopAll (app_numbered 0) ∷ [])
 unfolding line_of four_word_command milliseconds is_utf8 chars encode
 events_row = refl
 
 -- a name that nothing has stands for number 255; a node's isn't an application's
 no_names_row : (NO_NODE ≡ numbered 255) × (NO_APP ≡ app_numbered 255)
-    × (map (line_of c) (codes "crash c" ∷ codes "stop w a" ∷ codes "stop b ?" ∷ [])
-    ≡ Asks (Step (Crash (numbered 255))) ∷ Asks (Step (Stop (numbered 255) (app_numbered 255))) ∷ Asks (Step (Stop (numbered 1) (app_numbered 255))) ∷ [])
+    × (map (line_of c) (codes "crash c" ∷ codes "stop w a" ∷ codes "stop b ?" ∷ codes "start_all a permanent" ∷ codes "stop_all b" ∷ [])
+    ≡ Asks (Step (Crash (numbered 255))) ∷ Asks (Step (Stop (numbered 255) (app_numbered 255))) ∷ Asks (Step (Stop (numbered 1) (app_numbered 255)))
+    ∷ Asks (Step (StartAll (app_numbered 255) Permanent)) ∷ Asks (Step (StopAll (app_numbered 255))) ∷ [])
 unfolding line_of four_word_command is_utf8 chars encode
 no_names_row = (refl, refl, refl)
 
@@ -50,8 +51,9 @@ numbers_row = refl
 -- another word, a word too few or too many, another last word, a tab in place of a space, a byte that is no text
 bad_lines_row : map (line_of c) (codes "flip a" ∷ codes "Undo" ∷ codes "undo a" ∷ codes "boot" ∷ codes "boot a b" ∷ codes "boot\ta" ∷ codes "tick" ∷ codes "tick 5 5"
     ∷ codes "stop a" ∷ codes "start a w" ∷ codes "start a w always" ∷ codes "start a w permanent x" ∷ codes "permit a w yes" ∷ codes "exit a w" ∷ codes "exit a w why"
-    ∷ codes "takeover a w normal" ∷ codes "undo\r" ∷ codes " # x" ∷ codes "plan p" ∷ codes "1 undo" ∷ (255 ∷ []) ∷ [])
-    ≡ replicate 21 Bad
+    ∷ codes "takeover a w normal" ∷ codes "start_all w" ∷ codes "start_all w always" ∷ codes "start_all a w permanent" ∷ codes "start_all" ∷ codes "stop_all"
+    ∷ codes "stop_all a w" ∷ codes "stop_all w permanent" ∷ codes "undo\r" ∷ codes " # x" ∷ codes "plan p" ∷ codes "1 undo" ∷ (255 ∷ []) ∷ [])
+    ≡ replicate 28 Bad
 unfolding line_of four_word_command milliseconds is_utf8 chars encode
 bad_lines_row = refl
 
@@ -78,8 +80,9 @@ ends_row = refl
 -- ---- sessions
 
 -- a digit 1 to 8, and then a command
-session_lines_row : map (session_line_of c) (codes "1 undo" ∷ codes " 8  boot b" ∷ codes "  " ∷ codes "# x" ∷ (35 ∷ 255 ∷ []) ∷ [])
-    ≡ session.Asks (command 1 Undo) ∷ session.Asks (command 8 (Step (Boot (numbered 1)))) ∷ replicate 3 session.Nothing
+session_lines_row : map (session_line_of c) (codes "1 undo" ∷ codes " 8  boot b" ∷ codes "2 start_all w transient" ∷ codes "3 stop_all w" ∷ codes "  " ∷ codes "# x" ∷ (35 ∷ 255 ∷ []) ∷ [])
+    ≡ session.Asks (command 1 Undo) ∷ session.Asks (command 8 (Step (Boot (numbered 1))))
+    ∷ session.Asks (command 2 (Step (StartAll (app_numbered 0) Transient))) ∷ session.Asks (command 3 (Step (StopAll (app_numbered 0)))) ∷ replicate 3 session.Nothing
 unfolding session_line_of four_word_command is_utf8 chars encode
 session_lines_row = refl
 
@@ -101,11 +104,12 @@ abbrev parts : List SweepLine → List Line × List PlanText × Option ℕ
 parts lines = (base_lines lines, plans_of lines, bad_sweep_line lines)
 
 plans_row : parts (sweep_lines_asked c (
-    codes "undo" ∷ [] ∷ codes "plan p" ∷ codes "boot a" ∷ codes "#" ∷ codes "crash a" ∷ codes "plan p" ∷ codes "plan q" ∷ codes "tick 1" ∷ []))
+    codes "undo" ∷ [] ∷ codes "plan p" ∷ codes "boot a" ∷ codes "#" ∷ codes "crash a" ∷ codes "plan p" ∷ codes "plan q" ∷ codes "tick 1" ∷ codes "stop_all w"
+    ∷ codes "start_all w permanent" ∷ []))
     ≡ (
       Asks Undo ∷ Nothing ∷ [],
       record { name = codes "p"; events = Boot (numbered 0) ∷ Crash (numbered 0) ∷ [] } ∷ record { name = codes "p"; events = [] }
-          ∷ record { name = codes "q"; events = Tick 1 ∷ [] } ∷ [],
+          ∷ record { name = codes "q"; events = Tick 1 ∷ StopAll (app_numbered 0) ∷ StartAll (app_numbered 0) Permanent ∷ [] } ∷ [],
       None,
     )
 unfolding sweep_line_of four_word_command milliseconds is_utf8 chars encode
@@ -113,7 +117,8 @@ plans_row = refl
 
 -- behind a plan's line only events fit
 unfit_row : map (λ last. bad_sweep_line (sweep_lines_asked c (codes "show" ∷ codes "plan p" ∷ last ∷ [])))
-    (codes "boot a" ∷ codes "undo" ∷ codes "redo" ∷ codes "undo_all" ∷ codes "redo_all" ∷ codes "show" ∷ codes "flip" ∷ [])
-    ≡ None ∷ replicate 6 (Some 3)
+    (codes "boot a" ∷ codes "start_all w transient" ∷ codes "stop_all w" ∷ codes "undo" ∷ codes "redo" ∷ codes "undo_all" ∷ codes "redo_all" ∷ codes "show"
+    ∷ codes "flip" ∷ [])
+    ≡ None ∷ None ∷ None ∷ replicate 6 (Some 3)
 unfolding sweep_line_of four_word_command is_utf8 chars encode
 unfit_row = refl

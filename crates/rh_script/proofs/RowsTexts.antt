@@ -7,7 +7,7 @@ use Rattle.rh_model.specs.declared.settings.Restart.TheVariants.{Permanent, Tran
 use Rattle.rh_state.specs.declared.status.Kind.TheVariants as kind
 use Rattle.rh_state.specs.declared.status.Standing.TheVariants as standing
 use Rattle.rh_settle.specs.declared.notice.Notice.TheVariants.{Up, Ended, Started, Stopped, Waits}
-use Rattle.rh_events.specs.declared.event.Event.TheVariants.{Boot, Crash, Tick, Start, Stop, Permit, Takeover, Exit}
+use Rattle.rh_events.specs.declared.event.Event.TheVariants.{Boot, Crash, Tick, Start, Stop, Permit, Takeover, Exit, StartAll, StopAll}
 use Rattle.rh_events.specs.declared.refusal.Refusal.TheVariants.{UnknownNode, UnknownApp, AlreadyAlive, IncarnationLimit, NotAlive, ZeroTick, TimeLimit, NodeNotUp}
 use Rattle.rh_events.specs.declared.refusal.Refusal.TheVariants.{NotDistributed, NotListed, AlreadyStarted, NeverStarted, NotRunning, RunsHere, NotRunningHere}
 use Rattle.rh_events.specs.declared.refusal.Refusal.TheVariants.{NotPermitted, DependencyNotStarted, TrailFull}
@@ -71,10 +71,11 @@ bad_line_row = refl
 commands_row : map (command_words c) (Step (Boot (numbered 1)) ∷ Step (Crash (numbered 0)) ∷ Step (Tick 5) ∷ Step (Start (numbered 1) (app_numbered 0) Permanent)
     ∷ Step (Stop (numbered 1) (app_numbered 1)) ∷ Step (Permit (numbered 0) (app_numbered 1) true) ∷ Step (Permit (numbered 0) (app_numbered 1) false)
     ∷ Step (Takeover (numbered 0) (app_numbered 0) Temporary) ∷ Step (Exit (numbered 1) (app_numbered 0) true) ∷ Step (Exit (numbered 1) (app_numbered 0) false)
-    ∷ Step (Start NO_NODE NO_APP Transient) ∷ Undo ∷ Redo ∷ UndoAll ∷ RedoAll ∷ Look ∷ [])
+    ∷ Step (Start NO_NODE NO_APP Transient) ∷ Step (StartAll (app_numbered 1) Permanent) ∷ Step (StartAll NO_APP Temporary) ∷ Step (StopAll (app_numbered 1))
+    ∷ Step (StopAll NO_APP) ∷ Undo ∷ Redo ∷ UndoAll ∷ RedoAll ∷ Look ∷ [])
     ≡ codes "boot b" ∷ codes "crash a" ∷ codes "tick 5" ∷ codes "start b w permanent" ∷ codes "stop b v" ∷ codes "permit a v true" ∷ codes "permit a v false"
     ∷ codes "takeover a w temporary" ∷ codes "exit b w normal" ∷ codes "exit b w abnormal" ∷ codes "start ? ? transient"
-    ∷ codes "undo" ∷ codes "redo" ∷ codes "undo_all" ∷ codes "redo_all" ∷ codes "show" ∷ []
+    ∷ codes "start_all v permanent" ∷ codes "start_all ? temporary" ∷ codes "stop_all v" ∷ codes "stop_all ?" ∷ codes "undo" ∷ codes "redo" ∷ codes "undo_all" ∷ codes "redo_all" ∷ codes "show" ∷ []
 unfolding command_words event_words digits
 commands_row = refl
 

@@ -17,7 +17,7 @@ use Rattle.rh_model.specs.declared.node.App.{App}
 use Rattle.rh_model.specs.declared.settings.Restart.{Restart}
 use Rattle.rh_model.specs.declared.settings.Restart.TheVariants.{Permanent, Transient, Temporary}
 use Rattle.rh_events.specs.declared.event.Event.{Event}
-use Rattle.rh_events.specs.declared.event.Event.TheVariants.{Boot, Crash, Tick, Start, Stop, Permit, Takeover, Exit}
+use Rattle.rh_events.specs.declared.event.Event.TheVariants.{Boot, Crash, Tick, Start, Stop, Permit, Takeover, Exit, StartAll, StopAll}
 use Rattle.rh_trail.specs.declared.call.Call.{Call}
 use Rattle.rh_trail.specs.declared.call.Call.TheVariants as call
 use Rattle.rh_trail.specs.Report.{no_name, node_word, app_word, restart_words}
@@ -150,6 +150,10 @@ module _ (c : ClusterView) (names : HasUnbroken c) where
       joined (front ++ place_words c n a ++ codes " ") option
       (joined (front ++ place_words c n a) (codes " ") (joined front (place_words c n a) is_front (place_unbroken n a)) (closed (codes " ") refl)) is_option
 
+  -- a word and an application
+  word_and_app : (front : List ℕ) (a : App) → IsUnbroken front → IsUnbroken (front ++ app_word c a)
+  word_and_app front a is_front = joined front (app_word c a) is_front (app_unbroken a)
+
   event_unbroken : (event : Event) → IsEventTold c event → IsUnbroken (event_words c event)
   unfolding event_words
   event_unbroken (Boot n) told = joined (codes "boot ") (node_word c n) (closed (codes "boot ") refl) (node_unbroken n)
@@ -162,6 +166,11 @@ module _ (c : ClusterView) (names : HasUnbroken c) where
   event_unbroken (Takeover n a restart) told =
       there_unbroken (codes "takeover ") (restart_words restart) n a (closed (codes "takeover ") refl) (restart_unbroken restart)
   event_unbroken (Exit n a normal) told = there_unbroken (codes "exit ") (reason_word normal) n a (closed (codes "exit ") refl) (normal_unbroken normal)
+  event_unbroken (StartAll a restart) told =
+      joined (codes "start_all " ++ app_word c a ++ codes " ") (restart_words restart)
+      (joined (codes "start_all " ++ app_word c a) (codes " ") (word_and_app (codes "start_all ") a (closed (codes "start_all ") refl)) (closed (codes " ") refl))
+      (restart_unbroken restart)
+  event_unbroken (StopAll a) told = word_and_app (codes "stop_all ") a (closed (codes "stop_all ") refl)
 
   words_unbroken : (asked : Call) → IsTold c asked → IsUnbroken (command_words c asked)
   unfolding command_words

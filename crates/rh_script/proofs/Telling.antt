@@ -14,7 +14,7 @@ use Rattle.rh_model.specs.declared.node.App.{App}
 use Rattle.rh_model.specs.declared.settings.Restart.{Restart}
 use Rattle.rh_model.specs.declared.settings.Restart.TheVariants.{Permanent, Transient, Temporary}
 use Rattle.rh_events.specs.declared.event.Event.{Event}
-use Rattle.rh_events.specs.declared.event.Event.TheVariants.{Boot, Crash, Tick, Start, Stop, Permit, Takeover, Exit}
+use Rattle.rh_events.specs.declared.event.Event.TheVariants.{Boot, Crash, Tick, Start, Stop, Permit, Takeover, Exit, StartAll, StopAll}
 use Rattle.rh_trail.specs.declared.call.Call.{Call}
 use Rattle.rh_trail.specs.declared.call.Call.TheVariants as call
 use Rattle.rh_trail.specs.Report.{no_name, node_word, app_word, restart_words}
@@ -22,7 +22,7 @@ use Rattle.rh_script.specs.declared.script.TheConstants.{NO_NODE, NO_APP}
 use Rattle.rh_script.specs.declared.script.Line.TheVariants.{Nothing, Asks, Bad}
 use Rattle.rh_script.specs.declared.session_lines.SessionLine.TheVariants as line
 use Rattle.rh_script.specs.declared.session_lines.TheConstants.{LAST_SESSION}
-use Rattle.rh_script.specs.Commands.{words_of, named, named_app, begins_with, four_word_command, command_of, line_of, step_command}
+use Rattle.rh_script.specs.Commands.{words_of, named, named_app, begins_with, three_word_command, four_word_command, command_of, line_of, step_command}
 use Rattle.rh_script.specs.CommandWords.{place_words, truth_word, reason_word, event_words, command_words}
 use Rattle.rh_script.specs.SessionLines.{command, session_named, asked_by, session_command, session_line_of}
 use Rattle.rh_script.specs.Laws.{IsWord, HasWords, IsNodeTold, IsAppTold, IsEventTold, IsTold}
@@ -151,6 +151,13 @@ unfolding four_word_command
 exits n a true = refl
 exits n a false = refl
 
+-- a word, an application and one more word
+starts_all : (c : ClusterView) (name : List ℕ) (restart : Restart)
+    → three_word_command c (codes "start_all") name (restart_words restart) ≡ Asks (call.Step (StartAll (named_app c name) restart))
+starts_all c name Permanent = refl
+starts_all c name Transient = refl
+starts_all c name Temporary = refl
+
 module _ (c : ClusterView) (within : IsWithin c) (words : HasWords c) where
   -- what the words of a place and one more ask behind a first word
   asked_there : (word option : List ℕ) (n : Node) (a : App) (asked : Call) → IsNodeTold c n → IsAppTold c a → IsWord option
@@ -230,6 +237,24 @@ module _ (c : ClusterView) (within : IsWithin c) (words : HasWords c) where
         plain = refl;
         text = text_there (codes "exit ") (reason_word normal) n a told.0 told.1 word (ascii_text (codes "exit ") refl);
         asks = asked_there (codes "exit") (reason_word normal) n a (call.Step (Exit n a normal)) told.0 told.1 word (exits n a normal);
+      }
+  event_asks (StartAll a restart) told =
+      let app = app_by_word c within words a told in
+      let option = restart_word restart in
+      record {
+        plain = refl;
+        text = joined_text (codes "start_all ") (app_word c a ++ codes " " ++ restart_words restart) (ascii_text (codes "start_all ") refl)
+            (two_text (app_word c a) (restart_words restart) app.word option);
+        asks = ap (λ (ws : List (List ℕ)). command_of c (codes "start_all" ∷ ws)) (two_words (app_word c a) (restart_words restart) app.word option)
+            ∙ starts_all c (app_word c a) restart ∙ ap (λ (b : App). Asks (call.Step (StartAll b restart))) app.names;
+      }
+  event_asks (StopAll a) told =
+      let app = app_by_word c within words a told in
+      record {
+        plain = refl;
+        text = joined_text (codes "stop_all ") (app_word c a) (ascii_text (codes "stop_all ") refl) app.word.text;
+        asks = ap (λ (ws : List (List ℕ)). command_of c (codes "stop_all" ∷ ws)) (last_word (app_word c a) app.word)
+            ∙ ap (λ (b : App). Asks (call.Step (StopAll b))) app.names;
       }
 
   -- ---- calls

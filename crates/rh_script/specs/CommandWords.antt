@@ -5,7 +5,7 @@ use Rattle.rh_model.specs.ClusterView.{ClusterView}
 use Rattle.rh_model.specs.declared.node.Node.{Node}
 use Rattle.rh_model.specs.declared.node.App.{App}
 use Rattle.rh_events.specs.declared.event.Event.{Event}
-use Rattle.rh_events.specs.declared.event.Event.TheVariants.{Boot, Crash, Tick, Start, Stop, Permit, Takeover, Exit}
+use Rattle.rh_events.specs.declared.event.Event.TheVariants.{Boot, Crash, Tick, Start, Stop, Permit, Takeover, Exit, StartAll, StopAll}
 use Rattle.rh_trail.specs.declared.call.Call.{Call}
 use Rattle.rh_trail.specs.declared.call.Call.TheVariants as call
 use Rattle.rh_trail.specs.Report.{node_word, app_word, restart_words}
@@ -32,6 +32,8 @@ event_words c (Stop n a) = codes "stop " ++ place_words c n a
 event_words c (Permit n a allow) = codes "permit " ++ place_words c n a ++ codes " " ++ truth_word allow
 event_words c (Takeover n a restart) = codes "takeover " ++ place_words c n a ++ codes " " ++ restart_words restart
 event_words c (Exit n a normal) = codes "exit " ++ place_words c n a ++ codes " " ++ reason_word normal
+event_words c (StartAll a restart) = codes "start_all " ++ app_word c a ++ codes " " ++ restart_words restart
+event_words c (StopAll a) = codes "stop_all " ++ app_word c a
 
 -- the command of any call
 unfoldable pub command_words : ClusterView → Call → List ℕ

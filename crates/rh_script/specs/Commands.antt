@@ -12,7 +12,7 @@ use Rattle.rh_model.specs.declared.node.App.{App}
 use Rattle.rh_model.specs.declared.settings.Restart.{Restart}
 use Rattle.rh_model.specs.declared.settings.Restart.TheVariants.{Permanent, Transient, Temporary}
 use Rattle.rh_events.specs.declared.event.Event.{Event}
-use Rattle.rh_events.specs.declared.event.Event.TheVariants.{Boot, Crash, Tick, Start, Stop, Permit, Takeover, Exit}
+use Rattle.rh_events.specs.declared.event.Event.TheVariants.{Boot, Crash, Tick, Start, Stop, Permit, Takeover, Exit, StartAll, StopAll}
 use Rattle.rh_trail.specs.declared.call.Call.{Call}
 use Rattle.rh_trail.specs.declared.call.Call.TheVariants as call
 use Rattle.rh_trail.specs.Report.{restart_words}
@@ -66,6 +66,7 @@ two_word_command c word name =
     if bytes_eq word (codes "boot") then Asks (call.Step (Boot (named c name)))
     else if bytes_eq word (codes "crash") then Asks (call.Step (Crash (named c name)))
     else if bytes_eq word (codes "tick") then step_command (option_map (λ ms. Tick ms) (milliseconds name))
+    else if bytes_eq word (codes "stop_all") then Asks (call.Step (StopAll (named_app c name)))
     else Bad
 
 -- the restart type of this word (application(3), `start/2`)
@@ -81,8 +82,11 @@ abbrev pub first_of : List ℕ → List ℕ → List ℕ → Option Bool
 first_of yea nay word = if bytes_eq word yea then Some true else if bytes_eq word nay then Some false else None
 
 -- a command of three words
-abbrev pub three_word_command : List ℕ → Node → App → Line
-three_word_command word n a = if bytes_eq word (codes "stop") then Asks (call.Step (Stop n a)) else Bad
+abbrev pub three_word_command : ClusterView → List ℕ → List ℕ → List ℕ → Line
+three_word_command c word name other =
+    if bytes_eq word (codes "stop") then Asks (call.Step (Stop (named c name) (named_app c other)))
+    else if bytes_eq word (codes "start_all") then step_command (option_map (λ restart. StartAll (named_app c name) restart) (restart_named other))
+    else Bad
 
 -- a command of four words
 unfoldable pub four_word_command : List ℕ → Node → App → List ℕ → Line
@@ -98,7 +102,7 @@ abbrev pub command_of : ClusterView → List (List ℕ) → Line
 command_of c [] = Nothing
 command_of c (word ∷ []) = plain_command word
 command_of c (word ∷ name ∷ []) = two_word_command c word name
-command_of c (word ∷ node ∷ app ∷ []) = three_word_command word (named c node) (named_app c app)
+command_of c (word ∷ name ∷ other ∷ []) = three_word_command c word name other
 command_of c (word ∷ node ∷ app ∷ option ∷ []) = four_word_command word (named c node) (named_app c app) option
 command_of c (word ∷ node ∷ app ∷ option ∷ other ∷ more) = Bad
 

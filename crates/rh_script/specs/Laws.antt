@@ -8,7 +8,7 @@ use Rattle.rh_model.specs.declared.node.Node.{Node}
 use Rattle.rh_model.specs.declared.node.App.{App}
 use Rattle.rh_cluster.specs.ClusterOf.{cluster_of}
 use Rattle.rh_events.specs.declared.event.Event.{Event}
-use Rattle.rh_events.specs.declared.event.Event.TheVariants.{Boot, Crash, Tick, Start, Stop, Permit, Takeover, Exit}
+use Rattle.rh_events.specs.declared.event.Event.TheVariants.{Boot, Crash, Tick, Start, Stop, Permit, Takeover, Exit, StartAll, StopAll}
 use Rattle.rh_trail.specs.declared.call.Call.{Call}
 use Rattle.rh_trail.specs.declared.call.Call.TheVariants as call
 use Rattle.rh_trail.specs.Report.{no_name}
@@ -60,6 +60,8 @@ IsEventTold c (Stop n a) = IsNodeTold c n × IsAppTold c a
 IsEventTold c (Permit n a allow) = IsNodeTold c n × IsAppTold c a
 IsEventTold c (Takeover n a restart) = IsNodeTold c n × IsAppTold c a
 IsEventTold c (Exit n a normal) = IsNodeTold c n × IsAppTold c a
+IsEventTold c (StartAll a restart) = IsAppTold c a
+IsEventTold c (StopAll a) = IsAppTold c a
 
 -- the step of such an event, or any other call
 abbrev pub IsTold : ClusterView → Call → Type 0

@@ -76,6 +76,15 @@ fn push_event(text: &mut String, cluster: &Cluster, event: Event) -> Result<(), 
             let word = reason_word(normal);
             write!(text, " {word}")?;
         }
+        Event::StartAll { app, restart } => {
+            let name = app_word(cluster, app);
+            let word = restart_word(restart);
+            write!(text, "start_all {name} {word}")?;
+        }
+        Event::StopAll { app } => {
+            let name = app_word(cluster, app);
+            write!(text, "stop_all {name}")?;
+        }
     }
     Ok(())
 }

@@ -123,6 +123,9 @@ fn two_word_command(cluster: &Cluster, word: &str, name: &str) -> Line
         Line::Asks(Call::Step(Event::Crash { node }))
     } else if word == "tick" {
         step_command(milliseconds(name).map(|ms| Event::Tick { ms }))
+    } else if word == "stop_all" {
+        let app = named_app(cluster, name);
+        Line::Asks(Call::Step(Event::StopAll { app }))
     } else {
         Line::Bad
     }
@@ -157,11 +160,16 @@ fn first_of(yea: &str, nay: &str, word: &str) -> Option<bool>
 }
 
 // A command of three words.
-fn three_word_command(word: &str, node: Node, app: App) -> Line
-    ensures { result ≡ three_word_command word.now node app }
+fn three_word_command(cluster: &Cluster, word: &str, name: &str, other: &str) -> Line
+    ensures { result ≡ three_word_command cluster.now word.now name.now other.now }
 {
     if word == "stop" {
+        let node = named(cluster, name);
+        let app = named_app(cluster, other);
         Line::Asks(Call::Step(Event::Stop { node, app }))
+    } else if word == "start_all" {
+        let app = named_app(cluster, name);
+        step_command(restart_named(other).map(|restart| Event::StartAll { app, restart }))
     } else {
         Line::Bad
     }
@@ -201,9 +209,7 @@ pub fn command_of(cluster: &Cluster, words: &[&str]) -> Line
         [] => Line::Nothing,
         [word] => plain_command(word),
         [word, name] => two_word_command(cluster, word, name),
-        [word, node, app] => {
-            three_word_command(word, named(cluster, node), named_app(cluster, app))
-        }
+        [word, name, other] => three_word_command(cluster, word, name, other),
         [word, node, app, option] => {
             four_word_command(word, named(cluster, node), named_app(cluster, app), option)
         }

@@ -2,7 +2,7 @@
 use Rattle.std.specs.Prelude.{ℕ, pos, ℤ, List, [], ◌∷◌, nat_le, codes, filter_map, if◌then◌else◌}
 use Rattle.std.specs.Prelude.{Option, Some, None, option_and_then}
 use Rattle.std.specs.Str.{bytes_eq}
-use Rattle.rh_model.specs.Limits.{timeout_limit}
+use Rattle.rh_model.specs.Limits.{is_profile, timeout_limit}
 use Rattle.rh_base.specs.Tree.{Tree, atom, int, list, tuple, list_of_trees}
 
 -- for `do`: what follows a value, if there is one
@@ -69,6 +69,17 @@ as_node = as_headed (codes "node")
 -- the name and Keys of {application, Name, Keys}
 abbrev pub as_app : Tree → Option (List ℕ × Tree)
 as_app = as_headed (codes "application")
+
+-- the number of a profile, if there is one of this number
+abbrev pub if_profile : ℤ → Option ℕ
+if_profile (pos n) = if is_profile n then Some n else None
+if_profile n = None
+
+-- the number of {profile, Number}
+unfoldable pub as_profile : Tree → Option ℕ
+as_profile t = do
+  (key, value) ← as_entry t
+  if bytes_eq key (codes "profile") then as_int value >>= if_profile else None
 
 -- the names among these terms
 abbrev pub atoms : List Tree → List (List ℕ)

@@ -19,7 +19,7 @@ pub enum ClusterFault {
     Term(TermFault),
     /// There is no node.
     NoNodes,
-    /// There are more than 32 nodes, 64 applications or 256 platform names.
+    /// There are more nodes or applications than the profile of the file allows, or more than 256 platform names.
     TooMany,
     /// Two nodes, two applications, or an application and the platform have one name.
     DuplicateName,

@@ -1,13 +1,13 @@
 //! Terms of a certain shape.
 
-ghost use Rattle.std.specs.Prelude.{◌≡◌, ◌≤◌, map, IfSome};
+ghost use Rattle.std.specs.Prelude.{◌≡◌, ◌≤◌, true, map, IfSome};
 ghost use Rattle.std.specs.Option.{option_map};
 ghost use Rattle.rh_base.specs.Tree.{tree_of};
-ghost use Rattle.rh_model.specs.Limits.{timeout_limit};
-ghost use Rattle.rh_sections.specs.Shapes.{as_atom, as_list, as_tuple, as_int, as_pair, as_triple, as_entry, as_headed, as_node, as_app, as_time};
+ghost use Rattle.rh_model.specs.Limits.{is_profile, timeout_limit};
+ghost use Rattle.rh_sections.specs.Shapes.{as_atom, as_list, as_tuple, as_int, as_pair, as_triple, as_entry, as_headed, as_node, as_app, if_profile, as_profile, as_time};
 
 use rh_base::Term;
-use rh_model::TIMEOUT_LIMIT;
+use rh_model::{TIMEOUT_LIMIT, is_profile};
 
 /// The name that an atom is.
 #[tactic(auto, unfolding(crate::specs::Shapes::as_atom))]
@@ -111,6 +111,31 @@ pub fn app(term: &Term) -> Option<(&str, &Term)>
     ensures { option_map (λ parts. (parts.0.now, tree_of parts.1.now)) result ≡ as_app (tree_of term.now) }
 {
     headed("application", term)
+}
+
+// The number of a profile, if there is one of this number.
+fn profile_of(number: i64) -> Option<u8>
+    ensures profile { result ≡ if_profile number }
+    ensures known { IfSome result (λ profile. is_profile profile ≡ true) }
+{
+    if 0 <= number && is_profile(number as u64) {
+        Some(number as u8)
+    } else {
+        None
+    }
+}
+
+/// The number of `{profile, Number}`, if there is such a profile.
+#[tactic(auto, unfolding(crate::specs::Shapes::as_profile))]
+pub fn profile(term: &Term) -> Option<u8>
+    ensures profile { result ≡ as_profile (tree_of term.now) }
+    ensures known { IfSome result (λ profile. is_profile profile ≡ true) }
+{
+    let (key, value) = entry(term)?;
+    if key != "profile" {
+        return None;
+    }
+    profile_of(int(value)?)
 }
 
 /// A time in milliseconds, up to the longest.

@@ -46,6 +46,14 @@ cluster = record {
 abbrev a : ℕ → App
 a = app_numbered
 
+-- a cluster of as many nodes and applications as there may be
+abbrev largest : ClusterView
+largest = record { profile = 2; node_names = replicate (node_limit 2) []; app_names = replicate (app_limit 2) []; platform_names = []; nodes = []; apps = [] }
+
+-- its last pair, its last list and its last timer
+last_numbers : (pair_number largest (numbered 63) (a 127) ≡ 8191) × (waiting_list largest (numbered 63) ≡ 127) × (number_of largest (Failover (a 127)) ≡ 191)
+last_numbers = (refl, refl, refl)
+
 -- at node 1 applications 2, 0 and 1 run, and 3 waits
 abbrev started : StateView
 started = with_waiting (with_running (with_running (with_running (first cluster) (numbered 1) (a 2)) (numbered 1) (a 0)) (numbered 1) (a 1)) (numbered 1) (a 3)

@@ -152,7 +152,7 @@ pub fn first_state_sharing(alloc: Global, cluster: &Arc<Cluster>) -> Result<Stat
     let apps = cluster.app_count();
     let modes = vec![in alloc; Mode::Down; nodes]?;
     let incarnations = vec![in alloc; 0; nodes]?;
-    // With 32 nodes and 64 applications at most there are 2,048 pairs, 64 lists and 96 timers at most: 16 bits number them.
+    // With 64 nodes and 128 applications at most there are 8,192 pairs, 128 lists and 192 timers at most: 16 bits number them.
     let links = Lists::new(alloc, (nodes * apps) as u16, 2 * nodes as u16)?;
     links.formed();
     let restarts = rows_of(alloc, nodes, apps, Restart::Temporary)?;

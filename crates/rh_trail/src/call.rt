@@ -27,6 +27,8 @@ impl Bytes {
     pub fn of(alloc: Global, items: Vec<u8>) -> Result<Bytes, OutOfMemory>
         ensures { IfOk result (λ bytes. bytes ≡ items.items) }
     {
+        let mut items = items;
+        items.shrink_to_fit();
         let items = Arc::new(alloc, items)?;
         Ok(Bytes { items })
     }

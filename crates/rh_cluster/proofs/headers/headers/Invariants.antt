@@ -7,7 +7,7 @@ use Rattle.rh_cluster.proofs.headers.headers.Given as goal
 
 abbrev pub invariant-loop-term : goal.invariant-loop-term
 invariant-loop-term l = record {
-  passed : in_turn (λ earlier t. header_faults (node_names earlier) (app_names earlier) t) [] (map tree_of (take l.term-index l.terms)) ≡ [];
+  passed : in_turn (λ earlier t. header_faults l.profile (node_names earlier) (app_names earlier) t) [] (map tree_of (take l.term-index l.terms)) ≡ [];
   nodes : l.nodes ≡ node_names (map tree_of (take l.term-index l.terms));
   apps : l.apps ≡ app_names (map tree_of (take l.term-index l.terms));
   few_nodes : length l.nodes ≤ MAX_NODES;

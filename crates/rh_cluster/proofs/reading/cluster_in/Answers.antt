@@ -31,6 +31,7 @@ pub returns-clause-cluster : goal.returns-clause-cluster
 unfolding cluster_view names_of
 returns-clause-cluster c =
     c.in_ok-cluster.ensures ∙ (λ i. record {
+      profile = c.args.profile;
       node_names = (c.in_ok-names.ensures.names i).nodes;
       app_names = (c.in_ok-names.ensures.names i).apps;
       platform_names = (c.in_ok-names.ensures.names i).platforms;
@@ -45,11 +46,12 @@ of-requires-clause-within c =
     let names = sym c.in_ok-names.ensures.names in
     let nodes = sym c.in_ok-nodes.ensures.nodes in
     let apps = sym c.in_ok-nodes.ensures.apps in
-    let is : cluster_view ts ≡ record {
+    let is : cluster_view c.args.profile ts ≡ record {
+      profile = c.args.profile;
       node_names = c.in_ok-names.names.nodes;
       app_names = c.in_ok-names.names.apps;
       platform_names = c.in_ok-names.names.platforms;
       nodes = c.in_ok-nodes.nodes.items;
       apps = c.in_ok-nodes.apps.items;
-    } = λ i. record { node_names = (names i).nodes; app_names = (names i).apps; platform_names = (names i).platforms; nodes = nodes i; apps = apps i } in
-    subst IsWithin is (view_is_within ts c.in_ok-names.ensures.faults c.in_ok-nodes.ensures.faults)
+    } = λ i. record { profile = c.args.profile; node_names = (names i).nodes; app_names = (names i).apps; platform_names = (names i).platforms; nodes = nodes i; apps = apps i } in
+    subst IsWithin is (view_is_within ts c.args.profile c.requires c.in_ok-names.ensures.faults c.in_ok-nodes.ensures.faults)

@@ -15,6 +15,7 @@ pub returns : goal.returns
 returns c =
     let ok : List Term → Result Trees TermFault = λ us. Ok (trees_of us) in
     record {
-      exact = read_gives c.args.bytes.now (map tree_of c.as_slice.result.now) c.cluster_in.result
-          (c.in_ok-terms.ensures.exact ∙ ap ok (sym c.as_slice.ensures)) c.cluster_in.ensures.faults c.cluster_in.ensures.cluster;
+      exact = read_gives c.args.bytes.now (map tree_of c.as_slice-terms.result.now) (map tree_of c.behind_profile.result.now) c.profile_of.result
+          c.cluster_in.result (c.in_ok-terms.ensures.exact ∙ ap ok (sym c.as_slice-terms.ensures)) c.profile_of.ensures.profile c.behind_profile.ensures
+          c.cluster_in.ensures.faults c.cluster_in.ensures.cluster;
     }

@@ -3,9 +3,13 @@ use Rattle.rh_room.specs.declared.pass.Entry.{Entry}
 use Rattle.rh_room.specs.declared.pass.Receipt.{Receipt}
 use Rattle.rh_room.specs.Legal.{IsRoom, IsSession, RoomView, PassView, InOrder, entry, receipt, log_limit}
 use Rattle.rh_room.specs.Serving.{IsPassOf}
-use Rattle.rh_room.proofs.Rooms.{room_goes_on}
+use Rattle.rh_room.proofs.Rooms.{room_goes_on, look_is_still}
 use Rattle.rh_room.proofs.Orders.{order_goes_on, few_receipts}
 use Rattle.rh_room.proofs.room.Room.serve_known.Goals as goal
+
+pub replies_to-requires : goal.replies_to-requires
+replies_to-requires c =
+    rw c.deref.ensures.value (look_is_still c.self.inside.sim.seen c.self.inside.sessions c.self.inside.log.items c.self.invariant.legal)
 
 pub push_reserved-requires : goal.push_reserved-requires
 push_reserved-requires c =
