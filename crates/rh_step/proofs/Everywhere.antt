@@ -1,7 +1,5 @@
 -- What is left of an application that is stopped at all its nodes, and where one is started that is started at all of them.
 use Rattle.std.proofs.Common.{◌≡◌, ◌&&◌, Bool, true, false, List, [], Option, Some, None, is_some, ap, ◌∙◌, arith}
-use Rattle.rh_model.specs.declared.node.Node.{Node}
-use Rattle.rh_model.specs.declared.node.App.{App}
 use Rattle.rh_model.specs.declared.settings.Restart.{Restart}
 use Rattle.rh_model.specs.declared.settings.Restart.TheVariants.{Temporary}
 use Rattle.rh_model.specs.ClusterView.{ClusterView, is_listed_at}
@@ -22,7 +20,6 @@ use Rattle.rh_events.specs.declared.event.Event.{Event}
 use Rattle.rh_events.specs.declared.event.Event.TheVariants.{StartAll, StopAll}
 use Rattle.rh_events.specs.Changes.{change}
 use Rattle.rh_events.specs.Everywhere.{start_all, stop_all}
-use Rattle.rh_events.specs.Refusals.{refused}
 use Rattle.rh_events.proofs.Accepted.{accepted_stop_all}
 use Rattle.rh_events.proofs.EachEvent.{sound_changed}
 use Rattle.rh_events.proofs.Fields.{SameNodes}
@@ -63,11 +60,12 @@ stop_all_leaves_nothing s a pick valid fine =
     let quiet : standing_of t.state a ≡ Quiet = stopped_all_quiet o a (omega (arith, size, app)) in
     let still : standing_of (followed pick o (StopAll a)).state a ≡ Quiet =
     ap (λ (p : Course). standing_of p.state a) only ∙ settled_rests pick t a (ap rests quiet) ∙ quiet in
-    let later = next_valid s (StopAll a) pick valid fine in
-    (still,
-    λ n. ap (λ (p : Course). is_started p.state n a) only
-    ∙ settled_starts_none pick t n a sound far quiet (stopped_all_nowhere o a n (lists_fit s valid.sound)),
-    nothing_set (due_of (followed pick o (StopAll a)).state (Failover a)) (later.sound.timers.failover a ∙ ap is_lost still))
+    let later = next_valid s (StopAll a) pick valid fine in (
+      still,
+      λ n. ap (λ (p : Course). is_started p.state n a) only
+          ∙ settled_starts_none pick t n a sound far quiet (stopped_all_nowhere o a n (lists_fit s valid.sound)),
+      nothing_set (due_of (followed pick o (StopAll a)).state (Failover a)) (later.sound.timers.failover a ∙ ap is_lost still),
+    )
 
 both_hold : (p q : Bool) → p ≡ true → q ≡ true → p && q ≡ true
 both_hold true q h k = k

@@ -1,5 +1,5 @@
 -- While applications settle, what is started stays so, and an application that is quiet starts nowhere.
-use Rattle.std.proofs.Common.{◌≡◌, ◌<◌, ◌||◌, ℕ, true, false, List, [], ◌∷◌, ◌++◌, fold, length, Option, nat_eq, refl, sym, ap, ◌∙◌, arith, subst}
+use Rattle.std.proofs.Common.{◌≡◌, ◌<◌, ℕ, true, false, List, [], ◌∷◌, fold, length, nat_eq, refl, sym, ap, ◌∙◌, arith, subst}
 use Rattle.rh_model.specs.ClusterView.{ClusterView, app_numbered}
 use Rattle.rh_model.specs.declared.node.Node.{Node}
 use Rattle.rh_model.specs.declared.node.App.{App}
@@ -25,7 +25,6 @@ use Rattle.rh_settle.proofs.Resting.{rests, set_beside}
 use Rattle.rh_settle.proofs.SettlingLaws.{settles_by_pick}
 use Rattle.rh_settle.proofs.Soundly.{sound_moved}
 use Rattle.rh_settle.proofs.Unchanged.{waits_told_state}
-use Rattle.rh_events.proofs.SoundMarks.{not_started, neither}
 
 -- ---- tables
 gives : (table : List (List App)) (n : ℕ) (a b : App) → n < length table → same_app b a ≡ true → has (put (taken table n a) n a) n b ≡ true
