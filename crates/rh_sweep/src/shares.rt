@@ -37,7 +37,7 @@ pub(crate) fn in_plan_order(
 {
     // Only the contract speaks of the base.
     let _ = base;
-    let mut outcomes = Vec::new(alloc);
+    let mut outcomes = Vec::with_capacity(alloc, plans.len())?;
     for number in 0..plans.len() {
         match &parts[number % parts.len()] {
             Ok(part) => outcomes.push(part[number / parts.len()].copy(alloc)?)?,

@@ -151,10 +151,11 @@ fn is_takeover(notice: &Notice) -> bool
 fn standings_in(alloc: Global, state: &State) -> Result<Standings, OutOfMemory>
     ensures { IfOk result (λ standings. standings ≡ standings_in (read state.now)) }
 {
-    let mut standings = Vec::new(alloc);
+    let mut standings = Vec::with_capacity(alloc, state.cluster().app_count())?;
     for number in 0..state.cluster().app_count() {
         push_standing(&mut standings, state, App(number as u8))?;
     }
+    standings.shrink_to_fit();
     Ok(Standings::of(standings))
 }
 
