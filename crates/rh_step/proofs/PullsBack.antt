@@ -29,10 +29,10 @@ use Rattle.rh_step.proofs.Validity.{next_valid}
 
 module _ (s : StateView) (n : Node) (a : App) (pick : Pick) (valid : IsValid s) (fine : refused s (Permit n a true) ≡ None) where
   -- behind the change, and behind the settling that follows at once
-  given : Course
+  abbrev given : Course
   given = permission_set (course_of s [] []) n a true
 
-  last : Course
+  abbrev last : Course
   last = settled pick given
 
   followed_is : followed pick (course_of s [] []) (Permit n a true) ≡ last
