@@ -77,20 +77,20 @@ module _ (s : StateView) (time : ℕ) where
       by (Wanted from) = ap (map (Placement a from)) (candidates_alike a)
       by _ = refl
 
-  calls_alike : (marked : List Pair) (a : App) (m n : Node) → calls_away moved_on marked a m n ≡ calls_away s marked a m n
+  calls_alike : (fresh : List Pair) (a : App) (m n : Node) → calls_away moved_on fresh a m n ≡ calls_away s fresh a m n
   unfolding calls_away
-  calls_alike marked a m n = ap (λ b. comes_before (group_of s.cluster a n) (group_of s.cluster a m) && (is_fresh marked n a && b)) (operational_alike a n)
+  calls_alike fresh a m n = ap (λ b. comes_before (group_of s.cluster a n) (group_of s.cluster a m) && (is_fresh fresh n a && b)) (operational_alike a n)
 
-  takeovers_alike : (marked : List Pair) (a : App) → takeovers moved_on marked a ≡ takeovers s marked a
+  takeovers_alike : (fresh : List Pair) (a : App) → takeovers moved_on fresh a ≡ takeovers s fresh a
   unfolding takeovers
-  takeovers_alike marked a = by (standing_of s a)
+  takeovers_alike fresh a = by (standing_of s a)
     where
-      by : (standing : Standing) → takeovers_from moved_on marked a standing ≡ takeovers_from s marked a standing
-      by (Running m) = ap (map (Takeover a m)) (best_alike a (calls_away moved_on marked a m) (calls_away s marked a m) (calls_alike marked a m))
+      by : (standing : Standing) → takeovers_from moved_on fresh a standing ≡ takeovers_from s fresh a standing
+      by (Running m) = ap (map (Takeover a m)) (best_alike a (calls_away moved_on fresh a m) (calls_away s fresh a m) (calls_alike fresh a m))
       by _ = refl
 
-  pub moves_alike : (marked : List Pair) → next_moves moved_on marked ≡ next_moves s marked
+  pub moves_alike : (fresh : List Pair) → next_moves moved_on fresh ≡ next_moves s fresh
   unfolding next_moves
-  moves_alike marked = λ i. or_else (first_given (λ n. local_alike n i) (nodes_of s.cluster))
+  moves_alike fresh = λ i. or_else (first_given (λ n. local_alike n i) (nodes_of s.cluster))
       (or_else (first_given (λ a. placements_alike a i) (apps_of s.cluster))
-      (first_given (λ a. takeovers_alike marked a i) (apps_of s.cluster)))
+      (first_given (λ a. takeovers_alike fresh a i) (apps_of s.cluster)))

@@ -18,6 +18,7 @@ use Rattle.rh_state.specs.StateView.{mode_of, is_waiting, running_at, waiting_at
 use Rattle.rh_state.specs.Tables.{row}
 use Rattle.rh_state.proofs.FirstStates.{IsShaped-first}
 use Rattle.rh_base.specs.Lists.{or_else, first_given}
+use Rattle.rh_settle.proofs.NextFirsts.{still_if_none_enabled}
 use Rattle.rh_settle.proofs.Searches.{length_nodes, node_there}
 use Rattle.rh_settle.specs.Moves.{local_move, local_moves, placements, placements_from, takeovers, takeovers_from, next_moves}
 use Rattle.rh_settle.specs.Validity.{TimersFit, IsSound, IsValid}
@@ -140,7 +141,7 @@ module _ (c : ClusterView) where
   first_valid_of within = record {
     sound = first_sound within;
     settled = λ n. and_left _ _ (ap is_waiting (down n));
-    still = first_still;
+    still = (still_if_none_enabled (first c) []).0 first_still;
   }
 
 pub first_valid : (c : ClusterView) → IsWithin c → IsValid (first c)

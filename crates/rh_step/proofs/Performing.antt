@@ -22,7 +22,7 @@ next_is s e pick = refl
 -- a step from s, with these earlier notices and edits, led to the state t and told this
 module _ (s t : StateView) (earlier told : List Notice) (begun trace : TraceView) (e : Event) (pick : Pick)
     (edits : List Edit)
-    (begins : begun ≡ trace_of earlier [] edits) (made : course t trace ≡ next_from (course s begun) e pick) (gives : told ≡ trace.notices) where
+    (begins : begun ≡ trace_of earlier [] [] edits) (made : course t trace ≡ next_from (course s begun) e pick) (gives : told ≡ trace.notices) where
   from_nothing : outcome t told ≡ outcome_of (after_notices earlier (next_from (course_of s [] []) e pick))
   from_nothing =
       ap (outcome t) gives ∙ ap outcome_of made

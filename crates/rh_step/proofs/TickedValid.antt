@@ -5,12 +5,13 @@ use Rattle.rh_state.specs.Limits.{time_limit}
 use Rattle.rh_state.specs.StateView.{StateView, earliest}
 use Rattle.rh_state.specs.Setters.{with_time}
 use Rattle.rh_place.specs.declared.choosing.Pick.{Pick}
-use Rattle.rh_settle.specs.Course.{Course, course_of}
+use Rattle.rh_settle.specs.Course.{Course, course_of, fresh_of}
 use Rattle.rh_settle.specs.Settling.{settled}
 use Rattle.rh_settle.specs.Validity.{IsSound, IsValid}
 use Rattle.rh_events.specs.ComingUp.{ready_come_up}
 use Rattle.rh_step.specs.Ticks.{due_by, effect, taken_off, fired, all_fired, ticked}
-use Rattle.rh_settle.proofs.Still.{settled_sound, settled_still, still_unmarked}
+use Rattle.rh_settle.proofs.NextFirsts.{still_if_none_enabled}
+use Rattle.rh_settle.proofs.Still.{settled_sound, settled_still, still_afterwards}
 use Rattle.rh_settle.proofs.Unchanged.{settled_cluster, settled_modes}
 use Rattle.rh_events.proofs.SoundComingUp.{sound_ready_come_up}
 use Rattle.rh_events.proofs.NoneReady.{none_ready}
@@ -27,7 +28,7 @@ comes_valid pick o sound =
       sound = settled_sound pick (ready_come_up o) risen;
       settled = λ n. ready_alike (ready_come_up o).state (settled pick (ready_come_up o)).state n (settled_cluster pick (ready_come_up o))
           (settled_modes pick (ready_come_up o)) ∙ none_ready o n sound.shaped.modes;
-      still = still_unmarked (settled pick (ready_come_up o)).state (ready_come_up o).marked (settled_still pick (ready_come_up o) risen.shaped);
+      still = still_afterwards (settled pick (ready_come_up o)).state (fresh_of (ready_come_up o)) (settled_still pick (ready_come_up o) risen.shaped);
     }
 
 -- so behind a firing
@@ -48,7 +49,7 @@ valid_at : (s : StateView) (time : ℕ) → IsValid s → IsSound (with_time s t
 valid_at s time valid sound = record {
   sound = sound;
   settled = λ n. ready_alike s (with_time s time) n refl refl ∙ valid.settled n;
-  still = moves_alike s time [] ∙ valid.still;
+  still = (still_if_none_enabled (with_time s time) []).0 (moves_alike s time [] ∙ (still_if_none_enabled s []).1 valid.still);
 }
 
 pub ticked_valid_from : (pick : Pick) (o : Course) (ms : ℕ) → o.state.time + ms ≤ time_limit → IsValid o.state → IsValid (ticked pick o ms).state

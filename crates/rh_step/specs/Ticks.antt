@@ -31,7 +31,7 @@ abbrev pub effect : Course → Timer → Course
 effect o (Sync n) = if all_alive o.state (mandatory_of o.state.cluster n) then come_up o n else ended o n
 effect o (Failover a) = now_in o (wanted_if_lost o.state a (standing_of o.state a))
 
--- the timer is taken off, it is as late as it was due, and what was marked before is no longer fresh
+-- the timer is taken off, it is as late as it was due, and no pair is fresh any longer
 abbrev pub taken_off : Course → ℕ × Timer → Course
 taken_off o entry = course_of (with_time (without_due o.state entry.1) entry.0) o.notices []
 

@@ -67,7 +67,7 @@ fn due_by(state: &State, limit: u64) -> Option<(u64, Timer)>
     }
 }
 
-// The timer is taken off, it is as late as it was due, and what was marked before is no longer fresh.
+// The timer is taken off, it is as late as it was due, and no pair is fresh any longer.
 #[tactic(auto, using(rh_settle::proofs::Ways::goes_marked, rh_settle::proofs::Ways::goes_more))]
 fn take_off(state: &mut State, due: u64, timer: Timer, trace: &mut Trace) -> Result<(), OutOfMemory>
     requires due { due ≤ time_limit }
@@ -140,6 +140,7 @@ fn want_if_lost(state: &mut State, app: App, trace: &mut Trace) -> Result<(), Ou
     ensures part { OnOk result (read state.new ≡ wanted_if_lost (read state.old) app (standing_of (read state.old) app)) }
     ensures told { trace.new.notices ≡ trace.old.notices }
     ensures marked { trace.new.marked ≡ trace.old.marked }
+    ensures freed { trace.new.freed ≡ trace.old.freed }
     ensures way { Goes state.old trace.old state.new trace.new }
 {
     match state.standing(app) {

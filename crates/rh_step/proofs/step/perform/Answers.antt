@@ -4,7 +4,7 @@ use Rattle.rh_settle.specs.Course.{trace_of}
 use Rattle.rh_step.proofs.Performing.{performed_state, performed_notices, performed_allowed, performed_valid}
 use Rattle.rh_step.proofs.step.perform.Goals as goal
 
-begins : (c : goal.Else-is_err) → c.of-trace.result ≡ trace_of c.args.notices.now.items [] c.args.edits.now.items
+begins : (c : goal.Else-is_err) → c.of-trace.result ≡ trace_of c.args.notices.now.items [] [] c.args.edits.now.items
 begins c = cc (c.of-trace.ensures, c.replace-earlier.ensures.value, c.replace-before.ensures.value)
 
 pub returns-else-is_err-clause-state : goal.returns-else-is_err-clause-state
