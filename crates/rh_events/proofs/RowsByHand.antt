@@ -1,5 +1,5 @@
 -- What an operator does by hand, computed from the definitions.
-use Rattle.std.proofs.Common.{◌≡◌, List, [], ◌∷◌, Some, None, true, false, refl}
+use Rattle.std.proofs.Common.{◌≡◌, List, Bool, [], ◌∷◌, Some, None, true, false, refl}
 use Rattle.rh_model.specs.declared.node.App.{App}
 use Rattle.rh_model.specs.declared.settings.Restart.{Restart}
 use Rattle.rh_model.specs.declared.settings.Restart.TheVariants.{Permanent, Transient, Temporary}
@@ -18,7 +18,7 @@ use Rattle.rh_events.specs.Marking.{with_mark}
 use Rattle.rh_events.specs.Ending.{ended}
 use Rattle.rh_events.specs.ByHand.{stopped, is_started_anywhere, left_waiting, forbidden, permitted, ends_node, taken_over, exited}
 use Rattle.rh_events.specs.Changes.{change}
-use Rattle.rh_events.proofs.Scene.{p, q, job, twin, far, tool, aid, at, scene, none}
+use Rattle.rh_events.proofs.Scene.{p, q, job, twin, far, tool, aid, at, scene, in_second, none}
 
 abbrev pub after : StateView → Event → Course
 after s e = change (course_of s [] []) e
@@ -146,6 +146,42 @@ permit_row = refl
 permit_again_row : after job_runs (Permit p job true) ≡ course_of job_runs [] []
 unfolding permitted
 permit_again_row = refl
+
+-- ---- profiles: job runs at q and waits at p, with these permissions there
+abbrev job_at_q : List Bool → StateView
+job_at_q at_p = record (up ((aid ∷ []) ∷ (aid ∷ job ∷ []) ∷ []) ((job ∷ []) ∷ [] ∷ []) (Running q ∷ Quiet ∷ Quiet ∷ [])) {
+  allowed = at_p ∷ (true ∷ true ∷ true ∷ true ∷ true ∷ []) ∷ [];
+}
+
+abbrev all_allowed : StateView
+all_allowed = job_at_q (true ∷ true ∷ true ∷ true ∷ true ∷ [])
+
+abbrev job_forbidden : StateView
+job_forbidden = job_at_q (false ∷ true ∷ true ∷ true ∷ true ∷ [])
+
+-- in the second profile a permission that is given back frees its pair, which isn't marked, and keeps its place
+permit_frees_row : after (in_second job_forbidden) (Permit p job true) ≡ record (course_of (in_second all_allowed) [] []) { freed = at p job ∷ [] }
+unfolding permitted
+permit_frees_row = refl
+
+-- in the first it frees none
+permit_in_the_first_profile_row : after job_forbidden (Permit p job true) ≡ course_of all_allowed [] []
+unfolding permitted
+permit_in_the_first_profile_row = refl
+
+-- nor does one that was there already, one that is taken, or one of an application that isn't started there
+permit_that_was_there_row : after (in_second all_allowed) (Permit p job true) ≡ course_of (in_second all_allowed) [] []
+unfolding permitted
+permit_that_was_there_row = refl
+
+forbid_in_the_second_profile_row : after (in_second all_allowed) (Permit p job false) ≡ course_of (in_second job_forbidden) [] []
+unfolding permitted
+forbid_in_the_second_profile_row = refl
+
+permit_where_it_isnt_started_row : after (in_second (job_at_q (true ∷ false ∷ true ∷ true ∷ true ∷ []))) (Permit p twin true)
+    ≡ course_of (in_second all_allowed) [] []
+unfolding permitted
+permit_where_it_isnt_started_row = refl
 
 -- ---- takeover by call: the new node has the given restart type, and the old one keeps its own; it needn't be started there
 abbrev before : StateView

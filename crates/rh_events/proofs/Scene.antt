@@ -92,5 +92,9 @@ scene_of wait modes running waiting standings = record (first (lab wait)) {
 abbrev pub scene : List Mode → List (List App) → List (List App) → List Standing → StateView
 scene = scene_of (After 500)
 
+-- the same in a cluster of the second profile
+abbrev pub in_second : StateView → StateView
+in_second s = record s { cluster = record s.cluster { profile = 2 } }
+
 abbrev pub none : List (List App)
 none = [] ∷ [] ∷ []

@@ -138,6 +138,18 @@ waits_for_the_other : told at_the_third (pair n2 app ∷ []) First ≡ Waits app
 unfolding nodes_of apps_of is_operational deps_run best candidates can_start local_moves placements calls_away takeovers next_moves moved_by all_moved
 waits_for_the_other = refl
 
+-- a pair that was freed calls away as a marked one does, and isn't told where it waits
+abbrev freed : StateView → List Pair → List Notice
+freed s pairs = (settled First (record (course_of s [] []) { freed = pairs })).notices
+
+taken_back : freed at_the_third (pair n2 app ∷ pair n1 app ∷ []) ≡ Started app n1 (kind.Takeover n3) None ∷ Stopped app n3 ∷ []
+unfolding nodes_of apps_of is_operational deps_run best candidates can_start local_moves placements calls_away takeovers next_moves moved_by all_moved
+taken_back = refl
+
+freed_stays : freed at_the_third (pair n2 app ∷ []) ≡ []
+unfolding nodes_of apps_of is_operational deps_run best candidates can_start local_moves placements calls_away takeovers next_moves moved_by all_moved
+freed_stays = refl
+
 -- a local application starts once what it needs runs: first the other, then what waits for it, node after node
 one_after_the_other : told (up false none ((user ∷ helper ∷ []) ∷ [] ∷ (helper ∷ user ∷ []) ∷ []) Quiet) (pair n1 user ∷ []) First
     ≡ Started helper n1 kind.Normal None ∷ Started user n1 kind.Normal None ∷ Started helper n3 kind.Normal None ∷ Started user n3 kind.Normal None ∷ []

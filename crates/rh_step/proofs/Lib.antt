@@ -19,6 +19,7 @@ mod RowsElsewhere
 mod RowsTime
 mod RowsByItself
 mod RowsEverywhere
+mod RowsPermissions
 pub mod Stops
 pub mod EndedWaits
 pub mod LostStays
@@ -26,3 +27,4 @@ pub mod LostInTime
 pub mod QuietStays
 pub mod StartedStays
 pub mod Everywhere
+pub mod PullsBack

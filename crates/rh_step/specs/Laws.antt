@@ -1,6 +1,6 @@
 -- Laws of steps, in the field's own words (ours).
 use Rattle.std.specs.Prelude.{◌≡◌, ◌≤◌, ◌<◌, ◌+◌, ◌++◌, ◌⊎◌, ◌&&◌, ℕ, Bool, true, false, Contains, Some, None}
-use Rattle.rh_model.specs.ClusterView.{ClusterView, IsWithin, mandatory_of, is_listed_at}
+use Rattle.rh_model.specs.ClusterView.{ClusterView, IsWithin, mandatory_of, group_of, is_listed_at}
 use Rattle.rh_model.specs.declared.node.Node.{Node}
 use Rattle.rh_model.specs.declared.node.App.{App}
 use Rattle.rh_model.specs.declared.settings.Restart.{Restart}
@@ -11,13 +11,15 @@ use Rattle.rh_state.specs.declared.status.Timer.TheVariants.{Sync, Failover}
 use Rattle.rh_state.specs.First.{first}
 use Rattle.rh_state.specs.Numbers.{same_node, same_app}
 use Rattle.rh_state.specs.Timers.{same_timer}
-use Rattle.rh_state.specs.StateView.{StateView, mode_of, is_alive, is_up, runs_at, is_started, restart_of, standing_of, due_of}
+use Rattle.rh_state.specs.StateView.{StateView, mode_of, is_alive, is_up, runs_at, is_started, is_allowed, restart_of, standing_of, due_of}
 use Rattle.rh_place.specs.declared.choosing.Pick.{Pick}
+use Rattle.rh_place.specs.Placing.{is_operational}
 use Rattle.rh_settle.specs.declared.notice.Notice.TheVariants as notice
 use Rattle.rh_settle.specs.Course.{Course}
-use Rattle.rh_settle.specs.Moves.{is_local}
+use Rattle.rh_settle.specs.Moves.{is_local, comes_before}
 use Rattle.rh_events.specs.declared.event.Event.{Event}
-use Rattle.rh_events.specs.declared.event.Event.TheVariants.{Tick, Start, Stop, StartAll, StopAll}
+use Rattle.rh_events.specs.declared.event.Event.TheVariants.{Tick, Start, Stop, Permit, StartAll, StopAll}
+use Rattle.rh_events.specs.ByHand.{pulls_back}
 use Rattle.rh_events.specs.Refusals.{refused}
 use Rattle.rh_step.specs.Allowed.{Allowed}
 use Rattle.rh_step.specs.Ticks.{fired}
@@ -107,6 +109,15 @@ starts _ a = false
 abbrev pub QuietUntilStarted : Type 0
 QuietUntilStarted = (s : StateView) (e : Event) (pick : Pick) (a : App) → IsValid s → refused s e ≡ None → standing_of s a ≡ Quiet → starts e a ≡ false
     → (standing_of (next s e pick).state a ≡ Quiet) ⊎ ((n : Node) × Contains (next s e pick).notices (notice.Up n))
+
+-- in the second profile an application that is started at a node, and is permitted there again, is taken back from nodes of later
+-- groups, if that node can run it (application(3), permit/2; ours for the profile)
+abbrev pub PermissionPullsBack : Type 0
+PermissionPullsBack = (s : StateView) (n m : Node) (a : App) (pick : Pick) → IsValid s → refused s (Permit n a true) ≡ None
+    → pulls_back s.cluster.profile ≡ true → is_started s n a ≡ true → is_allowed s n a ≡ false
+    → is_operational (next s (Permit n a true) pick).state a n ≡ true
+    → comes_before (group_of s.cluster a n) (group_of s.cluster a m) ≡ true
+    → runs_at (next s (Permit n a true) pick).state m a ≡ false
 
 -- an application that is stopped at all its nodes is started nowhere then: it is to run nowhere, and nothing awaits its return
 -- (application(3), stop/1)

@@ -1,6 +1,6 @@
 //! Laws of the definitions that the contracts of this crate cite. Each function does nothing: its contract is the law.
 
-ghost use Rattle.rh_step.specs.Laws.{FirstIsValid, NextIsValid, NextIsAllowed, TicksAddUp, TimeGoesOn, UpUntilEnded, StopLeavesQuiet, EndsWithoutMandatory, LostStays, LostStaysAtOtherTimers, LostUntilDue, QuietUntilStarted, StopAllLeavesNothing, StartAllStartsEverywhere, StartAllKeepsTypes};
+ghost use Rattle.rh_step.specs.Laws.{FirstIsValid, NextIsValid, NextIsAllowed, TicksAddUp, TimeGoesOn, UpUntilEnded, StopLeavesQuiet, EndsWithoutMandatory, LostStays, LostStaysAtOtherTimers, LostUntilDue, QuietUntilStarted, PermissionPullsBack, StopAllLeavesNothing, StartAllStartsEverywhere, StartAllKeepsTypes};
 
 /// The first state of a cluster is one that it reaches.
 pub fn first_is_valid()
@@ -61,6 +61,12 @@ pub fn lost_until_due()
 /// An application that is to run nowhere stays so until it is started, or a node comes up.
 pub fn quiet_until_started()
     ensures { QuietUntilStarted }
+{}
+
+/// In the second profile an application that is permitted again at a node where it is started is taken back from nodes of later
+/// groups, if that node can run it.
+pub fn permission_pulls_back()
+    ensures { PermissionPullsBack }
 {}
 
 /// An application that is stopped at all its nodes is started nowhere then: it is to run nowhere, and no timer of it is set.
