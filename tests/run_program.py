@@ -135,7 +135,8 @@ def command_lines(program):
     for words, texts in [
             (["--help"], [b"rehearse", b"run", b"Exit status", b"docs/ANSWERS.md", b"docs/LIVE_OTP.md", b"<< 'EOF'"]),
             (["run", "--help"], [b"--pick", b"boot N", b"crash N", b"tick D", b"start N A T", b"stop N A", b"permit N A B",
-                                 b"takeover N A T", b"exit N A R", b"undo", b"redo", b"undo_all", b"redo_all", b"show",
+                                 b"takeover N A T", b"exit N A R", b"start_all A T", b"stop_all A", b"undo", b"redo", b"undo_all",
+                                 b"redo_all", b"show",
                                  b"1 to 10^12", b"milliseconds", b"app A quiet", b"app A wanted", b"app A running N",
                                  b"app A lost N", b"from 1 behind `===`", b"docs/ANSWERS.md", b"docs/SCRIPTS.md"]),
             (["check", "--help"], [b"{node, Name, SysConfig}", b"{application, Name, Keys}", b"cluster refused", b"distributed",

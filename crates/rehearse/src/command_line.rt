@@ -110,6 +110,8 @@ static CHECK_ABOUT: &str = "Reads a cluster file alone, and says whether it is o
 static CHECK_AFTER_HELP: &str = "\
 A cluster file is a list of terms, each followed by a dot:
 
+  {profile, Number}.            before all others, or left out: the rules by
+                                which it is rehearsed, 1 (if left out) or 2
   {node, Name, SysConfig}.      a node, with the list of its sys.config file
   {application, Name, Keys}.    an application, with the list of its .app file
 
@@ -131,7 +133,8 @@ and of the section `rehearse`, which is this program's own:
 Timeout is 0 to 10^12 milliseconds. Of the keys applications, mod and
 start_phases are read. All else is skipped; but floats, maps, binaries and the
 like are refused in skipped parts too. A line `===` ends the file; a script
-behind it is ignored. At most 32 nodes and 64 applications.
+behind it is ignored. At most 32 nodes and 64 applications; in profile 2, which
+takes permissions as a live OTP does, 64 and 128.
 
 The answer is `ok K nodes K applications`, or `cluster refused` and the first
 fault with its code, as `C5 unknown_name` or `C1 T1 syntax line 3`: see

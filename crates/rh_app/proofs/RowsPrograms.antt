@@ -6,7 +6,7 @@ use lib.Utf8.{encode}
 use Rattle.rh_terms.specs.Bytes.{past}
 use Rattle.rh_terms.specs.Tokens.{name_at}
 use Rattle.rh_terms.specs.Grammar.{terms_of, dotted, dot_at, inside, terms_up_to, some_terms, next_at, term_by, word_at}
-use Rattle.rh_model.specs.ClusterView.{ClusterView, numbered}
+use Rattle.rh_model.specs.ClusterView.{ClusterView, numbered, app_numbered}
 use Rattle.rh_model.specs.declared.settings.Restart.TheVariants.{Permanent}
 use Rattle.rh_sections.specs.NameRule.{is_name}
 use Rattle.rh_sections.specs.Shapes.{as_atom, as_list, as_tuple, as_triple, as_headed}
@@ -42,7 +42,6 @@ use Rattle.rh_sweep.specs.declared.fault.SweepFault.TheVariants.{BaseNotAtEnd, T
 use Rattle.rh_script.specs.Lines.{content, script_lines}
 use Rattle.rh_script.specs.Commands.{line_of}
 use Rattle.rh_script.specs.SessionLines.{command, session_line_of}
-use Rattle.rh_script.specs.declared.script.TheConstants.{NO_APP}
 use Rattle.rh_script.specs.declared.session_lines.Command.{Command}
 use Rattle.rh_script.specs.declared.session_lines.SessionLine.TheVariants as session
 use Rattle.rh_script.specs.Answers.{notice_line, answer_text, fault_text, bad_text}
@@ -146,7 +145,7 @@ unfolding entry_text command_words event_words answer_text notice_line nodes_of 
 history_row = refl
 
 -- a command names the application, or what is shown for a name that nothing has
-all_nodes_row : told_of (entry 3 (Step (StartAll NO_APP Permanent)) (Refused UnknownApp) ∷ entry 1 (Step (StopAll NO_APP)) (Refused UnknownApp) ∷ [])
+all_nodes_row : told_of (entry 3 (Step (StartAll (app_numbered 255) Permanent)) (Refused UnknownApp) ∷ entry 1 (Step (StopAll (app_numbered 255))) (Refused UnknownApp) ∷ [])
     ≡ codes "entry 3 start_all ? permanent\nrefused S2 unknown_app\nentry 1 stop_all ?\nrefused S2 unknown_app\nfinal\nnow 0\nnode a down 0\n"
 unfolding entry_text command_words event_words answer_text nodes_of apps_of configured refused next step node_line line_if_forbidden standing_line app_line
     timer_line node_lines digits

@@ -110,6 +110,7 @@ aid = app_numbered 1
 
 abbrev needing : ClusterView
 needing = record {
+  profile = 1;
   node_names = codes "u" ∷ [];
   app_names = codes "q" ∷ codes "d" ∷ [];
   platform_names = codes "kernel" ∷ codes "stdlib" ∷ [];
