@@ -1,5 +1,5 @@
 -- The names of each cluster that is read can stand in a line.
-use Rattle.std.proofs.Common.{◌≡◌, ◌≢◌, ◌<◌, ◌==◌, ◌&&◌, ◌||◌, ℕ, codes, not, Bool, true, false, cond, List, [], ◌∷◌, ◌++◌, length, nat_le, nat_lt, Option, Some, None, Result, Ok, Err}
+use Rattle.std.proofs.Common.{◌≡◌, ◌≢◌, ◌<◌, ◌==◌, ◌&&◌, ◌||◌, ℕ, codes, not, Bool, true, false, cond, List, [], ◌∷◌, ◌++◌, length, nat_le, nat_lt, Option, Some, None, is_some, Result, Ok, Err}
 use Rattle.std.proofs.Common.{refl, sym, ap, ◌∙◌, subst, arith}
 use Rattle.std.specs.Prelude.{All}
 use Rattle.std.specs.List.{list_all}
@@ -14,15 +14,16 @@ use Rattle.rh_terms.specs.Grammar.{terms_of}
 use Rattle.rh_terms.specs.declared.fault.TermFault.{TermFault}
 use Rattle.rh_model.specs.ClusterView.{ClusterView}
 use Rattle.rh_model.specs.Names.{is_among}
-use Rattle.rh_model.specs.declared.limits.TheConstants.{MAX_NODES, MAX_APPS}
+use Rattle.rh_model.specs.Limits.{node_limit, app_limit}
 use Rattle.rh_sections.specs.declared.fault.ClusterFault.{ClusterFault}
 use Rattle.rh_sections.specs.declared.fault.ClusterFault.TheVariants as fault
 use Rattle.rh_sections.specs.declared.name_rule.TheConstants.{LONGEST_NAME}
 use Rattle.rh_sections.specs.NameRule.{is_name, is_name_byte}
-use Rattle.rh_sections.specs.Shapes.{as_node, as_app, as_headed, as_triple, as_tuple, as_atom, ◌>>=◌}
+use Rattle.rh_sections.specs.Shapes.{as_node, as_app, as_profile, as_headed, as_triple, as_tuple, as_atom, ◌>>=◌}
 use Rattle.rh_sections.specs.Faults.{in_turn, when, unless}
 use Rattle.rh_cluster.specs.Headers.{every_platform, node_names, app_names, nodes_in, apps_in, new_name_faults, header_faults, header_faults_by, headers_stage}
-use Rattle.rh_cluster.specs.ClusterOf.{faults_behind_headers, faults_in, cluster_view, cluster_in, cluster_of}
+use Rattle.rh_cluster.specs.ClusterOf.{faults_behind_headers, faults_in, cluster_view, cluster_of_terms, cluster_in, cluster_of}
+use Rattle.rh_cluster.specs.Profile.{profile_of, behind_profile}
 use Rattle.rh_cluster.proofs.NoFaults.{not_when}
 use Rattle.rh_cluster.proofs.OneHeader.{no_node}
 use Rattle.rh_script.specs.Laws.{IsWord, HasWords, IsUnbroken, HasUnbroken, ClustersHaveWords}
@@ -122,42 +123,44 @@ rule_kept most reserved earlier name clean =
     let many = when (nat_le most (length earlier)) fault.TooMany in
     is_set (is_name name) (not_when (not (is_name name)) fault.BadName (none_left bad taken (none_left (bad ++ taken) many clean)))
 
-node_rule : (nodes apps : List (List ℕ)) (t : Tree) (x : List ℕ × Tree) → as_node t ≡ Some x → header_faults nodes apps t ≡ [] → is_name x.0 ≡ true
+node_rule : (p : ℕ) (nodes apps : List (List ℕ)) (t : Tree) (x : List ℕ × Tree) → as_node t ≡ Some x → header_faults p nodes apps t ≡ []
+    → is_name x.0 ≡ true
 unfolding header_faults
-node_rule nodes apps t x is clean =
-    rule_kept MAX_NODES false nodes x.0 (ap (λ (o : Option (List ℕ × Tree)). header_faults_by nodes apps o (as_app t)) (sym is) ∙ clean)
+node_rule p nodes apps t x is clean =
+    rule_kept (node_limit p) false nodes x.0 (ap (λ (o : Option (List ℕ × Tree)). header_faults_by p nodes apps o (as_app t)) (sym is) ∙ clean)
 
-app_rule : (nodes apps : List (List ℕ)) (t : Tree) (x : List ℕ × Tree) → as_app t ≡ Some x → header_faults nodes apps t ≡ [] → is_name x.0 ≡ true
+app_rule : (p : ℕ) (nodes apps : List (List ℕ)) (t : Tree) (x : List ℕ × Tree) → as_app t ≡ Some x → header_faults p nodes apps t ≡ []
+    → is_name x.0 ≡ true
 unfolding header_faults
-app_rule nodes apps t x is clean =
-    rule_kept MAX_APPS (is_among every_platform x.0) apps x.0 ((λ i. header_faults_by nodes apps (sym (no_node t x is) i) (sym is i)) ∙ clean)
+app_rule p nodes apps t x is clean =
+    rule_kept (app_limit p) (is_among every_platform x.0) apps x.0 ((λ i. header_faults_by p nodes apps (sym (no_node t x is) i) (sym is i)) ∙ clean)
 
 abbrev IsNamed : List ℕ × Tree → Type 0
 IsNamed x = IsName x.0
 
-all_named : (e : List Tree) (ts : Trees) → in_turn (λ earlier t. header_faults (node_names earlier) (app_names earlier) t) e (list_of_trees ts) ≡ []
+all_named : (p : ℕ) (e : List Tree) (ts : Trees) → in_turn (λ earlier t. header_faults p (node_names earlier) (app_names earlier) t) e (list_of_trees ts) ≡ []
     → HaveTexts ts → All IsNamed (nodes_in (list_of_trees ts)) × All IsNamed (apps_in (list_of_trees ts))
-all_named e none no_fault utf8 = (All-nil IsNamed, All-nil IsNamed)
-all_named e (more t ts) no_fault utf8 =
+all_named p e none no_fault utf8 = (All-nil IsNamed, All-nil IsNamed)
+all_named p e (more t ts) no_fault utf8 =
     let here = none_left _ _ no_fault in
-    let others = all_named (e ++ t ∷ []) ts (none_right _ _ no_fault) utf8.1 in (
+    let others = all_named p (e ++ t ∷ []) ts (none_right _ _ no_fault) utf8.1 in (
       All-cons_option IsNamed (as_node t) (nodes_in (list_of_trees ts))
-          (λ x is. name_by_rule x.0 (headed_text (codes "node") t x utf8.0 is) (node_rule (node_names e) (app_names e) t x is here)) others.0,
+          (λ x is. name_by_rule x.0 (headed_text (codes "node") t x utf8.0 is) (node_rule p (node_names e) (app_names e) t x is here)) others.0,
       All-cons_option IsNamed (as_app t) (apps_in (list_of_trees ts))
-          (λ x is. name_by_rule x.0 (headed_text (codes "application") t x utf8.0 is) (app_rule (node_names e) (app_names e) t x is here)) others.1,
+          (λ x is. name_by_rule x.0 (headed_text (codes "application") t x utf8.0 is) (app_rule p (node_names e) (app_names e) t x is here)) others.1,
     )
 
 abbrev HasNames : ClusterView → Type 0
 HasNames c = HasWords c × HasUnbroken c
 
-view_has_names : (ts : Trees) → headers_stage (list_of_trees ts) ≡ [] → HaveTexts ts → HasNames (cluster_view (list_of_trees ts))
+view_has_names : (p : ℕ) (ts : Trees) → headers_stage p (list_of_trees ts) ≡ [] → HaveTexts ts → HasNames (cluster_view p (list_of_trees ts))
 unfolding cluster_view headers_stage node_names app_names
-view_has_names ts no_fault utf8 =
-    let named = all_named [] ts (none_left _ _ no_fault) utf8 in
+view_has_names p ts no_fault utf8 =
+    let named = all_named p [] ts (none_left _ _ no_fault) utf8 in
     let nodes : All IsName (node_names (list_of_trees ts)) = All-map IsName (λ (x : List ℕ × Tree). x.0) (nodes_in (list_of_trees ts)) named.0 in
     let apps : All IsName (app_names (list_of_trees ts)) = All-map IsName (λ (x : List ℕ × Tree). x.0) (apps_in (list_of_trees ts)) named.1 in
-    let words : HasWords (cluster_view (list_of_trees ts)) = record { nodes = λ k d h. (nodes k d h).0; apps = λ k d h. (apps k d h).0 } in
-    let unbroken : HasUnbroken (cluster_view (list_of_trees ts)) = record { nodes = λ k d h. (nodes k d h).1; apps = λ k d h. (apps k d h).1 } in
+    let words : HasWords (cluster_view p (list_of_trees ts)) = record { nodes = λ k d h. (nodes k d h).0; apps = λ k d h. (apps k d h).0 } in
+    let unbroken : HasUnbroken (cluster_view p (list_of_trees ts)) = record { nodes = λ k d h. (nodes k d h).1; apps = λ k d h. (apps k d h).1 } in
     (words, unbroken)
 
 -- ---- the cluster of a text
@@ -168,16 +171,27 @@ read_as v = Ok v
 same_ok : (v c : ClusterView) → read_as v ≡ read_as c → v ≡ c
 same_ok v c e = cc
 
-words_unless : (ts : Trees) (c : ClusterView) (faults : List ClusterFault) → faults_in (list_of_trees ts) ≡ faults → HaveTexts ts
-    → unless faults (cluster_view (list_of_trees ts)) ≡ Ok c → HasNames c
+words_unless : (p : ℕ) (ts : Trees) (c : ClusterView) (faults : List ClusterFault) → faults_in p (list_of_trees ts) ≡ faults → HaveTexts ts
+    → unless faults (cluster_view p (list_of_trees ts)) ≡ Ok c → HasNames c
 unfolding faults_in
-words_unless ts c [] no_fault utf8 read =
-    let headers = none_left (headers_stage (list_of_trees ts)) (faults_behind_headers (list_of_trees ts)) no_fault in
-    subst HasNames (same_ok (cluster_view (list_of_trees ts)) c read) (view_has_names ts headers utf8)
-words_unless ts c (f ∷ fs) some utf8 read = cc
+words_unless p ts c [] no_fault utf8 read =
+    let headers = none_left (headers_stage p (list_of_trees ts)) (faults_behind_headers (list_of_trees ts)) no_fault in
+    subst HasNames (same_ok (cluster_view p (list_of_trees ts)) c read) (view_has_names p ts headers utf8)
+words_unless p ts c (f ∷ fs) some utf8 read = cc
+
+-- the terms behind the one that names the profile, or all of them
+words_of_terms : (ts : Trees) (c : ClusterView) → HaveTexts ts → cluster_of_terms (list_of_trees ts) ≡ Ok c → HasNames c
+unfolding cluster_of_terms behind_profile
+words_of_terms none c texts read = words_unless (profile_of []) none c (faults_in (profile_of []) []) refl texts read
+words_of_terms (more t us) c texts read = chosen (profile_of (list_of_trees (more t us))) (is_some (as_profile t)) read
+  where
+    chosen : (p : ℕ) (b : Bool) → unless (faults_in p (cond b (list_of_trees us) (list_of_trees (more t us))))
+            (cluster_view p (cond b (list_of_trees us) (list_of_trees (more t us)))) ≡ Ok c → HasNames c
+    chosen p true read = words_unless p us c (faults_in p (list_of_trees us)) refl texts.1 read
+    chosen p false read = words_unless p (more t us) c (faults_in p (list_of_trees (more t us))) refl texts read
 
 words_read : (r : Result Trees TermFault) (c : ClusterView) → ((ts : Trees) → r ≡ Ok ts → HaveTexts ts) → cluster_in r ≡ Ok c → HasNames c
-words_read (Ok ts) c texts read = words_unless ts c (faults_in (list_of_trees ts)) refl (texts ts refl) read
+words_read (Ok ts) c texts read = words_of_terms ts c (texts ts refl) read
 words_read (Err f) c texts read = cc
 
 pub clusters_have_words : ClustersHaveWords

@@ -9,6 +9,8 @@ use Rattle.std.proofs.lemmas.Bool.Decides.{nat_tests}
 use Rattle.std.proofs.lemmas.Fmt.{decimal_digit}
 use Rattle.std.proofs.lemmas.Option.{slice_get-get_or, slice_get_past}
 use Rattle.rh_model.specs.ClusterView.{ClusterView, IsWithin, numbered, app_numbered}
+use Rattle.rh_model.specs.Limits.{node_limit, app_limit}
+use Rattle.rh_model.specs.declared.limits.TheConstants.{MAX_NODES, MAX_APPS, FIRST_PROFILE_NODES, FIRST_PROFILE_APPS}
 use Rattle.rh_model.specs.declared.node.Node.{Node}
 use Rattle.rh_model.specs.declared.node.App.{App}
 use Rattle.rh_model.specs.declared.settings.Restart.{Restart}
@@ -51,6 +53,21 @@ node_chosen o = unwrap_or (option_map numbered o) NO_NODE
 abbrev app_chosen : Option ℕ → App
 app_chosen o = unwrap_or (option_map app_numbered o) NO_APP
 
+-- a number that no node has, or no application, is past those of each profile
+few_of_any_profile : (p : ℕ) → node_limit p ≤ MAX_NODES
+few_of_any_profile p = by (p == 2)
+  where
+    by : (b : Bool) → cond b MAX_NODES FIRST_PROFILE_NODES ≤ MAX_NODES
+    by true = omega arith
+    by false = omega arith
+
+few_apps_of_any_profile : (p : ℕ) → app_limit p ≤ MAX_APPS
+few_apps_of_any_profile p = by (p == 2)
+  where
+    by : (b : Bool) → cond b MAX_APPS FIRST_PROFILE_APPS ≤ MAX_APPS
+    by true = omega arith
+    by false = omega arith
+
 module _ (c : ClusterView) (within : IsWithin c) (words : HasWords c) where
   node_by_word : (n : Node) → IsNodeTold c n → NodeWord c n
   node_by_word n (inl inside) =
@@ -61,7 +78,7 @@ module _ (c : ClusterView) (within : IsWithin c) (words : HasWords c) where
       }
   node_by_word n (inr other) =
       let shown : node_word c n ≡ no_name =
-      ap (node_word c) other.0 ∙ ap node_shown (slice_get_past c.node_names 255 (omega (arith, within.few_nodes))) in
+      ap (node_word c) other.0 ∙ ap node_shown (slice_get_past c.node_names 255 (omega (arith, within.few_nodes, few_of_any_profile c.profile))) in
       record {
         word = subst IsWord (sym shown) no_name_word;
         names = ap (named c) shown ∙ ap (λ o. unwrap_or o NO_NODE) other.1 ∙ sym other.0;
@@ -76,7 +93,7 @@ module _ (c : ClusterView) (within : IsWithin c) (words : HasWords c) where
       }
   app_by_word a (inr other) =
       let shown : app_word c a ≡ no_name =
-      ap (app_word c) other.0 ∙ ap node_shown (slice_get_past c.app_names 255 (omega (arith, within.few_apps))) in
+      ap (app_word c) other.0 ∙ ap node_shown (slice_get_past c.app_names 255 (omega (arith, within.few_apps, few_apps_of_any_profile c.profile))) in
       record {
         word = subst IsWord (sym shown) no_name_word;
         names = ap (named_app c) shown ∙ ap (λ o. unwrap_or o NO_APP) other.1 ∙ sym other.0;
