@@ -84,8 +84,8 @@ def longer_chains(program):
 
 
 def greatest(timeout=500):
-    """64 nodes and 128 applications, with the line behind them: each application is distributed over four nodes in three groups, the
-    last of which stand before the first again."""
+    """64 nodes and 128 applications, with the line behind them: each application is distributed over four nodes in three groups.
+    Behind the last node comes the first again."""
     nodes = [f"n{number}" for number in range(64)]
     groups = {f"a{app}": [nodes[(app + step * 21) % 64] for step in range(4)] for app in range(128)}
     entries = ", ".join("{%s, %d, [%s, {%s, %s}, %s]}" % (app, timeout, *names) for app, names in groups.items())
