@@ -17,8 +17,9 @@ GROWING = ("read", "first_state", "copy_state", "timers", "perform", "open", "co
            "step_stop_all", "step_start_all", "step_permit", "try_plan", "open_room", "serve_step", "serve_look", "fork", "sweep")
 # Those that take none: each growth is refused at once.
 FIXED = ("undo", "redo", "undo_all", "redo_all", "cut_redo", "close")
-# Growths that a call can do without: one for each thread that isn't made then, whose work is done by another.
-SPARED = {"sweep": 1}
+# Blocks that a call can do without: one for each thread that isn't made then, whose work is done by another; a smaller one for each
+# list or tuple of two or three elements in the cluster file, and one for a report, which keep spare memory then.
+SPARED = {"sweep": 1, "read": 48, "serve_look": 1}
 
 # Counts the growths between the marks in the file COUNT_FILE, and refuses the one of the number in FAIL_ALLOCATION, counted
 # from 1, or all where that is `all`.

@@ -212,7 +212,8 @@ def more_runs():
         everywhere_twice() + joined(turns(10_000, MORE_NODES)) + b"undo_all\nredo_all\n" * 20)
     yield "500 thousand undos and redos of a step that moves 128", lambda: (
         everywhere_twice() + joined(boots(MORE_NODES) + [b"crash n0"]) + b"undo\nredo\n" * 250_000)
-    yield "such a step, 100 thousand times anew", lambda: everywhere_twice() + joined(boots(MORE_NODES)) + b"crash n0\nundo\n" * 100_000
+    yield "such a step that moves 128, 100 thousand times anew", lambda: (
+        everywhere_twice() + joined(boots(MORE_NODES)) + b"crash n0\nundo\n" * 100_000)
     yield "65,535 steps that move 128, of long names", lambda: (
         everywhere_twice(long_names(b"a", 128)) + joined(turns(TRAIL, MORE_NODES)))
     yield "65,535 steps, each other one starts a chain of 128", lambda: (

@@ -33,8 +33,8 @@ def first_profile(read_row_at):
         for folder in ("rows", "examples"):
             for path in files_below(os.path.join(TOP, "tests", folder)):
                 row = read_row_at(path)
-                # Rows of command lines have no input that is read; others say their profile.
-                if row.status == 1 or b"profile, " in row.input.partition(b"\n===\n")[0]:
+                # Rows of command lines have no input that is read; others say their profile, or another that isn't one.
+                if row.status == 1 or b"profile" in row.input.partition(b"\n===\n")[0]:
                     continue
                 tried += 1
                 done = run(program, row.words, input=with_profile(row.input))
@@ -84,8 +84,8 @@ def longer_chains(program):
 
 
 def greatest(timeout=500):
-    """64 nodes and 128 applications, with the line behind them: each application is distributed over four nodes in three groups, the
-    last of which stand before the first again."""
+    """64 nodes and 128 applications, with the line behind them: each application is distributed over four nodes in three groups.
+    Behind the last node comes the first again."""
     nodes = [f"n{number}" for number in range(64)]
     groups = {f"a{app}": [nodes[(app + step * 21) % 64] for step in range(4)] for app in range(128)}
     entries = ", ".join("{%s, %d, [%s, {%s, %s}, %s]}" % (app, timeout, *names) for app, names in groups.items())

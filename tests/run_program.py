@@ -6,8 +6,9 @@ repository, examples/NAME.txt, has its row tests/examples/NAME.row, without an i
 folders that is no such row is a failed test. Then come inputs that are too large for a file, which are made here, devices
 and memory that fail, more devices (hostile.py) and each of their calls (failing_calls.py), cut inputs (prefixes.py), sweeps
 (sweeps.py), texts that are no terms (term_faults.py), cluster files at the limits (cluster_limits.py), both profiles
-(profiles.py), random scripts beside a model (random_scripts.py) and the documents (check_docs.py). Calls that the program `rh_growths` beside PROGRAM makes have each growth of memory refused in turn, and have
-to leave all as it was (growths.py). The last line is 'N passed, M failed'. Where paths of rows are given, these alone are run.
+(profiles.py), random scripts beside a model (random_scripts.py) and the documents (check_docs.py). Calls that the program
+`rh_growths` beside PROGRAM makes have each growth of memory refused in turn, and have to leave all as it was (growths.py). The
+last line is 'N passed, M failed'. Where paths of rows are given, these alone are run.
 """
 import os
 import re
@@ -139,8 +140,8 @@ def command_lines(program):
                                  b"redo_all", b"show",
                                  b"1 to 10^12", b"milliseconds", b"app A quiet", b"app A wanted", b"app A running N",
                                  b"app A lost N", b"from 1 behind `===`", b"docs/ANSWERS.md", b"docs/SCRIPTS.md"]),
-            (["check", "--help"], [b"{node, Name, SysConfig}", b"{application, Name, Keys}", b"cluster refused", b"distributed",
-                                   b"sync_nodes_timeout", b"permissions", b"boot", b"platform", b"0 to 10^12 milliseconds",
+            (["check", "--help"], [b"{profile, Number}", b"{node, Name, SysConfig}", b"{application, Name, Keys}", b"cluster refused",
+                                   b"distributed", b"sync_nodes_timeout", b"permissions", b"boot", b"platform", b"0 to 10^12 milliseconds",
                                    b"docs/CLUSTER_FILES.md"]),
             (["sessions", "--help"], [b"--pick", b"entry S COMMAND", b"final", b"1 boot a@x", b"docs/ANSWERS.md"]),
             (["sweep", "--help"], [b"--pick", b"--workers", b"plan NAME accepted K failovers K takeovers K", b"bad line K", b"V2", b"V3",
@@ -310,8 +311,8 @@ def main():
 
     made = (term_faults, large_inputs, long_chains, *sweeps.TESTS)
     all_groups = (rows, examples, *made, profiles.first_profile(row_at), profiles.under_profile_1(*made), *profiles.TESTS,
-                  *random_scripts.TESTS, cluster_limits, command_lines, full_inputs, several_sessions, failing_devices, refused_memory,
-                  no_threads, *growths.TESTS, *hostile.TESTS, *failing_calls.TESTS, *prefixes.TESTS, *check_docs.TESTS)
+                  *random_scripts.TESTS, cluster_limits, command_lines, full_inputs, several_sessions, failing_devices,
+                  refused_memory, no_threads, *growths.TESTS, *hostile.TESTS, *failing_calls.TESTS, *prefixes.TESTS, *check_docs.TESTS)
     finish((named_rows,) if sys.argv[2:] else all_groups, os.path.abspath(sys.argv[1]))
 
 

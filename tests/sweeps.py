@@ -28,7 +28,8 @@ def random_event(chance):
         b"boot %s" % node, b"crash %s" % node, b"crash %s" % node, b"tick %d" % chance.choice([1, 999, 1000, 3000]),
         b"start %s %s %s" % (node, app, restart), b"stop %s %s" % (node, app),
         b"permit %s %s %s" % (node, app, chance.choice([b"true", b"false"])), b"takeover %s %s %s" % (node, app, restart),
-        b"exit %s %s %s" % (node, app, chance.choice([b"normal", b"abnormal"]))])
+        b"exit %s %s %s" % (node, app, chance.choice([b"normal", b"abnormal"])), b"start_all %s %s" % (app, restart),
+        b"stop_all %s" % app])
 
 
 def answers(output):
