@@ -10,9 +10,9 @@ mod ticks;
 
 pub use laws::{
     ends_without_mandatory, first_is_valid, lost_stays, lost_stays_at_other_timers, lost_until_due,
-    next_is_allowed, next_is_valid, permission_pulls_back, quiet_until_started, start_all_keeps_types,
-    start_all_starts_everywhere, stop_all_leaves_nothing, stop_leaves_quiet, ticks_add_up,
-    time_goes_on, up_until_ended,
+    next_is_allowed, next_is_valid, permission_pulls_back, quiet_until_started,
+    start_all_keeps_types, start_all_starts_everywhere, stop_all_leaves_nothing, stop_leaves_quiet,
+    ticks_add_up, time_goes_on, up_until_ended,
 };
 pub use notices::Notices;
 pub use rh_events::{Event, Refusal, refusal_of};
