@@ -12,6 +12,8 @@ from typing import NamedTuple
 HERE = os.path.dirname(os.path.realpath(__file__))
 # What may be a name in a cluster file: an atom in quotes or a plain one, outside of comments and strings.
 ATOM = re.compile(r"""%[^\n]*|"(?:\\.|[^"\\])*"|'((?:\\.|[^'\\])*)'|([a-z][A-Za-z0-9_@]*)""", re.DOTALL)
+# A profile as the first term: white space and comments may stand anywhere between its parts.
+PROFILE = re.compile(r"|{|'?profile'?|,|([0-9]+)|}|\.".replace("|", r"(?:\s|%[^\n]*\n)*"))
 ESCAPES = {"n": "\n", "t": "\t", "r": "\r", "s": " "}
 
 
@@ -179,6 +181,12 @@ def node_modes(report):
 def standings(report):
     """Where each distributed application of a report stands, in order, as the words behind its name."""
     return {words[1]: " ".join(words[2:]) for words in map(words_of, report) if words[0] == "app"}
+
+
+def profile_of(cluster):
+    """The profile of a cluster file that the program accepts: that of its first term, or 1 where that is no profile."""
+    found = PROFILE.match(cluster)
+    return int(found[1]) if found else 1
 
 
 def atoms_in(cluster):

@@ -21,6 +21,11 @@ def three_nodes(timeout="900"):
     return "".join(NODE % (node, timeout) for node in ("a@x", "b@x", "'c-1@x'")) + WEB
 
 
+def nodes_alone(most):
+    """A cluster file of so many nodes without applications."""
+    return "".join(f"{{node, n{number}@x, []}}.\n" for number in range(most))
+
+
 BOOTS = "===\nboot a@x\nboot b@x\nboot c-1@x\n"
 DEFAULT = """plan a@x
 crash a@x
@@ -80,6 +85,51 @@ def whole_texts(program):
     owed += "plan rolling:b@x+a@x\ncrash b@x\ntick 8\nboot b@x\ntick 8\ncrash a@x\ntick 8\nboot a@x\ntick 8\n"
     yield "a rolling restart", fault_of(
         plans(program, ["--plans-only", "--only", "[ab]@x", "--rolling", "--after", "8"], three_nodes()), 0, owed.encode())
+    restarts = [f"permit {node} web false\ncrash {node}\ntick 8\nboot {node}\ntick 8\npermit {node} web true\n"
+                for node in ("a@x", "b@x")]
+    owed = "plan drained:a@x+b@x\n" + "".join(restarts) + "plan drained:b@x+a@x\n" + "".join(restarts[::-1])
+    words = ["--plans-only", "--only", "[ab]@x", "--rolling", "--drain", "--after", "8"]
+    yield "a rolling restart of drained nodes", fault_of(plans(program, words, three_nodes()), 0, owed.encode())
+
+
+# web and far are distributed, log isn't. Behind the boots web may run at a@x alone, since nobody permits it at b@x; far is started
+# at b@x and c@x, and quiet at a@x, which doesn't boot it.
+MIXED = "{profile, 2}.\n" + "".join(
+    f"{{node, {node}, [{{kernel, [{{distributed, [{{web, [a@x, b@x]}}, {{far, [a@x, b@x, c@x]}}]}}{more}]}},\n"
+    f"  {{rehearse, [{{boot, [{boot}]}}]}}]}}.\n"
+    for node, more, boot in [("a@x", "", "{log, permanent}, {web, permanent}"),
+                             ("b@x", ", {permissions, [{web, false}]}", "{log, permanent}, {web, permanent}, {far, temporary}"),
+                             ("c@x", "", "{far, permanent}, {log, permanent}")]
+) + "{application, log, []}. {application, web, []}. {application, far, []}.\n"
+MIXED_EVENTS = [
+    "permit a@x web false\ncrash a@x\nboot a@x\npermit a@x web true\n",
+    "permit b@x far false\ncrash b@x\nboot b@x\npermit b@x far true\n",
+    "permit c@x far false\ncrash c@x\nboot c@x\npermit c@x far true\n"]
+
+
+def drained(program):
+    """Which applications are sent away, and what becomes of them."""
+    words = ["--plans-only", "--rolling", "--drain", "--most", "1"]
+    done = plans(program, words, MIXED)
+    owed = "plan drained:a@x+b@x+c@x\n" + "".join(MIXED_EVENTS)
+    yield "what is started and may run", None if done.stdout.decode() == owed else f"{done}"
+    # The base stops web at a@x, and permits it at b@x: now b@x has both.
+    base = "===\n" + "".join(f"boot {node}\n" for node in ("a@x", "b@x", "c@x")) + "stop a@x web\npermit b@x web true\n"
+    done = plans(program, words, MIXED + base)
+    owed = "plan drained:a@x+b@x+c@x\ncrash a@x\nboot a@x\n"
+    owed += "permit b@x web false\npermit b@x far false\ncrash b@x\nboot b@x\npermit b@x web true\npermit b@x far true\n"
+    yield "behind a script", None if done.stdout.decode() == owed + MIXED_EVENTS[2] else f"{done}"
+    # By their configuration both nodes forbid web, so that a restarted one doesn't take it before it is permitted.
+    text = "".join(f"{{node, {node}, [{{kernel, [{{distributed, [{{web, [a@x, b@x]}}]}}, {{permissions, [{{web, false}}]}}]}},\n"
+                   "  {rehearse, [{boot, [{web, permanent}]}]}]}.\n" for node in ("a@x", "b@x")) + "{application, web, []}.\n"
+    text += "===\nboot a@x\nboot b@x\npermit a@x web true\npermit b@x web true\n"
+    for profile, rows in [(1, [("a@x+b@x", 0, "a@x"), ("b@x+a@x", 0, "b@x")]), (2, [("a@x+b@x", 1, "a@x"), ("b@x+a@x", 1, "a@x")])]:
+        done = run(program, ["sweep"], input=plans(program, ["--rolling", "--drain"], f"{{profile, {profile}}}.\n{text}").stdout)
+        owed = "".join(f"plan drained:{order} accepted 8 failovers 0 takeovers {count}\napp web running {node}\n"
+                       for order, count, node in rows)
+        told = done.stdout.decode()
+        yield f"swept by profile {profile}", fault_of(done, 0, None) or (
+            None if told[told.index("plan "):] == owed else difference(owed.encode(), done.stdout))
 
 
 def chosen(program):
@@ -116,10 +166,11 @@ def times(program):
 def swept(program):
     """The real program tries all that is written."""
     example = read(os.path.join(TOP, "examples", "five-nodes-sweep.txt")).decode().split("===")[0]
-    large = "".join(f"{{node, n{number}@x, []}}.\n" for number in range(32))
-    # One, two or three of 5 nodes; one or two of 32; the orders of 4 of 5.
+    large, larger = nodes_alone(32), "{profile, 2}.\n" + nodes_alone(64)
+    # One, two or three of 5 nodes; one or two of 32, and of 64 in the second profile; the orders of 4 of 5.
     for name, words, text, number in [("five nodes", ["--crashes", "3", "--back", "same"], example, 5 + 10 + 10),
                                       ("32 nodes", [], large, 32 + 496),
+                                      ("64 nodes", [], larger, 64 + 2016),
                                       ("every order of four", ["--rolling", "--only", "*[12]@site"], example, 24)]:
         done = run(program, ["sweep"], input=plans(program, words, text).stdout)
         told = [line for line in done.stdout.splitlines() if line.startswith(b"plan ")]
@@ -136,6 +187,8 @@ def faults(program):
             (["--after", "-1"], three_nodes(), 1, "--after"),
             (["--nonsense"], three_nodes(), 1, "--nonsense"),
             (["--rolling", "--orders"], three_nodes(), 1, "--rolling"),
+            (["--drain"], three_nodes(), 1, "--drain goes with --rolling"),
+            ([], nodes_alone(64), 2, "standard input: cluster refused C3 too_many"),
             (["--most", "5"], three_nodes(), 1, "6 plans are more than --most 5"),
             (["--only", "d@x"], three_nodes(), 1, "behind the base a@x, b@x, c-1@x is alive"),
             ([], three_nodes() + "===\nboot a@x\ncrash a@x\n", 1, "behind the base none is alive"),
@@ -171,5 +224,5 @@ def help_text(program):
 
 
 def group(program):
-    for tests in (whole_texts, chosen, times, swept, faults, program_found, help_text):
+    for tests in (whole_texts, drained, chosen, times, swept, faults, program_found, help_text):
         yield from tests(program)

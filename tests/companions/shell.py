@@ -24,7 +24,7 @@ CLUSTER = """% Here a quote isn't closed: {application, nobody, []}. {node, no@w
 { application % the fourth one
 , spare, [{mod, {spare_app, [web_arg]}}]}.
 """
-BANNER = "2 nodes, 4 applications; help lists the commands\n"
+BANNER = "2 nodes, 4 applications, profile 1; help lists the commands\n"
 
 
 def talk(program, entered, file, words=()):
@@ -69,19 +69,44 @@ def conversations(program):
                  "ok\nup b-1@x\nstarted web b-1@x normal\nok\nok\nnow 900\nnode a@x down 0\nnode b-1@x up 1\n"
                  "  running web permanent normal\napp web running b-1@x\n"),
                 ("what is no command",
-                 "boot\nboot a@x b-1@x\nreboot a@x\ntick -1\nexit a@x web badly\n===\nplan p\nundo",
+                 "boot\nboot a@x b-1@x\nreboot a@x\ntick -1\nexit a@x web badly\nstart_all web\nstop_all a@x web\n===\nplan p\nundo",
                  "that is no command: boot N\n" * 2 + "that is no command: help lists them\n"
                  "that is no command: tick MILLISECONDS\nthat is no command: exit N A normal|abnormal\n"
+                 "that is no command: start_all A permanent|transient|temporary\nthat is no command: stop_all A\n"
                  + "that is no command: help lists them\n" * 2 + "refused at_start\n"),
                 ("what is refused", "crash a@x\nboot c@x\nstart a@x web permanent\n",
                  "refused S5 not_alive\nrefused S1 unknown_node\nrefused S8 node_not_up\n"),
+                ("at all nodes", "boot a@x\nboot b-1@x\nstop_all web\nstop_all web\nstart_all web temporary\n"
+                 "start_all web permanent\nstart_all it's permanent\nstop_all nobody\nundo\nredo\n",
+                 BOTH + "ok\nstopped web a@x\nrefused S12 never_started\nok\nstarted web a@x normal\nwaits web b-1@x\n"
+                 "refused S11 already_started\nrefused S9 not_distributed\nrefused S2 unknown_app\nok\nok\n"),
+                ("a permission that is given back", "boot a@x\nboot b-1@x\npermit a@x web false\npermit a@x web true\n",
+                 BOTH + "ok\nstopped web a@x\nstarted web b-1@x normal\nok\n"),
                 ("quit", "boot a@x\nquit\nboot b-1@x\n", "ok\n"), ("exit", "exit\nboot a@x\n", "")]:
             yield name, fault_of(talk(program, entered, file), 0, (BANNER + owed).encode())
+        done = talk(program, "help\n", file)
+        yield "help", fault_of(done, 0, None) or (None if b"\nstart_all A T, stop_all A " in done.stdout else f"{done}")
+
+
+def second_profile(program):
+    """A file of profile 2: a permission that is given back pulls web back, and what is saved is of that profile too."""
+    text = "% The profile of a live OTP.\n{profile, 2}. " + CLUSTER
+    entered = "boot a@x\nboot b-1@x\npermit a@x web false\npermit a@x web true\n"
+    told = BOTH + "ok\nstopped web a@x\nstarted web b-1@x normal\nok\nstarted web a@x takeover b-1@x\nstopped web b-1@x\n"
+    banner = BANNER.replace("profile 1", "profile 2")
+    with Files() as files:
+        file, story = files.path("cluster", text), files.path("story")
+        done = talk(program, f"{entered}save {story}\n", file)
+        yield "profile 2", fault_of(done, 0, (banner + told + f"saved: rehearse run < {story}\n").encode())
+        yield "profile 2, a run of the story", fault_of(run(program, ["run"], input=read(story)), 0, told.encode())
+        yield "profile 2, on from the story", fault_of(talk(program, "undo\n", story), 0, (banner.replace(
+            "2;", "2, behind 4 commands of the script;") + "ok\n").encode())
 
 
 def like_a_run(program):
     """Each example, entered line by line, is answered as by one run of the program."""
     for name in ("failover-and-takeover", "repaired-node", "release", "local-applications", "rolling-restart",
+                 "rolling-restart-by-permissions", "rolling-restart-by-permissions-profile-2", "release-at-all-nodes",
                  "waiting-nodes"):
         source = read(os.path.join(TOP, "examples", f"{name}.txt")).decode()
         cluster, script = source.split("===\n")
@@ -153,7 +178,7 @@ def stories(program):
             yield f"the {name} as it was", fault_of(done, 0, None) or (
                 difference(owed, read(path + ".again")) if read(path + ".again") != owed else None)
         done = talk(program, f"undo\nundo\nredo\ntick 5\nredo\nsave {story}\nsave {story}.b\nundo\nsave {story}.b\n", story)
-        owed = BANNER.replace("applications;", "applications, behind 3 commands of the script;")
+        owed = BANNER.replace("1;", "1, behind 3 commands of the script;")
         owed += f"ok\nok\nok\nok\nrefused at_end\n{story}: File exists\nsaved: rehearse run < {story}.b\nok\n"
         owed += f"saved: rehearse run < {story}.b\n"
         yield "on from a story", fault_of(done, 0, owed.encode())
@@ -162,12 +187,17 @@ def stories(program):
         talk(program, f"boot a@x\nboot b-1@x\nundo_all\nboot b-1@x\nundo\nredo_all\nsave {story}.d\n", file)
         owed = (CLUSTER + "===\nboot b-1@x\n#   ok\n#   up b-1@x\n#   started web b-1@x normal\n").encode()
         yield "all is taken back", difference(owed, read(story + ".d")) if read(story + ".d") != owed else None
+        # Steps at all nodes are steps: of three, the last one is taken back.
+        talk(program, f"boot b-1@x\nstop_all web\nstart_all web temporary\nundo_all\nredo_all\nundo\nsave {story}.e\n", file)
+        owed = (CLUSTER + "===\nboot b-1@x\n#   ok\n#   up b-1@x\n#   started web b-1@x normal\n"
+                "stop_all web\n#   ok\n#   stopped web b-1@x\n").encode()
+        yield "a story of steps at all nodes", difference(owed, read(story + ".e")) if read(story + ".e") != owed else None
         done = talk(program, f"save\nsave /nowhere/story\nsave {story}.c some\n", file)
         owed = BANNER + "save PATH, or save PATH all\n/nowhere/story: No such file or directory\nsave PATH, or save PATH all\n"
         yield "what can't be saved", fault_of(done, 0, owed.encode())
     sweep = os.path.join(TOP, "examples", "five-nodes-sweep.txt")
     done = talk(program, "crash core1@site\n", sweep)
-    owed = b"5 nodes, 3 applications, behind 5 commands of the script; help lists the commands\nok\nended core1@site\n"
+    owed = b"5 nodes, 3 applications, profile 1, behind 5 commands of the script; help lists the commands\nok\nended core1@site\n"
     yield "a file with plans", fault_of(done, 0, owed)
 
 
@@ -246,10 +276,14 @@ def keys(program):
         for name, pressed, *owed in [
                 ("the prompt", "", "0 ms> "),
                 ("a command", "bo\t", "boot "), ("a node", "b\t", "b-1@x "), ("a command is done", "\r", "up b-1@x\n", "0 ms> "),
-                ("another command", "sta\t", "start "), ("another node", "b\t", "b-1@x "), ("an application", "O\t", "Ops "),
+                ("what two commands begin with", "sta\t", "rt"), ("the shorter one", " b\t", "b-1@x "), ("an application", "O\t", "Ops "),
                 ("a restart type", "tr\t", "transient "), ("it starts", "\r", "started Ops b-1@x normal\n", "0 ms> "),
                 ("a node that is down", "boot \t", "boot a@x "),
                 ("it boots", "\r", "started web a@x takeover b-1@x\n", "0 ms> "),
+                ("what stops it everywhere", "stop_\t", "stop_all "), ("the only one that is distributed", "\t", "web "),
+                ("it stops", "\r", "stopped web a@x\n", "0 ms> "), ("what starts it everywhere", "start_\t", "start_all "),
+                ("the same one", "\t", "web "), ("with a type", "te\t", "temporary "),
+                ("it starts at both", "\r", "started web a@x normal\nwaits web b-1@x\n", "0 ms> "),
                 ("its application is lost", "crash a@x\r", "ended a@x\n", "0 ms> "),
                 ("the time to the next timer", "tick \t", "tick 700 "),
                 ("time passes", "\r", "started web b-1@x normal\n", "700 ms> "),
@@ -257,8 +291,8 @@ def keys(program):
                 ("the next line", "sh\t", "show "), ("the state", "\r", "now 700\n", "700 ms> "),
                 ("it is lost again", "crash b-1@x\r", "ended b-1@x\n", "700 ms> "),
                 ("the time from now on", "tick \t", "tick 700 "), ("a line is wiped out", "\x15", ""),
-                ("what two commands begin with", "un\t", "do"), ("a list of them", "\t\t", "undo_all"),
-                ("all of them", "_\t\r", "ok 6\n", "0 ms> ")]:
+                ("what two others begin with", "un\t", "do"), ("a list of them", "\t\t", "undo_all"),
+                ("all of them", "_\t\r", "ok 8\n", "0 ms> ")]:
             yield f"at a terminal: {name}", terminal.fault(pressed, *owed)
         yield "at a terminal: Ctrl-D", terminal.fault("\x04", "\n")
         status = terminal.status()
@@ -282,5 +316,5 @@ def faults(program):
 
 
 def group(program):
-    for tests in (conversations, like_a_run, stories, keys, faults):
+    for tests in (conversations, second_profile, like_a_run, stories, keys, faults):
         yield from tests(program)
