@@ -9,7 +9,7 @@ use Rattle.rh_terms.specs.Grammar.{terms_of, dotted, dot_at, inside, terms_up_to
 use Rattle.rh_model.specs.ClusterView.{ClusterView, numbered, app_numbered}
 use Rattle.rh_model.specs.declared.settings.Restart.TheVariants.{Permanent}
 use Rattle.rh_sections.specs.NameRule.{is_name}
-use Rattle.rh_sections.specs.Shapes.{as_atom, as_list, as_tuple, as_triple, as_headed}
+use Rattle.rh_sections.specs.Shapes.{as_entry, as_pair, as_profile, as_atom, as_list, as_tuple, as_triple, as_headed}
 use Rattle.rh_sections.specs.Faults.{list_faults}
 use Rattle.rh_sections.specs.Sections.{section_faults, parts_faults, parts_stage}
 use Rattle.rh_sections.specs.declared.fault.ClusterFault.TheVariants.{BadValue}
@@ -17,7 +17,8 @@ use Rattle.rh_cluster.specs.Headers.{node_names, app_names, new_name_faults, hea
 use Rattle.rh_cluster.specs.Values.{elements, value_if, elements_under, platform_in_term, with_name, with_first_name, with_platforms, platforms_in}
 use Rattle.rh_cluster.specs.Values.{permissions_in, platforms_of, node_view, shares_in}
 use Rattle.rh_cluster.specs.Agreement.{is_involved, first_involved, mismatches, boot_list_faults, agreement_stage}
-use Rattle.rh_cluster.specs.ClusterOf.{names_of, node_views, all_shares, app_views, faults_behind_headers, faults_in, cluster_view, cluster_of}
+use Rattle.rh_cluster.specs.ClusterOf.{names_of, node_views, all_shares, app_views, faults_behind_headers, faults_in, cluster_view, cluster_of_terms, cluster_of}
+use Rattle.rh_cluster.specs.Profile.{profile_of, behind_profile}
 use Rattle.rh_state.specs.Numbers.{nodes_of, apps_of}
 use Rattle.rh_state.specs.First.{configured}
 use Rattle.rh_place.specs.declared.choosing.Pick.TheVariants.{First}
@@ -67,7 +68,8 @@ refused_file_row : (run_text refused_file First ≡ codes "cluster refused C10 b
     × (check_text refused_file ≡ codes "cluster refused C10 bad_value\n") × (check_end refused_file ≡ Some (told.Cluster BadValue))
     × MayGive First refused_file (codes "cluster refused C10 bad_value\n") (Some (told.Cluster BadValue)) × (AskHistory refused_file → ⊥)
 unfolding run_text run_end sweep_text sweep_end check_text check_end MayGive AskHistory content fault_text is_utf8 chars encode terms_of dotted dot_at
-    inside terms_up_to some_terms next_at term_by word_at name_at past cluster_of faults_in headers_stage header_faults new_name_faults node_names app_names
+    inside terms_up_to some_terms next_at term_by word_at name_at past cluster_of cluster_of_terms profile_of behind_profile
+    as_profile as_pair as_entry faults_in headers_stage header_faults new_name_faults node_names app_names
     as_headed as_triple as_tuple as_atom is_name
 refused_file_row = (refl, refl, refl, refl, refl, refl, (refl, refl), λ asks. asks)
 
@@ -80,7 +82,8 @@ accepted_file_row : (run_text accepted_file First ≡ codes "ok\nup a\nbad line 
     × (check_text accepted_file ≡ codes "ok 1 nodes 0 applications\n") × (check_end accepted_file ≡ None)
     × MayGive First accepted_file (codes "bad line 1\n") (Some (told.BadLine 1))
 unfolding run_text run_end sweep_text sweep_end check_text check_end count_text MayGive content bad_text line_of sweep_line_of session_line_of answer_text
-    notice_line is_utf8 chars encode digits terms_of dotted dot_at inside terms_up_to some_terms next_at term_by word_at name_at past cluster_of faults_in
+    notice_line is_utf8 chars encode digits terms_of dotted dot_at inside terms_up_to some_terms next_at term_by word_at name_at past cluster_of cluster_of_terms profile_of behind_profile
+    as_profile as_pair as_entry faults_in
     headers_stage header_faults new_name_faults node_names app_names as_headed as_triple as_tuple as_atom as_list is_name faults_behind_headers names_of
     parts_stage parts_faults list_faults section_faults node_views all_shares node_view shares_in elements value_if elements_under permissions_in
     platforms_of platforms_in platform_in_term with_platforms with_first_name with_name agreement_stage mismatches is_involved first_involved
@@ -94,7 +97,8 @@ accepted_file_row = (refl, refl, refl, refl, refl, refl, (refl, refl))
 no_sweep_row : (sweep_text (codes "{node, a, []}.\n===\nboot a\nundo\nplan p\ncrash a\n") First ≡ codes "ok\nup a\nok\nsweep refused V2 base_not_at_end\n")
     × (sweep_end (codes "{node, a, []}.\n===\nboot a\nundo\nplan p\ncrash a\n") First ≡ Some (told.Sweep BaseNotAtEnd))
 unfolding sweep_text sweep_end content sweep_line_of sweep_fault_text answer_text notice_line is_utf8 chars encode terms_of dotted dot_at inside terms_up_to
-    some_terms next_at term_by word_at name_at past cluster_of faults_in headers_stage header_faults new_name_faults node_names app_names as_headed
+    some_terms next_at term_by word_at name_at past cluster_of cluster_of_terms profile_of behind_profile
+    as_profile as_pair as_entry faults_in headers_stage header_faults new_name_faults node_names app_names as_headed
     as_triple as_tuple as_atom as_list is_name faults_behind_headers names_of parts_stage parts_faults list_faults section_faults node_views all_shares
     node_view shares_in elements value_if elements_under permissions_in platforms_of platforms_in platform_in_term with_platforms with_first_name with_name
     agreement_stage mismatches is_involved first_involved boot_list_faults cluster_view app_views nodes_of apps_of configured moved_by all_moved all_alive
@@ -155,7 +159,8 @@ all_nodes_row = refl
 lone_session_row : MayGive First (codes "{node, a, []}.\n===\n1 boot a\n1 undo\n")
     (codes "entry 1 boot a\nok\nup a\nentry 1 undo\nok\nfinal\nnow 0\nnode a down 0\n") None
 unfolding MayGive content session_line_of entry_text command_words event_words answer_text notice_line digits is_utf8 chars encode terms_of dotted dot_at
-    inside terms_up_to some_terms next_at term_by word_at name_at past cluster_of faults_in headers_stage header_faults new_name_faults node_names app_names
+    inside terms_up_to some_terms next_at term_by word_at name_at past cluster_of cluster_of_terms profile_of behind_profile
+    as_profile as_pair as_entry faults_in headers_stage header_faults new_name_faults node_names app_names
     as_headed as_triple as_tuple as_atom as_list is_name faults_behind_headers names_of parts_stage parts_faults list_faults section_faults node_views
     all_shares node_view shares_in elements value_if elements_under permissions_in platforms_of platforms_in platform_in_term with_platforms with_first_name
     with_name agreement_stage mismatches is_involved first_involved boot_list_faults cluster_view app_views nodes_of apps_of configured moved_by all_moved
