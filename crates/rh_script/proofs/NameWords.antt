@@ -186,7 +186,7 @@ words_of_terms none c texts read = words_unless (profile_of []) none c (faults_i
 words_of_terms (more t us) c texts read = chosen (profile_of (list_of_trees (more t us))) (is_some (as_profile t)) read
   where
     chosen : (p : ℕ) (b : Bool) → unless (faults_in p (cond b (list_of_trees us) (list_of_trees (more t us))))
-            (cluster_view p (cond b (list_of_trees us) (list_of_trees (more t us)))) ≡ Ok c → HasNames c
+        (cluster_view p (cond b (list_of_trees us) (list_of_trees (more t us)))) ≡ Ok c → HasNames c
     chosen p true read = words_unless p us c (faults_in p (list_of_trees us)) refl texts.1 read
     chosen p false read = words_unless p (more t us) c (faults_in p (list_of_trees (more t us))) refl texts read
 
