@@ -1,20 +1,17 @@
 -- A row that is written over, cell by cell, from its start.
-use Rattle.std.proofs.Common.{◌≡◌, ◌<◌, ◌+◌, ℕ, zero, suc, Bool, true, false, not, refl, sym, ap, ◌∙◌, arith}
-use Rattle.std.proofs.Common.{List, [], ◌∷◌, ◌++◌, length, map, All, slice_set, set}
+use Rattle.std.proofs.Common.{◌≡◌, ◌<◌, ◌+◌, ℕ, zero, suc, Bool, refl, sym, ap, ◌∙◌, arith}
+use Rattle.std.proofs.Common.{List, [], ◌∷◌, ◌++◌, length, map, All, slice_set}
 use Rattle.std.specs.List.{range_with_len}
-use Rattle.std.proofs.Math.Bool.{beq}
-use Rattle.std.proofs.lemmas.List.{length-map, set-get_or}
+use Rattle.std.proofs.lemmas.List.{length-map}
 use Rattle.std.proofs.lemmas.List.FromFn.{length-range_with_len}
-use Rattle.std.proofs.lemmas.Option.{unwrap_or-slice_get}
 use Rattle.rh_model.specs.ClusterView.{ClusterView, app_count, app_numbered, is_permitted}
 use Rattle.rh_model.specs.declared.node.Node.{Node}
-use Rattle.rh_model.specs.declared.node.App.{App}
 use Rattle.rh_state.specs.First.{configured}
 use Rattle.rh_state.specs.Numbers.{apps_of}
 use Rattle.rh_state.specs.Shape.{IsShaped, IsNodeOf}
-use Rattle.rh_state.specs.StateView.{StateView, is_allowed}
+use Rattle.rh_state.specs.StateView.{StateView}
 use Rattle.rh_state.specs.Setters.{with_allowed}
-use Rattle.rh_state.specs.Tables.{row, cell, with_cell}
+use Rattle.rh_state.specs.Tables.{row, with_cell}
 use Rattle.rh_state.proofs.FirstStates.{map_numbered_more}
 use Rattle.rh_events.specs.Ending.{with_configured}
 use Rattle.rh_events.proofs.Emptying.{set_same}
@@ -43,24 +40,6 @@ pub cell_of_set : {A : Type 0} (table : List (List A)) (n : ℕ) (xs : List A) (
 cell_of_set [] n xs i v = refl
 cell_of_set (ys ∷ table) zero xs i v = refl
 cell_of_set (ys ∷ table) (suc n) xs i v = ap (λ zs. ys ∷ zs) (cell_of_set table n xs i v)
-
--- a cell that is given the value it has
-same_cell : {A : Type 0} (table : List (List A)) (n i : ℕ) (d : A) → with_cell table n i (cell table n i d) ≡ table
-same_cell table n i d =
-    let r = row table n in
-    ap (set table n) (ap (set r i) (unwrap_or-slice_get r i d) ∙ set-get_or r i d ∙ unwrap_or-slice_get table n []) ∙ set-get_or table n []
-
-pub same_allowed : (s : StateView) (n : Node) (a : App) (v : Bool) → is_allowed s n a ≡ v → s ≡ with_allowed s n a v
-same_allowed s n a v e =
-    ap (λ (table : List (List Bool)). record s { allowed = table })
-    (sym (same_cell s.allowed n.0 a.0 false) ∙ ap (with_cell s.allowed n.0 a.0) e)
-
--- two answers that are tested equal
-pub same_answer : (b d : Bool) → not (beq b d) ≡ false → b ≡ d
-same_answer true true h = refl
-same_answer true false h = h
-same_answer false true h = sym h
-same_answer false false h = refl
 
 row_has : {A : Type 0} (P : List A → Type 0) (table : List (List A)) (n : ℕ) → All P table → n < length table → P (row table n)
 row_has P [] n all h = absurd (omega arith)

@@ -49,5 +49,6 @@ lost_if_ran n s a = lost_from s n a (standing_of s a)
 unfoldable pub all_lost : StateView → Node → StateView
 all_lost s n = fold (lost_if_ran n) s (apps_of s.cluster)
 
+-- a node ends: it is down and cleared, what ran there is lost or wanted, and its end is told (Distributed Applications, Failover)
 unfoldable pub ended : Course → Node → Course
 ended o n = told (now_in o (all_lost (cleared o.state n) n)) (notice.Ended n)

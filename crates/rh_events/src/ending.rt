@@ -49,8 +49,7 @@ fn empty(state: &mut State, node: Node, trace: &mut Trace) -> Result<(), OutOfMe
     Ok(())
 }
 
-// An application may run at a node as configured. What is so already isn't set again.
-#[tactic(auto, using(rh_settle::proofs::Ways::goes_none))]
+// An application may run at a node as configured.
 fn configure_app(
     state: &mut State,
     node: Node,
@@ -66,10 +65,7 @@ fn configure_app(
     ensures way { Goes state.old trace.old state.new trace.new }
 {
     let allow = state.cluster().permitted(node, app);
-    if state.allowed(node, app) != allow {
-        recording::set_allowed(state, node, app, allow, trace)?;
-    }
-    Ok(())
+    recording::set_allowed(state, node, app, allow, trace)
 }
 
 // What may run at a node is as configured again (kernel(6), `permissions`).

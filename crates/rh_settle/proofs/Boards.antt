@@ -1,6 +1,6 @@
 -- What a board says of the next moves, and what a move leaves of it.
 use Rattle.std.proofs.Common.{◌≡◌, ◌≢◌, ℕ, ◌<◌, ◌≤◌, zero, suc, Bool, true, false, cond, ◌&&◌, ◌||◌, List, [], ◌∷◌, is_some, refl, sym, ap, ◌∙◌}
-use Rattle.std.proofs.Common.{length, get_or, unwrap_or, slice_get, slice_set, arith, nat_lt, subst, map, All}
+use Rattle.std.proofs.Common.{length, get_or, unwrap_or, slice_get, slice_set, arith, nat_lt, subst, map, filter_map, All}
 use Rattle.std.specs.List.{list_all}
 use Rattle.std.proofs.lemmas.List.Elements.{All-cons, All-nil}
 use Rattle.std.proofs.lemmas.Option.{slice_get_past}
@@ -8,11 +8,12 @@ use Rattle.rh_model.specs.declared.node.Node.{Node}
 use Rattle.rh_model.specs.declared.node.App.{App}
 use Rattle.rh_model.specs.declared.settings.Dep.{Dep}
 use Rattle.rh_model.specs.declared.settings.Dep.TheVariants.{Listed, Platform}
-use Rattle.rh_model.specs.ClusterView.{ClusterView, node_count, numbered, deps_of, group_of}
+use Rattle.rh_model.specs.ClusterView.{ClusterView, node_count, numbered, app_numbered, deps_of, group_of, is_platform}
+use Rattle.rh_model.specs.Needs.{listed, needed_apps}
 use Rattle.rh_state.specs.declared.status.Kind.{Kind}
 use Rattle.rh_state.specs.declared.status.Standing.{Standing}
 use Rattle.rh_state.specs.declared.status.Standing.TheVariants.{Quiet, Wanted, Running, Lost}
-use Rattle.rh_state.specs.Numbers.{nodes_of, same_node}
+use Rattle.rh_state.specs.Numbers.{nodes_of, same_node, same_app}
 use Rattle.rh_state.specs.Tables.{row}
 use Rattle.rh_state.specs.Lists.{has_app, without_app}
 use Rattle.rh_state.specs.Shape.{IsShaped, IsNodeOf, IsAppOf}
@@ -27,12 +28,13 @@ use Rattle.rh_place.proofs.Nowhere.{none_chosen}
 use Rattle.rh_settle.specs.declared.notice.Move.{Move}
 use Rattle.rh_settle.specs.declared.notice.Move.TheVariants.{Local, Placement, Takeover}
 use Rattle.rh_settle.specs.declared.notice.Pair.{Pair}
-use Rattle.rh_settle.specs.Boards.{AppSets, BoardView, is_among, is_wanted, matters, nodes_changed, IsExactAt, IsBoardOf}
+use Rattle.rh_settle.specs.Boards.{AppSets, BoardView, is_among, is_wanted, is_touched, matters, nodes_changed, IsExactAt, IsBoardOf}
 use Rattle.rh_settle.specs.Course.{is_fresh}
 use Rattle.rh_settle.specs.Moves.{is_local, can_start, local_move, local_moves, comes_before, calls_away, takeovers, takeovers_from, moved_state, CanBeMade}
-use Rattle.rh_settle.proofs.Entries.{taken, put, is_below, is_above, both, same_number, other_number}
+use Rattle.rh_settle.proofs.Entries.{taken, put, has as entry, taken_apart, put_apart, is_below, is_above, is_false, both, same_number, other_number}
 use Rattle.rh_settle.proofs.NextMoves.{operational_within}
-use Rattle.rh_settle.proofs.Places.{at_set, at_set_there, or_right}
+use Rattle.rh_settle.proofs.Points.{not_before}
+use Rattle.rh_settle.proofs.Places.{at_set, at_set_there, same_refl, or_left, or_right}
 use Rattle.rh_settle.proofs.Unchanged.{cluster_same}
 use Rattle.rh_settle.proofs.Searches.{length_nodes, node_there}
 
@@ -83,52 +85,73 @@ local_within s n shape h = cases (nat_lt n.0 (node_count s.cluster))
     (λ f. both (is_some (head (local_moves s n))) h
     (ap (λ xs. is_some (head xs)) (local_beyond s n shape (is_above n.0 (node_count s.cluster) f))))
 
--- ---- what another node's lists don't touch
+-- ---- what other lists don't touch
 -- a state with other lists, start kinds and standings
-abbrev listed : StateView → List (List App) → List (List App) → List (List Kind) → List Standing → StateView
-listed s r w ks st = record s { running = r; waiting = w; kinds = ks; standings = st }
+abbrev relisted : StateView → List (List App) → List (List App) → List (List Kind) → List Standing → StateView
+relisted s r w ks st = record s { running = r; waiting = w; kinds = ks; standings = st }
 
+-- where it matters now, it mattered before
+mattered : (p q f : Bool) → (p ≡ true → q ≡ true) → p || f ≡ true → q || f ≡ true
+mattered true true f h e = refl
+mattered true false f h e = both false (h refl) refl
+mattered false true f h e = refl
+mattered false false f h e = e
+
+-- where an application stands as before, and all that it needs runs as before, it can run as before
+module _ (s : StateView) (r w : List (List App)) (ks : List (List Kind)) (st : List Standing) (n : Node) where
+  abbrev Runs : App → Type 0
+  Runs a = entry r n.0 a ≡ entry s.running n.0 a
+
+  deps_kept : (deps : List Dep) → ((b : App) → has_app (filter_map listed deps) b ≡ true → Runs b)
+      → list_all (dep_runs (relisted s r w ks st) n) deps ≡ list_all (dep_runs s n) deps
+  deps_kept [] h = refl
+  deps_kept (Listed b ∷ deps) h = λ i. h b (or_left (same_app b b) _ (same_refl b.0)) i && deps_kept deps (λ c k. h c (or_right (same_app c b) _ k)) i
+  deps_kept (Platform p ∷ deps) h = ap (λ rest. is_platform s.cluster n p && rest) (deps_kept deps h)
+
+  operational_kept : (a : App) → Runs a → entry w n.0 a ≡ entry s.waiting n.0 a → ((b : App) → has_app (needed_apps s.cluster a) b ≡ true → Runs b)
+      → is_operational (relisted s r w ks st) a n ≡ is_operational s a n
+  unfolding is_operational deps_run needed_apps
+  operational_kept a runs waits needs =
+      λ i. is_up (mode_of s n) && ((runs i || waits i) && (is_allowed s n a && deps_kept (deps_of s.cluster a) needs i))
+
+-- a node with the same lists
 module _ (s : StateView) (r w : List (List App)) (ks : List (List Kind)) (st : List Standing) (n : Node)
     (running : row r n.0 ≡ row s.running n.0) (waiting : row w n.0 ≡ row s.waiting n.0) where
-  dep_same : (d : Dep) → dep_runs (listed s r w ks st) n d ≡ dep_runs s n d
-  dep_same (Listed b) = ap (λ xs. has_app xs b) running
-  dep_same (Platform p) = refl
+  all_run : (b : App) → Runs s r w ks st n b
+  all_run b = ap (λ xs. has_app xs b) running
 
-  deps_same : (a : App) → deps_run (listed s r w ks st) n a ≡ deps_run s n a
+  deps_same : (a : App) → deps_run (relisted s r w ks st) n a ≡ deps_run s n a
   unfolding deps_run
-  deps_same a = λ i. list_all (λ d. dep_same d i) (deps_of s.cluster a)
+  deps_same a = deps_kept s r w ks st n (deps_of s.cluster a) (λ b h. all_run b)
 
-  operational_same : (a : App) → is_operational (listed s r w ks st) a n ≡ is_operational s a n
-  unfolding is_operational
-  operational_same a = λ i. is_up (mode_of s n) && ((has_app (running i) a || has_app (waiting i) a) && (is_allowed s n a && deps_same a i))
+  operational_same : (a : App) → is_operational (relisted s r w ks st) a n ≡ is_operational s a n
+  operational_same a = operational_kept s r w ks st n a (all_run a) (ap (λ xs. has_app xs a) waiting) (λ b h. all_run b)
 
-  locals_same : local_moves (listed s r w ks st) n ≡ local_moves s n
+  locals_same : local_moves (relisted s r w ks st) n ≡ local_moves s n
   unfolding local_moves can_start
   locals_same = λ i. first_given (λ a. cond (is_local s.cluster a && (is_allowed s n a && deps_same a i)) (Local n a ∷ []) []) (waiting i)
 
-  exact_same : (b : BoardView) → ((a : App) → is_wanted (standing_of (listed s r w ks st) a) ≡ true → is_wanted (standing_of s a) ≡ true)
-      → IsExactAt s b n → IsExactAt (listed s r w ks st) b n
+  exact_same : (b : BoardView) → ((a : App) → is_wanted (standing_of (relisted s r w ks st) a) ≡ true → is_wanted (standing_of s a) ≡ true)
+      → IsExactAt s b n → IsExactAt (relisted s r w ks st) b n
   exact_same b wanted h = record {
     locals = h.locals ∙ ap (λ xs. is_some (head xs)) (sym locals_same);
-    able = λ a of m. h.able a of (more (is_wanted (standing_of (listed s r w ks st) a)) (is_wanted (standing_of s a)) (is_among b.fresh a n) (wanted a) m)
+    able = λ a of m. h.able a of (mattered (is_wanted (standing_of (relisted s r w ks st) a)) (is_wanted (standing_of s a)) (is_among b.fresh a n) (wanted a) m)
         ∙ sym (operational_same a);
   }
-    where
-      more : (p q f : Bool) → (p ≡ true → q ≡ true) → p || f ≡ true → q || f ≡ true
-      more true true f h e = refl
-      more true false f h e = both false (h refl) refl
-      more false true f h e = refl
-      more false false f h e = e
 
 -- ---- a move
-taken_apart : (table : List (List App)) (n k : ℕ) (a : App) → k ≢ n → row (taken table n a) k ≡ row table k
-taken_apart table n k a other = at_set_there table n k (without_app (row table n) a) [] other
+taken_there : (table : List (List App)) (n k : ℕ) (a : App) → k ≢ n → row (taken table n a) k ≡ row table k
+taken_there table n k a other = at_set_there table n k (without_app (row table n) a) [] other
 
-put_apart : (table : List (List App)) (n k : ℕ) (a : App) → k ≢ n → row (put table n a) k ≡ row table k
-put_apart table n k a other = at_set_there table n k _ [] other
+put_there : (table : List (List App)) (n k : ℕ) (a : App) → k ≢ n → row (put table n a) k ≡ row table k
+put_there table n k a other = at_set_there table n k _ [] other
 
 put_taken : (table : List (List App)) (n k : ℕ) (a : App) → k ≢ n → row (put (taken table n a) n a) k ≡ row table k
-put_taken table n k a other = put_apart (taken table n a) n k a other ∙ taken_apart table n k a other
+put_taken table n k a other = put_there (taken table n a) n k a other ∙ taken_there table n k a other
+
+-- and what other applications have of a list
+put_taken_apart : (table : List (List App)) (n k : ℕ) (a b : App) → same_app b a ≡ false → entry (put (taken table n a) n a) k b ≡ entry table k b
+put_taken_apart table n k a b d = put_apart (taken table n a) n k a b d ∙ taken_apart table n k a b d
 
 -- an application that is to run stood so before
 still_wanted : (s : StateView) (a : App) (n : Node) (b : App) → is_wanted (unwrap_or (slice_get (slice_set s.standings a.0 (Running n)) b.0) Quiet) ≡ true
@@ -143,36 +166,110 @@ Apart (Local n a) k = k.0 ≢ n.0
 Apart (Placement a from n) k = k.0 ≢ n.0
 Apart (Takeover a m n) k = (k.0 ≢ n.0) × (k.0 ≢ m.0)
 
-pub exact_moved : (s : StateView) (m : Move) (b : BoardView) (k : Node) → Apart m k → IsExactAt s b k → IsExactAt (moved_state s m) b k
+exact_moved : (s : StateView) (m : Move) (b : BoardView) (k : Node) → Apart m k → IsExactAt s b k → IsExactAt (moved_state s m) b k
 exact_moved s (Local n a) b k other h =
-    exact_same s _ _ _ _ k (put_taken s.running n.0 k.0 a other) (taken_apart s.waiting n.0 k.0 a other) b (λ c w. w) h
+    exact_same s _ _ _ _ k (put_taken s.running n.0 k.0 a other) (taken_there s.waiting n.0 k.0 a other) b (λ c w. w) h
 exact_moved s (Placement a from n) b k other h =
-    exact_same s _ _ _ _ k (put_taken s.running n.0 k.0 a other) (taken_apart s.waiting n.0 k.0 a other) b (λ c w. still_wanted s a n c w) h
+    exact_same s _ _ _ _ k (put_taken s.running n.0 k.0 a other) (taken_there s.waiting n.0 k.0 a other) b (λ c w. still_wanted s a n c w) h
 exact_moved s (Takeover a m n) b k other h =
     exact_same s _ _ _ _ k
-    (taken_apart (put (taken s.running n.0 a) n.0 a) m.0 k.0 a other.1 ∙ put_taken s.running n.0 k.0 a other.0)
-    (put_taken (taken s.waiting n.0 a) m.0 k.0 a other.1 ∙ taken_apart s.waiting n.0 k.0 a other.0)
+    (taken_there (put (taken s.running n.0 a) n.0 a) m.0 k.0 a other.1 ∙ put_taken s.running n.0 k.0 a other.0)
+    (put_taken (taken s.waiting n.0 a) m.0 k.0 a other.1 ∙ taken_there s.waiting n.0 k.0 a other.0)
     b (λ c w. still_wanted s a n c w) h
 
--- ---- a look at a node
--- what a look at a node leaves, and what it finds
-pub record Looked (t : StateView) (b c : BoardView) (n : Node) : Type 0 where
-  pub fresh : c.fresh ≡ b.fresh
-  pub here : IsExactAt t c n
-  pub locals : (k : Node) → same_node k n ≡ false → has c.locals k ≡ has b.locals k
-  pub able : (k : Node) → same_node k n ≡ false → (a : App) → is_among c.able a k ≡ is_among b.able a k
+-- the application that a move moves
+abbrev pub mover : Move → App
+mover (Local n a) = a
+mover (Placement a from n) = a
+mover (Takeover a m n) = a
 
-pub looked_at : (t : StateView) (b c : BoardView) (n k : Node) → Looked t b c n → (k.0 ≢ n.0 → IsExactAt t b k) → IsExactAt t c k
-looked_at t b c n k look apart = cases (same_node k n)
-    (λ y. subst (λ (i : ℕ). IsExactAt t c (numbered i)) (sym (same_number k.0 n.0 y)) look.here)
-    (λ f. let h = apart (other_number k.0 n.0 f) in record {
-      locals = look.locals k f ∙ h.locals;
-      able = λ a of m. look.able k f a ∙ h.able a of (sym (ap (λ (fresh : AppSets). matters t fresh a k) look.fresh) ∙ m);
-    })
+-- one that it doesn't touch is another, and so is each that this one needs
+untouched : (c : ClusterView) (x a : App) → is_touched c x a ≡ false
+    → (same_app a x ≡ false) × ((b : App) → has_app (needed_apps c a) b ≡ true → same_app b x ≡ false)
+unfolding is_touched
+untouched c x a h =
+    let none = neither (same_app a x) (has_app (needed_apps c a) x) h in (
+      none.0,
+      λ b needed. is_false (same_app b x)
+          (λ e. both (has_app (needed_apps c a) x) (sym (ap (λ (i : ℕ). has_app (needed_apps c a) (app_numbered i)) (same_number b.0 x.0 e)) ∙ needed) none.1),
+    )
+  where
+    neither : (p q : Bool) → p || q ≡ false → (p ≡ false) × (q ≡ false)
+    neither true q h = both true refl h
+    neither false q h = (refl, h)
+
+-- where that one can run stays, at the nodes that the move changes too
+operational_moved : (s : StateView) (m : Move) (a : App) (k : Node) → is_touched s.cluster (mover m) a ≡ false
+    → is_operational (moved_state s m) a k ≡ is_operational s a k
+operational_moved s (Local n x) a k h =
+    let u = untouched s.cluster x a h in
+    operational_kept s _ _ _ _ k a (put_taken_apart s.running n.0 k.0 x a u.0) (taken_apart s.waiting n.0 k.0 x a u.0)
+    (λ b needed. put_taken_apart s.running n.0 k.0 x b (u.1 b needed))
+operational_moved s (Placement x from n) a k h =
+    let u = untouched s.cluster x a h in
+    operational_kept s _ _ _ _ k a (put_taken_apart s.running n.0 k.0 x a u.0) (taken_apart s.waiting n.0 k.0 x a u.0)
+    (λ b needed. put_taken_apart s.running n.0 k.0 x b (u.1 b needed))
+operational_moved s (Takeover x m n) a k h =
+    let u = untouched s.cluster x a h in
+    operational_kept s _ _ _ _ k a (runs a u.0) (waits a u.0) (λ b needed. runs b (u.1 b needed))
+  where
+    runs : (b : App) → same_app b x ≡ false → entry (taken (put (taken s.running n.0 x) n.0 x) m.0 x) k.0 b ≡ entry s.running k.0 b
+    runs b d = taken_apart (put (taken s.running n.0 x) n.0 x) m.0 k.0 x b d ∙ put_taken_apart s.running n.0 k.0 x b d
+
+    waits : (b : App) → same_app b x ≡ false → entry (put (taken (taken s.waiting n.0 x) m.0 x) m.0 x) k.0 b ≡ entry s.waiting k.0 b
+    waits b d = put_taken_apart (taken s.waiting n.0 x) m.0 k.0 x b d ∙ taken_apart s.waiting n.0 k.0 x b d
+
+-- so the board stays exact for it
+abbrev IsKeptAt : StateView → App → BoardView → Node → Type 0
+IsKeptAt t x b k = (a : App) → IsAppOf t.cluster a → is_touched t.cluster x a ≡ false → matters t b.fresh a k ≡ true → is_among b.able a k ≡ is_operational t a k
+
+kept_moved : (s : StateView) (m : Move) (b : BoardView) (k : Node) → IsExactAt s b k → IsKeptAt (moved_state s m) (mover m) b k
+kept_moved s (Local n x) b k h = λ a of u m. h.able a of m ∙ sym (operational_moved s (Local n x) a k u)
+kept_moved s (Placement x from n) b k h = λ a of u m.
+    h.able a of (mattered _ (is_wanted (standing_of s a)) (is_among b.fresh a k) (still_wanted s x n a) m) ∙ sym (operational_moved s (Placement x from n) a k u)
+kept_moved s (Takeover x l n) b k h = λ a of u m.
+    h.able a of (mattered _ (is_wanted (standing_of s a)) (is_among b.fresh a k) (still_wanted s x n a) m) ∙ sym (operational_moved s (Takeover x l n) a k u)
+
+-- ---- a look at a node
+-- what a look at a node behind a move of an application leaves, and what it finds
+pub record Looked (t : StateView) (x : App) (b c : BoardView) (n : Node) : Type 0 where
+  pub fresh : c.fresh ≡ b.fresh
+  pub local : has c.locals n ≡ is_some (head (local_moves t n))
+  pub locals : (k : Node) → same_node k n ≡ false → has c.locals k ≡ has b.locals k
+  pub here : (a : App) → IsAppOf t.cluster a → is_touched t.cluster x a ≡ true → matters t c.fresh a n ≡ true → is_among c.able a n ≡ is_operational t a n
+  pub able : (a : App) (k : Node) → is_touched t.cluster x a && same_node k n ≡ false → is_among c.able a k ≡ is_among b.able a k
+
+module _ (t : StateView) (x : App) (b c : BoardView) (n k : Node) (look : Looked t x b c n) where
+  mattered_too : (a : App) → matters t c.fresh a k ≡ true → matters t b.fresh a k ≡ true
+  mattered_too a m = sym (ap (λ (fresh : AppSets). matters t fresh a k) look.fresh) ∙ m
+
+  look_kept : IsKeptAt t x b k → IsKeptAt t x c k
+  look_kept kept a of u m = look.able a k (ap (λ p. p && same_node k n) u) ∙ kept a of u (mattered_too a m)
+
+  looked_at : IsKeptAt t x b k → (k.0 ≢ n.0 → IsExactAt t b k) → IsExactAt t c k
+  looked_at kept apart = cases (same_node k n)
+      (λ y. subst (λ (i : ℕ). IsKeptAt t x c (numbered i) → IsExactAt t c (numbered i)) (sym (same_number k.0 n.0 y)) here (look_kept kept))
+      (λ f. let h = apart (other_number k.0 n.0 f) in record {
+        locals = look.locals k f ∙ h.locals;
+        able = λ a of m. look.able a k (ap (λ p. is_touched t.cluster x a && p) f ∙ and_false (is_touched t.cluster x a)) ∙ h.able a of (mattered_too a m);
+      })
+    where
+      here : IsKeptAt t x c n → IsExactAt t c n
+      here kept = record {
+        locals = look.local;
+        able = λ a of m. cases (is_touched t.cluster x a) (λ y. look.here a of y m) (λ u. kept a of u m);
+      }
+
+      and_false : (p : Bool) → p && false ≡ false
+      and_false true = refl
+      and_false false = refl
 
 module _ (s t : StateView) (m : Move) (pairs : List Pair) (is : t ≡ moved_state s m) where
   still_at : (b : BoardView) (k : Node) → Apart m k → IsExactAt s b k → IsExactAt t b k
   still_at b k apart h = subst (λ (u : StateView). IsExactAt u b k) (sym is) (exact_moved s m b k apart h)
+
+  kept_at : (b : BoardView) (k : Node) → IsExactAt s b k → IsKeptAt t (mover m) b k
+  kept_at b k h = subst (λ (u : StateView). IsKeptAt u (mover m) b k) (sym is) (kept_moved s m b k h)
 
   same_cluster : t.cluster ≡ s.cluster
   same_cluster = ap (λ (u : StateView). u.cluster) is ∙ cluster_same s m
@@ -183,17 +280,20 @@ module _ (s t : StateView) (m : Move) (pairs : List Pair) (is : t ≡ moved_stat
       ap (λ (f : AppSets). is_among f a n) fresh
       ∙ h.fresh a n (subst (λ (v : ClusterView). IsAppOf v a) same_cluster of_a) (subst (λ (v : ClusterView). IsNodeOf v n) same_cluster of_n)
 
-  pub followed : (b c : BoardView) (n : Node) → ((k : Node) → k.0 ≢ n.0 → Apart m k) → Looked t b c n → IsBoardOf s pairs b → IsBoardOf t pairs c
+  pub followed : (b c : BoardView) (n : Node) → ((k : Node) → k.0 ≢ n.0 → Apart m k) → Looked t (mover m) b c n → IsBoardOf s pairs b → IsBoardOf t pairs c
   followed b c n apart look h = record {
     fresh = still_fresh b c look.fresh h;
-    exact = λ k. looked_at t b c n k look (λ d. still_at b k (apart k d) (h.exact k));
+    exact = λ k. looked_at t (mover m) b c n k look (kept_at b k (h.exact k)) (λ d. still_at b k (apart k d) (h.exact k));
   }
 
-  pub followed_twice : (b c d : BoardView) (n l : Node) → ((k : Node) → k.0 ≢ n.0 → k.0 ≢ l.0 → Apart m k) → Looked t b c n → Looked t c d l
+  pub followed_twice : (b c d : BoardView) (n l : Node) → ((k : Node) → k.0 ≢ n.0 → k.0 ≢ l.0 → Apart m k) → Looked t (mover m) b c n → Looked t (mover m) c d l
       → IsBoardOf s pairs b → IsBoardOf t pairs d
   followed_twice b c d n l apart look again h = record {
     fresh = still_fresh b d (again.fresh ∙ look.fresh) h;
-    exact = λ k. looked_at t c d l k again (λ e. looked_at t b c n k look (λ f. still_at b k (apart k f e) (h.exact k)));
+    exact = λ k.
+        let kept = kept_at b k (h.exact k) in
+        looked_at t (mover m) c d l k again (look_kept t (mover m) b c n k look kept)
+        (λ e. looked_at t (mover m) b c n k look kept (λ f. still_at b k (apart k f e) (h.exact k)));
   }
 
 -- the nodes whose lists a move changes are the cluster's
@@ -227,24 +327,36 @@ none_beyond s pairs a m n shape past = cases (is_operational s a n)
     and_false true false = refl
     and_false false q = refl
 
+-- nor does the node at which it runs: where no other node can and has a fresh pair, none calls an application away
+pub none_calls : (s : StateView) (pairs : List Pair) (a : App) (m : Node) → IsShaped s
+    → ((n : Node) → n.0 ≢ m.0 → IsNodeOf s.cluster n → (is_fresh pairs n a && is_operational s a n) ≡ false) → (n : Node) → calls_away s pairs a m n ≡ false
+unfolding calls_away
+none_calls s pairs a m shape none n = cases (nat_lt n.0 (node_count s.cluster))
+    (λ t. cases (same_node n m)
+    (λ y. ap (λ (i : ℕ). calls_away s pairs a m (numbered i)) (same_number n.0 m.0 y)
+    ∙ ap (λ b. b && (is_fresh pairs m a && is_operational s a m)) (not_before (group_of s.cluster a m)))
+    (λ d. ap (λ b. comes_before (group_of s.cluster a n) (group_of s.cluster a m) && b)
+    (none n (other_number n.0 m.0 d) (is_below n.0 (node_count s.cluster) t)) ∙ and_no _))
+    (λ f. none_beyond s pairs a m n shape (is_above n.0 (node_count s.cluster) f))
+  where
+    and_no : (p : Bool) → p && false ≡ false
+    and_no true = refl
+    and_no false = refl
+
+-- and then it isn't taken over
+pub not_taken : (s : StateView) (pairs : List Pair) (a : App) (m : Node) → ((n : Node) → calls_away s pairs a m n ≡ false)
+    → takeovers_from s pairs a (Running m) ≡ []
+not_taken s pairs a m none = ap (map (Takeover a m)) ((picked_none First (best s a (calls_away s pairs a m))).0
+    ((none_chosen s a First (calls_away s pairs a m)).1 (λ n t. both (calls_away s pairs a m n) t (none n))))
+
 -- where no node can and has a fresh pair, nothing is taken over
 pub no_callers : (s : StateView) (pairs : List Pair) (a : App) → IsShaped s
     → ((n : Node) → IsNodeOf s.cluster n → (is_fresh pairs n a && is_operational s a n) ≡ false) → takeovers s pairs a ≡ []
-unfolding takeovers calls_away
+unfolding takeovers
 no_callers s pairs a shape none = by (standing_of s a)
   where
-    silent : (m n : Node) → calls_away s pairs a m n ≡ false
-    silent m n = cases (nat_lt n.0 (node_count s.cluster))
-        (λ t. ap (λ b. comes_before (group_of s.cluster a n) (group_of s.cluster a m) && b) (none n (is_below n.0 (node_count s.cluster) t)) ∙ and_no _)
-        (λ f. none_beyond s pairs a m n shape (is_above n.0 (node_count s.cluster) f))
-      where
-        and_no : (p : Bool) → p && false ≡ false
-        and_no true = refl
-        and_no false = refl
-
     by : (st : Standing) → takeovers_from s pairs a st ≡ []
     by Quiet = refl
     by (Wanted _) = refl
     by (Lost _) = refl
-    by (Running m) = ap (map (Takeover a m)) ((picked_none First (best s a (calls_away s pairs a m))).0
-        ((none_chosen s a First (calls_away s pairs a m)).1 (λ n t. both (calls_away s pairs a m n) t (silent m n))))
+    by (Running m) = not_taken s pairs a m (none_calls s pairs a m shape (λ n d of_n. none n of_n))

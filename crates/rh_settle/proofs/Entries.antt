@@ -1,6 +1,7 @@
 -- A table of lists of applications, in which one list loses an application or gains one at its end.
 use Rattle.std.proofs.Common.{◌≡◌, ◌≢◌, ◌<◌, ℕ, zero, suc, Bool, true, false, List, [], ◌∷◌, ◌++◌, ◌||◌, length, refl, sym, ap, ◌∙◌, arith, nat_eq, slice_set}
 use Rattle.std.proofs.Common.{AllPairs, subst, not, ◌≤◌, nat_lt}
+use Rattle.std.specs.Cmp.{both_ways}
 use Rattle.std.proofs.lemmas.Bool.Decides.{nat_tests}
 use Rattle.std.proofs.lemmas.List.{length-set}
 use Rattle.std.proofs.lemmas.List.Kept.{AllPairs-filter}
@@ -17,6 +18,9 @@ same_number i j t = grind (arith, nat_tests)
 
 pub other_number : (i j : ℕ) → nat_eq i j ≡ false → i ≢ j
 other_number i j f e = grind (arith, nat_tests)
+
+pub not_same : (i j : ℕ) → i ≢ j → nat_eq i j ≡ false
+not_same i j other = grind (arith, nat_tests)
 
 pub is_below : (i j : ℕ) → nat_lt i j ≡ true → i < j
 is_below i j t = grind (arith, nat_tests)
@@ -99,6 +103,13 @@ row_there (xs ∷ table) (suc n) a h = let l = row_there table n a h in omega ar
 
 pub put_other : (table : List (List App)) (n m : ℕ) (a b : App) → same_app b a ≡ false → has (put table n a) m b ≡ true → has table m b ≡ true
 put_other table n m a b d h = put_has table n m a b h (λ before. before) (λ e t. both (same_app b a) t d)
+
+-- another application stands where it stood
+pub taken_apart : (table : List (List App)) (n m : ℕ) (a b : App) → same_app b a ≡ false → has (taken table n a) m b ≡ has table m b
+taken_apart table n m a b d = both_ways (has (taken table n a) m b) (has table m b) (taken_has table n m a b) (taken_keeps table n m a b d)
+
+pub put_apart : (table : List (List App)) (n m : ℕ) (a b : App) → same_app b a ≡ false → has (put table n a) m b ≡ has table m b
+put_apart table n m a b d = both_ways (has (put table n a) m b) (has table m b) (put_other table n m a b d) (put_keeps table n m a b)
 
 pub length_taken : (table : List (List App)) (n : ℕ) (a : App) → length (taken table n a) ≡ length table
 length_taken table n a = length-set table n (without_app (row table n) a)

@@ -1,5 +1,6 @@
 pub mod Every
 pub mod Ways
+mod Same
 pub mod Firsts
 pub mod Sums
 pub mod Searches
@@ -25,6 +26,7 @@ pub mod NextFirsts
 pub mod FieldLaws
 pub mod SetTables
 pub mod Boards
+pub mod Members
 mod Rows
 mod RowsReady
 mod RowsOrder

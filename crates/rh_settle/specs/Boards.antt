@@ -2,8 +2,12 @@
 use Rattle.std.specs.Prelude.{◌≡◌, ◌||◌, List, [], ◌∷◌, Bool, true, false, slice_get, unwrap_or, is_some}
 use Rattle.rh_model.specs.declared.node.Node.{Node}
 use Rattle.rh_model.specs.declared.node.App.{App}
+use Rattle.rh_model.specs.ClusterView.{ClusterView}
+use Rattle.rh_model.specs.Needs.{needed_apps}
 use Rattle.rh_state.specs.declared.status.Standing.{Standing}
 use Rattle.rh_state.specs.declared.status.Standing.TheVariants.{Wanted}
+use Rattle.rh_state.specs.Lists.{has_app}
+use Rattle.rh_state.specs.Numbers.{same_app}
 use Rattle.rh_state.specs.Shape.{IsNodeOf, IsAppOf}
 use Rattle.rh_state.specs.StateView.{StateView, standing_of}
 use Rattle.rh_base.specs.Lists.{head}
@@ -41,6 +45,10 @@ is_wanted _ = false
 -- where an application can run matters to its placement, and at the nodes of its fresh pairs to its takeover
 abbrev pub matters : StateView → AppSets → App → Node → Bool
 matters s fresh a n = is_wanted (standing_of s a) || is_among fresh a n
+
+-- a move of an application can change where this one can run: it is the one that moves, or it needs that one
+unfoldable pub is_touched : ClusterView → App → App → Bool
+is_touched c moved a = same_app a moved || has_app (needed_apps c a) moved
 
 -- at a node: a local application can start there, and an application can run there, wherever that matters
 pub record IsExactAt (s : StateView) (b : BoardView) (n : Node) : Type 0 where

@@ -44,7 +44,7 @@ RunsAtOneNode =
     (s : StateView) (a : App) (m n : Node) → IsSound s → is_local s.cluster a ≡ false → runs_at s m a ≡ true → runs_at s n a ≡ true → m ≡ n
 
 -- a node takes an application over only from one whose group comes behind its own in the application's node list, only
--- where the event started it there, and only if it can run there (Distributed Applications, Takeover)
+-- where its pair is fresh, and only if it can run there (Distributed Applications, Takeover)
 abbrev pub TakenOverByEarlierGroups : Type 0
 TakenOverByEarlierGroups =
     (s : StateView) (fresh : List Pair) (a : App) (m n : Node) → Contains (next_moves s fresh) (Takeover a m n)

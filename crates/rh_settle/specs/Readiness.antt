@@ -16,5 +16,6 @@ abbrev pub has_others : StateView → Node → SyncWait → Bool
 has_others s n Unset = true
 has_others s n _ = all_alive s (mandatory_of s.cluster n ++ optional_of s.cluster n)
 
+-- a node that waits is ready when it need wait for no other (kernel(6), sync_nodes_timeout)
 unfoldable pub is_ready : StateView → Node → Bool
 is_ready s n = is_waiting (mode_of s n) && has_others s n (sync_wait_of s.cluster n)

@@ -5,6 +5,8 @@ ghost use Rattle.rh_model.specs.declared.limits.TheConstants.{MAX_APPS};
 ghost use Rattle.rh_model.specs.declared.node.App.{App};
 ghost use Rattle.rh_model.specs.declared.node.Node.{Node};
 ghost use Rattle.rh_model.specs.ClusterView.{node_count, app_count};
+ghost use Rattle.rh_model.specs.Needs.{needed_apps};
+ghost use Rattle.rh_state.specs.Lists.{has_app};
 ghost use Rattle.rh_state.specs.Numbers.{same_app, same_node};
 ghost use Rattle.rh_state.specs.Shape.{IsNodeOf, IsAppOf};
 ghost use Rattle.rh_state.specs.StateView.{StateView, standing_of};
@@ -14,14 +16,14 @@ ghost use Rattle.rh_place.specs.declared.node_set.TheConstants.NodeSet.{LIMIT};
 ghost use Rattle.rh_place.specs.Placing.{is_operational};
 ghost use Rattle.rh_place.specs.Sets.{has};
 ghost use Rattle.rh_settle.specs.declared.notice.Pair.{Pair};
-ghost use Rattle.rh_settle.specs.Boards.{is_among, is_wanted, matters, nodes_changed, IsExactAt, IsBoardOf};
+ghost use Rattle.rh_settle.specs.Boards.{is_among, is_wanted, is_touched, matters, nodes_changed, IsBoardOf};
 ghost use Rattle.rh_settle.specs.Course.{is_fresh};
 ghost use Rattle.rh_settle.specs.Moves.{local_moves, moved_state};
 
 use crate::app_sets::AppSets;
 use crate::notice::{Move, Pair};
 use crate::search::local_at;
-use rh_model::{App, MAX_APPS, Node};
+use rh_model::{App, Cluster, MAX_APPS, Node};
 use rh_place::{NodeSet, operational, operational_among, operational_nodes};
 use rh_state::{Standing, State};
 use std::marker::Model;
@@ -86,17 +88,18 @@ impl Board {
         self.fresh.of(app).and(self.able.of(app))
     }
 
-    // Looks at a node again.
-    fn look_again(&mut self, state: &State, node: Node)
+    // Looks again at a node whose lists a move of an application changed.
+    fn look_again(&mut self, state: &State, moved: App, node: Node)
         requires { IsNodeOf (read state.now).cluster node }
         ensures fresh { self.new.fresh ≡ self.old.fresh }
-        ensures here { IsExactAt (read state.now) self.new node }
+        ensures local { has self.new.locals node ≡ is_some (head (local_moves (read state.now) node)) }
         ensures locals { (n : Node) → same_node n node ≡ false → has self.new.locals n ≡ has self.old.locals n }
-        ensures able { (n : Node) → same_node n node ≡ false → (a : App) → is_among self.new.able a n ≡ is_among self.old.able a n }
+        ensures here { (a : App) → IsAppOf (read state.now).cluster a → is_touched (read state.now).cluster moved a ≡ true → matters (read state.now) self.new.fresh a node ≡ true → is_among self.new.able a node ≡ is_operational (read state.now) a node }
+        ensures able { (a : App) (n : Node) → is_touched (read state.now).cluster moved a && same_node n node ≡ false → is_among self.new.able a n ≡ is_among self.old.able a n }
     {
         let _few = state.cluster().node_count();
         self.locals = self.locals.put(node, local_at(state, node).is_some());
-        look_again_at(state, &self.fresh, node, &mut self.able);
+        look_again_at(state, &self.fresh, moved, node, &mut self.able);
     }
 
     /// Follows a move that was made.
@@ -105,11 +108,11 @@ impl Board {
         ensures { (s : StateView) (fresh : List Pair) → IsBoardOf s fresh self.old → read state.now ≡ moved_state s made → IsBoardOf (read state.now) fresh self.new }
     {
         match made {
-            Move::Local { node, .. } => self.look_again(state, node),
-            Move::Placement { node, .. } => self.look_again(state, node),
-            Move::Takeover { from, node, .. } => {
-                self.look_again(state, node);
-                self.look_again(state, from);
+            Move::Local { node, app } => self.look_again(state, app, node),
+            Move::Placement { app, node, .. } => self.look_again(state, app, node),
+            Move::Takeover { app, from, node } => {
+                self.look_again(state, app, node);
+                self.look_again(state, app, from);
             }
         }
     }
@@ -171,6 +174,23 @@ fn local_nodes(state: &State) -> NodeSet
     nodes
 }
 
+// Does an application need another one?
+fn needs(cluster: &Cluster, app: App, other: App) -> bool
+    requires { IsAppOf cluster.now app }
+    ensures { result ≡ has_app (needed_apps cluster.now app) other }
+{
+    cluster.needs(app).iter().any(|need| other.0 == need.0)
+}
+
+// Is this the application that moved, or does it need that one?
+#[tactic(auto, unfolding(crate::specs::Boards::is_touched))]
+fn is_touched(cluster: &Cluster, moved: App, app: App) -> bool
+    requires { IsAppOf cluster.now app }
+    ensures { result ≡ is_touched cluster.now moved app }
+{
+    app.0 == moved.0 || needs(cluster, app, moved)
+}
+
 // Looks again whether an application can run at a node, if that matters.
 fn look_again_for(state: &State, fresh: &AppSets, app: App, node: Node, able: &mut AppSets)
     requires app { IsAppOf (read state.now).cluster app }
@@ -185,14 +205,17 @@ fn look_again_for(state: &State, fresh: &AppSets, app: App, node: Node, able: &m
     }
 }
 
-// The same for each application.
-fn look_again_at(state: &State, fresh: &AppSets, node: Node, able: &mut AppSets)
+// The same for each application that a move of this one touches.
+fn look_again_at(state: &State, fresh: &AppSets, moved: App, node: Node, able: &mut AppSets)
     requires { IsNodeOf (read state.now).cluster node }
-    ensures here { (a : App) → IsAppOf (read state.now).cluster a → matters (read state.now) fresh.now a node ≡ true → is_among able.new a node ≡ is_operational (read state.now) a node }
-    ensures others { (n : Node) → same_node n node ≡ false → (a : App) → is_among able.new a n ≡ is_among able.old a n }
+    ensures here { (a : App) → IsAppOf (read state.now).cluster a → is_touched (read state.now).cluster moved a ≡ true → matters (read state.now) fresh.now a node ≡ true → is_among able.new a node ≡ is_operational (read state.now) a node }
+    ensures others { (a : App) (n : Node) → is_touched (read state.now).cluster moved a && same_node n node ≡ false → is_among able.new a n ≡ is_among able.old a n }
 {
     let count = state.cluster().app_count();
     'apps: for number in 0..count {
-        look_again_for(state, fresh, App(number as u8), node, able);
+        let app = App(number as u8);
+        if is_touched(state.cluster(), moved, app) {
+            look_again_for(state, fresh, app, node, able);
+        }
     }
 }

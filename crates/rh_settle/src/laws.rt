@@ -32,7 +32,7 @@ pub fn runs_at_one_node()
     ensures { RunsAtOneNode }
 {}
 
-/// A node takes an application over only from one of a later group, only where the event started it there, and only if it
+/// A node takes an application over only from one of a later group, only where its pair is fresh, and only if it
 /// can run there.
 pub fn taken_over_by_earlier_groups()
     ensures { TakenOverByEarlierGroups }

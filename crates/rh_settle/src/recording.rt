@@ -1,5 +1,7 @@
 //! The setters of a state, each with its edit kept in the trace. Room for the edit is taken before anything is set, so where
-//! memory is refused nothing has changed: not a word of the state, and no edit.
+//! memory is refused nothing has changed: not a word of the state, and no edit. A time, a permission, a restart type, a start kind
+//! or a standing that is there already is left, with no edit and no memory. A mode and an incarnation change whenever they are
+//! set, and have no such test.
 
 ghost use Rattle.std.specs.Prelude.{◌≡◌, ◌≢◌, ◌≤◌, IsSome, IsNone, OnOk, OnErr};
 ghost use Rattle.rh_state.specs.Limits.{time_limit, incarnation_limit};
@@ -27,6 +29,9 @@ pub fn set_now(state: &mut State, time: u64, trace: &mut Trace) -> Result<(), Ou
     ensures kept_state { OnErr result (state.new ≡ state.old) }
     ensures kept_trace { OnErr result (trace.new ≡ trace.old) }
 {
+    if state.now() == time {
+        return Ok(());
+    }
     trace.edits.reserve(1)?;
     state.formed();
     let edit = state.set_now(time);
@@ -87,7 +92,7 @@ pub fn set_incarnation(
 }
 
 /// Says whether an application may run at a node.
-#[tactic(auto, using(crate::proofs::Ways::goes_none, crate::proofs::Ways::goes_one))]
+#[tactic(auto, using(crate::proofs::Ways::goes_none, crate::proofs::Ways::goes_one, crate::proofs::Same::cell_same))]
 pub fn set_allowed(
     state: &mut State,
     node: Node,
@@ -105,6 +110,9 @@ pub fn set_allowed(
     ensures kept_state { OnErr result (state.new ≡ state.old) }
     ensures kept_trace { OnErr result (trace.new ≡ trace.old) }
 {
+    if state.allowed(node, app) == allow {
+        return Ok(());
+    }
     trace.edits.reserve(1)?;
     state.formed();
     let edit = state.set_allowed(node, app, allow);
@@ -114,7 +122,7 @@ pub fn set_allowed(
 }
 
 /// Gives an application a restart type at a node.
-#[tactic(auto, using(crate::proofs::Ways::goes_none, crate::proofs::Ways::goes_one))]
+#[tactic(auto, using(crate::proofs::Ways::goes_none, crate::proofs::Ways::goes_one, crate::proofs::Same::cell_same))]
 pub fn set_restart(
     state: &mut State,
     node: Node,
@@ -132,6 +140,9 @@ pub fn set_restart(
     ensures kept_state { OnErr result (state.new ≡ state.old) }
     ensures kept_trace { OnErr result (trace.new ≡ trace.old) }
 {
+    if state.restart_of(node, app) == restart {
+        return Ok(());
+    }
     trace.edits.reserve(1)?;
     state.formed();
     let edit = state.set_restart(node, app, restart);
@@ -141,7 +152,7 @@ pub fn set_restart(
 }
 
 /// Says how an application was started at a node.
-#[tactic(auto, using(crate::proofs::Ways::goes_none, crate::proofs::Ways::goes_one))]
+#[tactic(auto, using(crate::proofs::Ways::goes_none, crate::proofs::Ways::goes_one, crate::proofs::Same::cell_same))]
 pub fn set_kind(
     state: &mut State,
     node: Node,
@@ -160,6 +171,9 @@ pub fn set_kind(
     ensures kept_state { OnErr result (state.new ≡ state.old) }
     ensures kept_trace { OnErr result (trace.new ≡ trace.old) }
 {
+    if state.kind_of(node, app) == kind {
+        return Ok(());
+    }
     trace.edits.reserve(1)?;
     state.formed();
     let edit = state.set_kind(node, app, kind);
@@ -169,7 +183,7 @@ pub fn set_kind(
 }
 
 /// Says where an application stands.
-#[tactic(auto, using(crate::proofs::Ways::goes_none, crate::proofs::Ways::goes_one))]
+#[tactic(auto, using(crate::proofs::Ways::goes_none, crate::proofs::Ways::goes_one, crate::proofs::Same::set_same))]
 pub fn set_standing(
     state: &mut State,
     app: App,
@@ -186,6 +200,9 @@ pub fn set_standing(
     ensures kept_state { OnErr result (state.new ≡ state.old) }
     ensures kept_trace { OnErr result (trace.new ≡ trace.old) }
 {
+    if state.standing(app) == standing {
+        return Ok(());
+    }
     trace.edits.reserve(1)?;
     state.formed();
     let edit = state.set_standing(app, standing);

@@ -1,9 +1,10 @@
 //! Which move comes next.
 
-ghost use Rattle.std.specs.Prelude.{◌≡◌, ◌<◌, ◌≤◌, ◌&&◌, List, false};
+ghost use Rattle.std.specs.Prelude.{◌≡◌, ◌<◌, ◌≤◌, ◌&&◌, List, true, false, IsNone, IfSome};
 ghost use Rattle.rh_model.specs.ClusterView.{node_count, app_count};
 ghost use Rattle.rh_model.specs.ClusterView.{group_of};
 ghost use Rattle.rh_model.specs.declared.node.Node.{Node};
+ghost use Rattle.rh_state.specs.declared.status.Standing.TheVariants.{Running};
 ghost use Rattle.rh_state.specs.Numbers.{nodes_of, apps_of};
 ghost use Rattle.rh_state.specs.Stored.{read};
 ghost use Rattle.rh_place.specs.declared.choosing.Pick.{Pick};
@@ -14,7 +15,7 @@ ghost use Rattle.rh_settle.specs.declared.notice.Pair.{Pair};
 ghost use Rattle.rh_place.specs.Placing.{is_operational};
 ghost use Rattle.rh_settle.specs.Course.{is_fresh};
 ghost use Rattle.rh_settle.specs.Boards.{IsExactAt, IsBoardOf};
-ghost use Rattle.rh_settle.specs.Moves.{is_local, can_start, local_moves, placements, comes_before, takeovers, next_moves};
+ghost use Rattle.rh_settle.specs.Moves.{is_local, can_start, local_moves, placements, comes_before, takeovers, takeovers_from, next_moves};
 
 use crate::board::Board;
 use crate::notice::{Move, Pair};
@@ -109,52 +110,67 @@ fn comes_before(place: Option<usize>, other: Option<usize>) -> bool
     }
 }
 
-// Is a node in the set, and does its group come before that of another?
-fn is_earlier(state: &State, app: App, from: Node, set: NodeSet, node: Node) -> bool
-    requires node { node.0 < node_count (read state.now).cluster }
-    requires app { app.0 < app_count (read state.now).cluster }
-    ensures { result ≡ (comes_before (group_of (read state.now).cluster app node) (group_of (read state.now).cluster app from) && has set node) }
+// A node of the set that is one of so many.
+fn member(set: NodeSet, count: usize) -> Option<Node>
+    ensures member { IfSome result (λ n. has set n ≡ true) }
+    ensures number { IfSome result (λ n. n.0 < count) }
+    ensures none { IsNone result → (n : Node) → n.0 < count → has set n ≡ false }
 {
-    set.has(node)
-        && comes_before(
-            state.cluster().group_of(app, node),
-            state.cluster().group_of(app, from),
-        )
+    match set.first() {
+        Some(node) if (node.0 as usize) < count => Some(node),
+        _ => None,
+    }
 }
 
 // The nodes of the set whose groups come before that of a node.
+#[tactic(auto, using(crate::proofs::Members::fewer_members))]
 fn earlier(state: &State, app: App, from: Node, set: NodeSet) -> NodeSet
     requires { app.0 < app_count (read state.now).cluster }
     ensures nodes { (n : Node) → n.0 < node_count (read state.now).cluster → has result n ≡ (comes_before (group_of (read state.now).cluster app n) (group_of (read state.now).cluster app from) && has set n) }
     ensures others { (n : Node) → node_count (read state.now).cluster ≤ n.0 → has result n ≡ false }
 {
-    let mut nodes = NodeSet::empty();
     let count = state.cluster().node_count();
-    'nodes: for number in 0..count {
-        let node = Node(number as u8);
-        if is_earlier(state, app, from, set, node) {
+    let place = state.cluster().group_of(app, from);
+    let mut nodes = NodeSet::empty();
+    let mut rest = set;
+    'nodes: while let Some(node) = member(rest, count) {
+        rest = rest.put(node, false);
+        if comes_before(state.cluster().group_of(app, node), place) {
             nodes = nodes.with(node);
         }
     }
     nodes
 }
 
+// The takeover, by one of these nodes, of an application that runs at a node.
+fn takeover_from(state: &State, app: App, from: Node, callers: NodeSet, pick: Pick) -> Option<Move>
+    requires app { app.0 < app_count (read state.now).cluster }
+    requires from { from.0 < node_count (read state.now).cluster }
+    ensures { (fresh : List Pair) → ((n : Node) → n.0 < node_count (read state.now).cluster → has callers n ≡ (is_fresh fresh n app && is_operational (read state.now) app n)) → result ≡ picked pick (takeovers_from (read state.now) fresh app (Running from)) }
+{
+    state.formed();
+    let _few = state.cluster().node_count();
+    if callers.put(from, false).is_empty() {
+        return None;
+    }
+    let nodes = earlier(state, app, from, callers);
+    if nodes.is_empty() {
+        return None;
+    }
+    match best(state, app, nodes, pick) {
+        Some(node) => Some(Move::Takeover { app, from, node }),
+        None => None,
+    }
+}
+
 // The takeover of an application by one of these nodes.
+#[tactic(auto, unfolding(crate::specs::Moves::takeovers))]
 fn takeover_by(state: &State, app: App, callers: NodeSet, pick: Pick) -> Option<Move>
     requires { app.0 < app_count (read state.now).cluster }
     ensures { (fresh : List Pair) → ((n : Node) → n.0 < node_count (read state.now).cluster → has callers n ≡ (is_fresh fresh n app && is_operational (read state.now) app n)) → result ≡ picked pick (takeovers (read state.now) fresh app) }
 {
-    state.formed();
     match state.standing(app) {
-        Standing::Running(from) => match best(
-            state,
-            app,
-            earlier(state, app, from, callers),
-            pick,
-        ) {
-            Some(node) => Some(Move::Takeover { app, from, node }),
-            None => None,
-        },
+        Standing::Running(from) => takeover_from(state, app, from, callers, pick),
         _ => None,
     }
 }

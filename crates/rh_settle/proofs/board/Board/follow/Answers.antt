@@ -10,14 +10,14 @@ returns-in-Local c = λ s fresh h is.
     let e = c.look_again.ensures in
     followed s (read c.args.state.now) (Local c.in-Local.node c.in-Local.app) fresh (is ∙ ap (moved_state s) c.in-Local.is)
     c.args.self.now c.look_again.new.self c.in-Local.node (λ k d. d)
-    (record { fresh = e.fresh; here = e.here; locals = e.locals; able = e.able }) h
+    (record { fresh = e.fresh; local = e.local; locals = e.locals; here = e.here; able = e.able }) h
 
 pub returns-in-Placement : goal.returns-in-Placement
 returns-in-Placement c = λ s fresh h is.
     let e = c.look_again-in-Placement.ensures in
     followed s (read c.args.state.now) (Placement c.in-Placement.app c.in-Placement.from c.in-Placement.node) fresh (is ∙ ap (moved_state s) c.in-Placement.is)
     c.args.self.now c.look_again-in-Placement.new.self c.in-Placement.node (λ k d. d)
-    (record { fresh = e.fresh; here = e.here; locals = e.locals; able = e.able }) h
+    (record { fresh = e.fresh; local = e.local; locals = e.locals; here = e.here; able = e.able }) h
 
 pub returns-in-Takeover : goal.returns-in-Takeover
 returns-in-Takeover c = λ s fresh h is.
@@ -25,5 +25,5 @@ returns-in-Takeover c = λ s fresh h is.
     let f = c.look_again-in-Takeover-2.ensures in
     followed_twice s (read c.args.state.now) (Takeover c.in-Takeover.app c.in-Takeover.from c.in-Takeover.node) fresh (is ∙ ap (moved_state s) c.in-Takeover.is)
     c.args.self.now c.look_again-in-Takeover.new.self c.look_again-in-Takeover-2.new.self c.in-Takeover.node c.in-Takeover.from (λ k d g. (d, g))
-    (record { fresh = e.fresh; here = e.here; locals = e.locals; able = e.able })
-    (record { fresh = f.fresh; here = f.here; locals = f.locals; able = f.able }) h
+    (record { fresh = e.fresh; local = e.local; locals = e.locals; here = e.here; able = e.able })
+    (record { fresh = f.fresh; local = f.local; locals = f.locals; here = f.here; able = f.able }) h
