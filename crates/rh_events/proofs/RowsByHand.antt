@@ -73,14 +73,20 @@ start_of_a_local_one_row : after (up none none (Quiet ∷ Quiet ∷ Quiet ∷ []
 unfolding with_mark
 start_of_a_local_one_row = refl
 
+-- ---- job is permanent, and aid at p transient: no node ends where these are stopped or forbidden
+abbrev lasting : StateView → StateView
+lasting s = record s {
+  restarts = (Permanent ∷ Temporary ∷ Temporary ∷ Temporary ∷ Transient ∷ []) ∷ (Permanent ∷ Temporary ∷ Temporary ∷ Temporary ∷ Temporary ∷ []) ∷ [];
+}
+
 -- ---- stop: one that runs is told and quiet, though the other node holds it ready
-stop_row : after (up ((twin ∷ job ∷ aid ∷ []) ∷ [] ∷ []) ([] ∷ (job ∷ []) ∷ []) (Running p ∷ Running p ∷ Quiet ∷ [])) (Stop p job)
-    ≡ course_of (up ((twin ∷ aid ∷ []) ∷ [] ∷ []) ([] ∷ (job ∷ []) ∷ []) (Quiet ∷ Running p ∷ Quiet ∷ [])) (Stopped job p ∷ []) []
+stop_row : after (lasting (up ((twin ∷ job ∷ aid ∷ []) ∷ [] ∷ []) ([] ∷ (job ∷ []) ∷ []) (Running p ∷ Running p ∷ Quiet ∷ []))) (Stop p job)
+    ≡ course_of (lasting (up ((twin ∷ aid ∷ []) ∷ [] ∷ []) ([] ∷ (job ∷ []) ∷ []) (Quiet ∷ Running p ∷ Quiet ∷ []))) (Stopped job p ∷ []) []
 unfolding stopped
 stop_row = refl
 
-stop_of_a_local_one_row : after (up ((aid ∷ []) ∷ (aid ∷ []) ∷ []) none (Quiet ∷ Quiet ∷ Quiet ∷ [])) (Stop p aid)
-    ≡ course_of (up ([] ∷ (aid ∷ []) ∷ []) none (Quiet ∷ Quiet ∷ Quiet ∷ [])) (Stopped aid p ∷ []) []
+stop_of_a_local_one_row : after (lasting (up ((aid ∷ []) ∷ (aid ∷ []) ∷ []) none (Quiet ∷ Quiet ∷ Quiet ∷ []))) (Stop p aid)
+    ≡ course_of (lasting (up ([] ∷ (aid ∷ []) ∷ []) none (Quiet ∷ Quiet ∷ Quiet ∷ []))) (Stopped aid p ∷ []) []
 unfolding stopped
 stop_of_a_local_one_row = refl
 
@@ -90,8 +96,8 @@ stop_beside_one_that_runs_row : after (up ((job ∷ []) ∷ [] ∷ []) ([] ∷ (
 unfolding left_waiting
 stop_beside_one_that_runs_row = refl
 
-stop_beside_one_that_waits_row : after (up none ((job ∷ []) ∷ (job ∷ []) ∷ []) (Wanted None ∷ Quiet ∷ Quiet ∷ [])) (Stop q job)
-    ≡ course_of (up none ((job ∷ []) ∷ [] ∷ []) (Wanted None ∷ Quiet ∷ Quiet ∷ [])) [] []
+stop_beside_one_that_waits_row : after (lasting (up none ((job ∷ []) ∷ (job ∷ []) ∷ []) (Wanted None ∷ Quiet ∷ Quiet ∷ []))) (Stop q job)
+    ≡ course_of (lasting (up none ((job ∷ []) ∷ [] ∷ []) (Wanted None ∷ Quiet ∷ Quiet ∷ []))) [] []
 unfolding left_waiting is_started_anywhere nodes_of
 stop_beside_one_that_waits_row = refl
 
@@ -114,18 +120,18 @@ stop_of_another_lost_one_row = refl
 
 -- ---- permit
 abbrev job_runs : StateView
-job_runs = up ((job ∷ aid ∷ []) ∷ [] ∷ []) ((tool ∷ []) ∷ (job ∷ []) ∷ []) (Running p ∷ Quiet ∷ Quiet ∷ [])
+job_runs = lasting (up ((job ∷ aid ∷ []) ∷ [] ∷ []) ((tool ∷ []) ∷ (job ∷ []) ∷ []) (Running p ∷ Quiet ∷ Quiet ∷ []))
 
 -- one that is forbidden where it runs stops and waits there, and is wanted, without the node that it left
 forbid_row : after job_runs (Permit p job false)
-    ≡ course_of (record (up ((aid ∷ []) ∷ [] ∷ []) ((tool ∷ job ∷ []) ∷ (job ∷ []) ∷ []) (Wanted None ∷ Quiet ∷ Quiet ∷ [])) {
+    ≡ course_of (record (lasting (up ((aid ∷ []) ∷ [] ∷ []) ((tool ∷ job ∷ []) ∷ (job ∷ []) ∷ []) (Wanted None ∷ Quiet ∷ Quiet ∷ []))) {
       allowed = (false ∷ true ∷ true ∷ true ∷ true ∷ []) ∷ (true ∷ true ∷ true ∷ true ∷ true ∷ []) ∷ [];
     }) (Stopped job p ∷ []) []
 unfolding permitted forbidden
 forbid_row = refl
 
 forbid_a_local_one_row : after job_runs (Permit p aid false)
-    ≡ course_of (record (up ((job ∷ []) ∷ [] ∷ []) ((tool ∷ aid ∷ []) ∷ (job ∷ []) ∷ []) (Running p ∷ Quiet ∷ Quiet ∷ [])) {
+    ≡ course_of (record (lasting (up ((job ∷ []) ∷ [] ∷ []) ((tool ∷ aid ∷ []) ∷ (job ∷ []) ∷ []) (Running p ∷ Quiet ∷ Quiet ∷ []))) {
       allowed = (true ∷ true ∷ true ∷ true ∷ false ∷ []) ∷ (true ∷ true ∷ true ∷ true ∷ true ∷ []) ∷ [];
     }) (Stopped aid p ∷ []) []
 unfolding permitted forbidden

@@ -1,6 +1,6 @@
 -- Two nodes and five applications, for rows that are computed: job and twin run at p or q, far at q alone, tool and aid are
 -- local; and job, far and tool need aid.
-use Rattle.std.proofs.Common.{ℕ, List, [], ◌∷◌, true, false, None, Some}
+use Rattle.std.proofs.Common.{ℕ, List, Bool, [], ◌∷◌, map, true, false, None, Some}
 use Rattle.rh_model.specs.ClusterView.{ClusterView, NodeView, AppView}
 use Rattle.rh_model.specs.declared.node.Node.{Node}
 use Rattle.rh_model.specs.declared.node.App.{App}
@@ -63,6 +63,14 @@ node mandatory wait boot = record {
   platforms = [];
 }
 
+-- all but job
+abbrev others : List AppView
+others = spread_app [] 1000 ((p ∷ q ∷ []) ∷ [])
+    ∷ spread_app (Listed aid ∷ []) 0 ((q ∷ []) ∷ [])
+    ∷ local_app (Listed aid ∷ [])
+    ∷ local_app []
+    ∷ []
+
 -- q waits for p, and boots tool and then job
 abbrev pub lab : SyncWait → ClusterView
 lab wait = record {
@@ -71,12 +79,7 @@ lab wait = record {
   app_names = (3 ∷ []) ∷ (4 ∷ []) ∷ (5 ∷ []) ∷ (6 ∷ []) ∷ (7 ∷ []) ∷ [];
   platform_names = [];
   nodes = node [] Unset ((job, Permanent) ∷ []) ∷ node (p ∷ []) wait ((tool, Transient) ∷ (job, Temporary) ∷ []) ∷ [];
-  apps = spread_app (Listed aid ∷ []) 1000 ((p ∷ []) ∷ (q ∷ []) ∷ [])
-      ∷ spread_app [] 1000 ((p ∷ q ∷ []) ∷ [])
-      ∷ spread_app (Listed aid ∷ []) 0 ((q ∷ []) ∷ [])
-      ∷ local_app (Listed aid ∷ [])
-      ∷ local_app []
-      ∷ [];
+  apps = spread_app (Listed aid ∷ []) 1000 ((p ∷ []) ∷ (q ∷ []) ∷ []) ∷ others;
 }
 
 -- all is permitted, and no timer set: the modes, what runs, what waits, and where job, twin and far stand
@@ -95,6 +98,23 @@ scene = scene_of (After 500)
 -- the same in a cluster of the second profile
 abbrev pub in_second : StateView → StateView
 in_second s = record s { cluster = record s.cluster { profile = 2 } }
+
+-- the same where job needs aid and tool, and its list is q and then p
+abbrev pub turned : StateView → StateView
+turned s = record s {
+  cluster = record s.cluster { apps = spread_app (Listed aid ∷ Listed tool ∷ []) 1000 ((q ∷ []) ∷ (p ∷ []) ∷ []) ∷ others };
+}
+
+-- all but twin
+abbrev not_twin : List Bool
+not_twin = true ∷ false ∷ true ∷ true ∷ true ∷ []
+
+-- the same where each node forbids twin, as it is configured
+abbrev pub twin_forbidden : StateView → StateView
+twin_forbidden s = record s {
+  cluster = record s.cluster { nodes = map (λ (n : NodeView). record n { permissions = not_twin }) s.cluster.nodes };
+  allowed = not_twin ∷ not_twin ∷ [];
+}
 
 abbrev pub none : List (List App)
 none = [] ∷ [] ∷ []

@@ -57,6 +57,7 @@ freed_by s n a allow = if frees s n a allow then pair n a ∷ [] else []
 abbrev pub permission_set : Course → Node → App → Bool → Course
 permission_set o n a allow = record o { state = with_allowed o.state n a allow; freed = o.freed ++ freed_by o.state n a allow }
 
+-- one that runs and may no longer is sent away; else the permission is set (application(3), permit/2)
 unfoldable pub permitted : Course → Node → App → Bool → Course
 permitted o n a allow =
     if not allow && (is_allowed o.state n a && runs_at o.state n a) then forbidden o n a
@@ -67,6 +68,7 @@ abbrev pub taken_from : Course → Node → App → Restart → Standing → Cou
 taken_from o n a r (Running m) = moved (now_in o (with_restart o.state n a r)) (move.Takeover a m n)
 taken_from o n a r _ = o
 
+-- so with one that runs, wherever it stands (application(3), takeover/2)
 unfoldable pub taken_over : Course → Node → App → Restart → Course
 taken_over o n a r = taken_from o n a r (standing_of o.state a)
 
@@ -76,5 +78,6 @@ ends_node Permanent normal = true
 ends_node Transient normal = not normal
 ends_node Temporary normal = false
 
+-- one that ends by itself ends its node with it, or alone (application(3), restart types)
 unfoldable pub exited : Course → Node → App → Bool → Course
 exited o n a normal = if ends_node (restart_of o.state n a) normal then ended o n else stopped o n a

@@ -31,6 +31,7 @@ with_mark s n a r = wanted_by_mark (with_restart (with_waiting s n a) n a r) n a
 abbrev pub pair : Node → App → Pair
 pair n a = record { node = n; app = a }
 
+-- a pair is started: it waits, and is noted as marked until settling ends (application(3), start/2)
 abbrev pub mark : Course → Node → App → Restart → Course
 mark o n a r = record o { state = with_mark o.state n a r; marked = o.marked ++ pair n a ∷ [] }
 

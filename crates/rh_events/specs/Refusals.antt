@@ -34,6 +34,8 @@ dep_tests (Some dep) = (true, DependencyNotStarted dep) ∷ []
 abbrev pub tests_by_hand : StateView → Node → App → List (Bool × Refusal) → List (Bool × Refusal)
 tests_by_hand s n a others = (is_unknown s n, UnknownNode) ∷ (is_unknown_app s a, UnknownApp) ∷ (not (is_up (mode_of s n)), NodeNotUp) ∷ others
 
+-- the tests of each event, in the order of their codes, each with the refusal that it leads to (ours; application(3) for what each call
+-- asks)
 abbrev pub tests : StateView → Event → List (Bool × Refusal)
 tests s (Boot n) = (is_unknown s n, UnknownNode) ∷ (is_alive (mode_of s n), AlreadyAlive) ∷ (incarnation_of s n == incarnation_limit, IncarnationLimit) ∷ []
 tests s (Crash n) = (is_unknown s n, UnknownNode) ∷ (not (is_alive (mode_of s n)), NotAlive) ∷ []
@@ -56,6 +58,7 @@ abbrev pub first_that_applies : List (Bool × Refusal) → Option Refusal
 first_that_applies [] = None
 first_that_applies (test ∷ others) = if test.0 then Some test.1 else first_that_applies others
 
+-- why an event is refused, if it is: the first of its tests that applies (ours)
 unfoldable pub refused : StateView → Event → Option Refusal
 refused s e = first_that_applies (tests s e)
 

@@ -128,8 +128,8 @@ is_listed_at c a n = is_none (spread_of c a) || is_some (group_of c a n)
 -- The profile of a cluster is 1 or 2. Its lists fit together: there are parts for each name, as many tests as what they
 -- are of, and each number is that of a node, of an application or of a platform name of the cluster. There is a node,
 -- there are at most as many nodes and applications as the profile allows, and at most 256 platform names, and no two of
--- a kind have one name. What a node boots, it boots once, and may
--- start; and each wait and each timeout of `distributed` is within the limit.
+-- a kind have one name. What a node boots, it boots once, and may start; and each wait and each timeout of `distributed`
+-- is within the limit.
 pub record IsWithin (c : ClusterView) : Type 0 where
   pub profile : is_profile c.profile ≡ true
   pub some_node : 1 ≤ node_count c

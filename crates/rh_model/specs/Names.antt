@@ -1,4 +1,4 @@
--- The names of a file.
+-- The names of a file (ours).
 use Rattle.std.specs.Prelude.{ℕ, List, Bool}
 use Rattle.std.specs.List.{list_any}
 use Rattle.std.specs.Str.{bytes_eq}

@@ -1,7 +1,7 @@
 -- An application that was lost with a node stays lost, until its timer fires, its node comes up, or somebody calls it.
 use Rattle.std.proofs.Common.{◌≡◌, ◌≢◌, ◌⊎◌, ◌+◌, ◌==◌, ◌&&◌, Bool, true, false, cond, not, List, [], ◌∷◌, fold, None, Some, refl, sym, ap, subst, ◌∙◌, arith, inl, inr}
 use Rattle.std.proofs.Common.{slice_get, unwrap_or}
-use Rattle.std.specs.List.{Contains}
+use Rattle.std.specs.List.{Contains, filter}
 use Rattle.std.proofs.lemmas.Bool.{and_parts}
 use Rattle.std.proofs.lemmas.List.Elements.{Contains-append_right}
 use Rattle.rh_model.specs.ClusterView.{mandatory_of, boot_of, sync_wait_of, numbered}
@@ -17,7 +17,7 @@ use Rattle.rh_state.specs.declared.status.Timer.{Timer}
 use Rattle.rh_state.specs.declared.status.Timer.TheVariants.{Sync, Failover}
 use Rattle.rh_state.specs.Numbers.{same_node, same_app, nodes_of, apps_of}
 use Rattle.rh_state.specs.Timers.{same_timer}
-use Rattle.rh_state.specs.StateView.{StateView, standing_of, runs_at, is_allowed, restart_of, incarnation_of}
+use Rattle.rh_state.specs.StateView.{StateView, mode_of, is_up, standing_of, runs_at, is_allowed, restart_of, incarnation_of}
 use Rattle.rh_state.specs.Setters.{with_mode, with_incarnation, with_standing, with_timer, with_restart, with_waiting, with_allowed, without_due, unlisted}
 use Rattle.rh_place.specs.declared.choosing.Pick.{Pick}
 use Rattle.rh_settle.specs.declared.notice.Notice.TheVariants as notice
@@ -32,7 +32,7 @@ use Rattle.rh_events.specs.Marking.{wanted_by_mark, with_mark, mark, mark_booted
 use Rattle.rh_events.specs.ComingUp.{come_up, come_up_if_ready, ready_come_up}
 use Rattle.rh_events.specs.Ending.{timeout_of, cleared, lost_at, lost_from, lost_if_ran, all_lost, ended}
 use Rattle.rh_events.specs.ByHand.{stopped, is_started_anywhere, quiet_if_nowhere, left_waiting, forbidden, permitted, permission_set, taken_from, taken_over, ends_node, exited}
-use Rattle.rh_events.specs.Everywhere.{targets, start_at, start_all}
+use Rattle.rh_events.specs.Everywhere.{is_target, targets, start_at, start_all}
 use Rattle.rh_events.specs.Changes.{with_sync_timer, booted, change}
 use Rattle.rh_events.specs.Refusals.{refused}
 use Rattle.rh_step.specs.Ticks.{wanted_if_lost, effect, taken_off, fired}
@@ -44,6 +44,7 @@ use Rattle.rh_settle.proofs.Entries.{same_number, other_number, both}
 use Rattle.rh_settle.proofs.Places.{at_set, at_set_there}
 use Rattle.rh_settle.proofs.Resting.{rests, set_beside, settled_rests}
 use Rattle.rh_events.proofs.Accepted.{accepted_exit}
+use Rattle.rh_events.proofs.StartingAll.{of_target}
 use Rattle.rh_events.proofs.StoppingAll.{stop_all_of_another}
 use Rattle.rh_events.proofs.Notices.{come_up_after, ended_after}
 use Rattle.rh_events.proofs.StaysUp.{told_still}
@@ -280,6 +281,32 @@ start_lost s n b r a m is calls = cases (same_node m n)
     (λ f. mark_of_another s n b r a (other_number a.0 b.0 f) ∙ is))
     (λ f. mark_elsewhere s n b r a m is f ∙ is)
 
+-- started at nodes that are up, where the one with which it was lost isn't
+starts_elsewhere : (s : StateView) (ns : List Node) (o : Course) (b : App) (r : Restart) (a : App) (m : Node) → is_up (mode_of s m) ≡ false
+    → standing_of o.state a ≡ Lost m → standing_of (fold (start_at b r) o (filter (is_target s b) ns)).state a ≡ Lost m
+starts_elsewhere s [] o b r a m down is = is
+starts_elsewhere s (n ∷ ns) o b r a m down is = by (is_target s b n) refl (λ p. starts_elsewhere s ns p b r a m down)
+  where
+    another : is_target s b n ≡ true → same_node m n ≡ false
+    another t = cases (same_node m n)
+        (λ h. absurd (both (is_up (mode_of s n)) (of_target s b n t).up (ap (λ k. is_up (mode_of s (numbered k))) (sym (same_number m.0 n.0 h)) ∙ down)))
+        (λ f. f)
+
+    by : (p : Bool) → is_target s b n ≡ p
+        → ((q : Course) → standing_of q.state a ≡ Lost m → standing_of (fold (start_at b r) q (filter (is_target s b) ns)).state a ≡ Lost m)
+        → standing_of (fold (start_at b r) o (cond p (n ∷ filter (is_target s b) ns) (filter (is_target s b) ns))).state a ≡ Lost m
+    by true t rest = rest (mark o n b r) (mark_elsewhere o.state n b r a m is (another t) ∙ is)
+    by false f rest = rest o is
+
+start_all_lost : (o : Course) (b : App) (r : Restart) (a : App) (m : Node) → standing_of o.state a ≡ Lost m
+    → same_app a b && is_up (mode_of o.state m) ≡ false → standing_of (start_all o b r).state a ≡ Lost m
+unfolding start_all targets
+start_all_lost o b r a m is calls = cases (is_up (mode_of o.state m))
+    (λ up. cases (same_app a b)
+    (λ u. absurd (both (same_app a b && is_up (mode_of o.state m)) (ap (λ p. p && is_up (mode_of o.state m)) u ∙ up) calls))
+    (λ f. start_all_of_another o b r a (other_number a.0 b.0 f) ∙ is))
+    (λ down. starts_elsewhere o.state (nodes_of o.state.cluster) o b r a m down is)
+
 permit_lost : (o : Course) (n : Node) (b : App) (allow : Bool) (a : App) (m : Node) → IsSound o.state → standing_of o.state a ≡ Lost m
     → standing_of (permitted o n b allow).state a ≡ Lost m
 unfolding permitted forbidden
@@ -308,7 +335,7 @@ exit_lost o n b normal a m sound runs is = by (ends_node (restart_of o.state n b
     by true = ended_lost o n a m is
     by false = quiets o.state (unlisted o.state n b) a b m n Quiet sound is runs refl
 
-change_stays : (s : StateView) (e : Event) (a : App) (m : Node) → IsSound s → refused s e ≡ None → standing_of s a ≡ Lost m → may_end_wait e a m ≡ false
+change_stays : (s : StateView) (e : Event) (a : App) (m : Node) → IsSound s → refused s e ≡ None → standing_of s a ≡ Lost m → may_end_wait s e a m ≡ false
     → StaysLost a m (change (course_of s [] []) e)
 change_stays s (Boot n) a m sound fine is calls = inl (ap (λ (xs : List Standing). unwrap_or (slice_get xs a.0) Quiet) (booted_standings s n) ∙ is)
 change_stays s (Crash n) a m sound fine is calls = inl (ended_lost (course_of s [] []) n a m is)
@@ -319,11 +346,11 @@ change_stays s (Permit n b allow) a m sound fine is calls = inl (permit_lost (co
 change_stays s (Takeover n b r) a m sound fine is calls = inl (takeover_lost (course_of s [] []) n b r a m is)
 change_stays s (Exit n b normal) a m sound fine is calls =
     inl (exit_lost (course_of s [] []) n b normal a m sound (accepted_exit s n b normal fine).runs is)
-change_stays s (StartAll b r) a m sound fine is calls = inl (start_all_of_another (course_of s [] []) b r a (other_number a.0 b.0 calls) ∙ is)
+change_stays s (StartAll b r) a m sound fine is calls = inl (start_all_lost (course_of s [] []) b r a m is calls)
 change_stays s (StopAll b) a m sound fine is calls = inl (stop_all_of_another (course_of s [] []) b a (other_number a.0 b.0 calls) ∙ is)
 
 followed_stays : (s : StateView) (e : Event) (pick : Pick) (a : App) (m : Node) → IsSound s → refused s e ≡ None → standing_of s a ≡ Lost m
-    → may_end_wait e a m ≡ false → StaysLost a m (followed pick (course_of s [] []) e)
+    → may_end_wait s e a m ≡ false → StaysLost a m (followed pick (course_of s [] []) e)
 unfolding followed
 followed_stays s e pick a m sound fine is calls = rest_stays a m pick (change (course_of s [] []) e) (change_stays s e a m sound fine is calls)
 

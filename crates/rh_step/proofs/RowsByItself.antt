@@ -26,8 +26,14 @@ ready_at_q = scene (Up ∷ Up ∷ []) ((twin ∷ []) ∷ [] ∷ []) ([] ∷ (twi
 abbrev quiet_then : StateView
 quiet_then = scene (Up ∷ Up ∷ []) none ([] ∷ (twin ∷ []) ∷ []) (Quiet ∷ Quiet ∷ Quiet ∷ [])
 
--- an application that is stopped, or ends by itself, is quiet, and starts at no other node
-stop_row : next ready_at_q (Stop p twin) First ≡ outcome quiet_then (Stopped twin p ∷ [])
+-- the same where it is permanent
+abbrev permanent : StateView → StateView
+permanent s = record s {
+  restarts = (Temporary ∷ Permanent ∷ Temporary ∷ Temporary ∷ Temporary ∷ []) ∷ (Temporary ∷ Permanent ∷ Temporary ∷ Temporary ∷ Temporary ∷ []) ∷ [];
+}
+
+-- an application that is stopped, or ends by itself, is quiet, and starts at no other node; a stop ends no node, also of a permanent one
+stop_row : next (permanent ready_at_q) (Stop p twin) First ≡ outcome (permanent quiet_then) (Stopped twin p ∷ [])
 unfolding stopped nodes_of apps_of is_ready come_up_if_ready ready_come_up is_operational deps_run best candidates can_start local_moves placements calls_away
     takeovers next_moves moved_by all_moved followed next
 stop_row = refl
@@ -54,13 +60,15 @@ unfolding with_mark nodes_of apps_of is_ready come_up_if_ready ready_come_up is_
     calls_away takeovers next_moves moved_by all_moved followed next
 start_row = refl
 
--- one that is forbidden where it runs moves on, with kind normal and as one that was lost with no node
+-- one that is forbidden where it runs moves on, with kind normal and as one that was lost with no node; its old node goes on, also where
+-- it is permanent
 abbrev moved_on : StateView
 moved_on = record (scene (Up ∷ Up ∷ []) ([] ∷ (twin ∷ []) ∷ []) ((twin ∷ []) ∷ [] ∷ []) (Quiet ∷ Running q ∷ Quiet ∷ [])) {
   allowed = (true ∷ false ∷ true ∷ true ∷ true ∷ []) ∷ (true ∷ true ∷ true ∷ true ∷ true ∷ []) ∷ [];
 }
 
-forbid_row : next ready_at_q (Permit p twin false) First ≡ outcome moved_on (Stopped twin p ∷ Started twin q kind.Normal None ∷ [])
+forbid_row : next (permanent ready_at_q) (Permit p twin false) First
+    ≡ outcome (permanent moved_on) (Stopped twin p ∷ Started twin q kind.Normal None ∷ [])
 unfolding permitted forbidden nodes_of apps_of is_ready come_up_if_ready ready_come_up is_operational deps_run best candidates can_start local_moves placements
     calls_away takeovers next_moves moved_by all_moved followed next
 forbid_row = refl

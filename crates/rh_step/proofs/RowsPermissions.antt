@@ -1,25 +1,27 @@
--- What follows from a permission that is given back, in both profiles, computed from the definitions.
+-- What follows from a permission that is given back, in both profiles, and from a start at nodes that forbid it, computed from the
+-- definitions.
 use Rattle.std.proofs.Common.{◌≡◌, [], ◌∷◌, None, true, false, List, Bool, refl}
 use Rattle.rh_model.specs.declared.node.App.{App}
-use Rattle.rh_model.specs.declared.settings.Restart.TheVariants.{Temporary}
+use Rattle.rh_model.specs.declared.settings.Restart.TheVariants.{Permanent, Temporary}
 use Rattle.rh_state.specs.declared.status.Kind.TheVariants as kind
 use Rattle.rh_state.specs.declared.status.Mode.TheVariants.{Up}
 use Rattle.rh_state.specs.declared.status.Standing.{Standing}
-use Rattle.rh_state.specs.declared.status.Standing.TheVariants.{Quiet, Running}
+use Rattle.rh_state.specs.declared.status.Standing.TheVariants.{Quiet, Wanted, Running}
 use Rattle.rh_state.specs.Numbers.{nodes_of, apps_of}
 use Rattle.rh_state.specs.StateView.{StateView}
 use Rattle.rh_place.specs.declared.choosing.Pick.TheVariants.{First}
 use Rattle.rh_place.specs.Placing.{deps_run, is_operational, best, candidates}
-use Rattle.rh_settle.specs.declared.notice.Notice.TheVariants.{Started, Stopped}
+use Rattle.rh_settle.specs.declared.notice.Notice.TheVariants.{Started, Stopped, Waits}
 use Rattle.rh_settle.specs.Moves.{can_start, local_moves, placements, calls_away, takeovers, next_moves}
 use Rattle.rh_settle.specs.Settling.{moved_by, all_moved}
 use Rattle.rh_settle.specs.Readiness.{is_ready}
-use Rattle.rh_events.specs.declared.event.Event.TheVariants.{Start, Permit}
+use Rattle.rh_events.specs.declared.event.Event.TheVariants.{Start, Permit, StartAll}
 use Rattle.rh_events.specs.Marking.{with_mark}
 use Rattle.rh_events.specs.ComingUp.{come_up_if_ready, ready_come_up}
 use Rattle.rh_events.specs.ByHand.{permitted}
-use Rattle.rh_events.proofs.Scene.{p, q, job, twin, aid, scene, in_second}
-use Rattle.rh_step.specs.Outcomes.{followed, next}
+use Rattle.rh_events.specs.Everywhere.{targets, start_all}
+use Rattle.rh_events.proofs.Scene.{p, q, job, twin, aid, scene, in_second, twin_forbidden, none}
+use Rattle.rh_step.specs.Outcomes.{outcome, followed, next}
 
 -- both nodes are up; what runs, what waits, what is permitted at p, and where job and twin stand
 abbrev at_both : List (List App) → List (List App) → List Bool → Standing → Standing → StateView
@@ -76,10 +78,10 @@ unfolding permitted nodes_of apps_of is_ready come_up_if_ready ready_come_up is_
 without_a_dependency_row = refl
 
 -- nor from a node of the same group
-abbrev twin_forbidden : StateView
-twin_forbidden = at_both ([] ∷ (twin ∷ []) ∷ []) ((twin ∷ []) ∷ [] ∷ []) (true ∷ false ∷ true ∷ true ∷ true ∷ []) Quiet (Running q)
+abbrev twin_at_q : StateView
+twin_at_q = at_both ([] ∷ (twin ∷ []) ∷ []) ((twin ∷ []) ∷ [] ∷ []) (true ∷ false ∷ true ∷ true ∷ true ∷ []) Quiet (Running q)
 
-same_group_row : (next (in_second twin_forbidden) (Permit p twin true) First).notices ≡ []
+same_group_row : (next (in_second twin_at_q) (Permit p twin true) First).notices ≡ []
 unfolding permitted nodes_of apps_of is_ready come_up_if_ready ready_come_up is_operational deps_run best candidates can_start local_moves placements
     calls_away takeovers next_moves moved_by all_moved followed next
 same_group_row = refl
@@ -89,3 +91,21 @@ later_row : (next (next (in_second job_without_aid) (Permit p job true) First).s
 unfolding permitted with_mark nodes_of apps_of is_ready come_up_if_ready ready_come_up is_operational deps_run best candidates can_start local_moves placements
     calls_away takeovers next_moves moved_by all_moved followed next
 later_row = refl
+
+-- ---- started at all nodes where each of them forbids it, it waits at each; and it runs where one may run it
+abbrev permanent_wait : Standing → StateView
+permanent_wait stands = record (scene (Up ∷ Up ∷ []) none ((twin ∷ []) ∷ (twin ∷ []) ∷ []) (Quiet ∷ stands ∷ Quiet ∷ [])) {
+  restarts = (Temporary ∷ Permanent ∷ Temporary ∷ Temporary ∷ Temporary ∷ []) ∷ (Temporary ∷ Permanent ∷ Temporary ∷ Temporary ∷ Temporary ∷ []) ∷ [];
+}
+
+start_all_forbidden_row : next (twin_forbidden (scene (Up ∷ Up ∷ []) none none (Quiet ∷ Quiet ∷ Quiet ∷ []))) (StartAll twin Permanent) First
+    ≡ outcome (twin_forbidden (permanent_wait (Wanted None))) (Waits twin p ∷ Waits twin q ∷ [])
+unfolding start_all targets with_mark nodes_of apps_of is_ready come_up_if_ready ready_come_up is_operational deps_run best candidates can_start local_moves
+    placements calls_away takeovers next_moves moved_by all_moved followed next
+start_all_forbidden_row = refl
+
+start_all_forbidden_at_one_row : (next (at_both none none (true ∷ false ∷ true ∷ true ∷ true ∷ []) Quiet Quiet) (StartAll twin Permanent) First).notices
+    ≡ Started twin q kind.Normal None ∷ Waits twin p ∷ []
+unfolding start_all targets with_mark nodes_of apps_of is_ready come_up_if_ready ready_come_up is_operational deps_run best candidates can_start local_moves
+    placements calls_away takeovers next_moves moved_by all_moved followed next
+start_all_forbidden_at_one_row = refl

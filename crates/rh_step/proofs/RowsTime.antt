@@ -1,6 +1,6 @@
 -- What passes with the time, computed from the definitions.
 use Rattle.std.proofs.Common.{◌≡◌, List, [], ◌∷◌, Some, refl}
-use Rattle.rh_model.specs.declared.settings.Restart.TheVariants.{Permanent}
+use Rattle.rh_model.specs.declared.settings.Restart.TheVariants.{Permanent, Temporary}
 use Rattle.rh_state.specs.declared.status.Kind.TheVariants as kind
 use Rattle.rh_state.specs.declared.status.Mode.{Mode}
 use Rattle.rh_state.specs.declared.status.Mode.TheVariants.{Down, Waiting, Up}
@@ -17,10 +17,11 @@ use Rattle.rh_settle.specs.Course.{course_of}
 use Rattle.rh_settle.specs.Moves.{can_start, local_moves, placements, calls_away, takeovers, next_moves}
 use Rattle.rh_settle.specs.Settling.{moved_by, all_moved}
 use Rattle.rh_settle.specs.Readiness.{all_alive, is_ready}
-use Rattle.rh_events.specs.declared.event.Event.TheVariants.{Boot, Tick, Start}
+use Rattle.rh_events.specs.declared.event.Event.TheVariants.{Boot, Tick, Start, StartAll}
 use Rattle.rh_events.specs.Marking.{with_mark, mark_all}
 use Rattle.rh_events.specs.ComingUp.{come_up, come_up_if_ready, ready_come_up}
 use Rattle.rh_events.specs.Ending.{cleared, lost_if_ran, all_lost, ended}
+use Rattle.rh_events.specs.Everywhere.{targets, start_all}
 use Rattle.rh_events.specs.Changes.{booted}
 use Rattle.rh_events.proofs.Scene.{p, q, job, aid, at, scene, none}
 use Rattle.rh_step.specs.Ticks.{effect, taken_off, fired, fired_by, all_fired, ticked}
@@ -86,6 +87,22 @@ start_elsewhere_row : next lost_here (Start q job Permanent) First
 unfolding with_mark nodes_of apps_of is_ready come_up_if_ready ready_come_up is_operational deps_run best candidates can_start local_moves placements
     calls_away takeovers next_moves moved_by all_moved followed next
 start_elsewhere_row = refl
+
+-- nor where it is started at all nodes, since that one is down
+start_all_row : next lost_here (StartAll job Permanent) First
+    ≡ outcome (record lost {
+      restarts = (Temporary ∷ Temporary ∷ Temporary ∷ Temporary ∷ Temporary ∷ []) ∷ (Permanent ∷ Temporary ∷ Temporary ∷ Temporary ∷ Temporary ∷ []) ∷ [];
+    }) (notice.Waits job q ∷ [])
+unfolding start_all targets with_mark nodes_of apps_of is_ready come_up_if_ready ready_come_up is_operational deps_run best candidates can_start local_moves
+    placements calls_away takeovers next_moves moved_by all_moved followed next
+start_all_row = refl
+
+-- where it is up it is started there too, and wanted at once
+start_all_at_that_node_row : (next (record lost_here { modes = Up ∷ Up ∷ [] }) (StartAll job Permanent) First).notices
+    ≡ notice.Started job q kind.Normal (Some p) ∷ notice.Waits job p ∷ []
+unfolding start_all targets with_mark nodes_of apps_of is_ready come_up_if_ready ready_come_up is_operational deps_run best candidates can_start local_moves
+    placements calls_away takeovers next_moves moved_by all_moved followed next
+start_all_at_that_node_row = refl
 
 -- but where that node comes back and boots it, it is wanted at once: it starts where it can
 comes_back_row : (next lost (Boot p) First).notices ≡ notice.Up p ∷ notice.Started job q kind.Normal (Some p) ∷ notice.Waits job p ∷ []

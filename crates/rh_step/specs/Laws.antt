@@ -70,20 +70,20 @@ EndsWithoutMandatory = (pick : Pick) (o : Course) (due : ℕ) (n m : Node) → C
     → (mode_of (fired pick o (due, Sync n)).state n ≡ Down)
     × Contains (fired pick o (due, Sync n)).notices (notice.Ended n)
 
--- the commands that may end the wait of an application that was lost with a node: it is started there or at all its nodes, or
--- stopped somewhere; and time
-abbrev pub may_end_wait : Event → App → Node → Bool
-may_end_wait (Tick ms) a m = true
-may_end_wait (Start n b r) a m = same_app a b && same_node m n
-may_end_wait (Stop n b) a m = same_app a b
-may_end_wait (StartAll b r) a m = same_app a b
-may_end_wait (StopAll b) a m = same_app a b
-may_end_wait _ a m = false
+-- the commands that may end the wait of an application that was lost with a node: it is started there, or at all its nodes while that
+-- one is up, or stopped somewhere; and time
+abbrev pub may_end_wait : StateView → Event → App → Node → Bool
+may_end_wait s (Tick ms) a m = true
+may_end_wait s (Start n b r) a m = same_app a b && same_node m n
+may_end_wait s (Stop n b) a m = same_app a b
+may_end_wait s (StartAll b r) a m = same_app a b && is_up (mode_of s m)
+may_end_wait s (StopAll b) a m = same_app a b
+may_end_wait s _ a m = false
 
 -- through any other one it stays lost, unless that node comes up (Distributed Applications, Failover)
 abbrev pub LostStays : Type 0
 LostStays = (s : StateView) (e : Event) (pick : Pick) (a : App) (m : Node) → IsValid s → refused s e ≡ None → standing_of s a ≡ Lost m
-    → may_end_wait e a m ≡ false
+    → may_end_wait s e a m ≡ false
     → (standing_of (next s e pick).state a ≡ Lost m) ⊎ Contains (next s e pick).notices (notice.Up m)
 
 -- and so it does at each timer but its own (kernel(6), distributed)

@@ -31,5 +31,6 @@ abbrev pub next_from : Course → Event → Pick → Course
 next_from o (Tick ms) pick = ticked pick o ms
 next_from o e pick = followed pick o e
 
+-- what follows of an event, with this choice among equally good nodes: the state and the notices (ours for their order)
 unfoldable pub next : StateView → Event → Pick → Outcome
 next s e pick = outcome_of (next_from (course_of s [] []) e pick)

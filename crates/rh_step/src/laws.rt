@@ -43,7 +43,7 @@ pub fn ends_without_mandatory()
 {}
 
 /// An application that was lost with a node stays lost through any step but a tick, unless it is stopped, that node comes
-/// up, or it is started there.
+/// up, or is up and the application is started there or at all its nodes.
 pub fn lost_stays()
     ensures { LostStays }
 {}

@@ -1,4 +1,4 @@
--- Terms, and whole texts.
+-- Terms, and whole texts (Erlang Reference Manual, Data Types; file(3), consult/1; ours for what isn't read).
 -- Bytes are written as numbers: 10 is LF, 34 `"`, 37 `%`, 39 `'`, 44 `,`, 45 `-`, 46 `.`, 91 `[`, 92 `\`, 93 `]`,
 -- 123 `{`, 124 `|`, 125 `}`.
 use Rattle.std.specs.Prelude.{◌≡◌, ℕ, zero, suc, ◌+◌, ◌-◌, List, [], ◌∷◌, length, take, drop, count_by}

@@ -41,12 +41,14 @@ with_event s e = record s { trail = take s.cursor s.trail ++ e ∷ []; cursor = 
 abbrev pub cut : SimView → SimView
 cut s = record s { trail = take s.cursor s.trail }
 
+-- an event: refused, or the trail is full, or it follows and becomes the last of the trail (ours)
 abbrev pub stepped : SimView → Event → Option Refusal → Served
 stepped s e (Some refusal) = answered (reply.Refused refusal) s
 stepped s e None =
     if s.cursor == trail_limit then answered (reply.Refused TrailFull) s
     else answered (reply.Done (next (state_of s) e s.pick).notices) (with_event s e)
 
+-- what one caller is answered, and the simulation behind the call (ours)
 abbrev pub served : SimView → Call → Served
 served s (call.Step e) = stepped s e (refused (state_of s) e)
 served s call.Undo = if s.cursor == 0 then answered reply.AtStart s else answered reply.Undone (record s { cursor = s.cursor - 1 })
