@@ -1,5 +1,5 @@
 -- Worked rows: the profile of a cluster file, and what depends on it.
-use Rattle.std.proofs.Common.{◌≡◌, [], ◌∷◌, true, false, Some, None, codes, refl, ℕ, List, ◌++◌, Option, map, replicate, pos}
+use Rattle.std.proofs.Common.{◌≡◌, [], ◌∷◌, Some, None, codes, refl, ℕ, List, ◌++◌, Option, map, replicate, pos}
 use Rattle.std.specs.Str.{is_utf8, chars}
 use lib.Utf8.{encode}
 use Rattle.rh_terms.specs.Bytes.{past}

@@ -1,6 +1,6 @@
 -- The fourth stage: what the nodes must agree on (kernel(6), `distributed` and `sync_nodes_timeout`).
-use Rattle.std.specs.Prelude.{ℕ, List, [], ◌∷◌, ◌++◌, length, flat_map, slice_get}
-use Rattle.std.specs.Prelude.{Bool, true, false, not, ◌&&◌, ◌||◌, ◌==◌, Option, Some, None, unwrap_or}
+use Rattle.std.specs.Prelude.{◌≡◌, ℕ, List, [], ◌∷◌, ◌++◌, length, flat_map, slice_get}
+use Rattle.std.specs.Prelude.{Bool, true, false, not, ◌&&◌, ◌||◌, ◌==◌, Option, Some, None, unwrap_or, Result, Ok, Err}
 use Rattle.std.specs.List.{list_any, list_all, find, range_with_len}
 use Rattle.std.specs.Option.{option_map}
 use Rattle.rh_sections.specs.declared.fault.ClusterFault.{ClusterFault}
@@ -13,7 +13,7 @@ use Rattle.rh_model.specs.declared.settings.SyncWait.{SyncWait}
 use Rattle.rh_model.specs.declared.settings.SyncWait.TheVariants.{Unset, After, Forever}
 use Rattle.rh_cluster.specs.declared.shares.Share.{Share}
 use Rattle.rh_model.specs.ClusterView.{NodeView, numbered, is_in}
-use Rattle.rh_sections.specs.Faults.{when}
+use Rattle.rh_sections.specs.Faults.{when, first}
 use Rattle.rh_cluster.specs.Values.{spread_for}
 
 -- ---- equal `distributed`
@@ -126,3 +126,16 @@ unfoldable pub agreement_stage : List (List ℕ) → List NodeView → List (Lis
 agreement_stage names nodes all =
     mismatches names nodes all
     ++ flat_map (boot_list_faults (agreed_shares all) nodes) (numbers_below (length nodes))
+
+-- ---- want of memory
+
+-- is it the fault that has the name of a node, of which a copy is made?
+abbrev pub has_name : Option ClusterFault → Bool
+has_name (Some (fault.Mismatch name)) = true
+has_name f = false
+
+-- Want of memory is told only in place of a first fault that has the name of a node: never where there is no fault,
+-- and never for another fault.
+abbrev pub WantsForName : {X : Type 0} → Result X ClusterFault → List ClusterFault → Type 0
+WantsForName (Ok x) faults = Unit {0}
+WantsForName (Err f) faults = f ≡ fault.OutOfMemory → has_name (first faults) ≡ true

@@ -1,4 +1,4 @@
--- The cluster that a text describes, or its first fault.
+-- The cluster that a text describes, or its first fault (ours; kernel(6) and app(4) for what the terms mean).
 use Rattle.std.specs.Prelude.{ℕ, List, ◌++◌, map, Result, Ok, Err}
 use Rattle.rh_base.specs.Tree.{Tree, Trees, list_of_trees}
 use Rattle.rh_terms.specs.Grammar.{terms_of}
@@ -62,7 +62,7 @@ abbrev pub cluster_in : Result Trees TermFault → Result ClusterView ClusterFau
 cluster_in (Ok ts) = cluster_of_terms (list_of_trees ts)
 cluster_in (Err f) = Err (fault.Term f)
 
--- The first stage reads the terms, of which the first may name the profile. Then the first fault of the stages over the terms counts; without one, this is the
--- cluster.
+-- the first stage reads the terms, of which the first may name the profile; then the first fault of the stages over the terms
+-- counts, and without one this is the cluster
 unfoldable pub cluster_of : List ℕ → Result ClusterView ClusterFault
 cluster_of bytes = cluster_in (terms_of bytes)

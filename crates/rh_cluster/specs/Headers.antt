@@ -1,4 +1,4 @@
--- The second stage: the shape and the name of each term.
+-- The second stage: the shape and the name of each term (ours).
 use Rattle.std.specs.Prelude.{ℕ, List, [], ◌∷◌, ◌++◌, length, map, filter_map, codes}
 use Rattle.std.specs.Prelude.{Bool, false, not, ◌||◌, ◌==◌, nat_le, Option, Some, None}
 use Rattle.rh_base.specs.Tree.{Tree}

@@ -9,7 +9,7 @@ ghost use Rattle.rh_cluster.specs.Values.{spread_for};
 ghost use Rattle.rh_cluster.specs.Agreement.{same_group, same_groups, same_share, same_shares, same_wait, shares_at};
 ghost use Rattle.rh_cluster.specs.Agreement.{wait_at, lists_node, names_node, is_involved, first_involved};
 ghost use Rattle.rh_cluster.specs.Agreement.{agreed_shares, agree, mismatch_faults, mismatches, boot_entry_faults};
-ghost use Rattle.rh_cluster.specs.Agreement.{boot_list_faults, boot_at, agreement_stage, numbers_below};
+ghost use Rattle.rh_cluster.specs.Agreement.{boot_list_faults, boot_at, agreement_stage, numbers_below, WantsForName};
 
 use crate::shares::{Share, Shares};
 use rh_base::{OutOfMemory, Str};
@@ -242,7 +242,8 @@ fn check_mismatch(
 ) -> Result<(), ClusterFault>
     requires named { node < length names.now }
     requires small { node ≤ u8.MAX }
-    ensures { Finds result (mismatch_faults names.now nodes.now all.now first node) }
+    ensures faults { Finds result (mismatch_faults names.now nodes.now all.now first node) }
+    ensures memory { WantsForName result (mismatch_faults names.now nodes.now all.now first node) }
 {
     if is_involved(all, node) && !agree(nodes, all, first, node) {
         let node = copy_of(alloc, names.get(node))?;
@@ -261,7 +262,8 @@ fn check_mismatches(
 ) -> Result<(), ClusterFault>
     requires named { length names.now ≡ length all.now }
     requires few { length all.now ≤ MAX_NODES }
-    ensures { Finds result (mismatches names.now nodes.now all.now) }
+    ensures faults { Finds result (mismatches names.now nodes.now all.now) }
+    ensures memory { WantsForName result (mismatches names.now nodes.now all.now) }
 {
     let Some(first) = first_involved(all) else {
         return Ok(());
@@ -330,7 +332,8 @@ pub fn check_agreement(
     requires named { length names.now ≡ length all.now }
     requires few { length all.now ≤ MAX_NODES }
     requires few_nodes { length nodes.now ≤ MAX_NODES }
-    ensures { Finds result (agreement_stage names.now nodes.now all.now) }
+    ensures faults { Finds result (agreement_stage names.now nodes.now all.now) }
+    ensures memory { WantsForName result (agreement_stage names.now nodes.now all.now) }
 {
     check_mismatches(alloc, names, nodes, all)?;
     check_boot_lists(agreed_shares(all), nodes)
