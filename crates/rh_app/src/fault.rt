@@ -10,7 +10,7 @@ ghost use Rattle.rh_app.specs.declared.fault.SessionsFault.TheVariants as sessio
 use rh_base::OutOfMemory;
 use rh_cluster::ClusterFault;
 use rh_sweep::SweepFault;
-use std::alloc::{AllocError, AllocFailed};
+use std::alloc::AllocError;
 use thiserror::Error;
 
 /// Why a program ended early.
@@ -161,14 +161,6 @@ impl From<AllocError> for HistoryFault {
     ghost from_gives = { λ _ e. e ≡ history.OutOfMemory };
 
     fn from(_error: AllocError) -> HistoryFault {
-        HistoryFault::OutOfMemory
-    }
-}
-
-impl<T: Drop> From<AllocFailed<T>> for HistoryFault {
-    ghost from_gives = { λ _ e. e ≡ history.OutOfMemory };
-
-    fn from(_error: AllocFailed<T>) -> HistoryFault {
         HistoryFault::OutOfMemory
     }
 }

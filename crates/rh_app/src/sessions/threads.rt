@@ -4,10 +4,12 @@
 //! session was told with the log, and the log is compared with the commands: what is answered then is a history of them,
 //! whatever the threads did.
 
-ghost use Rattle.std.specs.Prelude.{◌≡◌, ◌↔◌, ◌++◌, ◌∷◌, [], ℕ, map, All, IsNone, IsTrue, IfOk, OnOk};
+ghost use Rattle.std.specs.Prelude.{◌≡◌, ◌↔◌, ◌++◌, ◌∷◌, [], ℕ, map, false, All, IsNone, IsTrue, IfOk, IfErr, OnOk};
+ghost use Rattle.std.specs.List.{list_any, range_with_len};
 ghost use Rattle.rh_trail.specs.Lone.{opened, sim_after};
-ghost use Rattle.rh_room.specs.Legal.{IsSession, calls, session_limit};
+ghost use Rattle.rh_room.specs.Legal.{IsSession, calls, new_pass, session_limit};
 ghost use Rattle.rh_app.specs.Histories.{IsHistory, answered, calls_by, session_count, asked, by_session};
+ghost use Rattle.rh_app.specs.Workers.{WereServed, WhyNoHistory, WhyNoPasses, had_fault, lacked_memory, pass_of};
 
 use crate::fault::HistoryFault;
 use rh_base::{OutOfMemory, are_same};
@@ -57,6 +59,7 @@ fn history_in(
     requires { All (λ c. IsSession session_limit c.session) commands.now }
     ensures history { IfOk result (λ closed. IsHistory cluster.now pick commands.now closed.log.items) }
     ensures sim { IfOk result (λ closed. closed.sim.seen ≡ sim_after (opened cluster.now pick) (calls closed.log.items)) }
+    ensures fault { IfErr result (WhyNoHistory cluster.now pick commands.now room passes.items) }
 {
     let Ok(closed) = close(room, passes, cluster, pick) else {
         return Err(HistoryFault::Room);
@@ -76,6 +79,10 @@ fn opened(
     pick: Pick,
 ) -> Result<(Room, Vec<Pass>), OutOfMemory>
     requires { All (λ c. IsSession session_limit c.session) commands.now }
+    ensures sim { IfOk result (λ opening. opening.0.sim.seen ≡ opened cluster.now pick) }
+    ensures sessions { IfOk result (λ opening. opening.0.sessions ≡ session_count commands.now) }
+    ensures log { IfOk result (λ opening. opening.0.log ≡ []) }
+    ensures passes { IfOk result (λ opening. opening.1.items ≡ map new_pass (range_with_len 1 (session_count commands.now))) }
 {
     let copy = cluster.copy(alloc)?;
     open_room(alloc, copy, pick, session_count(commands)).map_err(|_| OutOfMemory)
@@ -96,28 +103,32 @@ fn session_count(commands: &[Command]) -> u8
     count
 }
 
-// The room and the passes, when all threads have ended.
+// The room and the passes, when all threads have ended, without a fault: each session was answered its commands.
 fn served<T: Threads + Wait + Sync>(
     rt: &T,
     alloc: Global,
     room: Room,
     passes: Vec<Pass>,
     commands: &[Command],
-) -> Result<(Room, Vec<Pass>), HistoryFault> {
+) -> Result<(Room, Vec<Pass>), HistoryFault>
+    ensures { IfOk result (λ both. WereServed commands.now passes.items both.1.items) }
+{
     let shared = Mutex::new(room);
     let passes = in_threads(rt, alloc, &shared, passes, commands);
     let room = shared.into_inner();
     Ok((room, passes?))
 }
 
-// The passes, when each session has made its commands in a thread of its own.
+// The passes, when each session has made its commands, all and in order, in a thread of its own.
 fn in_threads<T: Threads + Wait + Sync>(
     rt: &T,
     alloc: Global,
     shared: &Shared,
     passes: Vec<Pass>,
     commands: &[Command],
-) -> Result<Vec<Pass>, HistoryFault> {
+) -> Result<Vec<Pass>, HistoryFault>
+    ensures { IfOk result (λ served. WereServed commands.now passes.items served.items) }
+{
     let ended = thread::map_vec(rt, passes, &|pass| work(rt, alloc, shared, pass, commands))?;
     passes_of(alloc, ended)
 }
@@ -179,26 +190,36 @@ fn make_one<T: Wait>(
     Ok(())
 }
 
-// Did a session lack memory?
-fn lacked_memory(ended: &[Ended]) -> bool {
-    ended
-        .iter()
-        .any(|one| one.fault == Some(RoomFault::OutOfMemory))
-}
-
 // The passes of the sessions, if none had a fault. Want of memory is the first fault that is told.
-fn passes_of(alloc: Global, ended: Vec<Ended>) -> Result<Vec<Pass>, HistoryFault> {
+fn passes_of(alloc: Global, ended: Vec<Ended>) -> Result<Vec<Pass>, HistoryFault>
+    ensures passes { IfOk result (λ passes. passes.items ≡ map pass_of ended.items) }
+    ensures fine { OnOk result (list_any had_fault ended.items ≡ false) }
+    ensures fault { IfErr result (WhyNoPasses ended.items) }
+{
     if lacked_memory(ended.as_slice()) {
         return Err(HistoryFault::OutOfMemory);
     }
-    let mut passes = Vec::new(alloc);
-    for one in ended {
-        if one.fault.is_some() {
-            return Err(HistoryFault::Room);
-        }
-        passes.push(one.pass)?;
+    if had_fault(ended.as_slice()) {
+        return Err(HistoryFault::Room);
     }
+    let passes = ended.into_iter().map(|one| one.pass).collect(alloc)?;
     Ok(passes)
+}
+
+// Did a session lack memory?
+fn lacked_memory(ended: &[Ended]) -> bool
+    ensures { result ≡ list_any lacked_memory ended.now }
+{
+    ended
+        .iter()
+        .any(|one| matches!(one.fault, Some(RoomFault::OutOfMemory)))
+}
+
+// Had a session a fault?
+fn had_fault(ended: &[Ended]) -> bool
+    ensures { result ≡ list_any had_fault ended.now }
+{
+    ended.iter().any(|one| one.fault.is_some())
 }
 
 // Does the log have each session's commands, all and in their order, and no others?
