@@ -1,10 +1,14 @@
 //! The command line.
 
+ghost use Rattle.std.specs.Prelude.{◌≡◌, ◌≢◌, Some, codes};
+ghost use Rattle.std.specs.Option.{option_map};
+ghost use Rattle.rh_place.specs.declared.choosing.Pick.TheVariants as pick;
+
 use clap::builder::ValueParser;
 use clap::error::ErrorKind;
 use clap::{Arg, ArgAction, Command, Error};
 use rh_app::Program;
-use rh_step::Pick;
+use rh_place::Pick;
 use rh_sweep::MAX_WORKERS;
 use std::alloc::Global;
 
@@ -70,7 +74,9 @@ false, R normal or abnormal. T says what the exit of A does to its node:
 permanent ends it, transient ends it where the exit is abnormal, temporary lets
 it go on. `crash` stands for an orderly stop of the node too. `start_all` and
 `stop_all` are for a distributed application: one step starts it at each node
-that is up and may run it, or stops it at each node at which it is started.
+of its list that is up, or stops it at each node at which it is started. In a
+file that begins with `{profile, 2}.`, `permit N A true` pulls A to N from a
+later group of its list; without it, nothing moves but what runs nowhere.
 
 A step is answered by `ok` and by what follows from it, one line each:
 
@@ -122,7 +128,7 @@ Of the section `kernel` of SysConfig are read:
   sync_nodes_mandatory  [Node]
   sync_nodes_optional   [Node]
   sync_nodes_timeout    Timeout, infinity or undefined
-  permissions           [{App, true}] or [{App, false}]
+  permissions           [{App, Bool}]: whether App may run there
 
 and of the section `rehearse`, which is this program's own:
 
@@ -133,8 +139,8 @@ and of the section `rehearse`, which is this program's own:
 Timeout is 0 to 10^12 milliseconds. Of the keys applications, mod and
 start_phases are read. All else is skipped; but floats, maps, binaries and the
 like are refused in skipped parts too. A line `===` ends the file; a script
-behind it is ignored. At most 32 nodes and 64 applications; in profile 2, which
-takes permissions as a live OTP does, 64 and 128.
+behind it is ignored. At most 32 nodes and 64 applications; in profile 2, where
+a permission given back pulls an application back, as live, 64 and 128.
 
 The answer is `ok K nodes K applications`, or `cluster refused` and the first
 fault with its code, as `C5 unknown_name` or `C1 T1 syntax line 3`: see
@@ -313,8 +319,11 @@ fn whole_command<'a>(alloc: Global) -> Result<Command<'a>, Error> {
     Ok(command)
 }
 
-// The choice at a tie.
-fn pick_of(word: Option<&str>) -> Pick {
+// The choice at a tie: the last for the word `last`, the first for any other and for none.
+fn pick_of(word: Option<&str>) -> Pick
+    ensures last { option_map (λ word. word.now) word.entry ≡ Some (codes "last") → result ≡ pick.Last }
+    ensures first { option_map (λ word. word.now) word.entry ≢ Some (codes "last") → result ≡ pick.First }
+{
     match word {
         Some("last") => Pick::Last,
         _ => Pick::First,
