@@ -14,7 +14,7 @@ from support import fault_of, library_of, read, run
 
 # The calls that take memory: each growth is refused in turn.
 GROWING = ("read", "first_state", "copy_state", "timers", "perform", "open", "copy", "step_timers", "step_boot", "step_undone",
-           "try_plan", "open_room", "serve_step", "serve_look", "fork", "sweep")
+           "step_stop_all", "step_start_all", "step_permit", "try_plan", "open_room", "serve_step", "serve_look", "fork", "sweep")
 # Those that take none: each growth is refused at once.
 FIXED = ("undo", "redo", "undo_all", "redo_all", "cut_redo", "close")
 # Blocks that a call can do without: one for each thread that isn't made then, whose work is done by another; a smaller one for each

@@ -7,8 +7,8 @@ folders that is no such row is a failed test. Then come inputs that are too larg
 and memory that fail, more devices (hostile.py) and each of their calls (failing_calls.py), cut inputs (prefixes.py), sweeps
 (sweeps.py), texts that are no terms (term_faults.py), cluster files at the limits (cluster_limits.py), both profiles
 (profiles.py), random scripts beside a model (random_scripts.py) and the documents (check_docs.py). Calls that the program
-`rh_growths` beside PROGRAM makes have each growth of memory refused in turn, and have to leave all as it was (growths.py). The
-last line is 'N passed, M failed'. Where paths of rows are given, these alone are run.
+`rh_growths` beside PROGRAM makes have each growth of memory refused in turn, and have to leave all as it was (growths.py).
+The last line is 'N passed, M failed'. Where paths of rows are given, these alone are run.
 """
 import os
 import re
@@ -136,13 +136,14 @@ def command_lines(program):
     for words, texts in [
             (["--help"], [b"rehearse", b"run", b"Exit status", b"docs/ANSWERS.md", b"docs/LIVE_OTP.md", b"<< 'EOF'"]),
             (["run", "--help"], [b"--pick", b"boot N", b"crash N", b"tick D", b"start N A T", b"stop N A", b"permit N A B",
-                                 b"takeover N A T", b"exit N A R", b"start_all A T", b"stop_all A", b"undo", b"redo", b"undo_all",
-                                 b"redo_all", b"show",
-                                 b"1 to 10^12", b"milliseconds", b"app A quiet", b"app A wanted", b"app A running N",
-                                 b"app A lost N", b"from 1 behind `===`", b"docs/ANSWERS.md", b"docs/SCRIPTS.md"]),
-            (["check", "--help"], [b"{profile, Number}", b"{node, Name, SysConfig}", b"{application, Name, Keys}", b"cluster refused",
-                                   b"distributed", b"sync_nodes_timeout", b"permissions", b"boot", b"platform", b"0 to 10^12 milliseconds",
-                                   b"docs/CLUSTER_FILES.md"]),
+                                 b"takeover N A T", b"exit N A R", b"start_all A T", b"stop_all A", b"undo", b"redo",
+                                 b"undo_all", b"redo_all", b"show", b"1 to 10^12", b"milliseconds", b"app A quiet",
+                                 b"app A wanted", b"app A running N", b"app A lost N", b"from 1 behind `===`",
+                                 b"docs/ANSWERS.md", b"docs/SCRIPTS.md"]),
+            (["check", "--help"], [b"{profile, Number}", b"{node, Name, SysConfig}", b"{application, Name, Keys}",
+                                   b"cluster refused", b"distributed", b"sync_nodes_timeout", b"permissions", b"boot",
+                                   b"platform", b"0 to 10^12 milliseconds", b"32 nodes and 64 applications", b"profile 2",
+                                   b"64 and 128", b"docs/CLUSTER_FILES.md"]),
             (["sessions", "--help"], [b"--pick", b"entry S COMMAND", b"final", b"1 boot a@x", b"docs/ANSWERS.md"]),
             (["sweep", "--help"], [b"--pick", b"--workers", b"plan NAME accepted K failovers K takeovers K", b"bad line K", b"V2", b"V3",
                                    b"docs/ANSWERS.md"]),

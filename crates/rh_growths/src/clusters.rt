@@ -42,6 +42,23 @@ pub static PAIR: &str = "\
 {application, svc, [{start_phases, [{go, []}]}, {mod, {svc_app, [primary]}}]}.
 ";
 
+/// The same in the second profile.
+pub static SECOND_PAIR: &str = "\
+{profile, 2}.
+{node, n1@lab, [{kernel, [
+  {distributed, [{svc, 1000, [n1@lab, n2@lab]}]},
+  {sync_nodes_optional, [n2@lab, n3@lab]},
+  {sync_nodes_timeout, 1000}]},
+  {rehearse, [{boot, [{svc, transient}]}]}]}.
+{node, n2@lab, [{kernel, [
+  {distributed, [{svc, 1000, [n1@lab, n2@lab]}]},
+  {sync_nodes_optional, [n1@lab, n3@lab]},
+  {sync_nodes_timeout, 1000}]},
+  {rehearse, [{boot, [{svc, transient}]}]}]}.
+{node, n3@lab, []}.
+{application, svc, [{start_phases, [{go, []}]}, {mod, {svc_app, [primary]}}]}.
+";
+
 /// One node that boots three applications.
 pub static ONE_NODE: &str = "\
 {node, one@lab, [{rehearse,

@@ -3,6 +3,7 @@
 //! what came of it: `done`, `refused` (memory was refused, and all is as before) or `changed` and what isn't as it has to be.
 #![tactic(auto)]
 
+mod all_nodes;
 mod answer;
 mod clusters;
 mod first;
@@ -31,6 +32,8 @@ fn call<T: Runtime<A = Global> + Threads + Wait + Sync>(rt: &T, name: &str) -> O
     } else if let Some(answer) = sims::answer(rt.alloc(), name) {
         Some(answer)
     } else if let Some(answer) = moves::answer(rt.alloc(), name) {
+        Some(answer)
+    } else if let Some(answer) = all_nodes::answer(rt.alloc(), name) {
         Some(answer)
     } else {
         rooms::answer(rt.alloc(), name)

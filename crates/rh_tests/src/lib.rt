@@ -3,6 +3,8 @@
 #![tactic(auto)]
 
 #[cfg(test)]
+mod all_nodes;
+#[cfg(test)]
 mod check_runs;
 #[cfg(test)]
 mod clusters;
@@ -14,6 +16,8 @@ mod lists;
 mod passes;
 #[cfg(test)]
 mod places;
+#[cfg(test)]
+mod profiles;
 #[cfg(test)]
 mod records;
 #[cfg(test)]

@@ -1,4 +1,5 @@
-//! What is kept of each step: how many edits undo and redo answer, and the words of the first state.
+//! What is kept of each step: how many edits undo and redo answer, none where a step sets what is so already, and the words of
+//! the first state.
 
 use crate::support::{ONE_NODE, copied, make_all, sim_on};
 use rh_cluster::{App, Node, Restart};
@@ -21,6 +22,16 @@ static STEPS: [Event; 3] = [
     },
 ];
 
+// The node boots, and an application may run there as it might before.
+static PERMITTED: [Event; 2] = [
+    Event::Boot { node: Node(0) },
+    Event::Permit {
+        node: Node(0),
+        app: App(1),
+        allow: true,
+    },
+];
+
 // Undo and redo answer the number of edits of the last step.
 fn goes_back_and_forth(rt: &impl Abort, sim: &mut Sim) {
     assert!(rt; sim.trail().len() == 3);
@@ -28,6 +39,14 @@ fn goes_back_and_forth(rt: &impl Abort, sim: &mut Sim) {
     assert!(rt; count > 0);
     assert!(rt; sim.undo().ok() == Some(count));
     assert!(rt; sim.redo().ok() == Some(count));
+}
+
+// The last step has a record without edits, which is taken back and made again as any other.
+fn keeps_no_edit(rt: &impl Abort, sim: &mut Sim) {
+    assert!(rt; sim.trail().len() == 2);
+    assert!(rt; sim.record(1).is_empty());
+    assert!(rt; sim.undo().ok() == Some(0));
+    assert!(rt; sim.redo().ok() == Some(0));
 }
 
 fn goes_to_the_start(rt: &impl Abort, sim: &mut Sim, first: &State) {
@@ -43,4 +62,11 @@ fn undo_and_redo_answer_the_number_of_edits(rt: HostRuntime) {
     make_all(&rt, rt.alloc(), &mut sim, STEPS.as_slice());
     goes_back_and_forth(&rt, &mut sim);
     goes_to_the_start(&rt, &mut sim, &first);
+}
+
+#[test]
+fn what_is_so_already_keeps_no_edit(rt: HostRuntime) {
+    let mut sim = sim_on(&rt, rt.alloc(), ONE_NODE);
+    make_all(&rt, rt.alloc(), &mut sim, PERMITTED.as_slice());
+    keeps_no_edit(&rt, &mut sim);
 }
