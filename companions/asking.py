@@ -71,6 +71,17 @@ class Program(NamedTuple):
             raise Refused(f"{self.path} isn't the program: it doesn't answer each command")
         return found
 
+    def check_script(self, text, source):
+        """Refuses an input for the first line of its script that is no command, or in a plan no event. A sweep reads all lines
+        before it does anything; this one has a cluster that the script knows nothing of, so each plan ends at once."""
+        whole = lines_of(text)
+        place = whole.index("===") if "===" in whole else len(whole)
+        script = "\n".join(text.split("\n")[place + 1:])
+        asked = to_bytes("{node, nobody, []}.\n===\n" + script)
+        done = subprocess.run([self.path, "sweep"], input=asked, stdout=subprocess.PIPE, check=False)
+        if done.returncode == 3:
+            raise Refused(bad_line(source, whole, lines_of(to_text(done.stdout))[-1]))
+
 
 class Input(NamedTuple):
     """The parts of an input: the cluster file, whether there is a line `===`, the lines of the base, comments among them, the
@@ -132,6 +143,20 @@ def lines_of(text):
     """The lines of a text, without their ends."""
     *lines, rest = text.split("\n")
     return [line.removesuffix("\r") for line in lines] + ([rest] if rest else [])
+
+
+def plural(number, what):
+    """So many of something."""
+    return f"{number} {what}" if number == 1 else f"{number} {what}s"
+
+
+def bad_line(source, whole, told, is_run=False):
+    """What is told of the line that the program calls `bad line K`, counted behind ===, and where it stands among the lines of
+    the whole input. By `run` a plan is none either."""
+    number = int(words_of(told)[2])
+    place = whole.index("===") + number
+    why = "plans need --sweep" if is_run and words_of(whole[place])[:1] == ["plan"] else "it is no command here"
+    return f"{source} line {place + 1} (line {number} behind ===): {why}: {whole[place]}"
 
 
 def words_of(line):

@@ -203,7 +203,7 @@ def blocks_of(rows, top, width):
     the height of what stands above the columns of the first block."""
     groups = []
     for row in rows:
-        if row.kind == "node" or not groups:
+        if row.kind in ("app", "node") or not groups:
             groups.append([])
         groups[-1].append(row)
     found = [[]]

@@ -67,6 +67,9 @@ def group(program):
         told = [done.stdout for _, done in runs]
         owed = [b"", b"", b"ok 3 nodes 3 applications\n", b"", shown()[2].encode(), b""]
         yield "what they print", None if told == owed else difference(b"".join(owed), b"".join(told))
+        again = subprocess.run(["examples/shop/make", "target"], cwd=folder, capture_output=True, timeout=LONGEST_COMMAND)
+        is_right = again.returncode == 1 and again.stderr == b"target is there already: remove it, or give another folder\n"
+        yield "the release is made only once", None if is_right else f"{again}"
         browser = Browser(folder)
         try:
             picture = screenshot(folder, browser)

@@ -1,6 +1,5 @@
 """Tests of companions/gather, on releases that systools makes of applications that erlc compiles. What is owed is worked out by
 hand, or is what systools or a live node of the same files says; and the real program reads what is written."""
-import functools
 import os
 import random
 import re
@@ -8,69 +7,12 @@ import subprocess
 import tempfile
 from concurrent.futures import ThreadPoolExecutor
 
+from releases import BASE, application, compiled, erl, release, write
 from support import TOP, difference, run
 
 NEEDS = ("erl", "escript", "erlc")
 COMPANION = os.path.join(TOP, "companions", "gather")
-BASE = ["kernel", "stdlib"]
 READ = ("distributed", "sync_nodes_mandatory", "sync_nodes_optional", "sync_nodes_timeout", "permissions")
-MODULE = """-module(%s_app).
--behaviour(application).
--export([start/2, stop/1, start_phase/3, init/1]).
-start(_, _) -> supervisor:start_link(?MODULE, []).
-start_phase(_, _, _) -> ok.
-stop(_) -> ok.
-init(_) -> {ok, {#{}, []}}.
-"""
-
-
-def write(folder, name, text):
-    """Writes a file, and gives its path."""
-    path = os.path.join(folder, name)
-    os.makedirs(os.path.dirname(path), exist_ok=True)
-    with open(path, "w", encoding="utf-8") as file:
-        file.write(text)
-    return path
-
-
-def application(folder, name, needs=(), mod=None, more="", vsn="1.0"):
-    """Writes the .app file of an application below FOLDER/ebin, and its source where it has a module."""
-    modules = f"{name}_app" if mod else ""
-    write(folder, f"ebin/{name}.app", f'{{application, {name}, [{{description, "made"}}, {{vsn, "{vsn}"}}, {{registered, []}}, '
-          f'{{modules, [{modules}]}}, {{applications, [{", ".join(BASE + list(needs))}]}}'
-          + (f", {{mod, {{{name}_app, {mod}}}}}" if mod else "") + more + "]}.\n")
-    if mod:
-        write(folder, f"src/{name}_app.erl", MODULE % name)
-
-
-def erl(folder, code, *words):
-    """What Erlang prints that evaluates some code in a folder."""
-    done = subprocess.run(["erl", "-noshell", *words, "-eval", code + ", halt()."], cwd=folder, capture_output=True, text=True,
-                          timeout=60, env={**os.environ, "ERL_CRASH_DUMP": os.devnull})
-    assert done.returncode == 0, f"erl {words} {code}: {done.stdout[-400:]} {done.stderr[-400:]}"
-    return done.stdout
-
-
-@functools.cache
-def versions():
-    """The versions of kernel, stdlib and sasl."""
-    return erl(None, 'io:format("~s ~s ~s", [V || A <- [kernel, stdlib, sasl], _ <- [application:load(A)], '
-               '{ok, V} <- [application:get_key(A, vsn)]])').split()
-
-
-def release(folder, name, apps, local=""):
-    """Writes NAME.rel with applications as they stand there, and makes its boot script by systools; gives systools's answer."""
-    vsns = versions()
-    system = ", ".join(f'{{{app}, "{vsn}"}}' for app, vsn in zip(BASE, vsns))
-    listed = ", ".join([system] + apps).replace("SASL", vsns[2])
-    write(folder, f"{name}.rel", f'{{release, {{"{name}", "1"}}, {{erts, "{vsns[0]}"}}, [{listed}]}}.\n')
-    return erl(folder, f'io:format("~0p", [systools:make_script("{name}", [{{path, ["ebin"]}}, silent{local}])])')
-
-
-def compiled(folder):
-    """Compiles the modules below FOLDER/src."""
-    sources = [os.path.join(folder, "src", file) for file in os.listdir(os.path.join(folder, "src"))]
-    subprocess.run(["erlc", "-o", os.path.join(folder, "ebin")] + sources, check=True, timeout=60)
 
 
 def gather(folder, *words, **environment):
@@ -202,6 +144,72 @@ def one_release(program, folder):
     want = "{boot, [{sasl, permanent}, {billing, permanent}]}, {platform, [pool, report]}"
     is_there = parts.count(want) == 3 and "{application, sasl, [{applications, [kernel, stdlib]}" in parts
     yield "--rehearse and --platform", None if is_there else parts
+    yield from both_profiles(program, folder)
+
+
+def both_profiles(program, folder):
+    """The release with a profile, and what comes of a permission that is given back at the better node."""
+    made = ("--boot", "shop.boot", "--config", "sys")
+    for name, front, words, told in (
+            ("no profile", "", (*made, *THREE), ""), ("--profile 1", "{profile, 1}.\n", (*made, *THREE, "--profile", "1"), ""),
+            ("--profile 2", "{profile, 2}.\n", ("--profile", "2", *made, *THREE),
+             "started billing a@host1 takeover b@host2\nstopped billing b@host2\n")):
+        done = gather(folder, *words)
+        head = "% A cluster file for rehearse. gather wrote it from the files that are named below.\n\n"
+        is_first = done.stdout.startswith(head + (front or "% a@host1: "))
+        yield name, wrong_with(program, done, front + SHOP, SHOP_COMMENTS) or (None if is_first else done.stdout)
+        script = "===\nboot a@host1\nboot b@host2\nboot c-3@host3\npermit a@host1 billing false\npermit a@host1 billing true\n"
+        answer = run(program, ["run"], input=(done.stdout + script).encode()).stdout.decode()
+        # Where billing runs, report can start: it goes on at a@host1, and starts at b@host2 now.
+        owed = "ok\nstopped billing a@host1\nstarted billing b@host2 normal\nstarted report b@host2 normal\nok\n" + told
+        yield f"a rehearsal of a permission, {name}", None if answer.endswith(owed) else answer
+
+
+# ---- How much a profile takes
+
+def limits(program, folder):
+    """As many nodes and applications as each profile has, and one more. No release has the applications."""
+    for count in (64, 65, 128, 129):
+        entries = ", ".join(f"{{app{number}, [a@b]}}" for number in range(count))
+        write(folder, f"apps{count}.config", f"[{{kernel, [{{distributed, [{entries}]}}]}}].")
+    of_apps = ("--bare", "--node", "a@b", "--config")
+    for words, nodes, hints in (((), 32, (" (with --profile 2 it takes 64)", " (with --profile 2 it takes 128)")),
+                                (("--profile", "1"), 32, (" (with --profile 2 it takes 64)", " (with --profile 2 it takes 128)")),
+                                (("--profile", "2"), 64, ("", ""))):
+        apps, name = 2 * nodes, " ".join(words) or "no profile"
+        many = [word for number in range(nodes + 1) for word in ("--node", f"n{number}@b", "--bare")]
+        yield f"{name}: {nodes} nodes", wrong_with(program, gather(folder, *words, *many[3:]), None, counts=(nodes, 0))
+        told = f"gather: {nodes + 1} nodes are more than the {nodes} that rehearse takes{hints[0]}\n"
+        yield f"{name}: {nodes + 1} nodes", refusal(gather(folder, *words, *many), 2, told)
+        done = gather(folder, *words, *of_apps, f"apps{apps}")
+        yield f"{name}: {apps} applications", wrong_with(program, done, None, counts=(1, apps))
+        told = f"gather: {apps + 1} {TOO_MANY} the {apps} that rehearse takes{hints[1]}\n"
+        yield f"{name}: {apps + 1} applications", refusal(gather(folder, *words, *of_apps, f"apps{apps + 1}"), 2, told)
+
+
+TOO_MANY = "applications that are rehearsed (try --needed, or --platform) are more than"
+
+
+def large_releases(program, folder):
+    """Releases with more applications than are rehearsed, and with more platform names. One application is distributed."""
+    for number in range(256):
+        application(folder, f"app{number}")
+    for count in (65, 255, 256):
+        listed = "".join(f', {{app{number}, "1.0"}}' for number in range(count))
+        listed = f'{{kernel, "1"}}, {{stdlib, "1"}}{listed}'
+        write(folder, f"rel{count}.rel", f'{{release, {{"many", "1"}}, {{erts, "1"}}, [{listed}]}}.\n')
+    write(folder, "one.config", "[{kernel, [{distributed, [{app0, [a@b]}]}]}].")
+    one = ("--lib", "ebin", "--node", "a@b", "--config", "one", "--rel")
+    yield "65 applications of a release", refusal(gather(folder, *one, "rel65"), 2, f"gather: 65 {TOO_MANY} the 64")
+    for words, apps in (("--profile", "2"), 65), (("--needed",), 1), (("--platform", "app64"), 64):
+        done = gather(folder, *words, *one, "rel65")
+        yield f"65 applications of a release, {' '.join(words)}", wrong_with(program, done, None, counts=(1, apps))
+    # All others become platform names; kernel and stdlib are two more.
+    for words in ("--needed",), ("--needed", "--profile", "2"):
+        done = gather(folder, *words, *one, "rel255")
+        yield f"254 platform names, {' '.join(words)}", wrong_with(program, done, None, counts=(1, 1))
+        told = "gather: 255 platform names are more than the 254 that rehearse takes\n"
+        yield f"255 platform names, {' '.join(words)}", refusal(gather(folder, *words, *one, "rel256"), 2, told)
 
 
 # ---- What a live node reads
@@ -431,12 +439,14 @@ def refusals():
         yield f"refused: {name}.rel", ["--rel", name, "--lib", "ebin", "--node", "a@b"], 2, parts
     yield "refused: no release", ["--release", "ebin", "--node", "a@b"], 2, ["ebin: it has no releases/VERSION"]
     yield "refused: no boot script", ["--boot", "good.rel", "--node", "a@b"], 2, ["good.rel: it is no boot script"]
-    many = [word for number in range(33) for word in ("--node", f"n{number}@b", "--bare")]
-    yield "refused: 33 nodes", many, 2, ["33 nodes are more than the 32"]
     for name, words in (("nothing", []), ("no release", ["--node", "a@b"]), ("no value", ["--node"]),
                         ("no option", ["--nodes", "a@b"]), ("a word", ["a@b"]), ("twice", [*GOOD, "--node", "a@b"]),
                         ("platform", [*GOOD, "--platform", "nobody"]), ("both", [*GOOD, "--boot", "good"])):
         yield f"a command line: {name}", words, 1, ["gather: ", "Try gather --help"]
+    for words, told in ((["--profile", "3"], "3"), (["--profile", "02"], "02"), (["--profile", "1", "--profile", "2"], "1, 2")):
+        told = f"--profile is 1 or 2, and given once, not {told}\n"
+        yield f"a command line: {' '.join(words)}", [*GOOD, *words], 1, [told, "Try gather --help"]
+    yield "a command line: no profile", [*GOOD, "--profile"], 1, ["--profile wants a value"]
 
 
 def refused(_, folder):
@@ -463,7 +473,8 @@ def refused(_, folder):
                               text=True, timeout=60, env={**os.environ, "ERL_CRASH_DUMP": os.devnull}).stdout
         yield f"a live node refuses this too: {name}", None if "invalid config data" in told else told
     done = gather(folder, "--help")
-    yield "--help", None if done.returncode == 0 and done.stdout.startswith("Writes a cluster file") else done.stderr
+    is_there = done.stdout.startswith("Writes a cluster file") and "\n  --profile N " in done.stdout
+    yield "--help", None if done.returncode == 0 and is_there else f"{done}"
 
 
 def in_folder(part, program):
@@ -474,6 +485,7 @@ def in_folder(part, program):
 
 def group(program):
     """All tests of gather, some parts at once."""
+    parts = one_release, live, refused, systools_order, five_nodes, arguments, limits, large_releases
     with ThreadPoolExecutor(3) as pool:
-        for tests in pool.map(in_folder, (one_release, live, refused, systools_order, five_nodes, arguments), [program] * 6):
+        for tests in pool.map(in_folder, parts, [program] * len(parts)):
             yield from tests

@@ -2,6 +2,7 @@
 DevTools pipe. What a page has to show is worked out by hand from docs/RULES.md, or told in README.md.
 """
 import os
+import re
 import subprocess
 import tempfile
 import time
@@ -20,6 +21,8 @@ node cp3@cave up 1
   waiting myapp permanent
 app myapp running cp1@cave
 """
+# What a sheet of A4 on its side has room for, below its margins.
+HIGHEST = 700
 # The rows of the chart of examples/repaired-node.txt, with what stands in them at two steps.
 AT_4 = [["step", ""], ["clock, ms", "0 ms"], ["myapp", "myapp lost cp1@cave"],
         ["cp1@cave", "cp1@cave is down, booted 1×"], ["myapp", "myapp lost cp1@cave"],
@@ -39,6 +42,10 @@ COLUMN = """(() => {
     return [label.textContent, title ? title.textContent : ""];
   });
 })()"""
+REFUSED_COMMANDS = "[...document.querySelectorAll('text.refused')].map((head) => head.textContent)"
+# The table of plans: each with its other cells.
+ROWS_OF_PLANS = """Object.fromEntries([...document.querySelectorAll('#sweep tbody tr')].map(
+  (row) => [row.firstChild.textContent, [...row.children].slice(1).map((cell) => cell.textContent)]))"""
 # Names that end elements and begin others, were they put into a page as they stand.
 STRANGE = ["</script><script>document.title=1</script>", "<img/src=x/onerror=document.title=2>", "&amp;\"<!--CHART-->", "\u00a0", "é\u2028x"]
 
@@ -181,8 +188,7 @@ def strange_names(program, folder, browser):
 def sweeps(program, folder, browser):
     """A sweep's table. What becomes of the plans follows from the lists of the example: see README.md."""
     browser.open(made(program, folder, ["--sweep", "--workers", "3", example("five-nodes-sweep.txt")]))
-    rows = browser.value("Object.fromEntries([...document.querySelectorAll('#sweep tbody tr')].map("
-                         "(row) => [row.firstChild.textContent, [...row.children].slice(1).map((cell) => cell.textContent)]))")
+    rows = browser.value(ROWS_OF_PLANS)
     stays = ["= core1@site", "= edge1@site", "= edge3@site"]
     yield "a sweep: plans", all_same(
         (17, len(rows)), (["crash core1@site; tick 3000", "2 of 2", "1", "0", "→ core2@site", *stays[1:]], rows.get("core1")),
@@ -197,6 +203,94 @@ def sweeps(program, folder, browser):
     yield "a sweep: only those", same(["core1+core2", "core2+edge3", "core1-is-down"], browser.value(
         "[...document.querySelectorAll('#sweep tbody tr')].filter((row) => row.offsetHeight).map((row) => row.firstChild.textContent)"))
     yield "a sweep: nothing went wrong", browser.troubles()
+
+
+# Both nodes boot web, which is sent away from a@x at step 3. Behind that come plans.
+TWO_NODES = "".join(f"{{node, {node}, [{{kernel, [{{distributed, [{{web, 500, [a@x, b@x]}}]}}]}},\n"
+                    "  {rehearse, [{boot, [{web, permanent}]}]}]}.\n" for node in ("a@x", "b@x")) + "{application, web, []}.\n===\n"
+SENT_AWAY = "boot a@x\nboot b@x\npermit a@x web false\n"
+AT_ALL = "# It may run there again.\npermit a@x web true\nstop_all web\nstart_all web temporary\nstart_all web permanent\n"
+# The answer where web is permitted again, by the profile, and what the chart shows then: where web stands, and what it does at a@x
+# and at b@x.
+PULLED_BACK = {
+    1: ("ok", "running b@x", "web waits at a@x, permanent", "web runs at b@x, permanent normal"),
+    2: ("ok\nstarted web a@x takeover b@x\nstopped web b@x", "running a@x", "web runs at a@x, permanent takeover b@x",
+        "web waits at b@x, permanent")}
+STOPPED = {1: "ok\nstopped web b@x", 2: "ok\nstopped web a@x"}
+PLANS_AT_ALL = ("plan given-back\npermit a@x web true\nplan stopped\nstop_all web\nplan again\nstop_all web\n"
+                "start_all web temporary\nplan twice\nstart_all web permanent\n")
+GIVEN_BACK = {1: ["0", "= b@x"], 2: ["1", "→ a@x"]}
+
+
+def chart_of(web, at_a, at_b):
+    """The rows of the chart of both nodes at a step."""
+    return [["step", ""], ["clock, ms", "0 ms"], ["web", f"web {web}"], ["a@x", "a@x is up, booted 1×"], ["web", at_a],
+            ["b@x", "b@x is up, booted 1×"], ["web", at_b]]
+
+
+def at_all_nodes(program, folder, browser):
+    """Commands at all nodes, and a permission that is given back, in either profile."""
+    for name, front, profile in (("no profile", "", 1), ("profile 2", "% Mine.\n{profile, % 1\n2 }. ", 2)):
+        browser.open(made(program, folder, ["-"], (front + TWO_NODES + SENT_AWAY + AT_ALL).encode()), "#step=4")
+        told = f"2 nodes, profile {profile}, 7 steps, 0 ms. Made by companions/page from what rehearse answers."
+        yield f"{name}: what is counted", same(told, browser.value("document.querySelector('p.small').textContent"))
+        answer, *standing = PULLED_BACK[profile]
+        yield f"{name}: a permission given back", all_same(
+            ("permit a@x web true", browser.text("command")), ("It may run there again.", browser.text("notes")),
+            (answer, browser.text("answer")), (chart_of(*standing), browser.value(COLUMN)))
+        yield f"{name}: stopped at all nodes", all_same(
+            ("5", browser.press("ArrowRight")), ("stop_all web", browser.text("command")), (STOPPED[profile], browser.text("answer")),
+            (chart_of("quiet", "", ""), browser.value(COLUMN)))
+        yield f"{name}: started at all nodes", all_same(
+            ("6", browser.press("ArrowRight")), ("start_all web temporary", browser.text("command")),
+            ("ok\nstarted web a@x normal\nwaits web b@x", browser.text("answer")),
+            (chart_of("running a@x", "web runs at a@x, temporary normal", "web waits at b@x, temporary"), browser.value(COLUMN)))
+        yield f"{name}: refused at all nodes", all_same(
+            ("7", browser.press("ArrowRight")), ("refused S11 already_started", browser.text("answer")),
+            (["✗ start_all web permanent"], browser.value(REFUSED_COMMANDS)))
+        text = front + TWO_NODES + SENT_AWAY + PLANS_AT_ALL
+        browser.open(made(program, folder, ["--sweep", "-"], text.encode()))
+        owed = {"given-back": ["permit a@x web true", "1 of 1", "0", *GIVEN_BACK[profile]],
+                "stopped": ["stop_all web", "1 of 1", "0", "0", "– quiet"],
+                "again": ["stop_all web; start_all web temporary", "2 of 2", "0", "0", "= b@x"],
+                "twice": ["start_all web permanent✗ refused: 1 S11 already_started", "0 of 1", "0", "0", "= b@x"]}
+        yield f"{name}: plans", same(owed, browser.value(ROWS_OF_PLANS)) or browser.troubles()
+
+
+def greatest(program, folder, browser):
+    """As many nodes and applications as profile 2 has. Each application is started at two of them, so each node has four."""
+    pairs = [(app % 64, (app + 1) % 64) for app in range(128)]
+    entries = ", ".join(f"{{p{app}, 500, [n{first}, n{second}]}}" for app, (first, second) in enumerate(pairs))
+    text = ""
+    for node in range(64):
+        boot = ", ".join(f"{{p{app}, permanent}}" for app, pair in enumerate(pairs) if node in pair)
+        text += f"{{node, n{node}, [{{kernel, [{{distributed, [{entries}]}}]}}, {{rehearse, [{{boot, [{boot}]}}]}}]}}.\n"
+    text += "".join(f"{{application, p{app}, []}}.\n" for app in range(128)) + "===\n"
+    text += "".join(f"boot n{node}\n" for node in range(64)) + "crash n63\ntick 500\nstop_all p127\n"
+    done = page(program, ["-"], text.encode())
+    is_told = done.returncode == 2 and not done.stdout and b"standard input: cluster refused C3 too_many" in done.stderr
+    yield "64 nodes of profile 1", None if is_told else f"{done}"
+    begin = time.monotonic()
+    path = made(program, folder, ["-"], ("{profile, 2}.\n" + text).encode())
+    browser.open(path)
+    browser.press("End")
+    seconds = time.monotonic() - begin
+    yield "64 nodes: made and open in 20 seconds", None if seconds < 20 else f"{seconds:.1f} seconds"
+    yield "64 nodes: at most 4 MB", None if os.path.getsize(path) < 4_000_000 else f"{os.path.getsize(path)} bytes"
+    yield "64 nodes: what is counted", same(
+        "64 nodes, profile 2, 67 steps, 500 ms", browser.value("document.querySelector('p.small').textContent").split(".")[0])
+    yield "64 nodes: the rows", all_same(*(
+        (count, browser.value(f"document.querySelectorAll('.names .label.{kind}').length"))
+        for kind, count in (("app", 128), ("node", 64), ("lane", 256))))
+    highest = browser.value("Math.max(...[...document.querySelectorAll('.names')].map((names) => names.height.baseVal.value))")
+    yield "64 nodes: no block of the chart is higher than a sheet", None if highest <= HIGHEST else f"{highest}"
+    # p63 and p127 are lost with n63, and n0 is behind it in their lists.
+    lines = browser.text("report").split("\n")
+    yield "64 nodes: the end", all_same(
+        ("ok\nstopped p127 n0", browser.text("answer")), (True, "node n63 down 1" in lines),
+        (["app p62 running n62", "app p63 running n0", "app p64 running n0"],
+         [line for line in lines if re.match("app p6[234] ", line)]), (True, "app p127 quiet" in lines))
+    yield "64 nodes: nothing went wrong", browser.troubles()
 
 
 def large(program, folder, browser):
@@ -272,14 +366,22 @@ def all_examples(program, _):
         yield os.path.relpath(path, TOP), None if done.returncode == 0 and is_page else f"status {done.returncode}: {done.stderr}"
 
 
+def counts(program, _):
+    """One of each is counted as one."""
+    done = page(program, ["--sweep"], b"{node, a@x, []}.\n===\nboot a@x\nplan p\ncrash a@x\n")
+    missing = [words for words in (b"1 node, profile 1, 1 step, 0 ms", b"1 plan; 0 of them") if words not in done.stdout]
+    yield "one of each", f"status {done.returncode}, it lacks {missing}" if done.returncode or missing else None
+
+
 def group(program):
     """All of them."""
     with tempfile.TemporaryDirectory(ignore_cleanup_errors=True) as folder:
         yield from refusals(program, folder)
         yield from all_examples(program, folder)
+        yield from counts(program, folder)
         browser = Browser(folder)
         try:
-            for part in (one_rehearsal, wanted_and_forbidden, printed, strange_names, sweeps, large, dumped):
+            for part in (one_rehearsal, wanted_and_forbidden, at_all_nodes, printed, strange_names, sweeps, greatest, large, dumped):
                 yield from part(program, folder, browser)
         finally:
             browser.close()

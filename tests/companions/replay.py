@@ -1,4 +1,4 @@
-"""Tests of companions/replay, with real OTP nodes of this machine: one small rehearsal, what is refused, and that the nodes listen
+"""Tests of companions/replay, with real OTP nodes of this machine: small rehearsals, what is refused, and that the nodes listen
 on the loopback alone and end with the companion, by whatever it ends. tests/run_live.py makes the rehearsals of tests/live.
 """
 import glob
@@ -10,7 +10,7 @@ import tempfile
 import time
 from concurrent.futures import ThreadPoolExecutor
 
-from support import TOP, fault_of
+from support import TOP, fault_of, read
 
 NEEDS = ("erl", "escript", "erlc")
 COMPANION = os.path.join(TOP, "companions", "replay")
@@ -46,6 +46,24 @@ boot a@x
 DIFFERENT_TOLD = {"  ok ok", "  up a@x up a@x", "  started y a@x normal started y a@x normal", "< started x a@x normal",
                   "> failed x a@x {not_started,y}"}
 LONG = CLUSTER + "===\nboot a@x\nboot b-1@x\ntick 300000\n"
+# By its configuration the better node may not run web until it is permitted. Then nodes do as profile 2 has it.
+FORBIDDEN = CLUSTER.replace("[{distributed", "[{permissions, [{web, false}]}, {distributed", 1)
+BOTH_UP = ["ok", "up a@x", "up b-1@x", "started log a@x normal", "waits web a@x", "started log b-1@x normal",
+           "started web b-1@x normal"]
+AT_ALL_TOLD = [
+    ("start_all web permanent", ["refused S8 node_not_up"]), ("stop_all web", ["refused S12 never_started"]),
+    ("boot a@x", ["ok"]), ("boot b-1@x", BOTH_UP),
+    ("permit a@x web true", ["ok", "started web a@x takeover b-1@x", "stopped web b-1@x"]),
+    # Where it is started already it stays as it is.
+    ("stop b-1@x web", ["ok"]), ("start_all web transient", ["ok", "waits web b-1@x"]),
+    ("stop_all web", ["ok", "stopped web a@x"]), ("stop_all web", ["refused S12 never_started"]),
+    ("start_all web temporary", ["ok", "started web a@x normal", "waits web b-1@x"]),
+    ("start_all web permanent", ["refused S11 already_started"]), ("start_all log permanent", ["refused S9 not_distributed"]),
+    ("stop_all nobody", ["refused S2 unknown_app"]),
+    ("show", ["ok", "now 0", "node a@x up 1", "running log permanent normal", "running web temporary normal",
+              "node b-1@x up 1", "running log permanent normal", "waiting web temporary", "app web running a@x"])]
+# In profile 1 nothing is pulled back.
+PROFILE_1_TOLD = ["> started web a@x takeover b-1@x", "> stopped web b-1@x"]
 
 
 def replay(program, words, **options):
@@ -86,6 +104,44 @@ def rehearsals(program, folder):
     rows = {re.sub(r"(?<=\S) {2,}|(?<=[<>]) +", " ", line) for line in done.stdout.splitlines()[2:-1]}
     is_right = done.returncode == 3 and rows == DIFFERENT_TOLD and done.stdout.endswith("\n0 of 1 commands agree\n")
     yield "a difference", None if is_right else f"status {done.returncode}, {rows}\n{done.stdout}{done.stderr}"
+    # But for the first line, which names the release of OTP.
+    done = replay(program, [os.path.join(TOP, "examples", "boot-order.txt")])
+    document = read(os.path.join(TOP, "docs", "COMPANIONS.md")).decode()
+    owed = document.split("$ companions/replay examples/boot-order.txt\n")[1].split("```")[0]
+    is_right = done.returncode == 3 and sorted(owed.splitlines()[1:]) == sorted(done.stdout.splitlines()[1:])
+    yield "the boot list of docs/COMPANIONS.md", None if is_right else f"status {done.returncode}\n{done.stdout}{done.stderr}"
+
+
+def at_all_nodes(program, folder):
+    """Commands at all nodes, and a permission that is given in either profile."""
+    script = "".join(f"{command}\n" for command, _ in AT_ALL_TOLD)
+    done = replay(program, [written(folder, "{profile, 2}.\n" + FORBIDDEN + "===\n" + script)])
+    owed = [(command, sorted(lines), sorted(lines)) for command, lines in AT_ALL_TOLD]
+    have = answers(done.stdout)
+    is_right = have == owed and done.stdout.endswith("\n14 of 14 commands agree\n") and done.returncode == 0 and not done.stderr
+    yield "at all nodes, profile 2", None if is_right else f"status {done.returncode}\n{done.stdout}{done.stderr}"
+    script = "===\nboot a@x\nboot b-1@x\npermit a@x web true\n"
+    done = replay(program, ["--patience", "1000", written(folder, "% Mine.\n{profile, 1}. " + FORBIDDEN + script)])
+    rows = [re.sub(" +", " ", line) for line in done.stdout.splitlines() if line[0] in "<>"]
+    is_right = done.returncode == 3 and rows == PROFILE_1_TOLD and done.stdout.endswith("\n2 of 3 commands agree\n")
+    yield "profile 1", None if is_right else f"status {done.returncode}, {rows}\n{done.stdout}{done.stderr}"
+
+
+def greatest(program, folder):
+    """As many nodes and applications as profile 2 has. One of the nodes boots them all, and others that may run them are down."""
+    groups = ["n0@x" if app % 64 == 0 else f"n0@x, n{app % 64}@x" for app in range(128)]
+    entries = ", ".join(f"{{p{app}, [{nodes}]}}" for app, nodes in enumerate(groups))
+    boot = ", ".join(f"{{p{app}, permanent}}" for app in range(128))
+    text = "{profile, 2}.\n" + f"{{node, n0@x, [{{kernel, [{{distributed, [{entries}]}}]}}, {{rehearse, [{{boot, [{boot}]}}]}}]}}.\n"
+    text += "".join(f"{{node, n{node}@x, [{{kernel, [{{distributed, [{entries}]}}]}}]}}.\n" for node in range(1, 64))
+    text += "".join(f"{{application, p{app}, []}}.\n" for app in range(128))
+    told = [("boot n0@x", ["ok", "up n0@x"] + [f"started p{app} n0@x normal" for app in range(128)]),
+            ("stop_all p127", ["ok", "stopped p127 n0@x"]), ("start_all p127 temporary", ["ok", "started p127 n0@x normal"]),
+            ("start n0@x p64 permanent", ["refused S11 already_started"])]
+    done = replay(program, [written(folder, text + "===\n" + "".join(f"{command}\n" for command, _ in told))])
+    have, owed = answers(done.stdout), [(command, sorted(lines), sorted(lines)) for command, lines in told]
+    is_right = have == owed and done.returncode == 0 and not done.stderr
+    yield "64 nodes and 128 applications", None if is_right else f"status {done.returncode}\n{done.stdout[-2000:]}{done.stderr}"
 
 
 # ---- Processes
@@ -172,9 +228,19 @@ def refusals(program, folder):
     """What is refused, with its status and words of what is told."""
     one = "{node, a@x, []}.\n"
     for name, text, words, status, told in [
-            ("undo", one + "===\nboot a@x\nundo\n", [], 2, "real nodes can't do this: undo"),
-            ("a bad line", one + "===\nboot a@x\nreboot a@x\n", [], 2, "bad line"),
+            ("undo", one + "===\nboot a@x\nundo\n", [], 2, "input.txt line 4 (line 2 behind ===): real nodes can't do this: undo"),
+            ("a bad line", one + "===\nboot a@x\nreboot a@x\n", [], 2,
+             "input.txt line 4 (line 2 behind ===): it is no command here: reboot a@x"),
+            ("a bad line behind others that ask nothing", one + "\n===\n\n# One.\nboot a@x\n  \nbot a@x\nbet a@x\n", [], 2,
+             "input.txt line 8 (line 5 behind ===): it is no command here: bot a@x"),
+            ("a bad line in front", one + "===\r\nbot a@x\r\n", [], 2,
+             "input.txt line 3 (line 1 behind ===): it is no command here: bot a@x"),
             ("a cluster file", one + one, [], 2, "cluster refused C4 duplicate_name"),
+            ("a profile", "{profile, 3}.\n" + one, [], 2, "cluster refused C10 bad_value"),
+            ("33 nodes of profile 1", "".join(f"{{node, n{node}@x, []}}.\n" for node in range(33)), [], 2,
+             "cluster refused C3 too_many"),
+            ("a type that is missing", one + "===\nstart_all web\n", [], 2,
+             "input.txt line 3 (line 1 behind ===): it is no command here: start_all web"),
             ("a node without a host", "{node, a, []}.\n===\nboot a\n", [], 2, "a live node can't be called a"),
             ("long and short names", one + "{node, 'a@x.y', []}.\n", [], 2, "don't see one another"),
             ("long ticks", one + "===\ntick 700000\n", [], 2, "the ticks take 700 s"),
@@ -186,11 +252,12 @@ def refusals(program, folder):
     done = replay(program, ["/nowhere/input"])
     yield "refused: no file", None if done.returncode == 2 and "/nowhere/input" in done.stderr else f"{done}"
     done = subprocess.run([COMPANION, "--help"], capture_output=True, timeout=LONGEST_WAIT)
-    yield "--help", fault_of(done, 0, None) or (None if b"--factor F" in done.stdout else f"{done}")
+    missing = [word for word in (b"--factor F", b"start_all", b"stop_all", b"{profile, 2}") if word not in done.stdout]
+    yield "--help", fault_of(done, 0, None) or (f"it lacks {missing}" if missing else None)
 
 
 def group(program):
     """All of them."""
-    for part in (refusals, rehearsals, endings):
+    for part in (refusals, rehearsals, at_all_nodes, greatest, endings):
         with tempfile.TemporaryDirectory() as folder:
             yield from part(program, folder)

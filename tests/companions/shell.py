@@ -103,6 +103,16 @@ def second_profile(program):
             "2;", "2, behind 4 commands of the script;") + "ok\n").encode())
 
 
+def banners(program):
+    """The first line counts one of each as one."""
+    with Files() as files:
+        for name, text, owed in [
+                ("none", "{node, a, []}.\n", "1 node, 0 applications, profile 1; help lists the commands\n"),
+                ("one", "{node, a, []}. {application, b, []}.\n===\n# A note.\nboot a\nplan p\nboot a\n",
+                 "1 node, 1 application, profile 1, behind 1 command of the script; help lists the commands\n")]:
+            yield f"the first line: {name} of each", fault_of(talk(program, "", files.path(name, text)), 0, owed.encode())
+
+
 def like_a_run(program):
     """Each example, entered line by line, is answered as by one run of the program."""
     for name in ("failover-and-takeover", "repaired-node", "release", "local-applications", "rolling-restart",
@@ -299,13 +309,28 @@ def keys(program):
         yield "at a terminal: the status", None if status == 0 else f"{status}"
 
 
+# Behind the crash of a@x web is lost for 700 ms, and far for 1300.
+TWO_TIMERS = "".join(
+    f"{{node, {node}, [{{kernel, [{{distributed, [{{web, 700, [a@x, b@x]}}, {{far, 1300, [a@x, b@x]}}]}}]}},\n"
+    "  {rehearse, [{boot, [{web, permanent}, {far, permanent}]}]}]}.\n" for node in ("a@x", "b@x")
+) + "{application, web, []}. {application, far, []}.\n===\nboot a@x\nboot b@x\ncrash a@x\n"
+
+
+def timers(program):
+    """The TAB key behind tick knows the times of all timers."""
+    with Files() as files, Terminal(program, files.path("timers", TWO_TIMERS)) as terminal:
+        for name, pressed, *owed in [("the prompt", "", "0 ms> "), ("both of them", "tick \t\t", "1300", "700"),
+                                     ("the later one", "1\t\r", "started far b@x", "1300 ms> ")]:
+            yield f"two timers: {name}", terminal.fault(pressed, *owed)
+
+
 def faults(program):
     """Wrong command lines, and files that are refused."""
     with Files() as files:
         for name, words, status, told in [
                 ("a syntax fault", [files.path("c", "{node, a@x, [}.")], 2, "cluster refused C1 T1 syntax line 1"),
                 ("a bad line", [files.path("s", CLUSTER + "===\n# One.\nboot a@x\nreboot a@x\n")], 2,
-                 "this line is no command: reboot a@x"),
+                 f"line {CLUSTER.count(chr(10)) + 4} (line 3 behind ===): it is no command here: reboot a@x\n"),
                 ("no file", ["/nowhere/cluster"], 2, "/nowhere/cluster: No such file"),
                 ("no word", [], 1, "FILE"), ("a strange word", ["--nonsense", "x"], 1, "--nonsense")]:
             done = subprocess.run([COMPANION, "--rehearse", program, *words], input=b"", capture_output=True, timeout=60)
@@ -316,5 +341,5 @@ def faults(program):
 
 
 def group(program):
-    for tests in (conversations, second_profile, like_a_run, stories, keys, faults):
+    for tests in (conversations, second_profile, banners, like_a_run, stories, keys, timers, faults):
         yield from tests(program)

@@ -82,9 +82,84 @@ def odd_texts(program):
             ("bytes that aren't UTF-8", HEAD + b"plan a\n# \xff\nplan b\ncrash \xff\n"),
             ("a base that isn't at its end", HEAD + b"undo\nplan a\nplan b\n"),
             ("too long a plan", HEAD + b"plan a\n" + b"tick 1\n" * 65_531 + b"plan b\n"),
+            ("commands at all nodes",
+             HEAD + b"stop_all ledger\ntick 5\nstart_all ledger permanent\nplan a\nstop_all gateway\nplan b\nstop_all nobody\n"
+             b"plan c\nstop_all monitor\nstart_all monitor temporary\nplan d\nstart_all gateway transient\n"),
+            ("a command at all nodes without its type", HEAD + b"plan a\nstop_all ledger\nplan b\nstart_all ledger\nplan c\n"),
+            ("a profile behind a comment", b"% plan x\n{profile %\n, 2}.\n" + EXAMPLE),
+            ("a profile that is none", b"{profile, 3}.\n" + EXAMPLE),
+            ("a profile that isn't the first term", EXAMPLE.replace(b"\n===", b"\n{profile, 2}.\n===", 1)),
             ("a cluster that is refused", EXAMPLE.replace(b"ledger, 3000", b"ledger, 3001", 1)),
             ("no plan", HEAD), ("no script", HEAD.split(b"===")[0]), ("nothing", b"")]:
         yield name, as_one_run(program, ["--shares", "3", "--jobs", "2"], text)
+
+
+# web is forbidden at a@x behind the base, so it runs at b@x. Each plan, and what is told of it by profile 1, and by 2 where that
+# is something else.
+GIVEN_BACK = "".join(f"{{node, {node}, [{{kernel, [{{distributed, [{{web, 500, [a@x, b@x]}}]}}]}},\n"
+                     "  {rehearse, [{boot, [{web, permanent}]}]}]}.\n" for node in ("a@x", "b@x")) + "{application, web, []}.\n"
+GIVEN_BACK_BASE = "===\nboot a@x\nboot b@x\npermit a@x web false\n"
+GIVEN_BACK_TOLD = """ok
+up a@x
+started web a@x normal
+ok
+up b@x
+waits web b@x
+ok
+stopped web a@x
+started web b@x normal
+"""
+GIVEN_BACK_PLANS = [
+    ("plan given-back\npermit a@x web true\n",
+     "plan given-back accepted 1 failovers 0 takeovers 0\napp web running b@x\n",
+     "plan given-back accepted 1 failovers 0 takeovers 1\napp web running a@x\n"),
+    ("plan stopped\nstop_all web\n", "plan stopped accepted 1 failovers 0 takeovers 0\napp web quiet\n", None),
+    # It waits at a@x, where it is forbidden still.
+    ("plan again\nstop_all web\nstart_all web temporary\n",
+     "plan again accepted 2 failovers 0 takeovers 0\napp web running b@x\n", None),
+    ("plan twice\nstart_all web permanent\n",
+     "plan twice accepted 0 failovers 0 takeovers 0\nrefused 1 S11 already_started\napp web running b@x\n", None),
+    # It is lost with b@x, and permitted at a@x before its timer fires: then it fails over.
+    ("plan lost\ncrash b@x\npermit a@x web true\ntick 500\n",
+     "plan lost accepted 3 failovers 1 takeovers 0\napp web running a@x\n", None)]
+
+
+def profiles(program):
+    """Each share is swept by the profile of the whole."""
+    for name, front, number in [("no profile", "", 1), ("profile 1", "{profile, 1}.\n", 1),
+                                ("profile 2", "% Mine.\n{profile,\n 2}. ", 2)]:
+        text = front + GIVEN_BACK + GIVEN_BACK_BASE + "".join(plan for plan, _, _ in GIVEN_BACK_PLANS)
+        owed = GIVEN_BACK_TOLD + "".join(second if number == 2 and second else first for _, first, second in GIVEN_BACK_PLANS)
+        for count in ("2", "5"):
+            done = spread(program, ["--shares", count, "--jobs", "2"], text.encode())
+            yield f"{name} in {count} shares", fault_of(done, 0, owed.encode())
+
+
+def greatest():
+    """The greatest cluster of profile 2 but for its first term, with plans, and what is told of it. Applications p0 and p64 run at
+    node n0 alone, and so on. Each plan loses both of a node, and stops the first, which is started nowhere then."""
+    entries = ", ".join(f"{{p{app}, 500, [n{app % 64}]}}" for app in range(128))
+    text = ""
+    for node in range(64):
+        boot = f"{{p{node}, permanent}}, {{p{node + 64}, permanent}}"
+        text += f"{{node, n{node}, [{{kernel, [{{distributed, [{entries}]}}]}}, {{rehearse, [{{boot, [{boot}]}}]}}]}}.\n"
+    text += "".join(f"{{application, p{app}, []}}.\n" for app in range(128)) + "===\n"
+    text += "".join(f"boot n{node}\n" for node in range(64))
+    text += "".join(f"plan n{node}\ncrash n{node}\nstop_all p{node}\n" for node in range(64))
+    owed = "".join(f"ok\nup n{node}\nstarted p{node} n{node} normal\nstarted p{node + 64} n{node} normal\n" for node in range(64))
+    for node in range(64):
+        owed += f"plan n{node} accepted 1 failovers 0 takeovers 0\nrefused 2 S12 never_started\n"
+        owed += "".join(f"app p{app} {'lost' if app % 64 == node else 'running'} n{app % 64}\n" for app in range(128))
+    return text, owed
+
+
+def limits(program):
+    """As many nodes and applications as profile 2 has, which are more than profile 1 has."""
+    text, owed = greatest()
+    done = spread(program, ["--shares", "5", "--jobs", "2"], ("{profile, 2}.\n" + text).encode())
+    yield "64 nodes and 128 applications", fault_of(done, 0, owed.encode())
+    done = spread(program, ["--shares", "5", "--jobs", "2"], text.encode())
+    yield "64 nodes and 128 applications of profile 1", fault_of(done, 2, b"cluster refused C3 too_many\n")
 
 
 def larger_input(program):
@@ -199,5 +274,5 @@ def nothing_left(program):
 
 
 def group(program):
-    for tests in (shares, odd_texts, larger_input, killed, machines, faults, nothing_left):
+    for tests in (shares, odd_texts, profiles, limits, larger_input, killed, machines, faults, nothing_left):
         yield from tests(program)

@@ -7,6 +7,7 @@ from support import TOP, fault_of, run
 
 NEEDS = ("python3",)
 COMPANION = os.path.join(TOP, "companions", "survey")
+INPUT_LIMIT = 16_777_216
 # web fails over from a@x to b@x or c@x within 5000 ms. log runs everywhere and is no distributed application. Start phases
 # are none, so a failover is told as normal.
 NODE = """{node, %s, [{kernel, [{distributed, [{web, 5000, [a@x, {b@x, c@x}]}, {ctl, [c@x, b@x]}]}]},
@@ -94,6 +95,17 @@ TIMES = {
              ("ctl", None, None)),
     # Forbidden where it runs, it starts at another node at once; a takeover has no time without it.
     "forbidden": ("permit a@x web false\ntick 5\ntakeover c@x web permanent\ntick 5", ("web", 0, None), ("ctl", None, None)),
+    # Stopped and started at all nodes: it is the standby at b@x, too, and runs at c@x again, the better one.
+    "at-all-nodes": ("tick 10\nstop_all ctl\ntick 40\nstart_all ctl permanent\ntick 3", ("web", None, None), ("ctl", 40, None)),
+    # Stopped everywhere while it is lost: its timer is cancelled, so nothing happens within the second tick.
+    "stopped-when-lost": ("crash a@x\ntick 2000\nstop_all web\ntick 9000", ("web", None, 11000), ("ctl", None, None)),
+    # The same, and it is started at b@x and c@x after 3000: before the failover time is over.
+    "started-again": ("crash a@x\ntick 2000\nstop_all web\ntick 1000\nstart_all web transient\ntick 9000", ("web", 3000, None),
+                      ("ctl", None, None)),
+    # The plan ends at its second event, and so does its time: there is nothing more to stop.
+    "stopped-twice": ("stop_all web\nstop_all web\ntick 5", ("web", None, 0), ("ctl", None, None)),
+    # A local application has no other nodes: the plan ends before anything is done.
+    "a-local-one": ("start_all log permanent\ncrash a@x\ntick 5", ("web", None, None), ("ctl", None, None)),
     # All nodes end; web was lost at 20 with a@x, and nobody comes back: wanted at 5020. Time goes on to 9020.
     "all-end": ("tick 20\ncrash a@x\ncrash b@x\ncrash c@x\ntick 9000", ("web", None, 9000), ("ctl", None, 9000)),
 }
@@ -115,6 +127,104 @@ def with_times(program):
             have = [line for line in block if " without it" in line or "never ended" in line]
             owed = list(time_lines(plan, over, rest))
             yield f"times of {name}: {plan}", fault_of(done, 0, None) or (None if have == owed else f"{have}, want {owed}")
+
+
+# What is told of both applications where web is sent away from a@x and is permitted there again, and where it ran at the end.
+GIVEN_BACK = """1 plan, 2 distributed applications
+
+web: nowhere at the end of 0 of 1 plan
+  ran at the end at %s (1 plan)
+  longest time without it 0 ms: given-back
+
+ctl: nowhere at the end of 0 of 1 plan
+  ran at the end at c@x (1 plan)
+  it never ended and started again
+"""
+AT_ALL = """4 plans, 2 distributed applications
+2 plans ended at an event that was refused: twice (2 S12 never_started), local (1 S9 not_distributed)
+
+web: nowhere at the end of 2 of 4 plans
+  quiet: stopped, twice
+  ran at the end at a@x (2 plans)
+  longest time without it 7 ms: again
+  without it to the end of the plan, for at least 30 ms: stopped
+
+ctl: nowhere at the end of 0 of 4 plans
+  ran at the end at c@x (4 plans)
+  it never ended and started again
+"""
+PLANS_AT_ALL = """plan stopped
+stop_all web
+tick 30
+plan again
+stop_all web
+tick 7
+start_all web permanent
+plan twice
+stop_all web
+stop_all web
+plan local
+stop_all log
+"""
+
+
+def profiles(program):
+    """Both profiles, and commands at all nodes in the base and in plans."""
+    plan = "plan given-back\npermit a@x web false\ntick 5\npermit a@x web true\ntick 5\n"
+    # Behind this base all runs where it ran before the commands at all nodes.
+    base = BASE + "stop_all web\ntick 3\nstart_all web temporary\n"
+    for name, front, node in [("no profile", "", "b@x"), ("profile 1", "{profile, 1}. ", "b@x"),
+                              ("profile 2", "% Mine.\n{profile, 2}.\n", "a@x")]:
+        done = timed(program, front + CLUSTER + BASE + plan)
+        yield f"a permission given back, {name}", fault_of(done, 0, (GIVEN_BACK % node).encode())
+        done = timed(program, front + CLUSTER + base + PLANS_AT_ALL)
+        yield f"at all nodes, {name}", fault_of(done, 0, AT_ALL.encode())
+    # The output of one profile, the input of the other: web doesn't end where the output tells.
+    swept = run(program, ["sweep"], input=("{profile, 2}.\n" + CLUSTER + BASE + plan).encode()).stdout.decode()
+    with tempfile.NamedTemporaryFile() as file:
+        file.write((CLUSTER + BASE + plan).encode())
+        file.flush()
+        done = survey(program, ["--of", file.name], swept)
+    is_told = b"plan given-back ends otherwise than the output tells" in done.stderr
+    yield "the other profile", None if is_told and done.returncode == 2 and done.stdout == b"" else f"{done}"
+
+
+def greatest():
+    """The greatest cluster of profile 2, with plans, and what is told of it. Application pK runs at one of 64 nodes, and fails over
+    to the next one within 10 * (K + 1) ms. Each plan crashes one node, with which two applications are lost."""
+    places = [(number % 64, (number + 1) % 64) for number in range(128)]
+    entries = ", ".join(f"{{p{app}, {10 * (app + 1)}, [n{first}, n{second}]}}" for app, (first, second) in enumerate(places))
+    text = "{profile, 2}.\n"
+    for node in range(64):
+        boot = ", ".join(f"{{p{app}, permanent}}" for app, pair in enumerate(places) if node in pair)
+        text += f"{{node, n{node}, [{{kernel, [{{distributed, [{entries}]}}]}}, {{rehearse, [{{boot, [{boot}]}}]}}]}}.\n"
+    text += "".join(f"{{application, p{app}, []}}.\n" for app in range(128))
+    text += "===\n" + "".join(f"boot n{node}\n" for node in range(64))
+    text += "".join(f"plan n{node}\ncrash n{node}\ntick 2000\n" for node in range(64))
+    told = "64 plans, 128 distributed applications\n"
+    for app, (first, second) in enumerate(places):
+        # Where it ran stands in the order of the plans: with the first node p0 and p64 are lost.
+        rows = [f"n{first} (63 plans)", f"n{second} (1 plan)"]
+        told += f"\np{app}: nowhere at the end of 0 of 64 plans\n  ran at the end at {', '.join(rows if first else rows[::-1])}\n"
+        told += f"  longest time without it {10 * (app + 1)} ms: n{first}\n"
+    return text, told
+
+
+def limits(program):
+    """As many nodes and applications as profile 2 has, and more than profile 1 has; and plans of nearly 16 MiB."""
+    text, told = greatest()
+    done = timed(program, text)
+    yield "64 nodes and 128 applications", fault_of(done, 0, told.encode())
+    done = timed(program, text.removeprefix("{profile, 2}.\n"))
+    is_right = done.returncode == 2 and b"the sweep was refused: cluster refused C3 too_many" in done.stderr
+    yield "64 nodes of profile 1", None if is_right and done.stdout == b"" else f"{done}"
+    # Events of some 260 bytes. With the undo that the companion adds for each they are more than the program reads at once.
+    name = "n" * 253 + "@x"
+    events = f"crash {name}\nboot {name}\n" * 3_960
+    text = f"{{node, {name}, []}}.\n===\nboot {name}\n" + "".join(f"plan p{number}\n{events}tick 1\n" for number in range(8))
+    sizes = len(text), len(text) + 8 * 7_921 * len("undo\n")
+    yield "the size of long plans", None if sizes[0] <= INPUT_LIMIT < sizes[1] else f"{sizes}"
+    yield "long plans", fault_of(timed(program, text), 0, b"8 plans, 0 distributed applications\n")
 
 
 # b@x waits for nobody any longer at 900: then it comes up and web, which is wanted since 700, starts there.
@@ -155,12 +265,22 @@ def faults(program):
     """What isn't a sweep's output, or not that of this input."""
     good = "plan p\ncrash a@x\ntick 5000\n"
     swept = run(program, ["sweep"], input=(CLUSTER + BASE + good).encode()).stdout.decode()
+    # What the program itself prints in place of outcomes.
+    for name, text, told in [("a plan's line", CLUSTER + BASE + "plan p\nundo\n", "bad line 5 (counted behind ===)"),
+                             ("a base", CLUSTER + BASE + "undo\nplan p\n", "sweep refused V2 base_not_at_end"),
+                             ("a cluster", "{node", "cluster refused C1 T1 syntax line 1")]:
+        done = survey(program, [], run(program, ["sweep"], input=text.encode()).stdout.decode())
+        is_right = done.returncode == 2 and done.stderr.decode() == f"survey: standard input: the sweep was refused: {told}\n"
+        yield f"refused for {name}", None if is_right else f"{done}"
     for name, text, told in [
             ("no plans", "ok\nup a@x\n", "standard input: it has no outcome of a plan"),
             ("nothing", "", "standard input: it has no outcome of a plan"),
-            ("a refused sweep", "ok\nsweep refused V3 trail_room\n", "line 2 is no outcome of a plan: sweep refused V3"),
-            ("a bad line", "bad line 5\n", "line 1 is no outcome of a plan: bad line 5"),
-            ("a refused cluster", "cluster refused C2 no_nodes\n", "cluster refused C2 no_nodes"),
+            ("a refused sweep", "ok\nsweep refused V3 trail_room\n",
+             "standard input: the sweep was refused: sweep refused V3 trail_room\n"),
+            ("a bad line", "bad line 5\n", "standard input: the sweep was refused: bad line 5 (counted behind ===)\n"),
+            ("a refused cluster", "cluster refused C2 no_nodes\n",
+             "standard input: the sweep was refused: cluster refused C2 no_nodes\n"),
+            ("what begins like one", "bad\n", "standard input: line 1 is no outcome of a plan: bad\n"),
             ("other text", TOLD + "hello\n", "line 20 is no outcome of a plan: hello"),
             ("a text that is cut off", TOLD.replace("app ctl running b@x\n", ""), "plan p4 tells of other applications")]:
         done = survey(program, [], text)
@@ -172,7 +292,8 @@ def faults(program):
             ("more events", good + "tick 1\n", "plan p has other events in"),
             ("other events", good.replace("crash a@x", "crash c@x"), "plan p ends otherwise than the output tells"),
             ("a refused event", good.replace("tick 5000", "crash a@x"), "plan p ends otherwise than the output tells"),
-            ("no command", good.replace("crash a@x", "smash a@x"), "this line is no command: smash a@x")]:
+            ("no command", good.replace("crash a@x", "smash a@x"),
+             f"line {CLUSTER.count(chr(10)) + 6} (line 5 behind ===): it is no command here: smash a@x\n")]:
         with tempfile.NamedTemporaryFile() as file:
             file.write((CLUSTER + BASE + other).encode())
             file.flush()
@@ -186,5 +307,5 @@ def faults(program):
 
 
 def group(program):
-    for tests in (without_times, with_times, several, faults):
+    for tests in (without_times, with_times, profiles, limits, several, faults):
         yield from tests(program)
