@@ -5,9 +5,10 @@ import select
 import subprocess
 import time
 
+from support import LONGEST_RUN
+
 OPTIONS = ["--headless=new", "--no-sandbox", "--disable-gpu", "--disable-dev-shm-usage", "--no-first-run",
            "--window-size=1280,900"]
-LONGEST_ANSWER = 120
 
 
 class Browser:
@@ -31,7 +32,7 @@ class Browser:
     def message(self):
         """The next message of the browser."""
         while b"\0" not in self.kept:
-            if not select.select([self.reads], [], [], LONGEST_ANSWER)[0]:
+            if not select.select([self.reads], [], [], LONGEST_RUN)[0]:
                 raise TimeoutError("the browser doesn't answer")
             read = os.read(self.reads, 1 << 20)
             if not read:
@@ -62,7 +63,7 @@ class Browser:
         self.call("Page.navigate", url="about:blank")
         self.events.clear()
         self.call("Page.navigate", url=f"file://{path}{fragment}")
-        end = time.monotonic() + LONGEST_ANSWER
+        end = time.monotonic() + LONGEST_RUN
         while self.value("document.readyState") != "complete" or self.value("location.protocol") != "file:":
             if time.monotonic() > end:
                 raise TimeoutError(f"{path} isn't loaded")
@@ -78,6 +79,13 @@ class Browser:
     def text(self, name):
         """The text of an element."""
         return self.value(f"document.getElementById({json.dumps(name)}).textContent")
+
+    def text_that_becomes(self, name, wanted):
+        """The text of an element, as soon as it is the wanted one, or after a while."""
+        end = time.monotonic() + LONGEST_RUN
+        while self.text(name) != wanted and time.monotonic() < end:
+            time.sleep(0.05)
+        return self.text(name)
 
     def press(self, *keys):
         """Presses keys, one after the other, and tells the step that is shown then."""

@@ -3,6 +3,8 @@ import functools
 import os
 import subprocess
 
+from support import LONGEST_RUN
+
 BASE = ["kernel", "stdlib"]
 MODULE = """-module(%s_app).
 -behaviour(application).
@@ -36,7 +38,7 @@ def application(folder, name, needs=(), mod=None, more="", vsn="1.0"):
 def erl(folder, code, *words):
     """What Erlang prints that evaluates some code in a folder."""
     done = subprocess.run(["erl", "-noshell", *words, "-eval", code + ", halt()."], cwd=folder, capture_output=True, text=True,
-                          timeout=60, env={**os.environ, "ERL_CRASH_DUMP": os.devnull})
+                          timeout=LONGEST_RUN, env={**os.environ, "ERL_CRASH_DUMP": os.devnull})
     assert done.returncode == 0, f"erl {words} {code}: {done.stdout[-400:]} {done.stderr[-400:]}"
     return done.stdout
 
@@ -60,4 +62,4 @@ def release(folder, name, apps, local=""):
 def compiled(folder):
     """Compiles the modules below FOLDER/src."""
     sources = [os.path.join(folder, "src", file) for file in os.listdir(os.path.join(folder, "src"))]
-    subprocess.run(["erlc", "-o", os.path.join(folder, "ebin")] + sources, check=True, timeout=60)
+    subprocess.run(["erlc", "-o", os.path.join(folder, "ebin")] + sources, check=True, timeout=LONGEST_RUN)

@@ -8,7 +8,7 @@ import tempfile
 from concurrent.futures import ThreadPoolExecutor
 
 from releases import BASE, application, compiled, erl, release, write
-from support import TOP, difference, run
+from support import LONGEST_RUN, TOP, difference, run
 
 NEEDS = ("erl", "escript", "erlc")
 COMPANION = os.path.join(TOP, "companions", "gather")
@@ -17,7 +17,7 @@ READ = ("distributed", "sync_nodes_mandatory", "sync_nodes_optional", "sync_node
 
 def gather(folder, *words, **environment):
     """A finished run of the companion."""
-    return subprocess.run([COMPANION, *words], cwd=folder, capture_output=True, text=True, timeout=60,
+    return subprocess.run([COMPANION, *words], cwd=folder, capture_output=True, text=True, timeout=LONGEST_RUN,
                           env={**os.environ, **environment})
 
 
@@ -105,7 +105,7 @@ def shop(folder):
     tar = erl(folder, 'io:format("~0p", [systools:make_tar("shop", [{path, ["ebin"]}, silent])])')
     assert tar.startswith("{ok,"), tar
     os.mkdir(os.path.join(folder, "target"))
-    subprocess.run(["tar", "xzf", "../shop.tar.gz"], cwd=os.path.join(folder, "target"), check=True, timeout=60)
+    subprocess.run(["tar", "xzf", "../shop.tar.gz"], cwd=os.path.join(folder, "target"), check=True, timeout=LONGEST_RUN)
 
 
 def one_release(program, folder):
@@ -129,7 +129,7 @@ def one_release(program, folder):
         yield name, wrong_with(program, done, SHOP, SHOP_COMMENTS)
     link = os.path.join(folder, "linked")
     os.symlink(COMPANION, link)
-    done = subprocess.run([link, "--release", target, *THREE], cwd="/", capture_output=True, text=True, timeout=60)
+    done = subprocess.run([link, "--release", target, *THREE], cwd="/", capture_output=True, text=True, timeout=LONGEST_RUN)
     yield "called by a link from elsewhere", refusal(done, 2, "sync.config: no such file")
     done = gather(folder, "--release", target, "--config", "sys", *THREE)
     script = done.stdout + "===\nboot a@host1\nboot b@host2\nboot c-3@host3\ncrash a@host1\ntick 5000\n"
@@ -470,7 +470,7 @@ def refused(_, folder):
             yield name, refusal(done, status, *parts)
     for name in ("include", "again", "param"):
         told = subprocess.run(["erl", "-noshell", "-config", name, "-eval", "halt()."], cwd=folder, capture_output=True,
-                              text=True, timeout=60, env={**os.environ, "ERL_CRASH_DUMP": os.devnull}).stdout
+                              text=True, timeout=LONGEST_RUN, env={**os.environ, "ERL_CRASH_DUMP": os.devnull}).stdout
         yield f"a live node refuses this too: {name}", None if "invalid config data" in told else told
     done = gather(folder, "--help")
     is_there = done.stdout.startswith("Writes a cluster file") and "\n  --profile N " in done.stdout

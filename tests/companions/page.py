@@ -3,12 +3,12 @@ DevTools pipe. What a page has to show is worked out by hand from docs/RULES.md,
 """
 import os
 import re
+import resource
 import subprocess
 import tempfile
-import time
 
-from browser import LONGEST_ANSWER, OPTIONS, Browser
-from support import TOP, example_files
+from browser import OPTIONS, Browser
+from support import LONGEST_RUN, TOP, example_files
 
 NEEDS = ("chromium",)
 COMPANION = os.path.join(TOP, "companions", "page")
@@ -42,6 +42,16 @@ COLUMN = """(() => {
     return [label.textContent, title ? title.textContent : ""];
   });
 })()"""
+# The milliseconds that the page takes for 100 keys and its layout behind each. A key that is pressed would wait for the browser
+# to paint, which on a machine with other work takes as long as that leaves.
+HUNDRED_KEYS = """(() => {
+  const begin = performance.now();
+  for (let key = 0; key < 100; key += 1) {
+    document.dispatchEvent(new KeyboardEvent("keydown", { key: "ArrowRight" }));
+    document.body.getBoundingClientRect();
+  }
+  return performance.now() - begin;
+})()"""
 REFUSED_COMMANDS = "[...document.querySelectorAll('text.refused')].map((head) => head.textContent)"
 # The table of plans: each with its other cells.
 ROWS_OF_PLANS = """Object.fromEntries([...document.querySelectorAll('#sweep tbody tr')].map(
@@ -52,7 +62,16 @@ STRANGE = ["</script><script>document.title=1</script>", "<img/src=x/onerror=doc
 
 def page(program, words, text=None):
     """A finished run of the companion."""
-    return subprocess.run([COMPANION, "--rehearse", program, *words], input=text, capture_output=True, timeout=60)
+    return subprocess.run([COMPANION, "--rehearse", program, *words], input=text, capture_output=True, timeout=LONGEST_RUN)
+
+
+def made_within(seconds, program, folder, words, text):
+    """The path of a page, and what is wrong if the companion and the program took longer on a processor."""
+    begin = resource.getrusage(resource.RUSAGE_CHILDREN)
+    path = made(program, folder, words, text)
+    end = resource.getrusage(resource.RUSAGE_CHILDREN)
+    taken = end.ru_utime + end.ru_stime - begin.ru_utime - begin.ru_stime
+    return path, None if taken < seconds else f"{taken:.1f} seconds"
 
 
 def same(want, have):
@@ -110,8 +129,7 @@ def one_rehearsal(program, folder, browser):
     yield "each span has a word", same(0, browser.value(
         "[...document.querySelectorAll('.band g')].filter((span) => span.querySelector('title') && !span.querySelector('text')).length"))
     browser.value("location.hash = '#step=3'")
-    time.sleep(0.2)
-    yield "a link to a step", same("3", browser.text("step"))
+    yield "a link to a step", same("3", browser.text_that_becomes("step", "3"))
     marked = ["node cp1@cave up 1", "  running myapp permanent normal", "node cp2@cave up 1", "  waiting myapp permanent",
               "node cp3@cave up 1", "  waiting myapp permanent", "app myapp running cp1@cave"]
     yield "what has changed is marked", same(marked, browser.value("[...document.querySelectorAll('#report b')].map((b) => b.textContent)"))
@@ -141,7 +159,7 @@ def dumped(program, folder, _):
     """What the browser makes of a page when it is asked for no more than that."""
     path = made(program, folder, [example("repaired-node.txt")])
     done = subprocess.run(["chromium", *OPTIONS, f"--user-data-dir={folder}/other", "--dump-dom", f"file://{path}#step=7"],
-                          stdin=subprocess.DEVNULL, stdout=subprocess.PIPE, stderr=subprocess.DEVNULL, timeout=LONGEST_ANSWER)
+                          stdin=subprocess.DEVNULL, stdout=subprocess.PIPE, stderr=subprocess.DEVNULL, timeout=LONGEST_RUN)
     text = done.stdout.decode()
     missing = [part for part in ('<b id="step">7</b>', "<b>app myapp running cp3@cave</b>", "<b>now 10000</b>") if part not in text]
     yield "a dump at a step", f"it lacks {missing}" if missing else None
@@ -270,12 +288,10 @@ def greatest(program, folder, browser):
     done = page(program, ["-"], text.encode())
     is_told = done.returncode == 2 and not done.stdout and b"standard input: cluster refused C3 too_many" in done.stderr
     yield "64 nodes of profile 1", None if is_told else f"{done}"
-    begin = time.monotonic()
-    path = made(program, folder, ["-"], ("{profile, 2}.\n" + text).encode())
+    path, wrong = made_within(20, program, folder, ["-"], ("{profile, 2}.\n" + text).encode())
+    yield "64 nodes: made in 20 seconds", wrong
     browser.open(path)
     browser.press("End")
-    seconds = time.monotonic() - begin
-    yield "64 nodes: made and open in 20 seconds", None if seconds < 20 else f"{seconds:.1f} seconds"
     yield "64 nodes: at most 4 MB", None if os.path.getsize(path) < 4_000_000 else f"{os.path.getsize(path)} bytes"
     yield "64 nodes: what is counted", same(
         "64 nodes, profile 2, 67 steps, 500 ms", browser.value("document.querySelector('p.small').textContent").split(".")[0])
@@ -303,11 +319,9 @@ def large(program, folder, browser):
     text += "{application, svc, []}. {application, far, []}. {application, log, []}.\n===\n" + "".join(f"boot {node}\n" for node in nodes)
     turns = [nodes[turn % 32] for turn in range(492)]
     text += "".join(f"crash {node}\ntick 1000\nboot {node}\ntick 1000\n" for node in turns)
-    begin = time.monotonic()
-    path = made(program, folder, ["-"], text.encode())
+    path, wrong = made_within(20, program, folder, ["-"], text.encode())
+    yield "2,000 steps: made in 20 seconds", wrong
     browser.open(path)
-    seconds = time.monotonic() - begin
-    yield "2,000 steps: made and open in 20 seconds", None if seconds < 20 else f"{seconds:.1f} seconds"
     browser.press("End")
     yield "2,000 steps: at most 4 MB", None if os.path.getsize(path) < 4_000_000 else f"{os.path.getsize(path)} bytes"
     # 492 is 15 times 32 and 12: so often n0 crashed once more than n31.
@@ -324,9 +338,7 @@ def large(program, folder, browser):
     yield "2,000 steps: it runs elsewhere", all_same(("34", browser.press("ArrowRight")), ("ok\nstarted svc n1@x normal", browser.text("answer")))
     yield "2,000 steps: it is taken over", all_same(
         ("35", browser.press("ArrowRight")), (True, "started svc n0@x takeover n1@x\nstopped svc n1@x" in browser.text("answer")))
-    begin = time.monotonic()
-    browser.press(*["ArrowRight"] * 100)
-    seconds = time.monotonic() - begin
+    seconds = browser.value(HUNDRED_KEYS) / 1000
     yield "2,000 steps: 100 keys in 10 seconds", all_same(("135", browser.text("step"))) or (None if seconds < 10 else f"{seconds:.1f} seconds")
     yield "2,000 steps: nothing went wrong", browser.troubles()
 

@@ -4,7 +4,7 @@ import shutil
 import subprocess
 import tempfile
 
-from support import TOP, difference, fault_of, read, run
+from support import LONGEST_RUN, TOP, difference, fault_of, read, run
 
 NEEDS = ("python3",)
 COMPANION = os.path.join(TOP, "companions", "plans")
@@ -53,7 +53,7 @@ tick 900
 
 def plans(program, words, text):
     """A finished run of the companion, with an input."""
-    return subprocess.run([COMPANION, "--rehearse", program, *words], input=text.encode(), capture_output=True, timeout=60)
+    return subprocess.run([COMPANION, "--rehearse", program, *words], input=text.encode(), capture_output=True, timeout=LONGEST_RUN)
 
 
 def names(done):

@@ -10,11 +10,10 @@ import tempfile
 import time
 from concurrent.futures import ThreadPoolExecutor
 
-from support import TOP, fault_of, read
+from support import LONGEST_RUN, TOP, fault_of, read
 
 NEEDS = ("erl", "escript", "erlc")
 COMPANION = os.path.join(TOP, "companions", "replay")
-LONGEST_WAIT = 120
 KERNEL = "{distributed, [{web, 500, [a@x, 'b-1@x']}]}, {sync_nodes_optional, [a@x, 'b-1@x']}, {sync_nodes_timeout, 5000}"
 CLUSTER = "".join(f"{{node, {node}, [\n  {{kernel, [{KERNEL}]}},\n  {{rehearse, [{{boot, [{{log, permanent}}, {{web, permanent}}]}}, "
                   "{platform, [ssl]}]}]}.\n" for node in ("a@x", "'b-1@x'"))
@@ -69,7 +68,7 @@ PROFILE_1_TOLD = ["> started web a@x takeover b-1@x", "> stopped web b-1@x"]
 def replay(program, words, **options):
     """A finished run of the companion."""
     return subprocess.run([COMPANION, "--rehearse", program, *words], stdin=subprocess.DEVNULL, capture_output=True, text=True,
-                          timeout=LONGEST_WAIT, **options)
+                          timeout=LONGEST_RUN, **options)
 
 
 def written(folder, text, name="input.txt"):
@@ -178,7 +177,7 @@ def sockets(ids):
 
 def waited(is_done):
     """Whether something is so in time."""
-    end = time.monotonic() + LONGEST_WAIT
+    end = time.monotonic() + LONGEST_RUN
     while not is_done():
         if time.monotonic() > end:
             return False
@@ -196,7 +195,7 @@ def ending(program, folder, name, number):
         there = processes(place)
         addresses = sockets(there)
         child.send_signal(number)
-        child.wait(LONGEST_WAIT)
+        child.wait(LONGEST_RUN)
         is_gone = waited(lambda: not processes(place) and not glob.glob(f"{place}/rehearse-replay.*"))
     is_local = len(addresses) >= 2 and set(addresses) == {"0100007F"}
     is_ended = told and len(there) >= 4 and is_gone and child.returncode == -number
@@ -251,7 +250,7 @@ def refusals(program, folder):
         yield f"refused: {name}", None if is_right else f"status {done.returncode}: {done.stdout}{done.stderr}"
     done = replay(program, ["/nowhere/input"])
     yield "refused: no file", None if done.returncode == 2 and "/nowhere/input" in done.stderr else f"{done}"
-    done = subprocess.run([COMPANION, "--help"], capture_output=True, timeout=LONGEST_WAIT)
+    done = subprocess.run([COMPANION, "--help"], capture_output=True, timeout=LONGEST_RUN)
     missing = [word for word in (b"--factor F", b"start_all", b"stop_all", b"{profile, 2}") if word not in done.stdout]
     yield "--help", fault_of(done, 0, None) or (f"it lacks {missing}" if missing else None)
 

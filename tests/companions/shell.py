@@ -8,11 +8,10 @@ import subprocess
 import tempfile
 import time
 
-from support import TOP, difference, fault_of, read, run
+from support import LONGEST_RUN, TOP, difference, fault_of, read, run
 
 NEEDS = ("python3",)
 COMPANION = os.path.join(TOP, "companions", "shell")
-LONGEST_WAIT = 120
 # Only the first four names are applications: the others stand in a comment, a string, other places, or in quotes.
 CLUSTER = """% Here a quote isn't closed: {application, nobody, []}. {node, no@where, []}.
 {node, a@x, [{kernel, [{distributed, [{web, 700, [a@x, 'b-1@x']}]}, {sync_nodes_optional, ['b-1@x']},
@@ -30,7 +29,7 @@ BANNER = "2 nodes, 4 applications, profile 1; help lists the commands\n"
 def talk(program, entered, file, words=()):
     """A finished run of the companion on a file, with lines that are entered."""
     return subprocess.run([COMPANION, "--rehearse", program, *words, file], input=entered.encode(), capture_output=True,
-                          timeout=60)
+                          timeout=LONGEST_RUN)
 
 
 class Files:
@@ -246,7 +245,7 @@ class Terminal:
 
     def shows(self, text):
         """Whether the screen shows a text in time."""
-        end = time.monotonic() + LONGEST_WAIT
+        end = time.monotonic() + LONGEST_RUN
         while text not in self.text:
             ready, _, _ = select.select([self.side], [], [], max(0, end - time.monotonic()))
             try:
@@ -261,7 +260,7 @@ class Terminal:
 
     def wait_for_idleness(self):
         """Waits until the companion waits for keys. Python misses a Ctrl-C between what it shows and that."""
-        end = time.monotonic() + LONGEST_WAIT
+        end = time.monotonic() + LONGEST_RUN
         while time.monotonic() < end:
             with open(f"/proc/{self.child}/stat") as file:
                 if file.read().rsplit(")", 1)[1].split()[0] == "S":
@@ -270,7 +269,7 @@ class Terminal:
 
     def status(self):
         """The exit status, once the companion has ended."""
-        end = time.monotonic() + LONGEST_WAIT
+        end = time.monotonic() + LONGEST_RUN
         while time.monotonic() < end:
             ended, status = os.waitpid(self.child, os.WNOHANG)
             if ended:
@@ -333,10 +332,10 @@ def faults(program):
                  f"line {CLUSTER.count(chr(10)) + 4} (line 3 behind ===): it is no command here: reboot a@x\n"),
                 ("no file", ["/nowhere/cluster"], 2, "/nowhere/cluster: No such file"),
                 ("no word", [], 1, "FILE"), ("a strange word", ["--nonsense", "x"], 1, "--nonsense")]:
-            done = subprocess.run([COMPANION, "--rehearse", program, *words], input=b"", capture_output=True, timeout=60)
+            done = subprocess.run([COMPANION, "--rehearse", program, *words], input=b"", capture_output=True, timeout=LONGEST_RUN)
             is_right = done.returncode == status and done.stdout == b"" and told in done.stderr.decode()
             yield f"refused: {name}", None if is_right else f"{done}"
-    done = subprocess.run([COMPANION, "--help"], capture_output=True, timeout=60)
+    done = subprocess.run([COMPANION, "--help"], capture_output=True, timeout=LONGEST_RUN)
     yield "--help", fault_of(done, 0, None) or (None if b"save PATH" in done.stdout else f"{done}")
 
 

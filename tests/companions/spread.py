@@ -5,7 +5,7 @@ import subprocess
 import tempfile
 import time
 
-from support import TOP, difference, fault_of, read, run
+from support import LONGEST_RUN, TOP, difference, fault_of, read, run
 
 NEEDS = ("bash", "parallel", "perl")
 COMPANION = os.path.join(TOP, "companions", "spread")
@@ -31,7 +31,7 @@ SHELL=$BASH exec bash -c "$*"
 
 def spread(program, words, text, **options):
     """A finished run of the companion, with an input."""
-    return subprocess.run([COMPANION, "--rehearse", program, *words], input=text, capture_output=True, timeout=60, **options)
+    return subprocess.run([COMPANION, "--rehearse", program, *words], input=text, capture_output=True, timeout=LONGEST_RUN, **options)
 
 
 def script(path, text):
@@ -59,7 +59,7 @@ def shares(program):
         file.write(EXAMPLE)
         file.flush()
         owed = run(program, ["sweep"], input=EXAMPLE).stdout
-        done = subprocess.run([COMPANION, "--shares", "2", file.name], capture_output=True, timeout=60,
+        done = subprocess.run([COMPANION, "--shares", "2", file.name], capture_output=True, timeout=LONGEST_RUN,
                               env={**os.environ, "REHEARSE": program})
         yield "from a file, by the program of the environment", fault_of(done, 0, owed)
 
@@ -178,9 +178,9 @@ def long_sweep():
     return HEAD + b"".join(plans)
 
 
-def wait_for(told, seconds=30):
+def wait_for(told):
     """Waits until something is told, and gives it."""
-    end = time.monotonic() + seconds
+    end = time.monotonic() + LONGEST_RUN
     while time.monotonic() < end:
         found = told()
         if found:
@@ -211,7 +211,7 @@ def killed(program):
         with subprocess.Popen([COMPANION, "--rehearse", counted, "--shares", "2", "--jobs", "1", file.name],
                               stdout=subprocess.PIPE, stderr=subprocess.PIPE) as child:
             os.kill(wait_for(lambda: at_work(starts, program)), signal.SIGKILL)
-            out, told = child.communicate(timeout=60)
+            out, told = child.communicate(timeout=LONGEST_RUN)
         owed = run(program, ["sweep"], input=text)
         wrong = difference(owed.stdout, out) if out != owed.stdout else f"status {child.returncode}, {told}"
         yield "a run is killed", wrong if (out, told, child.returncode) != (owed.stdout, b"", 0) else None

@@ -3,7 +3,7 @@ import os
 import subprocess
 import tempfile
 
-from support import TOP, fault_of, run
+from support import LONGEST_RUN, TOP, fault_of, run
 
 NEEDS = ("python3",)
 COMPANION = os.path.join(TOP, "companions", "survey")
@@ -53,7 +53,7 @@ ctl: nowhere at the end of 2 of 5 plans
 
 def survey(program, words, text):
     """A finished run of the companion, with an input."""
-    return subprocess.run([COMPANION, "--rehearse", program, *words], input=text.encode(), capture_output=True, timeout=60)
+    return subprocess.run([COMPANION, "--rehearse", program, *words], input=text.encode(), capture_output=True, timeout=LONGEST_RUN)
 
 
 def timed(program, source, words=()):
