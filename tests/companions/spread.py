@@ -13,6 +13,13 @@ EXAMPLE = read(os.path.join(TOP, "examples", "five-nodes-sweep.txt"))
 HEAD = EXAMPLE.split(b"plan ", 1)[0]
 # The program, which writes down each process that sweeps.
 COUNTED = '#!/bin/sh\n[ "$1" = check ] || echo $$ >> "%s"\nexec "%s" "$@"\n'
+# The same, but the first run gets no input, and so doesn't end by itself.
+FIRST_WAITS = """#!/bin/sh
+[ "$1" = check ] && exec "%(program)s" "$@"
+echo $$ >> "%(starts)s"
+[ "$(wc -l < "%(starts)s")" -gt 1 ] || exec "%(program)s" "$@" <> "%(nothing)s"
+exec "%(program)s" "$@"
+"""
 # In place of ssh, which sets SHELL: the machine `gone` reads what it is sent, answers a part of it and is lost.
 MACHINES = """#!/usr/bin/env bash
 while [[ $1 == -* && $1 != -- ]]; do shift; done
@@ -172,12 +179,6 @@ def larger_input(program):
     yield "18,000,000 bytes in one run", fault_of(alone, 4, b"")
 
 
-def long_sweep():
-    """A sweep of which each of two shares takes some time."""
-    plans = [b"plan p%d\ncrash edge%d@site\n" % (number, number % 3 + 1) + b"tick 1\n" * 60_000 for number in range(4)]
-    return HEAD + b"".join(plans)
-
-
 def wait_for(told):
     """Waits until something is told, and gives it."""
     end = time.monotonic() + LONGEST_RUN
@@ -202,13 +203,14 @@ def at_work(path, program):
 
 def killed(program):
     """A run that is killed while it works is done again."""
-    text = long_sweep()
+    text = HEAD + b"".join(b"plan p%d\ncrash edge%d@site\ntick 1\n" % (number, number % 3 + 1) for number in range(4))
     with tempfile.TemporaryDirectory() as folder:
-        starts = os.path.join(folder, "starts")
-        counted = script(os.path.join(folder, "program"), COUNTED % (starts, program))
+        starts, nothing = os.path.join(folder, "starts"), os.path.join(folder, "nothing")
+        os.mkfifo(nothing)
+        waiting = script(os.path.join(folder, "program"), FIRST_WAITS % {"program": program, "starts": starts, "nothing": nothing})
         with open(os.path.join(folder, "input"), "wb") as file:
             file.write(text)
-        with subprocess.Popen([COMPANION, "--rehearse", counted, "--shares", "2", "--jobs", "1", file.name],
+        with subprocess.Popen([COMPANION, "--rehearse", waiting, "--shares", "2", "--jobs", "1", file.name],
                               stdout=subprocess.PIPE, stderr=subprocess.PIPE) as child:
             os.kill(wait_for(lambda: at_work(starts, program)), signal.SIGKILL)
             out, told = child.communicate(timeout=LONGEST_RUN)
