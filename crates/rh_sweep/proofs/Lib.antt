@@ -1,5 +1,6 @@
 pub mod Chained
 pub mod Trying
 pub mod Strides
+pub mod Turns
 pub mod Rows
 pub mod RowsSweeping

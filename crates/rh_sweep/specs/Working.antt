@@ -1,5 +1,5 @@
 -- What is said within a sweep, where a plan or the work is done in part (ours).
-use Rattle.std.specs.Prelude.{◌≡◌, ◌≤◌, ◌<◌, ◌+◌, ◌*◌, ℕ, List, length, take, Option, slice_get}
+use Rattle.std.specs.Prelude.{◌≡◌, ◌≤◌, ◌<◌, ◌+◌, ◌*◌, ℕ, List, length, take, Option, Some, None, Result, Ok, Err, Vec, slice_get}
 use Rattle.std.specs.Option.{option_map}
 use Rattle.rh_events.specs.declared.refusal.Refusal.{Refusal}
 use Rattle.rh_state.specs.StateView.{StateView}
@@ -32,3 +32,8 @@ pub record IsAhead (s t : Held) : Type 0 where
 abbrev pub AreOutcomes : SimView → List Plan → ℕ → ℕ → List Outcome → Type 0
 AreOutcomes base plans k first outcomes =
     (j : ℕ) → first + j * k < length plans → slice_get outcomes j ≡ option_map (outcome_of base) (slice_get plans (first + j * k))
+
+-- what a worker gave, if it had memory
+abbrev pub given : {X Z E : Type 0} → Result (Vec X Z) E → Option (List X)
+given (Ok items) = Some items.items
+given (Err _) = None

@@ -94,7 +94,7 @@ fn swept<R: Threads + Wait + Sync, G: Gate + Sync>(
         workers,
         &|first| { work(rt, alloc, base, plans, workers, first, gate) },
     )?;
-    in_plan_order(alloc, base, plans, parts.as_slice())
+    in_plan_order(alloc, base, plans, parts)
 }
 
 // The outcomes of one worker's plans, in order, on a copy of the base. A worker without plans needs none.
