@@ -1,10 +1,11 @@
 -- The outcomes of every k-th plan.
-use Rattle.std.proofs.Common.{◌≡◌, ℕ, ◌+◌, ◌*◌, ◌/◌, ◌%◌, ◌<◌, List, [], ◌∷◌, ◌++◌, length, Some, get_or, slice_get}
-use Rattle.std.proofs.Common.{sym, ap, subst, ◌∙◌, inl, inr, arith}
+use Rattle.std.proofs.Common.{◌≡◌, ℕ, ◌+◌, ◌*◌, ◌<◌, ◌≤◌, List, [], ◌∷◌, ◌++◌, length, Some, get_or, slice_get}
+use Rattle.std.proofs.Common.{sym, ap, ◌∙◌, inl, inr, arith}
 use Rattle.std.specs.Option.{option_map}
 use Rattle.std.proofs.lemmas.List.{length_push, get_or_append_left, get_or_push}
 use Rattle.std.proofs.lemmas.Option.{slice_get-get_or}
 use Rattle.std.proofs.lemmas.Bool.{cases_lt}
+use Rattle.std.proofs.Math.Nat.{mul-le-mul_left}
 use Rattle.rh_trail.specs.SimView.{SimView}
 use Rattle.rh_sweep.specs.declared.plan.Outcome.{Outcome}
 use Rattle.rh_sweep.specs.declared.plan.Plan.{Plan}
@@ -43,6 +44,13 @@ module _ (s : SimView) (plans : List Plan) (k first : ℕ) where
   first-tried t outs o n p same at inside read is each =
       first-more outs o n p at inside (is ∙ ap (λ (v : SimView). outcome_of v p) same ∙ ap (outcome_of s) read) each
 
+  -- all of them
+  pub first-all : (outs : List Outcome) (n : ℕ) → n ≡ first + length outs * k → length plans ≤ n → AreFirst outs → AreOutcomes s plans k first outs
+  first-all outs n at end each j within = elim (cases_lt j (length outs)) [
+    | inl below ↦ each j below
+    | inr above ↦ absurd (omega (arith, mul-le-mul_left k above, at, end, within))
+  ]
+
   pub stride-more : (m n : ℕ) → n ≡ first + m * k → n + k ≡ first + (m + 1) * k
   stride-more m n at = omega (arith, at)
 
@@ -50,12 +58,3 @@ module _ (s : SimView) (plans : List Plan) (k first : ℕ) where
 pub any-plan : (plans : List Plan) (n : ℕ) → n < length plans → Plan
 any-plan [] n inside = absurd (omega (arith, inside))
 any-plan (plan ∷ plans) n inside = plan
-
--- plan n is the n / k-th of worker n % k
-pub found : (s : SimView) (plans : List Plan) (k : ℕ) (outs : List Outcome) (n : ℕ) (d : Plan) → 0 < k → n < length plans
-    → AreOutcomes s plans k (n % k) outs → slice_get outs (n / k) ≡ Some (outcome_of s (get_or plans n d))
-found s plans k outs n d some inside are =
-    let whole : n % k + n / k * k ≡ n = omega arith in
-    are (n / k) (subst (λ m. m < length plans) (sym whole) inside)
-    ∙ ap (λ m. option_map (outcome_of s) (slice_get plans m)) whole
-    ∙ ap (option_map (outcome_of s)) (slice_get-get_or plans n d inside)

@@ -2,12 +2,15 @@
 //!
 //! A [`Plan`] is a list of events, and its [`Outcome`] is what comes of them from a base simulation, up to the first that
 //! is refused. [`try_plan`] gives the outcome of one plan and leaves the simulation as it was. [`sweep`] gives those of
-//! many, each worker on a copy of its own, with a [`Gate`] round each plan.
+//! many, each worker on a copy of the base's state, with a [`Gate`] round each plan.
 #![tactic(auto)]
 
+mod branch;
 mod fault;
 mod plan;
 mod shares;
+mod standing;
+mod steps;
 mod trial;
 mod workers;
 

@@ -1,12 +1,11 @@
 //! Plans, and what comes of them.
 
-ghost use Rattle.std.specs.Prelude.{◌≡◌, IfOk};
+ghost use Rattle.std.specs.Prelude.{◌≡◌};
 
-use rh_base::{OutOfMemory, Str};
+use rh_base::Str;
 use rh_model::App;
 use rh_state::Standing;
 use rh_step::{Event, Refusal};
-use std::alloc::Global;
 use std::marker::Model;
 
 /// Events that are tried one after the other, up to the first that is refused.
@@ -49,14 +48,6 @@ impl Standings {
     {
         self.items.as_slice()
     }
-
-    /// An equal list.
-    pub fn copy(&self, alloc: Global) -> Result<Standings, OutOfMemory>
-        ensures { IfOk result (λ copy. copy ≡ self.now) }
-    {
-        let items = Vec::from_slice(alloc, self.as_slice())?;
-        Ok(Standings { items })
-    }
 }
 
 /// What comes of a plan: what one caller is told who makes its events, and where the applications stand then.
@@ -72,20 +63,4 @@ pub struct Outcome {
     pub failovers: u128,
     /// How often one was started in place of one that ran at another node.
     pub takeovers: u128,
-}
-
-impl Outcome {
-    /// An equal outcome.
-    pub fn copy(&self, alloc: Global) -> Result<Outcome, OutOfMemory>
-        ensures { IfOk result (λ copy. copy ≡ self.now) }
-    {
-        let standings = self.standings.copy(alloc)?;
-        Ok(Outcome {
-            accepted: self.accepted,
-            refused: self.refused,
-            standings,
-            failovers: self.failovers,
-            takeovers: self.takeovers,
-        })
-    }
 }

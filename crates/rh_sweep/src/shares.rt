@@ -1,14 +1,15 @@
 //! How plans are shared out among workers, and their outcomes put together.
 
-ghost use Rattle.std.specs.Prelude.{◌≡◌, ◌<◌, ◌↔◌, ℕ, length, map, All, IsTrue, slice_index_or, IfOk};
+ghost use Rattle.std.specs.Prelude.{◌≡◌, ◌<◌, ◌↔◌, ℕ, length, map, All, IsTrue, slice_index_or, IfOk, Some};
 ghost use Rattle.rh_sweep.specs.Outcomes.{outcome_of};
 ghost use Rattle.rh_sweep.specs.Sweeping.{HasRoom, IsAtEnd};
-ghost use Rattle.rh_sweep.specs.Working.{AreOutcomes};
+ghost use Rattle.rh_sweep.specs.Working.{AreOutcomes, given};
 
 use crate::plan::{Outcome, Plan};
 use rh_base::OutOfMemory;
 use rh_trail::Sim;
 use std::alloc::Global;
+use std::collections::VecDeque;
 
 /// Has the base's trail room for each of these plans?
 pub(crate) fn have_room(base: &Sim, plans: &[Plan]) -> bool
@@ -25,24 +26,39 @@ pub(crate) fn have_room(base: &Sim, plans: &[Plan]) -> bool
 }
 
 /// The outcomes of all workers, in the order of the plans. Worker w of k has those of the plans w, w + k, w + 2k and so on.
+/// Each outcome is moved, so that it lies in memory once.
 pub(crate) fn in_plan_order(
     alloc: Global,
     base: &Sim,
     plans: &[Plan],
-    parts: &[Result<Vec<Outcome>, OutOfMemory>],
+    parts: Vec<Result<Vec<Outcome>, OutOfMemory>>,
 ) -> Result<Vec<Outcome>, OutOfMemory>
-    requires some { 0 < length parts.now }
-    requires parts { (w : ℕ) (d : _) → w < length parts.now → IfOk (slice_index_or parts.now w d) (λ outcomes. AreOutcomes base.now.seen plans.now (length parts.now) w outcomes.items) }
+    requires some { 0 < length parts.items }
+    requires parts { (w : ℕ) (d : _) → w < length parts.items → IfOk (slice_index_or parts.items w d) (λ outcomes. AreOutcomes base.now.seen plans.now (length parts.items) w outcomes.items) }
     ensures { IfOk result (λ outcomes. outcomes.items ≡ map (outcome_of base.now.seen) plans.now) }
 {
     // Only the contract speaks of the base.
     let _ = base;
+    let mut turns = turns_of(alloc, parts)?;
     let mut outcomes = Vec::with_capacity(alloc, plans.len())?;
-    for number in 0..plans.len() {
-        match &parts[number % parts.len()] {
-            Ok(part) => outcomes.push(part[number / parts.len()].copy(alloc)?)?,
-            Err(OutOfMemory) => return Err(OutOfMemory),
-        }
+    for _number in 0..plans.len() {
+        let mut part = turns.pop_front().unwrap();
+        outcomes.push(part.pop_front().unwrap())?;
+        turns.push_back(part)?;
     }
     Ok(outcomes)
+}
+
+// The outcomes of each worker, to be taken from the first on, unless some worker lacked memory.
+fn turns_of(
+    alloc: Global,
+    parts: Vec<Result<Vec<Outcome>, OutOfMemory>>,
+) -> Result<VecDeque<VecDeque<Outcome>>, OutOfMemory>
+    ensures { IfOk result (λ turns. map (λ turn. Some turn.items) turns.items ≡ map given parts.items) }
+{
+    let mut turns = VecDeque::with_capacity(alloc, parts.len())?;
+    for part in parts {
+        turns.push_back(VecDeque::from(part?))?;
+    }
+    Ok(turns)
 }

@@ -1,19 +1,17 @@
 //! One plan, tried and taken back.
 
-ghost use Rattle.std.specs.Prelude.{◌≡◌, ◌≤◌, ◌<◌, ◌++◌, take, IfOk, OnOk, count_by};
-ghost use Rattle.rh_model.specs.ClusterView.{app_count};
+ghost use Rattle.std.specs.Prelude.{◌≡◌, ◌≤◌, take, IfOk, count_by};
 ghost use Rattle.rh_settle.specs.declared.notice.Notice.{Notice};
-ghost use Rattle.rh_state.specs.Stored.{read};
 ghost use Rattle.rh_trail.specs.Chain.{chain};
-ghost use Rattle.rh_trail.specs.SimView.{state_of};
-ghost use Rattle.rh_sweep.specs.Outcomes.{outcome_in, outcome_of, standing_in, standings_in, is_failover, is_takeover};
+ghost use Rattle.rh_trail.specs.SimView.{SimView, Held, state_of};
+ghost use Rattle.rh_sweep.specs.Outcomes.{outcome_in, outcome_of, is_failover, is_takeover};
 ghost use Rattle.rh_sweep.specs.Sweeping.{HasRoom, HasRoomFor, IsAtEnd};
-ghost use Rattle.rh_sweep.specs.Working.{IsAhead, ended};
+ghost use Rattle.rh_sweep.specs.Working.{ended};
 
-use crate::plan::{Outcome, Plan, Standings};
+use crate::plan::{Outcome, Plan};
+use crate::steps::Steps;
 use rh_base::OutOfMemory;
-use rh_model::App;
-use rh_state::{Kind, Standing, State};
+use rh_state::Kind;
 use rh_step::{Event, Notice, Refusal};
 use rh_trail::Sim;
 use std::alloc::Global;
@@ -46,15 +44,19 @@ pub fn try_plan(alloc: Global, sim: &mut Sim, plan: &Plan) -> Result<Outcome, Ou
     outcome
 }
 
-// The outcome of these events, with the simulation where they lead.
-fn tried(alloc: Global, sim: &mut Sim, events: &[Event]) -> Result<Outcome, OutOfMemory>
-    requires end { IsAtEnd sim.old.seen }
-    requires room { HasRoomFor sim.old.seen events.now }
-    ensures outcome { IfOk result (λ outcome. outcome ≡ outcome_in sim.old.seen events.now) }
-    ensures ahead { IsAhead sim.old sim.new }
+/// The outcome of these events, with the simulation or the branch where they lead.
+pub(crate) fn tried<S: Steps>(
+    alloc: Global,
+    steps: &mut S,
+    events: &[Event],
+) -> Result<Outcome, OutOfMemory>
+    requires { (base : Held) × (s : SimView) × S.stands steps.old base s × HasRoomFor s events.now }
+    ensures outcome { IfOk result (λ outcome. (base : Held) (s : SimView) → S.stands steps.old base s → HasRoomFor s events.now
+        → outcome ≡ outcome_in s events.now) }
+    ensures ahead { (base : Held) (s : SimView) → S.stands steps.old base s → HasRoomFor s events.now → (t : SimView) × S.stands steps.new base t }
 {
-    let count = go_ahead(alloc, sim, events)?;
-    let standings = standings_in(alloc, sim.state())?;
+    let count = go_ahead(alloc, steps, events)?;
+    let standings = steps.standings(alloc)?;
     Ok(Outcome {
         accepted: count.accepted,
         refused: count.refused,
@@ -65,16 +67,16 @@ fn tried(alloc: Global, sim: &mut Sim, events: &[Event]) -> Result<Outcome, OutO
 }
 
 // Makes the events up to the first refused one.
-fn go_ahead(alloc: Global, sim: &mut Sim, events: &[Event]) -> Result<Count, OutOfMemory>
-    requires end { IsAtEnd sim.old.seen }
-    requires room { HasRoomFor sim.old.seen events.now }
-    ensures outcome { IfOk result (λ c. ended (state_of sim.new.seen) c.accepted c.refused c.failovers c.takeovers ≡ outcome_in sim.old.seen events.now) }
-    ensures ahead { IsAhead sim.old sim.new }
+fn go_ahead<S: Steps>(alloc: Global, steps: &mut S, events: &[Event]) -> Result<Count, OutOfMemory>
+    requires { (base : Held) × (s : SimView) × S.stands steps.old base s × HasRoomFor s events.now }
+    ensures outcome { IfOk result (λ c. (base : Held) (s : SimView) → S.stands steps.old base s → HasRoomFor s events.now
+        → (t : SimView) × S.stands steps.new base t × (ended (state_of t) c.accepted c.refused c.failovers c.takeovers ≡ outcome_in s events.now)) }
+    ensures ahead { (base : Held) (s : SimView) → S.stands steps.old base s → HasRoomFor s events.now → (t : SimView) × S.stands steps.new base t }
 {
     let mut failovers = 0;
     let mut takeovers = 0;
     for index in 0..events.len() {
-        match sim.step(alloc, events[index]) {
+        match steps.advance(alloc, events[index]) {
             Ok(notices) => {
                 failovers += failovers_in(notices.as_slice()) as u128;
                 takeovers += takeovers_in(notices.as_slice()) as u128;
@@ -144,35 +146,6 @@ fn is_takeover(notice: &Notice) -> bool
             ..
         }
     )
-}
-
-// The distributed applications of a state, and where they stand.
-#[tactic(auto, unfolding(rh_state::specs::Numbers::apps_of))]
-fn standings_in(alloc: Global, state: &State) -> Result<Standings, OutOfMemory>
-    ensures { IfOk result (λ standings. standings ≡ standings_in (read state.now)) }
-{
-    let mut standings = Vec::with_capacity(alloc, state.cluster().app_count())?;
-    for number in 0..state.cluster().app_count() {
-        push_standing(&mut standings, state, App(number as u8))?;
-    }
-    standings.shrink_to_fit();
-    Ok(Standings::of(standings))
-}
-
-// Adds an application and where it stands, if it is distributed.
-#[tactic(auto, unfolding(crate::specs::Outcomes::standing_in))]
-fn push_standing(
-    standings: &mut Vec<(App, Standing)>,
-    state: &State,
-    app: App,
-) -> Result<(), OutOfMemory>
-    requires { app.0 < app_count (read state.now).cluster }
-    ensures { OnOk result (standings.new.items ≡ standings.old.items ++ standing_in (read state.now) app) }
-{
-    if state.cluster().spread(app).is_some() {
-        standings.push((app, state.standing(app)))?;
-    }
-    Ok(())
 }
 
 // Takes steps back to this place of the trail.

@@ -1,14 +1,14 @@
-//! The workers of a sweep: threads, each with a copy of the base.
+//! The workers of a sweep: threads, each with a branch of the base.
 
 ghost use Rattle.std.specs.Prelude.{◌≡◌, ◌<◌, length, map, All, IfOk, IfErr, OnOk};
 ghost use Rattle.rh_sweep.specs.Outcomes.{outcome_of};
 ghost use Rattle.rh_sweep.specs.Sweeping.{AreWorkers, HasRoom, IsAtEnd, MaySweep, WhyNotSwept};
 ghost use Rattle.rh_sweep.specs.Working.{AreOutcomes};
 
+use crate::branch::Branch;
 use crate::fault::{MAX_WORKERS, SweepFault};
 use crate::plan::{Outcome, Plan};
 use crate::shares::{have_room, in_plan_order};
-use crate::trial::try_plan;
 use rh_base::OutOfMemory;
 use rh_trail::Sim;
 use std::alloc::Global;
@@ -39,7 +39,7 @@ impl Gate for FreeGate {
 
 /// The outcomes of the plans, in their order, each tried from the base.
 ///
-/// Worker w of k takes the plans w, w + k, w + 2k and so on, in order, on its own copy of the base, in a thread of its own
+/// Worker w of k takes the plans w, w + k, w + 2k and so on, in order, on its own copy of the base's state, in a thread of its own
 /// where one can be made; otherwise its work runs before or after another's. The outcomes depend neither on the number of
 /// workers nor on the gate. The call returns when all workers have ended.
 ///
@@ -74,7 +74,7 @@ pub fn sweep<R: Threads + Wait + Sync, G: Gate + Sync>(
     }
 }
 
-// The outcomes, each worker's on its own copy of the base.
+// The outcomes, each worker's on its own branch of the base.
 fn swept<R: Threads + Wait + Sync, G: Gate + Sync>(
     rt: &R,
     alloc: Global,
@@ -94,10 +94,10 @@ fn swept<R: Threads + Wait + Sync, G: Gate + Sync>(
         workers,
         &|first| { work(rt, alloc, base, plans, workers, first, gate) },
     )?;
-    in_plan_order(alloc, base, plans, parts.as_slice())
+    in_plan_order(alloc, base, plans, parts)
 }
 
-// The outcomes of one worker's plans, in order, on a copy of the base. A worker without plans needs none.
+// The outcomes of one worker's plans, in order, on a branch of the base. A worker without plans needs none.
 fn work<R: Wait, G: Gate>(
     rt: &R,
     alloc: Global,
@@ -109,38 +109,18 @@ fn work<R: Wait, G: Gate>(
 ) -> Result<Vec<Outcome>, OutOfMemory>
     requires workers { AreWorkers workers }
     requires first { first < workers }
-    requires end { IsAtEnd base.now.seen }
     requires room { All (HasRoom base.now.seen) plans.now }
     ensures { IfOk result (λ outcomes. AreOutcomes base.now.seen plans.now workers first outcomes.items) }
 {
-    if first >= plans.len() {
-        return Ok(Vec::new(alloc));
-    }
-    let mut sim = base.copy(alloc)?;
-    work_on(rt, alloc, &mut sim, plans, workers, first, gate)
-}
-
-// The outcomes of one worker's plans, in order, all tried on this simulation.
-fn work_on<R: Wait, G: Gate>(
-    rt: &R,
-    alloc: Global,
-    sim: &mut Sim,
-    plans: &[Plan],
-    workers: usize,
-    first: usize,
-    gate: &G,
-) -> Result<Vec<Outcome>, OutOfMemory>
-    requires workers { AreWorkers workers }
-    requires first { first < workers }
-    requires end { IsAtEnd sim.old.seen }
-    requires room { All (HasRoom sim.old.seen) plans.now }
-    ensures { IfOk result (λ outcomes. AreOutcomes sim.old.seen plans.now workers first outcomes.items) }
-{
     let mut outcomes = Vec::new(alloc);
+    if first >= plans.len() {
+        return Ok(outcomes);
+    }
+    let mut branch = Branch::of(alloc, base)?;
     let mut number = first;
     'plans: while number < plans.len() {
         gate.enter(rt, number);
-        let tried = try_plan(alloc, sim, &plans[number]);
+        let tried = branch.try_plan(alloc, base, &plans[number]);
         gate.leave(rt, number);
         let outcome = tried?;
         outcomes.push(outcome)?;

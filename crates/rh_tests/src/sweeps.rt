@@ -315,3 +315,64 @@ fn a_plan_leaves_the_simulation_as_it_was(rt: HostRuntime) {
     stays(&rt, rt.alloc(), &mut sim, plans.as_slice());
     assert!(rt; sim.undo().ok() == Some(edits));
 }
+
+// The first node takes the application back.
+static HAND_BACK: [Event; 1] = [Event::Takeover {
+    node: Node(0),
+    app: App(0),
+    restart: Restart::Permanent,
+}];
+
+// The application is handed to and fro, so many times.
+fn to_and_fro(alloc: Global, times: usize) -> Result<Plan, AllocError> {
+    let name = Str::of(String::from_str(alloc, "plan")?);
+    let mut events = Vec::new(alloc);
+    for _ in 0..times {
+        events.push(HAND[0])?;
+        events.push(HAND_BACK[0])?;
+    }
+    Ok(Plan { name, events })
+}
+
+// A plan of more edits than a worker keeps, and a plan behind it.
+fn long_plans(alloc: Global) -> Result<Vec<Plan>, AllocError> {
+    let mut plans = Vec::new(alloc);
+    plans.push(to_and_fro(alloc, 16_000)?)?;
+    plans.push(plan_of(alloc, DOWN.as_slice())?)?;
+    Ok(plans)
+}
+
+// Has the takeover so many edits that 32,000 of them are more than 65,536?
+fn is_long(rt: &impl Abort, alloc: Global) {
+    let mut sim = booted(rt, alloc);
+    make_all(rt, alloc, &mut sim, HAND.as_slice());
+    assert!(rt; sim.trail().len() == 4);
+    assert!(rt; sim.record(3).len() >= 3);
+}
+
+// Has each of these plans, swept by one worker, the outcome that it has on the simulation?
+fn keep_the_outcomes<R: Threads + Wait + Abort + Sync>(
+    rt: &R,
+    alloc: Global,
+    sim: &mut Sim,
+    plans: &[Plan],
+) {
+    let mut text = String::new(alloc);
+    for plan in plans {
+        let outcome = tried(rt, alloc, sim, plan);
+        assert!(rt; tell_outcome(&mut text, &outcome).is_ok());
+    }
+    let outcomes = given(rt, alloc, sim, plans, 1)
+        .ok()
+        .expect(rt, "outcomes");
+    let swept = told(rt, alloc, outcomes.as_slice());
+    assert_eq!(rt; swept.as_str(), text.as_str());
+}
+
+#[test]
+fn a_plan_of_more_edits_than_are_kept_is_taken_back(rt: HostRuntime) {
+    is_long(&rt, rt.alloc());
+    let mut sim = booted(&rt, rt.alloc());
+    let plans = long_plans(rt.alloc()).ok().expect(&rt, "memory");
+    keep_the_outcomes(&rt, rt.alloc(), &mut sim, plans.as_slice());
+}

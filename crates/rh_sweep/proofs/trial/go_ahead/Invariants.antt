@@ -1,16 +1,13 @@
-use Rattle.std.proofs.Common.{◌≡◌, ◌≤◌, ◌+◌, ◌*◌, ◌^◌, drop}
-use Rattle.rh_sweep.specs.Outcomes.{outcome_in}
-use Rattle.rh_sweep.specs.Sweeping.{IsAtEnd}
-use Rattle.rh_sweep.specs.Working.{IsAhead}
-use Rattle.rh_sweep.proofs.Trying.{rest_of}
+use Rattle.std.proofs.Common.{◌≤◌, ◌*◌, ◌^◌}
+use Rattle.rh_trail.specs.SimView.{SimView, Held}
+use Rattle.rh_sweep.specs.Sweeping.{HasRoomFor}
+use Rattle.rh_sweep.proofs.Trying.{Along}
 use Rattle.rh_sweep.proofs.trial.go_ahead.Given as goal
 
 abbrev pub invariant-loop-index : goal.invariant-loop-index
-invariant-loop-index l = record {
-  ahead : IsAhead l.fn.sim l.sim;
-  end : IsAtEnd l.sim.seen;
-  cursor : l.sim.seen.cursor ≡ l.fn.sim.seen.cursor + l.index;
+invariant-loop-index g l = record {
   failovers : l.failovers ≤ l.index * 2 ^ 64;
   takeovers : l.takeovers ≤ l.index * 2 ^ 64;
-  rest : rest_of l.index l.failovers l.takeovers l.sim.seen (drop l.index l.events) ≡ outcome_in l.fn.sim.seen l.events;
+  along : (base : Held) (s : SimView) → g.S.Steps.stands l.fn.steps base s → HasRoomFor s l.events
+      → Along (g.S.Steps.stands l.steps base) s l.events l.index l.failovers l.takeovers;
 }

@@ -1,14 +1,15 @@
 use Rattle.std.proofs.Common.{◌≡◌, ◌<◌, ◌+◌, ◌-◌, ◌*◌, ℕ, length, slice_get}
 use Rattle.std.specs.Option.{option_map}
 use Rattle.rh_sweep.specs.Outcomes.{outcome_of}
-use Rattle.rh_sweep.proofs.workers.work_on.Given as goal
+use Rattle.rh_sweep.specs.Working.{IsAtBase}
+use Rattle.rh_sweep.proofs.workers.work.Given as goal
 
 abbrev pub invariant-plans : goal.invariant-plans
 invariant-plans g l = record {
-  sim : l.sim ≡ l.fn.sim;
+  at : IsAtBase l.branch l.base;
   number : l.number ≡ l.first + length l.outcomes.items * l.workers;
   each : (j : ℕ) → j < length l.outcomes.items
-      → slice_get l.outcomes.items j ≡ option_map (outcome_of l.fn.sim.seen) (slice_get l.plans (l.first + j * l.workers));
+      → slice_get l.outcomes.items j ≡ option_map (outcome_of l.base.seen) (slice_get l.plans (l.first + j * l.workers));
 }
 
 abbrev pub decreases-plans : goal.decreases-plans

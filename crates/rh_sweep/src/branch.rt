@@ -1,0 +1,113 @@
+//! A base without its past, on which a worker tries plans.
+
+ghost use Rattle.std.specs.Prelude.{◌≡◌, IfOk, OnOk};
+ghost use Rattle.rh_trail.specs.SimView.{SimView};
+ghost use Rattle.rh_sweep.specs.Outcomes.{outcome_of};
+ghost use Rattle.rh_sweep.specs.Sweeping.{HasRoom};
+
+use crate::plan::{Outcome, Plan, Standings};
+use crate::standing::standings_in;
+use crate::steps::Steps;
+use crate::trial::tried;
+use rh_base::OutOfMemory;
+use rh_state::{Edit, State, go_back};
+use rh_step::{Event, Notice, Pick, Refusal, perform, refusal_of};
+use rh_trail::Sim;
+use std::alloc::Global;
+
+/// So many edits are kept to take a plan back, which take 2 MiB.
+const EDIT_LIMIT: usize = 65_536;
+
+/// A copy of a base's state, on which plans are tried one after the other, without what the base keeps for undo.
+#[derive(Drop)]
+pub(crate) struct Branch {
+    pick: Pick,
+    state: State,
+    // What the plan that is tried has changed.
+    edits: Vec<Edit>,
+    // Whether that was too much to be kept.
+    dropped: bool,
+}
+
+impl Branch {
+    ghost use Rattle.rh_sweep.specs.Working.{IsAtBase, IsBranch};
+
+    /// A branch of this base, which is where the base is.
+    pub(crate) fn of(alloc: Global, base: &Sim) -> Result<Branch, OutOfMemory>
+        ensures { IfOk result (λ branch. IsAtBase branch base.now) }
+    {
+        Ok(Branch {
+            pick: base.pick(),
+            state: base.state().copy(alloc)?,
+            edits: Vec::new(alloc),
+            dropped: false,
+        })
+    }
+
+    /// The outcome of a plan, after which the branch is where its base is, as it was before.
+    pub(crate) fn try_plan(
+        &mut self,
+        alloc: Global,
+        base: &Sim,
+        plan: &Plan,
+    ) -> Result<Outcome, OutOfMemory>
+        requires at { IsAtBase self.old base.now }
+        requires room { HasRoom base.now.seen plan.now }
+        ensures outcome { IfOk result (λ outcome. outcome ≡ outcome_of base.now.seen plan.now) }
+        ensures at { OnOk result (IsAtBase self.new base.now) }
+    {
+        // The base's words are those of its state.
+        base.is_chained();
+        let outcome = tried(alloc, self, plan.events.as_slice())?;
+        self.go_back(alloc, base)?;
+        Ok(outcome)
+    }
+
+    // Goes back to the base: takes the kept edits back, or copies the base's state again.
+    fn go_back(&mut self, alloc: Global, base: &Sim) -> Result<(), OutOfMemory>
+        requires { (s : SimView) × IsBranch self.old base.now s }
+        ensures { OnOk result (IsAtBase self.new base.now) }
+    {
+        if self.dropped {
+            self.state = base.state().copy(alloc)?;
+        } else {
+            go_back(self.edits.as_mut_slice(), &mut self.state);
+        }
+        self.edits.clear();
+        self.dropped = false;
+        Ok(())
+    }
+}
+
+impl Steps for Branch {
+    ghost use Rattle.rh_sweep.specs.Working.{IsBranch};
+
+    ghost stands = { IsBranch };
+
+    fn advance(&mut self, alloc: Global, event: Event) -> Result<Vec<Notice>, Refusal> {
+        if let Some(refusal) = refusal_of(&self.state, &event) {
+            return Err(refusal);
+        }
+        let mut notices = Vec::new(alloc);
+        let made = perform(
+            alloc,
+            &mut self.state,
+            &event,
+            self.pick,
+            &mut self.edits,
+            &mut notices,
+        );
+        if made.is_err() {
+            return Err(Refusal::OutOfMemory);
+        }
+        if self.dropped || self.edits.len() > EDIT_LIMIT {
+            self.edits.clear();
+            self.dropped = true;
+        }
+        Ok(notices)
+    }
+
+    fn standings(&self, alloc: Global) -> Result<Standings, OutOfMemory> {
+        standings_in(alloc, &self.state)
+    }
+}
