@@ -362,9 +362,7 @@ fn keep_the_outcomes<R: Threads + Wait + Abort + Sync>(
         let outcome = tried(rt, alloc, sim, plan);
         assert!(rt; tell_outcome(&mut text, &outcome).is_ok());
     }
-    let outcomes = given(rt, alloc, sim, plans, 1)
-        .ok()
-        .expect(rt, "outcomes");
+    let outcomes = given(rt, alloc, sim, plans, 1).ok().expect(rt, "outcomes");
     let swept = told(rt, alloc, outcomes.as_slice());
     assert_eq!(rt; swept.as_str(), text.as_str());
 }
