@@ -22,13 +22,14 @@ use Rattle.rh_base.specs.Lists.{or_else, first_given, head}
 use Rattle.rh_base.proofs.Lists.{cases}
 use Rattle.rh_place.specs.declared.choosing.Pick.TheVariants.{First}
 use Rattle.rh_place.specs.Placing.{dep_runs, deps_run, is_operational, best}
-use Rattle.rh_place.specs.Sets.{has}
+use Rattle.rh_place.specs.Sets.{NodeBits, has}
 use Rattle.rh_place.proofs.Picks.{picked_none}
 use Rattle.rh_place.proofs.Nowhere.{none_chosen}
 use Rattle.rh_settle.specs.declared.notice.Move.{Move}
 use Rattle.rh_settle.specs.declared.notice.Move.TheVariants.{Local, Placement, Takeover}
 use Rattle.rh_settle.specs.declared.notice.Pair.{Pair}
-use Rattle.rh_settle.specs.Boards.{AppSets, BoardView, is_among, is_wanted, is_touched, matters, nodes_changed, IsExactAt, IsBoardOf}
+use Rattle.rh_settle.specs.Boards.{AppSets, AppMarks, BoardView, is_among, is_marked, is_wanted, is_touched, touches_local, matters, nodes_changed, mover}
+use Rattle.rh_settle.specs.Boards.{IsExactAt, IsBoardOf}
 use Rattle.rh_settle.specs.Course.{is_fresh}
 use Rattle.rh_settle.specs.Moves.{is_local, can_start, local_move, local_moves, comes_before, calls_away, takeovers, takeovers_from, moved_state, CanBeMade}
 use Rattle.rh_settle.proofs.Entries.{taken, put, has as entry, taken_apart, put_apart, is_below, is_above, is_false, both, same_number, other_number}
@@ -37,6 +38,8 @@ use Rattle.rh_settle.proofs.Points.{not_before}
 use Rattle.rh_settle.proofs.Places.{at_set, at_set_there, same_refl, or_left, or_right}
 use Rattle.rh_settle.proofs.Unchanged.{cluster_same}
 use Rattle.rh_settle.proofs.Searches.{length_nodes, node_there}
+use Rattle.rh_settle.proofs.Shapes.{listed as listed_all}
+use Rattle.rh_settle.proofs.Touches.{given_taken, given_put, given_alike, none_touched}
 
 -- ---- the first that gives anything
 pub no_head : {A : Type 0} (xs : List A) → is_some (head xs) ≡ false → xs ≡ []
@@ -108,6 +111,10 @@ module _ (s : StateView) (r w : List (List App)) (ks : List (List Kind)) (st : L
   deps_kept (Listed b ∷ deps) h = λ i. h b (or_left (same_app b b) _ (same_refl b.0)) i && deps_kept deps (λ c k. h c (or_right (same_app c b) _ k)) i
   deps_kept (Platform p ∷ deps) h = ap (λ rest. is_platform s.cluster n p && rest) (deps_kept deps h)
 
+  needs_kept : (a : App) → ((b : App) → has_app (needed_apps s.cluster a) b ≡ true → Runs b) → deps_run (relisted s r w ks st) n a ≡ deps_run s n a
+  unfolding deps_run needed_apps
+  needs_kept a needs = deps_kept (deps_of s.cluster a) needs
+
   operational_kept : (a : App) → Runs a → entry w n.0 a ≡ entry s.waiting n.0 a → ((b : App) → has_app (needed_apps s.cluster a) b ≡ true → Runs b)
       → is_operational (relisted s r w ks st) a n ≡ is_operational s a n
   unfolding is_operational deps_run needed_apps
@@ -177,12 +184,6 @@ exact_moved s (Takeover a m n) b k other h =
     (put_taken (taken s.waiting n.0 a) m.0 k.0 a other.1 ∙ taken_there s.waiting n.0 k.0 a other.0)
     b (λ c w. still_wanted s a n c w) h
 
--- the application that a move moves
-abbrev pub mover : Move → App
-mover (Local n a) = a
-mover (Placement a from n) = a
-mover (Takeover a m n) = a
-
 -- one that it doesn't touch is another, and so is each that this one needs
 untouched : (c : ClusterView) (x a : App) → is_touched c x a ≡ false
     → (same_app a x ≡ false) × ((b : App) → has_app (needed_apps c a) b ≡ true → same_app b x ≡ false)
@@ -197,6 +198,19 @@ untouched c x a h =
     neither : (p q : Bool) → p || q ≡ false → (p ≡ false) × (q ≡ false)
     neither true q h = both true refl h
     neither false q h = (refl, h)
+
+-- what that one needs runs as before, at the nodes that the move changes too
+needs_moved : (s : StateView) (m : Move) (a : App) (k : Node) → is_touched s.cluster (mover m) a ≡ false → deps_run (moved_state s m) k a ≡ deps_run s k a
+needs_moved s (Local n x) a k h =
+    let u = untouched s.cluster x a h in
+    needs_kept s _ _ _ _ k a (λ b needed. put_taken_apart s.running n.0 k.0 x b (u.1 b needed))
+needs_moved s (Placement x from n) a k h =
+    let u = untouched s.cluster x a h in
+    needs_kept s _ _ _ _ k a (λ b needed. put_taken_apart s.running n.0 k.0 x b (u.1 b needed))
+needs_moved s (Takeover x m n) a k h =
+    let u = untouched s.cluster x a h in
+    needs_kept s _ _ _ _ k a (λ b needed.
+    taken_apart (put (taken s.running n.0 x) n.0 x) m.0 k.0 x b (u.1 b needed) ∙ put_taken_apart s.running n.0 k.0 x b (u.1 b needed))
 
 -- where that one can run stays, at the nodes that the move changes too
 operational_moved : (s : StateView) (m : Move) (a : App) (k : Node) → is_touched s.cluster (mover m) a ≡ false
@@ -219,32 +233,96 @@ operational_moved s (Takeover x m n) a k h =
     waits : (b : App) → same_app b x ≡ false → entry (put (taken (taken s.waiting n.0 x) m.0 x) m.0 x) k.0 b ≡ entry s.waiting k.0 b
     waits b d = put_taken_apart (taken s.waiting n.0 x) m.0 k.0 x b d ∙ taken_apart s.waiting n.0 k.0 x b d
 
--- so the board stays exact for it
-abbrev IsKeptAt : StateView → App → BoardView → Node → Type 0
-IsKeptAt t x b k = (a : App) → IsAppOf t.cluster a → is_touched t.cluster x a ≡ false → matters t b.fresh a k ≡ true → is_among b.able a k ≡ is_operational t a k
+-- ---- a move that touches no local application
+-- each local application starts where it could start before
+starts_kept : (s : StateView) (r w : List (List App)) (ks : List (List Kind)) (st : List Standing) (k : Node) (x : App)
+    → ((a : App) → is_touched s.cluster x a ≡ false → deps_run (relisted s r w ks st) k a ≡ deps_run s k a)
+    → touches_local s.cluster x ≡ false → (a : App) → IsAppOf s.cluster a → local_move (relisted s r w ks st) k a ≡ local_move s k a
+unfolding can_start
+starts_kept s r w ks st k x needs none a of =
+    let t = relisted s r w ks st in
+    cases (is_local s.cluster a)
+    (λ y. λ i. cond (is_local s.cluster a && (is_allowed s k a && needs a (none_touched s.cluster x a none of y) i)) (Local k a ∷ []) [])
+    (λ f. ap (λ b. cond (b && (is_allowed s k a && deps_run t k a)) (Local k a ∷ []) []) f
+    ∙ sym (ap (λ b. cond (b && (is_allowed s k a && deps_run s k a)) (Local k a ∷ []) []) f))
 
-kept_moved : (s : StateView) (m : Move) (b : BoardView) (k : Node) → IsExactAt s b k → IsKeptAt (moved_state s m) (mover m) b k
-kept_moved s (Local n x) b k h = λ a of u m. h.able a of m ∙ sym (operational_moved s (Local n x) a k u)
-kept_moved s (Placement x from n) b k h = λ a of u m.
-    h.able a of (mattered _ (is_wanted (standing_of s a)) (is_among b.fresh a k) (still_wanted s x n a) m) ∙ sym (operational_moved s (Placement x from n) a k u)
-kept_moved s (Takeover x l n) b k h = λ a of u m.
-    h.able a of (mattered _ (is_wanted (standing_of s a)) (is_among b.fresh a k) (still_wanted s x n a) m) ∙ sym (operational_moved s (Takeover x l n) a k u)
+starts_moved : (s : StateView) (m : Move) (k : Node) → touches_local s.cluster (mover m) ≡ false → (a : App) → IsAppOf s.cluster a
+    → local_move (moved_state s m) k a ≡ local_move s k a
+starts_moved s (Local n x) k = starts_kept s _ _ _ _ k x (λ a u. needs_moved s (Local n x) a k u)
+starts_moved s (Placement x from n) k = starts_kept s _ _ _ _ k x (λ a u. needs_moved s (Placement x from n) a k u)
+starts_moved s (Takeover x m n) k = starts_kept s _ _ _ _ k x (λ a u. needs_moved s (Takeover x m n) a k u)
+
+-- and the one that moves isn't one
+none_of_mover : (s : StateView) (x : App) (k : Node) → touches_local s.cluster x ≡ false → IsAppOf s.cluster x → local_move s k x ≡ []
+unfolding can_start is_touched
+none_of_mover s x k none of = ap (λ b. cond (b && (is_allowed s k x && deps_run s k x)) (Local k x ∷ []) [])
+    (is_false (is_local s.cluster x) (λ y. both (is_touched s.cluster x x)
+    (or_left (same_app x x) (has_app (needed_apps s.cluster x) x) (same_refl x.0)) (none_touched s.cluster x x none of y)))
+
+-- so the local moves are those of before, at the nodes that the move changes too
+locals_moved : (s : StateView) (m : Move) (k : Node) → IsShaped (moved_state s m) → IsAppOf s.cluster (mover m) → touches_local s.cluster (mover m) ≡ false
+    → local_moves (moved_state s m) k ≡ local_moves s k
+unfolding local_moves
+locals_moved s (Local n x) k shape of none =
+    given_alike (local_move (moved_state s (Local n x)) k) (local_move s k) (IsAppOf s.cluster) (starts_moved s (Local n x) k none) _
+    (listed_all (IsAppOf s.cluster) (taken s.waiting n.0 x) k.0 shape.waiting_apps)
+    ∙ given_taken (local_move s k) x (none_of_mover s x k none of) s.waiting n.0 k.0
+locals_moved s (Placement x from n) k shape of none =
+    given_alike (local_move (moved_state s (Placement x from n)) k) (local_move s k) (IsAppOf s.cluster) (starts_moved s (Placement x from n) k none) _
+    (listed_all (IsAppOf s.cluster) (taken s.waiting n.0 x) k.0 shape.waiting_apps)
+    ∙ given_taken (local_move s k) x (none_of_mover s x k none of) s.waiting n.0 k.0
+locals_moved s (Takeover x m n) k shape of none =
+    let gone = taken (taken s.waiting n.0 x) m.0 x in
+    let nothing = none_of_mover s x k none of in
+    given_alike (local_move (moved_state s (Takeover x m n)) k) (local_move s k) (IsAppOf s.cluster) (starts_moved s (Takeover x m n) k none) _
+    (listed_all (IsAppOf s.cluster) (put gone m.0 x) k.0 shape.waiting_apps)
+    ∙ given_put (local_move s k) x nothing gone m.0 k.0
+    ∙ given_taken (local_move s k) x nothing (taken s.waiting n.0 x) m.0 k.0
+    ∙ given_taken (local_move s k) x nothing s.waiting n.0 k.0
+
+-- ---- what a board keeps
+-- so it stays exact for what the move doesn't touch
+record IsKeptAt (t : StateView) (x : App) (b : BoardView) (k : Node) : Type 0 where
+  pub locals : touches_local t.cluster x ≡ false → has b.locals k ≡ is_some (head (local_moves t k))
+  pub able : (a : App) → IsAppOf t.cluster a → is_touched t.cluster x a ≡ false → matters t b.fresh a k ≡ true → is_among b.able a k ≡ is_operational t a k
+
+kept_moved : (s : StateView) (m : Move) (b : BoardView) (k : Node) → IsShaped (moved_state s m) → IsAppOf (moved_state s m).cluster (mover m) → IsExactAt s b k
+    → IsKeptAt (moved_state s m) (mover m) b k
+kept_moved s (Local n x) b k shape of h = record {
+  locals = λ u. h.locals ∙ ap (λ xs. is_some (head xs)) (sym (locals_moved s (Local n x) k shape of u));
+  able = λ a of_a u m. h.able a of_a m ∙ sym (operational_moved s (Local n x) a k u);
+}
+kept_moved s (Placement x from n) b k shape of h = record {
+  locals = λ u. h.locals ∙ ap (λ xs. is_some (head xs)) (sym (locals_moved s (Placement x from n) k shape of u));
+  able = λ a of_a u m. h.able a of_a (mattered _ (is_wanted (standing_of s a)) (is_among b.fresh a k) (still_wanted s x n a) m)
+      ∙ sym (operational_moved s (Placement x from n) a k u);
+}
+kept_moved s (Takeover x l n) b k shape of h = record {
+  locals = λ u. h.locals ∙ ap (λ xs. is_some (head xs)) (sym (locals_moved s (Takeover x l n) k shape of u));
+  able = λ a of_a u m. h.able a of_a (mattered _ (is_wanted (standing_of s a)) (is_among b.fresh a k) (still_wanted s x n a) m)
+      ∙ sym (operational_moved s (Takeover x l n) a k u);
+}
 
 -- ---- a look at a node
 -- what a look at a node behind a move of an application leaves, and what it finds
 pub record Looked (t : StateView) (x : App) (b c : BoardView) (n : Node) : Type 0 where
+  pub touching : c.touching ≡ b.touching
   pub fresh : c.fresh ≡ b.fresh
-  pub local : has c.locals n ≡ is_some (head (local_moves t n))
+  pub local : is_marked b.touching x ≡ true → has c.locals n ≡ is_some (head (local_moves t n))
+  pub apart : is_marked b.touching x ≡ false → c.locals ≡ b.locals
   pub locals : (k : Node) → same_node k n ≡ false → has c.locals k ≡ has b.locals k
   pub here : (a : App) → IsAppOf t.cluster a → is_touched t.cluster x a ≡ true → matters t c.fresh a n ≡ true → is_among c.able a n ≡ is_operational t a n
   pub able : (a : App) (k : Node) → is_touched t.cluster x a && same_node k n ≡ false → is_among c.able a k ≡ is_among b.able a k
 
-module _ (t : StateView) (x : App) (b c : BoardView) (n k : Node) (look : Looked t x b c n) where
+module _ (t : StateView) (x : App) (b c : BoardView) (n k : Node) (look : Looked t x b c n) (mark : is_marked b.touching x ≡ touches_local t.cluster x) where
   mattered_too : (a : App) → matters t c.fresh a k ≡ true → matters t b.fresh a k ≡ true
   mattered_too a m = sym (ap (λ (fresh : AppSets). matters t fresh a k) look.fresh) ∙ m
 
   look_kept : IsKeptAt t x b k → IsKeptAt t x c k
-  look_kept kept a of u m = look.able a k (ap (λ p. p && same_node k n) u) ∙ kept a of u (mattered_too a m)
+  look_kept kept = record {
+    locals = λ u. ap (λ (nodes : NodeBits). has nodes k) (look.apart (mark ∙ u)) ∙ kept.locals u;
+    able = λ a of u m. look.able a k (ap (λ p. p && same_node k n) u) ∙ kept.able a of u (mattered_too a m);
+  }
 
   looked_at : IsKeptAt t x b k → (k.0 ≢ n.0 → IsExactAt t b k) → IsExactAt t c k
   looked_at kept apart = cases (same_node k n)
@@ -256,23 +334,28 @@ module _ (t : StateView) (x : App) (b c : BoardView) (n k : Node) (look : Looked
     where
       here : IsKeptAt t x c n → IsExactAt t c n
       here kept = record {
-        locals = look.local;
-        able = λ a of m. cases (is_touched t.cluster x a) (λ y. look.here a of y m) (λ u. kept a of u m);
+        locals = cases (touches_local t.cluster x) (λ y. look.local (mark ∙ y)) (λ u. kept.locals u);
+        able = λ a of m. cases (is_touched t.cluster x a) (λ y. look.here a of y m) (λ u. kept.able a of u m);
       }
 
       and_false : (p : Bool) → p && false ≡ false
       and_false true = refl
       and_false false = refl
 
-module _ (s t : StateView) (m : Move) (pairs : List Pair) (is : t ≡ moved_state s m) where
+module _ (s t : StateView) (m : Move) (pairs : List Pair) (is : t ≡ moved_state s m) (shape : IsShaped t) (of : IsAppOf t.cluster (mover m)) where
   still_at : (b : BoardView) (k : Node) → Apart m k → IsExactAt s b k → IsExactAt t b k
   still_at b k apart h = subst (λ (u : StateView). IsExactAt u b k) (sym is) (exact_moved s m b k apart h)
 
   kept_at : (b : BoardView) (k : Node) → IsExactAt s b k → IsKeptAt t (mover m) b k
-  kept_at b k h = subst (λ (u : StateView). IsKeptAt u (mover m) b k) (sym is) (kept_moved s m b k h)
+  kept_at b k h = subst (λ (u : StateView). IsShaped u → IsAppOf u.cluster (mover m) → IsKeptAt u (mover m) b k) (sym is)
+      (λ shaped here. kept_moved s m b k shaped here h) shape of
 
   same_cluster : t.cluster ≡ s.cluster
   same_cluster = ap (λ (u : StateView). u.cluster) is ∙ cluster_same s m
+
+  still_marked : (b c : BoardView) → c.touching ≡ b.touching → IsBoardOf s pairs b → (a : App) → is_marked c.touching a ≡ touches_local t.cluster a
+  still_marked b c touching h a =
+      ap (λ (marks : AppMarks). is_marked marks a) touching ∙ h.touching a ∙ ap (λ (v : ClusterView). touches_local v a) (sym same_cluster)
 
   still_fresh : (b c : BoardView) → c.fresh ≡ b.fresh → IsBoardOf s pairs b → (a : App) (n : Node) → IsAppOf t.cluster a → IsNodeOf t.cluster n
       → is_among c.fresh a n ≡ is_fresh pairs n a
@@ -282,19 +365,28 @@ module _ (s t : StateView) (m : Move) (pairs : List Pair) (is : t ≡ moved_stat
 
   pub followed : (b c : BoardView) (n : Node) → ((k : Node) → k.0 ≢ n.0 → Apart m k) → Looked t (mover m) b c n → IsBoardOf s pairs b → IsBoardOf t pairs c
   followed b c n apart look h = record {
+    touching = still_marked b c look.touching h;
     fresh = still_fresh b c look.fresh h;
-    exact = λ k. looked_at t (mover m) b c n k look (kept_at b k (h.exact k)) (λ d. still_at b k (apart k d) (h.exact k));
+    exact = λ k. looked_at t (mover m) b c n k look (still_marked b b refl h (mover m)) (kept_at b k (h.exact k)) (λ d. still_at b k (apart k d) (h.exact k));
   }
 
   pub followed_twice : (b c d : BoardView) (n l : Node) → ((k : Node) → k.0 ≢ n.0 → k.0 ≢ l.0 → Apart m k) → Looked t (mover m) b c n → Looked t (mover m) c d l
       → IsBoardOf s pairs b → IsBoardOf t pairs d
   followed_twice b c d n l apart look again h = record {
+    touching = still_marked b d (again.touching ∙ look.touching) h;
     fresh = still_fresh b d (again.fresh ∙ look.fresh) h;
     exact = λ k.
         let kept = kept_at b k (h.exact k) in
-        looked_at t (mover m) c d l k again (look_kept t (mover m) b c n k look kept)
-        (λ e. looked_at t (mover m) b c n k look kept (λ f. still_at b k (apart k f e) (h.exact k)));
+        let mark = still_marked b b refl h (mover m) in
+        looked_at t (mover m) c d l k again (still_marked b c look.touching h (mover m)) (look_kept t (mover m) b c n k look mark kept)
+        (λ e. looked_at t (mover m) b c n k look mark kept (λ f. still_at b k (apart k f e) (h.exact k)));
   }
+
+-- the application that a move moves is the cluster's
+pub moved_app : (s : StateView) (m : Move) → CanBeMade s m → IsAppOf s.cluster (mover m)
+moved_app s (Local n a) h = h.app
+moved_app s (Placement a from n) h = h.0.app
+moved_app s (Takeover a m n) h = h.0.app
 
 -- the nodes whose lists a move changes are the cluster's
 pub changed_nodes : (s : StateView) (m : Move) → CanBeMade s m → All (IsNodeOf s.cluster) (nodes_changed m)

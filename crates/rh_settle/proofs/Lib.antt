@@ -25,6 +25,7 @@ pub mod LocalFirsts
 pub mod NextFirsts
 pub mod FieldLaws
 pub mod SetTables
+pub mod Touches
 pub mod Boards
 pub mod Members
 mod Rows

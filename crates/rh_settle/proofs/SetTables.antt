@@ -1,5 +1,5 @@
--- A table with a set of nodes for each application.
-use Rattle.std.proofs.Common.{◌≡◌, ℕ, ◌<◌, false, cond, List, length, get_or, unwrap_or, slice_get, slice_set, nat_lt, refl, sym, ap, ◌∙◌, inl, inr, arith, Option}
+-- A table with a set of nodes, or with a mark, for each application.
+use Rattle.std.proofs.Common.{◌≡◌, ℕ, ◌<◌, ◌||◌, Bool, true, false, cond, List, length, get_or, unwrap_or, slice_get, slice_set, nat_lt, refl, sym, ap, ◌∙◌, inl, inr, arith, Option}
 use Rattle.std.proofs.Math.ListN.{replicate}
 use Rattle.std.proofs.lemmas.List.{get_or-replicate, length-replicate}
 use Rattle.std.proofs.lemmas.Option.{slice_get_past, slice_get-get_or, unwrap_or-slice_get}
@@ -10,7 +10,7 @@ use Rattle.rh_state.specs.Numbers.{same_app}
 use Rattle.rh_base.proofs.Lists.{cases}
 use Rattle.rh_place.specs.Sets.{NodeBits, has}
 use Rattle.rh_place.proofs.Bits.{zero_has_none}
-use Rattle.rh_settle.specs.Boards.{is_among}
+use Rattle.rh_settle.specs.Boards.{is_among, is_marked}
 use Rattle.rh_settle.proofs.Entries.{is_below, is_above}
 use Rattle.rh_settle.proofs.Places.{at_set_here, at_set_there}
 
@@ -37,3 +37,32 @@ among_set xs app set lt a n = elim (eqb_tells a.0 app.0) [
       ∙ ap (λ x. has x n) (at_set_here xs app.0 set nobody lt))
   | inr other ↦ rw other.0 (ap (λ x. has x n) (at_set_there xs app.0 a.0 set nobody other.1))
 ]
+
+-- ---- a mark for each application
+pub marked_none : (k : ℕ) (a : App) → is_marked (record { marks = replicate k false }) a ≡ false
+unfolding is_marked
+marked_none k a = cases (nat_lt a.0 k)
+    (λ t. unwrap_or-slice_get (replicate k false) a.0 false ∙ get_or-replicate k a.0 false false (is_below a.0 k t))
+    (λ f. ap (λ (o : Option Bool). unwrap_or o false)
+    (slice_get_past (replicate k false) a.0 (let l = length-replicate k false in let g = is_above a.0 k f in omega (arith, l, g))))
+
+pub marked_get : (xs : List Bool) (a : App) (d : Bool) → a.0 < length xs → get_or xs a.0 d ≡ is_marked (record { marks = xs }) a
+unfolding is_marked
+marked_get xs a d lt = sym (ap (λ (o : Option Bool). unwrap_or o false) (slice_get-get_or xs a.0 d lt))
+
+pub marked_set : (xs : List Bool) (app : App) → app.0 < length xs → (a : App)
+    → is_marked (record { marks = slice_set xs app.0 true }) a ≡ (is_marked (record { marks = xs }) a || same_app a app)
+unfolding is_marked
+marked_set xs app lt a = elim (eqb_tells a.0 app.0) [
+  | inl same ↦ rw same.0 (ap (λ i. unwrap_or (slice_get (slice_set xs app.0 true) i) false) same.1
+      ∙ at_set_here xs app.0 true false lt ∙ sym (or_true (unwrap_or (slice_get xs a.0) false)))
+  | inr other ↦ rw other.0 (at_set_there xs app.0 a.0 true false other.1 ∙ sym (or_false (unwrap_or (slice_get xs a.0) false)))
+]
+  where
+    or_true : (p : Bool) → p || true ≡ true
+    or_true true = refl
+    or_true false = refl
+
+    or_false : (p : Bool) → p || false ≡ p
+    or_false true = refl
+    or_false false = refl

@@ -223,7 +223,7 @@ shaped_kind s n a kind node known h = record {
 }
 
 -- ---- a list of a node
-listed : (P : App → Type 0) (table : List (List App)) (n : ℕ) → All (λ (apps : List App). All P apps) table → All P (row table n)
+pub listed : (P : App → Type 0) (table : List (List App)) (n : ℕ) → All (λ (apps : List App). All P apps) table → All P (row table n)
 listed P [] n all = λ k d l. absurd (omega arith)
 listed P (apps ∷ table) zero all = all 0 apps (omega arith)
 listed P (apps ∷ table) (suc n) all = listed P table n (λ k d l. all (suc k) d (omega arith))

@@ -1,5 +1,6 @@
 -- What settling keeps between its moves, so that no move is searched for from the beginning (ours).
-use Rattle.std.specs.Prelude.{◌≡◌, ◌||◌, List, [], ◌∷◌, Bool, true, false, slice_get, unwrap_or, is_some}
+use Rattle.std.specs.Prelude.{◌≡◌, ◌&&◌, ◌||◌, List, [], ◌∷◌, Bool, true, false, slice_get, unwrap_or, is_some}
+use Rattle.std.specs.List.{list_any}
 use Rattle.rh_model.specs.declared.node.Node.{Node}
 use Rattle.rh_model.specs.declared.node.App.{App}
 use Rattle.rh_model.specs.ClusterView.{ClusterView}
@@ -7,7 +8,7 @@ use Rattle.rh_model.specs.Needs.{needed_apps}
 use Rattle.rh_state.specs.declared.status.Standing.{Standing}
 use Rattle.rh_state.specs.declared.status.Standing.TheVariants.{Wanted}
 use Rattle.rh_state.specs.Lists.{has_app}
-use Rattle.rh_state.specs.Numbers.{same_app}
+use Rattle.rh_state.specs.Numbers.{same_app, apps_of}
 use Rattle.rh_state.specs.Shape.{IsNodeOf, IsAppOf}
 use Rattle.rh_state.specs.StateView.{StateView, standing_of}
 use Rattle.rh_base.specs.Lists.{head}
@@ -17,7 +18,7 @@ use Rattle.rh_settle.specs.declared.notice.Move.{Move}
 use Rattle.rh_settle.specs.declared.notice.Move.TheVariants.{Local, Placement, Takeover}
 use Rattle.rh_settle.specs.declared.notice.Pair.{Pair}
 use Rattle.rh_settle.specs.Course.{is_fresh}
-use Rattle.rh_settle.specs.Moves.{local_moves}
+use Rattle.rh_settle.specs.Moves.{is_local, local_moves}
 
 -- for each application, by its number, a set of nodes
 pub record AppSets : Type 0 where
@@ -31,9 +32,18 @@ set_of t a = unwrap_or (slice_get t.sets a.0) (record { bits = 0 })
 unfoldable pub is_among : AppSets → App → Node → Bool
 is_among t a n = has (set_of t a) n
 
--- a set of nodes, and two for each application
+-- for each application, by its number, a mark
+pub record AppMarks : Type 0 where
+  pub marks : List Bool
+
+-- an application without a mark isn't marked
+unfoldable pub is_marked : AppMarks → App → Bool
+is_marked t a = unwrap_or (slice_get t.marks a.0) false
+
+-- a set of nodes, marks, and two sets of nodes for each application
 pub record BoardView : Type 0 where
   pub locals : NodeBits
+  pub touching : AppMarks
   pub fresh : AppSets
   pub able : AppSets
 
@@ -50,13 +60,18 @@ matters s fresh a n = is_wanted (standing_of s a) || is_among fresh a n
 unfoldable pub is_touched : ClusterView → App → App → Bool
 is_touched c moved a = same_app a moved || has_app (needed_apps c a) moved
 
+-- a move of an application can change which local application can start: it touches one of them
+unfoldable pub touches_local : ClusterView → App → Bool
+touches_local c moved = list_any (λ a. is_local c a && is_touched c moved a) (apps_of c)
+
 -- at a node: a local application can start there, and an application can run there, wherever that matters
 pub record IsExactAt (s : StateView) (b : BoardView) (n : Node) : Type 0 where
   pub locals : has b.locals n ≡ is_some (head (local_moves s n))
   pub able : (a : App) → IsAppOf s.cluster a → matters s b.fresh a n ≡ true → is_among b.able a n ≡ is_operational s a n
 
--- the same of each node, and the fresh pairs are these
+-- the same of each node, the fresh pairs are these, and those are marked whose moves touch a local application
 pub record IsBoardOf (s : StateView) (pairs : List Pair) (b : BoardView) : Type 0 where
+  pub touching : (a : App) → is_marked b.touching a ≡ touches_local s.cluster a
   pub fresh : (a : App) (n : Node) → IsAppOf s.cluster a → IsNodeOf s.cluster n → is_among b.fresh a n ≡ is_fresh pairs n a
   pub exact : (n : Node) → IsExactAt s b n
 
@@ -65,3 +80,9 @@ abbrev pub nodes_changed : Move → List Node
 nodes_changed (Local n a) = n ∷ []
 nodes_changed (Placement a from n) = n ∷ []
 nodes_changed (Takeover a m n) = n ∷ m ∷ []
+
+-- the application that it moves
+abbrev pub mover : Move → App
+mover (Local n a) = a
+mover (Placement a from n) = a
+mover (Takeover a m n) = a

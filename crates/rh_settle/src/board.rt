@@ -16,13 +16,14 @@ ghost use Rattle.rh_place.specs.declared.node_set.TheConstants.NodeSet.{LIMIT};
 ghost use Rattle.rh_place.specs.Placing.{is_operational};
 ghost use Rattle.rh_place.specs.Sets.{has};
 ghost use Rattle.rh_settle.specs.declared.notice.Pair.{Pair};
-ghost use Rattle.rh_settle.specs.Boards.{is_among, is_wanted, is_touched, matters, nodes_changed, IsBoardOf};
+ghost use Rattle.rh_settle.specs.Boards.{is_among, is_marked, is_wanted, is_touched, touches_local, matters, nodes_changed, mover, IsBoardOf};
 ghost use Rattle.rh_settle.specs.Course.{is_fresh};
 ghost use Rattle.rh_settle.specs.Moves.{local_moves, moved_state};
 
+use crate::app_marks::AppMarks;
 use crate::app_sets::AppSets;
 use crate::notice::{Move, Pair};
-use crate::search::local_at;
+use crate::search::{is_local, local_at};
 use rh_model::{App, Cluster, MAX_APPS, Node};
 use rh_place::{NodeSet, operational, operational_among, operational_nodes};
 use rh_state::{Standing, State};
@@ -33,6 +34,8 @@ use std::marker::Model;
 pub(crate) struct Board {
     // The nodes at which a local application can start.
     locals: NodeSet,
+    // The applications of which a move can change that: the local ones, and those that a local one needs.
+    touching: AppMarks,
     // For each application the nodes of its fresh pairs.
     fresh: AppSets,
     // For each application the nodes at which it can run: all of them where it is to run, else those of its fresh pairs.
@@ -44,7 +47,7 @@ impl Model for Board {
 
     ghost Value = { BoardView };
 
-    ghost view = { λ b. record { locals = b.locals; fresh = b.fresh; able = b.able } };
+    ghost view = { λ b. record { locals = b.locals; touching = b.touching; fresh = b.fresh; able = b.able } };
 }
 
 impl Board {
@@ -60,6 +63,7 @@ impl Board {
         let able = able_sets(state, &fresh);
         Board {
             locals: local_nodes(state),
+            touching: touching_apps(state.cluster()),
             fresh,
             able,
         }
@@ -90,23 +94,31 @@ impl Board {
 
     // Looks again at a node whose lists a move of an application changed.
     fn look_again(&mut self, state: &State, moved: App, node: Node)
-        requires { IsNodeOf (read state.now).cluster node }
+        requires app { IsAppOf (read state.now).cluster moved }
+        requires node { IsNodeOf (read state.now).cluster node }
+        ensures touching { self.new.touching ≡ self.old.touching }
         ensures fresh { self.new.fresh ≡ self.old.fresh }
-        ensures local { has self.new.locals node ≡ is_some (head (local_moves (read state.now) node)) }
+        ensures local { is_marked self.old.touching moved ≡ true → has self.new.locals node ≡ is_some (head (local_moves (read state.now) node)) }
+        ensures apart { is_marked self.old.touching moved ≡ false → self.new.locals ≡ self.old.locals }
         ensures locals { (n : Node) → same_node n node ≡ false → has self.new.locals n ≡ has self.old.locals n }
         ensures here { (a : App) → IsAppOf (read state.now).cluster a → is_touched (read state.now).cluster moved a ≡ true → matters (read state.now) self.new.fresh a node ≡ true → is_among self.new.able a node ≡ is_operational (read state.now) a node }
         ensures able { (a : App) (n : Node) → is_touched (read state.now).cluster moved a && same_node n node ≡ false → is_among self.new.able a n ≡ is_among self.old.able a n }
     {
-        let _few = state.cluster().node_count();
-        self.locals = self.locals.put(node, local_at(state, node).is_some());
+        let _few_apps = state.cluster().app_count();
+        let _few_nodes = state.cluster().node_count();
+        if self.touching.has(moved) {
+            self.locals = self.locals.put(node, local_at(state, node).is_some());
+        }
         look_again_at(state, &self.fresh, moved, node, &mut self.able);
     }
 
     /// Follows a move that was made.
     pub fn follow(&mut self, state: &State, made: Move)
-        requires { All (IsNodeOf (read state.now).cluster) (nodes_changed made) }
+        requires app { IsAppOf (read state.now).cluster (mover made) }
+        requires nodes { All (IsNodeOf (read state.now).cluster) (nodes_changed made) }
         ensures { (s : StateView) (fresh : List Pair) → IsBoardOf s fresh self.old → read state.now ≡ moved_state s made → IsBoardOf (read state.now) fresh self.new }
     {
+        state.formed();
         match made {
             Move::Local { node, app } => self.look_again(state, app, node),
             Move::Placement { app, node, .. } => self.look_again(state, app, node),
@@ -116,6 +128,34 @@ impl Board {
             }
         }
     }
+}
+
+// Marks an application and those that it needs.
+fn mark_touching(marks: &mut AppMarks, cluster: &Cluster, app: App)
+    requires { IsAppOf cluster.now app }
+    ensures { (a : App) → is_marked marks.new a ≡ (is_marked marks.old a || is_touched cluster.now a app) }
+{
+    let _few = cluster.app_count();
+    let needs = cluster.needs(app);
+    marks.mark(app);
+    'needs: for need in needs {
+        marks.mark(*need);
+    }
+}
+
+// The applications of which a move touches a local one.
+fn touching_apps(cluster: &Cluster) -> AppMarks
+    ensures { (a : App) → is_marked result a ≡ touches_local cluster.now a }
+{
+    let mut marks = AppMarks::empty();
+    let count = cluster.app_count();
+    'apps: for number in 0..count {
+        let app = App(number as u8);
+        if is_local(cluster, app) {
+            mark_touching(&mut marks, cluster, app);
+        }
+    }
+    marks
 }
 
 // Puts a pair to the fresh ones.

@@ -1,11 +1,11 @@
 use Rattle.std.proofs.Common.{List, sym, ap, ◌∙◌, subst, All}
 use Rattle.rh_model.specs.ClusterView.{ClusterView}
-use Rattle.rh_state.specs.Shape.{IsNodeOf}
+use Rattle.rh_state.specs.Shape.{IsNodeOf, IsAppOf}
 use Rattle.rh_state.specs.Stored.{read}
 use Rattle.rh_settle.specs.declared.notice.Pair.{Pair}
-use Rattle.rh_settle.specs.Boards.{nodes_changed, IsBoardOf}
+use Rattle.rh_settle.specs.Boards.{nodes_changed, mover, IsBoardOf}
 use Rattle.rh_settle.specs.Course.{Course, course, fresh_of}
-use Rattle.rh_settle.proofs.Boards.{changed_nodes}
+use Rattle.rh_settle.proofs.Boards.{changed_nodes, moved_app}
 use Rattle.rh_settle.proofs.Fuel.{state_moved, fresh_moved}
 use Rattle.rh_settle.proofs.Making.{makeable, smaller, same, runs_still, none_left}
 use Rattle.rh_settle.proofs.Ways.{goes_more, goes_cluster}
@@ -23,8 +23,11 @@ pub follow-requires : goal.follow-requires
 follow-requires c =
     let o = course (read c.moves.state) c.moves.trace in
     let made = makeable o c.args.pick c.in-Some.next c.formed.ensures.shape (c.in-Some.ensures (fresh_of o) c.moves.invariant.board) c.moves.invariant.runs in
-    subst (λ (v : ClusterView). All (IsNodeOf v) (nodes_changed c.in-Some.next)) (sym (goes_cluster _ _ _ _ c.make_move.ensures.way))
-    (changed_nodes (read c.moves.state) c.in-Some.next made)
+    let same = sym (goes_cluster _ _ _ _ c.make_move.ensures.way) in
+    record {
+      app = subst (λ (v : ClusterView). IsAppOf v (mover c.in-Some.next)) same (moved_app (read c.moves.state) c.in-Some.next made);
+      nodes = subst (λ (v : ClusterView). All (IsNodeOf v) (nodes_changed c.in-Some.next)) same (changed_nodes (read c.moves.state) c.in-Some.next made);
+    }
 
 pub moves-preserved : goal.moves-preserved
 moves-preserved c =

@@ -1,11 +1,30 @@
 use Rattle.std.proofs.Common.{cond, is_some, ap, ◌∙◌}
 use Rattle.rh_place.specs.declared.choosing.Pick.TheVariants.{First}
 use Rattle.rh_place.specs.Sets.{has}
+use Rattle.rh_settle.specs.declared.board.Board.TheInside.{Inside}
+use Rattle.rh_settle.specs.Boards.{BoardView, is_marked}
+use Rattle.rh_settle.proofs.Entries.{both}
 use Rattle.rh_settle.proofs.Places.{same_refl}
 use Rattle.rh_settle.proofs.board.Board.look_again.Goals as goal
+use Rattle.rh_settle.proofs.board.Board.look_again.Goals.{then-has, else-has}
 
 pub returns-clause-local : goal.returns-clause-local
-returns-clause-local c =
-    c.put-self-inside.ensures c.args.node
-    ∙ ap (λ b. cond b c.is_some.result (has c.self.inside.locals c.args.node)) (same_refl c.args.node.0)
-    ∙ c.is_some.ensures ∙ ap is_some (c.local_at.ensures First)
+returns-clause-local c = λ marked. elim c.if-has.branch [
+  | then-has w ↦ ap (λ (b : Inside). has b.locals c.args.node) w.self-inside-is ∙ w.put-self-inside.ensures c.args.node
+      ∙ ap (λ b. cond b w.is_some.result (has c.self.inside.locals c.args.node)) (same_refl c.args.node.0)
+      ∙ w.is_some.ensures ∙ ap is_some (w.local_at.ensures First)
+  | else-has w ↦ both c.has.result (c.has.ensures ∙ ap (λ (v : BoardView). is_marked v.touching c.args.moved) c.self.view_is ∙ marked) w.if-has.false
+]
+
+pub returns-clause-apart : goal.returns-clause-apart
+returns-clause-apart c = λ apart. elim c.if-has.branch [
+  | then-has w ↦ both c.has.result w.if-has.true (c.has.ensures ∙ ap (λ (v : BoardView). is_marked v.touching c.args.moved) c.self.view_is ∙ apart)
+  | else-has w ↦ ap (λ (b : Inside). b.locals) w.self-inside-is ∙ ap (λ (v : BoardView). v.locals) c.self.view_is
+]
+
+pub returns-clause-locals : goal.returns-clause-locals
+returns-clause-locals c = λ n other. elim c.if-has.branch [
+  | then-has w ↦ ap (λ (b : Inside). has b.locals n) w.self-inside-is ∙ w.put-self-inside.ensures n
+      ∙ ap (λ b. cond b w.is_some.result (has c.self.inside.locals n)) other ∙ ap (λ (v : BoardView). has v.locals n) c.self.view_is
+  | else-has w ↦ ap (λ (b : Inside). has b.locals n) w.self-inside-is ∙ ap (λ (v : BoardView). has v.locals n) c.self.view_is
+]

@@ -4,6 +4,7 @@ use Rattle.rh_model.specs.ClusterView.{ClusterView, node_count, app_count}
 use Rattle.rh_model.specs.declared.limits.TheConstants.{MAX_APPS}
 use Rattle.rh_place.specs.declared.node_set.TheConstants.NodeSet.{LIMIT}
 use Rattle.rh_settle.specs.declared.notice.Pair.{Pair}
+use Rattle.rh_settle.specs.Boards.{touches_local}
 use Rattle.rh_settle.specs.Course.{is_fresh}
 use Rattle.rh_settle.proofs.board.Board.of.Goals as goal
 
@@ -12,6 +13,7 @@ returns c =
     let apps = c.app_count-few_apps.ensures.count ∙ ap (λ (v : ClusterView). app_count v) c.cluster.ensures in
     let nodes = c.node_count-few_nodes.ensures.count ∙ ap (λ (v : ClusterView). node_count v) c.cluster-2.ensures in
     record {
+      touching = λ a. c.touching_apps.ensures a ∙ ap (λ (v : ClusterView). touches_local v a) c.cluster-3.ensures;
       fresh = λ a n of_a of_n.
           let few : a.0 < MAX_APPS = omega (arith, of_a, apps, c.app_count-few_apps.ensures.limit) in
           let low : n.0 < LIMIT = omega (arith, of_n, nodes, c.node_count-few_nodes.ensures.limit) in
