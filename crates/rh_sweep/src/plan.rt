@@ -1,12 +1,14 @@
 //! Plans, and what comes of them.
 
-ghost use Rattle.std.specs.Prelude.{◌≡◌};
+ghost use Rattle.std.specs.Prelude.{◌≡◌, ◌↔◌, IsTrue, IfOk};
 
-use rh_base::Str;
+use rh_base::{OutOfMemory, Str};
 use rh_model::App;
 use rh_state::Standing;
 use rh_step::{Event, Refusal};
+use std::alloc::Global;
 use std::marker::Model;
+use std::sync::Arc;
 
 /// Events that are tried one after the other, up to the first that is refused.
 #[derive(Drop)]
@@ -17,10 +19,10 @@ pub struct Plan {
     pub events: Vec<Event>,
 }
 
-/// Distributed applications, and where each stands.
+/// Distributed applications, and where each stands. Outcomes with equal standings share them.
 #[derive(Drop)]
 pub struct Standings {
-    items: Vec<(App, Standing)>,
+    items: Arc<Vec<(App, Standing)>>,
 }
 
 /// Contracts see `Standings` as their list.
@@ -31,15 +33,16 @@ impl Model for Standings {
 
     ghost Value = { List (App × Standing) };
 
-    ghost view = { λ s. s.items.items };
+    ghost view = { λ s. s.items.value.items };
 }
 
 impl Standings {
     /// These standings.
-    pub fn of(items: Vec<(App, Standing)>) -> Standings
-        ensures { result ≡ items.items }
+    pub fn of(alloc: Global, items: Vec<(App, Standing)>) -> Result<Standings, OutOfMemory>
+        ensures { IfOk result (λ standings. standings ≡ items.items) }
     {
-        Standings { items }
+        let items = Arc::new(alloc, items)?;
+        Ok(Standings { items })
     }
 
     /// The standings.
@@ -48,6 +51,43 @@ impl Standings {
     {
         self.items.as_slice()
     }
+
+    /// The same standings, which lie in memory once. The error says that there are too many who share them.
+    pub fn share(&self) -> Result<Standings, OutOfMemory>
+        ensures { IfOk result (λ copy. copy ≡ self.now) }
+    {
+        let items = Arc::try_clone(&self.items)?;
+        Ok(Standings { items })
+    }
+
+    /// Whether the two are equal.
+    pub fn same(&self, other: &Standings) -> bool
+        ensures { IsTrue result ↔ (self.now ≡ other.now) }
+    {
+        are_same(self.as_slice(), other.as_slice())
+    }
+}
+
+// Is it the same application, and does it stand at the same place?
+fn is_same(this: &(App, Standing), that: &(App, Standing)) -> bool
+    ensures { IsTrue result ↔ (this.now ≡ that.now) }
+{
+    this.0 == that.0 && this.1 == that.1
+}
+
+// Are these the same applications, which stand at the same places?
+fn are_same(these: &[(App, Standing)], those: &[(App, Standing)]) -> bool
+    ensures { IsTrue result ↔ (these.now ≡ those.now) }
+{
+    if these.len() != those.len() {
+        return false;
+    }
+    'items: for (index, item) in these.iter().enumerate() {
+        if !is_same(item, &those[index]) {
+            return false;
+        }
+    }
+    true
 }
 
 /// What comes of a plan: what one caller is told who makes its events, and where the applications stand then.
@@ -63,4 +103,19 @@ pub struct Outcome {
     pub failovers: u128,
     /// How often one was started in place of one that ran at another node.
     pub takeovers: u128,
+}
+
+impl Outcome {
+    /// This outcome, with the standings of an earlier one if they are equal, so that these lie in memory once.
+    pub(crate) fn sharing(self, earlier: Option<&Outcome>) -> Result<Outcome, OutOfMemory>
+        ensures { IfOk result (λ outcome. outcome ≡ self) }
+    {
+        let mut outcome = self;
+        if let Some(earlier) = earlier {
+            if earlier.standings.same(&outcome.standings) {
+                outcome.standings = earlier.standings.share()?;
+            }
+        }
+        Ok(outcome)
+    }
 }

@@ -21,7 +21,7 @@ pub(crate) fn standings_in(alloc: Global, state: &State) -> Result<Standings, Ou
         push_standing(&mut standings, state, App(number as u8))?;
     }
     standings.shrink_to_fit();
-    Ok(Standings::of(standings))
+    Standings::of(alloc, standings)
 }
 
 // Adds an application and where it stands, if it is distributed.

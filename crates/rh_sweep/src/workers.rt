@@ -122,7 +122,7 @@ fn work<R: Wait, G: Gate>(
         gate.enter(rt, number);
         let tried = branch.try_plan(alloc, base, &plans[number]);
         gate.leave(rt, number);
-        let outcome = tried?;
+        let outcome = tried?.sharing(outcomes.last())?;
         outcomes.push(outcome)?;
         number += workers;
     }

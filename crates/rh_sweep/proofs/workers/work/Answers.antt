@@ -12,13 +12,13 @@ plans-preserved g c =
     let outcomes = c.plans.outcomes.items in
     let inv = c.plans.invariant in
     record {
-      at = c.in_ok-outcome.ensures.at;
+      at = c.in_ok-tried.ensures.at;
       number = stride-more base plans k c.args.first (length outcomes) c.plans.number inv.number
           ∙ ap (λ n. c.args.first + n * k)
           (sym (length_push outcomes c.in_ok-outcome.outcome) ∙ ap (λ (os : List Outcome). length os) (sym c.in_ok-push.ensures.items));
       each = subst (AreFirst base plans k c.args.first) (sym c.in_ok-push.ensures.items)
           (first-tried base plans k c.args.first base outcomes c.in_ok-outcome.outcome c.plans.number c.index-plans-number.result
-          refl inv.number c.plans-test.true c.index-plans-number.is c.in_ok-outcome.ensures.outcome inv.each);
+          refl inv.number c.plans-test.true c.index-plans-number.is (c.in_ok-outcome.ensures ∙ c.in_ok-tried.ensures.outcome) inv.each);
     }
 
 pub returns : goal.returns
