@@ -1,4 +1,5 @@
 """A headless Chromium whose keys and mouse are used over its DevTools pipe."""
+import fcntl
 import json
 import os
 import select
@@ -11,14 +12,21 @@ OPTIONS = ["--headless=new", "--no-sandbox", "--disable-gpu", "--disable-dev-shm
            "--window-size=1280,900"]
 
 
+def high(descriptor):
+    """The same file with a number above those that the browser reads and writes."""
+    copy = fcntl.fcntl(descriptor, fcntl.F_DUPFD_CLOEXEC, 10)
+    os.close(descriptor)
+    return copy
+
+
 class Browser:
     """A headless Chromium with one open page, told by its DevTools pipe what to do."""
 
     def __init__(self, folder):
-        reads, self.writes = os.pipe()
-        self.reads, writes = os.pipe()
+        reads, self.writes = map(high, os.pipe())
+        self.reads, writes = map(high, os.pipe())
         self.process = subprocess.Popen(
-            ["sh", "-c", f'exec chromium "$@" 3<&{reads} 4>&{writes}', "sh", *OPTIONS, "--remote-debugging-pipe",
+            ["bash", "-c", f'exec chromium "$@" 3<&{reads} 4>&{writes}', "bash", *OPTIONS, "--remote-debugging-pipe",
              f"--user-data-dir={folder}/profile", "about:blank"], pass_fds=(reads, writes), stdin=subprocess.DEVNULL,
             stdout=subprocess.DEVNULL, stderr=subprocess.DEVNULL)
         os.close(reads)

@@ -1,5 +1,5 @@
 #!/usr/bin/env python3
-"""Checks the documents against the repository and the built program: check_docs.py PROGRAM
+"""Checks the documents against the repository and the built program: check_docs.py [--times] PROGRAM
 
 In README.md and docs/*.md each link leads somewhere, also within a page. Each command of a block ```console, a line that
 begins with `$ ` (up to the line EOF where it has a <<), is run from the top of the repository with the program in place of
@@ -7,7 +7,8 @@ begins with `$ ` (up to the line EOF where it has a <<), is run from the top of 
 has the exit status 0 (a document shows another one by `; echo "status $?"`). Each block ```erlang is a cluster file that
 `check` accepts. Each command in a help text runs, and docs/help has these texts. Each text that the program can print
 stands in docs/ANSWERS.md. Each definition that docs/RULES.md names stands where it says. Each construct that
-docs/CLUSTER_FILES.md calls refused is. Each script of tests/live in which live nodes differ names sections of docs/LIVE_OTP.md.
+docs/CLUSTER_FILES.md calls refused is. Each script of tests/live in which live nodes differ names its places in docs/LIVE_OTP.md.
+Each wrong body can be applied, and docs/WRONG_BODIES.md names it on the shelf where it is (shelves.py).
 
 run_program.py counts these tests too. The last line is 'N passed, M failed'.
 """
@@ -16,13 +17,17 @@ import os
 import re
 import shlex
 import subprocess
-import sys
 
-from support import LONGEST_RUN, TOP, finish, run
+import shelves
+from groups import Group, command_line, finish
+from support import LONGEST_RUN, TOP, run
 
 ANSWERS = "docs/ANSWERS.md"
+LIVE = "docs/LIVE_OTP.md"
+# Differences that no line of an answer shows.
+UNSEEN = {"weights-for-ever"}
 # The definitions of what the program prints.
-PRINTED = ["rh_trail/specs/Report", "rh_script/specs/Answers", "rh_script/specs/SweepAnswers", "rh_sweep/specs/Sweeping",
+PRINTED = ["rh_trail/specs/Report", "rh_script/specs/Answers", "rh_script/specs/SweepAnswers", "rh_plans/specs/FaultWords",
            "rh_app/specs/CheckText", "rh_app/specs/Histories",
            "rh_events/specs/Refusals", "rh_sections/specs/FaultTexts", "rh_terms/specs/FaultTexts"]
 HELPS = [["--help"], ["run", "--help"], ["check", "--help"], ["sessions", "--help"], ["sweep", "--help"]]
@@ -58,10 +63,16 @@ def prose(text):
 
 
 def anchors(text):
-    """The anchors of a document's headings."""
-    heads = re.findall(r"(?m)^#+ (.*)$", re.sub(r"(?ms)^```.*?^```$", "", text))
+    """The anchors of a document: those of its headings, and those that are written out."""
+    plain = re.sub(r"(?ms)^```.*?^```$", "", text)
+    heads = [re.sub(r"<[^>]*>", "", head) for head in re.findall(r"(?m)^#+ (.*)$", plain)]
     shown = [re.sub(r"\[([^\]]*)\]\([^)]*\)", r"\1", head).lower() for head in heads]
-    return {re.sub(r"[^\w\- ]", "", head).replace(" ", "-") for head in shown}
+    return {re.sub(r"[^\w\- ]", "", head).replace(" ", "-") for head in shown} | set(named_anchors(plain))
+
+
+def named_anchors(text):
+    """The anchors that are written out in a document."""
+    return re.findall(r'<a id="([^"]*)"></a>', text)
 
 
 def targets(text):
@@ -133,18 +144,17 @@ def shown_fault(done, lines):
     return None
 
 
-def shown_examples(program):
+def shown_examples(program, document):
     """Each example of a document prints what the document shows."""
-    for document in documents():
-        for number, language, lines in blocks(text_of(document)):
-            name = f"{document} line {number}"
-            if language == "console":
-                for command, owed in commands(lines):
-                    yield f"{name}: {command.splitlines()[0]}", shown_fault(shell(program, command), owed)
-            elif language == "erlang":
-                text = "\n".join(lines).encode()
-                done = run(program, ["check"], input=text)
-                yield f"{name}: a cluster file", None if done.returncode == 0 else f"{done.stdout}{done.stderr}"
+    for number, language, lines in blocks(text_of(document)):
+        name = f"{document} line {number}"
+        if language == "console":
+            for command, owed in commands(lines):
+                yield f"{name}: {command.splitlines()[0]}", shown_fault(shell(program, command), owed)
+        elif language == "erlang":
+            text = "\n".join(lines).encode()
+            done = run(program, ["check"], input=text)
+            yield f"{name}: a cluster file", None if done.returncode == 0 else f"{done.stdout}{done.stderr}"
 
 
 def help_examples(program):
@@ -227,34 +237,37 @@ def constructs_refused(program):
 
 
 def live_scripts(program):
-    """Each script of tests/live in which live nodes differ names the sections of docs/LIVE_OTP.md that tell so, and no other
-    script does."""
-    heads = set(re.findall(r"(?m)^## (.*)$", text_of("docs/LIVE_OTP.md")))
+    """Each script of tests/live in which live nodes differ names the differences by their anchors in docs/LIVE_OTP.md, and no other
+    script does, but for those whose difference no line shows. Each difference tells its script, or that it has none."""
+    page = text_of(LIVE)
+    known = named_anchors(page)
+    yield f"{LIVE} has each anchor once", None if len(known) == len(set(known)) else f"more than once: {sorted(known)}"
     for path in sorted(glob.glob(os.path.join(TOP, "tests", "live", "*.txt"))):
         text = text_of(path)
-        told = re.findall(r"(?m)^# LIVE_OTP\.md: (.*)\.$", text)
-        named = {name for line in told for name in re.sub(r" \([^)]*\)", "", line).split(", ")}
+        named = {name for line in re.findall(r"(?m)^# LIVE_OTP\.md: (.*)\.$", text) for name in line.split(", ")}
         differs = re.search(r"(?m)^#[<>] ", text) is not None
-        wrong = f"it differs: {differs}; it names {named}" if differs != bool(named) or named - heads else None
-        yield os.path.relpath(path, TOP), wrong
+        is_right = differs == bool(named) or bool(named) and named <= UNSEEN
+        yield os.path.relpath(path, TOP), None if is_right and named <= set(known) else f"it differs: {differs}; it names {named}"
+    for entry in re.findall(r'(?ms)^### <a id=.*?(?=^##|\Z)', page):
+        tells = re.search(r"`tests/live/[\w-]+\.txt`|no\s+script|by\s+hand", entry)
+        yield f"{LIVE} {named_anchors(entry)[0]}: its script", None if tells else "it tells none"
 
 
 def help_files(program):
-    """What ./rehearse shows before the program is built is what the program says."""
+    """The help texts that stand in docs/help are what the program says."""
     for name, words in [("rehearse", ["--help"]), ("version", ["--version"])] + [(w[0], w) for w in HELPS[1:]]:
         done = run(program, words)
         is_same = done.stderr.decode() == text_of(f"docs/help/{name}.txt")
         yield f"docs/help/{name}.txt", None if is_same else f"it isn't what the program says to {' '.join(words)}"
 
 
-TESTS = (links, answers_told, definitions_named, constructs_refused, shown_examples, help_examples, help_links,
-         live_scripts, help_files)
+TESTS = (links, answers_told, definitions_named, constructs_refused, Group(shown_examples, documents()), help_examples, help_links,
+         live_scripts, help_files, *shelves.TESTS)
 
 
 def main():
-    if len(sys.argv) != 2:
-        sys.exit(__doc__)
-    finish(TESTS, os.path.abspath(sys.argv[1]))
+    given = command_line(__doc__).parse_args()
+    finish(TESTS, given.program, shows_times=given.times)
 
 
 if __name__ == "__main__":

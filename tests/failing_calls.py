@@ -4,6 +4,7 @@ import os
 import sys
 import tempfile
 
+from groups import Group
 from support import fault_of, library_of, read, run
 
 # Counts the reads of standard input and the writes to standard output in the file COUNT_FILE. FAIL_CALL is `read` or `write`,
@@ -97,21 +98,21 @@ def failed_fault(devices, word, piece, call, count, how):
     return None
 
 
-def failing_calls(program):
+def failing_calls(program, word):
     """Readers and writers of one byte, seven bytes and all bytes a call, each call of which fails in turn."""
+    source, text = INPUTS[word]
     with tempfile.TemporaryDirectory() as folder:
         devices = Devices(program, folder)
-        for word, (source, text) in INPUTS.items():
-            for piece in (1, 7, 1_000_000):
-                whole = fault_of(devices.over(word, piece, "read", 0, EIO), 0, text)
-                reads, writes = devices.counts()
-                # The last read tells the end.
-                enough = reads > len(source) // piece and writes >= len(text) // piece
-                yield f"{word}: {piece} bytes a call", whole or (None if enough else f"{reads} reads, {writes} writes")
-                for call, count, errors in ("read", reads, (EINTR, EIO, EAGAIN)), ("write", writes, (EINTR, EIO, NO_BYTES)):
-                    for how in errors[:1] + errors[2:] if piece == 1 else errors:
-                        name = f"{word}: each of {count} calls of {call} fails with {how}, {piece} bytes a call"
-                        yield name, failed_fault(devices, word, piece, call, count, how)
+        for piece in (1, 7, 1_000_000):
+            whole = fault_of(devices.over(word, piece, "read", 0, EIO), 0, text)
+            reads, writes = devices.counts()
+            # The last read tells the end.
+            enough = reads > len(source) // piece and writes >= len(text) // piece
+            yield f"{word}: {piece} bytes a call", whole or (None if enough else f"{reads} reads, {writes} writes")
+            for call, count, errors in ("read", reads, (EINTR, EIO, EAGAIN)), ("write", writes, (EINTR, EIO, NO_BYTES)):
+                for how in errors[:1] + errors[2:] if piece == 1 else errors:
+                    name = f"{word}: each of {count} calls of {call} fails with {how}, {piece} bytes a call"
+                    yield name, failed_fault(devices, word, piece, call, count, how)
 
 
-TESTS = (failing_calls,)
+TESTS = (Group(failing_calls, tuple(INPUTS), needs=("cc",)),)

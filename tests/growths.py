@@ -10,6 +10,7 @@ import os
 import sys
 import tempfile
 
+from groups import Group
 from support import fault_of, library_of, read, run
 
 # The calls that take memory: each growth is refused in turn.
@@ -115,19 +116,19 @@ def fixed_fault(calls, name):
     return wrong or (None if (said, count) == (b"done\n", 0) else f"{count} growths, {said!r}")
 
 
-def growths(program):
-    """Calls with each growth refused in turn: each answers that memory was refused, and leaves all as it was."""
+def growths(program, name):
+    """A call with each growth refused in turn: it answers that memory was refused, and leaves all as it was."""
     program = program_beside(program)
     if not os.path.exists(program):
-        yield "refused growths", f"{program} isn't there: rt ci builds it, and so does rt run in its crate"
+        yield f"{name}: refused growths", f"{program} isn't there: rt ci builds it, and so does rt run in its crate"
         return
     with tempfile.TemporaryDirectory() as folder:
         calls = Calls(program, folder)
-        for name in GROWING:
+        if name in FIXED:
+            yield f"{name}: all growths refused", fixed_fault(calls, name)
+        else:
             missed, wrong = growing_fault(calls, name)
             yield f"{name}: each of {missed} growths refused in turn", wrong
-        for name in FIXED:
-            yield f"{name}: all growths refused", fixed_fault(calls, name)
 
 
-TESTS = (growths,)
+TESTS = (Group(growths, GROWING + FIXED, needs=("cc",)),)

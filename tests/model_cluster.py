@@ -1,17 +1,18 @@
 """A cluster file as the model has it: cluster_of(text) gives the Cluster of a text that is known to be right.
 
-It is written from docs/CLUSTER_FILES.md and finds no faults: what the program refuses is told by rows.
+It is written from docs/CLUSTER_FILES.md and finds no faults: what the program refuses is told by rows. The terms are read as the
+companion `live` reads them.
 """
-import re
+import os
+import sys
 from typing import NamedTuple
 
-TOKEN = re.compile(r"""\s+|%[^\n]*|(?P<atom>[a-z][A-Za-z0-9_@]*)|'(?P<quoted>(?:[^'\\]|\\.)*)'|"(?P<text>(?:[^"\\]|\\.)*)"
-    |(?P<number>-?[0-9]+)|(?P<mark>[\[\]{},.])""", re.VERBOSE | re.DOTALL)
+from support import TOP
+
+sys.path.append(os.path.join(TOP, "companions"))
+from terms import section, terms_of  # noqa: E402
+
 KERNEL = ("kernel", "stdlib")
-
-
-class Text(str):
-    """A text in double quotes: it isn't an atom."""
 
 
 class Spread(NamedTuple):
@@ -45,40 +46,6 @@ class Cluster(NamedTuple):
     apps: list
 
 
-def terms_of(text):
-    """The terms of a text: atoms are str, lists are list, tuples are tuple."""
-    tokens, place = [], 0
-    while place < len(text):
-        found = TOKEN.match(text, place)
-        kind = found.lastgroup
-        if kind is not None:
-            value = found[kind]
-            tokens.append((kind, int(value) if kind == "number" else value))
-        place = found.end()
-    terms, place = [], 0
-    while place < len(tokens):
-        term, place = term_at(tokens, place)
-        assert tokens[place] == ("mark", ".")
-        terms.append(term)
-        place += 1
-    return terms
-
-
-def term_at(tokens, place):
-    """The term that begins at a token, and the place behind it."""
-    kind, value = tokens[place]
-    if kind != "mark":
-        return Text(value) if kind == "text" else value, place + 1
-    end, items = {"[": "]", "{": "}"}[value], []
-    place += 1
-    while tokens[place] != ("mark", end):
-        item, place = term_at(tokens, place)
-        items.append(item)
-        if tokens[place] == ("mark", ","):
-            place += 1
-    return items if end == "]" else tuple(items), place + 1
-
-
 def cluster_of(text):
     """The cluster of a text."""
     terms = terms_of(text)
@@ -90,11 +57,6 @@ def cluster_of(text):
     spreads = spreads_of(nodes, numbers)
     return Cluster(profile, [node_of(term, numbers, places) for term in nodes],
                    [app_of(term, places, spreads.get(term[1])) for term in apps])
-
-
-def section(node, name):
-    """The parameters of a section, which may be missing."""
-    return dict(next((values for key, values in node[2] if key == name), []))
 
 
 def spreads_of(nodes, numbers):

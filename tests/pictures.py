@@ -1,7 +1,7 @@
 #!/usr/bin/env python3
 """Makes the pictures of the documents anew, by a headless Chromium: pictures.py PROGRAM
 
-docs/images/five-commands.png is the page that the five commands of README.md write, docs/images/three-nodes.png that of
+docs/images/six-commands.png is the page that the six commands of README.md write, docs/images/three-nodes.png that of
 examples/repaired-node.txt at step 9.
 """
 import base64
@@ -14,7 +14,7 @@ import tempfile
 sys.dont_write_bytecode = True
 sys.path.append(os.path.join(os.path.dirname(os.path.abspath(__file__)), "companions"))
 from browser import Browser  # noqa: E402
-from five_commands import PICTURE, made, screenshot  # noqa: E402
+from six_commands import PICTURE, made, screenshot  # noqa: E402
 from support import TOP  # noqa: E402
 
 

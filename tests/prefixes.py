@@ -1,17 +1,17 @@
 """Tests of cut inputs: every prefix of every sample cluster and of every example, by each subcommand.
 
 The sources are the five sample clusters of the rows, with a script that goes through all kinds of lines, and each example. Where
-a script is cut, its answer is measured by those to the whole lines before the cut. Four runs go on at a time.
+a script is cut, its answer is measured by those to the whole lines before the cut.
 """
 import os
 import re
 import subprocess
-from concurrent.futures import ProcessPoolExecutor
-from functools import partial
 
-from row_files import read_row
+from groups import Group
+from row_files import row_at
 from support import LONGEST_RUN, TOP, example_files, read
 
+SAMPLE = "sample cluster "
 MARK = b"\n===\n"
 HIDDEN = re.compile(rb"""%[^\n]*|'(?:[^'\\]|\\.)*(?:'|$)|"(?:[^"\\]|\\.)*(?:"|$)""", re.DOTALL)
 FIRST_STATE = re.compile(rb"final\nnow 0\n(node [^ \n]+ down 0\n(  forbidden [^ \n]+\n)*)+(app [^ \n]+ quiet\n)*")
@@ -19,15 +19,14 @@ WORDS = ("check", "run", "sessions", "sweep")
 OFF_END = b"sweep refused V2 base_not_at_end\n"
 
 
-def sources():
-    """Pairs of a name and an input."""
-    for number in range(1, 6):
-        cluster = read_row(os.path.join(TOP, "tests", "rows", "whole-files", f"sample-cluster-{number}.row")).input
-        nodes = re.findall(rb"\{node, ([^,]*),", cluster)
-        lines = [b"boot %s" % node for node in nodes] + [b"tick 5000", b"", b"# again", b"crash %s" % nodes[0], b"show"]
-        yield f"sample cluster {number}", cluster.rstrip(b"\n") + MARK + b"\n".join(lines) + b"\nplan p\nboot %s\n" % nodes[0]
-    for path in example_files():
-        yield os.path.relpath(path, TOP), read(path)
+def source(name):
+    """The input of this name: an example, or one that is made of a sample cluster."""
+    if not name.startswith(SAMPLE):
+        return read(os.path.join(TOP, name))
+    cluster = row_at(os.path.join(TOP, "tests", "rows", "whole-files", name.replace(" ", "-") + ".row")).input
+    nodes = re.findall(rb"\{node, ([^,]*),", cluster)
+    lines = [b"boot %s" % node for node in nodes] + [b"tick 5000", b"", b"# again", b"crash %s" % nodes[0], b"show"]
+    return cluster.rstrip(b"\n") + MARK + b"\n".join(lines) + b"\nplan p\nboot %s\n" % nodes[0]
 
 
 def by_one_session(text):
@@ -64,13 +63,13 @@ def is_refused(told):
 class Told:
     """What is told of each front of an input, by each subcommand."""
 
-    def __init__(self, program, pool, text, words):
+    def __init__(self, program, text, words):
         self.text = text
         cluster, mark, _ = text.partition(MARK)
         # The front that ends with the mark, which may lack its line end.
         self.begin = len(cluster) + len(MARK) - 1 if mark else len(text) + 1
         fronts = [text[:size] for size in range(len(text) + 1)]
-        self.told = {word: list(pool.map(partial(answer, program, word), fronts, chunksize=64)) for word in words}
+        self.told = {word: [answer(program, word, front) for front in fronts] for word in words}
         self.reads = "check" not in words or b" C1 " not in self.told["check"][-1][1]
 
     def is_right(self, word, size):
@@ -151,17 +150,18 @@ def wrong_front(told, word):
     return None
 
 
-def cut_inputs(program):
-    """Every prefix of every source, by each subcommand."""
-    with ProcessPoolExecutor(4) as pool:
-        for name, text in sources():
-            told = Told(program, pool, text, WORDS)
-            for word in WORDS:
-                yield f"{word} of each of {len(text) + 1} prefixes of {name}", wrong_front(told, word)
-            own = by_one_session(text)
-            if own is not None:
-                told = Told(program, pool, own, ("check", "sessions"))
-                yield f"sessions of each of {len(own) + 1} prefixes of {name}, by session 1", wrong_front(told, "sessions")
+def cut_inputs(program, name):
+    """Every prefix of a source, by each subcommand."""
+    text = source(name)
+    told = Told(program, text, WORDS)
+    for word in WORDS:
+        yield f"{word} of each of {len(text) + 1} prefixes of {name}", wrong_front(told, word)
+    own = by_one_session(text)
+    if own is not None:
+        told = Told(program, own, ("check", "sessions"))
+        yield f"sessions of each of {len(own) + 1} prefixes of {name}, by session 1", wrong_front(told, "sessions")
 
 
-TESTS = (cut_inputs,)
+# The longest sources first.
+SOURCES = [os.path.relpath(path, TOP) for path in sorted(example_files(), key=os.path.getsize, reverse=True)]
+TESTS = (Group(cut_inputs, SOURCES + [f"{SAMPLE}{number}" for number in range(1, 6)]),)

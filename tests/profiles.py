@@ -2,7 +2,7 @@
 
 What stands in a file without a profile is answered the same where `{profile, 1}. ` stands before it on the same line, so that the
 lines of faults stay. That is tried with each row and each example, and by `under_profile_1` with inputs that are made: it runs
-groups of tests with a program that puts these bytes before its input. The second profile is tried at its limits: 64 nodes and
+a group of tests with a program that puts these bytes before its input. The second profile is tried at its limits: 64 nodes and
 128 applications, of which the last ones take part.
 """
 import os
@@ -10,6 +10,7 @@ import shlex
 import tempfile
 
 import model
+from row_files import EXAMPLE_ROWS, ROWS, row_at
 from support import TOP, chain, fault_of, files_below, run
 
 INPUT_LIMIT = 16_777_216
@@ -25,39 +26,34 @@ def with_profile(text):
     return FRONT + text
 
 
-def first_profile(read_row_at):
-    """A group of tests: each row and each example is answered the same with the first profile. Rows are read by `read_row_at`."""
-
-    def rows_with_profile(program):
-        tried = 0
-        for folder in ("rows", "examples"):
-            for path in files_below(os.path.join(TOP, "tests", folder)):
-                row = read_row_at(path)
-                # Rows of command lines have no input that is read; others say their profile, or another that isn't one.
-                if row.status == 1 or b"profile" in row.input.partition(b"\n===\n")[0]:
-                    continue
-                tried += 1
-                done = run(program, row.words, input=with_profile(row.input))
-                yield f"{os.path.relpath(path, TOP)} with profile 1", fault_of(done, row.status, row.output)
-        yield "rows with profile 1", None if tried >= 150 else f"only {tried} rows"
-
-    return rows_with_profile
+def first_profile(program):
+    """Each row and each example is answered the same with the first profile."""
+    tried = 0
+    for path in files_below(ROWS) + files_below(EXAMPLE_ROWS):
+        row = row_at(path)
+        # Rows of command lines have no input that is read; others say their profile, or another that isn't one.
+        if row.status == 1 or b"profile" in row.input.partition(b"\n===\n")[0]:
+            continue
+        tried += 1
+        done = run(program, row.words, input=with_profile(row.input))
+        yield f"{os.path.relpath(path, TOP)} with profile 1", fault_of(done, row.status, row.output)
+    yield "rows with profile 1", None if tried >= 150 else f"only {tried} rows"
 
 
-def under_profile_1(*groups):
-    """A group of tests: those of the groups, whose inputs all begin with a cluster file without a profile, with the first one."""
+def under_profile_1(group):
+    """A group of tests: those of a group whose inputs all begin with a cluster file without a profile, with the first one."""
 
-    def all_with_profile(program):
+    def tests(program):
         with tempfile.TemporaryDirectory() as folder:
             path = os.path.join(folder, "with_profile")
             with open(path, "w") as file:
                 file.write(f"#!/bin/sh\n{{ printf %s {shlex.quote(FRONT.decode())}; cat; }} | {shlex.quote(program)} \"$@\"\n")
             os.chmod(path, 0o755)
-            for group in groups:
-                for name, wrong in group(path):
-                    yield f"{name}, with profile 1", wrong
+            for name, wrong in group(path):
+                yield f"{name}, with profile 1", wrong
 
-    return all_with_profile
+    tests.__name__ = f"{group.__name__} with profile 1"
+    return tests
 
 
 def greatest_inputs(program):
@@ -119,4 +115,4 @@ def greatest_clusters(program):
         yield f"plans of 64 nodes and 128 applications by {workers} workers", fault_of(done, 0, owed)
 
 
-TESTS = (greatest_inputs, longer_chains, greatest_clusters)
+TESTS = (first_profile, greatest_inputs, longer_chains, greatest_clusters)

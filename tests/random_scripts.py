@@ -6,9 +6,10 @@ import collections
 import random
 
 import model
+from groups import Group
 from support import fault_of, run
 
-SCRIPTS = 480
+SCRIPTS, AT_ONCE = 480, 40
 TYPES = ["permanent", "transient", "temporary"]
 TIMES = [1, 250, 499, 500, 501, 1_000, 3_000]
 EVENTS = ["boot"] * 8 + ["crash"] * 3 + ["tick"] * 4 + ["start"] * 6 + ["stop"] * 2 + ["permit"] * 12 + ["takeover"] * 4 + [
@@ -190,15 +191,20 @@ def note(seen, text, owed):
             seen[what] += f"{what} " in line
 
 
-def random_scripts(program):
-    """Each script is answered as by the model, and together they reach all events, refusals and notices."""
+def random_scripts(program, numbers):
+    """Each script of these numbers is answered as by the model. Returns what they reach."""
     seen = collections.Counter()
-    for number in range(SCRIPTS):
+    for number in numbers:
         words, text, owed = case(number)
         if words[0] == "run":
             note(seen, text, owed)
         yield f"random script {number}", fault_of(run(program, words, input=text.encode()), 0, owed.encode())
-    yield "what random scripts reach", reached(seen)
+    return seen
 
 
-TESTS = (random_scripts,)
+def all_reached(counters):
+    """Together the scripts reach all events, refusals and notices."""
+    yield "what random scripts reach", reached(sum(counters, collections.Counter()))
+
+
+TESTS = (Group(random_scripts, [range(begin, begin + AT_ONCE) for begin in range(0, SCRIPTS, AT_ONCE)], end=all_reached),)

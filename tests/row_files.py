@@ -1,4 +1,4 @@
-"""The files of worked rows: read_row(path) gives a Row, or raises a RowFault, which names the file and the line.
+"""The files of worked rows: row_at(path) gives a Row, or raises a RowFault, which names the file and the line.
 
     args: check                          the words of the command line; left out: run
     status: 2                            the exit status that is owed; left out: 0
@@ -19,6 +19,9 @@ from typing import NamedTuple, Optional
 
 from support import TOP, read
 
+ROWS = os.path.join(TOP, "tests", "rows")
+EXAMPLES = os.path.join(TOP, "examples")
+EXAMPLE_ROWS = os.path.join(TOP, "tests", "examples")
 SECTIONS = ("input", "output")
 ESCAPED, NO_NEWLINE = "escaped", "no newline at end"
 ESCAPES = {"\\r": b"\r", "\\t": b"\t", "\\\\": b"\\"}
@@ -37,6 +40,20 @@ class RowFault(Exception):
 
     def __init__(self, path, line, reason):
         super().__init__(f"{os.path.relpath(path, TOP)} line {line}: {reason}")
+
+
+def example_row(example):
+    """The path of an example's row."""
+    return os.path.join(EXAMPLE_ROWS, os.path.splitext(os.path.relpath(example, EXAMPLES))[0] + ".row")
+
+
+def row_at(path):
+    """The row of a file. The input of an example's row is the example."""
+    name = os.path.relpath(path, EXAMPLE_ROWS)
+    if name.startswith(os.pardir):
+        return read_row(path)
+    example = os.path.join(EXAMPLES, os.path.splitext(name)[0] + ".txt")
+    return read_row(path, ("output",))._replace(input=read(example))
 
 
 def read_row(path, sections=SECTIONS):

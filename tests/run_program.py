@@ -1,56 +1,45 @@
 #!/usr/bin/env python3
-"""Tests the built program: run_program.py PROGRAM [ROW..]
+"""Tests the built program: run_program.py [--times] PROGRAM [ROW..]
 
 The worked rows are the files GROUP/NAME.row in tests/rows (row_files.py says what stands in one). Each example of the
 repository, examples/NAME.txt, has its row tests/examples/NAME.row, without an input: that is the example. A file in these
 folders that is no such row is a failed test. Then come inputs that are too large for a file, which are made here, devices
-and memory that fail, more devices (hostile.py) and each of their calls (failing_calls.py), cut inputs (prefixes.py), sweeps
-(sweeps.py), texts that are no terms (term_faults.py), cluster files at the limits (cluster_limits.py), both profiles
-(profiles.py), random scripts beside a model (random_scripts.py) and the documents (check_docs.py). Calls that the program
-`rh_growths` beside PROGRAM makes have each growth of memory refused in turn, and have to leave all as it was (growths.py).
+that fail, and memory (refused_memory.py), more devices (hostile.py) and each of their calls (failing_calls.py), cut inputs
+(prefixes.py), sweeps (sweeps.py), texts that are no terms (term_faults.py), cluster files at the limits (cluster_limits.py),
+both profiles (profiles.py), random scripts beside a model (random_scripts.py), the scripts that run, build and ship the
+program (shipped.py) and the documents (check_docs.py). Calls that the program `rh_growths` beside PROGRAM makes have each
+growth of memory refused in turn, and have to leave all as it was (growths.py). All of it runs side by side on all processors
+(groups.py).
 The last line is 'N passed, M failed'. Where paths of rows are given, these alone are run.
 """
 import os
 import re
-import subprocess
 import sys
 import tempfile
 
-import check_docs
-import failing_calls
-import growths
-import hostile
-import prefixes
-import profiles
-import random_scripts
-import sweeps
-from cluster_limits import cluster_limits
-from no_threads import without_threads
-from row_files import RowFault, read_row
-from support import TOP, chain, example_files, fault_of, files_below, finish, read, run
-from term_faults import term_faults
+# No file is left behind.
+sys.dont_write_bytecode = True
+import check_docs  # noqa: E402
+import failing_calls  # noqa: E402
+import growths  # noqa: E402
+import hostile  # noqa: E402
+import prefixes  # noqa: E402
+import profiles  # noqa: E402
+import random_scripts  # noqa: E402
+import refused_memory  # noqa: E402
+import shipped  # noqa: E402
+import sweeps  # noqa: E402
+from cluster_limits import cluster_limits  # noqa: E402
+from groups import Group, command_line, finish  # noqa: E402
+from no_threads import without_threads  # noqa: E402
+from row_files import EXAMPLE_ROWS, EXAMPLES, ROWS, RowFault, example_row, row_at  # noqa: E402
+from support import TOP, chain, example_files, fault_of, files_below, read, run  # noqa: E402
+from term_faults import term_faults  # noqa: E402
 
-ROWS = os.path.join(TOP, "tests", "rows")
-EXAMPLES = os.path.join(TOP, "examples")
-EXAMPLE_ROWS = os.path.join(TOP, "tests", "examples")
 # Chance decides how its sessions take turns, so it has no row.
 BY_CHANCE = os.path.join(EXAMPLES, "two-operators.txt")
 TWO_NODES = b"{node, a@x, []}. {node, b@x, []}."
 INPUT_LIMIT = 16_777_216
-
-
-def example_row(example):
-    """The path of an example's row."""
-    return os.path.join(EXAMPLE_ROWS, os.path.splitext(os.path.relpath(example, EXAMPLES))[0] + ".row")
-
-
-def row_at(path):
-    """The row of a file. The input of an example's row is the example."""
-    name = os.path.relpath(path, EXAMPLE_ROWS)
-    if name.startswith(os.pardir):
-        return read_row(path)
-    example = os.path.join(EXAMPLES, os.path.splitext(name)[0] + ".txt")
-    return read_row(path, ("output",))._replace(input=read(example))
 
 
 def row_fault(program, path):
@@ -211,83 +200,6 @@ def failing_devices(program):
     yield "input from a folder", fault_of(done, 4, b"")
 
 
-# Refuses the allocation of the number in FAIL_ALLOCATION, counted from 1, and keeps in the file COUNT_FILE how many there
-# were: a program with threads ends without running what would be run at its end.
-REFUSING = r"""
-#define _GNU_SOURCE
-#include <dlfcn.h>
-#include <fcntl.h>
-#include <stdlib.h>
-#include <sys/mman.h>
-#include <unistd.h>
-static long refused = -1, before_begin = 0;
-static long *count = &before_begin;
-__attribute__((constructor)) static void begin(void) {
-  const char *text = getenv("FAIL_ALLOCATION");
-  const char *path = getenv("COUNT_FILE");
-  int file = path ? open(path, O_RDWR | O_CREAT | O_TRUNC, 0600) : -1;
-  if (text) refused = atol(text);
-  if (file >= 0 && ftruncate(file, sizeof *count) == 0) {
-    long *kept = mmap(NULL, sizeof *count, PROT_READ | PROT_WRITE, MAP_SHARED, file, 0);
-    if (kept != MAP_FAILED) { *kept = *count; count = kept; }
-  }
-  if (file >= 0) close(file);
-}
-void *malloc(size_t size) {
-  static void *(*inner)(size_t);
-  if (!inner) inner = dlsym(RTLD_NEXT, "malloc");
-  return __sync_add_and_fetch(count, 1) == refused ? NULL : inner(size);
-}
-void *realloc(void *p, size_t size) {
-  static void *(*inner)(void *, size_t);
-  if (!inner) inner = dlsym(RTLD_NEXT, "realloc");
-  return __sync_add_and_fetch(count, 1) == refused ? NULL : inner(p, size);
-}
-"""
-
-
-def refusals(program, library, counted, row):
-    """Each allocation of a row's run refused in turn: how many there were, and what is wrong, or None."""
-
-    def refusing(number):
-        return run(program, row.words, input=row.input, env={
-            **os.environ, "LD_PRELOAD": library, "FAIL_ALLOCATION": str(number), "COUNT_FILE": counted})
-
-    wrong = fault_of(refusing(0), row.status, row.output)
-    count = int.from_bytes(read(counted), sys.byteorder)
-    missed = 0
-    for number in range(1, count + 1):
-        done = refusing(number)
-        missed += done.returncode == 5
-        is_whole = done.returncode == row.status and done.stdout == row.output
-        is_front = done.returncode == 5 and row.output.startswith(done.stdout)
-        if wrong is None and not (is_whole or is_front):
-            wrong = f"allocation {number}: status {done.returncode}, {done.stdout!r}"
-    # A growth that only would save room may be done without; most can't.
-    if wrong is None and missed < 50:
-        wrong = f"of {count} allocations only {missed} were missed"
-    return count, wrong
-
-
-def refused_memory(program):
-    """Each allocation of whole runs refused in turn: the whole text, or status 5 and a front of it."""
-    runs = [row_at(os.path.join(TOP, "tests", name + ".row")) for name in (
-        "rows/bare-nodes/two-bare-nodes", "rows/sessions/one-session-all-calls", "examples/waiting-nodes",
-        "examples/local-applications", "examples/failover-and-takeover", "examples/three-nodes",
-        "rows/sweep/plans-by-1-workers", "rows/sweep/plans-by-2-workers")]
-    with tempfile.TemporaryDirectory() as folder:
-        code, library, counted = (os.path.join(folder, name) for name in ("refusing.c", "refusing.so", "count"))
-        with open(code, "w") as file:
-            file.write(REFUSING)
-        made = subprocess.run(["cc", "-shared", "-fPIC", "-O1", "-o", library, code, "-ldl"], capture_output=True)
-        if made.returncode != 0:
-            yield "refused memory", f"cc: {made.stderr.decode()[:200]}"
-            return
-        for row in runs:
-            count, wrong = refusals(program, library, counted, row)
-            yield f"{row.words[0]}: each of {count} allocations refused in turn", wrong
-
-
 def no_threads(program):
     """Sessions and sweeps where each thread is refused: one part of the work is done after the other, with the same text."""
     with tempfile.TemporaryDirectory() as folder:
@@ -302,19 +214,27 @@ def no_threads(program):
         yield "sweeps without threads", None if refused() else "no thread was asked for"
 
 
+def named_rows(program, path):
+    """The row of a path."""
+    yield path, row_fault(program, path)
+
+
+# What makes its inputs itself, for cluster files without a profile.
+MADE = (term_faults, large_inputs, long_chains, *sweeps.TESTS)
+# The worked rows, the examples, and what fails: devices, memory, threads.
+QUICK = (*refused_memory.TESTS, *failing_calls.TESTS, *hostile.TESTS, rows, examples, failing_devices,
+         Group(no_threads, needs=("cc",)), *shipped.TESTS)
+# Those that take longest begin first.
+ALL = (*prefixes.TESTS, *growths.TESTS, *random_scripts.TESTS, *check_docs.TESTS, *QUICK, *MADE, *map(profiles.under_profile_1, MADE),
+       *profiles.TESTS, cluster_limits, command_lines, full_inputs, several_sessions)
+
+
 def main():
-    if len(sys.argv) < 2:
-        sys.exit(__doc__)
-
-    def named_rows(program):
-        for path in sys.argv[2:]:
-            yield path, row_fault(program, path)
-
-    made = (term_faults, large_inputs, long_chains, *sweeps.TESTS)
-    all_groups = (rows, examples, *made, profiles.first_profile(row_at), profiles.under_profile_1(*made), *profiles.TESTS,
-                  *random_scripts.TESTS, cluster_limits, command_lines, full_inputs, several_sessions, failing_devices,
-                  refused_memory, no_threads, *growths.TESTS, *hostile.TESTS, *failing_calls.TESTS, *prefixes.TESTS, *check_docs.TESTS)
-    finish((named_rows,) if sys.argv[2:] else all_groups, os.path.abspath(sys.argv[1]))
+    line = command_line(__doc__)
+    line.add_argument("rows", nargs="*")
+    given = line.parse_args()
+    finish([Group(named_rows, given.rows)] if given.rows else ALL, given.program, shows_times=given.times)
 
 
-main()
+if __name__ == "__main__":
+    main()

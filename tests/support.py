@@ -1,12 +1,8 @@
-"""What the tests of the built program share: running it, what is wrong with a finished run, and counting.
-
-A group of tests is a function of the program's path that gives pairs: the name of a test, and what is wrong, or None.
-"""
+"""What the tests of the built program share: running it, and what is wrong with a finished run."""
 import difflib
 import os
 import subprocess
-import sys
-import traceback
+import tempfile
 
 TOP = os.path.dirname(os.path.dirname(os.path.abspath(__file__)))
 LONGEST_RUN = 300
@@ -35,6 +31,17 @@ def library_of(code, folder):
         file.write(code)
     subprocess.run(["cc", "-shared", "-fPIC", "-O1", "-o", library, source, "-ldl"], check=True)
     return library
+
+
+def in_folder(part):
+    """A group of tests: those of a function that takes a folder too, which is there as long as they are run."""
+
+    def tests(program, *words):
+        with tempfile.TemporaryDirectory(ignore_cleanup_errors=True) as folder:
+            yield from part(program, folder, *words)
+
+    tests.__name__ = part.__name__
+    return tests
 
 
 def run(program, words, **options):
@@ -74,21 +81,3 @@ def chain(count):
     needs = [b"[%s]" % name for name in names[1:]] + [b"[]"]
     apps = b" ".join(b"{application, %s, [{applications, %s}]}." % pair for pair in zip(names, needs))
     return names, b"{node, z, [{rehearse, [{boot, [%s]}]}]}. %s\n===\n" % (boot, apps)
-
-
-def finish(groups, program):
-    """Runs groups of tests, prints each that failed and the line 'N passed, M failed', and ends this program, with status
-    1 where something failed. A group that can't go on counts as one failed test."""
-    passed = failed = 0
-    for group in groups:
-        try:
-            for name, wrong in group(program):
-                passed += wrong is None
-                failed += wrong is not None
-                if wrong is not None:
-                    print(f"FAILED {name}: {wrong}")
-        except Exception:
-            failed += 1
-            print(f"FAILED {group.__name__} can't go on: {traceback.format_exc()}")
-    print(f"{passed} passed, {failed} failed")
-    sys.exit(1 if failed else 0)

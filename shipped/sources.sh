@@ -1,0 +1,78 @@
+# What a program is built from, and whether a program that is there was built from what this checkout has. Read by
+# ./rehearse, ./build and shipped/check, which set `top`.
+#
+# Beside a program PROGRAM stands a text PROGRAM.txt, a word and its value a line:
+#   sha256   the SHA-256 of the program
+#   kit      the kit that proved and built it, as `rt version` tells it
+#   commit   the commit with its sources; `none` if they were changed and not committed
+#   time     when it was built
+#   sources  one checksum over all that it was built from: of each crate that it stands on `src`, `specs`, `proofs` and
+#            the line of crates.txt
+
+# The crates that a crate stands on, lowest first, and the crate itself, as a list of words in `crates`.
+find_crates() {
+  local line name
+  local -A below=()
+  while read -r line; do
+    name=${line%%:*}
+    [[ $line == \#* || $line != *:* ]] || below[${name%% *}]=${line#*:}
+  done < "$top/crates.txt"
+  crates=
+  add_crates "$1"
+}
+
+add_crates() {
+  local name
+  for name in ${below[$1]:-}; do
+    [[ -z ${below[$name]+is} || " $crates " == *" $name "* ]] || add_crates "$name"
+  done
+  crates+=" $1"
+}
+
+# The checksum of what a program is built from, by the bytes of all files.
+checksum_of() {
+  local crates name
+  find_crates "$1"
+  (
+    cd "$top" || exit 1
+    export LC_ALL=C
+    for name in $crates; do grep -E "^$name( [^:]*)?:" crates.txt; done
+    for name in $crates; do
+      find "crates/$name/src" "crates/$name/specs" "crates/$name/proofs" -type f 2> /dev/null
+    done | sort | tr '\n' '\0' | xargs -0 sha256sum
+  ) | sha256sum | cut -d ' ' -f 1
+}
+
+# The folders of what a program is built from, and crates.txt, as a list in `paths`.
+find_paths() {
+  local crates name
+  find_crates "$1"
+  paths=(crates.txt)
+  for name in $crates; do
+    paths+=("crates/$name/src" "crates/$name/specs" "crates/$name/proofs")
+  done
+}
+
+# The value of a word in the text beside a program, or nothing, in `value`.
+find_value() {
+  local word rest
+  value=
+  [ -f "$1.txt" ] || return
+  while read -r word rest; do
+    [ "$word" != "$2" ] || value=$rest
+  done < "$1.txt"
+}
+
+# Was this program built from what this checkout has? Git tells it in a few milliseconds, from the commit in the text;
+# where it can't, or tells a difference (in a line of crates.txt about another crate, say), the checksum does.
+is_current() {
+  local program=$1 name=$2 value paths
+  [ -x "$program" ] && [ -f "$program.txt" ] || return 1
+  find_value "$program" commit
+  if [ "$value" != none ]; then
+    find_paths "$name"
+    git -C "$top" diff --quiet --no-ext-diff "$value" -- "${paths[@]}" 2> /dev/null && return 0
+  fi
+  find_value "$program" sources
+  [ "$value" = "$(checksum_of "$name")" ]
+}
