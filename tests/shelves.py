@@ -1,0 +1,145 @@
+"""The two shelves of wrong bodies, and what has to be so of them.
+
+An edit is a file NAME.edit of the folder crates/CRATE/must-fail, whose edits `rt ci` tries, or of wrong-bodies/CRATE, whose
+edits wrong_bodies.py tries. Its lines are `file: PATH`, for the changes behind it, and pairs of `old: TEXT` and `new: TEXT`:
+a text that stands in that file once, when the changes before are made, and the one that takes its place.
+"""
+import re
+from collections.abc import Iterator
+from dataclasses import dataclass
+from pathlib import Path
+
+from support import TOP
+
+CRATES = Path(TOP, "crates")
+WRONG_BODIES = Path(TOP, "wrong-bodies")
+PAGE = Path(TOP, "docs", "WRONG_BODIES.md")
+# How many edits there may be for rt ci to try: they take about as long as all proofs together.
+MOST_IN_GATE = 160
+
+# A test's name, and what is wrong, or None.
+Test = tuple[str, str | None]
+
+
+class BadEdit(Exception):
+    """What is wrong with an edit."""
+
+
+@dataclass(frozen=True)
+class Change:
+    """A text of a file of the crate, and the one that takes its place."""
+
+    file: str
+    old: str
+    new: str
+
+
+def gate_shelf(crate: str) -> Path:
+    """The folder of the edits that rt ci tries."""
+    return CRATES / crate / "must-fail"
+
+
+def other_shelf(crate: str) -> Path:
+    """The folder of the edits that wrong_bodies.py tries."""
+    return WRONG_BODIES / crate
+
+
+def crates_on_other_shelf() -> list[str]:
+    """The crates that have edits which wrong_bodies.py tries."""
+    return sorted(folder.name for folder in WRONG_BODIES.iterdir() if folder.is_dir())
+
+
+def files_on(shelf: Path) -> list[Path]:
+    """The files of a crate's shelf."""
+    return sorted(shelf.iterdir()) if shelf.is_dir() else []
+
+
+def changes_of(text: str) -> list[Change]:
+    """The changes that the text of an edit asks for, in their order."""
+    changes: list[Change] = []
+    file = old = None
+    for line in text.removesuffix("\n").split("\n"):
+        if line.startswith("file: ") and old is None:
+            file = line.removeprefix("file: ")
+        elif line.startswith("old: ") and file and old is None:
+            old = line.removeprefix("old: ")
+        elif line.startswith("new:") and old:
+            changes.append(Change(file, old, line.removeprefix("new:").removeprefix(" ")))
+            old = None
+        else:
+            raise BadEdit(f"the line {line!r} isn't the next one of 'file: ', 'old: ' and 'new: '")
+    if old is not None or not changes:
+        raise BadEdit("it doesn't end behind a pair of 'old: ' and 'new: '")
+    return changes
+
+
+def changed(crate: Path, changes: list[Change]) -> dict[str, str]:
+    """The files of a crate that the changes turn, with their texts behind them."""
+    texts: dict[str, str] = {}
+    for change in changes:
+        if change.file not in texts:
+            path = crate / change.file
+            if re.fullmatch(r"(src|specs|proofs)(/\w+)+\.\w+", change.file) is None or not path.is_file():
+                raise BadEdit(f"{change.file} is no file of src/, specs/ or proofs/")
+            texts[change.file] = path.read_text(encoding="utf-8")
+        found = texts[change.file].count(change.old)
+        if found != 1:
+            raise BadEdit(f"{change.old!r} stands in {change.file} {found} times, and not once")
+        texts[change.file] = texts[change.file].replace(change.old, change.new)
+    return texts
+
+
+def edit_fault(crate: str, edit: Path) -> str | None:
+    """Why an edit can't be applied to its crate, or None."""
+    try:
+        if re.fullmatch(r"\w+\.edit", edit.name) is None:
+            raise BadEdit("it has no name of an edit")
+        texts = changed(CRATES / crate, changes_of(edit.read_text(encoding="utf-8")))
+        if all(text == (CRATES / crate / file).read_text(encoding="utf-8") for file, text in texts.items()):
+            raise BadEdit("it changes nothing")
+    except (BadEdit, OSError, UnicodeDecodeError) as fault:
+        return f"{edit.relative_to(TOP)}: {fault}"
+    return None
+
+
+def edits_apply(_program: str) -> Iterator[Test]:
+    """Each edit of both shelves can be applied, and no two edits of a crate have one name."""
+    for crate in sorted({folder.name for folder in CRATES.iterdir()} | set(crates_on_other_shelf())):
+        in_gate, others = files_on(gate_shelf(crate)), files_on(other_shelf(crate))
+        wrong = [fault for edit in in_gate + others if (fault := edit_fault(crate, edit))]
+        twice = sorted({edit.name for edit in in_gate} & {edit.name for edit in others})
+        wrong += [f"{name} stands on both shelves" for name in twice]
+        yield f"the wrong bodies of {crate}", "; ".join(wrong) or None
+
+
+def gate_is_small(_program: str) -> Iterator[Test]:
+    """Not too many edits are on the shelf that rt ci tries."""
+    count = sum(len(files_on(gate_shelf(crate.name))) for crate in CRATES.iterdir())
+    wrong = f"there are {count} of them: put some into wrong-bodies" if count > MOST_IN_GATE else None
+    yield f"at most {MOST_IN_GATE} wrong bodies are tried by rt ci", wrong
+
+
+def name_fault(cell: str) -> str | None:
+    """What is wrong with the names of edits in a cell of the page's table, or None. A name with an asterisk behind it is that
+    of an edit in wrong-bodies."""
+    named = re.findall(r"`([^`]*)`(\\\*)?", cell)
+    wrong = []
+    for name, star in named:
+        crate, _, edit = name.partition("/")
+        shelf = other_shelf(crate) if star else gate_shelf(crate)
+        if not edit or not (shelf / f"{edit}.edit").is_file():
+            wrong.append(f"there is no {(shelf / edit).relative_to(TOP)}.edit")
+    if named and all(star for _, star in named):
+        wrong.append(f"rt ci tries none of {cell.strip()}")
+    return "; ".join(wrong) or None
+
+
+def page_names_edits(_program: str) -> Iterator[Test]:
+    """Each edit that the page of wrong bodies names is on the shelf that it says, and one of each row is tried by rt ci."""
+    table = PAGE.read_text(encoding="utf-8").split("| Wrong body | Edit | Refused by |\n|---|---|---|\n")[1].split("\n\n")[0]
+    cells = [re.split(r"(?<!\\)\|", row)[2] for row in table.splitlines()]
+    wrong = [fault for cell in cells if (fault := name_fault(cell))]
+    yield f"{PAGE.relative_to(TOP)} names edits where they are", "; ".join(wrong) or None
+
+
+TESTS = (edits_apply, gate_is_small, page_names_edits)
