@@ -6,9 +6,9 @@ use Rattle.rh_model.specs.ClusterView.{ClusterView}
 use Rattle.rh_events.specs.declared.refusal.Refusal.{Refusal}
 use Rattle.rh_events.specs.Refusals.{refusal_words}
 use Rattle.rh_trail.specs.Report.{standing_line}
-use Rattle.rh_sweep.specs.declared.fault.SweepFault.{SweepFault}
-use Rattle.rh_sweep.specs.declared.plan.Outcome.{Outcome}
-use Rattle.rh_sweep.specs.Sweeping.{fault_words}
+use Rattle.rh_plans.specs.declared.fault.SweepFault.{SweepFault}
+use Rattle.rh_plans.specs.declared.plan.Outcome.{Outcome}
+use Rattle.rh_plans.specs.FaultWords.{fault_words}
 use Rattle.rh_script.specs.Answers.{reason_words}
 
 -- what was counted, behind its word

@@ -4,7 +4,7 @@ use Rattle.std.specs.Str.{bytes_eq, is_utf8}
 use Rattle.rh_model.specs.ClusterView.{ClusterView}
 use Rattle.rh_events.specs.declared.event.Event.{Event}
 use Rattle.rh_trail.specs.declared.call.Call.TheVariants as call
-use Rattle.rh_sweep.specs.declared.plan.Plan.{Plan}
+use Rattle.rh_plans.specs.declared.plan.Plan.{Plan}
 use Rattle.rh_script.specs.declared.script.Line.{Line}
 use Rattle.rh_script.specs.declared.script.Line.TheVariants as line
 use Rattle.rh_script.specs.declared.sweep_lines.SweepLine.{SweepLine}

@@ -9,9 +9,9 @@ ghost use Rattle.rh_script.specs.SweepAnswers.{counted, plan_line, refused_line,
 use crate::answers::push_reason;
 use rh_base::{OutOfMemory, Str};
 use rh_cluster::{App, Cluster};
+use rh_plans::{Outcome, SweepFault};
 use rh_state::Standing;
 use rh_step::Refusal;
-use rh_sweep::{Outcome, SweepFault};
 use rh_trail::push_standing_line;
 use std::alloc::Global;
 

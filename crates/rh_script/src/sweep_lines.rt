@@ -12,8 +12,8 @@ use crate::lines::{content, split_line};
 use crate::script::{Line, begins_with, command_of, text_of, words_of};
 use rh_base::{OutOfMemory, Str, text_of_bytes};
 use rh_cluster::Cluster;
+use rh_plans::Plan;
 use rh_step::Event;
-use rh_sweep::Plan;
 use rh_trail::Call;
 use std::alloc::Global;
 

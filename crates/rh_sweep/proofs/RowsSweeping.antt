@@ -1,5 +1,5 @@
 -- Worked rows: when plans are swept, and what is read off their end.
-use Rattle.std.proofs.Common.{◌≡◌, ℕ, List, false, [], ◌∷◌, Option, Some, None, codes, map, refl, arith}
+use Rattle.std.proofs.Common.{◌≡◌, ℕ, List, false, [], ◌∷◌, Option, Some, None, codes, refl, arith}
 use Rattle.rh_model.specs.ClusterView.{ClusterView, AppView, numbered, app_numbered}
 use Rattle.rh_model.specs.declared.settings.Spread.{Spread}
 use Rattle.rh_state.specs.declared.status.Standing.TheVariants.{Quiet, Running, Lost}
@@ -8,11 +8,11 @@ use Rattle.rh_state.specs.Numbers.{nodes_of, apps_of}
 use Rattle.rh_events.specs.declared.event.Event.TheVariants.{Boot, Crash}
 use Rattle.rh_trail.specs.SimView.{SimView}
 use Rattle.rh_trail.specs.Lone.{opened}
-use Rattle.rh_sweep.specs.declared.fault.SweepFault.TheVariants.{WorkerCount, BaseNotAtEnd, TrailRoom, OutOfMemory}
-use Rattle.rh_sweep.specs.declared.fault.TheConstants.{MAX_WORKERS}
-use Rattle.rh_sweep.specs.declared.plan.Plan.{Plan}
+use Rattle.rh_plans.specs.declared.fault.SweepFault.TheVariants.{WorkerCount, BaseNotAtEnd, TrailRoom, OutOfMemory}
+use Rattle.rh_plans.specs.declared.plan.Plan.{Plan}
+use Rattle.rh_sweep.specs.declared.workers.TheConstants.{MAX_WORKERS}
 use Rattle.rh_sweep.specs.Outcomes.{outcome_in, standing_in, standings_in}
-use Rattle.rh_sweep.specs.Sweeping.{AreWorkers, IsAtEnd, HasRoomFor, MaySweep, WhyNotSwept, fault_words}
+use Rattle.rh_sweep.specs.Sweeping.{AreWorkers, IsAtEnd, HasRoomFor, MaySweep, WhyNotSwept}
 
 abbrev one_node : ClusterView
 one_node = record { profile = 1; node_names = codes "a" ∷ []; app_names = []; platform_names = []; nodes = []; apps = [] }
@@ -39,10 +39,6 @@ order_row : (base : SimView) (plans : List Plan) (workers : ℕ)
     × (WhyNotSwept base plans workers TrailRoom → AreWorkers workers × IsAtEnd base)
     × (WhyNotSwept base plans workers OutOfMemory → MaySweep base plans workers)
 order_row base plans workers = (λ why. why.0, λ why. (why.0, why.1), λ why. why)
-
-fault_words_row : map fault_words (WorkerCount ∷ BaseNotAtEnd ∷ TrailRoom ∷ OutOfMemory ∷ [])
-    ≡ codes "V1 worker_count" ∷ codes "V2 base_not_at_end" ∷ codes "V3 trail_room" ∷ codes "V4 out_of_memory" ∷ []
-fault_words_row = refl
 
 -- ---- outcomes
 

@@ -7,8 +7,8 @@ use Rattle.std.proofs.lemmas.Option.{slice_get-get_or}
 use Rattle.std.proofs.lemmas.Bool.{cases_lt}
 use Rattle.std.proofs.Math.Nat.{mul-le-mul_left}
 use Rattle.rh_trail.specs.SimView.{SimView}
-use Rattle.rh_sweep.specs.declared.plan.Outcome.{Outcome}
-use Rattle.rh_sweep.specs.declared.plan.Plan.{Plan}
+use Rattle.rh_plans.specs.declared.plan.Outcome.{Outcome}
+use Rattle.rh_plans.specs.declared.plan.Plan.{Plan}
 use Rattle.rh_sweep.specs.Outcomes.{outcome_of}
 use Rattle.rh_sweep.specs.Working.{AreOutcomes}
 

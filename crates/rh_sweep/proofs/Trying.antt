@@ -17,7 +17,7 @@ use Rattle.rh_trail.specs.Chain.{chain}
 use Rattle.rh_trail.specs.SimView.{SimView, Held, state_of}
 use Rattle.rh_trail.specs.Lone.{Served, answered, served, replies, sim_after, with_event}
 use Rattle.rh_trail.proofs.Reversals.{accepted}
-use Rattle.rh_sweep.specs.declared.plan.Outcome.{Outcome}
+use Rattle.rh_plans.specs.declared.plan.Outcome.{Outcome}
 use Rattle.rh_sweep.specs.Outcomes.{is_done, told, refusal_at, is_failover, is_takeover, standings_in, steps, outcome_in}
 use Rattle.rh_sweep.specs.Sweeping.{IsAtEnd}
 use Rattle.rh_sweep.specs.Working.{IsAhead, WentOn, ended}

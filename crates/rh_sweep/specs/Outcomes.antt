@@ -17,8 +17,8 @@ use Rattle.rh_trail.specs.declared.call.Reply.{Reply}
 use Rattle.rh_trail.specs.declared.call.Reply.TheVariants.{Done, Refused}
 use Rattle.rh_trail.specs.SimView.{SimView, state_of}
 use Rattle.rh_trail.specs.Lone.{replies, sim_after}
-use Rattle.rh_sweep.specs.declared.plan.Outcome.{Outcome}
-use Rattle.rh_sweep.specs.declared.plan.Plan.{Plan}
+use Rattle.rh_plans.specs.declared.plan.Outcome.{Outcome}
+use Rattle.rh_plans.specs.declared.plan.Plan.{Plan}
 
 -- ---- what is read off the replies
 

@@ -1,12 +1,12 @@
 -- When plans are swept, and why not (ours).
-use Rattle.std.specs.Prelude.{◌≡◌, ◌≤◌, ◌+◌, ℕ, List, length, All, codes}
+use Rattle.std.specs.Prelude.{◌≡◌, ◌≤◌, ◌+◌, ℕ, List, length, All}
 use Rattle.rh_events.specs.declared.event.Event.{Event}
 use Rattle.rh_trail.specs.SimView.{SimView}
 use Rattle.rh_trail.specs.Lone.{trail_limit}
-use Rattle.rh_sweep.specs.declared.fault.SweepFault.{SweepFault}
-use Rattle.rh_sweep.specs.declared.fault.SweepFault.TheVariants.{WorkerCount, BaseNotAtEnd, TrailRoom, OutOfMemory}
-use Rattle.rh_sweep.specs.declared.fault.TheConstants.{MAX_WORKERS}
-use Rattle.rh_sweep.specs.declared.plan.Plan.{Plan}
+use Rattle.rh_plans.specs.declared.fault.SweepFault.{SweepFault}
+use Rattle.rh_plans.specs.declared.fault.SweepFault.TheVariants.{WorkerCount, BaseNotAtEnd, TrailRoom, OutOfMemory}
+use Rattle.rh_plans.specs.declared.plan.Plan.{Plan}
+use Rattle.rh_sweep.specs.declared.workers.TheConstants.{MAX_WORKERS}
 
 abbrev pub AreWorkers : ℕ → Type 0
 AreWorkers workers = (1 ≤ workers) × (workers ≤ MAX_WORKERS)
@@ -31,10 +31,3 @@ WhyNotSwept base plans workers WorkerCount = AreWorkers workers → ⊥
 WhyNotSwept base plans workers BaseNotAtEnd = AreWorkers workers × (IsAtEnd base → ⊥)
 WhyNotSwept base plans workers TrailRoom = AreWorkers workers × IsAtEnd base × (All (HasRoom base) plans → ⊥)
 WhyNotSwept base plans workers OutOfMemory = MaySweep base plans workers
-
--- a fault's code and name
-abbrev pub fault_words : SweepFault → List ℕ
-fault_words WorkerCount = codes "V1 worker_count"
-fault_words BaseNotAtEnd = codes "V2 base_not_at_end"
-fault_words TrailRoom = codes "V3 trail_room"
-fault_words OutOfMemory = codes "V4 out_of_memory"

@@ -8,9 +8,9 @@ use Rattle.rh_state.specs.StateView.{StateView}
 use Rattle.rh_state.specs.Stored.{read}
 use Rattle.rh_trail.specs.Chain.{chain}
 use Rattle.rh_trail.specs.SimView.{SimView, Held, state_of}
+use Rattle.rh_plans.specs.declared.plan.Outcome.{Outcome}
+use Rattle.rh_plans.specs.declared.plan.Plan.{Plan}
 use Rattle.rh_sweep.specs.declared.branch.Branch.{Branch}
-use Rattle.rh_sweep.specs.declared.plan.Outcome.{Outcome}
-use Rattle.rh_sweep.specs.declared.plan.Plan.{Plan}
 use Rattle.rh_sweep.specs.Outcomes.{outcome_of, standings_in}
 use Rattle.rh_sweep.specs.Sweeping.{IsAtEnd}
 

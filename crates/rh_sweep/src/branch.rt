@@ -5,11 +5,11 @@ ghost use Rattle.rh_trail.specs.SimView.{SimView};
 ghost use Rattle.rh_sweep.specs.Outcomes.{outcome_of};
 ghost use Rattle.rh_sweep.specs.Sweeping.{HasRoom};
 
-use crate::plan::{Outcome, Plan, Standings};
 use crate::standing::standings_in;
 use crate::steps::Steps;
 use crate::trial::tried;
 use rh_base::OutOfMemory;
+use rh_plans::{Outcome, Plan, Standings};
 use rh_state::{Edit, State, go_back};
 use rh_step::{Event, Notice, Pick, Refusal, perform, refusal_of};
 use rh_trail::Sim;

@@ -6,15 +6,12 @@
 #![tactic(auto)]
 
 mod branch;
-mod fault;
-mod plan;
 mod shares;
 mod standing;
 mod steps;
 mod trial;
 mod workers;
 
-pub use fault::{MAX_WORKERS, SweepFault};
-pub use plan::{Outcome, Plan, Standings};
+pub use rh_plans::{Outcome, Plan, Standings, SweepFault};
 pub use trial::try_plan;
-pub use workers::{FreeGate, Gate, sweep};
+pub use workers::{FreeGate, Gate, MAX_WORKERS, sweep};

@@ -5,8 +5,8 @@ ghost use Rattle.rh_sweep.specs.Outcomes.{outcome_of};
 ghost use Rattle.rh_sweep.specs.Sweeping.{HasRoom, IsAtEnd};
 ghost use Rattle.rh_sweep.specs.Working.{AreOutcomes, given};
 
-use crate::plan::{Outcome, Plan};
 use rh_base::OutOfMemory;
+use rh_plans::{Outcome, Plan};
 use rh_trail::Sim;
 use std::alloc::Global;
 use std::collections::VecDeque;

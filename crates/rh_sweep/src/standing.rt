@@ -5,9 +5,9 @@ ghost use Rattle.rh_model.specs.ClusterView.{app_count};
 ghost use Rattle.rh_state.specs.Stored.{read};
 ghost use Rattle.rh_sweep.specs.Outcomes.{standing_in, standings_in};
 
-use crate::plan::Standings;
 use rh_base::OutOfMemory;
 use rh_model::App;
+use rh_plans::Standings;
 use rh_state::{Standing, State};
 use std::alloc::Global;
 

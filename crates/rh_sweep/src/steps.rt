@@ -7,9 +7,9 @@ ghost use Rattle.rh_trail.specs.declared.call.Call.TheVariants as call;
 ghost use Rattle.rh_trail.specs.declared.call.Reply.TheVariants as reply;
 ghost use Rattle.rh_sweep.specs.Outcomes.{standings_in};
 
-use crate::plan::Standings;
 use crate::standing::standings_in;
 use rh_base::OutOfMemory;
+use rh_plans::Standings;
 use rh_step::{Event, Notice, Refusal};
 use rh_trail::Sim;
 use std::alloc::Global;

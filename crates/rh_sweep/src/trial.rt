@@ -8,9 +8,9 @@ ghost use Rattle.rh_sweep.specs.Outcomes.{outcome_in, outcome_of, is_failover, i
 ghost use Rattle.rh_sweep.specs.Sweeping.{HasRoom, HasRoomFor, IsAtEnd};
 ghost use Rattle.rh_sweep.specs.Working.{ended};
 
-use crate::plan::{Outcome, Plan};
 use crate::steps::Steps;
 use rh_base::OutOfMemory;
+use rh_plans::{Outcome, Plan};
 use rh_state::Kind;
 use rh_step::{Event, Notice, Refusal};
 use rh_trail::Sim;

@@ -6,15 +6,17 @@ ghost use Rattle.rh_sweep.specs.Sweeping.{AreWorkers, HasRoom, IsAtEnd, MaySweep
 ghost use Rattle.rh_sweep.specs.Working.{AreOutcomes};
 
 use crate::branch::Branch;
-use crate::fault::{MAX_WORKERS, SweepFault};
-use crate::plan::{Outcome, Plan};
 use crate::shares::{have_room, in_plan_order};
 use rh_base::OutOfMemory;
+use rh_plans::{Outcome, Plan, SweepFault};
 use rh_trail::Sim;
 use std::alloc::Global;
 use std::sync::Wait;
 use std::thread;
 use std::thread::Threads;
+
+/// The greatest number of workers of a sweep.
+pub const MAX_WORKERS: usize = 16;
 
 /// What is called round each plan, by the worker that tries it. It may wait, as for another worker, and has no part in the
 /// outcomes. That a worker is at work beside another is never sure: where no thread can be made, they work in turn, and a

@@ -1,7 +1,7 @@
 use Rattle.std.proofs.Common.{[], ◌∷◌, ◌++◌, List, map, ap, sym, ◌∙◌}
 use Rattle.std.proofs.lemmas.List.{map_push}
 use Rattle.rh_events.specs.declared.event.Event.{Event}
-use Rattle.rh_sweep.specs.declared.plan.Plan.{Plan}
+use Rattle.rh_plans.specs.declared.plan.Plan.{Plan}
 use Rattle.rh_script.specs.declared.sweep_lines.SweepLine.TheVariants as asks
 use Rattle.rh_script.specs.SweepLines.{PlanText, plan_text}
 use Rattle.rh_script.specs.SweepReading.{read_on}

@@ -2,8 +2,8 @@ use Rattle.std.proofs.Common.{◌≡◌, ◌+◌, ◌++◌, ◌∷◌, [], List,
 use Rattle.std.specs.Option.{option_to_list}
 use Rattle.std.specs.declared.collections.VecDeque.{VecDeque}
 use Rattle.std.proofs.lemmas.List.{length-map, map-append, map_more, take_all}
-use Rattle.rh_sweep.specs.declared.plan.Outcome.{Outcome}
-use Rattle.rh_sweep.specs.declared.plan.Plan.{Plan}
+use Rattle.rh_plans.specs.declared.plan.Outcome.{Outcome}
+use Rattle.rh_plans.specs.declared.plan.Plan.{Plan}
 use Rattle.rh_sweep.specs.Outcomes.{outcome_of}
 use Rattle.rh_sweep.specs.Working.{AreOutcomes, given}
 use Rattle.rh_sweep.proofs.Strides.{any-plan}

@@ -3,7 +3,7 @@ use Rattle.std.proofs.lemmas.List.{take_all}
 use Rattle.rh_trail.specs.Chain.{chain}
 use Rattle.rh_trail.specs.Lone.{cut}
 use Rattle.rh_trail.specs.SimView.{SimView, Held}
-use Rattle.rh_sweep.specs.declared.plan.Outcome.{Outcome}
+use Rattle.rh_plans.specs.declared.plan.Outcome.{Outcome}
 use Rattle.rh_sweep.specs.Outcomes.{outcome_in}
 use Rattle.rh_sweep.specs.Sweeping.{HasRoomFor}
 use Rattle.rh_sweep.proofs.Chained.{chain_here}

@@ -6,8 +6,8 @@ use Rattle.std.specs.contracts.alloc.Global as Global
 use Rattle.std.proofs.alloc.Global.TheSendSync as global
 use Rattle.rh_trail.specs.contracts.sim.Sim as Sim
 use Rattle.rh_trail.proofs.Crossing.{sim_sync}
-use Rattle.rh_sweep.specs.contracts.plan.Plan as Plan
-use Rattle.rh_sweep.proofs.plan.Plan.TheSendSync as plan
+use Rattle.rh_plans.specs.contracts.plan.Plan as Plan
+use Rattle.rh_plans.proofs.plan.Plan.TheSendSync as plan
 use Rattle.rh_sweep.proofs.workers.swept.Lts as lts
 use Rattle.rh_sweep.proofs.workers.swept.Goals as goal
 

@@ -1,6 +1,6 @@
 use Rattle.std.proofs.Common.{◌+◌, ◌*◌, arith, refl, ap, sym, ◌∙◌, subst, length, List}
 use Rattle.std.proofs.lemmas.List.{length_push}
-use Rattle.rh_sweep.specs.declared.plan.Outcome.{Outcome}
+use Rattle.rh_plans.specs.declared.plan.Outcome.{Outcome}
 use Rattle.rh_sweep.proofs.Strides.{AreFirst, first-tried, first-all, stride-more}
 use Rattle.rh_sweep.proofs.workers.work.Goals as goal
 

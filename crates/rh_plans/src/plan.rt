@@ -3,9 +3,9 @@
 ghost use Rattle.std.specs.Prelude.{◌≡◌, ◌↔◌, IsTrue, IfOk};
 
 use rh_base::{OutOfMemory, Str};
+use rh_events::{Event, Refusal};
 use rh_model::App;
 use rh_state::Standing;
-use rh_step::{Event, Refusal};
 use std::alloc::Global;
 use std::marker::Model;
 use std::sync::Arc;
@@ -107,7 +107,7 @@ pub struct Outcome {
 
 impl Outcome {
     /// This outcome, with the standings of an earlier one if they are equal, so that these lie in memory once.
-    pub(crate) fn sharing(self, earlier: Option<&Outcome>) -> Result<Outcome, OutOfMemory>
+    pub fn sharing(self, earlier: Option<&Outcome>) -> Result<Outcome, OutOfMemory>
         ensures { IfOk result (λ outcome. outcome ≡ self) }
     {
         let mut outcome = self;

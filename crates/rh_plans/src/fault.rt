@@ -2,9 +2,6 @@
 
 use std::fmt;
 
-/// The greatest number of workers of a sweep.
-pub const MAX_WORKERS: usize = 16;
-
 /// Why there is no sweep. It is shown as its code and its name.
 #[derive(Clone, Copy, Debug, PartialEq, Eq)]
 pub enum SweepFault {
@@ -20,7 +17,7 @@ pub enum SweepFault {
 
 impl fmt::Display for SweepFault {
     ghost use Rattle.std.specs.Prelude.{Some};
-    ghost use Rattle.rh_sweep.specs.Sweeping.{fault_words};
+    ghost use Rattle.rh_plans.specs.FaultWords.{fault_words};
 
     ghost output = { λ fault. Some (fault_words fault) };
 

@@ -1,0 +1,23 @@
+//! Laws of the definitions of a step. Each function does nothing: its contract is the law.
+
+ghost use Rattle.rh_laws.specs.Laws.{FailsOverInTime, PlacedAtBestNodes, OneAnswer, StartAllIsStarts};
+
+/// An application that was lost runs again behind a tick that reaches its timer, if a node of its list can run it then.
+pub fn fails_over_in_time()
+    ensures { FailsOverInTime }
+{}
+
+/// In each settling that the rules allow, a placement is at a best node of its moment.
+pub fn placed_at_best_nodes()
+    ensures { PlacedAtBestNodes }
+{}
+
+/// The rules allow one answer to a command exactly where both picks tell the same.
+pub fn one_answer()
+    ensures { OneAnswer }
+{}
+
+/// A start at all nodes comes to the same as a start at each node at which it is still to be started, and one settling behind them.
+pub fn start_all_is_starts()
+    ensures { StartAllIsStarts }
+{}
