@@ -1,24 +1,13 @@
-//! Steps that start and stop an application at all its nodes: what they tell, what the state says then, why they are refused, undo,
-//! and the same in a room.
+//! Steps that start and stop an application at all its nodes: what they tell, what the state says then, why they are refused, undo.
 
 use crate::support::{copied, make_all, sim_on};
-use crate::told::{Open, closed, opened, tell_calls};
 use rh_cluster::{App, Dep, Node, Restart};
+use rh_samples::THREE_NODES;
 use rh_state::{Kind, Place, Standing, State, Timer};
-use rh_step::{Event, Notice, Pick, Refusal};
-use rh_trail::{Call, Sim};
+use rh_step::{Event, Notice, Refusal};
+use rh_trail::Sim;
 use std::alloc::Global;
 use std::process::Abort;
-
-// A service that may run at three nodes, a job that may run at one of them and needs a local application.
-static THREE: &str = "\
-{node, n1, [{kernel, [{distributed, [{svc, 1000, [n1, {n2, n3}]}, {job, [n2]}]}]}]}.
-{node, n2, [{kernel, [{distributed, [{svc, 1000, [n1, {n2, n3}]}, {job, [n2]}]}]}]}.
-{node, n3, [{kernel, [{distributed, [{svc, 1000, [n1, {n2, n3}]}, {job, [n2]}]}]}]}.
-{application, svc, [{start_phases, [{go, []}]}]}.
-{application, job, [{applications, [side]}]}.
-{application, side, []}.
-";
 
 static BOOTS: [Event; 3] = [
     Event::Boot { node: Node(0) },
@@ -109,7 +98,7 @@ fn is_quiet(rt: &impl Abort, state: &State) {
 
 #[test]
 fn an_application_starts_and_stops_at_all_its_nodes(rt: HostRuntime) {
-    let mut sim = sim_on(&rt, rt.alloc(), THREE);
+    let mut sim = sim_on(&rt, rt.alloc(), THREE_NODES);
     make_all(&rt, rt.alloc(), &mut sim, BOOTS.as_slice());
     let told = [started(0, Kind::Normal, None), waits(1), waits(2)];
     assert!(rt; tells(&rt, rt.alloc(), &mut sim, start_all(0), told.as_slice()));
@@ -131,7 +120,7 @@ fn comes_back(rt: &impl Abort, alloc: Global, sim: &mut Sim) {
 
 #[test]
 fn a_lost_application_comes_back_and_undo_takes_that_back(rt: HostRuntime) {
-    let mut sim = sim_on(&rt, rt.alloc(), THREE);
+    let mut sim = sim_on(&rt, rt.alloc(), THREE_NODES);
     make_all(&rt, rt.alloc(), &mut sim, BOOTS.as_slice());
     let events = [
         start_all(0),
@@ -175,47 +164,9 @@ fn refused_where_nodes_are_up(rt: &impl Abort, alloc: Global, sim: &mut Sim) {
 
 #[test]
 fn reasons_to_refuse_them(rt: HostRuntime) {
-    let mut sim = sim_on(&rt, rt.alloc(), THREE);
+    let mut sim = sim_on(&rt, rt.alloc(), THREE_NODES);
     refused_at_the_start(&rt, rt.alloc(), &mut sim);
     make_all(&rt, rt.alloc(), &mut sim, BOOTS.as_slice());
     refused_where_nodes_are_up(&rt, rt.alloc(), &mut sim);
     assert!(rt; sim.cursor() == 5);
-}
-
-static TOLD: &str = "\
-0 1 done 1
-1 2 done 1
-2 1 done 1
-3 2 refused S12 never_started
-4 1 undone
-";
-
-static LOG: &str = "\
-1 done 1
-2 done 1
-1 done 1
-2 refused S12 never_started
-1 undone
-";
-
-fn called_in_turn(rt: &impl Abort, alloc: Global, open: &mut Open) {
-    let mut text = String::new(alloc);
-    let [boot, ..] = BOOTS;
-    let calls = [
-        (1, Call::Step(boot)),
-        (2, Call::Step(start_all(0))),
-        (1, Call::Step(stop_all(0))),
-        (2, Call::Step(stop_all(0))),
-        (1, Call::Undo),
-    ];
-    tell_calls(rt, &mut text, alloc, open, calls.as_slice());
-    assert_eq!(rt; text.as_str(), TOLD);
-}
-
-#[test]
-fn sessions_start_and_stop_at_all_nodes(rt: HostRuntime) {
-    let mut open = opened(&rt, rt.alloc(), THREE, 2);
-    called_in_turn(&rt, rt.alloc(), &mut open);
-    let text = closed(&rt, rt.alloc(), open, THREE, Pick::First);
-    assert_eq!(rt; text.as_str(), LOG);
 }

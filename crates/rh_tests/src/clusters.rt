@@ -1,8 +1,9 @@
 //! Readers of a cluster that no step asks, copies, and which clusters are the same.
 
-use crate::support::{ONE_NODE, TWO_NODES, cluster_of};
+use crate::support::cluster_of;
 use crate::trees::show_term;
 use rh_cluster::{App, Cluster};
+use rh_samples::{ONE_NODE, TWO_NODES};
 use std::alloc::Global;
 use std::process::Abort;
 

@@ -1,8 +1,9 @@
 //! Where applications can run, asked of states that rehearsals reach.
 
-use crate::support::{CAVE, make_all, sim_on};
+use crate::support::{make_all, sim_on};
 use rh_cluster::{App, Node};
 use rh_place::{NodeSet, best, candidates, choose, deps_run, missing_dep, operational, start_kind};
+use rh_samples::CAVE;
 use rh_state::{Kind, State};
 use rh_step::{Event, Pick};
 use std::process::Abort;

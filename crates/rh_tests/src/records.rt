@@ -1,8 +1,9 @@
 //! What is kept of each step: how many edits undo and redo answer, none where a step sets what is so already, and the words of
 //! the first state.
 
-use crate::support::{ONE_NODE, copied, make_all, sim_on};
+use crate::support::{copied, make_all, sim_on};
 use rh_cluster::{App, Node, Restart};
+use rh_samples::ONE_NODE;
 use rh_state::State;
 use rh_step::Event;
 use rh_trail::Sim;

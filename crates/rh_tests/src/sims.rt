@@ -1,7 +1,8 @@
 //! Simulations by themselves: what one was opened with, copies, and steps in several equal lists.
 
-use crate::support::{ONE_NODE, make_all, sim_on};
+use crate::support::{make_all, sim_on};
 use rh_cluster::Node;
+use rh_samples::ONE_NODE;
 use rh_step::{Event, Notices, Pick, Refusal};
 use rh_trail::{Reply, Sim, report};
 use std::alloc::Global;

@@ -1,9 +1,10 @@
 //! The calls of a state that take memory, with ample memory.
 
-use crate::support::{ONE_NODE, cluster_of};
-use rh_app::report;
+use crate::support::cluster_of;
 use rh_cluster::{App, Node};
+use rh_samples::ONE_NODE;
 use rh_state::{Mode, Place, State, Timer, first_state};
+use rh_trail::report;
 use std::alloc::Global;
 use std::process::Abort;
 

@@ -3,8 +3,9 @@
 ghost use Rattle.rh_settle.specs.Validity.{IsValid};
 ghost use Rattle.rh_state.specs.Stored.{read};
 
-use crate::support::{ONE_NODE, cluster_of};
+use crate::support::cluster_of;
 use rh_cluster::{App, Cluster, Node};
+use rh_samples::ONE_NODE;
 use rh_state::{Kind, Mode, State, first_state};
 use rh_step::{Event, Notice, Pick, Refusal, first_is_valid, perform, refusal_of};
 use std::alloc::Global;

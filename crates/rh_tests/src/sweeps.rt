@@ -1,9 +1,10 @@
 //! Sweeps: two workers that are at work at once, outcomes for any number of workers, faults, and a simulation that a plan
 //! leaves as it was.
 
-use crate::support::{CAVE, ONE_NODE, copied, make_all, sim_on};
+use crate::support::{copied, make_all, sim_on};
 use rh_base::Str;
 use rh_cluster::{App, Node, Restart};
+use rh_samples::{CAVE, ONE_NODE};
 use rh_step::Event;
 use rh_sweep::{FreeGate, Gate, Outcome, Plan, SweepFault, sweep, try_plan};
 use rh_trail::{Reply, Sim};

@@ -1,9 +1,9 @@
 //! Two sessions in threads of their own, which pass the turn to one another.
 
 use crate::rooms::{LOG, are_kept, schedule};
-use crate::support::CAVE;
 use crate::told::{Open, closed, opened};
 use rh_room::{Pass, Shared};
+use rh_samples::CAVE;
 use rh_step::Pick;
 use std::alloc::Global;
 use std::sync::{Condvar, Mutex, Wait};

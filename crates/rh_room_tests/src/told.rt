@@ -1,12 +1,18 @@
 //! What the sessions of rooms are told, as text: a room with its passes, what is done with them, and how it closes.
 
-use crate::support::cluster_of;
-use rh_cluster::Cluster;
+use rh_cluster::{Cluster, read_cluster};
 use rh_room::{Entry, Pass, Receipt, Room, close, open_room};
 use rh_step::Pick;
 use rh_trail::{Call, Reply};
 use std::alloc::{AllocError, Global};
 use std::process::Abort;
+
+/// The cluster that a text describes.
+pub fn cluster_of(rt: &impl Abort, alloc: Global, text: &str) -> Cluster {
+    read_cluster(alloc, text.as_bytes())
+        .ok()
+        .expect(rt, "a cluster")
+}
 
 /// A room and its passes, those of the first sessions first.
 #[derive(Drop)]
