@@ -1,12 +1,17 @@
 //! The reply to a call, once for the log, once for the pass and once for the caller.
 
-ghost use Rattle.std.specs.Prelude.{◌≡◌, true, IfOk, OnErr};
+ghost use Rattle.std.specs.Prelude.{◌≡◌, ◌≤◌, ◌+◌, ◌-◌, ℕ, length, take, slice_set, true, false, IfOk, OnErr};
 ghost use Rattle.std.specs.Option.{option_map};
+ghost use Rattle.rh_base.specs.Exchanges.{backed, forthed};
+ghost use Rattle.rh_state.specs.Edits.{exchange, turned};
 ghost use Rattle.rh_trail.specs.declared.call.Call.TheVariants as call;
 ghost use Rattle.rh_trail.specs.declared.call.Reply.TheVariants as reply;
+ghost use Rattle.rh_trail.specs.Chain.{chain, kept_to};
 ghost use Rattle.rh_trail.specs.Laws.{is_refusal};
 ghost use Rattle.rh_trail.specs.Lone.{served, answered, TakesMemory};
+ghost use Rattle.rh_trail.specs.SimView.{record_at};
 ghost use Rattle.rh_room.specs.Serving.{last_look, look_reply, IsStill};
+ghost use Rattle.rh_room.specs.Words.{LeavesWords, LeavesRecords};
 
 use crate::pass::Entry;
 use rh_base::OutOfMemory;
@@ -35,6 +40,9 @@ pub fn replies_to(
     ensures kept { IfOk result (λ r. r.kept ≡ r.logged) }
     ensures told { IfOk result (λ r. r.told ≡ r.logged) }
     ensures refused { IfOk result (λ r. is_refusal r.logged ≡ true → sim.new ≡ sim.old) }
+    ensures chain { (k : ℕ) → k ≤ kept_to sim.old.seen call → chain sim.new k ≡ chain sim.old k }
+    ensures words { IfOk result (λ r. is_refusal r.logged ≡ false → LeavesWords sim.old call sim.new) }
+    ensures records { IfOk result (λ r. is_refusal r.logged ≡ false → LeavesRecords sim.old call sim.new) }
     ensures same { OnErr result (sim.new ≡ sim.old) }
     ensures last { OnErr result (TakesMemory sim.old.seen call) }
 {
@@ -54,6 +62,8 @@ fn step(alloc: Global, sim: &mut Sim, event: Event) -> Result<Replies, OutOfMemo
     ensures kept { IfOk result (λ r. r.kept ≡ r.logged) }
     ensures told { IfOk result (λ r. r.told ≡ r.logged) }
     ensures refused { IfOk result (λ r. is_refusal r.logged ≡ true → sim.new ≡ sim.old) }
+    ensures chain { (k : ℕ) → k ≤ sim.old.seen.cursor → chain sim.new k ≡ chain sim.old k }
+    ensures records { take sim.old.seen.cursor sim.new.records ≡ take sim.old.seen.cursor sim.old.records }
     ensures same { OnErr result (sim.new ≡ sim.old) }
     ensures last { OnErr result (TakesMemory sim.old.seen (call.Step event)) }
 {
@@ -90,6 +100,9 @@ fn refused(refusal: Refusal) -> Replies
 fn undo(sim: &mut Sim) -> Replies
     ensures logged { served sim.old.seen call.Undo ≡ answered result.logged sim.new.seen }
     ensures refused { is_refusal result.logged ≡ true → sim.new ≡ sim.old }
+    ensures chain { (k : ℕ) → k ≤ length sim.old.seen.trail → chain sim.new k ≡ chain sim.old k }
+    ensures words { is_refusal result.logged ≡ false → sim.new.words ≡ chain sim.old (sim.old.seen.cursor - 1) }
+    ensures records { is_refusal result.logged ≡ false → sim.new.records ≡ slice_set sim.old.records (sim.old.seen.cursor - 1) (backed exchange turned sim.old.words (record_at sim.old (sim.old.seen.cursor - 1))) }
     ensures kept { result.kept ≡ result.logged }
     ensures told { result.told ≡ result.logged }
 {
@@ -111,6 +124,9 @@ fn undo(sim: &mut Sim) -> Replies
 fn redo(sim: &mut Sim) -> Replies
     ensures logged { served sim.old.seen call.Redo ≡ answered result.logged sim.new.seen }
     ensures refused { is_refusal result.logged ≡ true → sim.new ≡ sim.old }
+    ensures chain { (k : ℕ) → k ≤ length sim.old.seen.trail → chain sim.new k ≡ chain sim.old k }
+    ensures words { is_refusal result.logged ≡ false → sim.new.words ≡ chain sim.old (sim.old.seen.cursor + 1) }
+    ensures records { is_refusal result.logged ≡ false → sim.new.records ≡ slice_set sim.old.records sim.old.seen.cursor (forthed exchange turned sim.old.words (record_at sim.old sim.old.seen.cursor)) }
     ensures kept { result.kept ≡ result.logged }
     ensures told { result.told ≡ result.logged }
 {

@@ -1,11 +1,13 @@
 //! The room.
 
-ghost use Rattle.std.specs.Prelude.{◌≡◌, ◌<◌, ◌≤◌, ◌↔◌, ◌++◌, ◌∷◌, [], IsTrue, true, length, vec_capacity, IfOk, IfErr, OnOk, OnErr};
+ghost use Rattle.std.specs.Prelude.{◌≡◌, ◌<◌, ◌≤◌, ◌↔◌, ◌++◌, ◌∷◌, [], ℕ, IsTrue, true, false, length, vec_capacity, IfOk, IfErr, OnOk, OnErr};
 ghost use Rattle.std.specs.Option.{option_map};
+ghost use Rattle.rh_trail.specs.Chain.{chain, kept_to};
 ghost use Rattle.rh_trail.specs.Lone.{served, opened, TakesMemory};
 ghost use Rattle.rh_trail.specs.Laws.{IsReversible, is_refusal};
 ghost use Rattle.rh_room.specs.Legal.{IsSession, IsRoom, entry, session_limit, log_limit};
 ghost use Rattle.rh_room.specs.Serving.{last_of, place_of, IsPassOf, receipt_of, WhyNot};
+ghost use Rattle.rh_room.specs.Words.{LeavesWords, LeavesRecords};
 
 use crate::pass::{Entry, Pass, Receipt, RoomFault};
 use crate::replies::{Replies, replies_to};
@@ -115,6 +117,12 @@ impl Room {
         ensures receipt { IfOk result (λ receipt. receipt ≡ receipt_of self.old call) }
         ensures sim { OnOk result (self.new.sim.seen ≡ (served self.old.sim.seen call).sim) }
         ensures whole { IfOk result (λ receipt. is_refusal receipt.reply ≡ true → self.new.sim ≡ self.old.sim) }
+
+        // The words that undo and redo lead to stay, up to the cursor for a step and all of them for each other call.
+        ensures chain { (k : ℕ) → k ≤ kept_to self.old.sim.seen call → chain self.new.sim k ≡ chain self.old.sim k }
+        ensures words { IfOk result (λ receipt. is_refusal receipt.reply ≡ false → LeavesWords self.old.sim call self.new.sim) }
+        ensures records { IfOk result (λ receipt. is_refusal receipt.reply ≡ false → LeavesRecords self.old.sim call self.new.sim) }
+
         ensures sessions { self.new.sessions ≡ self.old.sessions }
         ensures log { IfOk result (λ receipt. self.new.log ≡ self.old.log ++ entry pass.old.session call receipt.reply ∷ []) }
         ensures session { pass.new.session ≡ pass.old.session }
@@ -148,6 +156,9 @@ impl Room {
         ensures receipt { IfOk result (λ receipt. receipt ≡ receipt_of self.old call) }
         ensures sim { OnOk result (self.new.sim.seen ≡ (served self.old.sim.seen call).sim) }
         ensures whole { IfOk result (λ receipt. is_refusal receipt.reply ≡ true → self.new.sim ≡ self.old.sim) }
+        ensures chain { (k : ℕ) → k ≤ kept_to self.old.sim.seen call → chain self.new.sim k ≡ chain self.old.sim k }
+        ensures words { IfOk result (λ receipt. is_refusal receipt.reply ≡ false → LeavesWords self.old.sim call self.new.sim) }
+        ensures records { IfOk result (λ receipt. is_refusal receipt.reply ≡ false → LeavesRecords self.old.sim call self.new.sim) }
         ensures sessions { self.new.sessions ≡ self.old.sessions }
         ensures log { IfOk result (λ receipt. self.new.log ≡ self.old.log ++ entry pass.old.session call receipt.reply ∷ []) }
         ensures session { pass.new.session ≡ pass.old.session }

@@ -1,7 +1,6 @@
-use Rattle.std.proofs.Common.{◌≡◌, ◌<◌, ◌∙◌, ◌++◌, ◌∷◌, [], List, length, sym, ap, subst, arith}
-use Rattle.rh_room.specs.declared.pass.Entry.{Entry}
+use Rattle.std.proofs.Common.{◌<◌, ◌∙◌, length, sym, subst, arith}
 use Rattle.rh_room.specs.declared.pass.Receipt.{Receipt}
-use Rattle.rh_room.specs.Legal.{IsRoom, IsSession, RoomView, PassView, InOrder, entry, receipt, log_limit}
+use Rattle.rh_room.specs.Legal.{IsRoom, IsSession, RoomView, PassView, InOrder, receipt, log_limit}
 use Rattle.rh_room.specs.Serving.{IsPassOf}
 use Rattle.rh_room.proofs.Rooms.{room_goes_on, look_is_still}
 use Rattle.rh_room.proofs.Orders.{order_goes_on, few_receipts}
