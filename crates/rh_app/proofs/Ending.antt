@@ -1,15 +1,15 @@
 -- How a program ends, by what became of its parts.
 use Rattle.std.proofs.Common.{◌≡◌, ◌≤◌, ◌⊎◌, ℕ, List, length, Bool, false, Option, Some, None, Result, Ok, Err, inl, inr, refl, subst}
-use Rattle.rh_app.specs.declared.fault.ReadFault.{ReadFault}
-use Rattle.rh_app.specs.declared.fault.ReadFault.TheVariants as reading
-use Rattle.rh_app.specs.declared.fault.WriteFault.{WriteFault}
-use Rattle.rh_app.specs.declared.fault.WriteFault.TheVariants as writing
+use Rattle.rh_devices.specs.declared.fault.ReadFault.{ReadFault}
+use Rattle.rh_devices.specs.declared.fault.ReadFault.TheVariants as reading
+use Rattle.rh_devices.specs.declared.fault.WriteFault.{WriteFault}
+use Rattle.rh_devices.specs.declared.fault.WriteFault.TheVariants as writing
 use Rattle.rh_app.specs.declared.fault.Told.{Told}
 use Rattle.rh_app.specs.declared.fault.Told.TheVariants as told
 use Rattle.rh_app.specs.declared.fault.SessionsFault.{SessionsFault}
 use Rattle.rh_app.specs.declared.fault.SessionsFault.TheVariants as sessions
-use Rattle.rh_app.specs.declared.watched.Watched.{Watched}
-use Rattle.rh_app.specs.Devices.{Passed, WhyUnread, WroteFront}
+use Rattle.rh_devices.specs.declared.watched.Watched.{Watched}
+use Rattle.rh_devices.specs.Devices.{Passed, WhyUnread, WroteFront}
 use Rattle.rh_app.specs.Faults.{ended, reading_fault, writing_fault, sessions_fault}
 use Rattle.rh_app.specs.Programs.{IsInput, Owing, Answers, IsWritten, ProgramGives}
 use Rattle.rh_app.specs.RunText.{Wrote}

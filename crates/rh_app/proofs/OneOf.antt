@@ -13,18 +13,18 @@ use Rattle.rh_script.specs.Lines.{cluster_text, script_lines}
 use Rattle.rh_script.specs.Answers.{fault_text, bad_text}
 use Rattle.rh_app.specs.declared.fault.Told.{Told}
 use Rattle.rh_app.specs.declared.fault.Told.TheVariants as told
-use Rattle.rh_app.specs.declared.fault.WriteFault.{WriteFault}
-use Rattle.rh_app.specs.declared.fault.WriteFault.TheVariants as writing
+use Rattle.rh_devices.specs.declared.fault.WriteFault.{WriteFault}
+use Rattle.rh_devices.specs.declared.fault.WriteFault.TheVariants as writing
 use Rattle.rh_app.specs.declared.fault.HistoryFault.{HistoryFault}
 use Rattle.rh_app.specs.declared.fault.HistoryFault.TheVariants as history
 use Rattle.rh_app.specs.declared.fault.SessionsFault.{SessionsFault}
 use Rattle.rh_app.specs.declared.fault.SessionsFault.TheVariants as sessions
-use Rattle.rh_app.specs.declared.watched.Watched.{Watched}
+use Rattle.rh_devices.specs.declared.watched.Watched.{Watched}
 use Rattle.rh_app.specs.Faults.{history_fault}
-use Rattle.rh_app.specs.Devices.{Passed, WroteFront}
+use Rattle.rh_devices.specs.Devices.{Passed, WroteFront}
 use Rattle.rh_app.specs.Histories.{session_lines_asked, commands_of, bad_session_line, asked, by_session, IsHistory, history_text, last_state}
 use Rattle.rh_app.specs.Sessions.{ScriptMayGive, MayGiveOver, MayGive, AskOver, AskHistory, OneWritten, WroteOne}
-use Rattle.rh_app.proofs.Passing.{nothing_yet}
+use Rattle.rh_devices.proofs.Passing.{nothing_yet}
 
 -- ---- there is a history, and so a text
 

@@ -7,10 +7,10 @@ use Rattle.rh_place.specs.declared.choosing.Pick.{Pick}
 use Rattle.rh_app.specs.declared.fault.RunFault.{RunFault}
 use Rattle.rh_app.specs.declared.fault.RunFault.TheVariants as end
 use Rattle.rh_app.specs.declared.fault.Told.{Told}
-use Rattle.rh_app.specs.declared.watched.Watched.{Watched}
-use Rattle.rh_app.specs.Devices.{input_limit, InTurn, Passed, PassedAll}
+use Rattle.rh_devices.specs.declared.watched.Watched.{Watched}
+use Rattle.rh_devices.specs.Devices.{input_limit, InTurn, Passed, PassedAll}
 use Rattle.rh_app.specs.Faults.{ended}
-use Rattle.rh_app.specs.Memory.{GivesFront, Holds}
+use Rattle.rh_devices.specs.Memory.{GivesFront, Holds}
 use Rattle.rh_app.specs.Programs.{ProgramGives, NoThreads}
 use Rattle.rh_app.specs.RunText.{run_text, run_end, OwesRun}
 

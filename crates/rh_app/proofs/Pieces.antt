@@ -4,11 +4,11 @@ use Rattle.std.proofs.Common.{sym, ap, subst, ◌∙◌, append_assoc, take-appe
 use Rattle.std.specs.List.{flat_map}
 use Rattle.std.proofs.lemmas.List.{flat_map_more, take_more}
 use Rattle.std.proofs.lemmas.Grind.{flat_map-append}
-use Rattle.rh_app.specs.declared.fault.WriteFault.{WriteFault}
-use Rattle.rh_app.specs.declared.watched.Watched.{Watched}
-use Rattle.rh_app.specs.Devices.{Passed, WroteFront}
+use Rattle.rh_devices.specs.declared.fault.WriteFault.{WriteFault}
+use Rattle.rh_devices.specs.declared.watched.Watched.{Watched}
+use Rattle.rh_devices.specs.Devices.{Passed, WroteFront}
 use Rattle.rh_app.specs.RunText.{Broke}
-use Rattle.rh_app.proofs.Passing.{passed_more, fault_behind, fault_before}
+use Rattle.rh_devices.proofs.Passing.{passed_more, fault_behind, fault_before}
 
 -- a piece behind what was written
 module _ {K : Type 0} (takes : K → K → List ℕ → Type 0) (fails : K → K → Type 0) where

@@ -35,7 +35,7 @@ use Rattle.rh_app.specs.SweepText.{lines_text}
 use Rattle.rh_trail.specs.Lone.{opened}
 use Rattle.rh_trail.specs.Lone.{trail_limit}
 use Rattle.rh_room.specs.Legal.{session_limit, log_limit}
-use Rattle.rh_app.specs.Devices.{input_limit}
+use Rattle.rh_devices.specs.Devices.{input_limit}
 
 abbrev one_node : ClusterView
 one_node = record { profile = 1; node_names = codes "a" ∷ []; app_names = []; platform_names = []; nodes = []; apps = [] }

@@ -39,7 +39,7 @@ use Rattle.rh_trail.specs.Lone.{opened}
 use Rattle.rh_trail.specs.Report.{node_line, line_if_forbidden, standing_line, app_line, timer_line, node_lines}
 use Rattle.rh_room.specs.declared.pass.Entry.{Entry}
 use Rattle.rh_room.specs.Legal.{entry}
-use Rattle.rh_sweep.specs.declared.fault.SweepFault.TheVariants.{BaseNotAtEnd, TrailRoom}
+use Rattle.rh_plans.specs.declared.fault.SweepFault.TheVariants.{BaseNotAtEnd, TrailRoom}
 use Rattle.rh_script.specs.Lines.{content, script_lines}
 use Rattle.rh_script.specs.Commands.{line_of}
 use Rattle.rh_script.specs.SessionLines.{command, session_line_of}

@@ -1,15 +1,15 @@
 -- Worked rows: the exit status of each end of a program.
 use Rattle.std.proofs.Common.{◌≡◌, ℕ, Some, None, Ok, Err, refl, inl, inr}
 use Rattle.rh_sections.specs.declared.fault.ClusterFault.TheVariants.{NoNodes}
-use Rattle.rh_sweep.specs.declared.fault.SweepFault.TheVariants.{BaseNotAtEnd, TrailRoom}
+use Rattle.rh_plans.specs.declared.fault.SweepFault.TheVariants.{BaseNotAtEnd, TrailRoom}
 use Rattle.rh_app.specs.declared.fault.RunFault.TheVariants as end
 use Rattle.rh_app.specs.declared.fault.Told.TheVariants as told
-use Rattle.rh_app.specs.declared.fault.ReadFault.TheVariants as reading
-use Rattle.rh_app.specs.declared.fault.WriteFault.TheVariants as writing
+use Rattle.rh_devices.specs.declared.fault.ReadFault.TheVariants as reading
+use Rattle.rh_devices.specs.declared.fault.WriteFault.TheVariants as writing
 use Rattle.rh_app.specs.declared.fault.HistoryFault.TheVariants as history
 use Rattle.rh_app.specs.declared.fault.SessionsFault.TheVariants as sessions
 use Rattle.rh_app.specs.Faults.{ended, reading_fault, writing_fault, history_fault, sessions_fault}
-use Rattle.rh_app.specs.declared.watched.Watched.{Watched}
+use Rattle.rh_devices.specs.declared.watched.Watched.{Watched}
 use Rattle.rh_app.specs.Status.{status_of, Flushed}
 
 -- each status from 0 to 6 but 1, which is that of a command line and no program's

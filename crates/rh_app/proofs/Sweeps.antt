@@ -11,10 +11,10 @@ use Rattle.rh_trail.specs.declared.call.Call.{Call}
 use Rattle.rh_trail.specs.SimView.{SimView}
 use Rattle.rh_trail.specs.Lone.{opened, served, sim_after}
 use Rattle.rh_place.specs.declared.choosing.Pick.{Pick}
-use Rattle.rh_sweep.specs.declared.fault.SweepFault.{SweepFault}
-use Rattle.rh_sweep.specs.declared.fault.SweepFault.TheVariants.{WorkerCount, BaseNotAtEnd, TrailRoom, OutOfMemory}
-use Rattle.rh_sweep.specs.declared.plan.Outcome.{Outcome}
-use Rattle.rh_sweep.specs.declared.plan.Plan.{Plan}
+use Rattle.rh_plans.specs.declared.fault.SweepFault.{SweepFault}
+use Rattle.rh_plans.specs.declared.fault.SweepFault.TheVariants.{WorkerCount, BaseNotAtEnd, TrailRoom, OutOfMemory}
+use Rattle.rh_plans.specs.declared.plan.Outcome.{Outcome}
+use Rattle.rh_plans.specs.declared.plan.Plan.{Plan}
 use Rattle.rh_sweep.specs.Outcomes.{outcome_of}
 use Rattle.rh_sweep.specs.Sweeping.{AreWorkers, HasRoom, MaySweep, WhyNotSwept}
 use Rattle.rh_script.specs.Answers.{answer_text}
@@ -22,12 +22,12 @@ use Rattle.rh_script.specs.declared.sweep_lines.SweepLine.{SweepLine}
 use Rattle.rh_script.specs.Commands.{calls_of}
 use Rattle.rh_script.specs.SweepLines.{PlanText, plan_text, base_lines, plans_of}
 use Rattle.rh_app.specs.declared.fault.Told.{Told}
-use Rattle.rh_app.specs.declared.fault.WriteFault.{WriteFault}
-use Rattle.rh_app.specs.declared.watched.Watched.{Watched}
-use Rattle.rh_app.specs.Devices.{Passed, WroteFront}
+use Rattle.rh_devices.specs.declared.fault.WriteFault.{WriteFault}
+use Rattle.rh_devices.specs.declared.watched.Watched.{Watched}
+use Rattle.rh_devices.specs.Devices.{Passed, WroteFront}
 use Rattle.rh_app.specs.RunText.{answers_text, Wrote, Broke}
 use Rattle.rh_app.specs.SweepText.{has_room, why_not_swept, plans_text, plans_end, lines_text, lines_end}
-use Rattle.rh_app.proofs.Passing.{passed_more, fault_behind, fault_before}
+use Rattle.rh_devices.proofs.Passing.{passed_more, fault_behind, fault_before}
 use Rattle.rh_app.proofs.Turns.{wrote_behind}
 
 -- ---- calls that are answered one after the other: before this one the simulation is now, and behind it next

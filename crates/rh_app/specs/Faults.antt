@@ -4,10 +4,10 @@ use Rattle.rh_app.specs.declared.fault.RunFault.{RunFault}
 use Rattle.rh_app.specs.declared.fault.RunFault.TheVariants as end
 use Rattle.rh_app.specs.declared.fault.Told.{Told}
 use Rattle.rh_app.specs.declared.fault.Told.TheVariants as told
-use Rattle.rh_app.specs.declared.fault.ReadFault.{ReadFault}
-use Rattle.rh_app.specs.declared.fault.ReadFault.TheVariants as reading
-use Rattle.rh_app.specs.declared.fault.WriteFault.{WriteFault}
-use Rattle.rh_app.specs.declared.fault.WriteFault.TheVariants as writing
+use Rattle.rh_devices.specs.declared.fault.ReadFault.{ReadFault}
+use Rattle.rh_devices.specs.declared.fault.ReadFault.TheVariants as reading
+use Rattle.rh_devices.specs.declared.fault.WriteFault.{WriteFault}
+use Rattle.rh_devices.specs.declared.fault.WriteFault.TheVariants as writing
 use Rattle.rh_app.specs.declared.fault.HistoryFault.{HistoryFault}
 use Rattle.rh_app.specs.declared.fault.HistoryFault.TheVariants as history
 use Rattle.rh_app.specs.declared.fault.SessionsFault.{SessionsFault}

@@ -1,5 +1,5 @@
--- The promise of the product, for one caller and for several sessions (ours).
-use Rattle.std.specs.Prelude.{◌≡◌, ◌++◌, ◌∷◌, ℕ, List, Ok, true}
+-- The promise of the product, of what is kept and of what is answered (ours).
+use Rattle.std.specs.Prelude.{◌≡◌, ◌≤◌, ◌++◌, ◌∷◌, [], ℕ, List, Ok, true}
 use Rattle.rh_model.specs.ClusterView.{ClusterView}
 use Rattle.rh_cluster.specs.ClusterOf.{cluster_of}
 use Rattle.rh_place.specs.declared.choosing.Pick.{Pick}
@@ -8,11 +8,21 @@ use Rattle.rh_events.specs.declared.event.Event.{Event}
 use Rattle.rh_trail.specs.declared.call.Call.{Call}
 use Rattle.rh_trail.specs.declared.call.Call.TheVariants as call
 use Rattle.rh_trail.specs.declared.call.Reply.TheVariants as reply
+use Rattle.rh_trail.specs.Chain.{kept_to}
 use Rattle.rh_trail.specs.SimView.{SimView}
 use Rattle.rh_trail.specs.Lone.{opened, sim_after}
 use Rattle.rh_trail.specs.Laws.{IsReversible, IsStepReversible, is_refusal, next_sim}
 use Rattle.rh_room.specs.declared.pass.Entry.{Entry}
 use Rattle.rh_room.specs.Legal.{IsLegal, calls}
+
+-- ---- what is kept
+
+-- no step of these calls is made where fewer than k events stand: so the words behind k events stay
+abbrev pub KeepsTo : SimView → List Call → ℕ → Type 0
+KeepsTo s [] k = Unit {0}
+KeepsTo s (call ∷ calls) k = (k ≤ kept_to s call) × KeepsTo (next_sim s call) calls k
+
+-- ---- what is answered
 
 -- from every state that a cluster file and any list of calls reach
 abbrev pub RehearsalsAreReversible : Type 0

@@ -3,8 +3,8 @@ use Rattle.std.specs.Prelude.{◌≡◌, ◌≤◌, ◌⊎◌, ℕ, List, length
 use Rattle.rh_app.specs.declared.fault.RunFault.{RunFault}
 use Rattle.rh_app.specs.declared.fault.RunFault.TheVariants as end
 use Rattle.rh_app.specs.declared.fault.Told.{Told}
-use Rattle.rh_app.specs.declared.watched.Watched.{Watched}
-use Rattle.rh_app.specs.Devices.{input_limit, Passed, PassedAll, FrontTaken, FrontBroken, ReaderFailed, GaveTooMuch}
+use Rattle.rh_devices.specs.declared.watched.Watched.{Watched}
+use Rattle.rh_devices.specs.Devices.{input_limit, Passed, PassedAll, FrontTaken, FrontBroken, ReaderFailed, GaveTooMuch}
 use Rattle.rh_app.specs.Faults.{ended}
 
 -- these bytes are all that the reader gave before it had none left; they are no more than a program reads, and it hasn't failed

@@ -13,12 +13,12 @@ use Rattle.rh_script.specs.declared.script.Line.{Line}
 use Rattle.rh_script.specs.declared.script.Line.TheVariants.{Nothing, Asks, Bad}
 use Rattle.rh_app.specs.declared.fault.Told.{Told}
 use Rattle.rh_app.specs.declared.fault.Told.TheVariants as told
-use Rattle.rh_app.specs.declared.fault.WriteFault.{WriteFault}
+use Rattle.rh_devices.specs.declared.fault.WriteFault.{WriteFault}
 use Rattle.rh_script.specs.Lines.{cluster_text, script_lines}
 use Rattle.rh_script.specs.Commands.{line_of, calls_of}
 use Rattle.rh_script.specs.Answers.{answer_text, fault_text, bad_text}
-use Rattle.rh_app.specs.declared.watched.Watched.{Watched}
-use Rattle.rh_app.specs.Devices.{Passed, WroteFront}
+use Rattle.rh_devices.specs.declared.watched.Watched.{Watched}
+use Rattle.rh_devices.specs.Devices.{Passed, WroteFront}
 
 -- the number of the first bad line, where the first line has number k
 abbrev pub bad_line : ℕ → List Line → Option ℕ

@@ -6,8 +6,8 @@ use Rattle.rh_app.specs.declared.fault.RunFault.TheVariants as end
 use Rattle.rh_app.specs.declared.fault.Told.{Told}
 use Rattle.rh_app.specs.declared.status.Program.{Program}
 use Rattle.rh_app.specs.declared.status.Program.TheVariants.{Check, Run, Sessions, Sweep}
-use Rattle.rh_app.specs.declared.watched.Watched.{Watched}
-use Rattle.rh_app.specs.Devices.{Passed}
+use Rattle.rh_devices.specs.declared.watched.Watched.{Watched}
+use Rattle.rh_devices.specs.Devices.{Passed}
 use Rattle.rh_app.specs.Programs.{Owing, IsInput, ProgramGives, NoThreads}
 use Rattle.rh_app.specs.CheckText.{OwesCheck}
 use Rattle.rh_app.specs.RunText.{OwesRun}
@@ -27,6 +27,13 @@ MayTear Check = NoThreads
 MayTear (Run pick) = NoThreads
 MayTear (Sessions pick) = AskHistory
 MayTear (Sweep pick workers) = NoThreads
+
+-- it starts no threads
+abbrev pub is_alone : Program → Bool
+is_alone Check = true
+is_alone (Run pick) = true
+is_alone (Sessions pick) = false
+is_alone (Sweep pick workers) = false
 
 -- a sweep has a number of workers that there may be
 abbrev pub IsStaffed : Program → Type 0

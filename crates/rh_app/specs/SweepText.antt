@@ -9,8 +9,8 @@ use Rattle.rh_place.specs.declared.choosing.Pick.{Pick}
 use Rattle.rh_trail.specs.SimView.{SimView}
 use Rattle.rh_trail.specs.Lone.{opened, sim_after, trail_limit}
 use Rattle.rh_sweep.specs.Outcomes.{outcome_in}
-use Rattle.rh_sweep.specs.declared.fault.SweepFault.{SweepFault}
-use Rattle.rh_sweep.specs.declared.fault.SweepFault.TheVariants.{BaseNotAtEnd, TrailRoom}
+use Rattle.rh_plans.specs.declared.fault.SweepFault.{SweepFault}
+use Rattle.rh_plans.specs.declared.fault.SweepFault.TheVariants.{BaseNotAtEnd, TrailRoom}
 use Rattle.rh_script.specs.declared.sweep_lines.SweepLine.{SweepLine}
 use Rattle.rh_script.specs.Lines.{cluster_text, script_lines}
 use Rattle.rh_script.specs.Commands.{calls_of}

@@ -6,13 +6,11 @@ ghost use Rattle.rh_app.specs.CheckText.{count_text, check_text, check_end, Owes
 ghost use Rattle.rh_app.specs.Programs.{ProgramGives, NoThreads};
 ghost use Rattle.rh_app.specs.RunText.{Wrote, Broke};
 
-use crate::device::{Sink, Source};
-use crate::fault::{RunFault, Told, WriteFault, ended};
+use crate::fault::{RunFault, Told, ended};
 use crate::running::write_fault;
-use crate::transfer::{read_input, write_text};
-use crate::watched::Watched;
 use rh_base::OutOfMemory;
 use rh_cluster::{Cluster, ClusterFault, read_cluster};
+use rh_devices::{Sink, Source, Watched, WriteFault, read_input, write_text};
 use rh_script::cut;
 use std::alloc::Global;
 

@@ -1,14 +1,14 @@
 //! Why a program ended early, and what can go wrong in each of its parts.
 
 ghost use Rattle.std.specs.Prelude.{◌≡◌};
+ghost use Rattle.rh_devices.specs.declared.fault.WriteFault.TheVariants as writing;
 ghost use Rattle.rh_app.specs.Faults.{reading_fault, writing_fault, history_fault, sessions_fault, ended};
-ghost use Rattle.rh_app.specs.declared.fault.ReadFault.TheVariants as reading;
-ghost use Rattle.rh_app.specs.declared.fault.WriteFault.TheVariants as writing;
 ghost use Rattle.rh_app.specs.declared.fault.HistoryFault.TheVariants as history;
 ghost use Rattle.rh_app.specs.declared.fault.SessionsFault.TheVariants as sessions;
 
 use rh_base::OutOfMemory;
 use rh_cluster::ClusterFault;
+use rh_devices::{ReadFault, WriteFault};
 use rh_sweep::SweepFault;
 use std::alloc::AllocError;
 use thiserror::Error;
@@ -48,26 +48,6 @@ pub enum Told {
     BadLine(u64),
     /// The plans can't be swept.
     Sweep(SweepFault),
-}
-
-/// Why an input was not read.
-#[derive(Clone, Copy)]
-pub enum ReadFault {
-    /// The reader has failed.
-    Failed,
-    /// There are more bytes than a program reads.
-    TooLong,
-    /// A growth was refused.
-    OutOfMemory,
-}
-
-/// Why a text was not written whole.
-#[derive(Clone, Copy)]
-pub enum WriteFault {
-    /// The writer has failed.
-    Failed,
-    /// A growth was refused.
-    OutOfMemory,
 }
 
 /// Why the sessions' threads gave no history.
@@ -130,22 +110,6 @@ impl From<SessionsFault> for RunFault {
             SessionsFault::Room => RunFault::Room,
             SessionsFault::Write(fault) => RunFault::from(fault),
         }
-    }
-}
-
-impl From<AllocError> for ReadFault {
-    ghost from_gives = { λ _ e. e ≡ reading.OutOfMemory };
-
-    fn from(_error: AllocError) -> ReadFault {
-        ReadFault::OutOfMemory
-    }
-}
-
-impl From<OutOfMemory> for WriteFault {
-    ghost from_gives = { λ _ e. e ≡ writing.OutOfMemory };
-
-    fn from(_error: OutOfMemory) -> WriteFault {
-        WriteFault::OutOfMemory
     }
 }
 

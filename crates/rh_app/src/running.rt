@@ -9,11 +9,9 @@ ghost use Rattle.rh_script.specs.Answers.{answer_text, fault_text, bad_text};
 ghost use Rattle.rh_app.specs.RunText.{script_text, bad_line, lines_asked, run_text, run_end, OwesRun, Wrote, Broke, Turns};
 ghost use Rattle.rh_app.specs.Programs.{ProgramGives, NoThreads};
 
-use crate::device::{Sink, Source};
-use crate::fault::{RunFault, Told, WriteFault, ended};
-use crate::transfer::{read_input, write_text};
-use crate::watched::Watched;
+use crate::fault::{RunFault, Told, ended};
 use rh_cluster::{Cluster, ClusterFault, read_cluster};
+use rh_devices::{Sink, Source, Watched, WriteFault, read_input, write_text};
 use rh_script::{Line, answer_text, bad_text, content, cut, fault_text, line_of, split_line};
 use rh_step::Pick;
 use rh_trail::{Call, Reply, Sim};

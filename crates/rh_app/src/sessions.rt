@@ -16,15 +16,13 @@ mod commands;
 mod history;
 mod threads;
 
-use crate::device::{Sink, Source};
-use crate::fault::{RunFault, SessionsFault, Told, WriteFault, ended};
+use crate::fault::{RunFault, SessionsFault, Told, ended};
 use crate::running::{answer_bad, write_fault};
 use crate::sessions::commands::{Script, commands_in};
 use crate::sessions::history::write_history;
 use crate::sessions::threads::history_of;
-use crate::transfer::read_input;
-use crate::watched::Watched;
 use rh_cluster::{Cluster, read_cluster};
+use rh_devices::{Sink, Source, Watched, WriteFault, read_input};
 use rh_script::{Command, cut};
 use rh_step::Pick;
 use std::alloc::Global;

@@ -1,16 +1,15 @@
 //! A program from its devices to the exit status.
 
-ghost use Rattle.std.specs.Prelude.{◌≡◌, false};
+ghost use Rattle.std.specs.Prelude.{◌≡◌, false, true};
 ghost use Rattle.rh_app.specs.Programs.{ProgramGives};
-ghost use Rattle.rh_app.specs.Status.{Owes, MayTear, IsStaffed, IsDone, StatusGives, status_of};
+ghost use Rattle.rh_app.specs.Status.{Owes, MayTear, Flushed, IsStaffed, IsDone, StatusGives, is_alone, status_of};
 
 use crate::checking::run_check;
-use crate::device::{Sink, Source};
 use crate::fault::RunFault;
 use crate::running::run;
 use crate::sessions::run_sessions;
 use crate::sweeping::run_sweep;
-use crate::watched::Watched;
+use rh_devices::{Sink, Source, Watched};
 use rh_step::Pick;
 use std::alloc::Global;
 use std::sync::Wait;
@@ -29,12 +28,44 @@ pub enum Program {
     Sweep(Pick, usize),
 }
 
-/// Runs a program over its devices, flushes the writer, however it ended, and answers the exit status.
+impl Program {
+    /// Whether it starts no threads.
+    pub fn is_alone(self) -> bool
+        ensures { result ≡ is_alone self }
+    {
+        match self {
+            Program::Check | Program::Run(_) => true,
+            Program::Sessions(_) | Program::Sweep(_, _) => false,
+        }
+    }
+}
+
+/// Runs a program that starts no threads over its devices, flushes the writer, however it ended, and answers the exit status.
+/// It is lent nothing by which it could wait.
 ///
 /// 0 says that the whole text of all that was read was written and flushed, and tells no fault. 2 is a text that describes no
-/// cluster, 3 a bad line, 4 a device that failed or an input that is too long, 5 want of memory, 6 plans that can't be swept, or
-/// sessions whose threads made no one history.
-pub fn rehearse<T: Threads + Wait + Sync, S: Source, K: Sink>(
+/// cluster, 3 a bad line, 4 a device that failed or an input that is too long, 5 want of memory.
+pub fn rehearse_alone<S: Source, K: Sink>(
+    alloc: Global,
+    program: Program,
+    reader: &mut Watched<S>,
+    writer: &mut Watched<K>,
+) -> u8
+    requires reader { reader.old.failed ≡ false }
+    requires writer { writer.old.failed ≡ false }
+    requires alone { is_alone program ≡ true }
+    ensures ends { StatusGives S.gives S.fails K.takes K.flushes K.fails program result reader.old reader.new writer.old writer.new }
+    ensures done { result ≡ 0 → IsDone S.gives K.takes K.flushes program reader.old reader.new writer.old writer.new }
+{
+    let ended = ended_alone(alloc, program, reader, writer);
+    flushed(ended, writer)
+}
+
+/// Runs a program over its devices, with threads where it starts any, flushes the writer, however it ended, and answers the
+/// exit status. It may wait for its threads: the contract holds if it returns.
+///
+/// The status is that of [`rehearse_alone`]; and 6 is plans that can't be swept, or sessions whose threads made no one history.
+pub fn rehearse_together<T: Threads + Wait + Sync, S: Source, K: Sink>(
     rt: &T,
     alloc: Global,
     program: Program,
@@ -47,15 +78,31 @@ pub fn rehearse<T: Threads + Wait + Sync, S: Source, K: Sink>(
     ensures ends { StatusGives S.gives S.fails K.takes K.flushes K.fails program result reader.old reader.new writer.old writer.new }
     ensures done { result ≡ 0 → IsDone S.gives K.takes K.flushes program reader.old reader.new writer.old writer.new }
 {
-    let ended = started(rt, alloc, program, reader, writer);
-    match writer.flush() {
-        Ok(()) => status_of(&ended),
-        Err(_) => 4,
+    let ended = ended_together(rt, alloc, program, reader, writer);
+    flushed(ended, writer)
+}
+
+// Runs a program that starts no threads over its devices.
+fn ended_alone<S: Source, K: Sink>(
+    alloc: Global,
+    program: Program,
+    reader: &mut Watched<S>,
+    writer: &mut Watched<K>,
+) -> Result<(), RunFault>
+    requires reader { reader.old.failed ≡ false }
+    requires writer { writer.old.failed ≡ false }
+    requires alone { is_alone program ≡ true }
+    ensures { ProgramGives S.gives S.fails K.takes K.fails (Owes program) (MayTear program) result reader.old reader.new writer.old writer.new }
+{
+    match program {
+        Program::Check => run_check(alloc, reader, writer),
+        Program::Run(pick) => run(alloc, reader, writer, pick),
+        Program::Sessions(_) | Program::Sweep(_, _) => unreachable!(),
     }
 }
 
-// Runs a program over its devices.
-fn started<T: Threads + Wait + Sync, S: Source, K: Sink>(
+// Runs a program over its devices, with threads where it starts any.
+fn ended_together<T: Threads + Wait + Sync, S: Source, K: Sink>(
     rt: &T,
     alloc: Global,
     program: Program,
@@ -68,10 +115,19 @@ fn started<T: Threads + Wait + Sync, S: Source, K: Sink>(
     ensures { ProgramGives S.gives S.fails K.takes K.fails (Owes program) (MayTear program) result reader.old reader.new writer.old writer.new }
 {
     match program {
-        Program::Check => run_check(alloc, reader, writer),
-        Program::Run(pick) => run(alloc, reader, writer, pick),
+        Program::Check | Program::Run(_) => ended_alone(alloc, program, reader, writer),
         Program::Sessions(pick) => run_sessions(rt, alloc, reader, writer, pick),
         Program::Sweep(pick, workers) => run_sweep(rt, alloc, reader, writer, pick, workers),
+    }
+}
+
+// Flushes the writer, however the program ended, and answers the exit status.
+fn flushed<K: Sink>(ended: Result<(), RunFault>, writer: &mut Watched<K>) -> u8
+    ensures { Flushed K.flushes K.fails writer.old writer.new result ended }
+{
+    match writer.flush() {
+        Ok(()) => status_of(&ended),
+        Err(_) => 4,
     }
 }
 

@@ -12,13 +12,11 @@ ghost use Rattle.rh_app.specs.Programs.{ProgramGives, NoThreads};
 ghost use Rattle.rh_app.specs.RunText.{answers_text, Wrote, Broke};
 ghost use Rattle.rh_app.specs.SweepText.{why_not_swept, plan_outcome, plans_text, plans_end, lines_text, lines_end, sweep_text, sweep_end, OwesSweep};
 
-use crate::device::{Sink, Source};
-use crate::fault::{RunFault, Told, WriteFault, ended};
+use crate::fault::{RunFault, Told, ended};
 use crate::running::{answer_bad, answer_call, write_fault};
-use crate::transfer::{read_input, write_text};
-use crate::watched::Watched;
 use rh_base::Str;
 use rh_cluster::{Cluster, read_cluster};
+use rh_devices::{Sink, Source, Watched, WriteFault, read_input, write_text};
 use rh_script::{SweepScript, cut, outcome_text, sweep_fault_text, sweep_in};
 use rh_step::Pick;
 use rh_sweep::{FreeGate, Outcome, Plan, SweepFault, sweep};

@@ -8,12 +8,9 @@ ghost use Rattle.rh_trail.specs.SimView.{state_of};
 ghost use Rattle.rh_app.specs.Histories.{entry_text, history_text};
 ghost use Rattle.rh_app.specs.RunText.{Broke};
 
-use crate::device::Sink;
-use crate::fault::WriteFault;
-use crate::transfer::write_text;
-use crate::watched::Watched;
 use rh_base::OutOfMemory;
 use rh_cluster::Cluster;
+use rh_devices::{Sink, Watched, WriteFault, write_text};
 use rh_room::{Closed, Entry};
 use rh_script::{answer_text, command_text};
 use rh_state::State;

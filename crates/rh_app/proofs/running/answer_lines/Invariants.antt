@@ -1,5 +1,5 @@
 use Rattle.std.proofs.Common.{◌≡◌, ◌≤◌, ◌+◌, ◌++◌, List, ℕ, length, map, false}
-use Rattle.rh_app.specs.Devices.{Passed}
+use Rattle.rh_devices.specs.Devices.{Passed}
 use Rattle.rh_script.specs.Lines.{raw_lines, content}
 use Rattle.rh_app.specs.RunText.{script_text, bad_line, lines_asked}
 use Rattle.rh_app.proofs.running.answer_lines.Given as goal

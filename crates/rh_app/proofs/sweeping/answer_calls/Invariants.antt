@@ -1,5 +1,5 @@
 use Rattle.std.proofs.Common.{◌≡◌, ◌++◌, List, ℕ, drop, false}
-use Rattle.rh_app.specs.Devices.{Passed}
+use Rattle.rh_devices.specs.Devices.{Passed}
 use Rattle.rh_trail.specs.Lone.{sim_after}
 use Rattle.rh_app.specs.RunText.{answers_text}
 use Rattle.rh_app.proofs.sweeping.answer_calls.Given as goal

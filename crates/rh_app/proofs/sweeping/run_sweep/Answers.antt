@@ -1,6 +1,6 @@
 use Rattle.std.proofs.Common.{refl, sym, subst, length, ◌≤◌, List, ℕ}
 use Rattle.std.proofs.lemmas.Result.{err_from_is_err_and}
-use Rattle.rh_app.specs.Devices.{input_limit}
+use Rattle.rh_devices.specs.Devices.{input_limit}
 use Rattle.rh_app.specs.Programs.{IsInput, NoThreads}
 use Rattle.rh_app.specs.SweepText.{sweep_text, sweep_end, OwesSweep}
 use Rattle.rh_app.proofs.Ending.{not_read, not_written, is_written}

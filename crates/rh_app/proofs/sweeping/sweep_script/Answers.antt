@@ -5,7 +5,7 @@ use Rattle.rh_trail.specs.Lone.{opened}
 use Rattle.rh_script.specs.Lines.{raw_lines, content}
 use Rattle.rh_script.specs.SweepLines.{sweep_lines_asked, bad_sweep_line, plan_text}
 use Rattle.rh_app.specs.SweepText.{lines_text}
-use Rattle.rh_app.proofs.Passing.{nothing_yet}
+use Rattle.rh_devices.proofs.Passing.{nothing_yet}
 use Rattle.rh_app.proofs.Sweeps.{base_breaks, plans_behind}
 use Rattle.rh_app.proofs.sweeping.sweep_script.Goals as goal
 

@@ -2,10 +2,10 @@ use Rattle.std.proofs.Common.{◌+◌, List, map, take, get_or, sym, subst, arit
 use Rattle.std.specs.List.{flat_map}
 use Rattle.std.proofs.lemmas.List.{get_or-map, length-map, take-map}
 use Rattle.std.proofs.lemmas.Result.{err_from_is_err_and}
-use Rattle.rh_sweep.specs.declared.plan.Outcome.{Outcome}
+use Rattle.rh_plans.specs.declared.plan.Outcome.{Outcome}
 use Rattle.rh_script.specs.SweepAnswers.{outcome_text}
 use Rattle.rh_script.specs.SweepLines.{PlanText, plan_text}
-use Rattle.rh_app.specs.Devices.{Passed, WroteFront}
+use Rattle.rh_devices.specs.Devices.{Passed, WroteFront}
 use Rattle.rh_app.specs.SweepText.{plan_outcome}
 use Rattle.rh_app.proofs.Pieces.{goes_on, fails_midway}
 use Rattle.rh_app.proofs.Sweeps.{outcome_at}

@@ -1,5 +1,5 @@
 use Rattle.std.proofs.Common.{◌≡◌, take, false, map}
-use Rattle.rh_app.specs.Devices.{Passed}
+use Rattle.rh_devices.specs.Devices.{Passed}
 use Rattle.std.specs.List.{flat_map}
 use Rattle.rh_script.specs.SweepLines.{plan_text}
 use Rattle.rh_app.specs.SweepText.{plan_outcome}

@@ -1,5 +1,5 @@
 use Rattle.std.proofs.Common.{◌≡◌, false, take}
-use Rattle.rh_app.specs.Devices.{Passed}
+use Rattle.rh_devices.specs.Devices.{Passed}
 use Rattle.std.specs.List.{flat_map}
 use Rattle.rh_app.specs.Histories.{entry_text}
 use Rattle.rh_app.proofs.sessions.history.write_entries.Given as goal

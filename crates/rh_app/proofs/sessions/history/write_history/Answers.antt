@@ -5,7 +5,7 @@ use Rattle.rh_state.specs.Stored.{read}
 use Rattle.rh_trail.specs.Report.{report_text}
 use Rattle.rh_trail.specs.SimView.{state_of}
 use Rattle.rh_app.specs.Histories.{entry_text}
-use Rattle.rh_app.proofs.Passing.{fault_before}
+use Rattle.rh_devices.proofs.Passing.{fault_before}
 use Rattle.rh_app.proofs.Pieces.{broke_behind}
 use Rattle.rh_app.proofs.sessions.history.write_history.Goals as goal
 

@@ -1,0 +1,32 @@
+-- How the process ends, by what became of its parts.
+use Rattle.std.proofs.Common.{◌≡◌, ℕ, List, subst}
+use Rattle.rh_devices.specs.declared.watched.Watched.{Watched}
+use Rattle.rh_app.specs.declared.status.Program.{Program}
+use Rattle.rh_app.specs.Status.{IsDone, IsStaffed, StatusGives}
+use Rattle.rehearse.specs.Asking.{IsAsked}
+use Rattle.rehearse.specs.Process.{EndsOver, unused}
+use Rattle.rehearse.specs.declared.command_line.Asked.TheVariants as asked
+use Rattle.rehearse.specs.declared.command_line.Words.{Words}
+use Rattle.rehearse.specs.declared.command_line.Words.TheVariants as words
+
+-- a sweep that is asked for has a number of workers that there may be
+pub staffed : (it : Words) (program : Program) → IsAsked it (asked.For program) → IsStaffed program
+staffed (words.Given list) program is = is.4
+staffed words.NotUtf8 program is = absurd is
+staffed words.OutOfMemory program is = cc
+
+module _ {S K : Type 0} (gives : S → S → List ℕ → Type 0) (unread : S → S → Type 0) (takes : K → K → List ℕ → Type 0)
+    (flushes : K → K → Type 0) (unwritten : K → K → Type 0) (program : Program) (status : ℕ) where
+  -- the program's devices are the process's
+  pub ends_over : (reader : S) (writer : K) (old new : Watched S) (before after : Watched K) → old ≡ unused reader → before ≡ unused writer
+      → StatusGives gives unread takes flushes unwritten program status old new before after
+      → (status ≡ 0 → IsDone gives takes flushes program old new before after)
+      → EndsOver gives unread takes flushes unwritten program reader writer status
+  ends_over reader writer old new before after is_old is_before ends done = (
+    new,
+    after,
+    subst (λ (b : Watched K). StatusGives gives unread takes flushes unwritten program status (unused reader) new b after) is_before
+        (subst (λ (o : Watched S). StatusGives gives unread takes flushes unwritten program status o new before after) is_old ends),
+    subst (λ (b : Watched K). (status ≡ 0 → IsDone gives takes flushes program (unused reader) new b after)) is_before
+        (subst (λ (o : Watched S). (status ≡ 0 → IsDone gives takes flushes program o new before after)) is_old done),
+  )

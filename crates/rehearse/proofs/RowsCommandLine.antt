@@ -1,0 +1,87 @@
+-- Worked rows: which program the words of a command line ask for, and what is wrong with those that ask for none.
+use Rattle.std.proofs.Common.{◌≡◌, List, [], ◌∷◌, Option, Some, None, codes, refl, true}
+use Rattle.std.specs.Borrow.{Bor}
+use Rattle.clap.specs.Walk.{Text}
+use Rattle.clap.specs.Simple.{subcommand_of}
+use Rattle.clap.specs.Kinds.{Kinds}
+use Rattle.clap.specs.Faults.{fault_of, is_simple_and_free}
+use Rattle.clap.specs.declared.error.kind.ErrorKind.TheVariants as kind
+use Rattle.clap.proofs.OnLiterals.{clap_on_literals}
+use Rattle.rh_place.specs.declared.choosing.Pick.TheVariants.{First, Last}
+use Rattle.rh_app.specs.declared.status.Program.{Program}
+use Rattle.rh_app.specs.declared.status.Program.TheVariants.{Check, Run, Sessions, Sweep}
+use Rattle.rehearse.specs.CommandLine.{Picks, ArePicks, line}
+use Rattle.rehearse.specs.Asking.{program_among}
+
+-- a text, somewhere in memory
+abbrev at : {X : Type 0} → X → Bor X
+at x = record { ref_ptr = (0, 0); now = x }
+
+abbrev picks : Picks
+picks = at (at (codes "first") ∷ at (codes "last") ∷ [])
+
+are_picks : ArePicks picks
+are_picks = refl
+
+-- the program that the words behind the program's name ask for
+abbrev asks : List Text → Option Program
+asks words = program_among (subcommand_of (line picks) (codes "rehearse" ∷ words))
+
+-- the kinds of fault that the parser finds in them
+abbrev faults : List Text → Kinds
+faults words = fault_of (line picks) (codes "rehearse" ∷ words)
+
+-- the parser's statements hold of this command line
+simple_row : is_simple_and_free (line picks) ≡ true
+simple_row = refl
+
+check_row : (asks (codes "check" ∷ []) ≡ Some Check) × (faults (codes "check" ∷ []) ≡ [])
+unfolding clap_on_literals
+check_row = (refl, refl)
+
+run_row : (asks (codes "run" ∷ []) ≡ Some (Run First)) × (faults (codes "run" ∷ []) ≡ [])
+unfolding clap_on_literals
+run_row = (refl, refl)
+
+-- each way to write a choice
+pick_row : (asks (codes "run" ∷ codes "--pick" ∷ codes "last" ∷ []) ≡ Some (Run Last))
+    × (asks (codes "run" ∷ codes "--pick=last" ∷ []) ≡ Some (Run Last))
+    × (asks (codes "run" ∷ codes "--pick" ∷ codes "first" ∷ []) ≡ Some (Run First))
+unfolding clap_on_literals
+pick_row = (refl, refl, refl)
+
+sessions_row : (asks (codes "sessions" ∷ []) ≡ Some (Sessions First))
+    × (asks (codes "sessions" ∷ codes "--pick" ∷ codes "last" ∷ []) ≡ Some (Sessions Last))
+unfolding clap_on_literals
+sessions_row = (refl, refl)
+
+-- one worker, where no number is given; from 1 to 16
+sweep_row : (asks (codes "sweep" ∷ []) ≡ Some (Sweep First 1)) × (faults (codes "sweep" ∷ []) ≡ [])
+    × (asks (codes "sweep" ∷ codes "--workers" ∷ codes "4" ∷ []) ≡ Some (Sweep First 4))
+    × (asks (codes "sweep" ∷ codes "--pick=last" ∷ codes "--workers=16" ∷ []) ≡ Some (Sweep Last 16))
+    × (faults (codes "sweep" ∷ codes "--pick=last" ∷ codes "--workers=16" ∷ []) ≡ [])
+unfolding clap_on_literals
+sweep_row = (refl, refl, refl, refl, refl)
+
+-- another number, or none
+workers_row : (faults (codes "sweep" ∷ codes "--workers" ∷ codes "0" ∷ []) ≡ kind.ValueValidation ∷ [])
+    × (faults (codes "sweep" ∷ codes "--workers" ∷ codes "17" ∷ []) ≡ kind.ValueValidation ∷ [])
+    × (faults (codes "sweep" ∷ codes "--workers" ∷ codes "many" ∷ []) ≡ kind.ValueValidation ∷ [])
+unfolding clap_on_literals
+workers_row = (refl, refl, refl)
+
+-- another choice, an option that a subcommand hasn't, one that stands twice
+options_row : (faults (codes "run" ∷ codes "--pick" ∷ codes "middle" ∷ []) ≡ kind.InvalidValue ∷ [])
+    × (faults (codes "check" ∷ codes "--pick" ∷ codes "last" ∷ []) ≡ kind.UnknownArgument ∷ [])
+    × (faults (codes "run" ∷ codes "--workers" ∷ codes "4" ∷ []) ≡ kind.UnknownArgument ∷ [])
+    × (faults (codes "run" ∷ codes "--pick=last" ∷ codes "--pick=last" ∷ []) ≡ kind.ArgumentConflict ∷ [])
+unfolding clap_on_literals
+options_row = (refl, refl, refl, refl)
+
+-- no subcommand, an unknown one, and what asks for help or the version
+other_row : (faults [] ≡ kind.MissingSubcommand ∷ []) × (asks [] ≡ None)
+    × (faults (codes "walk" ∷ []) ≡ kind.UnknownArgument ∷ kind.InvalidSubcommand ∷ []) × (asks (codes "walk" ∷ []) ≡ None)
+    × (faults (codes "--help" ∷ []) ≡ kind.DisplayHelp ∷ []) × (faults (codes "run" ∷ codes "--help" ∷ []) ≡ kind.DisplayHelp ∷ [])
+    × (faults (codes "--version" ∷ []) ≡ kind.DisplayVersion ∷ [])
+unfolding clap_on_literals
+other_row = (refl, refl, refl, refl, refl, refl, refl)

@@ -1,0 +1,96 @@
+-- What the words of a command line ask (ours).
+use Rattle.std.specs.Prelude.{◌≡◌, ◌⊎◌, ℕ, List, [], Bool, true, false, Option, Some, None, map}
+use Rattle.std.specs.Prelude.{◌&&◌, codes, if◌then◌else◌, nat_le, option_map, option_and_then}
+use Rattle.std.specs.String.{string_bytes}
+use Rattle.std.specs.Str.{bytes_eq}
+use Rattle.std.specs.Str.Parse.{digits_value, without_leading_plus}
+use Rattle.clap.specs.Walk.{Row, Text, first_of, one_of}
+use Rattle.clap.specs.Simple.{subcommand_of}
+use Rattle.clap.specs.Faults.{fault_of}
+use Rattle.clap.specs.Kinds.{IsAmong}
+use Rattle.clap.specs.Values.{kind_of}
+use Rattle.clap.specs.ValueTests.{is_unsigned_in}
+use Rattle.clap.specs.declared.error.Error.{Error}
+use Rattle.clap.specs.declared.error.kind.ErrorKind.TheVariants as kind
+use Rattle.rh_place.specs.declared.choosing.Pick.{Pick}
+use Rattle.rh_place.specs.declared.choosing.Pick.TheVariants.{First, Last}
+use Rattle.rh_sweep.specs.declared.workers.TheConstants.{MAX_WORKERS}
+use Rattle.rh_app.specs.declared.status.Program.{Program}
+use Rattle.rh_app.specs.declared.status.Program.TheVariants as program
+use Rattle.rh_app.specs.Status.{IsStaffed}
+use Rattle.rehearse.specs.CommandLine.{Picks, ArePicks, line}
+use Rattle.rehearse.specs.declared.command_line.Asked.{Asked}
+use Rattle.rehearse.specs.declared.command_line.Asked.TheVariants as asked
+use Rattle.rehearse.specs.declared.command_line.Words.{Words}
+use Rattle.rehearse.specs.declared.command_line.Words.TheVariants as words
+
+abbrev pub is_last : Option Text → Bool
+is_last None = false
+is_last (Some word) = bytes_eq word (codes "last")
+
+-- the choice at a tie that a word means: the last for `last`, the first for any other and for none
+abbrev pub pick_of : Option Text → Pick
+pick_of word = if is_last word then Last else First
+
+-- the choice among the matches of a subcommand
+abbrev pub pick_in : List Row → Pick
+pick_in rows = pick_of (first_of (codes "pick") rows)
+
+-- a number of workers, if there may be so many
+abbrev pub allowed : ℕ → Option ℕ
+allowed workers = if nat_le 1 workers && nat_le workers MAX_WORKERS then Some workers else None
+
+-- the number of workers that a text means
+abbrev pub workers_of : Text → Option ℕ
+workers_of text = if is_unsigned_in 1 MAX_WORKERS text then Some (digits_value 10 (without_leading_plus text)) else None
+
+-- the number of workers among them
+abbrev pub workers_in : List Row → Option ℕ
+workers_in rows = option_and_then workers_of (one_of (codes "workers") rows)
+
+-- the program of a subcommand with these matches
+abbrev pub program_in : Text → List Row → Option Program
+program_in name rows =
+    if bytes_eq name (codes "check") then Some program.Check
+    else (if bytes_eq name (codes "run") then Some (program.Run (pick_in rows))
+    else (if bytes_eq name (codes "sessions") then Some (program.Sessions (pick_in rows))
+    else (if bytes_eq name (codes "sweep") then option_map (program.Sweep (pick_in rows)) (workers_in rows)
+    else None)))
+
+-- the program of the subcommand that the words name, with its matches
+abbrev pub program_among : Option (Text × List Row) → Option Program
+program_among = option_and_then (λ p. program_in p.0 p.1)
+
+-- the words ask for this program: the parser finds no fault in them, and their subcommand is this program
+abbrev pub AsksFor : List Text → Program → Type 0
+AsksFor words program = (picks : Picks) × ArePicks picks × (fault_of (line picks) words ≡ [])
+    × (program_among (subcommand_of (line picks) words) ≡ Some program) × IsStaffed program
+
+-- the words are refused with this error: it is a fault that the parser finds in them, or they name no program
+abbrev pub Refuses : List Text → Error → Type 0
+Refuses words error = (picks : Picks) × ArePicks picks
+    × (IsAmong (kind_of error) (fault_of (line picks) words) ⊎ (program_among (subcommand_of (line picks) words) ≡ None))
+
+-- what these words ask; memory may be wanting for each
+abbrev pub IsAskedBy : List Text → Asked → Type 0
+IsAskedBy words (asked.For program) = AsksFor words program
+IsAskedBy words (asked.Refused error) = Refuses words error
+IsAskedBy words asked.OutOfMemory = Unit {0}
+
+-- a command line with a word that isn't UTF-8 is refused
+abbrev pub IsNotUtf8 : Asked → Type 0
+IsNotUtf8 (asked.For program) = ⊥
+IsNotUtf8 (asked.Refused error) = kind_of error ≡ kind.InvalidValue
+IsNotUtf8 asked.OutOfMemory = Unit {0}
+
+-- what is asked by these words, or where there are none
+abbrev pub IsAsked : Words → Asked → Type 0
+IsAsked (words.Given list) it = IsAskedBy (map string_bytes list.items) it
+IsAsked words.NotUtf8 it = IsNotUtf8 it
+IsAsked words.OutOfMemory it = it ≡ asked.OutOfMemory
+
+-- the command line is refused with this error, or memory was
+abbrev pub IsRefusedBy : Error → Asked → Type 0
+IsRefusedBy error (asked.For program) = ⊥
+IsRefusedBy error (asked.Refused same) = (same ≡ error) × (kind_of error ≡ kind.OutOfMemory → ⊥)
+IsRefusedBy error asked.OutOfMemory = kind_of error ≡ kind.OutOfMemory
