@@ -55,17 +55,21 @@ class Program(NamedTuple):
     path: str
     pick: str
 
+    def run(self, cluster, script, word="run"):
+        """The status of the program for a cluster file and the lines of a script, and the lines that it prints."""
+        text = cluster + "===\n" + "".join(f"{line}\n" for line in script)
+        # On standard error ./rehearse may say that the program is older than the sources.
+        words = [self.path, word, "--pick", self.pick]
+        done = subprocess.run(words, input=to_bytes(text), stdout=subprocess.PIPE, check=False)
+        return done.returncode, lines_of(to_text(done.stdout))
+
     def answers(self, cluster, script, source):
         """The answers to the commands of a script, each as its lines. `source` names the file for which an error is told."""
-        text = cluster + "===\n" + "".join(f"{line}\n" for line in script)
-        # On standard error ./rehearse tells how far it is, where the program has to be built first.
-        words = [self.path, "run", "--pick", self.pick]
-        done = subprocess.run(words, input=to_bytes(text), stdout=subprocess.PIPE, check=False)
-        told = lines_of(to_text(done.stdout))
-        if done.returncode == 3:
+        status, told = self.run(cluster, script)
+        if status == 3:
             raise BadLine(f"{source}: this line is no command: {script[int(words_of(told[-1])[2]) - 1]}")
-        if done.returncode != 0:
-            raise Refused(f"{source}: {told[-1] if told else f'{self.path} ended with status {done.returncode}'}")
+        if status != 0:
+            raise Refused(f"{source}: {told[-1] if told else f'{self.path} ended with status {status}'}")
         found = answers_in(told)
         if len(found) != len(list(filter(is_command, script))):
             raise Refused(f"{self.path} isn't the program: it doesn't answer each command")

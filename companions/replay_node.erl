@@ -2,10 +2,14 @@
 %% application and for epmd. A node finds the others by the files in which they tell their ports.
 -module(replay_node).
 -behaviour(application).
--export([up/0, boot/2, booted/0, start/2, start_phase/3, stop/1, ended/2, standing/0]).
+-export([up/0, boot/2, booted/0, start/2, start_phase/3, stop/1, ended/2, standing/0, places/0, used/0]).
 -export([start_link/0, register_node/2, register_node/3, address_please/3, port_please/2, port_please/3,
          listen_port_please/2, names/1]).
 -define(LOOPBACK, {127, 0, 0, 1}).
+%% Over how long shares of a processor are told, and how often a sample for them is taken, in milliseconds.
+-define(LONG, 2000).
+-define(SHORT, 300).
+-define(EVERY, 100).
 
 %% ---- What happens, told in the order in which it does
 
@@ -19,6 +23,7 @@ joined(Boot) ->
     {ok, Socket} = gen_tcp:connect(?LOOPBACK, list_to_integer(os:getenv("REPLAY_PORT")), [binary, {packet, 4}, {active, false}]),
     ok = gen_tcp:send(Socket, term_to_binary({erlang:get_cookie(), node()})),
     persistent_term:put(?MODULE, Socket),
+    register(load_of_replay, spawn_link(fun() -> sampled([]) end)),
     Boot ! {self(), joined},
     serve(Socket).
 
@@ -78,6 +83,32 @@ standing() ->
     Ended = [App || {App, _} <- Of(started), not lists:keymember(App, 1, Of(running)), persistent_term:get({ended, App}, false)],
     Types = [{element(1, S), element(2, S)} || S <- Of(started) ++ Of(start_p_false), not lists:member(element(1, S), Ended)],
     {lists:reverse([App || {App, Id} <- Of(running), is_pid(Id)]), Types, [element(1, S) || S <- Of(starting)]}.
+
+%% ---- Where it stands, and what it uses
+
+%% Of the two processes that starts, stops and permissions go through: in which function of its own each of them is, or that it
+%% is idle, and how many messages wait for it. Neither is asked, since it may never answer.
+places() ->
+    [{Name, hd([{Function, Arity} || {Module, Function, Arity, _} <- Frames, Module =:= Name] ++ [idle]), Length}
+     || Name <- [dist_ac, application_controller], Pid <- [whereis(Name)], is_pid(Pid),
+        [{_, Frames}, {_, Length}] <- [process_info(Pid, [current_stacktrace, message_queue_len])]].
+
+%% What this node has used over the last two seconds, its share of a processor and reductions in a second, and the latter over
+%% the last moment; none of it where it isn't up for so long.
+used() ->
+    load_of_replay ! {self(), used},
+    receive {used, Used} -> Used end.
+
+sampled(Samples) ->
+    Asks = receive {From, used} -> [From] after ?EVERY -> [] end,
+    Now = erlang:monotonic_time(millisecond),
+    {Time, _} = erlang:statistics(runtime),
+    {Reductions, _} = erlang:statistics(exact_reductions),
+    Since = fun(Ago) -> lists:sublist([S || {At, _, _} = S <- Samples, At =< Now - Ago], 1) end,
+    Used = {[{(Time - T) / (Now - At), (Reductions - R) * 1000 div (Now - At)} || {At, T, R} <- Since(?LONG)],
+            [(Reductions - R) * 1000 div (Now - At) || {At, _, R} <- Since(?SHORT)]},
+    [Asking ! {used, Used} || Asking <- Asks],
+    sampled([{Now, Time, Reductions} | [S || {At, _, _} = S <- Samples, At > Now - 2 * ?LONG]]).
 
 %% ---- In place of epmd: see `-epmd_module` in erl(1)
 

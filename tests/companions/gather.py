@@ -4,11 +4,10 @@ import os
 import random
 import re
 import subprocess
-import tempfile
-from concurrent.futures import ThreadPoolExecutor
 
+from groups import Group
 from releases import BASE, application, compiled, erl, release, write
-from support import LONGEST_RUN, TOP, difference, run
+from support import LONGEST_RUN, TOP, difference, in_folder, run
 
 NEEDS = ("erl", "escript", "erlc")
 COMPANION = os.path.join(TOP, "companions", "gather")
@@ -144,11 +143,11 @@ def one_release(program, folder):
     want = "{boot, [{sasl, permanent}, {billing, permanent}]}, {platform, [pool, report]}"
     is_there = parts.count(want) == 3 and "{application, sasl, [{applications, [kernel, stdlib]}" in parts
     yield "--rehearse and --platform", None if is_there else parts
-    yield from both_profiles(program, folder)
 
 
 def both_profiles(program, folder):
     """The release with a profile, and what comes of a permission that is given back at the better node."""
+    shop(folder)
     made = ("--boot", "shop.boot", "--config", "sys")
     for name, front, words, told in (
             ("no profile", "", (*made, *THREE), ""), ("--profile 1", "{profile, 1}.\n", (*made, *THREE, "--profile", "1"), ""),
@@ -167,24 +166,28 @@ def both_profiles(program, folder):
 
 # ---- How much a profile takes
 
-def limits(program, folder):
-    """As many nodes and applications as each profile has, and one more. No release has the applications."""
-    for count in (64, 65, 128, 129):
+# Words of the command line, the nodes of that profile, and what is told of the other one.
+PROFILES = [((), 32, (" (with --profile 2 it takes 64)", " (with --profile 2 it takes 128)")),
+            (("--profile", "1"), 32, (" (with --profile 2 it takes 64)", " (with --profile 2 it takes 128)")),
+            (("--profile", "2"), 64, ("", ""))]
+
+
+def limits(program, folder, profile):
+    """As many nodes and applications as a profile has, and one more. No release has the applications."""
+    words, nodes, hints = profile
+    apps, name = 2 * nodes, " ".join(words) or "no profile"
+    for count in (apps, apps + 1):
         entries = ", ".join(f"{{app{number}, [a@b]}}" for number in range(count))
         write(folder, f"apps{count}.config", f"[{{kernel, [{{distributed, [{entries}]}}]}}].")
     of_apps = ("--bare", "--node", "a@b", "--config")
-    for words, nodes, hints in (((), 32, (" (with --profile 2 it takes 64)", " (with --profile 2 it takes 128)")),
-                                (("--profile", "1"), 32, (" (with --profile 2 it takes 64)", " (with --profile 2 it takes 128)")),
-                                (("--profile", "2"), 64, ("", ""))):
-        apps, name = 2 * nodes, " ".join(words) or "no profile"
-        many = [word for number in range(nodes + 1) for word in ("--node", f"n{number}@b", "--bare")]
-        yield f"{name}: {nodes} nodes", wrong_with(program, gather(folder, *words, *many[3:]), None, counts=(nodes, 0))
-        told = f"gather: {nodes + 1} nodes are more than the {nodes} that rehearse takes{hints[0]}\n"
-        yield f"{name}: {nodes + 1} nodes", refusal(gather(folder, *words, *many), 2, told)
-        done = gather(folder, *words, *of_apps, f"apps{apps}")
-        yield f"{name}: {apps} applications", wrong_with(program, done, None, counts=(1, apps))
-        told = f"gather: {apps + 1} {TOO_MANY} the {apps} that rehearse takes{hints[1]}\n"
-        yield f"{name}: {apps + 1} applications", refusal(gather(folder, *words, *of_apps, f"apps{apps + 1}"), 2, told)
+    many = [word for number in range(nodes + 1) for word in ("--node", f"n{number}@b", "--bare")]
+    yield f"{name}: {nodes} nodes", wrong_with(program, gather(folder, *words, *many[3:]), None, counts=(nodes, 0))
+    told = f"gather: {nodes + 1} nodes are more than the {nodes} that rehearse takes{hints[0]}\n"
+    yield f"{name}: {nodes + 1} nodes", refusal(gather(folder, *words, *many), 2, told)
+    done = gather(folder, *words, *of_apps, f"apps{apps}")
+    yield f"{name}: {apps} applications", wrong_with(program, done, None, counts=(1, apps))
+    told = f"gather: {apps + 1} {TOO_MANY} the {apps} that rehearse takes{hints[1]}\n"
+    yield f"{name}: {apps + 1} applications", refusal(gather(folder, *words, *of_apps, f"apps{apps + 1}"), 2, told)
 
 
 TOO_MANY = "applications that are rehearsed (try --needed, or --platform) are more than"
@@ -421,6 +424,7 @@ REFUSED_CONFIGS = [  # a configuration, and parts of what is told
     ("form", "pool, which is no {App")]
 RELS = {"good": '{pool, "2.0"}', "old": '{pool, "1.0"}', "typed": '{pool, "2.0", sometimes}', "lost": '{lost, "1.0"}',
         "needy": '{needy, "1.0"}', "phased": '{phased, "1.0"}', "odd": '{odd, "1.0"}', "bytes": '{bytes, "1.0"}'}
+SHARES = 4
 GOOD = ("--rel", "good", "--lib", "ebin", "--node", "a@b")
 
 
@@ -449,8 +453,8 @@ def refusals():
     yield "a command line: no profile", [*GOOD, "--profile"], 1, ["--profile wants a value"]
 
 
-def refused(_, folder):
-    """What is refused, with the name of what is at fault."""
+def made_to_be_refused(folder):
+    """Writes the files that are refused."""
     application(folder, "pool", vsn="2.0")
     application(folder, "lost", ["nobody"])
     application(folder, "phased", more=", {start_phases, [go]}")
@@ -463,11 +467,18 @@ def refused(_, folder):
         write(folder, f"{name}.rel", f'{{release, {{"{name}", "1"}}, {{erts, "1"}}, {listed}}}.\n')
     for name, text in CONFIGS.items():
         write(folder, f"{name}.config", text)
-    cases = list(refusals())
-    with ThreadPoolExecutor(2) as pool:
-        runs = pool.map(lambda case: gather(folder, *case[1]), cases)
-        for (name, _, status, parts), done in zip(cases, runs):
-            yield name, refusal(done, status, *parts)
+
+
+def refused(_, folder, share):
+    """What is refused, with the name of what is at fault: a share of it."""
+    made_to_be_refused(folder)
+    for name, words, status, parts in list(refusals())[share::SHARES]:
+        yield name, refusal(gather(folder, *words), status, *parts)
+
+
+def refused_live(_, folder):
+    """What live nodes refuse too, and help."""
+    made_to_be_refused(folder)
     for name in ("include", "again", "param"):
         told = subprocess.run(["erl", "-noshell", "-config", name, "-eval", "halt()."], cwd=folder, capture_output=True,
                               text=True, timeout=LONGEST_RUN, env={**os.environ, "ERL_CRASH_DUMP": os.devnull}).stdout
@@ -477,15 +488,5 @@ def refused(_, folder):
     yield "--help", None if done.returncode == 0 and is_there else f"{done}"
 
 
-def in_folder(part, program):
-    """The tests of a part, which has a folder of its own."""
-    with tempfile.TemporaryDirectory() as folder:
-        return list(part(program, folder))
-
-
-def group(program):
-    """All tests of gather, some parts at once."""
-    parts = one_release, live, refused, systools_order, five_nodes, arguments, limits, large_releases
-    with ThreadPoolExecutor(3) as pool:
-        for tests in pool.map(in_folder, parts, [program] * len(parts)):
-            yield from tests
+TESTS = (Group(in_folder(refused), range(SHARES), is_long=True), Group(in_folder(limits), PROFILES), *map(in_folder, (
+    one_release, both_profiles, large_releases, live, systools_order, five_nodes, arguments, refused_live)))

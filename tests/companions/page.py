@@ -5,10 +5,10 @@ import os
 import re
 import resource
 import subprocess
-import tempfile
 
 from browser import OPTIONS, Browser
-from support import LONGEST_RUN, TOP, example_files
+from groups import Group
+from support import LONGEST_RUN, TOP, example_files, in_folder
 
 NEEDS = ("chromium",)
 COMPANION = os.path.join(TOP, "companions", "page")
@@ -155,7 +155,7 @@ def wanted_and_forbidden(program, folder, browser):
                                                       (["svc", "svc runs at n2@lab, permanent normal"], have[7]))
 
 
-def dumped(program, folder, _):
+def dumped(program, folder):
     """What the browser makes of a page when it is asked for no more than that."""
     path = made(program, folder, [example("repaired-node.txt")])
     done = subprocess.run(["chromium", *OPTIONS, f"--user-data-dir={folder}/other", "--dump-dom", f"file://{path}#step=7"],
@@ -385,15 +385,20 @@ def counts(program, _):
     yield "one of each", f"status {done.returncode}, it lacks {missing}" if done.returncode or missing else None
 
 
-def group(program):
-    """All of them."""
-    with tempfile.TemporaryDirectory(ignore_cleanup_errors=True) as folder:
-        yield from refusals(program, folder)
-        yield from all_examples(program, folder)
-        yield from counts(program, folder)
+def in_browser(part):
+    """A group of tests: those of a function that takes a folder and a browser, too."""
+
+    def tests(program, folder):
         browser = Browser(folder)
         try:
-            for part in (one_rehearsal, wanted_and_forbidden, at_all_nodes, printed, strange_names, sweeps, greatest, large, dumped):
-                yield from part(program, folder, browser)
+            yield from part(program, folder, browser)
         finally:
             browser.close()
+
+    tests.__name__ = part.__name__
+    return in_folder(tests)
+
+
+TESTS = (*(Group(in_browser(part), is_long=True) for part in (large, greatest)),
+         *map(in_browser, (one_rehearsal, wanted_and_forbidden, at_all_nodes, printed, strange_names, sweeps)),
+         *map(in_folder, (dumped, refusals, all_examples, counts)))

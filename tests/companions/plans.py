@@ -232,6 +232,4 @@ def help_text(program):
     yield "--help", fault_of(done, 0, None) or (None if b"--rolling" in done.stdout else f"{done}")
 
 
-def group(program):
-    for tests in (whole_texts, drained, chosen, times, swept, faults, program_found, help_text):
-        yield from tests(program)
+TESTS = (whole_texts, drained, chosen, times, swept, faults, program_found, help_text)

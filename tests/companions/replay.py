@@ -2,18 +2,22 @@
 on the loopback alone and end with the companion, by whatever it ends. tests/run_live.py makes the rehearsals of tests/live.
 """
 import glob
+import json
 import os
 import re
+import shutil
 import signal
 import subprocess
-import tempfile
 import time
 from concurrent.futures import ThreadPoolExecutor
 
-from support import LONGEST_RUN, TOP, fault_of, read
+from groups import Group
+from support import LONGEST_RUN, TOP, fault_of, in_folder, read
 
-NEEDS = ("erl", "escript", "erlc")
-COMPANION = os.path.join(TOP, "companions", "replay")
+NEEDS = ("python3",)
+ERLANG = ("erl", "escript", "erlc")
+COMPANIONS = os.path.join(TOP, "companions")
+COMPANION = os.path.join(COMPANIONS, "replay")
 KERNEL = "{distributed, [{web, 500, [a@x, 'b-1@x']}]}, {sync_nodes_optional, [a@x, 'b-1@x']}, {sync_nodes_timeout, 5000}"
 CLUSTER = "".join(f"{{node, {node}, [\n  {{kernel, [{KERNEL}]}},\n  {{rehearse, [{{boot, [{{log, permanent}}, {{web, permanent}}]}}, "
                   "{platform, [ssl]}]}]}.\n" for node in ("a@x", "'b-1@x'"))
@@ -44,6 +48,26 @@ boot a@x
 """
 DIFFERENT_TOLD = {"  ok ok", "  up a@x up a@x", "  started y a@x normal started y a@x normal", "< started x a@x normal",
                   "> failed x a@x {not_started,y}"}
+# The same in the columns of --compare live, and as JSON.
+DIFFERENT_LIVE = {"  ok ok", "  up a@x up a@x", "  started y a@x normal started y a@x normal",
+                  "  failed x a@x {not_started,y} failed x a@x {not_started,y}"}
+BY_RULES = ["ok", "up a@x", "started y a@x normal", "started x a@x normal"]
+BY_NODES = ["ok", "up a@x", "failed x a@x {not_started,y}", "started y a@x normal"]
+# Only a@x boots web, and may not run it: its boot script waits until the other node starts web.
+HANGING = """{node, a@x, [{kernel, [{distributed, [{web, [b@x, a@x]}]}, {sync_nodes_optional, [b@x]},
+  {sync_nodes_timeout, 8000}, {permissions, [{web, false}]}]}, {rehearse, [{boot, [{web, permanent}, {log, permanent}]}]}]}.
+{node, b@x, [{kernel, [{distributed, [{web, [b@x, a@x]}]}, {sync_nodes_optional, [a@x]}, {sync_nodes_timeout, 8000}]}]}.
+{application, web, []}. {application, log, []}.
+===
+boot a@x
+boot b@x
+start b@x web permanent
+"""
+# Where no node of the first tuple is up, those of the second one send each other weights for ever, if one starts web before the
+# other: it waits for the other one's weight.
+TUPLES = "{distributed, [{web, 0, [{a@x, b@x}, {c@x, d@x}]}]}, {sync_nodes_optional, [c@x, d@x]}, {sync_nodes_timeout, 8000}"
+BURNING = "".join(f"{{node, {node}@x, [{{kernel, [{TUPLES}]}}]}}.\n" for node in "abcd")
+BURNING += "{application, web, []}.\n===\nboot c@x\nboot d@x\nstart c@x web permanent\nstart d@x web permanent\n"
 LONG = CLUSTER + "===\nboot a@x\nboot b-1@x\ntick 300000\n"
 # By its configuration the better node may not run web until it is permitted. Then nodes do as profile 2 has it.
 FORBIDDEN = CLUSTER.replace("[{distributed", "[{permissions, [{web, false}]}, {distributed", 1)
@@ -141,6 +165,147 @@ def greatest(program, folder):
     have, owed = answers(done.stdout), [(command, sorted(lines), sorted(lines)) for command, lines in told]
     is_right = have == owed and done.returncode == 0 and not done.stderr
     yield "64 nodes and 128 applications", None if is_right else f"status {done.returncode}\n{done.stdout[-2000:]}{done.stderr}"
+
+
+# ---- Comparing with live
+
+def outcomes(_):
+    """The nodes take one of the outcomes that live tells that an order gives by which the commands before came out so, too."""
+    ok, one, other = '["ok"]', '["ok", "up a@x"]', '["ok", "up b@x"]'
+    first = f"[{{{one}, [0, 3]}}, {{{other}, [1, 2]}}]"
+    for name, arguments, owed in [
+            ("the first one", f"{first}, [0, 1, 2, 3], {one}", f"{{true, {one}, [0, 3]}}"),
+            ("another one", f"{first}, [0, 1, 2, 3], {other}", f"{{true, {other}, [1, 2]}}"),
+            ("one of orders that are left", f"{first}, [2, 3], {other}", f"{{true, {other}, [2]}}"),
+            ("one of none that is left", f"{first}, [1, 2], {one}", f"{{false, {other}, [1, 2]}}"),
+            ("none", f"{first}, [0, 1, 2, 3], {ok}", f"{{false, {one}, [0, 1, 2, 3]}}")]:
+        asked = f"{{Agrees, Lines, _, Left}} = replay_compare:taken({arguments}), {owed} = {{Agrees, Lines, Left}}"
+        yield f"outcomes: {name}", erlang_fault(asked)
+
+
+def json_read(_):
+    """JSON as the companion reads it, and what is none."""
+    for name, asked in [
+            ("texts", r'{ok, #{"a" := ["x\"\n/", [16#e9], [16#1f600]]}} = '
+             r'replay_json:read(<<"{\"a\": [\"x\\\"\\n\\/\", \"\\u00e9\", \"\\ud83d\\ude00\"]}">>)'),
+            ("other values", r'{ok, [true, false, null, -12, [], #{}]} = '
+             r'replay_json:read(<<" [true,false , null, -12,[ ],{ }]\n">>)'),
+            ("what is none", r'[error] = lists:usort([replay_json:read(Text) || Text <- '
+             r'[<<>>, <<"[1">>, <<"[1] 2">>, <<"{1:2}">>, <<"nothing">>, <<"\"a">>]])')]:
+        yield f"JSON that is read: {name}", erlang_fault(asked)
+
+
+def erlang_fault(asked):
+    """What is wrong with a match in Erlang, with the modules of the companion that need no nodes; or None."""
+    load = "begin {ok, M, C} = compile:file(F, [binary]), code:load_binary(M, F, C) end"
+    text = f'[{load} || F <- ["replay_compare", "replay_json"]], {asked}, halt().'
+    done = subprocess.run(["erl", "-noinput", "-eval", text], cwd=COMPANIONS, capture_output=True, text=True, timeout=LONGEST_RUN)
+    return None if done.returncode == 0 else f"{asked}: {done.stdout[:1000]}"
+
+
+def sides(program, folder):
+    """A rehearsal in which live nodes do what live tells, and not what the rules say: by both, by live, and as JSON."""
+    path = written(folder, DIFFERENT + "# It goes on.\nstop a@x y\n")
+    done = replay(program, ["--compare", "both", "--patience", "1000", path])
+    lines = done.stdout.splitlines()
+    rows = {re.sub(r"(?<=\S) {2,}|(?<=[<>]) +", " ", line) for line in lines[2:lines.index("# It goes on.") - 1]}
+    owed = ["#~ line 1 behind === is the first that differs: from here on the rules and the nodes have different pasts",
+            "# It goes on.", "stop a@x y"]
+    is_right = done.returncode == 3 and rows == DIFFERENT_TOLD and lines[7:10] == owed and not done.stderr
+    is_right = is_right and lines[-1] == "1 of 2 commands agree with the rules, 2 of 2 with live"
+    yield "--compare both", None if is_right else f"{done}"
+    path = written(folder, DIFFERENT)
+    done = replay(program, ["--compare", "live", path])
+    rows = {re.sub(r"(?<=\S) {2,}", " ", line) for line in done.stdout.splitlines()[2:-1]}
+    is_right = done.returncode == 0 and rows == DIFFERENT_LIVE and done.stdout.endswith("\n1 of 1 commands agree with live\n")
+    yield "--compare live", None if is_right and done.stdout.startswith("  live ") and not done.stderr else f"{done}"
+    done = replay(program, ["--compare", "both", "--json", "--patience", "1000", "--orders", "2", path])
+    command, last = map(json.loads, done.stdout.splitlines())
+    rows = [row for row in command["rows"] if row[0] != " "]
+    is_right = done.returncode == 3 and (command["line"], command["command"]) == (1, "boot a@x")
+    is_right = is_right and command["rules"] == BY_RULES
+    is_right = is_right and sorted(command["nodes"]) == sorted(BY_NODES) == sorted(command["live"])
+    is_right = is_right and not command["agrees"] and command["agrees_live"]
+    is_right = is_right and rows == [[">", "", "failed x a@x {not_started,y}"], ["<", "started x a@x normal", ""]]
+    is_right = is_right and all(mark == " " and left == right for mark, left, right in command["rows_live"])
+    is_right = is_right and not any(command[name] for name in ("late", "stands", "busy", "wrote")) and not done.stderr
+    yield "--json", None if is_right else f"{done}"
+    owed = {"commands": 1, "agree": 0, "first": 1, "agree_live": 1, "first_live": None, "orders": 2, "compare": "both",
+            "factor": 1, "patience": 1000, "measured": measured(), "release": last["release"]}
+    yield "the last line of --json", None if last == owed else f"{last}"
+
+
+def hanging(program, folder):
+    """Where a boot script waits for ever, the processes are told in which that is, and the lines are never compared."""
+    done = replay(program, ["--compare", "live", "--patience", "2000", written(folder, HANGING)])
+    told = [" ".join(line.split()) for line in done.stdout.splitlines()]
+    place = told.index("pending web a@x pending web a@x")
+    owed = ["a@x: dist_ac stands in wait_dist_start2/6", "a@x: application_controller is idle"]
+    is_right = all(line in told[place:] for line in owed) and told[-1] == "3 of 3 commands agree with live"
+    yield "where a start hangs", None if is_right and done.returncode == 0 and not done.stderr else f"{done}"
+
+
+def burning(program, folder):
+    """Two nodes that send each other messages for ever are seen, behind a call that waits for one of them."""
+    done = replay(program, ["--json", "--patience", "1000", written(folder, BURNING)])
+    *earlier, waits, last, _ = map(json.loads, done.stdout.splitlines())
+    is_right = waits["nodes"] == ["no answer"] and {"node": "c@x", "process": "dist_ac", "function": "collect_answers/4",
+                                                    "messages": 0} in waits["stands"]
+    yield "a call that waits", None if is_right and done.returncode == 3 and not done.stderr else f"{done}"
+    is_right = [node["node"] for node in last["busy"]] == ["c@x", "d@x"] and all(0 < node["share"] <= 2 for node in last["busy"])
+    is_right = is_right and not any(answer["busy"] for answer in [*earlier, waits])
+    yield "nodes that are busy", None if is_right else f"{done}"
+
+
+def measured():
+    """The release on which the page and live were measured, as live has it."""
+    return re.search(r'MEASURED = Release\(\n +"([0-9.]+)"', read(os.path.join(COMPANIONS, "otp25", "release.py")).decode())[1]
+
+
+def release(_):
+    """Replay has the same release as live."""
+    have = re.search(r'-define\(MEASURED, "([0-9.]+)"\)', read(COMPANION).decode())[1]
+    yield "the release that was measured", None if have == measured() else f"{have}, and live has {measured()}"
+
+
+def other_release(program, folder):
+    """On another release than the measured one the first line says so."""
+    copied(folder, lambda text: text.replace(f'"{measured()}"', '"17.0"'))
+    path = written(folder, "{node, a@x, []}.\n===\n# Nothing.\n")
+    done = subprocess.run([os.path.join(folder, "replay"), "--rehearse", program, path], stdin=subprocess.DEVNULL,
+                          capture_output=True, text=True, timeout=LONGEST_RUN)
+    _, told, *lines = done.stdout.splitlines()
+    is_right = re.fullmatch(r"#~ This is OTP [0-9.]+\. What .* was measured on OTP 17\.0\.", told)
+    is_right = is_right and lines == ["# Nothing.", "0 of 0 commands agree"] and done.returncode == 0 and not done.stderr
+    yield "another release", None if is_right else f"{done}"
+    done = replay(program, [path])
+    is_right = "#~" not in done.stdout or f"measured on OTP {measured()}" in done.stdout
+    yield "the release that is here", None if is_right and done.returncode == 0 else f"{done}"
+
+
+def copied(folder, changed=lambda text: text):
+    """Puts a copy of the companion alone into a folder, with its script changed."""
+    for path in glob.glob(f"{COMPANION}*"):
+        shutil.copy(path, folder)
+    with open(os.path.join(folder, "replay"), "w", encoding="utf-8") as file:
+        file.write(changed(read(COMPANION).decode()))
+
+
+def without(program, folder):
+    """What --compare needs and isn't there is told."""
+    copied(folder)
+    path = written(folder, "{node, a@x, []}.\n===\nboot a@x\n")
+    tools = os.path.join(folder, "tools")
+    os.mkdir(tools)
+    for name in ("escript", "erl", "sh", "mktemp", "rm", "sed", "dirname"):
+        os.symlink(os.path.realpath(shutil.which(name)), os.path.join(tools, name))
+    for name, companion, search, owed in [
+            ("live", os.path.join(folder, "replay"), os.environ["PATH"], f"there is no companion {folder}/live"),
+            ("python3", COMPANION, tools, "there is no python3, which the companion live needs")]:
+        done = subprocess.run([companion, "--rehearse", program, "--compare", "live", path], stdin=subprocess.DEVNULL,
+                              capture_output=True, text=True, timeout=LONGEST_RUN, env={**os.environ, "PATH": search})
+        is_right = done.returncode == 1 and not done.stdout and owed in done.stderr
+        yield f"--compare without {name}", None if is_right else f"{done}"
 
 
 # ---- Processes
@@ -244,6 +409,8 @@ def refusals(program, folder):
             ("long and short names", one + "{node, 'a@x.y', []}.\n", [], 2, "don't see one another"),
             ("long ticks", one + "===\ntick 700000\n", [], 2, "the ticks take 700 s"),
             ("a factor", one, ["--factor", "0"], 1, "--factor"), ("an option", one, ["--nonsense"], 1, "--nonsense"),
+            ("a side", one, ["--compare", "page"], 1, "--compare page"), ("orders", one, ["--orders", "0"], 1, "--orders"),
+            ("another program", one + "===\nboot a@x\n", ["--rehearse", shutil.which("echo")], 2, "isn't the program"),
             ("no program", one, ["--rehearse", "/nowhere/rehearse"], 1, "no program /nowhere/rehearse")]:
         done = replay(program, [*words, written(folder, text)])
         is_right = done.returncode == status and not done.stdout and told in done.stderr
@@ -251,12 +418,13 @@ def refusals(program, folder):
     done = replay(program, ["/nowhere/input"])
     yield "refused: no file", None if done.returncode == 2 and "/nowhere/input" in done.stderr else f"{done}"
     done = subprocess.run([COMPANION, "--help"], capture_output=True, timeout=LONGEST_RUN)
-    missing = [word for word in (b"--factor F", b"start_all", b"stop_all", b"{profile, 2}") if word not in done.stdout]
+    words = (b"--factor F", b"start_all", b"stop_all", b"{profile, 2}", b"--compare WHAT", b"--orders N", b"--json")
+    missing = [word for word in words if word not in done.stdout]
     yield "--help", fault_of(done, 0, None) or (f"it lacks {missing}" if missing else None)
 
 
-def group(program):
-    """All of them."""
-    for part in (refusals, rehearsals, at_all_nodes, greatest, endings):
-        with tempfile.TemporaryDirectory() as folder:
-            yield from part(program, folder)
+# Nodes keep real time, and would be late where others take the processors.
+ALONE = (rehearsals, at_all_nodes, greatest, endings, sides, hanging, burning)
+REAL_TIME = tuple(Group(in_folder(part), is_alone=True, needs=ERLANG) for part in ALONE)
+BESIDE = tuple(Group(in_folder(part), needs=ERLANG) for part in (refusals, other_release, without))
+TESTS = (release, Group(outcomes, needs=ERLANG), Group(json_read, needs=ERLANG), *BESIDE, *REAL_TIME)

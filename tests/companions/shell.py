@@ -339,6 +339,4 @@ def faults(program):
     yield "--help", fault_of(done, 0, None) or (None if b"save PATH" in done.stdout else f"{done}")
 
 
-def group(program):
-    for tests in (conversations, second_profile, banners, like_a_run, stories, keys, timers, faults):
-        yield from tests(program)
+TESTS = (conversations, second_profile, banners, like_a_run, stories, keys, timers, faults)

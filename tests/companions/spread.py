@@ -275,6 +275,4 @@ def nothing_left(program):
         yield "files that are left", None if not left else f"{left}"
 
 
-def group(program):
-    for tests in (shares, odd_texts, profiles, limits, larger_input, killed, machines, faults, nothing_left):
-        yield from tests(program)
+TESTS = (shares, odd_texts, profiles, limits, larger_input, killed, machines, faults, nothing_left)

@@ -3,6 +3,7 @@ import os
 import subprocess
 import tempfile
 
+from groups import Group
 from support import LONGEST_RUN, TOP, fault_of, run
 
 NEEDS = ("python3",)
@@ -306,6 +307,4 @@ def faults(program):
     yield "no file", fault_of(done, 2, b"") if b"/nowhere/output: No such file" not in done.stderr else None
 
 
-def group(program):
-    for tests in (without_times, with_times, profiles, limits, several, faults):
-        yield from tests(program)
+TESTS = (Group(limits, is_long=True), without_times, with_times, profiles, several, faults)

@@ -1,4 +1,4 @@
-"""Tests of the five commands of README.md, from a release's own files to a page with a picture: they are run as they stand there,
+"""Tests of the six commands of README.md, from a release's own files to a page with a picture: they are run as they stand there,
 on the release that examples/shop/make makes by systools, and the page is opened in a real browser. What they print stands in
 README.md too, worked out by hand from the lists in examples/shop/sys.config.
 """
@@ -14,7 +14,7 @@ from support import TOP, difference, read
 
 NEEDS = ("erl", "escript", "erlc", "chromium")
 LONGEST_COMMAND = 120
-PICTURE = os.path.join(TOP, "docs", "images", "five-commands.png")
+PICTURE = os.path.join(TOP, "docs", "images", "six-commands.png")
 SIZE = (1280, 1020)
 # The plans' table: what became of both applications.
 TABLE = """Object.fromEntries([...document.querySelectorAll('#sweep tbody tr')].map(
@@ -26,12 +26,12 @@ ROWS = {
 
 
 def shown():
-    """The first command of the section, which makes a release; the five commands; and what the fourth prints."""
+    """The first command of the section, which makes a release; the six commands; and what the fourth and the sixth print."""
     section = read(os.path.join(TOP, "README.md")).decode().split("\n## From your own release to a picture\n")[1].split("\n## ")[0]
     blocks = re.findall(r"(?ms)^```(\w+)\n(.*?)^```$", section)
     commands = [block for language, block in blocks if language == "sh"]
     told = [block for language, block in blocks if language == "text"]
-    return commands[0].splitlines(), commands[1].splitlines(), told[0]
+    return commands[0].splitlines(), commands[1].splitlines(), told
 
 
 def made(program, folder):
@@ -39,10 +39,10 @@ def made(program, folder):
     os.symlink(os.path.join(TOP, "companions"), os.path.join(folder, "companions"))
     os.symlink(os.path.join(TOP, "examples"), os.path.join(folder, "examples"))
     os.symlink(program, os.path.join(folder, "rehearse"))
-    first, five, _ = shown()
+    first, six, _ = shown()
     return [(command, subprocess.run(["bash", "-c", f"set -o pipefail; {command}"], cwd=folder, stdin=subprocess.DEVNULL,
                                      capture_output=True, timeout=LONGEST_COMMAND, env={**os.environ, "REHEARSE": program}))
-            for command in first + five]
+            for command in first + six]
 
 
 def screenshot(folder, browser):
@@ -57,15 +57,16 @@ def size_of(picture):
     return struct.unpack(">II", picture[16:24]) if picture.startswith(b"\x89PNG") else None
 
 
-def group(program):
+def six_commands(program):
     """The commands, what they print, and the page."""
     with tempfile.TemporaryDirectory(ignore_cleanup_errors=True) as folder:
         runs = made(program, folder)
         for command, done in runs:
             yield command, None if done.returncode == 0 and not done.stderr else f"{done}"
-        yield "there are five of them", None if len(runs) == 6 else f"{len(runs)}"
+        yield "there are six of them", None if len(runs) == 7 else f"{len(runs)}"
         told = [done.stdout for _, done in runs]
-        owed = [b"", b"", b"ok 3 nodes 3 applications\n", b"", shown()[2].encode(), b""]
+        fourth, sixth = (text.encode() for text in shown()[2])
+        owed = [b"", b"", b"ok 3 nodes 3 applications\n", b"", fourth, b"", sixth]
         yield "what they print", None if told == owed else difference(b"".join(owed), b"".join(told))
         again = subprocess.run(["examples/shop/make", "target"], cwd=folder, capture_output=True, timeout=LONGEST_COMMAND)
         is_right = again.returncode == 1 and again.stderr == b"target is there already: remove it, or give another folder\n"
@@ -80,3 +81,6 @@ def group(program):
             yield "the picture is of this page's size", None if sizes == (SIZE, SIZE) else f"{sizes}"
         finally:
             browser.close()
+
+
+TESTS = (six_commands,)
