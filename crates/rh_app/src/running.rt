@@ -61,7 +61,7 @@ fn answer_input<K: Sink>(
             Ok(Some(Told::Cluster(fault)))
         }
         Ok(cluster) => {
-            let bad = answer_script(alloc, &cluster, script, writer, pick)?;
+            let bad = answer_script(alloc, cluster, script, writer, pick)?;
             Ok(bad.map(Told::BadLine))
         }
     }
@@ -83,38 +83,37 @@ pub fn write_fault<K: Sink>(
 // Writes the answers to a script. The answer is the number of the bad line that ended it, if one did.
 fn answer_script<K: Sink>(
     alloc: Global,
-    cluster: &Cluster,
+    cluster: Cluster,
     script: &[u8],
     writer: &mut Watched<K>,
     pick: Pick,
 ) -> Result<Option<u64>, WriteFault>
     requires { writer.old.failed ≡ false }
     ensures { Wrote K.takes K.fails result
-        (script_text cluster.now (opened cluster.now pick) 1 (lines_asked cluster.now (map content (raw_lines script.now))))
-        (bad_line 1 (lines_asked cluster.now (map content (raw_lines script.now)))) writer.old writer.new }
+        (script_text cluster (opened cluster pick) 1 (lines_asked cluster (map content (raw_lines script.now))))
+        (bad_line 1 (lines_asked cluster (map content (raw_lines script.now)))) writer.old writer.new }
 {
-    let mut sim = Sim::open(alloc, cluster.copy(alloc)?, pick)?;
-    answer_lines(alloc, cluster, &mut sim, script, writer)
+    let mut sim = Sim::open(alloc, cluster, pick)?;
+    answer_lines(alloc, &mut sim, script, writer)
 }
 
 // Writes the answers to lines, the first of which has number 1, up to the first bad line, and answers its number.
 fn answer_lines<K: Sink>(
     alloc: Global,
-    cluster: &Cluster,
     sim: &mut Sim,
     script: &[u8],
     writer: &mut Watched<K>,
 ) -> Result<Option<u64>, WriteFault>
     requires { writer.old.failed ≡ false }
     ensures { Wrote K.takes K.fails result
-        (script_text cluster.now sim.old.seen 1 (lines_asked cluster.now (map content (raw_lines script.now))))
-        (bad_line 1 (lines_asked cluster.now (map content (raw_lines script.now)))) writer.old writer.new }
+        (script_text sim.old.seen.cluster sim.old.seen 1 (lines_asked sim.old.seen.cluster (map content (raw_lines script.now))))
+        (bad_line 1 (lines_asked sim.old.seen.cluster (map content (raw_lines script.now)))) writer.old writer.new }
 {
     let mut rest = script;
     let mut number: u64 = 1;
     'lines: while !rest.is_empty() {
         let (line, after) = split_line(rest);
-        match answer_line(alloc, cluster, sim, number, line, writer)? {
+        match answer_line(alloc, sim, number, line, writer)? {
             Some(bad) => return Ok(Some(bad)),
             None => {
                 rest = after;
@@ -128,19 +127,20 @@ fn answer_lines<K: Sink>(
 // Writes the answer to a line, if it gets one. The answer is the number of a bad line.
 fn answer_line<K: Sink>(
     alloc: Global,
-    cluster: &Cluster,
     sim: &mut Sim,
     number: u64,
     line: &[u8],
     writer: &mut Watched<K>,
 ) -> Result<Option<u64>, WriteFault>
     requires { writer.old.failed ≡ false }
-    ensures { (lines : List Line) → Turns K.takes K.fails result cluster.now sim.old.seen sim.new.seen number (line_of cluster.now (content line.now)) lines writer.old writer.new }
+    ensures text { (lines : List Line) → Turns K.takes K.fails result sim.old.seen.cluster sim.old.seen sim.new.seen number
+        (line_of sim.old.seen.cluster (content line.now)) lines writer.old writer.new }
+    ensures cluster { OnOk result (sim.new.seen.cluster ≡ sim.old.seen.cluster) }
 {
-    match line_of(alloc, cluster, content(line))? {
+    match line_of(alloc, sim.cluster(), content(line))? {
         Line::Nothing => Ok(None),
         Line::Asks(call) => {
-            answer_call(alloc, cluster, sim, call, writer)?;
+            answer_call(alloc, sim, call, writer)?;
             Ok(None)
         }
         Line::Bad => {
@@ -164,19 +164,20 @@ pub fn answer_bad<K: Sink>(
 }
 
 // Gives a call to the simulation, and writes the answer.
+#[tactic(auto, using(crate::proofs::Keeping::served_keeps_cluster))]
 pub fn answer_call<K: Sink>(
     alloc: Global,
-    cluster: &Cluster,
     sim: &mut Sim,
     call: Call,
     writer: &mut Watched<K>,
 ) -> Result<(), WriteFault>
     requires { writer.old.failed ≡ false }
     ensures sim { OnOk result (sim.new.seen ≡ (served sim.old.seen call).sim) }
-    ensures text { Broke K.takes K.fails result (answer_text cluster.now (served sim.old.seen call).reply) writer.old writer.new }
+    ensures cluster { OnOk result (sim.new.seen.cluster ≡ sim.old.seen.cluster) }
+    ensures text { Broke K.takes K.fails result (answer_text sim.old.seen.cluster (served sim.old.seen call).reply) writer.old writer.new }
 {
     let reply = sim.answer(alloc, call)?;
-    write_answer(alloc, cluster, &reply, writer)
+    write_answer(alloc, sim.cluster(), &reply, writer)
 }
 
 // Writes the answer of a reply.

@@ -77,7 +77,7 @@ fn sweep_input<T: Threads + Wait + Sync, K: Sink>(
             write_fault(alloc, &fault, writer)?;
             Ok(Some(Told::Cluster(fault)))
         }
-        Ok(cluster) => sweep_script(rt, alloc, &cluster, script, writer, pick, workers),
+        Ok(cluster) => sweep_script(rt, alloc, cluster, script, writer, pick, workers),
     }
 }
 
@@ -85,7 +85,7 @@ fn sweep_input<T: Threads + Wait + Sync, K: Sink>(
 fn sweep_script<T: Threads + Wait + Sync, K: Sink>(
     rt: &T,
     alloc: Global,
-    cluster: &Cluster,
+    cluster: Cluster,
     script: &[u8],
     writer: &mut Watched<K>,
     pick: Pick,
@@ -94,20 +94,20 @@ fn sweep_script<T: Threads + Wait + Sync, K: Sink>(
     requires writer { writer.old.failed ≡ false }
     requires workers { AreWorkers workers }
     ensures { Wrote K.takes K.fails result
-        (lines_text cluster.now pick (sweep_lines_asked cluster.now (map content (raw_lines script.now)))
-        (bad_sweep_line (sweep_lines_asked cluster.now (map content (raw_lines script.now)))))
-        (lines_end cluster.now pick (sweep_lines_asked cluster.now (map content (raw_lines script.now)))
-        (bad_sweep_line (sweep_lines_asked cluster.now (map content (raw_lines script.now))))) writer.old writer.new }
+        (lines_text cluster pick (sweep_lines_asked cluster (map content (raw_lines script.now)))
+        (bad_sweep_line (sweep_lines_asked cluster (map content (raw_lines script.now)))))
+        (lines_end cluster pick (sweep_lines_asked cluster (map content (raw_lines script.now)))
+        (bad_sweep_line (sweep_lines_asked cluster (map content (raw_lines script.now))))) writer.old writer.new }
 {
-    match sweep_in(alloc, cluster, script)? {
+    match sweep_in(alloc, &cluster, script)? {
         SweepScript::BadLine(number) => {
             answer_bad(alloc, number, writer)?;
             Ok(Some(Told::BadLine(number)))
         }
         SweepScript::Sweep { base, plans } => {
-            let mut sim = Sim::open(alloc, cluster.copy(alloc)?, pick)?;
-            answer_calls(alloc, cluster, &mut sim, base.as_slice(), writer)?;
-            sweep_plans(rt, alloc, cluster, &sim, plans.as_slice(), writer, workers)
+            let mut sim = Sim::open(alloc, cluster, pick)?;
+            answer_calls(alloc, &mut sim, base.as_slice(), writer)?;
+            sweep_plans(rt, alloc, &sim, plans.as_slice(), writer, workers)
         }
     }
 }
@@ -115,17 +115,17 @@ fn sweep_script<T: Threads + Wait + Sync, K: Sink>(
 // Writes the answers to calls that are made one after the other.
 fn answer_calls<K: Sink>(
     alloc: Global,
-    cluster: &Cluster,
     sim: &mut Sim,
     calls: &[Call],
     writer: &mut Watched<K>,
 ) -> Result<(), WriteFault>
     requires { writer.old.failed ≡ false }
     ensures sim { OnOk result (sim.new.seen ≡ sim_after sim.old.seen calls.now) }
-    ensures text { Broke K.takes K.fails result (answers_text cluster.now sim.old.seen calls.now) writer.old writer.new }
+    ensures cluster { OnOk result (sim.new.seen.cluster ≡ sim.old.seen.cluster) }
+    ensures text { Broke K.takes K.fails result (answers_text sim.old.seen.cluster sim.old.seen calls.now) writer.old writer.new }
 {
     for call in calls {
-        answer_call(alloc, cluster, sim, *call, writer)?;
+        answer_call(alloc, sim, *call, writer)?;
     }
     Ok(())
 }
@@ -134,7 +134,6 @@ fn answer_calls<K: Sink>(
 fn sweep_plans<T: Threads + Wait + Sync, K: Sink>(
     rt: &T,
     alloc: Global,
-    cluster: &Cluster,
     base: &Sim,
     plans: &[Plan],
     writer: &mut Watched<K>,
@@ -143,12 +142,12 @@ fn sweep_plans<T: Threads + Wait + Sync, K: Sink>(
     requires writer { writer.old.failed ≡ false }
     requires workers { AreWorkers workers }
     ensures { Wrote K.takes K.fails result
-        (plans_text cluster.now base.now.seen (map plan_text plans.now) (why_not_swept base.now.seen (map plan_text plans.now)))
+        (plans_text base.now.seen.cluster base.now.seen (map plan_text plans.now) (why_not_swept base.now.seen (map plan_text plans.now)))
         (plans_end base.now.seen (map plan_text plans.now)) writer.old writer.new }
 {
     match sweep(rt, alloc, base, plans, workers, &FreeGate) {
         Ok(outcomes) => {
-            write_outcomes(alloc, cluster, base, plans, outcomes.as_slice(), writer)?;
+            write_outcomes(alloc, base, plans, outcomes.as_slice(), writer)?;
             Ok(None)
         }
         Err(fault) => match fault {
@@ -164,7 +163,6 @@ fn sweep_plans<T: Threads + Wait + Sync, K: Sink>(
 // Writes the outcomes of plans that were tried from a base.
 fn write_outcomes<K: Sink>(
     alloc: Global,
-    cluster: &Cluster,
     base: &Sim,
     plans: &[Plan],
     outcomes: &[Outcome],
@@ -172,11 +170,11 @@ fn write_outcomes<K: Sink>(
 ) -> Result<(), WriteFault>
     requires writer { writer.old.failed ≡ false }
     requires outcomes { outcomes.now ≡ map (outcome_of base.now.seen) plans.now }
-    ensures { Broke K.takes K.fails result (flat_map (plan_outcome cluster.now base.now.seen) (map plan_text plans.now)) writer.old writer.new }
+    ensures { Broke K.takes K.fails result (flat_map (plan_outcome base.now.seen.cluster base.now.seen) (map plan_text plans.now)) writer.old writer.new }
 {
-    let _ = base;
     for place in 0..plans.len() {
-        write_outcome(alloc, cluster, &plans[place].name, &outcomes[place], writer)?;
+        let (name, outcome) = (&plans[place].name, &outcomes[place]);
+        write_outcome(alloc, base.cluster(), name, outcome, writer)?;
     }
     Ok(())
 }

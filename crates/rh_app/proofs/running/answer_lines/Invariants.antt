@@ -7,10 +7,11 @@ use Rattle.rh_app.proofs.running.answer_lines.Given as goal
 abbrev pub invariant-lines : goal.invariant-lines
 invariant-lines g l = record {
   text : (done : List ℕ) × Passed g.K.Sink.takes l.fn.writer.inner l.writer.inner done
-      × (script_text l.cluster l.fn.sim.seen 1 (lines_asked l.cluster (map content (raw_lines l.script)))
-      ≡ done ++ script_text l.cluster l.sim.seen l.number (lines_asked l.cluster (map content (raw_lines l.rest))));
-  fault : bad_line 1 (lines_asked l.cluster (map content (raw_lines l.script))) ≡ bad_line l.number (lines_asked l.cluster (map content (raw_lines l.rest)));
+      × (script_text l.fn.sim.seen.cluster l.fn.sim.seen 1 (lines_asked l.fn.sim.seen.cluster (map content (raw_lines l.script)))
+      ≡ done ++ script_text l.fn.sim.seen.cluster l.sim.seen l.number (lines_asked l.fn.sim.seen.cluster (map content (raw_lines l.rest))));
+  fault : bad_line 1 (lines_asked l.fn.sim.seen.cluster (map content (raw_lines l.script))) ≡ bad_line l.number (lines_asked l.fn.sim.seen.cluster (map content (raw_lines l.rest)));
   watch : l.writer.failed ≡ false;
+  same : l.sim.seen.cluster ≡ l.fn.sim.seen.cluster;
   count : l.number + length l.rest ≤ length l.script + 1;
 }
 

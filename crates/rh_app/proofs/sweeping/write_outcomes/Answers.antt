@@ -15,7 +15,7 @@ pub returns-in_err-write_outcome : goal.returns-in_err-write_outcome
 returns-in_err-write_outcome g c =
     let takes = g.K.Sink.takes in
     let fails = g.K.Sink.fails in
-    let text = plan_outcome c.args.cluster.now c.args.base.now.seen in
+    let text = plan_outcome c.args.base.now.seen.cluster c.args.base.now.seen in
     let plans = c.args.plans.now in
     let i = c.loop-place.place in
     let at = c.loop-place-test.true in
@@ -25,8 +25,8 @@ returns-in_err-write_outcome g c =
     c.index-outcomes-place.is in
     let done = subst (λ (ps : List PlanText). Passed takes c.args.writer.now.inner c.loop-place.writer.inner (flat_map text ps))
     (sym (take-map plan_text i plans)) c.loop-place.invariant.written in
-    let broke = subst (λ (o : Outcome). WroteFront takes fails c.in_err-write_outcome.field-0.0 (outcome_text c.args.cluster.now plan.name o)
-    c.loop-place.writer c.write_outcome.new.writer) is c.in_err-write_outcome.ensures in
+    let broke = subst (λ (o : Outcome). WroteFront takes fails c.in_err-write_outcome.field-0.0 (outcome_text c.args.base.now.seen.cluster plan.name o)
+    c.loop-place.writer c.write_outcome.new.writer) is (rw c.cluster.ensures at c.in_err-write_outcome.ensures) in
     let p = err_from_is_err_and c.from_residual.result c.from_residual.ensures.1 in
     rw (p.1, p.2)
     (fails_midway text (map plan_text plans) i (plan_text plan) (omega (arith, at, length-map plans plan_text)) takes fails here c.in_err-write_outcome.field-0.0
@@ -35,7 +35,7 @@ returns-in_err-write_outcome g c =
 pub loop-place-preserved : goal.loop-place-preserved
 loop-place-preserved g c =
     let takes = g.K.Sink.takes in
-    let text = plan_outcome c.args.cluster.now c.args.base.now.seen in
+    let text = plan_outcome c.args.base.now.seen.cluster c.args.base.now.seen in
     let plans = c.args.plans.now in
     let i = c.loop-place.place in
     let at = c.loop-place-test.true in
@@ -45,8 +45,8 @@ loop-place-preserved g c =
     c.index-outcomes-place.is in
     let done = subst (λ (ps : List PlanText). Passed takes c.args.writer.now.inner c.loop-place.writer.inner (flat_map text ps))
     (sym (take-map plan_text i plans)) c.loop-place.invariant.written in
-    let piece = subst (λ (o : Outcome). Passed takes c.loop-place.writer.inner c.write_outcome.new.writer.inner (outcome_text c.args.cluster.now plan.name o))
-    is c.in_ok-write_outcome.ensures.0 in
+    let piece = subst (λ (o : Outcome). Passed takes c.loop-place.writer.inner c.write_outcome.new.writer.inner (outcome_text c.args.base.now.seen.cluster plan.name o))
+    is (rw c.cluster.ensures at c.in_ok-write_outcome.ensures.0) in
     record {
       written = subst (λ (ps : List PlanText). Passed takes c.args.writer.now.inner c.write_outcome.new.writer.inner (flat_map text ps))
           (take-map plan_text (i + 1) plans)

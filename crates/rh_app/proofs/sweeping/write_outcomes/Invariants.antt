@@ -8,6 +8,6 @@ use Rattle.rh_app.proofs.sweeping.write_outcomes.Given as goal
 abbrev pub invariant-loop-place : goal.invariant-loop-place
 invariant-loop-place g l = record {
   written : Passed g.K.Sink.takes l.fn.writer.inner l.writer.inner
-      (flat_map (plan_outcome l.cluster l.base.seen) (map plan_text (take l.place l.plans)));
+      (flat_map (plan_outcome l.base.seen.cluster l.base.seen) (map plan_text (take l.place l.plans)));
   watch : l.writer.failed ≡ false;
 }
