@@ -1,5 +1,6 @@
 pub mod Every
 pub mod Ways
+pub mod Counts
 mod Same
 pub mod Firsts
 pub mod Sums

@@ -1,4 +1,5 @@
 pub mod Course
+pub mod Counts
 pub mod Ways
 pub mod Moves
 pub mod Enabled

@@ -7,6 +7,7 @@ ghost use Rattle.rh_settle.specs.declared.notice.Move.TheVariants.{Local, Placem
 ghost use Rattle.rh_state.specs.declared.status.Kind.TheVariants as kind;
 ghost use Rattle.rh_settle.specs.declared.notice.Notice.TheVariants.{Started, Stopped};
 ghost use Rattle.rh_settle.specs.Course.{course};
+ghost use Rattle.rh_settle.specs.Counts.{FewEdits};
 ghost use Rattle.rh_settle.specs.Ways.{Goes, Tells};
 ghost use Rattle.rh_settle.specs.Moves.{with_started, with_stopped, lost_elsewhere, moved, IsStartedPair, CanBeMade};
 
@@ -34,6 +35,7 @@ fn start_at(
     ensures marked { trace.new.marked ≡ trace.old.marked }
     ensures freed { trace.new.freed ≡ trace.old.freed }
     ensures way { Goes state.old trace.old state.new trace.new }
+    ensures few { FewEdits 3 trace.old trace.new }
 {
     state.formed();
     recording::unlink(state, node, app, trace)?;
@@ -50,6 +52,7 @@ fn stop_at(state: &mut State, node: Node, app: App, trace: &mut Trace) -> Result
     ensures marked { trace.new.marked ≡ trace.old.marked }
     ensures freed { trace.new.freed ≡ trace.old.freed }
     ensures way { Goes state.old trace.old state.new trace.new }
+    ensures few { FewEdits 2 trace.old trace.new }
 {
     state.formed();
     recording::unlink(state, node, app, trace)?;
@@ -76,6 +79,7 @@ fn start_locally(
     requires { IsStartedPair (read state.old) node app }
     ensures course { OnOk result (course (read state.new) trace.new ≡ moved (course (read state.old) trace.old) (Local node app)) }
     ensures way { Goes state.old trace.old state.new trace.new }
+    ensures few { FewEdits 0 trace.old trace.new }
 {
     trace.tell(Notice::Started {
         app,
@@ -97,6 +101,7 @@ fn place(
     requires { CanBeMade (read state.old) (Placement app from node) }
     ensures course { OnOk result (course (read state.new) trace.new ≡ moved (course (read state.old) trace.old) (Placement app from node)) }
     ensures way { Goes state.old trace.old state.new trace.new }
+    ensures few { FewEdits 0 trace.old trace.new }
 {
     let kind = start_kind(state, app, from, node);
     let lost = lost_elsewhere(from, node);
@@ -117,6 +122,7 @@ fn tell_takeover(app: App, from: Node, node: Node, trace: &mut Trace) -> Result<
     ensures freed { trace.new.freed ≡ trace.old.freed }
     ensures edits { trace.new.edits ≡ trace.old.edits }
     ensures grows { Tells trace.old.notices trace.new.notices }
+    ensures few { FewEdits 0 trace.old trace.new }
 {
     let started = Notice::Started {
         app,
@@ -139,6 +145,7 @@ fn take_over(
     requires { CanBeMade (read state.old) (Takeover app from node) }
     ensures course { OnOk result (course (read state.new) trace.new ≡ moved (course (read state.old) trace.old) (Takeover app from node)) }
     ensures way { Goes state.old trace.old state.new trace.new }
+    ensures few { FewEdits 0 trace.old trace.new }
 {
     tell_takeover(app, from, node, trace)?;
     start_at(state, node, app, Kind::Takeover(from), trace)?;
@@ -151,6 +158,7 @@ pub fn make_move(state: &mut State, next: Move, trace: &mut Trace) -> Result<(),
     requires { CanBeMade (read state.old) next }
     ensures course { OnOk result (course (read state.new) trace.new ≡ moved (course (read state.old) trace.old) next) }
     ensures way { Goes state.old trace.old state.new trace.new }
+    ensures few { FewEdits 0 trace.old trace.new }
 {
     match next {
         Move::Local { node, app } => start_locally(state, node, app, trace),

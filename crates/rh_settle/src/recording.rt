@@ -5,11 +5,12 @@
 
 ghost use Rattle.std.specs.Prelude.{◌≡◌, ◌≢◌, ◌≤◌, IsSome, IsNone, OnOk, OnErr};
 ghost use Rattle.rh_state.specs.Limits.{time_limit, incarnation_limit};
-ghost use Rattle.rh_state.specs.StateView.{place_of, due_of};
+ghost use Rattle.rh_state.specs.StateView.{place_of, due_of, restart_of, kind_of, is_allowed, standing_of};
 ghost use Rattle.rh_state.specs.Setters.{with_time, with_mode, with_incarnation, with_restart, with_kind, with_allowed, with_standing, with_running, with_waiting, unlisted, with_timer, without_due};
 ghost use Rattle.rh_state.specs.Shape.{IsNodeOf, IsAppOf, IsKindOf, IsStandingOf, IsTimerOf};
 ghost use Rattle.rh_state.specs.Stored.{read};
 ghost use Rattle.rh_state.specs.declared.status.Place.TheVariants.{Off};
+ghost use Rattle.rh_settle.specs.Counts.{FewEdits};
 ghost use Rattle.rh_settle.specs.Ways.{Goes};
 
 use crate::trace::Trace;
@@ -26,6 +27,8 @@ pub fn set_now(state: &mut State, time: u64, trace: &mut Trace) -> Result<(), Ou
     ensures marked { trace.new.marked ≡ trace.old.marked }
     ensures freed { trace.new.freed ≡ trace.old.freed }
     ensures way { Goes state.old trace.old state.new trace.new }
+    ensures few { FewEdits 1 trace.old trace.new }
+    ensures same { (read state.old).time ≡ time → trace.new ≡ trace.old }
     ensures kept_state { OnErr result (state.new ≡ state.old) }
     ensures kept_trace { OnErr result (trace.new ≡ trace.old) }
 {
@@ -54,6 +57,7 @@ pub fn set_mode(
     ensures marked { trace.new.marked ≡ trace.old.marked }
     ensures freed { trace.new.freed ≡ trace.old.freed }
     ensures way { Goes state.old trace.old state.new trace.new }
+    ensures few { FewEdits 1 trace.old trace.new }
     ensures kept_state { OnErr result (state.new ≡ state.old) }
     ensures kept_trace { OnErr result (trace.new ≡ trace.old) }
 {
@@ -80,6 +84,7 @@ pub fn set_incarnation(
     ensures marked { trace.new.marked ≡ trace.old.marked }
     ensures freed { trace.new.freed ≡ trace.old.freed }
     ensures way { Goes state.old trace.old state.new trace.new }
+    ensures few { FewEdits 1 trace.old trace.new }
     ensures kept_state { OnErr result (state.new ≡ state.old) }
     ensures kept_trace { OnErr result (trace.new ≡ trace.old) }
 {
@@ -107,6 +112,8 @@ pub fn set_allowed(
     ensures marked { trace.new.marked ≡ trace.old.marked }
     ensures freed { trace.new.freed ≡ trace.old.freed }
     ensures way { Goes state.old trace.old state.new trace.new }
+    ensures few { FewEdits 1 trace.old trace.new }
+    ensures same { is_allowed (read state.old) node app ≡ allow → trace.new ≡ trace.old }
     ensures kept_state { OnErr result (state.new ≡ state.old) }
     ensures kept_trace { OnErr result (trace.new ≡ trace.old) }
 {
@@ -137,6 +144,8 @@ pub fn set_restart(
     ensures marked { trace.new.marked ≡ trace.old.marked }
     ensures freed { trace.new.freed ≡ trace.old.freed }
     ensures way { Goes state.old trace.old state.new trace.new }
+    ensures few { FewEdits 1 trace.old trace.new }
+    ensures same { restart_of (read state.old) node app ≡ restart → trace.new ≡ trace.old }
     ensures kept_state { OnErr result (state.new ≡ state.old) }
     ensures kept_trace { OnErr result (trace.new ≡ trace.old) }
 {
@@ -168,6 +177,8 @@ pub fn set_kind(
     ensures marked { trace.new.marked ≡ trace.old.marked }
     ensures freed { trace.new.freed ≡ trace.old.freed }
     ensures way { Goes state.old trace.old state.new trace.new }
+    ensures few { FewEdits 1 trace.old trace.new }
+    ensures same { kind_of (read state.old) node app ≡ kind → trace.new ≡ trace.old }
     ensures kept_state { OnErr result (state.new ≡ state.old) }
     ensures kept_trace { OnErr result (trace.new ≡ trace.old) }
 {
@@ -197,6 +208,8 @@ pub fn set_standing(
     ensures marked { trace.new.marked ≡ trace.old.marked }
     ensures freed { trace.new.freed ≡ trace.old.freed }
     ensures way { Goes state.old trace.old state.new trace.new }
+    ensures few { FewEdits 1 trace.old trace.new }
+    ensures same { standing_of (read state.old) app ≡ standing → trace.new ≡ trace.old }
     ensures kept_state { OnErr result (state.new ≡ state.old) }
     ensures kept_trace { OnErr result (trace.new ≡ trace.old) }
 {
@@ -227,6 +240,7 @@ pub fn push_running(
     ensures marked { trace.new.marked ≡ trace.old.marked }
     ensures freed { trace.new.freed ≡ trace.old.freed }
     ensures way { Goes state.old trace.old state.new trace.new }
+    ensures few { FewEdits 1 trace.old trace.new }
     ensures kept_state { OnErr result (state.new ≡ state.old) }
     ensures kept_trace { OnErr result (trace.new ≡ trace.old) }
 {
@@ -254,6 +268,7 @@ pub fn push_waiting(
     ensures marked { trace.new.marked ≡ trace.old.marked }
     ensures freed { trace.new.freed ≡ trace.old.freed }
     ensures way { Goes state.old trace.old state.new trace.new }
+    ensures few { FewEdits 1 trace.old trace.new }
     ensures kept_state { OnErr result (state.new ≡ state.old) }
     ensures kept_trace { OnErr result (trace.new ≡ trace.old) }
 {
@@ -276,6 +291,7 @@ pub fn unlink(state: &mut State, node: Node, app: App, trace: &mut Trace) -> Res
     ensures marked { trace.new.marked ≡ trace.old.marked }
     ensures freed { trace.new.freed ≡ trace.old.freed }
     ensures way { Goes state.old trace.old state.new trace.new }
+    ensures few { FewEdits 1 trace.old trace.new }
     ensures kept_state { OnErr result (state.new ≡ state.old) }
     ensures kept_trace { OnErr result (trace.new ≡ trace.old) }
 {
@@ -302,6 +318,7 @@ pub fn arm_timer(
     ensures marked { trace.new.marked ≡ trace.old.marked }
     ensures freed { trace.new.freed ≡ trace.old.freed }
     ensures way { Goes state.old trace.old state.new trace.new }
+    ensures few { FewEdits 1 trace.old trace.new }
     ensures kept_state { OnErr result (state.new ≡ state.old) }
     ensures kept_trace { OnErr result (trace.new ≡ trace.old) }
 {
@@ -323,6 +340,7 @@ pub fn cancel_timer(state: &mut State, timer: Timer, trace: &mut Trace) -> Resul
     ensures marked { trace.new.marked ≡ trace.old.marked }
     ensures freed { trace.new.freed ≡ trace.old.freed }
     ensures way { Goes state.old trace.old state.new trace.new }
+    ensures few { FewEdits 1 trace.old trace.new }
     ensures kept_state { OnErr result (state.new ≡ state.old) }
     ensures kept_trace { OnErr result (trace.new ≡ trace.old) }
 {

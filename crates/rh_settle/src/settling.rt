@@ -4,6 +4,7 @@ ghost use Rattle.std.specs.Prelude.{◌≡◌, ◌≤◌, ◌*◌, [], length, A
 ghost use Rattle.rh_state.specs.StateView.{waits_at};
 ghost use Rattle.rh_state.specs.Stored.{read};
 ghost use Rattle.rh_settle.specs.Course.{Course, IsPairOf, course, fresh_of};
+ghost use Rattle.rh_settle.specs.Counts.{FewEdits};
 ghost use Rattle.rh_settle.specs.Ways.{Goes};
 ghost use Rattle.rh_settle.specs.Settling.{NoneEnabled, nexts, all_moved, tell_waiting, waits_told, settled, Settles, pair_count};
 ghost use Rattle.rh_settle.specs.Validity.{RunsWhereItStands};
@@ -26,6 +27,7 @@ fn make_moves(state: &mut State, pick: Pick, trace: &mut Trace) -> Result<(), Ou
     ensures cluster { (read state.new).cluster ≡ (read state.old).cluster }
     ensures runs { OnOk result (RunsWhereItStands (read state.new)) }
     ensures way { Goes state.old trace.old state.new trace.new }
+    ensures few { FewEdits 0 trace.old trace.new }
 {
     let mut board = Board::of(state, trace.marked(), trace.freed());
     'moves: while let Some(next) = next_on(state, &board, pick) {
@@ -50,6 +52,7 @@ fn tell_if_waiting(state: &State, pair: Pair, trace: &mut Trace) -> Result<(), O
     requires { IsPairOf (read state.now).cluster pair }
     ensures course { OnOk result (course (read state.now) trace.new ≡ tell_waiting (course (read state.now) trace.old) pair) }
     ensures way { Goes state.now trace.old state.now trace.new }
+    ensures few { FewEdits 0 trace.old trace.new }
 {
     if waits(state, pair) {
         trace.tell(Notice::Waits {
@@ -66,6 +69,7 @@ fn tell_waiting(state: &State, trace: &mut Trace) -> Result<(), OutOfMemory>
     requires { All (IsPairOf (read state.now).cluster) trace.old.marked }
     ensures course { OnOk result (course (read state.now) trace.new ≡ waits_told (course (read state.now) trace.old)) }
     ensures way { Goes state.now trace.old state.now trace.new }
+    ensures few { FewEdits 0 trace.old trace.new }
 {
     let count = trace.marked().len();
     'marked: for index in 0..count {
@@ -87,6 +91,7 @@ pub fn settle(state: &mut State, pick: Pick, trace: &mut Trace) -> Result<(), Ou
     ensures cluster { (read state.new).cluster ≡ (read state.old).cluster }
     ensures runs { OnOk result (RunsWhereItStands (read state.new)) }
     ensures way { Goes state.old trace.old state.new trace.new }
+    ensures edits { FewEdits 0 trace.old trace.new }
 {
     state.formed();
     make_moves(state, pick, trace)?;

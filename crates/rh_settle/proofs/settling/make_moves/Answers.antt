@@ -1,4 +1,4 @@
-use Rattle.std.proofs.Common.{List, sym, ap, ◌∙◌, subst, All}
+use Rattle.std.proofs.Common.{List, sym, ap, ◌∙◌, subst, All, arith}
 use Rattle.rh_model.specs.ClusterView.{ClusterView}
 use Rattle.rh_state.specs.Shape.{IsNodeOf, IsAppOf}
 use Rattle.rh_state.specs.Stored.{read}
@@ -42,6 +42,7 @@ moves-preserved c =
       same = same o c.args.pick c.in-Some.next c.formed.ensures.shape next p made ∙ c.moves.invariant.same;
       runs = runs_still o c.args.pick c.in-Some.next c.formed.ensures.shape next p made c.moves.invariant.runs;
       way = goes_more _ _ _ _ _ _ c.moves.invariant.way c.make_move.ensures.way;
+      few = omega (arith, c.moves.invariant.few, c.make_move.ensures.few);
     }
 
 pub moves-smaller : goal.moves-smaller

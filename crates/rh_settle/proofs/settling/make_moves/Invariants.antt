@@ -1,6 +1,7 @@
 use Rattle.std.proofs.Common.{◌≡◌}
 use Rattle.rh_state.specs.Stored.{read}
 use Rattle.rh_settle.specs.Boards.{IsBoardOf}
+use Rattle.rh_settle.specs.Counts.{FewEdits}
 use Rattle.rh_settle.specs.Course.{course, fresh_of}
 use Rattle.rh_settle.specs.Settling.{all_moved}
 use Rattle.rh_settle.specs.Validity.{RunsWhereItStands}
@@ -14,6 +15,7 @@ invariant-moves l = record {
   same : all_moved l.pick (course (read l.state) l.trace) ≡ all_moved l.pick (course (read l.fn.state) l.fn.trace);
   runs : RunsWhereItStands (read l.state);
   way : Goes l.fn.state l.fn.trace l.state l.trace;
+  few : FewEdits 0 l.fn.trace l.trace;
 }
 
 abbrev pub decreases-moves : goal.decreases-moves

@@ -1,4 +1,4 @@
-use Rattle.std.proofs.Common.{List, ◌<◌, length, ◌∙◌, subst}
+use Rattle.std.proofs.Common.{List, ◌<◌, length, ◌∙◌, subst, arith}
 use Rattle.rh_state.specs.Stored.{read}
 use Rattle.rh_settle.specs.declared.notice.Pair.{Pair}
 use Rattle.rh_settle.specs.Course.{course}
@@ -18,6 +18,7 @@ marked-preserved c =
       same = one_told first o p _ _ _ seen made below c.marked.invariant.same;
       marked = same_marks first o p _ _ _ seen made c.marked.invariant.marked;
       way = goes_more _ _ _ _ _ _ c.marked.invariant.way c.tell_if_waiting.ensures.way;
+      few = omega (arith, c.marked.invariant.few, c.tell_if_waiting.ensures.few);
     }
 
 pub returns-in_err-tell_if_waiting-clause-way : goal.returns-in_err-tell_if_waiting-clause-way

@@ -1,5 +1,6 @@
 use Rattle.std.proofs.Common.{◌≡◌, take, fold}
 use Rattle.rh_state.specs.Stored.{read}
+use Rattle.rh_settle.specs.Counts.{FewEdits}
 use Rattle.rh_settle.specs.Course.{course}
 use Rattle.rh_settle.specs.Settling.{tell_waiting}
 use Rattle.rh_settle.specs.Ways.{Goes}
@@ -10,4 +11,5 @@ invariant-marked l = record {
   same : course (read l.state) l.trace ≡ fold tell_waiting (course (read l.state) l.fn.trace) (take l.index l.fn.trace.marked);
   marked : l.trace.marked ≡ l.fn.trace.marked;
   way : Goes l.fn.state l.fn.trace l.state l.trace;
+  few : FewEdits 0 l.fn.trace l.trace;
 }
