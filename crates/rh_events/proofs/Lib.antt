@@ -1,4 +1,6 @@
 mod Alive
+pub mod Counts
+pub mod FewStarted
 pub mod Emptying
 pub mod Configuring
 pub mod Losing

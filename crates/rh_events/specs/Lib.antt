@@ -6,3 +6,4 @@ pub mod Everywhere
 pub mod Changes
 pub mod Refusals
 pub mod Laws
+pub mod Counts

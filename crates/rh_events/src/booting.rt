@@ -6,6 +6,7 @@ ghost use Rattle.rh_state.specs.Shape.{IsNodeOf};
 ghost use Rattle.rh_state.specs.StateView.{due_of, incarnation_of};
 ghost use Rattle.rh_state.specs.Stored.{read};
 ghost use Rattle.rh_state.specs.declared.status.Timer.TheVariants.{Sync};
+ghost use Rattle.rh_settle.specs.Counts.{FewEdits};
 ghost use Rattle.rh_settle.specs.Ways.{Goes};
 ghost use Rattle.rh_events.specs.Changes.{booted};
 
@@ -26,6 +27,7 @@ pub fn boot(state: &mut State, node: Node, trace: &mut Trace) -> Result<(), OutO
     ensures marked { trace.new.marked ≡ trace.old.marked }
     ensures freed { trace.new.freed ≡ trace.old.freed }
     ensures way { Goes state.old trace.old state.new trace.new }
+    ensures few { FewEdits 3 trace.old trace.new }
 {
     let incarnation = state.incarnation(node) + 1;
     recording::set_incarnation(state, node, incarnation, trace)?;

@@ -10,6 +10,7 @@ ghost use Rattle.rh_state.specs.declared.status.Place.TheVariants.{Off, InRunnin
 ghost use Rattle.rh_state.specs.declared.status.Standing.TheVariants.{Running};
 ghost use Rattle.rh_settle.specs.declared.notice.Move.TheVariants.{Takeover};
 ghost use Rattle.rh_settle.specs.Course.{course};
+ghost use Rattle.rh_settle.specs.Counts.{FewEdits, FewWeighed};
 ghost use Rattle.rh_settle.specs.Ways.{Goes};
 ghost use Rattle.rh_settle.specs.Moves.{moved};
 ghost use Rattle.rh_settle.specs.Validity.{RunsWhereItStands, IsSound};
@@ -38,6 +39,7 @@ fn stop_running(
     requires started { place_of (read state.old) node app ≢ Off }
     ensures course { OnOk result (course (read state.new) trace.new ≡ stopped (course (read state.old) trace.old) node app) }
     ensures way { Goes state.old trace.old state.new trace.new }
+    ensures few { FewEdits 0 trace.old trace.new }
 {
     trace.tell(Notice::Stopped { app, node })?;
     recording::unlink(state, node, app, trace)?;
@@ -80,6 +82,7 @@ fn quieten_if_nowhere(state: &mut State, app: App, trace: &mut Trace) -> Result<
     ensures marked { trace.new.marked ≡ trace.old.marked }
     ensures freed { trace.new.freed ≡ trace.old.freed }
     ensures way { Goes state.old trace.old state.new trace.new }
+    ensures few { FewEdits 2 trace.old trace.new }
 {
     match state.standing(app) {
         Standing::Wanted(_) | Standing::Lost(_) => {}
@@ -112,6 +115,7 @@ fn leave_waiting(
     ensures marked { trace.new.marked ≡ trace.old.marked }
     ensures freed { trace.new.freed ≡ trace.old.freed }
     ensures way { Goes state.old trace.old state.new trace.new }
+    ensures few { FewEdits 3 trace.old trace.new }
 {
     recording::unlink(state, node, app, trace)?;
     quieten_if_nowhere(state, app, trace)
@@ -125,6 +129,7 @@ pub fn stop(state: &mut State, node: Node, app: App, trace: &mut Trace) -> Resul
     requires started { place_of (read state.old) node app ≢ Off }
     ensures course { OnOk result (course (read state.new) trace.new ≡ change (course (read state.old) trace.old) (Stop node app)) }
     ensures way { Goes state.old trace.old state.new trace.new }
+    ensures few { FewEdits 3 trace.old trace.new }
 {
     if state.place_of(node, app) == Place::InRunning {
         return stop_running(state, node, app, trace);
@@ -140,6 +145,7 @@ fn forbid(state: &mut State, node: Node, app: App, trace: &mut Trace) -> Result<
     requires started { place_of (read state.old) node app ≢ Off }
     ensures course { OnOk result (course (read state.new) trace.new ≡ forbidden (course (read state.old) trace.old) node app) }
     ensures way { Goes state.old trace.old state.new trace.new }
+    ensures few { FewEdits 0 trace.old trace.new }
 {
     state.formed();
     trace.tell(Notice::Stopped { app, node })?;
@@ -183,6 +189,7 @@ fn free(
     ensures told { trace.new.notices ≡ trace.old.notices }
     ensures marked { trace.new.marked ≡ trace.old.marked }
     ensures way { Goes state.now trace.old state.now trace.new }
+    ensures few { FewEdits 0 trace.old trace.new }
 {
     if frees(state, node, app, allow) {
         trace.free(Pair { node, app })?;
@@ -204,6 +211,7 @@ pub fn permit(
     requires app { IsAppOf (read state.old).cluster app }
     ensures course { OnOk result (course (read state.new) trace.new ≡ permitted (course (read state.old) trace.old) node app allow) }
     ensures way { Goes state.old trace.old state.new trace.new }
+    ensures few { FewEdits 1 trace.old trace.new }
 {
     if !allow && state.allowed(node, app) && state.place_of(node, app) == Place::InRunning {
         return forbid(state, node, app, trace);
@@ -230,6 +238,7 @@ fn start_if_off(
     ensures marked { trace.new.marked ≡ trace.old.marked }
     ensures freed { trace.new.freed ≡ trace.old.freed }
     ensures way { Goes state.old trace.old state.new trace.new }
+    ensures few { FewEdits 1 trace.old trace.new }
 {
     state.formed();
     if state.place_of(node, app) == Place::Off {
@@ -254,6 +263,7 @@ fn move_by_hand(
     requires runs { runs_at (read state.old) from app ≡ true }
     ensures course { OnOk result (course (read state.new) trace.new ≡ moved (course (read state.old) trace.old) (Takeover app from node)) }
     ensures way { Goes state.old trace.old state.new trace.new }
+    ensures few { FewEdits 1 trace.old trace.new }
 {
     start_if_off(state, node, app, trace)?;
     make_move(state, Move::Takeover { app, from, node }, trace)
@@ -275,6 +285,7 @@ pub fn take_over(
     requires runs { RunsWhereItStands (read state.old) }
     ensures course { OnOk result (course (read state.new) trace.new ≡ taken_over (course (read state.old) trace.old) node app restart) }
     ensures way { Goes state.old trace.old state.new trace.new }
+    ensures few { FewEdits 2 trace.old trace.new }
 {
     match state.standing(app) {
         Standing::Running(from) => {
@@ -311,6 +322,7 @@ pub fn exit(
     requires sound { IsSound (read state.old) }
     ensures course { OnOk result (course (read state.new) trace.new ≡ exited (course (read state.old) trace.old) node app normal) }
     ensures way { Goes state.old trace.old state.new trace.new }
+    ensures few { OnOk result (FewWeighed (read state.old).cluster 0 trace.old trace.new) }
 {
     if ends_node(state.restart_of(node, app), normal) {
         end(state, node, trace)

@@ -3,9 +3,11 @@
 ghost use Rattle.std.specs.Prelude.{◌≡◌, None, OnOk};
 ghost use Rattle.rh_state.specs.Stored.{read};
 ghost use Rattle.rh_settle.specs.Course.{course};
+ghost use Rattle.rh_settle.specs.Counts.{FewWeighed};
 ghost use Rattle.rh_settle.specs.Ways.{Goes};
 ghost use Rattle.rh_settle.specs.Validity.{IsSound};
 ghost use Rattle.rh_events.specs.Changes.{change};
+ghost use Rattle.rh_events.specs.Counts.{own_edits};
 ghost use Rattle.rh_events.specs.Refusals.{refused};
 
 use crate::booting::boot;
@@ -26,6 +28,7 @@ pub fn change(state: &mut State, event: &Event, trace: &mut Trace) -> Result<(),
     requires sound { IsSound (read state.old) }
     ensures course { OnOk result (course (read state.new) trace.new ≡ change (course (read state.old) trace.old) event.now) }
     ensures way { Goes state.old trace.old state.new trace.new }
+    ensures few { OnOk result (FewWeighed (read state.old).cluster (own_edits (read state.old).cluster event.now) trace.old trace.new) }
 {
     match *event {
         Event::Boot { node } => boot(state, node, trace),

@@ -5,6 +5,7 @@ ghost use Rattle.rh_state.specs.Shape.{IsNodeOf};
 ghost use Rattle.rh_state.specs.StateView.{running_at, waiting_at};
 ghost use Rattle.rh_state.specs.Stored.{read};
 ghost use Rattle.rh_settle.specs.Course.{course};
+ghost use Rattle.rh_settle.specs.Counts.{FewWeighed};
 ghost use Rattle.rh_settle.specs.Ways.{Goes};
 ghost use Rattle.rh_settle.specs.Validity.{IsSound};
 ghost use Rattle.rh_events.specs.ComingUp.{come_up, come_up_if_ready, ready_come_up};
@@ -24,6 +25,7 @@ pub fn come_up(state: &mut State, node: Node, trace: &mut Trace) -> Result<(), O
     requires waiting { waiting_at (read state.old) node ≡ [] }
     ensures course { OnOk result (course (read state.new) trace.new ≡ come_up (course (read state.old) trace.old) node) }
     ensures way { Goes state.old trace.old state.new trace.new }
+    ensures few { OnOk result (FewWeighed (read state.old).cluster 0 trace.old trace.new) }
 {
     trace.tell(Notice::Up { node })?;
     cancel_if_set(state, Timer::Sync(node), trace)?;
@@ -38,6 +40,7 @@ fn let_come_up_if_ready(state: &mut State, node: Node, trace: &mut Trace) -> Res
     requires sound { IsSound (read state.old) }
     ensures course { OnOk result (course (read state.new) trace.new ≡ come_up_if_ready (course (read state.old) trace.old) node) }
     ensures way { Goes state.old trace.old state.new trace.new }
+    ensures few { OnOk result (FewWeighed (read state.old).cluster 0 trace.old trace.new) }
 {
     if is_ready(state, node) {
         come_up(state, node, trace)?;
@@ -51,6 +54,7 @@ pub fn let_ready_come_up(state: &mut State, trace: &mut Trace) -> Result<(), Out
     requires { IsSound (read state.old) }
     ensures course { OnOk result (course (read state.new) trace.new ≡ ready_come_up (course (read state.old) trace.old)) }
     ensures way { Goes state.old trace.old state.new trace.new }
+    ensures few { OnOk result (FewWeighed (read state.old).cluster 0 trace.old trace.new) }
 {
     let count = state.cluster().node_count();
     'nodes: for number in 0..count {

@@ -1,7 +1,7 @@
 //! How a node ends.
 
-ghost use Rattle.std.specs.Prelude.{◌≡◌, ◌≤◌, ◌↔◌, [], true, IsNone, IfSome, OnOk};
-ghost use Rattle.rh_model.specs.ClusterView.{is_permitted};
+ghost use Rattle.std.specs.Prelude.{◌≡◌, ◌≤◌, ◌+◌, ◌*◌, ◌↔◌, [], true, IsNone, IfSome, OnOk};
+ghost use Rattle.rh_model.specs.ClusterView.{app_count, is_permitted};
 ghost use Rattle.rh_model.specs.declared.node.App.{App};
 ghost use Rattle.rh_model.specs.Limits.{timeout_limit};
 ghost use Rattle.rh_state.specs.Shape.{IsNodeOf, IsAppOf};
@@ -11,6 +11,7 @@ ghost use Rattle.rh_state.specs.Stored.{read};
 ghost use Rattle.rh_state.specs.declared.status.Standing.TheVariants.{Running};
 ghost use Rattle.rh_state.specs.declared.status.Timer.TheVariants.{Failover};
 ghost use Rattle.rh_settle.specs.Course.{course};
+ghost use Rattle.rh_settle.specs.Counts.{FewEdits, FewWeighed};
 ghost use Rattle.rh_settle.specs.Ways.{Goes};
 ghost use Rattle.rh_events.specs.Ending.{timeout_of, emptied, with_configured, cleared, lost_at, lost_if_ran, all_lost, ended};
 
@@ -42,7 +43,9 @@ fn empty(state: &mut State, node: Node, trace: &mut Trace) -> Result<(), OutOfMe
     ensures marked { trace.new.marked ≡ trace.old.marked }
     ensures freed { trace.new.freed ≡ trace.old.freed }
     ensures way { Goes state.old trace.old state.new trace.new }
+    ensures few { OnOk result (FewEdits (app_count (read state.old).cluster) trace.old trace.new) }
 {
+    state.formed();
     'started: while let Some(app) = first_started(state, node) {
         recording::unlink(state, node, app, trace)?;
     }
@@ -63,6 +66,7 @@ fn configure_app(
     ensures marked { trace.new.marked ≡ trace.old.marked }
     ensures freed { trace.new.freed ≡ trace.old.freed }
     ensures way { Goes state.old trace.old state.new trace.new }
+    ensures few { FewEdits 1 trace.old trace.new }
 {
     let allow = state.cluster().permitted(node, app);
     recording::set_allowed(state, node, app, allow, trace)
@@ -77,6 +81,7 @@ fn configure(state: &mut State, node: Node, trace: &mut Trace) -> Result<(), Out
     ensures marked { trace.new.marked ≡ trace.old.marked }
     ensures freed { trace.new.freed ≡ trace.old.freed }
     ensures way { Goes state.old trace.old state.new trace.new }
+    ensures few { OnOk result (FewEdits (app_count (read state.old).cluster) trace.old trace.new) }
 {
     state.formed();
     let count = state.cluster().app_count();
@@ -95,6 +100,7 @@ fn clear(state: &mut State, node: Node, trace: &mut Trace) -> Result<(), OutOfMe
     ensures marked { trace.new.marked ≡ trace.old.marked }
     ensures freed { trace.new.freed ≡ trace.old.freed }
     ensures way { Goes state.old trace.old state.new trace.new }
+    ensures few { OnOk result (FewEdits (2 + 2 * app_count (read state.old).cluster) trace.old trace.new) }
 {
     cancel_if_set(state, Timer::Sync(node), trace)?;
     empty(state, node, trace)?;
@@ -126,6 +132,7 @@ fn lose_at(state: &mut State, node: Node, app: App, trace: &mut Trace) -> Result
     ensures marked { trace.new.marked ≡ trace.old.marked }
     ensures freed { trace.new.freed ≡ trace.old.freed }
     ensures way { Goes state.old trace.old state.new trace.new }
+    ensures few { FewEdits 2 trace.old trace.new }
 {
     let timeout = timeout_of(state.cluster(), app);
     if timeout == 0 {
@@ -152,6 +159,7 @@ fn lose_if_ran(
     ensures marked { trace.new.marked ≡ trace.old.marked }
     ensures freed { trace.new.freed ≡ trace.old.freed }
     ensures way { Goes state.old trace.old state.new trace.new }
+    ensures few { FewEdits 2 trace.old trace.new }
 {
     match state.standing(app) {
         Standing::Running(other) if other.0 == node.0 => lose_at(state, node, app, trace),
@@ -169,6 +177,7 @@ fn lose_all(state: &mut State, node: Node, trace: &mut Trace) -> Result<(), OutO
     ensures marked { trace.new.marked ≡ trace.old.marked }
     ensures freed { trace.new.freed ≡ trace.old.freed }
     ensures way { Goes state.old trace.old state.new trace.new }
+    ensures few { OnOk result (FewEdits (2 * app_count (read state.old).cluster) trace.old trace.new) }
 {
     let count = state.cluster().app_count();
     'apps: for number in 0..count {
@@ -184,6 +193,7 @@ pub fn end(state: &mut State, node: Node, trace: &mut Trace) -> Result<(), OutOf
     requires unset { (a : App) → standing_of (read state.old) a ≡ Running node → IsNone (due_of (read state.old) (Failover a)) }
     ensures course { OnOk result (course (read state.new) trace.new ≡ ended (course (read state.old) trace.old) node) }
     ensures way { Goes state.old trace.old state.new trace.new }
+    ensures few { OnOk result (FewWeighed (read state.old).cluster 0 trace.old trace.new) }
 {
     trace.tell(Notice::Ended { node })?;
     clear(state, node, trace)?;

@@ -1,9 +1,11 @@
 //! What an operator starts or stops at all nodes of a distributed application.
 
-ghost use Rattle.std.specs.Prelude.{◌≡◌, OnOk};
+ghost use Rattle.std.specs.Prelude.{◌≡◌, ◌+◌, ◌*◌, OnOk};
+ghost use Rattle.rh_model.specs.ClusterView.{node_count};
 ghost use Rattle.rh_state.specs.Shape.{IsNodeOf, IsAppOf};
 ghost use Rattle.rh_state.specs.Stored.{read};
 ghost use Rattle.rh_settle.specs.Course.{course};
+ghost use Rattle.rh_settle.specs.Counts.{FewEdits};
 ghost use Rattle.rh_settle.specs.Ways.{Goes};
 ghost use Rattle.rh_events.specs.Everywhere.{start_if_target, start_all, leave_at, left_everywhere, stop_all};
 
@@ -28,6 +30,7 @@ fn start_if_target(
     requires app { IsAppOf (read state.old).cluster app }
     ensures course { OnOk result (course (read state.new) trace.new ≡ start_if_target app restart (course (read state.old) trace.old) node) }
     ensures way { Goes state.old trace.old state.new trace.new }
+    ensures few { FewEdits 4 trace.old trace.new }
 {
     if is_target(state, app, node) {
         mark(state, node, app, restart, trace)?;
@@ -47,6 +50,7 @@ pub fn start_all(
     requires app { IsAppOf (read state.old).cluster app }
     ensures course { OnOk result (course (read state.new) trace.new ≡ start_all (course (read state.old) trace.old) app restart) }
     ensures way { Goes state.old trace.old state.new trace.new }
+    ensures few { OnOk result (FewEdits (4 * node_count (read state.old).cluster) trace.old trace.new) }
 {
     let count = state.cluster().node_count();
     'nodes: for number in 0..count {
@@ -62,6 +66,7 @@ fn leave(state: &mut State, node: Node, app: App, trace: &mut Trace) -> Result<(
     requires app { IsAppOf (read state.old).cluster app }
     ensures course { OnOk result (course (read state.new) trace.new ≡ leave_at app (course (read state.old) trace.old) node) }
     ensures way { Goes state.old trace.old state.new trace.new }
+    ensures few { FewEdits 1 trace.old trace.new }
 {
     match state.place_of(node, app) {
         Place::InRunning => {
@@ -80,6 +85,7 @@ fn leave_everywhere(state: &mut State, app: App, trace: &mut Trace) -> Result<()
     ensures course { OnOk result (course (read state.new) trace.new ≡ left_everywhere (course (read state.old) trace.old) app) }
     ensures cluster { OnOk result ((read state.new).cluster ≡ (read state.old).cluster) }
     ensures way { Goes state.old trace.old state.new trace.new }
+    ensures few { OnOk result (FewEdits (node_count (read state.old).cluster) trace.old trace.new) }
 {
     let count = state.cluster().node_count();
     'nodes: for number in 0..count {
@@ -95,6 +101,7 @@ pub fn stop_all(state: &mut State, app: App, trace: &mut Trace) -> Result<(), Ou
     requires app { IsAppOf (read state.old).cluster app }
     ensures course { OnOk result (course (read state.new) trace.new ≡ stop_all (course (read state.old) trace.old) app) }
     ensures way { Goes state.old trace.old state.new trace.new }
+    ensures few { OnOk result (FewEdits (node_count (read state.old).cluster + 2) trace.old trace.new) }
 {
     leave_everywhere(state, app, trace)?;
     recording::set_standing(state, app, Standing::Quiet, trace)?;

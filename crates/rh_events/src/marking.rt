@@ -1,12 +1,13 @@
 //! How an application is started at a node: it waits there until it may run.
 
-ghost use Rattle.std.specs.Prelude.{◌≡◌, [], OnOk};
+ghost use Rattle.std.specs.Prelude.{◌≡◌, ◌*◌, [], length, OnOk};
 ghost use Rattle.rh_model.specs.ClusterView.{boot_of};
 ghost use Rattle.rh_state.specs.Shape.{IsNodeOf, IsAppOf, IsStandingOf};
 ghost use Rattle.rh_state.specs.StateView.{place_of, running_at, waiting_at, standing_of};
 ghost use Rattle.rh_state.specs.Stored.{read};
 ghost use Rattle.rh_state.specs.declared.status.Place.TheVariants.{Off};
 ghost use Rattle.rh_settle.specs.Course.{course};
+ghost use Rattle.rh_settle.specs.Counts.{FewEdits};
 ghost use Rattle.rh_settle.specs.Ways.{Goes};
 ghost use Rattle.rh_events.specs.Marking.{with_distributed_standing, wanted_by_mark, with_mark, mark, mark_all};
 
@@ -30,6 +31,7 @@ pub fn set_distributed_standing(
     ensures marked { trace.new.marked ≡ trace.old.marked }
     ensures freed { trace.new.freed ≡ trace.old.freed }
     ensures way { Goes state.old trace.old state.new trace.new }
+    ensures few { FewEdits 1 trace.old trace.new }
 {
     if state.cluster().spread(app).is_some() {
         recording::set_standing(state, app, standing, trace)?;
@@ -52,6 +54,7 @@ fn want_by_mark(
     ensures marked { trace.new.marked ≡ trace.old.marked }
     ensures freed { trace.new.freed ≡ trace.old.freed }
     ensures way { Goes state.old trace.old state.new trace.new }
+    ensures few { FewEdits 2 trace.old trace.new }
 {
     match state.standing(app) {
         Standing::Quiet => set_distributed_standing(state, app, Standing::Wanted(None), trace),
@@ -78,6 +81,7 @@ pub fn mark(
     requires off { place_of (read state.old) node app ≡ Off }
     ensures course { OnOk result (course (read state.new) trace.new ≡ mark (course (read state.old) trace.old) node app restart) }
     ensures way { Goes state.old trace.old state.new trace.new }
+    ensures few { FewEdits 4 trace.old trace.new }
 {
     trace.mark(Pair { node, app })?;
     recording::push_waiting(state, node, app, trace)?;
@@ -93,6 +97,7 @@ pub fn mark_booted(state: &mut State, node: Node, trace: &mut Trace) -> Result<(
     requires waiting { waiting_at (read state.old) node ≡ [] }
     ensures course { OnOk result (course (read state.new) trace.new ≡ mark_all (course (read state.old) trace.old) node (boot_of (read state.old).cluster node)) }
     ensures way { Goes state.old trace.old state.new trace.new }
+    ensures few { OnOk result (FewEdits (4 * length (boot_of (read state.old).cluster node)) trace.old trace.new) }
 {
     state.cluster().is_within();
     let count = state.cluster().boot(node).len();

@@ -6,6 +6,7 @@ ghost use Rattle.rh_state.specs.StateView.{is_alive, mode_of};
 ghost use Rattle.rh_state.specs.Setters.{without_due};
 ghost use Rattle.rh_state.specs.Shape.{IsNodeOf, IsTimerOf};
 ghost use Rattle.rh_state.specs.Stored.{read};
+ghost use Rattle.rh_settle.specs.Counts.{FewEdits};
 ghost use Rattle.rh_settle.specs.Ways.{Goes};
 ghost use Rattle.rh_settle.specs.Readiness.{all_alive, is_ready};
 
@@ -23,6 +24,7 @@ pub fn cancel_if_set(state: &mut State, timer: Timer, trace: &mut Trace) -> Resu
     ensures marked { trace.new.marked ≡ trace.old.marked }
     ensures freed { trace.new.freed ≡ trace.old.freed }
     ensures way { Goes state.old trace.old state.new trace.new }
+    ensures few { FewEdits 1 trace.old trace.new }
 {
     if state.due_of(timer).is_some() {
         recording::cancel_timer(state, timer, trace)?;

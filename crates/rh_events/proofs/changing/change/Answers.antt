@@ -2,10 +2,13 @@ use Rattle.std.proofs.Common.{sym, ap, ◌∙◌}
 use Rattle.std.proofs.lemmas.Result.{on_ok_weaker}
 use Rattle.rh_state.specs.Stored.{read}
 use Rattle.rh_settle.specs.Course.{course}
+use Rattle.rh_settle.proofs.Counts.{on_ok_any}
+use Rattle.rh_events.specs.declared.event.Event.TheVariants.{Boot, Crash, Start, Stop, Permit, Takeover, Exit, StartAll, StopAll}
 use Rattle.rh_events.specs.Changes.{change}
 use Rattle.rh_events.specs.Refusals.{refused}
 use Rattle.rh_events.proofs.Accepted.{accepted_boot, accepted_crash, accepted_start, accepted_stop, accepted_permit, accepted_takeover, accepted_exit}
 use Rattle.rh_events.proofs.Accepted.{accepted_start_all, accepted_stop_all}
+use Rattle.rh_events.proofs.Counts.{of_event, of_event_ok}
 use Rattle.rh_events.proofs.Requirements.{unset_sync, unset_failover, off_to_start, on_to_stop, runs_elsewhere}
 use Rattle.rh_events.proofs.changing.change.Goals as goal
 
@@ -77,3 +80,57 @@ start_all-requires c =
 pub stop_all-requires : goal.stop_all-requires
 stop_all-requires c =
     record { app = (accepted_stop_all _ _ (sym (ap (refused (read c.args.state.now)) c.in-StopAll.is) ∙ c.requires.accepted)).app }
+
+pub returns-in-Boot-clause-few : goal.returns-in-Boot-clause-few
+returns-in-Boot-clause-few c =
+    on_ok_any c.boot.result
+    (of_event (read c.args.state.now).cluster c.args.event.now (Boot c.in-Boot.node)
+    c.args.trace.now c.boot.new.trace c.in-Boot.is c.boot.ensures.way.notices c.boot.ensures.few)
+
+pub returns-in-Start-clause-few : goal.returns-in-Start-clause-few
+returns-in-Start-clause-few c =
+    on_ok_any c.mark.result
+    (of_event (read c.args.state.now).cluster c.args.event.now (Start c.in-Start.node c.in-Start.app c.in-Start.restart)
+    c.args.trace.now c.mark.new.trace c.in-Start.is c.mark.ensures.way.notices c.mark.ensures.few)
+
+pub returns-in-Stop-clause-few : goal.returns-in-Stop-clause-few
+returns-in-Stop-clause-few c =
+    on_ok_any c.stop.result
+    (of_event (read c.args.state.now).cluster c.args.event.now (Stop c.in-Stop.node c.in-Stop.app)
+    c.args.trace.now c.stop.new.trace c.in-Stop.is c.stop.ensures.way.notices c.stop.ensures.few)
+
+pub returns-in-Permit-clause-few : goal.returns-in-Permit-clause-few
+returns-in-Permit-clause-few c =
+    on_ok_any c.permit.result
+    (of_event (read c.args.state.now).cluster c.args.event.now (Permit c.in-Permit.node c.in-Permit.app c.in-Permit.allow)
+    c.args.trace.now c.permit.new.trace c.in-Permit.is c.permit.ensures.way.notices c.permit.ensures.few)
+
+pub returns-in-Takeover-clause-few : goal.returns-in-Takeover-clause-few
+returns-in-Takeover-clause-few c =
+    on_ok_any c.take_over.result
+    (of_event (read c.args.state.now).cluster c.args.event.now (Takeover c.in-Takeover.node c.in-Takeover.app c.in-Takeover.restart)
+    c.args.trace.now c.take_over.new.trace c.in-Takeover.is c.take_over.ensures.way.notices c.take_over.ensures.few)
+
+pub returns-in-Crash-clause-few : goal.returns-in-Crash-clause-few
+returns-in-Crash-clause-few c =
+    of_event_ok (read c.args.state.now).cluster c.args.event.now (Crash c.in-Crash.node)
+    c.args.trace.now c.end.new.trace c.end.result c.in-Crash.is c.end.ensures.few
+
+pub returns-in-Exit-clause-few : goal.returns-in-Exit-clause-few
+returns-in-Exit-clause-few c =
+    of_event_ok (read c.args.state.now).cluster c.args.event.now (Exit c.in-Exit.node c.in-Exit.app c.in-Exit.normal)
+    c.args.trace.now c.exit.new.trace c.exit.result c.in-Exit.is c.exit.ensures.few
+
+pub returns-in-StartAll-clause-few : goal.returns-in-StartAll-clause-few
+returns-in-StartAll-clause-few c =
+    on_ok_weaker c.start_all.result
+    (λ few. of_event (read c.args.state.now).cluster c.args.event.now (StartAll c.in-StartAll.app c.in-StartAll.restart)
+    c.args.trace.now c.start_all.new.trace c.in-StartAll.is c.start_all.ensures.way.notices few)
+    c.start_all.ensures.few
+
+pub returns-in-StopAll-clause-few : goal.returns-in-StopAll-clause-few
+returns-in-StopAll-clause-few c =
+    on_ok_weaker c.stop_all.result
+    (λ few. of_event (read c.args.state.now).cluster c.args.event.now (StopAll c.in-StopAll.app)
+    c.args.trace.now c.stop_all.new.trace c.in-StopAll.is c.stop_all.ensures.way.notices few)
+    c.stop_all.ensures.few

@@ -1,6 +1,13 @@
-use Rattle.std.proofs.Common.{ap}
-use Rattle.rh_settle.specs.Course.{TraceView}
-use Rattle.rh_settle.proofs.Ways.{goes_told, goes_more}
+use Rattle.std.proofs.Common.{List, length, sym, ap, ◌∙◌, arith}
+use Rattle.rh_model.specs.ClusterView.{ClusterView, boot_of}
+use Rattle.rh_model.specs.declared.node.App.{App}
+use Rattle.rh_model.specs.declared.settings.Restart.{Restart}
+use Rattle.rh_settle.specs.declared.notice.Notice.{Notice}
+use Rattle.rh_settle.specs.declared.notice.Notice.TheVariants.{Up}
+use Rattle.rh_state.specs.Stored.{read}
+use Rattle.rh_settle.specs.Course.{Course, TraceView, course}
+use Rattle.rh_settle.proofs.Ways.{goes_told, goes_more, goes_cluster}
+use Rattle.rh_events.proofs.Counts.{told_once, mark_all_tells, on_ok_two}
 use Rattle.rh_events.proofs.coming_up.come_up.Goals as goal
 
 pub returns-clause-way : goal.returns-clause-way
@@ -9,3 +16,22 @@ returns-clause-way c =
     goes_more _ _ _ _ _ _ (goes_told _ _ _ _ (ap (λ (t : TraceView). t.notices) m) (ap (λ (t : TraceView). t.edits) m))
     (goes_more _ _ _ _ _ _ c.in_ok-cancel_if_set.ensures.way
     (goes_more _ _ _ _ _ _ c.in_ok-set_mode.ensures.way c.mark_booted.ensures.way))
+
+pub returns-clause-few : goal.returns-clause-few
+returns-clause-few c =
+    let s = read c.args.state.now in
+    let o = course (read c.set_mode.new.state) c.set_mode.new.trace in
+    let told = c.in_ok-tell.ensures.told in
+    let once = goes_cluster _ _ _ _ c.in_ok-cancel_if_set.ensures.way in
+    let twice = goes_cluster _ _ _ _ c.in_ok-set_mode.ensures.way ∙ once in
+    let boots = ap (λ (v : ClusterView). length (boot_of v c.args.node)) twice in
+    let edits = ap (λ (t : TraceView). length t.edits) told in
+    let before = ap (λ (ns : List Notice). length ns) (c.in_ok-set_mode.ensures.told ∙ c.in_ok-cancel_if_set.ensures.told) in
+    on_ok_two c.mark_booted.result
+    (λ made few.
+    let silent = ap (λ (p : Course). p.notices) made ∙ mark_all_tells o c.args.node (boot_of o.state.cluster c.args.node) in
+    let count = ap (λ (ns : List Notice). length ns) silent in
+    told_once s.cluster (Up c.args.node) c.args.trace.now c.mark_booted.new.trace
+    (silent ∙ c.in_ok-set_mode.ensures.told ∙ c.in_ok-cancel_if_set.ensures.told ∙ ap (λ (t : TraceView). t.notices) told)
+    (omega (arith, boots, edits, before, count, c.in_ok-cancel_if_set.ensures.few, c.in_ok-set_mode.ensures.few, few)))
+    c.mark_booted.ensures.course c.mark_booted.ensures.few

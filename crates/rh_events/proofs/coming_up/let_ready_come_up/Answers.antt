@@ -4,6 +4,8 @@ use Rattle.rh_state.specs.Shape.{IsNodeOf}
 use Rattle.rh_state.specs.Stored.{read}
 use Rattle.rh_settle.specs.Course.{Course, course}
 use Rattle.rh_settle.specs.Validity.{IsSound}
+use Rattle.rh_settle.specs.Counts.{FewWeighed}
+use Rattle.rh_settle.proofs.Counts.{weighed_more}
 use Rattle.rh_settle.proofs.Ways.{goes_more}
 use Rattle.rh_events.specs.ComingUp.{come_up_if_ready}
 use Rattle.rh_events.proofs.SoundComingUp.{come_up_more, come_up_if_ready_cluster, sound_come_up_if_ready}
@@ -22,6 +24,9 @@ nodes-preserved c =
       cluster = ap (λ (p : Course). p.state.cluster) made ∙ come_up_if_ready_cluster o n ∙ c.nodes.invariant.cluster;
       sound = subst (λ (p : Course). IsSound p.state) (sym made) (sound_come_up_if_ready o n c.nodes.invariant.sound is_node);
       way = goes_more _ _ _ _ _ _ c.nodes.invariant.way c.in_ok-let_come_up_if_ready.ensures.way;
+      few = weighed_more s.cluster 0 0 c.args.trace.now c.nodes.trace c.let_come_up_if_ready.new.trace c.nodes.invariant.few
+          (subst (λ (v : ClusterView). FewWeighed v 0 c.nodes.trace c.let_come_up_if_ready.new.trace) c.nodes.invariant.cluster
+          c.in_ok-let_come_up_if_ready.ensures.few);
     }
 
 pub returns-in_err-let_come_up_if_ready-clause-way : goal.returns-in_err-let_come_up_if_ready-clause-way

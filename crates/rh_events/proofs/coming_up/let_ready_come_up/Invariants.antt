@@ -1,6 +1,7 @@
 use Rattle.std.proofs.Common.{◌≡◌}
 use Rattle.rh_state.specs.Stored.{read}
 use Rattle.rh_settle.specs.Course.{course}
+use Rattle.rh_settle.specs.Counts.{FewWeighed}
 use Rattle.rh_settle.specs.Ways.{Goes}
 use Rattle.rh_settle.specs.Validity.{IsSound}
 use Rattle.rh_events.proofs.SoundComingUp.{come_up_below}
@@ -12,4 +13,5 @@ invariant-nodes l = record {
   cluster : (read l.state).cluster ≡ (read l.fn.state).cluster;
   sound : IsSound (read l.state);
   way : Goes l.fn.state l.fn.trace l.state l.trace;
+  few : FewWeighed (read l.fn.state).cluster 0 l.fn.trace l.trace;
 }

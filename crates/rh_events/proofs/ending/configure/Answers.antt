@@ -8,7 +8,7 @@ use Rattle.rh_events.proofs.Configuring.{with_first, none_written, one_written, 
 use Rattle.rh_events.proofs.ending.configure.Goals as goal
 
 pub apps-init : goal.apps-init
-apps-init c = record { cluster = refl; written = none_written (read c.args.state.now) c.args.node; told = refl; marked = refl; freed = refl; way = goes_none _ _ }
+apps-init c = record { cluster = refl; written = none_written (read c.args.state.now) c.args.node; told = refl; marked = refl; freed = refl; way = goes_none _ _; few = omega arith }
 
 pub apps-preserved : goal.apps-preserved
 apps-preserved c =
@@ -26,6 +26,7 @@ apps-preserved c =
       marked = c.in_ok-configure_app.ensures.marked ∙ c.apps.invariant.marked;
       freed = c.in_ok-configure_app.ensures.freed ∙ c.apps.invariant.freed;
       way = goes_more _ _ _ _ _ _ c.apps.invariant.way c.in_ok-configure_app.ensures.way;
+      few = omega (arith, c.apps.invariant.few, c.in_ok-configure_app.ensures.few);
     }
 
 pub returns-clause-part : goal.returns-clause-part
@@ -34,3 +35,8 @@ returns-clause-part c =
     let count = c.app_count-count.ensures.count ∙ ap (λ (k : ClusterView). app_count k) c.cluster.ensures in
     let last : c.apps.number ≡ app_count s.cluster = omega (arith, count, c.apps-test.false, c.apps.auto.number-end) in
     c.apps.invariant.written ∙ ap (with_first s c.args.node) last ∙ all_written s c.args.node c.formed.ensures.shape c.requires
+
+pub returns-clause-few : goal.returns-clause-few
+returns-clause-few c =
+    let count = c.app_count-count.ensures.count ∙ ap (λ (k : ClusterView). app_count k) c.cluster.ensures in
+    omega (arith, count, c.apps.auto.number-end, c.apps.invariant.few)

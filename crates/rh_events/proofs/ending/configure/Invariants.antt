@@ -1,5 +1,6 @@
 use Rattle.std.proofs.Common.{◌≡◌}
 use Rattle.rh_state.specs.Stored.{read}
+use Rattle.rh_settle.specs.Counts.{FewEdits}
 use Rattle.rh_settle.specs.Ways.{Goes}
 use Rattle.rh_events.proofs.Configuring.{with_first}
 use Rattle.rh_events.proofs.ending.configure.Given as goal
@@ -12,4 +13,5 @@ invariant-apps l = record {
   marked : l.trace.marked ≡ l.fn.trace.marked;
   freed : l.trace.freed ≡ l.fn.trace.freed;
   way : Goes l.fn.state l.fn.trace l.state l.trace;
+  few : FewEdits l.number l.fn.trace l.trace;
 }

@@ -1,4 +1,4 @@
-use Rattle.std.proofs.Common.{◌≡◌}
+use Rattle.std.proofs.Common.{◌≡◌, ◌≤◌, ◌+◌, ◌*◌, length}
 use Rattle.rh_state.specs.Stored.{read}
 use Rattle.rh_settle.specs.Ways.{Goes}
 use Rattle.rh_events.specs.Ending.{emptied}
@@ -13,6 +13,8 @@ invariant-started l = record {
   marked : l.trace.marked ≡ l.fn.trace.marked;
   freed : l.trace.freed ≡ l.fn.trace.freed;
   way : Goes l.fn.state l.fn.trace l.state l.trace;
+  few : length l.trace.edits + 4 * length l.fn.trace.notices + how_many (read l.state) l.node
+      ≤ length l.fn.trace.edits + (4 * length l.trace.notices + how_many (read l.fn.state) l.node);
 }
 
 abbrev pub decreases-started : goal.decreases-started

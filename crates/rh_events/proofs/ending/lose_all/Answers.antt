@@ -1,5 +1,5 @@
-use Rattle.std.proofs.Common.{◌+◌, sym, ap, ◌∙◌, subst}
-use Rattle.rh_model.specs.ClusterView.{app_numbered}
+use Rattle.std.proofs.Common.{◌+◌, sym, ap, ◌∙◌, subst, arith}
+use Rattle.rh_model.specs.ClusterView.{ClusterView, app_count, app_numbered}
 use Rattle.rh_state.specs.StateView.{StateView}
 use Rattle.rh_state.specs.Stored.{read}
 use Rattle.rh_settle.proofs.Ways.{goes_more}
@@ -20,4 +20,10 @@ apps-preserved c =
       marked = c.in_ok-lose_if_ran.ensures.marked ∙ c.apps.invariant.marked;
       freed = c.in_ok-lose_if_ran.ensures.freed ∙ c.apps.invariant.freed;
       way = goes_more _ _ _ _ _ _ c.apps.invariant.way c.in_ok-lose_if_ran.ensures.way;
+      few = omega (arith, c.apps.invariant.few, c.in_ok-lose_if_ran.ensures.few);
     }
+
+pub returns-clause-few : goal.returns-clause-few
+returns-clause-few c =
+    let count = c.app_count-count.ensures.count ∙ ap (λ (k : ClusterView). app_count k) c.cluster.ensures in
+    omega (arith, count, c.apps.auto.number-end, c.apps.invariant.few)

@@ -1,6 +1,7 @@
 use Rattle.std.proofs.Common.{◌≡◌}
 use Rattle.rh_state.specs.Stored.{read}
 use Rattle.rh_settle.specs.Course.{course}
+use Rattle.rh_settle.specs.Counts.{FewEdits}
 use Rattle.rh_settle.specs.Ways.{Goes}
 use Rattle.rh_events.proofs.StoppingAll.{left_below}
 use Rattle.rh_events.proofs.everywhere.leave_everywhere.Given as goal
@@ -10,4 +11,5 @@ invariant-nodes l = record {
   same : course (read l.state) l.trace ≡ left_below (course (read l.fn.state) l.fn.trace) l.app l.number;
   cluster : (read l.state).cluster ≡ (read l.fn.state).cluster;
   way : Goes l.fn.state l.fn.trace l.state l.trace;
+  few : FewEdits l.number l.fn.trace l.trace;
 }

@@ -17,6 +17,7 @@ nodes-preserved c =
       cluster = ap (λ (p : Course). p.state.cluster) made
           ∙ turn_cluster (course (read c.nodes.state) c.nodes.trace) n c.args.app c.args.restart ∙ c.nodes.invariant.cluster;
       way = goes_more _ _ _ _ _ _ c.nodes.invariant.way c.in_ok-start_if_target.ensures.way;
+      few = omega (arith, c.nodes.invariant.few, c.in_ok-start_if_target.ensures.few);
     }
 
 pub returns-in_err-start_if_target-clause-way : goal.returns-in_err-start_if_target-clause-way
@@ -28,3 +29,8 @@ returns-clause-course c =
     c.nodes.invariant.same
     ∙ start_below_all (course (read c.args.state.now) c.args.trace.now) c.args.app c.args.restart c.nodes.number
     (omega (arith, counted, c.nodes-test.false, c.nodes.auto))
+
+pub returns-clause-few : goal.returns-clause-few
+returns-clause-few c =
+    let counted = c.node_count-count.ensures.count ∙ ap (λ (v : ClusterView). node_count v) c.cluster.ensures in
+    omega (arith, counted, c.nodes.auto, c.nodes.invariant.few)

@@ -57,6 +57,7 @@ booted-preserved c =
       cluster = same_cluster s o n i within cluster boot here lt rest p d made;
       rest = others_off s o n i within cluster boot here lt rest p d made;
       way = goes_more _ _ _ _ _ _ c.booted.invariant.way c.in_ok-mark.ensures.way;
+      few = omega (arith, c.booted.invariant.few, c.in_ok-mark.ensures.few);
     }
 
 pub returns-in_err-mark-clause-way : goal.returns-in_err-mark-clause-way
@@ -69,3 +70,9 @@ returns-clause-course c =
     let count = ap (λ (xs : List (App × Restart)). length xs) whole in
     c.booted.invariant.same
     ∙ all_marked (course s c.args.trace.now) c.args.node (boot_of s.cluster c.args.node) c.booted.place (omega (arith, count, c.booted-test.false))
+
+pub returns-clause-few : goal.returns-clause-few
+returns-clause-few c =
+    let whole = c.boot-count.ensures ∙ ap (λ (v : ClusterView). boot_of v c.args.node) c.cluster-2.ensures in
+    let count = ap (λ (xs : List (App × Restart)). length xs) whole in
+    omega (arith, count, c.booted.invariant.few, c.booted.auto)

@@ -1,10 +1,11 @@
-use Rattle.std.proofs.Common.{◌≡◌, ◌≤◌, ◌<◌, ℕ, false, length, get_or, take, fold}
+use Rattle.std.proofs.Common.{◌≡◌, ◌≤◌, ◌<◌, ◌*◌, ℕ, false, length, get_or, take, fold}
 use Rattle.rh_model.specs.declared.node.App.{App}
 use Rattle.rh_model.specs.declared.settings.Restart.{Restart}
 use Rattle.rh_model.specs.ClusterView.{boot_of}
 use Rattle.rh_state.specs.StateView.{is_started}
 use Rattle.rh_state.specs.Stored.{read}
 use Rattle.rh_settle.specs.Course.{course}
+use Rattle.rh_settle.specs.Counts.{FewEdits}
 use Rattle.rh_settle.specs.Ways.{Goes}
 use Rattle.rh_events.specs.Marking.{mark_booted}
 use Rattle.rh_events.proofs.marking.mark_booted.Given as goal
@@ -17,4 +18,5 @@ invariant-booted l = record {
   rest : (k : ℕ) (d : App × Restart) → l.place ≤ k → k < length (boot_of (read l.fn.state).cluster l.node)
       → is_started (read l.state) l.node (get_or (boot_of (read l.fn.state).cluster l.node) k d).0 ≡ false;
   way : Goes l.fn.state l.fn.trace l.state l.trace;
+  few : FewEdits (4 * l.place) l.fn.trace l.trace;
 }
