@@ -11,6 +11,7 @@ pub mod StayUp
 pub mod FirstStates
 pub mod Validity
 pub mod Outcomes
+pub mod Counts
 pub mod NextAfter
 pub mod Performing
 pub mod Firing

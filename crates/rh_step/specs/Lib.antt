@@ -2,3 +2,4 @@ pub mod Ticks
 pub mod Outcomes
 pub mod Allowed
 pub mod Laws
+pub mod Counts

@@ -1,6 +1,6 @@
 //! One step of a cluster.
 
-ghost use Rattle.std.specs.Prelude.{List, ◌≡◌, ◌≤◌, ◌++◌, length, take, drop, All, OnOk, OnErr, None};
+ghost use Rattle.std.specs.Prelude.{List, ◌≡◌, ◌≤◌, ◌+◌, ◌++◌, length, take, drop, All, OnOk, OnErr, None};
 ghost use Rattle.rh_base.specs.Exchanges.{back, AllBack};
 ghost use Rattle.rh_state.specs.Edits.{exchange};
 ghost use Rattle.rh_state.specs.Records.{CanGoBack, Grows};
@@ -9,12 +9,15 @@ ghost use Rattle.rh_settle.specs.declared.notice.Notice.{Notice};
 ghost use Rattle.rh_settle.specs.Course.{IsPairOf, course};
 ghost use Rattle.rh_settle.specs.Settling.{settled};
 ghost use Rattle.rh_settle.specs.Validity.{IsSound, IsValid};
+ghost use Rattle.rh_settle.specs.Counts.{FewWeighed};
 ghost use Rattle.rh_settle.specs.Ways.{Goes};
 ghost use Rattle.rh_events.specs.declared.event.Event.TheVariants.{Tick};
 ghost use Rattle.rh_events.specs.ComingUp.{ready_come_up};
+ghost use Rattle.rh_events.specs.Counts.{own_edits};
 ghost use Rattle.rh_events.specs.Refusals.{refused};
 ghost use Rattle.rh_step.specs.Outcomes.{outcome, followed, next_from, next};
 ghost use Rattle.rh_step.specs.Allowed.{Allowed};
+ghost use Rattle.rh_step.specs.Counts.{step_edits, most_edits};
 
 use crate::ticks::pass_time;
 use rh_base::OutOfMemory;
@@ -63,6 +66,10 @@ pub fn perform(
     // The edits that were added lead back to the state before, word for word, over states that are well formed.
     ensures edits { OnOk result (Grows state.old edits.old.items state.new edits.new.items) }
 
+    // They are few: what a step keeps is bounded by what it tells.
+    ensures few { OnOk result (length edits.new.items ≤ length edits.old.items
+        + most_edits (read state.old) event.now (next (read state.old) event.now pick)) }
+
     // Want of memory changes nothing.
     ensures kept_state { OnErr result (state.new ≡ state.old) }
     ensures kept_edits { OnErr result (edits.new.items ≡ edits.old.items) }
@@ -100,6 +107,7 @@ fn make(state: &mut State, event: &Event, pick: Pick, trace: &mut Trace) -> Resu
     requires marked { All (IsPairOf (read state.old).cluster) trace.old.marked }
     ensures course { OnOk result (course (read state.new) trace.new ≡ next_from (course (read state.old) trace.old) event.now pick) }
     ensures way { Goes state.old trace.old state.new trace.new }
+    ensures few { OnOk result (FewWeighed (read state.old).cluster (step_edits (read state.old) event.now (read state.new)) trace.old trace.new) }
 {
     match *event {
         Event::Tick { ms } => pass_time(state, ms, pick, trace),
@@ -120,6 +128,7 @@ fn happen(
     requires marked { All (IsPairOf (read state.old).cluster) trace.old.marked }
     ensures course { OnOk result (course (read state.new) trace.new ≡ followed pick (course (read state.old) trace.old) event.now) }
     ensures way { Goes state.old trace.old state.new trace.new }
+    ensures few { OnOk result (FewWeighed (read state.old).cluster (own_edits (read state.old).cluster event.now) trace.old trace.new) }
 {
     change(state, event, trace)?;
     follow(state, pick, trace)
@@ -131,6 +140,7 @@ pub fn follow(state: &mut State, pick: Pick, trace: &mut Trace) -> Result<(), Ou
     requires marked { All (IsPairOf (read state.old).cluster) trace.old.marked }
     ensures course { OnOk result (course (read state.new) trace.new ≡ settled pick (ready_come_up (course (read state.old) trace.old))) }
     ensures way { Goes state.old trace.old state.new trace.new }
+    ensures few { OnOk result (FewWeighed (read state.old).cluster 0 trace.old trace.new) }
 {
     let_ready_come_up(state, trace)?;
     settle(state, pick, trace)

@@ -1,6 +1,6 @@
 //! Time that passes.
 
-ghost use Rattle.std.specs.Prelude.{◌≡◌, ◌≤◌, ◌<◌, ◌+◌, [], Some, IfSome, IsNone, OnOk};
+ghost use Rattle.std.specs.Prelude.{◌≡◌, ◌≤◌, ◌<◌, ◌+◌, ◌-◌, ◌*◌, [], length, Some, IfSome, IsNone, OnOk};
 ghost use Rattle.rh_model.specs.ClusterView.{app_count};
 ghost use Rattle.rh_model.specs.declared.node.Node.{Node};
 ghost use Rattle.rh_model.specs.declared.node.App.{App};
@@ -12,6 +12,7 @@ ghost use Rattle.rh_state.specs.declared.status.Standing.TheVariants.{Running};
 ghost use Rattle.rh_state.specs.declared.status.Timer.TheVariants.{Sync, Failover};
 ghost use Rattle.rh_settle.specs.Course.{course};
 ghost use Rattle.rh_settle.specs.Validity.{IsSound};
+ghost use Rattle.rh_settle.specs.Counts.{FewEdits, FewWeighed};
 ghost use Rattle.rh_settle.specs.Ways.{Goes};
 ghost use Rattle.rh_step.specs.Ticks.{due_by, wanted_if_lost, effect, taken_off, fired, all_fired, ticked};
 
@@ -35,6 +36,7 @@ pub fn pass_time(
     requires sound { IsSound (read state.old) }
     ensures course { OnOk result (course (read state.new) trace.new ≡ ticked pick (course (read state.old) trace.old) ms) }
     ensures way { Goes state.old trace.old state.new trace.new }
+    ensures few { OnOk result (FewWeighed (read state.old).cluster (1 + 3 * (length (read state.old).timers - length (read state.new).timers)) trace.old trace.new) }
 {
     let end = state.now() + ms;
     fire_due(state, end, pick, trace)?;
@@ -48,6 +50,7 @@ fn fire_due(state: &mut State, limit: u64, pick: Pick, trace: &mut Trace) -> Res
     requires sound { IsSound (read state.old) }
     ensures course { OnOk result (course (read state.new) trace.new ≡ all_fired pick limit (course (read state.old) trace.old)) }
     ensures way { Goes state.old trace.old state.new trace.new }
+    ensures few { OnOk result (FewWeighed (read state.old).cluster (3 * (length (read state.old).timers - length (read state.new).timers)) trace.old trace.new) }
 {
     'timers: while let Some((due, timer)) = due_by(state, limit) {
         fire(state, due, timer, pick, trace)?;
@@ -74,6 +77,7 @@ fn take_off(state: &mut State, due: u64, timer: Timer, trace: &mut Trace) -> Res
     requires timer { IsTimerOf (read state.old).cluster timer }
     ensures course { OnOk result (course (read state.new) trace.new ≡ taken_off (course (read state.old) trace.old) (due, timer)) }
     ensures way { Goes state.old trace.old state.new trace.new }
+    ensures few { FewEdits 2 trace.old trace.new }
 {
     cancel_if_set(state, timer, trace)?;
     recording::set_now(state, due, trace)?;
@@ -96,6 +100,7 @@ fn fire(
     requires sound { IsSound (read state.old) }
     ensures course { OnOk result (course (read state.new) trace.new ≡ fired pick (course (read state.old) trace.old) (due, timer)) }
     ensures way { Goes state.old trace.old state.new trace.new }
+    ensures few { OnOk result (FewWeighed (read state.old).cluster 3 trace.old trace.new) }
 {
     take_off(state, due, timer, trace)?;
     take_effect(state, timer, trace)?;
@@ -110,6 +115,7 @@ fn take_effect(state: &mut State, timer: Timer, trace: &mut Trace) -> Result<(),
     requires unset { (n : Node) (a : App) → timer ≡ Sync n → standing_of (read state.old) a ≡ Running n → IsNone (due_of (read state.old) (Failover a)) }
     ensures course { OnOk result (course (read state.new) trace.new ≡ effect (course (read state.old) trace.old) timer) }
     ensures way { Goes state.old trace.old state.new trace.new }
+    ensures few { OnOk result (FewWeighed (read state.old).cluster 1 trace.old trace.new) }
 {
     match timer {
         Timer::Sync(node) => end_wait(state, node, trace),
@@ -125,6 +131,7 @@ fn end_wait(state: &mut State, node: Node, trace: &mut Trace) -> Result<(), OutO
     requires unset { (a : App) → standing_of (read state.old) a ≡ Running node → IsNone (due_of (read state.old) (Failover a)) }
     ensures course { OnOk result (course (read state.new) trace.new ≡ effect (course (read state.old) trace.old) (Sync node)) }
     ensures way { Goes state.old trace.old state.new trace.new }
+    ensures few { OnOk result (FewWeighed (read state.old).cluster 0 trace.old trace.new) }
 {
     if all_alive(state, state.cluster().mandatory(node)) {
         come_up(state, node, trace)
@@ -142,6 +149,7 @@ fn want_if_lost(state: &mut State, app: App, trace: &mut Trace) -> Result<(), Ou
     ensures marked { trace.new.marked ≡ trace.old.marked }
     ensures freed { trace.new.freed ≡ trace.old.freed }
     ensures way { Goes state.old trace.old state.new trace.new }
+    ensures few { FewEdits 1 trace.old trace.new }
 {
     match state.standing(app) {
         Standing::Lost(node) => {

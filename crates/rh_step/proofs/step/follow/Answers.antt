@@ -6,6 +6,7 @@ use Rattle.rh_settle.specs.Course.{Course, IsPairOf, course}
 use Rattle.rh_settle.specs.Validity.{RunsWhereItStands}
 use Rattle.rh_events.proofs.SoundComingUp.{sound_ready_come_up, ready_come_up_cluster}
 use Rattle.rh_events.proofs.Marked.{marked_ready_come_up}
+use Rattle.rh_settle.proofs.Counts.{weighed, weighed_more, on_ok_any}
 use Rattle.rh_settle.proofs.Ways.{goes_more}
 use Rattle.rh_step.proofs.step.follow.Goals as goal
 
@@ -25,3 +26,11 @@ settle-requires-clause-runs c =
 
 pub returns-clause-way : goal.returns-clause-way
 returns-clause-way c = goes_more _ _ _ _ _ _ c.let_ready_come_up.ensures.way c.settle.ensures.way
+
+pub returns-clause-few : goal.returns-clause-few
+returns-clause-few c =
+    let s = read c.args.state.now in
+    on_ok_any c.settle.result
+    (weighed_more s.cluster 0 0 c.args.trace.now c.let_ready_come_up.new.trace c.settle.new.trace
+    c.in_ok-let_ready_come_up.ensures.few
+    (weighed s.cluster 0 c.let_ready_come_up.new.trace c.settle.new.trace c.settle.ensures.way.notices c.settle.ensures.edits))

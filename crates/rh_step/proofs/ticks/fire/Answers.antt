@@ -1,4 +1,4 @@
-use Rattle.std.proofs.Common.{◌≡◌, [], All, sym, ap, ◌∙◌, subst}
+use Rattle.std.proofs.Common.{◌≡◌, [], All, sym, ap, ◌∙◌, subst, arith}
 use Rattle.rh_model.specs.ClusterView.{ClusterView}
 use Rattle.rh_model.specs.declared.node.Node.{Node}
 use Rattle.rh_model.specs.declared.node.App.{App}
@@ -14,7 +14,10 @@ use Rattle.rh_step.specs.Ticks.{effect, taken_off}
 use Rattle.rh_step.proofs.Firing.{none_runs, none_waits, none_timed, effect_cluster, effect_marked}
 use Rattle.rh_events.proofs.Marked.{none_marked}
 use Rattle.rh_step.proofs.TakenOff.{sound_effect}
-use Rattle.rh_settle.proofs.Ways.{goes_more}
+use Rattle.std.proofs.lemmas.Result.{on_ok_weaker}
+use Rattle.rh_settle.specs.Counts.{FewWeighed}
+use Rattle.rh_settle.proofs.Counts.{weighed}
+use Rattle.rh_settle.proofs.Ways.{goes_more, goes_cluster}
 use Rattle.rh_step.proofs.ticks.fire.Goals as goal
 
 pub take_effect-requires-clause-timer : goal.take_effect-requires-clause-timer
@@ -54,3 +57,15 @@ follow-requires-clause-marked c =
 pub returns-clause-way : goal.returns-clause-way
 returns-clause-way c =
     goes_more _ _ _ _ _ _ c.take_off.ensures.way (goes_more _ _ _ _ _ _ c.take_effect.ensures.way c.follow.ensures.way)
+
+pub returns-clause-few : goal.returns-clause-few
+returns-clause-few c =
+    let s = read c.args.state.now in
+    let once = goes_cluster _ _ _ _ c.take_off.ensures.way in
+    let twice = goes_cluster _ _ _ _ c.take_effect.ensures.way ∙ once in
+    let off = weighed s.cluster 2 c.args.trace.now c.take_off.new.trace c.take_off.ensures.way.notices c.take_off.ensures.few in
+    let effective = subst (λ (v : ClusterView). FewWeighed v 1 c.take_off.new.trace c.take_effect.new.trace) once c.in_ok-take_effect.ensures.few in
+    on_ok_weaker c.follow.result
+    (λ few. let followed = subst (λ (v : ClusterView). FewWeighed v 0 c.take_effect.new.trace c.follow.new.trace) twice few in
+    omega (arith, off, effective, followed))
+    c.follow.ensures.few

@@ -1,11 +1,14 @@
-use Rattle.std.proofs.Common.{◌≡◌, ◌<◌, length, None, ap, sym, subst, ◌∙◌}
+use Rattle.std.proofs.Common.{◌≡◌, ◌<◌, length, None, ap, sym, subst, ◌∙◌, arith}
 use Rattle.rh_state.specs.StateView.{earliest}
 use Rattle.rh_state.specs.Stored.{read}
 use Rattle.rh_settle.specs.Course.{Course, course}
 use Rattle.rh_settle.specs.Validity.{IsSound}
 use Rattle.rh_step.specs.Ticks.{due_by, all_fired}
 use Rattle.rh_step.proofs.Fuel.{timer_count, fired_fewer, sound_fired, unrolled, all_fired_end, due_is_first}
-use Rattle.rh_settle.proofs.Ways.{goes_more}
+use Rattle.rh_model.specs.ClusterView.{ClusterView}
+use Rattle.rh_settle.specs.Counts.{FewWeighed}
+use Rattle.rh_settle.proofs.Ways.{goes_more, goes_cluster}
+use Rattle.rh_step.proofs.Counts.{by_timers}
 use Rattle.rh_step.proofs.ticks.fire_due.Goals as goal
 
 pub fire-requires-clause-first : goal.fire-requires-clause-first
@@ -22,10 +25,16 @@ timers-preserved c =
     let o = course (read c.timers.state) c.timers.trace in
     let due = sym c.in-Some.ensures.next in
     let made = c.in_ok-fire.ensures.course in
+    let less = subst (λ (p : Course). length p.state.timers < timer_count o) (sym made)
+    (fired_fewer c.args.pick c.args.limit o (c.in-Some.due, c.in-Some.timer) c.timers.invariant.sound due) in
+    let few = subst (λ (v : ClusterView). FewWeighed v 3 c.timers.trace c.fire.new.trace) (goes_cluster _ _ _ _ c.timers.invariant.way)
+    c.in_ok-fire.ensures.few in
     record {
       same = ap (all_fired c.args.pick c.args.limit) made
           ∙ sym (unrolled c.args.pick c.args.limit o (c.in-Some.due, c.in-Some.timer) c.requires.limit c.timers.invariant.sound due) ∙ c.timers.invariant.same;
       way = goes_more _ _ _ _ _ _ c.timers.invariant.way c.fire.ensures.way;
+      fewer = omega (arith, less, c.timers.invariant.fewer);
+      few = omega (arith, less, few, c.timers.invariant.few);
       sound = subst (λ (p : Course). IsSound p.state) (sym made)
           (sound_fired c.args.pick c.args.limit o (c.in-Some.due, c.in-Some.timer) c.requires.limit c.timers.invariant.sound due);
     }
@@ -38,3 +47,8 @@ returns-clause-course c =
 
 pub returns-in_err-fire-clause-way : goal.returns-in_err-fire-clause-way
 returns-in_err-fire-clause-way c = goes_more _ _ _ _ _ _ c.timers.invariant.way c.fire.ensures.way
+
+pub returns-clause-few : goal.returns-clause-few
+returns-clause-few c =
+    by_timers (read c.args.state.now).cluster c.args.trace.now c.timers.trace
+    (length (read c.args.state.now).timers) (length (read c.timers.state).timers) c.timers.invariant.fewer c.timers.invariant.few
