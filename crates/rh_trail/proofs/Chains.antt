@@ -6,7 +6,7 @@ use Rattle.std.proofs.lemmas.List.{drop_more, drop_all, take_all, take-take}
 use Rattle.std.proofs.lemmas.Bool.{cases_lt, le-leb}
 use Rattle.std.proofs.lemmas.Bool.Decides.{leb_tells}
 use Rattle.rh_base.specs.Exchanges.{back, forth, backed, forthed, AllBack, AllForth}
-use Rattle.rh_base.proofs.Exchanges.{back-append, forth-back, back-forth, AllBack-append, AllBack-early, AllBack-late, back_turns, forth_turns, get_or-any}
+use Rattle.rh_base.proofs.Exchanges.{back-append, forth-back, back-forth, AllBack-append, AllBack-early, AllBack-late, back_turns, forth_turns, get_or-any, length-backed, length-forthed}
 use Rattle.rh_model.specs.ClusterView.{ClusterView, IsWithin}
 use Rattle.rh_events.specs.declared.event.Event.{Event}
 use Rattle.rh_place.specs.declared.choosing.Pick.{Pick}
@@ -23,6 +23,7 @@ use Rattle.rh_trail.specs.Chain.{backs, forths, chain_at, IsChain}
 use Rattle.rh_trail.specs.Lone.{trail_limit}
 use Rattle.rh_trail.specs.Runs.{step, after}
 use Rattle.rh_trail.specs.SimView.{Held}
+use Rattle.rh_trail.proofs.Small.{limit, none_small, small_turned, small_cut, small_added}
 use Rattle.rh_trail.proofs.Histories.{opened_valid, each_state, state_earlier, state_last}
 
 abbrev pub held : ClusterView → Pick → List Event → Stored → List (List Edit) → ℕ → Held
@@ -86,6 +87,7 @@ empty_chain cl pick w fits words is = record {
   first = chain_here w [] 0 (omega arith) ∙ words;
   each = each;
   valid = λ k bound. opened_valid cl pick fits k;
+  small = none_small cl pick;
 }
   where
     each : (k : ℕ) → k ≤ 0 → read (chain_at w [] 0 k) ≡ after cl pick (take k [])
@@ -173,6 +175,7 @@ module _ (w : Stored) (rs : List (List Edit)) (c : ℕ) (r : List Edit) (inside 
         first = undo_chain 0 ∙ h.first;
         each = λ k bound. ap read (undo_chain k) ∙ h.each k bound;
         valid = h.valid;
+        small = small_turned cl pick trail rs c r (backed exchange turned w r) inside is (length-backed exchange turned w r) h.small;
       }
 
   pub redone : (cl : ClusterView) (pick : Pick) (trail : List Event) → Chained cl pick trail w rs c
@@ -194,6 +197,7 @@ module _ (w : Stored) (rs : List (List Edit)) (c : ℕ) (r : List Edit) (inside 
         first = redo_chain 0 ∙ h.first;
         each = λ k bound. ap read (redo_chain k) ∙ h.each k bound;
         valid = h.valid;
+        small = small_turned cl pick trail rs c r (forthed exchange turned w r) inside is (length-forthed exchange turned w r) h.small;
       }
 
 -- a step: r is the record of a new event
@@ -214,8 +218,9 @@ module _ (v w : Stored) (rs : List (List Edit)) (c : ℕ) (r : List Edit) (le : 
       ∙ sym (chain_below v rs c k below)
 
   pub stepped : (cl : ClusterView) (pick : Pick) (trail : List Event) (e : Event) → Chained cl pick trail v rs c → c < trail_limit
-      → read w ≡ step pick (after cl pick (take c trail)) e → IsValid (read w) → Chained cl pick (take c trail ++ e ∷ []) w (take c rs ++ r ∷ []) (c + 1)
-  stepped cl pick trail e h room reads valid = record {
+      → read w ≡ step pick (after cl pick (take c trail)) e → IsValid (read w) → length r ≤ limit cl pick (take c trail) e
+      → Chained cl pick (take c trail ++ e ∷ []) w (take c rs ++ r ∷ []) (c + 1)
+  stepped cl pick trail e h room reads valid few = record {
     count = omega (arith, length_push (take c rs) r, kept, length_push (take c trail) e, trail_kept);
     within = omega (arith, length_push (take c trail) e, trail_kept);
     limited = omega (arith, length_push (take c trail) e, trail_kept, room);
@@ -230,6 +235,7 @@ module _ (v w : Stored) (rs : List (List Edit)) (c : ℕ) (r : List Edit) (le : 
       | inr below ↦ earlier k below
     ];
     valid = each_state cl pick trail c e h.within IsValid h.valid (subst IsValid reads valid);
+    small = small_added cl pick (take c trail) (take c rs) c e r trail_kept kept few (small_cut cl pick trail rs c h.within h.small);
   }
     where
       trail_kept : length (take c trail) ≡ c
@@ -263,6 +269,7 @@ module _ (w : Stored) (rs : List (List Edit)) (c : ℕ) where
     each = λ k bound. ap read (cut_chain k (omega (arith, bound, trail_kept))) ∙ h.each k (omega (arith, bound, trail_kept, h.within))
         ∙ ap (after cl pick) (shorter k bound);
     valid = λ k bound. subst (λ (es : List Event). IsValid (after cl pick es)) (shorter k bound) (h.valid k (omega (arith, bound, trail_kept, h.within)));
+    small = small_cut cl pick trail rs c h.within h.small;
   }
     where
       trail_kept : length (take c trail) ≡ c

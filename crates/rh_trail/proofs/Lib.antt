@@ -1,5 +1,6 @@
 pub mod Histories
 pub mod Cuts
+pub mod Small
 pub mod Chains
 pub mod Moves
 pub mod Rewinding

@@ -8,6 +8,7 @@ use Rattle.rh_events.specs.declared.refusal.Refusal.TheVariants.{TrailFull}
 use Rattle.rh_events.specs.Refusals.{refused}
 use Rattle.rh_place.specs.declared.choosing.Pick.{Pick}
 use Rattle.rh_settle.specs.declared.notice.Notice.{Notice}
+use Rattle.rh_step.specs.Counts.{most_edits}
 use Rattle.rh_step.specs.Outcomes.{next}
 use Rattle.rh_trail.specs.declared.call.Call.TheVariants as call
 use Rattle.rh_trail.specs.declared.call.Reply.TheVariants as reply
@@ -23,6 +24,7 @@ use Rattle.rh_trail.specs.Chain.{chain_at}
 use Rattle.rh_trail.specs.Runs.{step, after}
 use Rattle.rh_trail.specs.SimView.{SimView, state_of}
 use Rattle.rh_trail.specs.Lone.{Served, served, stepped, answered, with_event, undo_reply, redo_reply, trail_limit}
+use Rattle.rh_trail.proofs.Small.{limit}
 use Rattle.rh_trail.proofs.Chains.{Chained, back_cluster, chain_reads, stepped as chain_stepped, push_chain}
 
 pub undo_served : (s : SimView) (cl : ClusterView) → s.cursor ≢ 0 → cl ≡ s.cluster
@@ -56,6 +58,7 @@ led_by v w es fs none g = subst (λ (r : List Edit). LedBy v r w) (sym (g.is ∙
 module _ (pick : Pick) (trail more : List Event) (v w : Stored) (rs rows : List (List Edit)) (n : ℕ) (e : Event) (r : List Edit)
     (h : Chained v.cluster pick trail v rs n)
     (room : n < trail_limit) (led : LedBy v r w) (reads : read w ≡ (next (read v) e pick).state) (valid : IsValid (read w))
+    (few : length r ≤ most_edits (read v) e (next (read v) e pick))
     (trail_is : more ≡ take n trail ++ e ∷ []) (rs_is : rows ≡ take n rs ++ r ∷ []) where
   pub made_cluster : w.cluster ≡ v.cluster
   made_cluster = sym (back_cluster w r) ∙ ap (λ (x : Stored). x.cluster) led.back
@@ -64,12 +67,16 @@ module _ (pick : Pick) (trail more : List Event) (v w : Stored) (rs rows : List 
   unfolding step
   made_reads = reads ∙ ap (λ (s : StateView). (next s e pick).state) (chain_reads v.cluster pick trail v rs n h)
 
+  made_small : length r ≤ limit v.cluster pick (take n trail) e
+  made_small =
+      subst (λ (s : StateView). length r ≤ most_edits s e (next s e pick)) (chain_reads v.cluster pick trail v rs n h) few
+
   pub made_keeps : Chained w.cluster pick more w rows (n + 1)
   made_keeps =
       subst (λ (cl : ClusterView). Chained cl pick more w rows (n + 1)) (sym made_cluster)
       (subst (λ (es : List Event). Chained v.cluster pick es w rows (n + 1)) (sym trail_is)
       (subst (λ (xs : List (List Edit)). Chained v.cluster pick (take n trail ++ e ∷ []) w xs (n + 1)) (sym rs_is)
-      (chain_stepped v w rs n r (omega (arith, h.count, h.within)) led v.cluster pick trail e h room made_reads valid)))
+      (chain_stepped v w rs n r (omega (arith, h.count, h.within)) led v.cluster pick trail e h room made_reads valid made_small)))
 
   pub made_chains : (k : ℕ) → k ≤ n → chain_at w rows (n + 1) k ≡ chain_at v rs n k
   made_chains k below = ap (λ (xs : List (List Edit)). chain_at w xs (n + 1) k) rs_is ∙ push_chain v w rs n r (omega (arith, h.count, h.within)) led k below

@@ -1,5 +1,5 @@
 -- The words that undo and redo lead to, without a replay (ours).
-use Rattle.std.specs.Prelude.{◌≡◌, ◌≤◌, ◌-◌, ℕ, List, length, take, drop, nat_le, if◌then◌else◌}
+use Rattle.std.specs.Prelude.{◌≡◌, ◌≤◌, ◌-◌, ℕ, List, length, take, drop, slice_get, Some, nat_le, if◌then◌else◌}
 use Rattle.rh_base.specs.Exchanges.{back, forth, AllBack, AllForth}
 use Rattle.rh_state.specs.declared.edit.Edit.{Edit}
 use Rattle.rh_state.specs.Edits.{exchange}
@@ -7,8 +7,11 @@ use Rattle.rh_state.specs.First.{first_words}
 use Rattle.rh_state.specs.Records.{CanGoBack, CanGoForth}
 use Rattle.rh_state.specs.Stored.{Stored, read}
 use Rattle.rh_settle.specs.Validity.{IsValid}
+use Rattle.rh_events.specs.declared.event.Event.{Event}
+use Rattle.rh_step.specs.Counts.{most_edits}
+use Rattle.rh_step.specs.Outcomes.{next}
 use Rattle.rh_trail.specs.Runs.{after}
-use Rattle.rh_trail.specs.SimView.{SimView, Held}
+use Rattle.rh_trail.specs.SimView.{SimView, Held, record_at}
 use Rattle.rh_trail.specs.declared.call.Call.{Call}
 use Rattle.rh_trail.specs.declared.call.Call.TheVariants as call
 use Rattle.rh_trail.specs.declared.sim.TheConstants.Sim.{TRAIL_LIMIT}
@@ -38,6 +41,11 @@ kept_to s call.UndoAll = length s.trail
 kept_to s call.RedoAll = length s.trail
 kept_to s call.Look = length s.trail
 
+-- so many edits are no more than the event that comes behind k others may keep
+abbrev pub IsSmall : SimView → ℕ → ℕ → Type 0
+IsSmall s k count = (e : Event) → slice_get s.trail k ≡ Some e
+    → count ≤ most_edits (after s.cluster s.pick (take k s.trail)) e (next (after s.cluster s.pick (take k s.trail)) e s.pick)
+
 -- undo and redo lead to the state behind each number of events of the trail, over words that are well formed before and
 -- after each single exchange; and back to the words of the first state
 pub record IsChain (s : Held) : Type 0 where
@@ -50,3 +58,5 @@ pub record IsChain (s : Held) : Type 0 where
   pub each : (k : ℕ) → k ≤ length s.seen.trail → read (chain s k) ≡ after s.seen.cluster s.seen.pick (take k s.seen.trail)
   -- and each of these states is one that a cluster reaches
   pub valid : (k : ℕ) → k ≤ length s.seen.trail → IsValid (after s.seen.cluster s.seen.pick (take k s.seen.trail))
+  -- and what each event changed is no more than it may keep
+  pub small : (k : ℕ) → IsSmall s.seen k (length (record_at s k))

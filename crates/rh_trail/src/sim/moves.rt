@@ -7,9 +7,10 @@ ghost use Rattle.rh_state.specs.Edits.{exchange, turned};
 ghost use Rattle.rh_state.specs.Records.{CanGoBack, LedBy};
 ghost use Rattle.rh_state.specs.Stored.{read};
 ghost use Rattle.rh_events.specs.Refusals.{refused};
+ghost use Rattle.rh_step.specs.Counts.{most_edits};
 ghost use Rattle.rh_step.specs.Outcomes.{next};
 ghost use Rattle.rh_settle.specs.Validity.{IsValid};
-ghost use Rattle.rh_trail.specs.Chain.{chain, kept_to};
+ghost use Rattle.rh_trail.specs.Chain.{IsSmall, chain, kept_to};
 ghost use Rattle.rh_trail.specs.Laws.{is_refusal};
 ghost use Rattle.rh_trail.specs.SimView.{state_of, record_at};
 ghost use Rattle.rh_trail.specs.Lone.{served, answered, undo_reply, redo_reply, trail_limit, cut, TakesMemory};
@@ -164,6 +165,7 @@ impl Sim {
         ensures words { OnOk result (self.new.words ≡ chain self.old (self.old.seen.cursor - 1)) }
         ensures records { OnOk result (self.new.records ≡ slice_set self.old.records (self.old.seen.cursor - 1) (backed exchange turned self.old.words (record_at self.old (self.old.seen.cursor - 1)))) }
         ensures edits { IfOk result (λ count. count ≡ length (record_at self.old (self.old.seen.cursor - 1))) }
+        ensures few { IfOk result (IsSmall self.old.seen (self.old.seen.cursor - 1)) }
     {
         if self.cursor == 0 {
             return Err(AtStart);
@@ -181,6 +183,7 @@ impl Sim {
         ensures words { OnOk result (self.new.words ≡ chain self.old (self.old.seen.cursor + 1)) }
         ensures records { OnOk result (self.new.records ≡ slice_set self.old.records self.old.seen.cursor (forthed exchange turned self.old.words (record_at self.old self.old.seen.cursor))) }
         ensures edits { IfOk result (λ count. count ≡ length (record_at self.old self.old.seen.cursor)) }
+        ensures few { IfOk result (IsSmall self.old.seen self.old.seen.cursor) }
     {
         if self.cursor == self.trail.len() {
             return Err(AtEnd);
@@ -307,6 +310,7 @@ fn perform_copies(
     ensures copies { IfOk result (λ copies. copies.items ≡ replicate count (next (read state.old) event.now pick).notices) }
     ensures valid { OnOk result (IsValid (read state.new)) }
     ensures led { OnOk result (LedBy state.old edits.new.items state.new) }
+    ensures few { OnOk result (length edits.new.items ≤ most_edits (read state.old) event.now (next (read state.old) event.now pick)) }
     ensures kept { OnErr result (state.new ≡ state.old) }
     ensures empty { OnErr result (edits.new.items ≡ []) }
 {

@@ -1,10 +1,12 @@
-use Rattle.std.proofs.Common.{◌≡◌, ◌<◌, ◌≤◌, ◌++◌, List, None, sym, ap, subst, ◌∙◌}
+use Rattle.std.proofs.Common.{length, arith, ◌≡◌, ◌<◌, ◌≤◌, ◌++◌, List, None, sym, ap, subst, ◌∙◌}
 use Rattle.rh_events.specs.Refusals.{refused}
 use Rattle.rh_settle.specs.declared.notice.Notice.{Notice}
 use Rattle.rh_settle.specs.Validity.{IsValid}
+use Rattle.rh_state.specs.declared.edit.Edit.{Edit}
 use Rattle.rh_state.specs.Records.{LedBy}
 use Rattle.rh_state.specs.StateView.{StateView}
 use Rattle.rh_state.specs.Stored.{Stored, read}
+use Rattle.rh_step.specs.Counts.{most_edits}
 use Rattle.rh_step.specs.Outcomes.{next}
 use Rattle.rh_trail.specs.declared.call.Call.TheVariants as call
 use Rattle.rh_trail.specs.Chain.{chain}
@@ -41,12 +43,17 @@ reads c = ap read c.in_ok-keep.ensures.state ∙ c.in_ok-perform.ensures.state
 valid : (c : goal.After-self-1) → IsValid (read c.keep.new.state)
 valid c = subst (λ (w : Stored). IsValid (read w)) (sym c.in_ok-keep.ensures.state) c.in_ok-perform.ensures.valid
 
+few : (c : goal.After-self-1)
+    → length c.perform.new.edits.items ≤ most_edits (read c.self.inside.state) c.args.event (next (read c.self.inside.state) c.args.event c.self.inside.pick)
+few c =
+    let none = ap (λ (es : List Edit). length es) c.self.invariant.spare in omega (arith, none, c.in_ok-perform.ensures.few)
+
 pub invariant_of-self-2 : goal.invariant_of-self-2
 invariant_of-self-2 c =
     let s = c.self.inside in
     record {
       chain = made_keeps s.pick s.trail.items c.keep.new.trail.items s.state c.keep.new.state s.records c.keep.new.records s.cursor c.args.event
-          c.perform.new.edits.items c.self.invariant.chain (room c) (led c) (reads c) (valid c) c.in_ok-keep.ensures.trail c.in_ok-keep.ensures.records;
+          c.perform.new.edits.items c.self.invariant.chain (room c) (led c) (reads c) (valid c) (few c) c.in_ok-keep.ensures.trail c.in_ok-keep.ensures.records;
       spare = c.keep.ensures.edits;
     }
 
@@ -59,7 +66,7 @@ returns-clause-done c =
     ∙ c.requires.fine in
     (λ i. served (sym c.self.view_is i).seen (call.Step c.args.event))
     ∙ made_serves s.pick s.trail.items c.keep.new.trail.items s.state c.keep.new.state s.records c.keep.new.records s.cursor c.args.event
-    c.perform.new.edits.items c.self.invariant.chain (room c) (led c) (reads c) (valid c) c.in_ok-keep.ensures.trail c.in_ok-keep.ensures.records
+    c.perform.new.edits.items c.self.invariant.chain (room c) (led c) (reads c) (valid c) (few c) c.in_ok-keep.ensures.trail c.in_ok-keep.ensures.records
     c.perform.new.notices.items fine
     (c.in_ok-perform.ensures.notices ∙ ap (λ (ns : List Notice). ns ++ (next (read s.state) c.args.event s.pick).notices) c.new-notices.ensures.items)
 
@@ -67,6 +74,6 @@ pub returns-clause-chain : goal.returns-clause-chain
 returns-clause-chain c = λ k bound.
     let s = c.self.inside in
     made_chains s.pick s.trail.items c.keep.new.trail.items s.state c.keep.new.state s.records c.keep.new.records s.cursor c.args.event
-    c.perform.new.edits.items c.self.invariant.chain (room c) (led c) (reads c) (valid c) c.in_ok-keep.ensures.trail c.in_ok-keep.ensures.records
+    c.perform.new.edits.items c.self.invariant.chain (room c) (led c) (reads c) (valid c) (few c) c.in_ok-keep.ensures.trail c.in_ok-keep.ensures.records
     k (subst (λ (v : Held). k ≤ v.seen.cursor) (sym c.self.view_is) bound)
     ∙ (λ i. chain (c.self.view_is i) k)

@@ -1,10 +1,11 @@
-use Rattle.std.proofs.Common.{◌≡◌, ◌<◌, ◌≤◌, List, None, refl, sym, ap, subst, ◌∙◌}
+use Rattle.std.proofs.Common.{length, arith, ◌≡◌, ◌<◌, ◌≤◌, List, None, refl, sym, ap, subst, ◌∙◌}
 use Rattle.rh_events.specs.Refusals.{refused}
 use Rattle.rh_settle.specs.declared.notice.Notice.{Notice}
 use Rattle.rh_settle.specs.Validity.{IsValid}
 use Rattle.rh_state.specs.Records.{LedBy}
 use Rattle.rh_state.specs.StateView.{StateView}
 use Rattle.rh_state.specs.Stored.{Stored, read}
+use Rattle.rh_step.specs.Counts.{most_edits}
 use Rattle.rh_step.specs.Outcomes.{next}
 use Rattle.rh_trail.specs.declared.call.Call.TheVariants as call
 use Rattle.rh_trail.specs.Chain.{chain}
@@ -41,12 +42,16 @@ reads c = ap read c.in_ok-keep.ensures.state ∙ c.in_ok-copies.ensures.state
 valid : (c : goal.After-self-1) → IsValid (read c.keep.new.state)
 valid c = subst (λ (w : Stored). IsValid (read w)) (sym c.in_ok-keep.ensures.state) c.in_ok-copies.ensures.valid
 
+few : (c : goal.After-self-1)
+    → length c.perform_copies.new.edits.items ≤ most_edits (read c.self.inside.state) c.args.event (next (read c.self.inside.state) c.args.event c.self.inside.pick)
+few c = c.in_ok-copies.ensures.few
+
 pub invariant_of-self-2 : goal.invariant_of-self-2
 invariant_of-self-2 c =
     let s = c.self.inside in
     record {
       chain = made_keeps s.pick s.trail.items c.keep.new.trail.items s.state c.keep.new.state s.records c.keep.new.records s.cursor c.args.event
-          c.perform_copies.new.edits.items c.self.invariant.chain (room c) (led c) (reads c) (valid c) c.in_ok-keep.ensures.trail c.in_ok-keep.ensures.records;
+          c.perform_copies.new.edits.items c.self.invariant.chain (room c) (led c) (reads c) (valid c) (few c) c.in_ok-keep.ensures.trail c.in_ok-keep.ensures.records;
       spare = c.keep.ensures.edits;
     }
 
@@ -62,7 +67,7 @@ returns-clause-done c =
       c.in_ok-copies.ensures.copies,
       (λ i. served (sym c.self.view_is i).seen (call.Step c.args.event))
           ∙ made_serves s.pick s.trail.items c.keep.new.trail.items s.state c.keep.new.state s.records c.keep.new.records s.cursor c.args.event
-          c.perform_copies.new.edits.items c.self.invariant.chain (room c) (led c) (reads c) (valid c) c.in_ok-keep.ensures.trail c.in_ok-keep.ensures.records
+          c.perform_copies.new.edits.items c.self.invariant.chain (room c) (led c) (reads c) (valid c) (few c) c.in_ok-keep.ensures.trail c.in_ok-keep.ensures.records
           told fine refl,
     )
 
@@ -70,6 +75,6 @@ pub returns-clause-chain : goal.returns-clause-chain
 returns-clause-chain c = λ k bound.
     let s = c.self.inside in
     made_chains s.pick s.trail.items c.keep.new.trail.items s.state c.keep.new.state s.records c.keep.new.records s.cursor c.args.event
-    c.perform_copies.new.edits.items c.self.invariant.chain (room c) (led c) (reads c) (valid c) c.in_ok-keep.ensures.trail c.in_ok-keep.ensures.records
+    c.perform_copies.new.edits.items c.self.invariant.chain (room c) (led c) (reads c) (valid c) (few c) c.in_ok-keep.ensures.trail c.in_ok-keep.ensures.records
     k (subst (λ (v : Held). k ≤ v.seen.cursor) (sym c.self.view_is) bound)
     ∙ (λ i. chain (c.self.view_is i) k)

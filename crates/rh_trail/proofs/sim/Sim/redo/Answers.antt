@@ -58,3 +58,8 @@ returns-clause-words c =
     (some s.records s.trail.items s.cursor c.len.result c.self.invariant.chain.count c.self.invariant.chain.within
     (c.len.ensures ∙ s.trail.ok.0) c.if-self-len.false) c.self.invariant.chain refl c.go_forth-count.ensures.words refl
     ∙ (λ i. chain (c.self.view_is i) ((c.self.view_is i).seen.cursor + 1))
+
+pub returns-clause-few : goal.returns-clause-few
+returns-clause-few c =
+    let s = c.self.inside in
+    rw (← c.self.view_is) (λ event at. let few = c.self.invariant.chain.small s.cursor event at in omega (arith, few, c.go_forth-count.ensures.count))

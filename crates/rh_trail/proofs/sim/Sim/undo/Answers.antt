@@ -60,3 +60,8 @@ returns-clause-words c =
     (backed exchange turned s.state (slice_index_or s.records (s.cursor - 1) []))
     (some s.cursor c.if-self-eq0.false) c.self.invariant.chain refl c.go_back-count.ensures.words refl
     ∙ (λ i. chain (c.self.view_is i) ((c.self.view_is i).seen.cursor - 1))
+
+pub returns-clause-few : goal.returns-clause-few
+returns-clause-few c =
+    let s = c.self.inside in
+    rw (← c.self.view_is) (λ event at. let few = c.self.invariant.chain.small (s.cursor - 1) event at in omega (arith, few, c.go_back-count.ensures.count))
