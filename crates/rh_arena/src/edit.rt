@@ -1,6 +1,6 @@
 //! Edits.
 
-ghost use Rattle.std.specs.Prelude.{◌≡◌, false, slice_index_or};
+ghost use Rattle.std.specs.Prelude.{◌≡◌, false, length, slice_index_or};
 ghost use Rattle.rh_arena.specs.Exchange.{exchange, turned};
 ghost use Rattle.rh_arena.specs.Spots.{changes_at, entry_in, list_in, IsBetween};
 ghost use Rattle.rh_arena.specs.Words.{Words};
@@ -51,6 +51,15 @@ impl LinkEdit {
         ensures { result ≡ self.now.is_done }
     {
         self.is_done
+    }
+
+    /// How many words it changes: six, on either side.
+    pub fn word_count(&self) -> usize
+        ensures words { result ≡ length self.now.changes }
+        ensures six { result ≡ 6 }
+    {
+        let _ = &self.values;
+        6
     }
 
     /// Which entry it puts into a list, or takes out of one. On its other side it is of the same entry.

@@ -1,5 +1,5 @@
 -- Edits of a state: what a setter changed, with values that are exchanged for those that are kept (ours).
-use Rattle.std.specs.Prelude.{Bool, not, slice_get, slice_set, unwrap_or}
+use Rattle.std.specs.Prelude.{ℕ, ◌+◌, Bool, not, length, slice_get, slice_set, unwrap_or}
 use Rattle.rh_arena.specs.Exchange as links
 use Rattle.rh_wheel.specs.Edits as timers
 use Rattle.rh_state.specs.declared.edit.Change.{Change}
@@ -34,6 +34,12 @@ abbrev pub is_done : Edit → Bool
 is_done (Links e) = e.is_done
 is_done (Timer e) = e.is_done
 is_done (Part done c) = done
+
+-- how many words it has a value of: those of lists, and the due of a timer; or one single part
+abbrev pub words_of : Edit → ℕ
+words_of (Links e) = length e.changes
+words_of (Timer e) = length e.changes + 1
+words_of (Part done c) = 1
 
 -- what is kept, with the values of an edit
 unfoldable pub exchange : Stored → Edit → Stored

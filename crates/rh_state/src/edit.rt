@@ -1,6 +1,7 @@
 //! What a setter changed.
 
-ghost use Rattle.std.specs.Prelude.{◌≡◌, IfOk};
+ghost use Rattle.std.specs.Prelude.{◌≡◌, ◌≤◌, IfOk};
+ghost use Rattle.rh_state.specs.Edits.{words_of};
 
 use crate::status::{Kind, Mode, Standing};
 use rh_arena::LinkEdit;
@@ -44,6 +45,18 @@ pub enum Edit {
 const _: () = prove!(size_of::<Edit>() == 32);
 
 impl Edit {
+    /// How many words it changes: seven at most, however large the cluster is.
+    pub fn word_count(&self) -> usize
+        ensures words { result ≡ words_of self.now }
+        ensures few { words_of self.now ≤ 7 }
+    {
+        match self {
+            Edit::Links(links) => links.word_count(),
+            Edit::Timer(timer) => timer.word_count(),
+            Edit::Part(_, _) => 1,
+        }
+    }
+
     /// An equal edit.
     pub fn copy(&self) -> Edit
         ensures { result ≡ self.now }

@@ -1,6 +1,6 @@
 //! Edits.
 
-ghost use Rattle.std.specs.Prelude.{◌≡◌, ◌↔◌, IsSome, unwrap_or, slice_index_or};
+ghost use Rattle.std.specs.Prelude.{◌≡◌, ◌+◌, ◌↔◌, length, IsSome, unwrap_or, slice_index_or};
 ghost use Rattle.std.specs.Int.{w64, from_le_bytes};
 ghost use Rattle.rh_arena.specs.Exchange.{turned};
 ghost use Rattle.rh_arena.specs.Spots.{entry_in, list_in};
@@ -64,6 +64,14 @@ impl TimerEdit {
             None => None,
             Some(_) => Some(u64::from_le_bytes(self.due)),
         }
+    }
+
+    /// How many words it changes: six of a slot's links, and a due.
+    pub fn word_count(&self) -> usize
+        ensures words { result ≡ length self.now.changes + 1 }
+        ensures seven { result ≡ 7 }
+    {
+        self.links.word_count() + 1
     }
 
     /// Is the change made? Then the edit has the values from before it, else those from behind it.
