@@ -1,13 +1,15 @@
 -- Laws of whole steps, in the field's own words (ours).
 use Rattle.std.specs.Prelude.{◌≡◌, ◌≢◌, ◌≤◌, ◌+◌, ◌++◌, ◌↔◌, ℕ, true, List, [], ◌∷◌, fold, All}
 use Rattle.std.specs.Prelude.{AllPairs, Option, Some, None, IsSome}
+use Rattle.std.specs.List.{filter}
 use Rattle.rh_model.specs.ClusterView.{ClusterView, group_of}
 use Rattle.rh_model.specs.declared.node.Node.{Node}
 use Rattle.rh_model.specs.declared.node.App.{App}
 use Rattle.rh_model.specs.declared.settings.Restart.{Restart}
 use Rattle.rh_state.specs.declared.status.Standing.TheVariants.{Running, Lost}
 use Rattle.rh_state.specs.declared.status.Timer.TheVariants.{Failover}
-use Rattle.rh_state.specs.StateView.{StateView, runs_at, standing_of, due_of}
+use Rattle.rh_state.specs.Numbers.{nodes_of}
+use Rattle.rh_state.specs.StateView.{StateView, runs_at, is_started, standing_of, due_of}
 use Rattle.rh_place.specs.declared.choosing.Pick.{Pick}
 use Rattle.rh_place.specs.declared.choosing.Pick.TheVariants.{First, Last}
 use Rattle.rh_place.specs.Placing.{is_operational, groups_of}
@@ -19,13 +21,13 @@ use Rattle.rh_settle.specs.Enabled.{IsBest}
 use Rattle.rh_settle.specs.Settling.{Settles, settled}
 use Rattle.rh_settle.specs.Validity.{IsValid}
 use Rattle.rh_events.specs.declared.event.Event.{Event}
-use Rattle.rh_events.specs.declared.event.Event.TheVariants.{Tick, Start, StartAll}
+use Rattle.rh_events.specs.declared.event.Event.TheVariants.{Tick, Start, Stop, StartAll, StopAll}
 use Rattle.rh_events.specs.Changes.{change}
 use Rattle.rh_events.specs.ComingUp.{ready_come_up}
 use Rattle.rh_events.specs.Everywhere.{targets}
 use Rattle.rh_events.specs.Refusals.{refused}
 use Rattle.rh_step.specs.Allowed.{Allowed}
-use Rattle.rh_step.specs.Outcomes.{Outcome, outcome_of, next}
+use Rattle.rh_step.specs.Outcomes.{Outcome, outcome, outcome_of, next}
 
 -- an application runs at a node, and stands so
 abbrev pub RunsAgain : StateView → App → Type 0
@@ -73,3 +75,25 @@ StartAllIsStarts =
     (s : StateView) (a : App) (r : Restart) (pick : Pick)
     → next s (StartAll a r) pick ≡ outcome_of (settled pick (ready_come_up
     (fold (λ (o : Course) (n : Node). change o (Start n a r)) (course_of s [] []) (targets s a))))
+
+-- the nodes at which an application is started, in node order
+abbrev pub started_nodes : StateView → App → List Node
+started_nodes s a = filter (λ (n : Node). is_started s n a) (nodes_of s.cluster)
+
+-- it is stopped at a node by a command of its own, behind what was told before
+abbrev pub stop_next : App → Pick → Outcome → Node → Outcome
+stop_next a pick o n = outcome (next o.state (Stop n a) pick).state (o.notices ++ (next o.state (Stop n a) pick).notices)
+
+-- so at one node after the other, and none of these commands is refused
+abbrev pub AllStop : App → Pick → Outcome → List Node → Type 0
+AllStop a pick o [] = Unit {0}
+AllStop a pick o (n ∷ ns) = (refused o.state (Stop n a) ≡ None) × AllStop a pick (stop_next a pick o n) ns
+
+-- a stop at all nodes leads to the same state, and tells the same, as a stop at each node at which the
+-- application is started, each a command of its own, in node order; none of these is refused
+-- (application(3), stop/1; ours for doing it in one step)
+abbrev pub StopAllIsStops : Type 0
+StopAllIsStops =
+    (s : StateView) (a : App) (pick : Pick) → IsValid s → refused s (StopAll a) ≡ None
+    → AllStop a pick (outcome s []) (started_nodes s a)
+    × (next s (StopAll a) pick ≡ fold (stop_next a pick) (outcome s []) (started_nodes s a))

@@ -1,6 +1,6 @@
 //! Laws of the definitions of a step. Each function does nothing: its contract is the law.
 
-ghost use Rattle.rh_laws.specs.Laws.{FailsOverInTime, PlacedAtBestNodes, OneAnswer, StartAllIsStarts};
+ghost use Rattle.rh_laws.specs.Laws.{FailsOverInTime, PlacedAtBestNodes, OneAnswer, StartAllIsStarts, StopAllIsStops};
 
 /// An application that was lost runs again behind a tick that reaches its timer, if a node of its list can run it then.
 pub fn fails_over_in_time()
@@ -20,4 +20,9 @@ pub fn one_answer()
 /// A start at all nodes comes to the same as a start at each node at which it is still to be started, and one settling behind them.
 pub fn start_all_is_starts()
     ensures { StartAllIsStarts }
+{}
+
+/// A stop at all nodes comes to the same as a stop at each node at which the application is started, one command after the other.
+pub fn stop_all_is_stops()
+    ensures { StopAllIsStops }
 {}

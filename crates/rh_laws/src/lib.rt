@@ -3,4 +3,6 @@
 
 mod laws;
 
-pub use laws::{fails_over_in_time, one_answer, placed_at_best_nodes, start_all_is_starts};
+pub use laws::{
+    fails_over_in_time, one_answer, placed_at_best_nodes, start_all_is_starts, stop_all_is_stops,
+};
