@@ -6,6 +6,15 @@ pub mod BestNodes
 pub mod LessStarted
 pub mod Stopping
 pub mod OneByOne
+pub mod Texts
+pub mod ShownWords
+pub mod ReportLines
+pub mod ShownParts
+pub mod ShownNodes
+pub mod StateFits
+pub mod DueSoon
+pub mod ReportTells
 mod Rows
 mod RowsStops
+mod RowsReports
 mod RowsLinks

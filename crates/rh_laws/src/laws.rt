@@ -1,6 +1,7 @@
-//! Laws of the definitions of a step. Each function does nothing: its contract is the law.
+//! Laws of the definitions of a step and of a report. Each function does nothing: its contract is the law.
 
 ghost use Rattle.rh_laws.specs.Laws.{FailsOverInTime, PlacedAtBestNodes, OneAnswer, StartAllIsStarts, StopAllIsStops};
+ghost use Rattle.rh_laws.specs.Reports.{DueWithinLimits, ReportTellsState};
 
 /// An application that was lost runs again behind a tick that reaches its timer, if a node of its list can run it then.
 pub fn fails_over_in_time()
@@ -25,4 +26,14 @@ pub fn start_all_is_starts()
 /// A stop at all nodes comes to the same as a stop at each node at which the application is started, one command after the other.
 pub fn stop_all_is_stops()
     ensures { StopAllIsStops }
+{}
+
+/// No step sets a timer that is due past the limits of time and of timeouts.
+pub fn due_within_limits()
+    ensures { DueWithinLimits }
+{}
+
+/// Two valid states of one cluster with one report are alike in all that a report shows.
+pub fn report_tells_state()
+    ensures { ReportTellsState }
 {}
