@@ -16,5 +16,6 @@ pub mod DueSoon
 pub mod ReportTells
 mod Rows
 mod RowsStops
+mod RowsBoots
 mod RowsReports
 mod RowsLinks

@@ -1,28 +1,30 @@
--- An application that is quiet stays quiet, until somebody starts it or a node comes up.
+-- An application that is quiet stays quiet, until somebody starts it or a node comes up that boots it.
 use Rattle.std.proofs.Common.{◌≡◌, ◌⊎◌, ◌+◌, ◌==◌, ◌&&◌, ℕ, Bool, true, false, cond, not, List, [], ◌∷◌, fold, None, Some, refl, sym, ap, ◌∙◌, inl, inr}
 use Rattle.std.proofs.Common.{slice_get, unwrap_or}
-use Rattle.std.specs.List.{Contains}
+use Rattle.std.specs.List.{Contains, list_any}
 use Rattle.std.proofs.lemmas.Bool.{and_parts}
-use Rattle.rh_model.specs.ClusterView.{mandatory_of}
+use Rattle.rh_model.specs.ClusterView.{ClusterView, boot_of, mandatory_of}
 use Rattle.rh_model.specs.declared.node.Node.{Node}
 use Rattle.rh_model.specs.declared.node.App.{App}
 use Rattle.rh_model.specs.declared.settings.Restart.{Restart}
+use Rattle.rh_state.specs.declared.status.Mode.TheVariants.{Up}
 use Rattle.rh_state.specs.declared.status.Standing.{Standing}
 use Rattle.rh_state.specs.declared.status.Standing.TheVariants.{Quiet, Wanted, Running, Lost}
 use Rattle.rh_state.specs.declared.status.Timer.{Timer}
 use Rattle.rh_state.specs.declared.status.Timer.TheVariants.{Sync, Failover}
-use Rattle.rh_state.specs.Numbers.{same_node, nodes_of, apps_of}
+use Rattle.rh_state.specs.Numbers.{same_node, same_app, nodes_of, apps_of}
 use Rattle.rh_state.specs.StateView.{StateView, standing_of, runs_at, is_allowed, restart_of}
-use Rattle.rh_state.specs.Setters.{with_standing, with_timer, with_allowed, without_due, unlisted}
+use Rattle.rh_state.specs.Setters.{with_mode, with_standing, with_timer, with_allowed, without_due, unlisted}
 use Rattle.rh_place.specs.declared.choosing.Pick.{Pick}
 use Rattle.rh_settle.specs.declared.notice.Notice.TheVariants as notice
-use Rattle.rh_settle.specs.Course.{Course, course_of}
+use Rattle.rh_settle.specs.Course.{Course, course_of, told, now_in}
 use Rattle.rh_settle.specs.Moves.{is_local, with_stopped}
 use Rattle.rh_settle.specs.Readiness.{all_alive, is_ready}
 use Rattle.rh_settle.specs.Settling.{settled}
 use Rattle.rh_settle.specs.Validity.{IsSound}
 use Rattle.rh_events.specs.declared.event.Event.{Event}
 use Rattle.rh_events.specs.declared.event.Event.TheVariants.{Boot, Crash, Tick, Start, Stop, Permit, Takeover, Exit, StartAll, StopAll}
+use Rattle.rh_events.specs.Marking.{mark, mark_booted, mark_all}
 use Rattle.rh_events.specs.ComingUp.{come_up, come_up_if_ready, ready_come_up}
 use Rattle.rh_events.specs.Ending.{timeout_of, cleared, lost_at, lost_from, lost_if_ran, all_lost, ended}
 use Rattle.rh_events.specs.ByHand.{stopped, is_started_anywhere, quiet_if_nowhere, left_waiting, forbidden, permitted, permission_set, taken_from, taken_over, ends_node, exited}
@@ -30,26 +32,38 @@ use Rattle.rh_events.specs.Changes.{change}
 use Rattle.rh_events.specs.Refusals.{refused}
 use Rattle.rh_step.specs.Ticks.{wanted_if_lost, effect, taken_off, fired, all_fired, ticked}
 use Rattle.rh_step.specs.Outcomes.{followed, next}
-use Rattle.rh_step.specs.Laws.{starts, QuietUntilStarted}
+use Rattle.rh_step.specs.Laws.{boots, starts, QuietUntilStarted}
+use Rattle.rh_base.proofs.Lists.{cases}
 use Rattle.rh_settle.proofs.Behind.{settled_after}
 use Rattle.rh_settle.proofs.Entries.{other_number}
 use Rattle.rh_settle.proofs.Places.{at_set, same_refl}
 use Rattle.rh_settle.proofs.Resting.{rests, set_beside, settled_rests}
+use Rattle.rh_settle.proofs.Unchanged.{settled_cluster}
 use Rattle.rh_events.proofs.Accepted.{accepted_exit}
+use Rattle.rh_events.proofs.EachEvent.{change_cluster}
+use Rattle.rh_events.proofs.Fields.{ended_cluster}
+use Rattle.rh_events.proofs.SoundComingUp.{come_up_cluster}
+use Rattle.rh_events.proofs.SoundMarks.{not_started}
 use Rattle.rh_events.proofs.StoppingAll.{quiet_stays_quiet}
-use Rattle.rh_events.proofs.Notices.{ended_after}
+use Rattle.rh_events.proofs.Notices.{come_up_after, ended_after}
 use Rattle.rh_events.proofs.StaysUp.{told_still}
+use Rattle.rh_step.proofs.Firing.{effect_cluster}
 use Rattle.rh_step.proofs.Fuel.{timer_count, by_firing}
 use Rattle.rh_step.proofs.LostStays.{differs, mark_of_another, start_all_of_another, up_told, booted_standings}
 
--- it is quiet, or a node came up
-abbrev StaysQuiet : App → Course → Type 0
-StaysQuiet a o = (standing_of o.state a ≡ Quiet) ⊎ ((n : Node) × Contains o.notices (notice.Up n))
+-- the cluster is the same, and the application is quiet, or a node came up that boots it
+record StaysQuiet (c : ClusterView) (a : App) (o : Course) : Type 0 where
+  cluster : o.state.cluster ≡ c
+  quiet : (standing_of o.state a ≡ Quiet) ⊎ ((n : Node) × (boots c n a ≡ true) × Contains o.notices (notice.Up n))
 
 -- what was told is told still
-still : (a : App) (o p : Course) → ((x : Node) → Contains o.notices (notice.Up x) → Contains p.notices (notice.Up x))
-    → (n : Node) × Contains o.notices (notice.Up n) → StaysQuiet a p
-still a o p keeps has = inr (has.0, keeps has.0 has.1)
+still : (c : ClusterView) (a : App) (o p : Course) → p.state.cluster ≡ o.state.cluster → StaysQuiet c a o
+    → (standing_of o.state a ≡ Quiet → standing_of p.state a ≡ Quiet)
+    → ((x : Node) → Contains o.notices (notice.Up x) → Contains p.notices (notice.Up x)) → StaysQuiet c a p
+still c a o p same stays keeps tells = record {
+  cluster = same ∙ stays.cluster;
+  quiet = elim stays.quiet [ inl is ↦ inl (keeps is) | inr has ↦ inr (has.0, has.1, tells has.0 has.2) ];
+}
 
 -- ---- a node ends
 one_lost : (n : Node) (s : StateView) (b a : App) → rests (standing_of s a) ≡ true → standing_of (lost_if_ran n s b) a ≡ standing_of s a
@@ -77,63 +91,82 @@ ended_quiet : (o : Course) (n : Node) (a : App) → standing_of o.state a ≡ Qu
 unfolding ended all_lost cleared
 ended_quiet o n a is = each_lost n (apps_of o.state.cluster) (cleared o.state n) a is
 
-ended_stays : (a : App) (n : Node) (o : Course) → StaysQuiet a o → StaysQuiet a (ended o n)
-ended_stays a n o (inl is) = inl (ended_quiet o n a is)
-ended_stays a n o (inr has) = still a o (ended o n) (λ x. told_still (λ p. ended p n) (λ base p. ended_after base p n) o (notice.Up x)) has
+ended_stays : (c : ClusterView) (a : App) (n : Node) (o : Course) → StaysQuiet c a o → StaysQuiet c a (ended o n)
+ended_stays c a n o stays = still c a o (ended o n) (ended_cluster o n) stays (ended_quiet o n a)
+    (λ x. told_still (λ p. ended p n) (λ base p. ended_after base p n) o (notice.Up x))
 
 -- ---- nodes come up, and the applications settle
-come_up_told : (a : App) (n : Node) (o : Course) → StaysQuiet a (come_up o n)
-come_up_told a n o = inr (n, up_told o n n (same_refl n.0))
+-- a boot list that doesn't have it
+not_booted : (a : App) (n : Node) (boot : List (App × Restart)) (o : Course) → list_any (λ (entry : App × Restart). same_app a entry.0) boot ≡ false
+    → standing_of (fold (mark_booted n) o boot).state a ≡ standing_of o.state a
+not_booted a n [] o none = refl
+not_booted a n (b ∷ boot) o none =
+    let apart = not_started (same_app a b.0) (list_any (λ (entry : App × Restart). same_app a entry.0) boot) none in
+    not_booted a n boot (mark o n b.0 b.1) apart.1 ∙ mark_of_another o.state n b.0 b.1 a (other_number a.0 b.0.0 apart.0)
 
-ready_stays : (a : App) (ns : List Node) (o : Course) → StaysQuiet a o → StaysQuiet a (fold come_up_if_ready o ns)
+come_up_quiet : (o : Course) (n : Node) (a : App) → boots o.state.cluster n a ≡ false → standing_of (come_up o n).state a ≡ standing_of o.state a
+unfolding come_up mark_all
+come_up_quiet o n a none = not_booted a n (boot_of o.state.cluster n) (told (now_in o (with_mode (without_due o.state (Sync n)) n Up)) (notice.Up n)) none
+
+come_up_stays : (c : ClusterView) (a : App) (n : Node) (o : Course) → StaysQuiet c a o → StaysQuiet c a (come_up o n)
+come_up_stays c a n o stays = cases (boots c n a)
+    (λ t. record { cluster = come_up_cluster o n ∙ stays.cluster; quiet = inr (n, t, up_told o n n (same_refl n.0)) })
+    (λ f. still c a o (come_up o n) (come_up_cluster o n) stays
+    (λ is. come_up_quiet o n a (ap (λ (k : ClusterView). boots k n a) stays.cluster ∙ f) ∙ is)
+    (λ x. told_still (λ p. come_up p n) (λ base p. come_up_after base p n) o (notice.Up x)))
+
+ready_stays : (c : ClusterView) (a : App) (ns : List Node) (o : Course) → StaysQuiet c a o → StaysQuiet c a (fold come_up_if_ready o ns)
 unfolding come_up_if_ready
-ready_stays a [] o stays = stays
-ready_stays a (n ∷ ns) o stays = ready_stays a ns (come_up_if_ready o n) (by (is_ready o.state n))
+ready_stays c a [] o stays = stays
+ready_stays c a (n ∷ ns) o stays = ready_stays c a ns (come_up_if_ready o n) (by (is_ready o.state n))
   where
-    by : (b : Bool) → StaysQuiet a (cond b (come_up o n) o)
-    by true = come_up_told a n o
+    by : (b : Bool) → StaysQuiet c a (cond b (come_up o n) o)
+    by true = come_up_stays c a n o stays
     by false = stays
 
-settled_stays : (a : App) (pick : Pick) (o : Course) → StaysQuiet a o → StaysQuiet a (settled pick o)
-settled_stays a pick o (inl is) = inl (settled_rests pick o a (ap rests is) ∙ is)
-settled_stays a pick o (inr has) = still a o (settled pick o) (λ x. told_still (settled pick) (λ base p. settled_after base pick p) o (notice.Up x)) has
+settled_stays : (c : ClusterView) (a : App) (pick : Pick) (o : Course) → StaysQuiet c a o → StaysQuiet c a (settled pick o)
+settled_stays c a pick o stays = still c a o (settled pick o) (settled_cluster pick o) stays
+    (λ is. settled_rests pick o a (ap rests is) ∙ is)
+    (λ x. told_still (settled pick) (λ base p. settled_after base pick p) o (notice.Up x))
 
-rest_stays : (a : App) (pick : Pick) (o : Course) → StaysQuiet a o → StaysQuiet a (settled pick (ready_come_up o))
+rest_stays : (c : ClusterView) (a : App) (pick : Pick) (o : Course) → StaysQuiet c a o → StaysQuiet c a (settled pick (ready_come_up o))
 unfolding ready_come_up
-rest_stays a pick o stays = settled_stays a pick (ready_come_up o) (ready_stays a (nodes_of o.state.cluster) o stays)
+rest_stays c a pick o stays = settled_stays c a pick (ready_come_up o) (ready_stays c a (nodes_of o.state.cluster) o stays)
 
 -- ---- a timer fires
-effect_stays : (a : App) (o : Course) (t : Timer) → StaysQuiet a o → StaysQuiet a (effect o t)
-effect_stays a o (Sync n) stays = by (all_alive o.state (mandatory_of o.state.cluster n))
+effect_stays : (c : ClusterView) (a : App) (o : Course) (t : Timer) → StaysQuiet c a o → StaysQuiet c a (effect o t)
+effect_stays c a o (Sync n) stays = by (all_alive o.state (mandatory_of o.state.cluster n))
   where
-    by : (b : Bool) → StaysQuiet a (cond b (come_up o n) (ended o n))
-    by true = come_up_told a n o
-    by false = ended_stays a n o stays
-effect_stays a o (Failover b) (inr has) = inr has
-effect_stays a o (Failover b) (inl is) = by (standing_of o.state b) refl
+    by : (b : Bool) → StaysQuiet c a (cond b (come_up o n) (ended o n))
+    by true = come_up_stays c a n o stays
+    by false = ended_stays c a n o stays
+effect_stays c a o (Failover b) stays =
+    still c a o (effect o (Failover b)) (effect_cluster o (Failover b)) stays (λ is. by is (standing_of o.state b) refl) (λ x has. has)
   where
-    apart : (k : Node) → standing_of o.state b ≡ Lost k → standing_of o.state a ≡ standing_of o.state b → ⊥
-    apart k stands e = clash (sym is ∙ e ∙ stands)
+    apart : (k : Node) → standing_of o.state a ≡ Quiet → standing_of o.state b ≡ Lost k → standing_of o.state a ≡ standing_of o.state b → ⊥
+    apart k is stands e = clash (sym is ∙ e ∙ stands)
       where
         clash : Quiet ≡ Lost k → ⊥
         clash c = cc c
 
-    by : (st : Standing) → standing_of o.state b ≡ st → StaysQuiet a (record o { state = wanted_if_lost o.state b st })
-    by (Lost k) stands = inl (differs o.state a b (Wanted (Some k)) (apart k stands) ∙ is)
-    by _ stands = inl is
+    by : standing_of o.state a ≡ Quiet → (st : Standing) → standing_of o.state b ≡ st → standing_of (wanted_if_lost o.state b st) a ≡ Quiet
+    by is (Lost k) stands = differs o.state a b (Wanted (Some k)) (apart k is stands) ∙ is
+    by is _ stands = is
 
-fired_stays : (a : App) (pick : Pick) (o : Course) (entry : ℕ × Timer) → StaysQuiet a o → StaysQuiet a (fired pick o entry)
+fired_stays : (c : ClusterView) (a : App) (pick : Pick) (o : Course) (entry : ℕ × Timer) → StaysQuiet c a o → StaysQuiet c a (fired pick o entry)
 unfolding fired
-fired_stays a pick o entry (inl is) = rest_stays a pick (effect (taken_off o entry) entry.1) (effect_stays a (taken_off o entry) entry.1 (inl is))
-fired_stays a pick o entry (inr has) = rest_stays a pick (effect (taken_off o entry) entry.1) (effect_stays a (taken_off o entry) entry.1 (inr has))
+fired_stays c a pick o entry stays = rest_stays c a pick (effect (taken_off o entry) entry.1)
+    (effect_stays c a (taken_off o entry) entry.1 (record { cluster = stays.cluster; quiet = stays.quiet }))
 
-all_stay : (a : App) (limit : ℕ) (pick : Pick) (o : Course) → StaysQuiet a o → StaysQuiet a (all_fired pick limit o)
+all_stay : (c : ClusterView) (a : App) (limit : ℕ) (pick : Pick) (o : Course) → StaysQuiet c a o → StaysQuiet c a (all_fired pick limit o)
 unfolding all_fired
-all_stay a limit pick o stays = by_firing (StaysQuiet a) pick limit (λ p entry h is. fired_stays a pick p entry h) (timer_count o) o stays
+all_stay c a limit pick o stays = by_firing (StaysQuiet c a) pick limit (λ p entry h is. fired_stays c a pick p entry h) (timer_count o) o stays
 
-ticked_stays : (a : App) (pick : Pick) (o : Course) (ms : ℕ) → StaysQuiet a o → StaysQuiet a (ticked pick o ms)
+ticked_stays : (a : App) (pick : Pick) (o : Course) (ms : ℕ) → StaysQuiet o.state.cluster a o
+    → (standing_of (ticked pick o ms).state a ≡ Quiet)
+    ⊎ ((n : Node) × (boots o.state.cluster n a ≡ true) × Contains (ticked pick o ms).notices (notice.Up n))
 unfolding ticked
-ticked_stays a pick o ms stays = elim (all_stay a (o.state.time + ms) pick o stays) [ inl is ↦ inl is | inr has ↦ inr has ]
+ticked_stays a pick o ms stays = (all_stay o.state.cluster a (o.state.time + ms) pick o stays).quiet
 
 -- ---- an event's own change
 -- one that runs at a node stands so, or is local
@@ -149,9 +182,9 @@ beside s t a b n new sound is runs same = by (is_local s.cluster b) refl
     by false far = set_beside t.standings a b (Running n) new (ap rests as_before)
         (ap (λ (xs : List Standing). unwrap_or (slice_get xs b.0) Quiet) same ∙ sound.standing.stands n b far runs) refl ∙ as_before
 
-stop_stays : (o : Course) (n : Node) (a b : App) → standing_of o.state a ≡ Quiet → StaysQuiet a (change o (Stop n b))
+stop_quiet : (o : Course) (n : Node) (a b : App) → standing_of o.state a ≡ Quiet → standing_of (change o (Stop n b)).state a ≡ Quiet
 unfolding stopped left_waiting
-stop_stays o n a b is = by (runs_at o.state n b)
+stop_quiet o n a b is = by (runs_at o.state n b)
   where
     quiet : standing_of (with_standing o.state b Quiet) a ≡ Quiet
     quiet = at_set o.state.standings b.0 a.0 Quiet Quiet (λ same. same ∙ is) (λ here v. v)
@@ -169,9 +202,9 @@ stop_stays o n a b is = by (runs_at o.state n b)
     leave (Lost k) = lost (is_started_anywhere (unlisted o.state n b) b)
     leave _ = is
 
-    by : (p : Bool) → StaysQuiet a (cond p (stopped o n b) (left_waiting o n b))
-    by true = inl (stop (is_local o.state.cluster b))
-    by false = inl (leave (standing_of o.state b))
+    by : (p : Bool) → standing_of (cond p (stopped o n b) (left_waiting o n b)).state a ≡ Quiet
+    by true = stop (is_local o.state.cluster b)
+    by false = leave (standing_of o.state b)
 
 permit_quiet : (o : Course) (n : Node) (b : App) (allow : Bool) (a : App) → IsSound o.state → standing_of o.state a ≡ Quiet
     → standing_of (permitted o n b allow).state a ≡ Quiet
@@ -200,25 +233,26 @@ exit_quiet o n b normal a sound runs is = by (ends_node (restart_of o.state n b)
     by true = ended_quiet o n a is
     by false = beside o.state (unlisted o.state n b) a b n Quiet sound is runs refl
 
-change_stays : (s : StateView) (e : Event) (a : App) → IsSound s → refused s e ≡ None → standing_of s a ≡ Quiet → starts e a ≡ false
-    → StaysQuiet a (change (course_of s [] []) e)
-change_stays s (Boot n) a sound fine is other = inl (ap (λ (xs : List Standing). unwrap_or (slice_get xs a.0) Quiet) (booted_standings s n) ∙ is)
-change_stays s (Crash n) a sound fine is other = inl (ended_quiet (course_of s [] []) n a is)
-change_stays s (Tick ms) a sound fine is other = inl is
-change_stays s (Start n b r) a sound fine is other = inl (mark_of_another s n b r a (other_number a.0 b.0 other) ∙ is)
-change_stays s (Stop n b) a sound fine is other = stop_stays (course_of s [] []) n a b is
-change_stays s (Permit n b allow) a sound fine is other = inl (permit_quiet (course_of s [] []) n b allow a sound is)
-change_stays s (Takeover n b r) a sound fine is other = inl (takeover_quiet (course_of s [] []) n b r a is)
-change_stays s (Exit n b normal) a sound fine is other = inl (exit_quiet (course_of s [] []) n b normal a sound (accepted_exit s n b normal fine).runs is)
-change_stays s (StartAll b r) a sound fine is other = inl (start_all_of_another (course_of s [] []) b r a (other_number a.0 b.0 other) ∙ is)
-change_stays s (StopAll b) a sound fine is other = inl (quiet_stays_quiet (course_of s [] []) b a is)
+change_quiet : (s : StateView) (e : Event) (a : App) → IsSound s → refused s e ≡ None → standing_of s a ≡ Quiet → starts e a ≡ false
+    → standing_of (change (course_of s [] []) e).state a ≡ Quiet
+change_quiet s (Boot n) a sound fine is other = ap (λ (xs : List Standing). unwrap_or (slice_get xs a.0) Quiet) (booted_standings s n) ∙ is
+change_quiet s (Crash n) a sound fine is other = ended_quiet (course_of s [] []) n a is
+change_quiet s (Tick ms) a sound fine is other = is
+change_quiet s (Start n b r) a sound fine is other = mark_of_another s n b r a (other_number a.0 b.0 other) ∙ is
+change_quiet s (Stop n b) a sound fine is other = stop_quiet (course_of s [] []) n a b is
+change_quiet s (Permit n b allow) a sound fine is other = permit_quiet (course_of s [] []) n b allow a sound is
+change_quiet s (Takeover n b r) a sound fine is other = takeover_quiet (course_of s [] []) n b r a is
+change_quiet s (Exit n b normal) a sound fine is other = exit_quiet (course_of s [] []) n b normal a sound (accepted_exit s n b normal fine).runs is
+change_quiet s (StartAll b r) a sound fine is other = start_all_of_another (course_of s [] []) b r a (other_number a.0 b.0 other) ∙ is
+change_quiet s (StopAll b) a sound fine is other = quiet_stays_quiet (course_of s [] []) b a is
 
 followed_stays : (s : StateView) (e : Event) (pick : Pick) (a : App) → IsSound s → refused s e ≡ None → standing_of s a ≡ Quiet → starts e a ≡ false
-    → StaysQuiet a (followed pick (course_of s [] []) e)
+    → StaysQuiet s.cluster a (followed pick (course_of s [] []) e)
 unfolding followed
-followed_stays s e pick a sound fine is other = rest_stays a pick (change (course_of s [] []) e) (change_stays s e a sound fine is other)
+followed_stays s e pick a sound fine is other = rest_stays s.cluster a pick (change (course_of s [] []) e)
+    (record { cluster = change_cluster (course_of s [] []) e; quiet = inl (change_quiet s e a sound fine is other) })
 
 pub quiet_until_started : QuietUntilStarted
 unfolding next
-quiet_until_started s (Tick ms) pick a valid fine is other = ticked_stays a pick (course_of s [] []) ms (inl is)
-quiet_until_started s e pick a valid fine is other = followed_stays s e pick a valid.sound fine is other
+quiet_until_started s (Tick ms) pick a valid fine is other = ticked_stays a pick (course_of s [] []) ms (record { cluster = refl; quiet = inl is })
+quiet_until_started s e pick a valid fine is other = (followed_stays s e pick a valid.sound fine is other).quiet

@@ -1,6 +1,7 @@
 -- Laws of steps, in the field's own words (ours).
 use Rattle.std.specs.Prelude.{◌≡◌, ◌≤◌, ◌<◌, ◌+◌, ◌++◌, ◌⊎◌, ◌&&◌, ℕ, Bool, true, false, Contains, Some, None}
-use Rattle.rh_model.specs.ClusterView.{ClusterView, IsWithin, mandatory_of, group_of, is_listed_at}
+use Rattle.std.specs.List.{list_any}
+use Rattle.rh_model.specs.ClusterView.{ClusterView, IsWithin, boot_of, mandatory_of, group_of, is_listed_at}
 use Rattle.rh_model.specs.declared.node.Node.{Node}
 use Rattle.rh_model.specs.declared.node.App.{App}
 use Rattle.rh_model.specs.declared.settings.Restart.{Restart}
@@ -104,11 +105,16 @@ starts (Start n b r) a = same_app a b
 starts (StartAll b r) a = same_app a b
 starts _ a = false
 
--- an application that is to run nowhere is started by no other one, and by no time that passes, unless a node comes up
+-- a node boots an application: its boot list has it (ours)
+abbrev pub boots : ClusterView → Node → App → Bool
+boots c n a = list_any (λ (entry : App × Restart). same_app a entry.0) (boot_of c n)
+
+-- an application that is to run nowhere is started by no other one, and by no time that passes, unless a node came up that boots it
 -- (application(3), start/2, stop/1)
 abbrev pub QuietUntilStarted : Type 0
 QuietUntilStarted = (s : StateView) (e : Event) (pick : Pick) (a : App) → IsValid s → refused s e ≡ None → standing_of s a ≡ Quiet → starts e a ≡ false
-    → (standing_of (next s e pick).state a ≡ Quiet) ⊎ ((n : Node) × Contains (next s e pick).notices (notice.Up n))
+    → (standing_of (next s e pick).state a ≡ Quiet)
+    ⊎ ((n : Node) × (boots s.cluster n a ≡ true) × Contains (next s e pick).notices (notice.Up n))
 
 -- in the second profile an application that is started at a node, and is permitted there again, is taken back from nodes of later
 -- groups, if that node can run it (application(3), permit/2; ours for the profile)

@@ -58,7 +58,7 @@ pub fn lost_until_due()
     ensures { LostUntilDue }
 {}
 
-/// An application that is to run nowhere stays so until it is started, or a node comes up.
+/// An application that is to run nowhere stays so until it is started, or a node comes up that boots it.
 pub fn quiet_until_started()
     ensures { QuietUntilStarted }
 {}
