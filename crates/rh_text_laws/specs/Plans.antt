@@ -1,0 +1,62 @@
+-- What comes of a plan is read off what one caller is answered to its base and its events (ours).
+use Rattle.std.specs.Prelude.{◌≡◌, ◌+◌, List, [], ◌∷◌, ◌++◌, length, take, map, count_by, Option, Some, None}
+use Rattle.std.specs.List.{flat_map}
+use Rattle.std.specs.Option.{option_map}
+use Rattle.rh_model.specs.ClusterView.{ClusterView}
+use Rattle.rh_place.specs.declared.choosing.Pick.{Pick}
+use Rattle.rh_state.specs.StateView.{StateView}
+use Rattle.rh_settle.specs.declared.notice.Notice.{Notice}
+use Rattle.rh_events.specs.declared.event.Event.{Event}
+use Rattle.rh_events.specs.declared.refusal.Refusal.{Refusal}
+use Rattle.rh_trail.specs.declared.call.Call.{Call}
+use Rattle.rh_trail.specs.declared.call.Reply.{Reply}
+use Rattle.rh_trail.specs.declared.call.Reply.TheVariants.{Done, Refused}
+use Rattle.rh_trail.specs.SimView.{state_of}
+use Rattle.rh_trail.specs.Lone.{opened, replies, sim_after}
+use Rattle.rh_plans.specs.declared.plan.Outcome.{Outcome}
+use Rattle.rh_plans.specs.declared.plan.Plan.{Plan}
+use Rattle.rh_sweep.specs.Outcomes.{is_failover, is_takeover, standings_in, steps, outcome_of}
+
+-- what is told of events that are accepted one after the other, and why the next one is refused, if it is
+pub record AnswersView : Type 0 where
+  pub told : List (List Notice)
+  pub why : Option Refusal
+
+-- as replies to the calls that make them
+abbrev pub refused_with : Option Refusal → List Reply
+refused_with None = []
+refused_with (Some why) = Refused why ∷ []
+
+abbrev pub replies_of : AnswersView → List Reply
+replies_of a = map (λ notices. Done notices) a.told ++ refused_with a.why
+
+-- the events that are answered so: those of a plan up to the refused one, with it
+abbrev pub events_answered : AnswersView → List Event → List Event
+events_answered a events = take (length a.told + 1) events
+
+-- the outcome that is read off these answers, and off the state behind them
+abbrev pub outcome_read : AnswersView → StateView → Outcome
+outcome_read a s = record {
+  accepted = length a.told;
+  refused = option_map (λ why. (length a.told, why)) a.why;
+  standings = standings_in s;
+  failovers = count_by is_failover (flat_map (λ notices. notices) a.told);
+  takeovers = count_by is_takeover (flat_map (λ notices. notices) a.told);
+}
+
+-- a run makes the calls of a base, and then these events up to the refused one: its replies to them, and its state behind them,
+-- have this outcome
+pub record IsReadOffRun (c : ClusterView) (pick : Pick) (calls : List Call) (events : List Event) (o : Outcome) : Type 0 where
+  pub answers : AnswersView
+  pub replies :
+      replies (opened c pick) (calls ++ steps (events_answered answers events)) ≡ replies (opened c pick) calls ++ replies_of answers
+  -- where none is refused, all of them are made
+  pub whole : answers.why ≡ None → length answers.told ≡ length events
+  pub outcome :
+      o ≡ outcome_read answers (state_of (sim_after (opened c pick) (calls ++ steps (events_answered answers events))))
+
+-- so it is with the outcome of each plan
+abbrev pub PlanIsRun : Type 0
+PlanIsRun =
+    (c : ClusterView) (pick : Pick) (calls : List Call) (plan : Plan)
+    → IsReadOffRun c pick calls plan.events.items (outcome_of (sim_after (opened c pick) calls) plan)

@@ -1,0 +1,8 @@
+//! Laws of what whole programs answer, beside the programs: nothing stands on them.
+#![tactic(auto)]
+
+mod laws;
+
+pub use laws::{
+    none_permits_none_gives_back, plan_is_run, replies_same_under_profiles, same_under_profiles,
+};
