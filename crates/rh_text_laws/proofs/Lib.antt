@@ -3,5 +3,6 @@ pub mod ProfileMoves
 pub mod ProfileChanges
 pub mod Profiles
 pub mod ProfileReplies
+pub mod ProfileFiles
 mod RowsPlans
 mod RowsProfiles

@@ -1,5 +1,14 @@
 -- Worked rows: what the laws of profiles ask is met, and is needed, computed from the definitions.
-use Rattle.std.proofs.Common.{◌≡◌, [], ◌∷◌, true, false, None, refl}
+use Rattle.std.proofs.Common.{◌≡◌, [], ◌∷◌, true, false, None, refl, ℕ, Option, Result, Ok, Err, codes, sym, ap, ◌∙◌, Some, ◌++◌}
+use Rattle.std.specs.Str.{is_utf8, chars}
+use lib.Utf8.{encode}
+use Rattle.rh_base.specs.Tree.{list_of_trees, Trees}
+use Rattle.rh_terms.specs.declared.fault.TermFault.{TermFault}
+use Rattle.rh_terms.specs.Bytes.{past}
+use Rattle.rh_terms.specs.Tokens.{digits_at, integer_at, name_at}
+use Rattle.rh_terms.specs.Grammar.{terms_of, dotted, dot_at, inside, terms_up_to, some_terms, next_at, term_by, word_at}
+use Rattle.rh_sections.specs.Shapes.{as_atom, as_tuple, as_int, as_pair, as_entry, as_profile}
+use Rattle.rh_cluster.specs.Profile.{profile_named}
 use Rattle.rh_place.specs.declared.choosing.Pick.TheVariants.{First}
 use Rattle.rh_state.specs.declared.status.Mode.TheVariants.{Up}
 use Rattle.rh_state.specs.declared.status.Standing.TheVariants.{Quiet, Running}
@@ -20,6 +29,7 @@ use Rattle.rh_trail.specs.Lone.{opened}
 use Rattle.rh_trail.specs.declared.call.Call.TheVariants as call
 use Rattle.rh_model.specs.declared.settings.SyncWait.TheVariants.{After}
 use Rattle.rh_text_laws.specs.Profiles.{state_in, gives_back, NoneGivesBack}
+use Rattle.rh_text_laws.specs.ProfileFiles.{NamesNoProfile, second_line}
 
 -- job runs at q and waits at p, which is in an earlier group, and where it may not run
 abbrev forbidden : StateView
@@ -46,3 +56,18 @@ second_row = refl
 -- ---- calls that give none back, a permission that is taken among them
 none_given_row : NoneGivesBack (opened (lab (After 500)) First) (call.Step (Boot p) ∷ call.Step (Permit p job false) ∷ call.Undo ∷ call.Look ∷ [])
 none_given_row = (refl, (refl, (refl, (refl, tt))))
+
+-- ---- a file that names no profile, and one that does
+abbrev named_in : Result Trees TermFault → Option ℕ
+named_in (Ok ts) = profile_named (list_of_trees ts)
+named_in (Err f) = None
+
+unnamed_row : NamesNoProfile (codes "{node, a, []}.\n")
+unfolding is_utf8 chars encode terms_of dotted dot_at inside terms_up_to some_terms next_at term_by word_at name_at past integer_at digits_at
+    as_profile as_entry as_pair as_tuple as_atom as_int
+unnamed_row ts read = let none : named_in (terms_of (codes "{node, a, []}.\n")) ≡ None = refl in sym (ap named_in read) ∙ none
+
+named_row : named_in (terms_of (second_line ++ codes "{node, a, []}.\n")) ≡ Some 2
+unfolding is_utf8 chars encode terms_of dotted dot_at inside terms_up_to some_terms next_at term_by word_at name_at past integer_at digits_at
+    as_profile as_entry as_pair as_tuple as_atom as_int
+named_row = refl

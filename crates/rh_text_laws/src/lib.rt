@@ -5,4 +5,5 @@ mod laws;
 
 pub use laws::{
     none_permits_none_gives_back, plan_is_run, replies_same_under_profiles, same_under_profiles,
+    second_profile_reads_same,
 };
