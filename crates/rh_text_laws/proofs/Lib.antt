@@ -1,8 +1,13 @@
+pub mod Clusters
 pub mod PlanReplies
+pub mod PlanTexts
+pub mod PlanInputs
 pub mod ProfileMoves
 pub mod ProfileChanges
 pub mod Profiles
 pub mod ProfileReplies
 pub mod ProfileFiles
+pub mod ProfileTexts
 mod RowsPlans
 mod RowsProfiles
+mod RowsInputs

@@ -25,7 +25,6 @@ use Rattle.rh_sections.specs.Shapes.{as_node, as_app, as_profile, as_entry, as_p
 use Rattle.rh_cluster.specs.Headers.{every_platform, node_names, app_names, new_name_faults, header_faults_by, header_faults, headers_stage}
 use Rattle.rh_cluster.specs.Profile.{profile_named, profile_of, behind_profile}
 use Rattle.rh_cluster.specs.ClusterOf.{faults_behind_headers, faults_in, cluster_view, cluster_of_terms, cluster_in, cluster_of}
-use Rattle.rh_script.specs.Lines.{content, cluster_text, script_lines}
 use Rattle.rh_text_laws.specs.Profiles.{in_profile}
 use Rattle.rh_text_laws.specs.ProfileFiles.{second_line, SecondProfileReadsSame}
 
@@ -159,12 +158,3 @@ second_profile_reads_same text c unnamed is = by (terms_of text) refl is
     by (Ok ts) read clusters =
         ap cluster_in (terms_second text ts read) ∙ second_terms second_term (list_of_trees ts) c second_named (unnamed ts read) clusters
     by (Err f) read clusters = absurd (cc clusters)
-
--- ---- the parts of an input
-pub text_second : (bytes : List ℕ) → cluster_text (second_line ++ bytes) ≡ second_line ++ cluster_text bytes
-unfolding content
-text_second bytes = refl
-
-pub script_second : (bytes : List ℕ) → script_lines (second_line ++ bytes) ≡ script_lines bytes
-unfolding content
-script_second bytes = refl

@@ -1,3 +1,5 @@
 pub mod Plans
+pub mod PlanTexts
 pub mod Profiles
 pub mod ProfileFiles
+pub mod ProfileTexts
