@@ -1,5 +1,5 @@
 -- In the text of a sweep each plan stands as `run` answers it.
-use Rattle.std.proofs.Common.{◌≡◌, ℕ, zero, suc, List, [], ◌∷◌, ◌++◌, take, drop, slice_get, Option, Some, None, Ok, refl, sym, ap, ◌∙◌, append-nil, append_assoc}
+use Rattle.std.proofs.Common.{◌≡◌, ℕ, List, ◌∷◌, ◌++◌, Option, Some, None, Ok, refl, sym, ap, ◌∙◌, append-nil, append_assoc}
 use Rattle.std.specs.List.{flat_map}
 use Rattle.std.specs.Option.{option_map}
 use Rattle.std.proofs.lemmas.List.Concat.{flat_map-append}
@@ -7,7 +7,7 @@ use Rattle.rh_model.specs.ClusterView.{ClusterView}
 use Rattle.rh_cluster.specs.ClusterOf.{cluster_of}
 use Rattle.rh_place.specs.declared.choosing.Pick.{Pick}
 use Rattle.rh_trail.specs.SimView.{SimView}
-use Rattle.rh_trail.specs.Lone.{opened, sim_after}
+use Rattle.rh_trail.specs.Lone.{opened}
 use Rattle.rh_script.specs.declared.sweep_lines.SweepLine.{SweepLine}
 use Rattle.rh_trail.specs.Report.{app_lines}
 use Rattle.rh_script.specs.SweepAnswers.{plan_line, refused_line}
@@ -18,7 +18,7 @@ use Rattle.rh_app.specs.declared.fault.Told.TheVariants as told
 use Rattle.rh_app.specs.RunText.{answers_text, end_text, bad_line, lines_asked, text_over, end_over, run_text, run_end}
 use Rattle.rh_app.specs.SweepText.{plan_outcome, plans_text, why_not_swept, base_sim, lines_text, lines_end, swept_over, swept_end_over, sweep_text, sweep_end}
 use Rattle.rh_text_laws.specs.Plans.{outcome_read}
-use Rattle.rh_text_laws.specs.PlanTexts.{base_calls, base_text, SweepIsRuns}
+use Rattle.rh_text_laws.specs.PlanTexts.{base_calls, base_of, base_text, SweepIsRuns}
 use Rattle.rh_text_laws.proofs.PlanTexts.{plan_text_is_run}
 
 -- where nothing is made of a value, there is none
@@ -59,32 +59,20 @@ module _ (bytes : List ℕ) (c : ClusterView) (pick : Pick) where
       ap (swept_over pick (script_lines bytes)) is
       ∙ swept_lines (bad_sweep_line lines) (ap (swept_end_over pick (script_lines bytes)) (sym is) ∙ ends)
 
--- a list is parted round one of its elements
-parted : {A : Type 0} (xs : List A) (k : ℕ) (x : A) → slice_get xs k ≡ Some x → xs ≡ take k xs ++ x ∷ drop (suc k) xs
-parted [] k x at = absurd (cc at)
-parted (y ∷ ys) zero x at = ap (λ z. z ∷ ys) (cc at)
-parted (y ∷ ys) (suc k) x at = ap (λ zs. y ∷ zs) (parted ys k x at)
-
 pub sweep_is_runs : SweepIsRuns
-sweep_is_runs bytes c pick k plan is ends at =
-    let calls = base_calls c bytes in
-    let plans = plans_of (sweep_lines_asked c (script_lines bytes)) in
-    let write = plan_outcome c (sim_after (opened c pick) calls) in
-    let made = plan_text_is_run c pick calls plan in
-    let before = flat_map write (take k plans) in
-    let behind = flat_map write (drop (suc k) plans) in
+sweep_is_runs bytes c pick before plan behind is ends at =
+    let write = plan_outcome c (base_of c pick bytes) in
+    let made = plan_text_is_run c pick (base_calls c bytes) plan in
     record {
       answers = made.answers;
       state = made.state;
-      before = before;
-      behind = behind;
-      whole = made.whole;
+      answered = made.answered;
       run = λ input so. run_is input c pick so.cluster so.ends ∙ ap (answers_text c (opened c pick)) so.asks ∙ made.run;
       sweep = sweep_is bytes c pick is ends
-          ∙ ap (λ ps. base_text c pick bytes ++ flat_map write ps) (parted plans k plan at)
+          ∙ ap (λ ps. base_text c pick bytes ++ flat_map write ps) at
           ∙ ap (λ bs. base_text c pick bytes ++ bs)
-          (flat_map-append write (take k plans) (plan ∷ drop (suc k) plans)
-          ∙ ap (λ bs. before ++ (bs ++ behind)) made.sweep
-          ∙ sym (append_assoc before (plan_line plan.name (outcome_read made.answers made.state)
-          ++ refused_line c (outcome_read made.answers made.state).refused ++ app_lines made.state) behind));
+          (flat_map-append write before (plan ∷ behind)
+          ∙ ap (λ bs. flat_map write before ++ (bs ++ flat_map write behind)) made.sweep
+          ∙ sym (append_assoc (flat_map write before) (plan_line plan.name (outcome_read made.answers made.state)
+          ++ refused_line c (outcome_read made.answers made.state).refused ++ app_lines made.state) (flat_map write behind)));
     }

@@ -3,6 +3,8 @@ use Rattle.std.proofs.Common.{◌≡◌, ℕ, suc, ◌+◌, ◌==◌, Bool, true
 use Rattle.std.proofs.Common.{◌⊎◌, inl, inr, arith}
 use Rattle.std.specs.List.{flat_map, prefix_len}
 use Rattle.std.specs.Option.{option_map}
+use Rattle.rh_model.specs.ClusterView.{ClusterView}
+use Rattle.rh_place.specs.declared.choosing.Pick.{Pick}
 use Rattle.rh_settle.specs.declared.notice.Notice.{Notice}
 use Rattle.rh_events.specs.declared.event.Event.{Event}
 use Rattle.rh_events.specs.declared.refusal.Refusal.{Refusal}
@@ -16,7 +18,7 @@ use Rattle.rh_trail.specs.declared.call.Reply.TheVariants.{Done, Refused, Undone
 use Rattle.rh_trail.specs.SimView.{SimView, state_of}
 use Rattle.rh_trail.specs.Lone.{Served, answered, stepped, served, with_event, opened, replies, sim_after, trail_limit}
 use Rattle.rh_sweep.specs.Outcomes.{is_done, told as told_by, refusal_at, is_failover, is_takeover, standings_in, steps, outcome_in}
-use Rattle.rh_text_laws.specs.Plans.{AnswersView, refused_with, replies_of, events_answered, outcome_read, PlanIsRun}
+use Rattle.rh_text_laws.specs.Plans.{AnswersView, refused_with, replies_of, events_answered, outcome_read, IsAnswered, PlanIsRun}
 
 -- ---- calls that are made one part after the other
 pub replies-append : (s : SimView) (xs ys : List Call) → replies s (xs ++ ys) ≡ replies s xs ++ replies (sim_after s xs) ys
@@ -140,15 +142,27 @@ module _ (base : SimView) (events : List Event) where
     takeovers = count_by is_takeover (read.notices i);
   }
 
+-- so one caller is answered who made the calls of a base before
+pub is_answered : (c : ClusterView) (pick : Pick) (calls : List Call) (events : List Event)
+    → let base = sim_after (opened c pick) calls in
+    let a = answers_to base events in
+    IsAnswered c pick calls events a (state_of (sim_after base (steps (events_answered a events))))
+is_answered c pick calls events =
+    let base = sim_after (opened c pick) calls in
+    let made = steps (events_answered (answers_to base events) events) in
+    record {
+      replies = replies-append (opened c pick) calls made ∙ ap (λ rs. replies (opened c pick) calls ++ rs) (answered_so base events);
+      whole = all_answered base events;
+      state = ap (λ (s : SimView). state_of s) (sym (after-append (opened c pick) calls made));
+    }
+
 pub plan_is_run : PlanIsRun
 plan_is_run c pick calls plan =
     let base = sim_after (opened c pick) calls in
     let events = plan.events.items in
-    let made = steps (events_answered (answers_to base events) events) in
     record {
       answers = answers_to base events;
-      replies = replies-append (opened c pick) calls made ∙ ap (λ rs. replies (opened c pick) calls ++ rs) (answered_so base events);
-      whole = all_answered base events;
-      outcome = read_off base events
-          ∙ ap (λ (s : SimView). outcome_read (answers_to base events) (state_of s)) (sym (after-append (opened c pick) calls made));
+      state = state_of (sim_after base (steps (events_answered (answers_to base events) events)));
+      answered = is_answered c pick calls events;
+      outcome = read_off base events;
     }

@@ -24,7 +24,7 @@ use Rattle.rh_app.specs.RunText.{answers_text}
 use Rattle.rh_app.specs.SweepText.{plan_outcome}
 use Rattle.rh_text_laws.specs.Plans.{AnswersView, replies_of, events_answered, outcome_read}
 use Rattle.rh_text_laws.specs.PlanTexts.{PlanTextIsRun}
-use Rattle.rh_text_laws.proofs.PlanReplies.{replies-append, answers_to, answered_so, all_answered, read_off}
+use Rattle.rh_text_laws.proofs.PlanReplies.{replies-append, answers_to, answered_so, is_answered, read_off}
 use Rattle.rh_text_laws.proofs.Clusters.{sim_cluster, state_cluster}
 
 -- ---- the lines of distributed applications are those of the report
@@ -96,7 +96,7 @@ pub plan_text_is_run : PlanTextIsRun
 plan_text_is_run c pick calls plan = record {
   answers = answers_to (sim_after (opened c pick) calls) plan.events;
   state = last c pick calls plan;
-  whole = all_answered (sim_after (opened c pick) calls) plan.events;
+  answered = is_answered c pick calls plan.events;
   run = run_writes c pick calls plan;
   sweep = sweep_writes c pick calls plan;
 }

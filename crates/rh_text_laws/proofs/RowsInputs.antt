@@ -1,5 +1,5 @@
 -- Worked rows: whole inputs that meet what the laws of texts ask, computed from the definitions.
-use Rattle.std.proofs.Common.{◌≡◌, ℕ, List, [], ◌∷◌, ◌++◌, None, Some, Ok, slice_get, codes, true, refl}
+use Rattle.std.proofs.Common.{◌≡◌, ℕ, List, [], ◌∷◌, ◌++◌, None, Some, Ok, codes, true, refl}
 use Rattle.std.specs.Str.{is_utf8, chars}
 use lib.Utf8.{encode}
 use Rattle.rh_terms.specs.Bytes.{past}
@@ -90,7 +90,7 @@ unfolding is_utf8 chars encode terms_of dotted dot_at inside terms_up_to some_te
     mismatch_faults agree same_shares same_share same_group boot_list_faults boot_entry_faults cluster_view app_views app_view dep_named
 file_row = refl
 
-plan_row : slice_get (plans_of (sweep_lines_asked one (script_lines swept))) 0 ≡ Some plan
+plan_row : plans_of (sweep_lines_asked one (script_lines swept)) ≡ plan ∷ []
 unfolding content sweep_line_of is_utf8 chars encode
 plan_row = refl
 

@@ -1,5 +1,6 @@
 -- What comes of a plan is read off what one caller is answered to its base and its events (ours).
-use Rattle.std.specs.Prelude.{◌≡◌, ◌+◌, List, [], ◌∷◌, ◌++◌, length, take, map, count_by, Option, Some, None}
+use Rattle.std.specs.Prelude.{◌≡◌, ◌+◌, List, [], ◌∷◌, ◌++◌, length, take, map, count_by}
+use Rattle.std.specs.Prelude.{Option, Some, None}
 use Rattle.std.specs.List.{flat_map}
 use Rattle.std.specs.Option.{option_map}
 use Rattle.rh_model.specs.ClusterView.{ClusterView}
@@ -17,7 +18,8 @@ use Rattle.rh_plans.specs.declared.plan.Outcome.{Outcome}
 use Rattle.rh_plans.specs.declared.plan.Plan.{Plan}
 use Rattle.rh_sweep.specs.Outcomes.{is_failover, is_takeover, standings_in, steps, outcome_of}
 
--- what is told of events that are accepted one after the other, and why the next one is refused, if it is
+-- what is told of events that are accepted one after the other, and why the next one is refused, if it
+-- is
 pub record AnswersView : Type 0 where
   pub told : List (List Notice)
   pub why : Option Refusal
@@ -44,19 +46,31 @@ outcome_read a s = record {
   takeovers = count_by is_takeover (flat_map (λ notices. notices) a.told);
 }
 
--- a run makes the calls of a base, and then these events up to the refused one: its replies to them, and its state behind them,
--- have this outcome
-pub record IsReadOffRun (c : ClusterView) (pick : Pick) (calls : List Call) (events : List Event) (o : Outcome) : Type 0 where
-  pub answers : AnswersView
+-- one caller makes the calls of a base, and then the events of a plan up to the refused one: these are
+-- the answers to the events, and this is the state behind them
+pub record IsAnswered
+    (c : ClusterView) (pick : Pick) (calls : List Call) (events : List Event)
+    (a : AnswersView) (s : StateView) : Type 0 where
   pub replies :
-      replies (opened c pick) (calls ++ steps (events_answered answers events)) ≡ replies (opened c pick) calls ++ replies_of answers
+      replies (opened c pick) (calls ++ steps (events_answered a events))
+      ≡ replies (opened c pick) calls ++ replies_of a
   -- where none is refused, all of them are made
-  pub whole : answers.why ≡ None → length answers.told ≡ length events
-  pub outcome :
-      o ≡ outcome_read answers (state_of (sim_after (opened c pick) (calls ++ steps (events_answered answers events))))
+  pub whole : a.why ≡ None → length a.told ≡ length events
+  pub state :
+      s ≡ state_of (sim_after (opened c pick) (calls ++ steps (events_answered a events)))
+
+-- an outcome is read off such answers
+pub record IsReadOffRun
+    (c : ClusterView) (pick : Pick) (calls : List Call) (events : List Event)
+    (o : Outcome) : Type 0 where
+  pub answers : AnswersView
+  pub state : StateView
+  pub answered : IsAnswered c pick calls events answers state
+  pub outcome : o ≡ outcome_read answers state
 
 -- so it is with the outcome of each plan
 abbrev pub PlanIsRun : Type 0
 PlanIsRun =
     (c : ClusterView) (pick : Pick) (calls : List Call) (plan : Plan)
-    → IsReadOffRun c pick calls plan.events.items (outcome_of (sim_after (opened c pick) calls) plan)
+    → let base = sim_after (opened c pick) calls in
+    IsReadOffRun c pick calls plan.events.items (outcome_of base plan)

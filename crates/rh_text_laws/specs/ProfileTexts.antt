@@ -15,18 +15,22 @@ use Rattle.rh_text_laws.specs.ProfileFiles.{second_line, NamesNoProfile}
 abbrev pub calls_in : ClusterView → List ℕ → List Call
 calls_in c bytes = calls_of (lines_asked c (script_lines bytes))
 
--- `run` writes the same for two inputs that have the same script, and the same cluster but for its profile, and ends alike
+-- `run` writes the same for two inputs that have the same script, and the same cluster but for its
+-- profile, and ends alike
 abbrev pub RunsSameUnderProfiles : Type 0
 RunsSameUnderProfiles =
     (bytes other : List ℕ) (c : ClusterView) (profile : ℕ) (pick : Pick)
-    → cluster_of (cluster_text bytes) ≡ Ok c → cluster_of (cluster_text other) ≡ Ok (in_profile profile c)
+    → cluster_of (cluster_text bytes) ≡ Ok c
+    → cluster_of (cluster_text other) ≡ Ok (in_profile profile c)
     → script_lines other ≡ script_lines bytes → NoneGivesBack (opened c pick) (calls_in c bytes)
     → (run_text other pick ≡ run_text bytes pick) × (run_end other ≡ run_end bytes)
 
--- with the line of the second profile before it `run` writes the same for an input whose file names no profile, and ends alike
+-- with the line of the second profile before it `run` writes the same for an input whose file names no
+-- profile, and ends alike
 abbrev pub SecondProfileRunsSame : Type 0
 SecondProfileRunsSame =
     (bytes : List ℕ) (c : ClusterView) (pick : Pick)
     → cluster_of (cluster_text bytes) ≡ Ok c → NamesNoProfile (cluster_text bytes)
     → NoneGivesBack (opened c pick) (calls_in c bytes)
-    → (run_text (second_line ++ bytes) pick ≡ run_text bytes pick) × (run_end (second_line ++ bytes) ≡ run_end bytes)
+    → (run_text (second_line ++ bytes) pick ≡ run_text bytes pick)
+    × (run_end (second_line ++ bytes) ≡ run_end bytes)

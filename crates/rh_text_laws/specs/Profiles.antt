@@ -21,19 +21,21 @@ in_profile profile c = record c { profile = profile }
 abbrev pub state_in : ℕ → StateView → StateView
 state_in profile s = record s { cluster = in_profile profile s.cluster }
 
--- an event gives back the permission of an application at a node at which it is started (application(3), permit/2)
+-- an event gives back the permission of an application at a node at which it is started
+-- (application(3), permit/2)
 abbrev pub gives_back : StateView → Event → Bool
 gives_back s (Permit n a allow) = allow && (not (is_allowed s n a) && is_started s n a)
 gives_back s _ = false
 
--- in each profile an event is refused alike; and where it gives no such permission back, the same is told, and the same state
--- follows
+-- in each profile an event is refused alike; and where it gives no such permission back, the same is
+-- told, and the same state follows
 abbrev pub SameUnderProfiles : Type 0
 SameUnderProfiles =
     (profile : ℕ) (s : StateView) (e : Event) (pick : Pick)
     → (refused (state_in profile s) e ≡ refused s e)
     × (gives_back s e ≡ false
-    → next (state_in profile s) e pick ≡ outcome (state_in profile (next s e pick).state) (next s e pick).notices)
+    → next (state_in profile s) e pick
+    ≡ outcome (state_in profile (next s e pick).state) (next s e pick).notices)
 
 -- ---- over calls
 
@@ -62,4 +64,6 @@ permits _ = false
 
 -- calls of which none does give no permission back
 abbrev pub NonePermitsNoneGivesBack : Type 0
-NonePermitsNoneGivesBack = (s : SimView) (calls : List Call) → All (λ asked. permits asked ≡ false) calls → NoneGivesBack s calls
+NonePermitsNoneGivesBack =
+    (s : SimView) (calls : List Call) → All (λ asked. permits asked ≡ false) calls
+    → NoneGivesBack s calls
