@@ -2,6 +2,7 @@ pub mod Clusters
 pub mod PlanReplies
 pub mod PlanTexts
 pub mod PlanInputs
+pub mod PlanLines
 pub mod ProfileMoves
 pub mod ProfileChanges
 pub mod Profiles

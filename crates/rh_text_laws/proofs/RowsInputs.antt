@@ -2,6 +2,7 @@
 use Rattle.std.proofs.Common.{◌≡◌, ℕ, List, [], ◌∷◌, ◌++◌, None, Some, Ok, codes, true, refl}
 use Rattle.std.specs.Str.{is_utf8, chars}
 use lib.Utf8.{encode}
+use Rattle.std.proofs.lemmas.List.Elements.{All-cons, All-nil}
 use Rattle.rh_terms.specs.Bytes.{past}
 use Rattle.rh_terms.specs.Tokens.{digits_at, integer_at, name_at, quoted, quoted_atom_at}
 use Rattle.rh_terms.specs.Grammar.{terms_of, dotted, dot_at, inside, terms_up_to, some_terms, next_at, term_by, word_at}
@@ -42,13 +43,14 @@ use Rattle.rh_step.specs.Outcomes.{followed, next}
 use Rattle.rh_trail.specs.Runs.{step}
 use Rattle.rh_script.specs.Lines.{content, script_lines}
 use Rattle.rh_script.specs.Commands.{line_of}
-use Rattle.rh_script.specs.SweepLines.{PlanText, sweep_line_of, sweep_lines_asked, plans_of}
+use Rattle.rh_script.specs.SweepLines.{PlanText, plan_events, sweep_line_of, sweep_lines_asked, plans_of}
 use Rattle.rh_app.specs.RunText.{run_end}
 use Rattle.rh_app.specs.SweepText.{sweep_end}
 use Rattle.rh_trail.specs.Lone.{opened}
-use Rattle.rh_text_laws.specs.Plans.{AnswersView}
+use Rattle.rh_text_laws.specs.Plans.{AnswersView, events_answered}
 use Rattle.rh_text_laws.specs.Profiles.{NoneGivesBack}
 use Rattle.rh_text_laws.specs.ProfileTexts.{calls_in}
+use Rattle.rh_text_laws.specs.PlanLines.{is_of_base, is_of_plan, IsCopied}
 use Rattle.rh_text_laws.specs.PlanTexts.{base_calls, AsksForPlan}
 
 -- a file of one node; behind it stand the base and a plan of a sweep, or the commands of a run
@@ -118,6 +120,33 @@ unfolding run_end content line_of sweep_line_of is_utf8 chars encode terms_of do
     platform_in_entry with_platforms with_first_name with_name agreement_stage mismatches is_involved first_involved agreed_shares
     mismatch_faults agree same_shares same_share same_group boot_list_faults boot_entry_faults cluster_view app_views app_view dep_named
 asks_row = record { cluster = refl; ends = refl; asks = refl }
+
+-- its lines are copied from those of the sweep
+abbrev OfBase : List ℕ → Type 0
+OfBase line = is_of_base (sweep_line_of one line) ≡ true
+
+abbrev OfPlan : List ℕ → Type 0
+OfPlan line = is_of_plan (sweep_line_of one line) ≡ true
+
+abbrev copied : List (List ℕ)
+copied = codes "crash a" ∷ codes "crash a" ∷ []
+
+copied_row : IsCopied one swept run copied
+unfolding content sweep_line_of is_utf8 chars encode
+copied_row = record {
+  base = codes "boot a" ∷ [];
+  first = codes "plan p";
+  others = codes "crash a" ∷ codes "crash a" ∷ codes "boot a" ∷ [];
+  swept = refl;
+  begins = refl;
+  of_base = All-cons OfBase (codes "boot a") [] refl (All-nil OfBase);
+  of_plan = All-cons OfPlan (codes "crash a") (codes "crash a" ∷ []) refl (All-cons OfPlan (codes "crash a") [] refl (All-nil OfPlan));
+  run = refl;
+}
+
+copied_asks_row : plan_events (sweep_lines_asked one copied) ≡ events_answered answers plan.events
+unfolding sweep_line_of is_utf8 chars encode
+copied_asks_row = refl
 
 -- and no command of the run gives a permission back
 none_given_row : NoneGivesBack (opened one First) (calls_in one run)

@@ -1,5 +1,6 @@
 //! Laws of the definitions of what is answered. Each function does nothing: its contract is the law.
 
+ghost use Rattle.rh_text_laws.specs.PlanLines.{CopiedLinesAsk};
 ghost use Rattle.rh_text_laws.specs.PlanTexts.{PlanTextIsRun, SweepIsRuns};
 ghost use Rattle.rh_text_laws.specs.Plans.{PlanIsRun};
 ghost use Rattle.rh_text_laws.specs.ProfileFiles.{SecondProfileReadsSame};
@@ -21,6 +22,12 @@ pub fn plan_text_is_run()
 /// refused one, and for the report.
 pub fn sweep_is_runs()
     ensures { SweepIsRuns }
+{}
+
+/// An input of `run` asks for a plan whose script has the lines of a sweep's base, lines that ask for the events of the plan up to the
+/// first refused one, and `show`.
+pub fn copied_lines_ask()
+    ensures { CopiedLinesAsk }
 {}
 
 /// In each profile an event is refused alike, and comes to the same unless it gives back the permission of an application at a node
