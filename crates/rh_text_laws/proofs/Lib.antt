@@ -1,5 +1,6 @@
 pub mod Clusters
 pub mod PlanReplies
+pub mod PlanRefusals
 pub mod PlanTexts
 pub mod PlanInputs
 pub mod PlanLines

@@ -1,6 +1,6 @@
 -- What comes of a plan is read off what one caller is answered to its base and its events (ours).
-use Rattle.std.specs.Prelude.{◌≡◌, ◌+◌, List, [], ◌∷◌, ◌++◌, length, take, map, count_by}
-use Rattle.std.specs.Prelude.{Option, Some, None}
+use Rattle.std.specs.Prelude.{◌≡◌, ℕ, ◌+◌, List, [], ◌∷◌, ◌++◌, length, take, map, count_by}
+use Rattle.std.specs.Prelude.{Option, Some, None, slice_get}
 use Rattle.std.specs.List.{flat_map}
 use Rattle.std.specs.Option.{option_map}
 use Rattle.rh_model.specs.ClusterView.{ClusterView}
@@ -12,11 +12,13 @@ use Rattle.rh_events.specs.declared.refusal.Refusal.{Refusal}
 use Rattle.rh_trail.specs.declared.call.Call.{Call}
 use Rattle.rh_trail.specs.declared.call.Reply.{Reply}
 use Rattle.rh_trail.specs.declared.call.Reply.TheVariants.{Done, Refused}
-use Rattle.rh_trail.specs.SimView.{state_of}
+use Rattle.rh_events.specs.Refusals.{refused}
+use Rattle.rh_trail.specs.SimView.{SimView, state_of}
 use Rattle.rh_trail.specs.Lone.{opened, replies, sim_after}
 use Rattle.rh_plans.specs.declared.plan.Outcome.{Outcome}
 use Rattle.rh_plans.specs.declared.plan.Plan.{Plan}
 use Rattle.rh_sweep.specs.Outcomes.{is_failover, is_takeover, standings_in, steps, outcome_of}
+use Rattle.rh_sweep.specs.Sweeping.{HasRoom}
 
 -- what is told of events that are accepted one after the other, and why the next one is refused, if it
 -- is
@@ -74,3 +76,18 @@ PlanIsRun =
     (c : ClusterView) (pick : Pick) (calls : List Call) (plan : Plan)
     → let base = sim_after (opened c pick) calls in
     IsReadOffRun c pick calls plan.events.items (outcome_of base plan)
+
+-- ---- the refused event
+
+-- the event of this place is refused for this reason by the rules, in the state behind those before it
+pub record IsRefusedAt (base : SimView) (events : List Event) (place : ℕ) (why : Refusal) : Type 0 where
+  pub event : Event
+  pub there : slice_get events place ≡ Some event
+  pub by_rules : refused (state_of (sim_after base (steps (take place events)))) event ≡ Some why
+
+-- so it is where the trail has room for the plan: no event of it is refused for a full trail
+abbrev pub PlanRefusedByRules : Type 0
+PlanRefusedByRules =
+    (base : SimView) (plan : Plan) (place : ℕ) (why : Refusal) → HasRoom base plan
+    → (outcome_of base plan).refused ≡ Some (place, why)
+    → IsRefusedAt base plan.events.items place why

@@ -2,7 +2,7 @@
 
 ghost use Rattle.rh_text_laws.specs.PlanLines.{CopiedLinesAsk};
 ghost use Rattle.rh_text_laws.specs.PlanTexts.{PlanTextIsRun, SweepIsRuns};
-ghost use Rattle.rh_text_laws.specs.Plans.{PlanIsRun};
+ghost use Rattle.rh_text_laws.specs.Plans.{PlanIsRun, PlanRefusedByRules};
 ghost use Rattle.rh_text_laws.specs.ProfileFiles.{SecondProfileReadsSame};
 ghost use Rattle.rh_text_laws.specs.ProfileTexts.{RunsSameUnderProfiles, SecondProfileRunsSame};
 ghost use Rattle.rh_text_laws.specs.Profiles.{NonePermitsNoneGivesBack, RepliesSameUnderProfiles, SameUnderProfiles};
@@ -11,6 +11,11 @@ ghost use Rattle.rh_text_laws.specs.Profiles.{NonePermitsNoneGivesBack, RepliesS
 /// refused one.
 pub fn plan_is_run()
     ensures { PlanIsRun }
+{}
+
+/// Where the trail has room for a plan, the event of it that is refused is so by the rules, in the state behind those before it.
+pub fn plan_refused_by_rules()
+    ensures { PlanRefusedByRules }
 {}
 
 /// What `sweep` writes of a plan is read off the answers that `run` writes to these calls, and off the report behind them.
