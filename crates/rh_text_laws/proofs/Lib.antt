@@ -10,6 +10,7 @@ pub mod Profiles
 pub mod ProfileReplies
 pub mod ProfileFiles
 pub mod ProfileTexts
+pub mod ProfileSweeps
 mod RowsPlans
 mod RowsProfiles
 mod RowsInputs

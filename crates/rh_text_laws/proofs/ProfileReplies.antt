@@ -29,10 +29,10 @@ use Rattle.rh_text_laws.proofs.Profiles.{same_under_profiles}
 
 module _ (profile : ℕ) where
   -- the same simulation in the profile, and what it answers
-  abbrev there : SimView → SimView
+  abbrev pub there : SimView → SimView
   there s = record s { cluster = in_profile profile s.cluster }
 
-  abbrev served_there : Served → Served
+  abbrev pub served_there : Served → Served
   served_there v = answered v.reply (there v.sim)
 
   report_alike : (s : StateView) → report_text (state_in profile s) ≡ report_text s
@@ -40,12 +40,12 @@ module _ (profile : ℕ) where
   report_alike s = refl
 
   -- behind each number of events of its trail it is in the same state
-  record IsAlike (s : SimView) : Type 0 where
-    within : s.cursor ≤ length s.trail
-    each : (k : ℕ) → k ≤ length s.trail
+  pub record IsAlike (s : SimView) : Type 0 where
+    pub within : s.cursor ≤ length s.trail
+    pub each : (k : ℕ) → k ≤ length s.trail
         → after (in_profile profile s.cluster) s.pick (take k s.trail) ≡ state_in profile (after s.cluster s.pick (take k s.trail))
 
-  state_alike : (s : SimView) → IsAlike s → state_of (there s) ≡ state_in profile (state_of s)
+  pub state_alike : (s : SimView) → IsAlike s → state_of (there s) ≡ state_in profile (state_of s)
   state_alike s alike = alike.each s.cursor alike.within
 
   -- ---- what is answered
@@ -68,7 +68,7 @@ module _ (profile : ℕ) where
           ∙ swap served_there (s.cursor == trail_limit) (answered (reply.Refused TrailFull) s)
           (answered (reply.Done (next (state_of s) e s.pick).notices) (with_event s e))
 
-  served_alike : (s : SimView) (asked : Call) → IsAlike s → call_gives_back s asked ≡ false → served (there s) asked ≡ served_there (served s asked)
+  pub served_alike : (s : SimView) (asked : Call) → IsAlike s → call_gives_back s asked ≡ false → served (there s) asked ≡ served_there (served s asked)
   served_alike s (call.Step e) alike none = step_alike s e alike none
   served_alike s call.Undo alike none =
       swap served_there (s.cursor == 0) (answered reply.AtStart s) (answered reply.Undone (record s { cursor = s.cursor - 1 }))
@@ -114,7 +114,7 @@ module _ (profile : ℕ) where
       by true = alike
       by false = event_alike s e alike none
 
-  sim_alike : (s : SimView) (asked : Call) → IsAlike s → call_gives_back s asked ≡ false → IsAlike (served s asked).sim
+  pub sim_alike : (s : SimView) (asked : Call) → IsAlike s → call_gives_back s asked ≡ false → IsAlike (served s asked).sim
   sim_alike s (call.Step e) alike none = stepped_alike s e (refused (state_of s) e) alike none
   sim_alike s call.Undo alike none = by (s.cursor == 0)
     where
@@ -132,13 +132,13 @@ module _ (profile : ℕ) where
   sim_alike s call.Look alike none = alike
 
   -- ---- all calls
-  replies_alike : (s : SimView) (calls : List Call) → IsAlike s → NoneGivesBack s calls → replies (there s) calls ≡ replies s calls
+  pub replies_alike : (s : SimView) (calls : List Call) → IsAlike s → NoneGivesBack s calls → replies (there s) calls ≡ replies s calls
   replies_alike s [] alike none = refl
   replies_alike s (asked ∷ calls) alike none =
       ap (λ (v : Served). v.reply ∷ replies v.sim calls) (served_alike s asked alike none.0)
       ∙ ap (λ rs. (served s asked).reply ∷ rs) (replies_alike (served s asked).sim calls (sim_alike s asked alike none.0) none.1)
 
-  opened_alike : (c : ClusterView) (pick : Pick) → IsAlike (opened c pick)
+  pub opened_alike : (c : ClusterView) (pick : Pick) → IsAlike (opened c pick)
   unfolding nodes_of apps_of configured
   opened_alike c pick = record { within = omega arith; each = λ k bound. by k }
     where

@@ -24,7 +24,7 @@ module _ (profile : ℕ) (c : ClusterView) where
   lines_alike : (lines : List (List ℕ)) → lines_asked (in_profile profile c) lines ≡ lines_asked c lines
   lines_alike lines = λ i. map (λ line. line_alike line i) lines
 
-  answer_alike : (r : Reply) → answer_text (in_profile profile c) r ≡ answer_text c r
+  pub answer_alike : (r : Reply) → answer_text (in_profile profile c) r ≡ answer_text c r
   unfolding notice_line answer_text
   answer_alike r = refl
 
@@ -46,11 +46,11 @@ runs_same_under_profiles bytes other c profile pick is there same none = (
 )
 
 -- ---- the parts of an input behind the line of the second profile
-text_second : (bytes : List ℕ) → cluster_text (second_line ++ bytes) ≡ second_line ++ cluster_text bytes
+pub text_second : (bytes : List ℕ) → cluster_text (second_line ++ bytes) ≡ second_line ++ cluster_text bytes
 unfolding content
 text_second bytes = refl
 
-script_second : (bytes : List ℕ) → script_lines (second_line ++ bytes) ≡ script_lines bytes
+pub script_second : (bytes : List ℕ) → script_lines (second_line ++ bytes) ≡ script_lines bytes
 unfolding content
 script_second bytes = refl
 

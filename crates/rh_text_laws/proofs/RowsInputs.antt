@@ -47,11 +47,12 @@ use Rattle.rh_script.specs.SweepLines.{PlanText, plan_events, sweep_line_of, swe
 use Rattle.rh_app.specs.RunText.{run_end}
 use Rattle.rh_app.specs.SweepText.{sweep_end}
 use Rattle.rh_trail.specs.Lone.{opened}
+use Rattle.rh_sweep.specs.Outcomes.{steps}
 use Rattle.rh_text_laws.specs.Plans.{AnswersView, events_answered}
 use Rattle.rh_text_laws.specs.Profiles.{NoneGivesBack}
-use Rattle.rh_text_laws.specs.ProfileTexts.{calls_in}
+use Rattle.rh_text_laws.specs.ProfileTexts.{calls_in, NoPlanGivesBack}
 use Rattle.rh_text_laws.specs.PlanLines.{is_of_base, is_of_plan, IsCopied}
-use Rattle.rh_text_laws.specs.PlanTexts.{base_calls, AsksForPlan}
+use Rattle.rh_text_laws.specs.PlanTexts.{base_calls, base_of, AsksForPlan}
 
 -- a file of one node; behind it stand the base and a plan of a sweep, or the commands of a run
 abbrev file : List ℕ
@@ -152,3 +153,15 @@ copied_asks_row = refl
 none_given_row : NoneGivesBack (opened one First) (calls_in one run)
 unfolding content line_of is_utf8 chars encode
 none_given_row = (refl, (refl, (refl, (refl, tt))))
+
+-- nor does the base of the sweep, or its plan
+abbrev Gives : PlanText → Type 0
+Gives p = NoneGivesBack (base_of one First swept) (steps p.events)
+
+base_row : NoneGivesBack (opened one First) (base_calls one swept)
+unfolding content sweep_line_of is_utf8 chars encode
+base_row = (refl, tt)
+
+plans_row : NoPlanGivesBack (base_of one First swept) (plans_of (sweep_lines_asked one (script_lines swept)))
+unfolding content sweep_line_of is_utf8 chars encode
+plans_row = All-cons Gives plan [] (refl, (refl, (refl, tt))) (All-nil Gives)

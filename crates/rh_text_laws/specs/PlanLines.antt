@@ -25,8 +25,8 @@ abbrev pub is_of_plan : SweepLine → Bool
 is_of_plan (Begins name) = false
 is_of_plan (Plain read) = fits_plan read
 
--- an input of `run` is copied from that of a sweep: its script has the lines before the first plan, then
--- lines of a plan, and then `show`
+-- an input of `run` is copied from that of a sweep: its script has the lines before the first plan,
+-- then lines of a plan, and then `show`
 pub record IsCopied (c : ClusterView) (bytes input : List ℕ) (lines : List (List ℕ)) : Type 0 where
   pub base : List (List ℕ)
   pub first : List ℕ

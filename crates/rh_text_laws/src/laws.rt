@@ -4,7 +4,7 @@ ghost use Rattle.rh_text_laws.specs.PlanLines.{CopiedLinesAsk};
 ghost use Rattle.rh_text_laws.specs.PlanTexts.{PlanTextIsRun, SweepIsRuns};
 ghost use Rattle.rh_text_laws.specs.Plans.{PlanIsRun, PlanRefusedByRules};
 ghost use Rattle.rh_text_laws.specs.ProfileFiles.{SecondProfileReadsSame};
-ghost use Rattle.rh_text_laws.specs.ProfileTexts.{RunsSameUnderProfiles, SecondProfileRunsSame};
+ghost use Rattle.rh_text_laws.specs.ProfileTexts.{RunsSameUnderProfiles, SecondProfileRunsSame, SecondProfileSweepsSame};
 ghost use Rattle.rh_text_laws.specs.Profiles.{NonePermitsNoneGivesBack, RepliesSameUnderProfiles, SameUnderProfiles};
 
 /// The outcome of a plan is read off what one caller is answered who makes the calls of its base, and then its events up to the first
@@ -65,4 +65,9 @@ pub fn runs_same_under_profiles()
 /// So it does for an input whose file names no profile, and for that input behind the line `{profile, 2}.`.
 pub fn second_profile_runs_same()
     ensures { SecondProfileRunsSame }
+{}
+
+/// So does `sweep`, if neither a command of the base nor a plan gives such a permission back.
+pub fn second_profile_sweeps_same()
+    ensures { SecondProfileSweepsSame }
 {}

@@ -6,5 +6,5 @@ mod laws;
 pub use laws::{
     copied_lines_ask, none_permits_none_gives_back, plan_is_run, plan_refused_by_rules,
     plan_text_is_run, replies_same_under_profiles, runs_same_under_profiles, same_under_profiles,
-    second_profile_reads_same, second_profile_runs_same, sweep_is_runs,
+    second_profile_reads_same, second_profile_runs_same, second_profile_sweeps_same, sweep_is_runs,
 };
