@@ -1,0 +1,31 @@
+//! What came of a call.
+
+/// What came of a call.
+#[derive(Clone, Copy)]
+pub enum Answer {
+    /// It answered what it has to.
+    Done,
+    /// It was refused memory, and all is as before.
+    Refused,
+    /// This isn't as it has to be.
+    Changed(&'static str),
+}
+
+impl Answer {
+    /// Whether the call answered what it has to.
+    pub fn done(is_right: bool) -> Answer {
+        if is_right {
+            Answer::Done
+        } else {
+            Answer::Changed("answer")
+        }
+    }
+
+    /// The call was refused memory, and this isn't as before.
+    pub fn refused(changed: Option<&'static str>) -> Answer {
+        match changed {
+            None => Answer::Refused,
+            Some(what) => Answer::Changed(what),
+        }
+    }
+}

@@ -1,0 +1,57 @@
+//! The readers of a state.
+
+use crate::made::{HERE, SERVICE, SIDE};
+use rh_cluster::Restart;
+use rh_state::{Kind, Mode, Place, Standing, State, Timer};
+
+/// Whether a reader of this name answers as it has to, if it is one of the lists and the timers.
+pub fn is_of_lists(state: &State, name: &str) -> Option<bool> {
+    if state.cluster().node_count() != 3 || state.cluster().app_count() != 2 {
+        return None;
+    }
+    if name == "State::place_of" {
+        Some(state.place_of(HERE, SERVICE) == Place::InRunning)
+    } else if name == "State::first_running" {
+        Some(state.first_running(HERE) == Some(SIDE))
+    } else if name == "State::first_waiting" {
+        Some(state.first_waiting(HERE).is_none())
+    } else if name == "State::next_in_list" {
+        Some(state.next_in_list(HERE, SIDE) == Some(SERVICE))
+    } else if name == "State::running_count" {
+        Some(state.running_count(HERE) == 2)
+    } else if name == "State::due_of" {
+        Some(state.due_of(Timer::Failover(SERVICE)) == Some(36))
+    } else if name == "State::earliest" {
+        Some(state.earliest() == Some((36, Timer::Failover(SERVICE))))
+    } else {
+        None
+    }
+}
+
+/// The same of one of the other parts.
+pub fn is_of_parts(state: &State, name: &str) -> Option<bool> {
+    if state.cluster().node_count() != 3 || state.cluster().app_count() != 2 {
+        return None;
+    }
+    if name == "State::cluster" {
+        Some(state.cluster().node_count() == 3)
+    } else if name == "State::now" {
+        Some(state.now() == 0)
+    } else if name == "State::mode" {
+        Some(state.mode(HERE) == Mode::Down)
+    } else if name == "State::incarnation" {
+        Some(state.incarnation(HERE) == 0)
+    } else if name == "State::allowed" {
+        Some(state.allowed(HERE, SERVICE))
+    } else if name == "State::restart_of" {
+        Some(state.restart_of(HERE, SERVICE) == Restart::Temporary)
+    } else if name == "State::kind_of" {
+        Some(state.kind_of(HERE, SERVICE) == Kind::Normal)
+    } else if name == "State::standing" {
+        Some(state.standing(SERVICE) == Standing::Quiet)
+    } else if name == "State::same_words" {
+        Some(state.same_words(state))
+    } else {
+        None
+    }
+}

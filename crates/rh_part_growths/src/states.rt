@@ -1,0 +1,75 @@
+//! States: the first one of a cluster, copies, and the calls of others.
+
+use crate::made::{SERVICE, state};
+use crate::{exchanges, places, readers, setters};
+use rh_marks::{Answer, begin, end};
+use rh_state::{State, Timer, first_state};
+use std::alloc::Global;
+
+/// What comes of the call of this name, if it is here.
+pub fn answer(alloc: Global, name: &str) -> Option<Answer> {
+    let mut state = state(alloc)?;
+    if name == "first_state" {
+        Some(beginning(alloc, &state))
+    } else if name == "State::copy" {
+        Some(copying(alloc, &state))
+    } else if name == "State::timers" {
+        Some(listing(alloc, &state))
+    } else if name == "State::back" {
+        exchanges::going_back(alloc, &mut state)
+    } else if name == "State::forth" {
+        exchanges::going_forth(alloc, &mut state)
+    } else {
+        begin(alloc);
+        let told = is_right(&mut state, name);
+        end(alloc);
+        Some(Answer::done(told?))
+    }
+}
+
+// Whether a call of this name, which takes no memory, answers as it has to.
+fn is_right(state: &mut State, name: &str) -> Option<bool> {
+    if let Some(is_right) = readers::is_of_lists(state, name) {
+        Some(is_right)
+    } else if let Some(is_right) = readers::is_of_parts(state, name) {
+        Some(is_right)
+    } else if let Some(is_right) = places::is_told(state, name) {
+        Some(is_right)
+    } else if let Some(is_right) = setters::is_part_set(state, name) {
+        Some(is_right)
+    } else {
+        setters::is_link_set(state, name)
+    }
+}
+
+fn beginning(alloc: Global, state: &State) -> Answer {
+    begin(alloc);
+    let first = first_state(alloc, state.cluster());
+    end(alloc);
+    match first {
+        Ok(first) => Answer::done(first.now() == 0 && first.earliest().is_none()),
+        Err(_) => Answer::Refused,
+    }
+}
+
+fn copying(alloc: Global, state: &State) -> Answer {
+    begin(alloc);
+    let copy = state.copy(alloc);
+    end(alloc);
+    match copy {
+        Ok(copy) => Answer::done(copy.same_words(state)),
+        Err(_) => Answer::Refused,
+    }
+}
+
+fn listing(alloc: Global, state: &State) -> Answer {
+    begin(alloc);
+    let timers = state.timers(alloc);
+    end(alloc);
+    match timers {
+        Ok(timers) => {
+            Answer::done(timers.as_slice() == [(36, Timer::Failover(SERVICE))].as_slice())
+        }
+        Err(_) => Answer::Refused,
+    }
+}

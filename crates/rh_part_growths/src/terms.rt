@@ -1,0 +1,85 @@
+//! Terms.
+
+use rh_base::{Term, Terms};
+use rh_marks::{Answer, begin, end};
+use rh_terms::{TermFault, read_terms};
+use std::alloc::Global;
+
+static TERMS: &str = "{node, 'n1@lab', [\"one\", [-7]]}. second.";
+
+/// What comes of the call of this name, if it is here.
+pub fn answer(alloc: Global, name: &str) -> Option<Answer> {
+    if name == "read_terms" {
+        Some(reading(alloc))
+    } else if name == "Terms::of" {
+        Some(making(alloc, Vec::new(alloc)))
+    } else {
+        let terms = read_terms(alloc, TERMS.as_bytes()).ok()?;
+        of_read(alloc, &terms, terms.as_slice().first()?, name)
+    }
+}
+
+fn reading(alloc: Global) -> Answer {
+    begin(alloc);
+    let read = read_terms(alloc, TERMS.as_bytes());
+    end(alloc);
+    match read {
+        Ok(terms) => Answer::done(terms.as_slice().len() == 2),
+        Err(TermFault::OutOfMemory) => Answer::Refused,
+        Err(_) => Answer::Changed("fault"),
+    }
+}
+
+fn making(alloc: Global, terms: Vec<Term>) -> Answer {
+    begin(alloc);
+    let made = Terms::of(terms);
+    end(alloc);
+    Answer::done(made.as_slice().is_empty())
+}
+
+// The calls of terms that were read, and of the first of them.
+fn of_read(alloc: Global, terms: &Terms, first: &Term, name: &str) -> Option<Answer> {
+    if name == "Terms::copy" {
+        return Some(copying_all(alloc, terms));
+    }
+    if name == "Term::copy" {
+        return Some(copying(alloc, first));
+    }
+    begin(alloc);
+    let is_right = is_read(terms, first, name);
+    end(alloc);
+    Some(Answer::done(is_right?))
+}
+
+fn copying_all(alloc: Global, terms: &Terms) -> Answer {
+    begin(alloc);
+    let copy = terms.copy(alloc);
+    end(alloc);
+    match copy {
+        Ok(copy) => Answer::done(copy.same(terms)),
+        Err(_) => Answer::Refused,
+    }
+}
+
+fn copying(alloc: Global, term: &Term) -> Answer {
+    begin(alloc);
+    let copy = term.copy(alloc);
+    end(alloc);
+    match copy {
+        Ok(copy) => Answer::done(copy.same(term)),
+        Err(_) => Answer::Refused,
+    }
+}
+
+// Whether a reader of this name answers as it has to.
+fn is_read(terms: &Terms, first: &Term, name: &str) -> Option<bool> {
+    if name == "Terms::as_slice" {
+        Some(terms.as_slice().len() == 2)
+    } else if name == "Terms::same" {
+        Some(terms.same(terms))
+    } else if name == "Term::same" {
+        Some(first.same(first))
+    } else {
+        None
+    }
+}

@@ -1,0 +1,111 @@
+//! Notices, standings, and devices that are watched.
+
+use rh_cluster::{App, Node};
+use rh_devices::{Bytes, Watched};
+use rh_marks::{Answer, begin, end};
+use rh_plans::Standings;
+use rh_state::Standing;
+use rh_step::{Notice, Notices};
+use std::alloc::Global;
+
+static UP: Notice = Notice::Up { node: Node(0) };
+
+/// What comes of the call of this name, if it is here.
+pub fn answer(alloc: Global, name: &str) -> Option<Answer> {
+    if name == "Notices::of" {
+        Some(telling(alloc, notices(alloc)?))
+    } else if name == "Notices::copy" {
+        Some(copying(alloc, &Notices::of(notices(alloc)?)))
+    } else if name == "Standings::of" {
+        Some(standing(alloc, items(alloc)?))
+    } else if name == "Watched::new" {
+        Some(watching(alloc))
+    } else {
+        reading(alloc, name)
+    }
+}
+
+fn notices(alloc: Global) -> Option<Vec<Notice>> {
+    Vec::from_slice(alloc, [UP].as_slice()).ok()
+}
+
+fn items(alloc: Global) -> Option<Vec<(App, Standing)>> {
+    Vec::from_slice(alloc, [(App(0), Standing::Quiet)].as_slice()).ok()
+}
+
+fn telling(alloc: Global, notices: Vec<Notice>) -> Answer {
+    begin(alloc);
+    let made = Notices::of(notices);
+    end(alloc);
+    Answer::done(made.as_slice() == [UP].as_slice())
+}
+
+fn copying(alloc: Global, notices: &Notices) -> Answer {
+    begin(alloc);
+    let copy = notices.copy(alloc);
+    end(alloc);
+    match copy {
+        Ok(copy) => Answer::done(copy.same(notices)),
+        Err(_) => Answer::Refused,
+    }
+}
+
+fn standing(alloc: Global, items: Vec<(App, Standing)>) -> Answer {
+    begin(alloc);
+    let made = Standings::of(alloc, items);
+    end(alloc);
+    match made {
+        Ok(made) => Answer::done(made.as_slice().len() == 1),
+        Err(_) => Answer::Refused,
+    }
+}
+
+fn watching(alloc: Global) -> Answer {
+    begin(alloc);
+    let watched = Watched::new(Bytes::new(b"text".as_slice()));
+    end(alloc);
+    Answer::done(!watched.failed())
+}
+
+fn reading(alloc: Global, name: &str) -> Option<Answer> {
+    let notices = Notices::of(notices(alloc)?);
+    let standings = Standings::of(alloc, items(alloc)?).ok()?;
+    let watched = Watched::new(Bytes::new(b"text".as_slice()));
+    begin(alloc);
+    let is_right = is_read(&notices, &standings, name);
+    let is_watched = is_asked(watched, name);
+    end(alloc);
+    match is_right {
+        None => Some(Answer::done(is_watched?)),
+        Some(is_right) => Some(Answer::done(is_right)),
+    }
+}
+
+// Whether a reader of this name answers as it has to.
+fn is_read(notices: &Notices, standings: &Standings, name: &str) -> Option<bool> {
+    if name == "Notices::as_slice" {
+        Some(notices.as_slice() == [UP].as_slice())
+    } else if name == "Notices::same" {
+        Some(notices.same(notices))
+    } else if name == "Standings::as_slice" {
+        Some(standings.as_slice().len() == 1)
+    } else if name == "Standings::same" {
+        Some(standings.same(standings))
+    } else if name == "Standings::share" {
+        Some(standings.share().is_ok())
+    } else {
+        None
+    }
+}
+
+// The same of a device.
+fn is_asked(watched: Watched<Bytes>, name: &str) -> Option<bool> {
+    if name == "Watched::failed" {
+        Some(!watched.failed())
+    } else if name == "Watched::into_inner" {
+        let _ = watched.into_inner();
+        Some(true)
+    } else {
+        None
+    }
+}

@@ -1,0 +1,134 @@
+//! Timers: three, of which two are armed.
+
+ghost use Rattle.std.specs.Prelude.{◌≡◌, true, IfSome};
+ghost use Rattle.rh_wheel.specs.Edits.{exchange};
+ghost use Rattle.rh_wheel.specs.Formed.{IsFormed};
+
+use rh_marks::{Answer, begin, end};
+use rh_wheel::{TimerEdit, Wheel};
+use std::alloc::Global;
+
+/// What comes of the call of this name, if it is here.
+pub fn answer(alloc: Global, name: &str) -> Option<Answer> {
+    let mut wheel = two(alloc)?;
+    if name == "Wheel::new" {
+        Some(making(alloc))
+    } else if name == "Wheel::copy" {
+        Some(copying(alloc, &wheel))
+    } else if name == "Wheel::arm" {
+        arming(alloc, &mut wheel)
+    } else if name == "Wheel::cancel" {
+        cancelling(alloc, &mut wheel)
+    } else if name == "Wheel::revert" {
+        reverting(alloc, &mut wheel)
+    } else if name == "Wheel::reapply" {
+        reapplying(alloc, &mut wheel)
+    } else {
+        begin(alloc);
+        let is_right = is_read(&wheel, name);
+        end(alloc);
+        Some(Answer::done(is_right?))
+    }
+}
+
+// Two timers that are due together.
+fn two(alloc: Global) -> Option<Wheel> {
+    let mut wheel = Wheel::new(alloc, 3).ok()?;
+    arm(&mut wheel, 2)?;
+    arm(&mut wheel, 0)?;
+    Some(wheel)
+}
+
+// Arms a timer.
+fn arm(wheel: &mut Wheel, timer: u32) -> Option<()> {
+    if timer >= wheel.timer_count() || wheel.due_of(timer).is_some() {
+        return None;
+    }
+    let _ = wheel.arm(timer, 100);
+    Some(())
+}
+
+fn making(alloc: Global) -> Answer {
+    begin(alloc);
+    let made = Wheel::new(alloc, 3);
+    end(alloc);
+    match made {
+        Ok(wheel) => Answer::done(wheel.timer_count() == 3),
+        Err(_) => Answer::Refused,
+    }
+}
+
+fn copying(alloc: Global, wheel: &Wheel) -> Answer {
+    begin(alloc);
+    let copy = wheel.copy(alloc);
+    end(alloc);
+    match copy {
+        Ok(copy) => Answer::done(copy.same_words(wheel)),
+        Err(_) => Answer::Refused,
+    }
+}
+
+// Whether a reader of this name answers as it has to.
+fn is_read(wheel: &Wheel, name: &str) -> Option<bool> {
+    if name == "Wheel::earliest" {
+        Some(wheel.earliest() == Some((100, 2)))
+    } else if name == "Wheel::due_of" {
+        Some(wheel.due_of(0) == Some(100))
+    } else if name == "Wheel::same_words" {
+        Some(wheel.same_words(wheel))
+    } else if name == "Wheel::timer_count" {
+        Some(wheel.timer_count() == 3)
+    } else {
+        None
+    }
+}
+
+fn arming(alloc: Global, wheel: &mut Wheel) -> Option<Answer> {
+    begin(alloc);
+    let armed = arm(wheel, 1);
+    end(alloc);
+    armed?;
+    Some(Answer::done(wheel.due_of(1) == Some(100)))
+}
+
+// Cancels the first timer.
+fn cancel(wheel: &mut Wheel) -> Option<TimerEdit>
+    ensures done { IfSome result (λ edit. edit.is_done ≡ true) }
+    ensures exact { IfSome result (λ edit. exchange wheel.new edit ≡ wheel.old) }
+    ensures formed { IsFormed wheel.old }
+{
+    wheel.formed();
+    if wheel.due_of(0).is_none() {
+        return None;
+    }
+    Some(wheel.cancel(0))
+}
+
+fn cancelling(alloc: Global, wheel: &mut Wheel) -> Option<Answer> {
+    begin(alloc);
+    let edit = cancel(wheel);
+    end(alloc);
+    let _ = edit?;
+    Some(Answer::done(wheel.due_of(0).is_none()))
+}
+
+fn reverting(alloc: Global, wheel: &mut Wheel) -> Option<Answer> {
+    let mut edit = cancel(wheel)?;
+    begin(alloc);
+    wheel.revert(&mut edit);
+    end(alloc);
+    Some(Answer::done(wheel.due_of(0) == Some(100)))
+}
+
+fn reapplying(alloc: Global, wheel: &mut Wheel) -> Option<Answer> {
+    let mut edit = cancel(wheel)?;
+    wheel.formed();
+    wheel.revert(&mut edit);
+    if edit.is_done() {
+        return None;
+    }
+    begin(alloc);
+    wheel.reapply(&mut edit);
+    end(alloc);
+    Some(Answer::done(wheel.due_of(0).is_none()))
+}
