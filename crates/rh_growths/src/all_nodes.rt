@@ -1,11 +1,10 @@
 //! Steps that stop and start an application at all its nodes, and one that gives a permission back in the second profile. Behind
 //! each a step was undone, which stays where memory is refused.
 
-use crate::answer::Answer;
 use crate::clusters::{BOOT_1, BOOT_2, BOOT_3, PAIR, SECOND_PAIR, sim_before_last};
 use crate::kept::Kept;
-use crate::marks::{begin, end};
 use rh_cluster::{App, Node, Restart};
+use rh_marks::{Answer, begin, end};
 use rh_state::Kind;
 use rh_step::{Event, Notice};
 use rh_trail::Sim;
@@ -57,11 +56,11 @@ fn waits(node: u8) -> Notice {
 
 /// What comes of the call of this name, if it is here.
 pub fn answer(alloc: Global, name: &str) -> Option<Answer> {
-    if name == "step_stop_all" {
+    if name == "Sim::step of stop_all" {
         step_of_stop_all(alloc)
-    } else if name == "step_start_all" {
+    } else if name == "Sim::step of start_all" {
         step_of_start_all(alloc)
-    } else if name == "step_permit" {
+    } else if name == "Sim::step of a permission" {
         step_of_a_permission(alloc)
     } else {
         None

@@ -1,21 +1,21 @@
 //! One call with growths refused, which tests/growths.py does from outside. The program takes one word, the name of a call. It
-//! makes what the call needs and keeps copies of what has to stay, marks the call's beginning and its end (`marks`), and writes
-//! what came of it: `done`, `refused` (memory was refused, and all is as before) or `changed` and what isn't as it has to be.
+//! makes what the call needs and keeps copies of what has to stay, marks the call's beginning and its end, and writes what came of
+//! it (`rh_marks`). With a second word, the text of a cluster file, it makes many such calls, which all have to succeed.
 #![tactic(auto)]
 
 mod all_nodes;
-mod answer;
+mod bytes;
 mod clusters;
 mod first;
 mod kept;
-mod marks;
+mod many;
 mod moves;
 mod performing;
 mod rooms;
 mod sims;
 mod sweeps;
 
-use answer::Answer;
+use rh_marks::{Answer, tell};
 use std::alloc::Global;
 use std::env;
 use std::process::ExitCode;
@@ -25,9 +25,9 @@ use std::thread::Threads;
 
 // What comes of the call of this name; `None` where it has no such name, or its beginning can't be made.
 fn call<T: Runtime<A = Global> + Threads + Wait + Sync>(rt: &T, name: &str) -> Option<Answer> {
-    if name == "sweep" {
-        sweeps::sweeping(rt, rt.alloc())
-    } else if let Some(answer) = first::answer(rt.alloc(), name) {
+    if let Some(answer) = sweeps::answer(rt, rt.alloc(), name) {
+        Some(answer)
+    } else if let Some(answer) = bytes::answer(rt.alloc(), name) {
         Some(answer)
     } else if let Some(answer) = sims::answer(rt.alloc(), name) {
         Some(answer)
@@ -40,28 +40,30 @@ fn call<T: Runtime<A = Global> + Threads + Wait + Sync>(rt: &T, name: &str) -> O
     }
 }
 
-// Writes what came of a call, and gives the exit status.
-fn tell<T: Runtime<A = Global>>(rt: &T, told: Option<Answer>) -> u8 {
-    let (written, status) = match told {
-        Some(Answer::Done) => (println!(rt; "done"), 0),
-        Some(Answer::Refused) => (println!(rt; "refused"), 0),
-        Some(Answer::Changed(what)) => (println!(rt; "changed {what}"), 1),
-        None => (println!(rt; "unprepared"), 2),
-    };
-    if written.is_ok() { status } else { 3 }
+// What comes of what these words ask, of which the second may be missing.
+fn asked<T: Runtime<A = Global> + Threads + Wait + Sync>(
+    rt: &T,
+    name: &str,
+    text: Option<String>,
+) -> Option<Answer> {
+    match text {
+        None => call(rt, name),
+        Some(text) => many::answer(rt.alloc(), name, text.as_str()),
+    }
 }
 
-// The word of the command line; `None` unless it is one.
-fn word_of(rt: &HostRuntime) -> Option<String> {
+// The first words of the command line; `None` unless there is one.
+fn words_of(rt: &HostRuntime) -> Option<(String, Option<String>)> {
     let mut words = env::args(rt).ok()?;
     let _ = words.next();
-    words.next()
+    let name = words.next()?;
+    Some((name, words.next()))
 }
 
 fn main(rt: HostRuntime) -> ExitCode {
-    let told = match word_of(&rt) {
-        Some(word) => call(&rt, word.as_str()),
+    let told = match words_of(&rt) {
         None => None,
+        Some((name, text)) => asked(&rt, name.as_str(), text),
     };
-    ExitCode::from(tell(&rt, told))
+    tell(&rt, told)
 }

@@ -1,9 +1,9 @@
-//! Undo and redo, which take no memory: they lead to the words that other simulations have, behind fewer or more events.
+//! Undo, redo and the readers of a simulation, which take no memory. The former lead to the words that other simulations have,
+//! behind fewer or more events.
 
-use crate::answer::Answer;
 use crate::clusters::{BOOT_1, BOOT_2, BOOT_3, RANKS, sim_before_last, sim_behind};
-use crate::marks::{begin, end};
-use rh_step::Event;
+use rh_marks::{Answer, begin, end};
+use rh_step::{Event, Pick};
 use rh_trail::Sim;
 use std::alloc::Global;
 
@@ -21,15 +21,15 @@ enum Way {
 
 // The call of this name, and how many events stand then.
 fn way_of(name: &str) -> Option<(Way, usize)> {
-    if name == "undo" {
+    if name == "Sim::undo" {
         Some((Way::Undo, 1))
-    } else if name == "redo" {
+    } else if name == "Sim::redo" {
         Some((Way::Redo, 3))
-    } else if name == "undo_all" {
+    } else if name == "Sim::undo_all" {
         Some((Way::UndoAll, 0))
-    } else if name == "redo_all" {
+    } else if name == "Sim::redo_all" {
         Some((Way::RedoAll, 3))
-    } else if name == "cut_redo" {
+    } else if name == "Sim::cut_redo" {
         Some((Way::CutRedo, 2))
     } else {
         None
@@ -38,8 +38,10 @@ fn way_of(name: &str) -> Option<(Way, usize)> {
 
 /// What comes of the call of this name, if it is here.
 pub fn answer(alloc: Global, name: &str) -> Option<Answer> {
-    let (way, standing) = way_of(name)?;
     let mut sim = sim_before_last(alloc, RANKS, EVENTS.as_slice())?;
+    let Some((way, standing)) = way_of(name) else {
+        return Some(reading(alloc, &sim, reader_of(name)?));
+    };
     let wanted = sim_behind(alloc, RANKS, EVENTS.as_slice().get(..standing)?)?;
     Some(moving(alloc, &mut sim, way, &wanted))
 }
@@ -80,5 +82,53 @@ fn trail_behind(way: Way) -> usize {
     match way {
         Way::CutRedo => 2,
         _ => 3,
+    }
+}
+
+#[derive(Clone, Copy)]
+enum Reader {
+    Cluster,
+    Cursor,
+    Trail,
+    Record,
+    State,
+    Pick,
+}
+
+// The reader of this name.
+fn reader_of(name: &str) -> Option<Reader> {
+    if name == "Sim::cluster" {
+        Some(Reader::Cluster)
+    } else if name == "Sim::cursor" {
+        Some(Reader::Cursor)
+    } else if name == "Sim::trail" {
+        Some(Reader::Trail)
+    } else if name == "Sim::record" {
+        Some(Reader::Record)
+    } else if name == "Sim::state" {
+        Some(Reader::State)
+    } else if name == "Sim::pick" {
+        Some(Reader::Pick)
+    } else {
+        None
+    }
+}
+
+fn reading(alloc: Global, sim: &Sim, reader: Reader) -> Answer {
+    begin(alloc);
+    let is_right = is_read(sim, reader);
+    end(alloc);
+    Answer::done(is_right)
+}
+
+// Does it answer as it has to?
+fn is_read(sim: &Sim, reader: Reader) -> bool {
+    match reader {
+        Reader::Cluster => sim.cluster().node_count() == 3,
+        Reader::Cursor => sim.cursor() == 2,
+        Reader::Trail => sim.trail().len() == 3,
+        Reader::Record => sim.trail().len() == 3 && !sim.record(0).is_empty(),
+        Reader::State => sim.state().now() == 0,
+        Reader::Pick => sim.pick() == Pick::First,
     }
 }

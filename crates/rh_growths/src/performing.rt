@@ -4,10 +4,9 @@ ghost use Rattle.std.specs.Prelude.{IfSome};
 ghost use Rattle.rh_settle.specs.Validity.{IsValid};
 ghost use Rattle.rh_state.specs.Stored.{read};
 
-use crate::answer::Answer;
 use crate::clusters::{BOOT_1, BOOT_3, RANKS, cluster_of};
-use crate::marks::{begin, end};
 use rh_cluster::Cluster;
+use rh_marks::{Answer, begin, end};
 use rh_state::{Edit, State, first_state};
 use rh_step::{Event, Notice, Pick, first_is_valid, perform, refusal_of};
 use std::alloc::Global;

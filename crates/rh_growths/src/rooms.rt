@@ -1,12 +1,11 @@
 //! Rooms of two sessions: opening one, serving a call, forking it, and closing it.
 
-use crate::answer::Answer;
 use crate::clusters::{BOOT_1, BOOT_2, BOOT_3, CAVE, cluster_of, sim_behind};
 use crate::kept::Kept;
-use crate::marks::{begin, end};
 use rh_cluster::Cluster;
+use rh_marks::{Answer, begin, end};
 use rh_room::{Entry, Pass, Receipt, Room, RoomFault, close, open_room};
-use rh_step::Pick;
+use rh_step::{Pick, Refusal};
 use rh_trail::{Call, Reply, Sim};
 use std::alloc::Global;
 
@@ -34,14 +33,33 @@ struct Open {
 pub fn answer(alloc: Global, name: &str) -> Option<Answer> {
     if name == "open_room" {
         Some(opening(alloc, cluster_of(alloc, CAVE)?))
-    } else if name == "serve_step" {
+    } else if name == "Room::serve of a step" {
         serving(alloc, Call::Step(BOOT_3), 2)
-    } else if name == "serve_look" {
+    } else if name == "Room::serve of a look" {
         serving(alloc, Call::Look, 1)
-    } else if name == "fork" {
+    } else if name == "Room::fork" {
         forking(alloc)
     } else if name == "close" {
         closing(alloc)
+    } else if let Some(call) = quick_call(name) {
+        serving(alloc, call, 2)
+    } else {
+        reading(alloc, name)
+    }
+}
+
+// The call of a session of this name, if it takes no memory.
+fn quick_call(name: &str) -> Option<Call> {
+    if name == "Room::serve of undo" {
+        Some(Call::Undo)
+    } else if name == "Room::serve of redo" {
+        Some(Call::Redo)
+    } else if name == "Room::serve of undo_all" {
+        Some(Call::UndoAll)
+    } else if name == "Room::serve of redo_all" {
+        Some(Call::RedoAll)
+    } else if name == "Room::serve of a refused step" {
+        Some(Call::Step(BOOT_1))
     } else {
         None
     }
@@ -110,6 +128,10 @@ fn served_as(
 fn is_right(receipt: &Receipt) -> bool {
     match (receipt.call, &receipt.reply) {
         (Call::Step(_), Reply::Done(notices)) => notices.as_slice().len() == 6,
+        (Call::Step(_), Reply::Refused(refusal)) => *refusal == Refusal::AlreadyAlive,
+        (Call::Undo, Reply::Undone) | (Call::Redo, Reply::AtEnd) => true,
+        (Call::UndoAll, Reply::Moved(count)) => *count == 2,
+        (Call::RedoAll, Reply::Moved(count)) => *count == 0,
         (
             Call::Look,
             Reply::Seen {
@@ -163,6 +185,33 @@ fn are_receipts(passes: &[Pass], count: usize) -> bool {
     match passes {
         [first, second] => { first.receipts().len() == 1 && second.receipts().len() + 1 == count }
         _ => false,
+    }
+}
+
+// The readers of a room and its passes.
+fn reading(alloc: Global, name: &str) -> Option<Answer> {
+    let open = opened(alloc, CALLS.as_slice())?;
+    let pass = open.passes.get(0)?;
+    begin(alloc);
+    let is_right = is_read(&open.room, pass, name);
+    end(alloc);
+    Some(Answer::done(is_right?))
+}
+
+// Whether a reader of this name answers as it has to.
+fn is_read(room: &Room, pass: &Pass, name: &str) -> Option<bool> {
+    if name == "Room::log" {
+        Some(room.log().len() == 2)
+    } else if name == "Room::sim" {
+        Some(room.sim().cursor() == 2)
+    } else if name == "Room::sessions" {
+        Some(room.sessions() == 2)
+    } else if name == "Pass::session" {
+        Some(pass.session() == 1)
+    } else if name == "Pass::receipts" {
+        Some(pass.receipts().len() == 1)
+    } else {
+        None
     }
 }
 

@@ -1,31 +1,33 @@
 //! Simulations: opening and copying one, steps, and a plan that is tried.
 
-use crate::answer::Answer;
 use crate::clusters::{
     BOOT_1, BOOT_2, BOOT_3, ONE_NODE, PAIR, RANKS, TWO_NODES, cluster_of, sim_before_last,
     sim_behind,
 };
 use crate::first::{TWO_TIMERS, is_new};
 use crate::kept::Kept;
-use crate::marks::{begin, end};
+use crate::performing::performing;
 use crate::sweeps::trying;
 use rh_cluster::Cluster;
+use rh_marks::{Answer, begin, end};
 use rh_step::{Event, Pick};
 use rh_trail::Sim;
 use std::alloc::Global;
 
 /// What comes of the call of this name, if it is here.
 pub fn answer(alloc: Global, name: &str) -> Option<Answer> {
-    if name == "open" {
+    if name == "Sim::open" {
         Some(opening(alloc, cluster_of(alloc, ONE_NODE)?))
-    } else if name == "copy" {
+    } else if name == "Sim::copy" {
         copying(alloc)
-    } else if name == "step_timers" {
+    } else if name == "Sim::step where timers fire" {
         step_of_timers(alloc)
-    } else if name == "step_boot" {
+    } else if name == "Sim::step of a boot" {
         step_of_a_boot(alloc)
-    } else if name == "step_undone" {
+    } else if name == "Sim::step behind an undone one" {
         step_behind_an_undone(alloc)
+    } else if name == "perform" {
+        performing(alloc)
     } else if name == "try_plan" {
         trying(alloc)
     } else {

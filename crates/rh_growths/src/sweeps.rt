@@ -1,14 +1,13 @@
 //! Plans: one that is tried, and a sweep of several by two workers.
 
-use crate::answer::Answer;
 use crate::clusters::{BOOT_1, BOOT_2, BOOT_3, CAVE, sim_behind};
 use crate::kept::Kept;
-use crate::marks::{begin, end};
 use rh_base::Str;
 use rh_cluster::{App, Node, Restart};
+use rh_marks::{Answer, begin, end};
 use rh_state::Standing;
 use rh_step::{Event, Refusal};
-use rh_sweep::{FreeGate, Outcome, Plan, SweepFault, sweep, try_plan};
+use rh_sweep::{FreeGate, Gate, Outcome, Plan, SweepFault, sweep, try_plan};
 use rh_trail::Sim;
 use std::alloc::Global;
 use std::sync::Wait;
@@ -33,8 +32,8 @@ static HAND: [Event; 1] = [Event::Takeover {
     restart: Restart::Permanent,
 }];
 
-// A plan of these events.
-fn plan_of(alloc: Global, events: &[Event]) -> Option<Plan> {
+/// A plan of these events.
+pub fn plan_of(alloc: Global, events: &[Event]) -> Option<Plan> {
     let name = Str::of(String::from_str(alloc, "plan").ok()?);
     let events = Vec::from_slice(alloc, events).ok()?;
     Some(Plan { name, events })
@@ -116,8 +115,49 @@ fn are_right(outcomes: &[Outcome]) -> bool {
     }
 }
 
-/// Five plans are swept by two workers.
-pub fn sweeping<R: Threads + Wait + Sync>(rt: &R, alloc: Global) -> Option<Answer> {
+/// What comes of the call of this name, if it is here.
+pub fn answer<R: Threads + Wait + Sync>(rt: &R, alloc: Global, name: &str) -> Option<Answer> {
+    if name == "sweep" {
+        sweeping(rt, alloc)
+    } else if name == "sweep of 10 plans" {
+        sweeping_many(rt, alloc, 10)
+    } else if name == "sweep of 110 plans" {
+        sweeping_many(rt, alloc, 110)
+    } else if name == "FreeGate::enter" {
+        begin(alloc);
+        FreeGate.enter(rt, 0);
+        end(alloc);
+        Some(Answer::Done)
+    } else if name == "FreeGate::leave" {
+        begin(alloc);
+        FreeGate.leave(rt, 0);
+        end(alloc);
+        Some(Answer::Done)
+    } else {
+        None
+    }
+}
+
+// So many equal plans are swept by one worker.
+fn sweeping_many<R: Threads + Wait + Sync>(rt: &R, alloc: Global, count: usize) -> Option<Answer> {
+    let base = sim_behind(alloc, CAVE, BOOTS.as_slice())?;
+    let plans = equal_plans(alloc, count)?;
+    begin(alloc);
+    let outcomes = sweep(rt, alloc, &base, plans.as_slice(), 1, &FreeGate);
+    end(alloc);
+    Some(Answer::done(outcomes.ok()?.len() == count))
+}
+
+fn equal_plans(alloc: Global, count: usize) -> Option<Vec<Plan>> {
+    let mut plans = Vec::new(alloc);
+    for _ in 0..count {
+        plans.push(plan_of(alloc, DOWN.as_slice())?).ok()?;
+    }
+    Some(plans)
+}
+
+// Five plans are swept by two workers.
+fn sweeping<R: Threads + Wait + Sync>(rt: &R, alloc: Global) -> Option<Answer> {
     let mut base = sim_behind(alloc, CAVE, BOOTS.as_slice())?;
     let plans = plans(alloc)?;
     swept(rt, alloc, &mut base, plans.as_slice())

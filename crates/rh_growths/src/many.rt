@@ -1,0 +1,86 @@
+//! Calls behind many others, of a cluster that the test gives as a text: none may want memory, since none is refused.
+
+use crate::clusters::{BOOT_1, cluster_of, sim_behind};
+use crate::sweeps::plan_of;
+use rh_marks::Answer;
+use rh_room::{Pass, Room, open_room};
+use rh_step::{Event, Pick};
+use rh_sweep::{Plan, try_plan};
+use rh_trail::{Call, Sim, report};
+use std::alloc::Global;
+
+const COUNT: usize = 5_000;
+
+static TICK: Event = Event::Tick { ms: 1 };
+
+/// What comes of many calls of this name, if it is here.
+pub fn answer(alloc: Global, name: &str, text: &str) -> Option<Answer> {
+    if name == "Sim::step" {
+        stepping(alloc, text)
+    } else if name == "Room::serve" {
+        serving(alloc, text)
+    } else if name == "try_plan" {
+        trying(alloc, text)
+    } else {
+        None
+    }
+}
+
+// A long trail: the first node boots, and time passes.
+fn long(alloc: Global, text: &str) -> Option<Sim> {
+    let mut sim = sim_behind(alloc, text, [BOOT_1].as_slice())?;
+    tick(alloc, &mut sim)?;
+    Some(sim)
+}
+
+fn tick(alloc: Global, sim: &mut Sim) -> Option<()> {
+    for _ in 0..COUNT {
+        let _ = sim.step(alloc, TICK).ok()?;
+    }
+    Some(())
+}
+
+fn stepping(alloc: Global, text: &str) -> Option<Answer> {
+    let sim = long(alloc, text)?;
+    read(alloc, &sim)
+}
+
+fn read(alloc: Global, sim: &Sim) -> Option<Answer> {
+    let copy = sim.copy(alloc).ok()?;
+    let _ = copy.state().timers(alloc).ok()?;
+    let text = report(alloc, copy.state()).ok()?;
+    Some(Answer::done(copy.trail().len() == COUNT + 1 && !text.is_empty()))
+}
+
+fn serving(alloc: Global, text: &str) -> Option<Answer> {
+    let cluster = cluster_of(alloc, text)?;
+    let (mut room, mut passes) = open_room(alloc, cluster, Pick::First, 1).ok()?;
+    call_all(alloc, &mut room, passes.get_mut(0)?)?;
+    let fork = room.fork(alloc).ok()?;
+    Some(Answer::done(fork.trail().len() == COUNT + 1))
+}
+
+fn call_all(alloc: Global, room: &mut Room, pass: &mut Pass) -> Option<()> {
+    let _ = room.serve(alloc, pass, Call::Step(BOOT_1)).ok()?;
+    for _ in 0..COUNT {
+        let _ = room.serve(alloc, pass, Call::Step(TICK)).ok()?;
+        let _ = room.serve(alloc, pass, Call::Look).ok()?;
+    }
+    Some(())
+}
+
+fn trying(alloc: Global, text: &str) -> Option<Answer> {
+    let mut sim = long(alloc, text)?;
+    let events = vec![in alloc; TICK; COUNT].ok()?;
+    tried(alloc, &mut sim, &plan_of(alloc, events.as_slice())?)
+}
+
+// A plan of many events is tried behind a long trail.
+fn tried(alloc: Global, sim: &mut Sim, plan: &Plan) -> Option<Answer> {
+    let standing = sim.trail().len();
+    if sim.cursor() != standing || plan.events.len() > Sim::TRAIL_LIMIT - standing {
+        return None;
+    }
+    let outcome = try_plan(alloc, sim, plan).ok()?;
+    Some(Answer::done(outcome.accepted == 5_000))
+}
