@@ -7,9 +7,9 @@ folders that is no such row is a failed test. Then come inputs that are too larg
 that fail, and memory (refused_memory.py), more devices (hostile.py) and each of their calls (failing_calls.py), cut inputs
 (prefixes.py), sweeps (sweeps.py), texts that are no terms (term_faults.py), cluster files at the limits (cluster_limits.py),
 both profiles (profiles.py), random scripts beside a model (random_scripts.py), the scripts that run, build and ship the
-program (shipped.py) and the documents (check_docs.py). Calls that the program `rh_growths` beside PROGRAM makes have each
-growth of memory refused in turn, and have to leave all as it was (growths.py). All of it runs side by side on all processors
-(groups.py).
+program (shipped.py) and the documents (check_docs.py). Calls that the programs `rh_growths` and `rh_part_growths` beside PROGRAM
+make have their growths of memory counted and refused, and have to leave all as it was (growths.py). All of it runs side by side
+on all processors (groups.py).
 The last line is 'N passed, M failed'. Where paths of rows are given, these alone are run.
 """
 import os
