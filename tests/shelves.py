@@ -1,7 +1,7 @@
-"""The two shelves of wrong bodies, and what has to be so of them.
+"""The shelves of wrong bodies, and what has to be so of them.
 
 An edit is a file NAME.edit of the folder crates/CRATE/must-fail, whose edits `rt ci` tries, or of wrong-bodies/CRATE, whose
-edits wrong_bodies.py tries. Its lines are `file: PATH`, for the changes behind it, and pairs of `old: TEXT` and `new: TEXT`:
+edits wrong_bodies.py tries. Those of wrong-bodies/tests/CRATE the prover lets through, and a test fails. Its lines are `file: PATH`, for the changes behind it, and pairs of `old: TEXT` and `new: TEXT`:
 a text that stands in that file once, when the changes before are made, and the one that takes its place.
 """
 import re
@@ -13,6 +13,7 @@ from support import TOP
 
 CRATES = Path(TOP, "crates")
 WRONG_BODIES = Path(TOP, "wrong-bodies")
+TESTED = WRONG_BODIES / "tests"
 PAGE = Path(TOP, "docs", "WRONG_BODIES.md")
 # How many edits there may be for rt ci to try: they take about as long as all proofs together.
 MOST_IN_GATE = 160
@@ -44,9 +45,14 @@ def other_shelf(crate: str) -> Path:
     return WRONG_BODIES / crate
 
 
+def test_shelf(crate: str) -> Path:
+    """The folder of the edits that only a test refuses."""
+    return TESTED / crate
+
+
 def crates_on_other_shelf() -> list[str]:
     """The crates that have edits which wrong_bodies.py tries."""
-    return sorted(folder.name for folder in WRONG_BODIES.iterdir() if folder.is_dir())
+    return sorted(folder.name for folder in WRONG_BODIES.iterdir() if folder.is_dir() and folder != TESTED)
 
 
 def files_on(shelf: Path) -> list[Path]:
@@ -103,12 +109,12 @@ def edit_fault(crate: str, edit: Path) -> str | None:
 
 
 def edits_apply(_program: str) -> Iterator[Test]:
-    """Each edit of both shelves can be applied, and no two edits of a crate have one name."""
+    """Each edit of all shelves can be applied, and no two edits of a crate have one name."""
     for crate in sorted({folder.name for folder in CRATES.iterdir()} | set(crates_on_other_shelf())):
-        in_gate, others = files_on(gate_shelf(crate)), files_on(other_shelf(crate))
+        in_gate, others = files_on(gate_shelf(crate)), files_on(other_shelf(crate)) + files_on(test_shelf(crate))
         wrong = [fault for edit in in_gate + others if (fault := edit_fault(crate, edit))]
         twice = sorted({edit.name for edit in in_gate} & {edit.name for edit in others})
-        wrong += [f"{name} stands on both shelves" for name in twice]
+        wrong += [f"{name} stands on two shelves" for name in twice]
         yield f"the wrong bodies of {crate}", "; ".join(wrong) or None
 
 
@@ -121,15 +127,15 @@ def gate_is_small(_program: str) -> Iterator[Test]:
 
 def name_fault(cell: str) -> str | None:
     """What is wrong with the names of edits in a cell of the page's table, or None. A name with an asterisk behind it is that
-    of an edit in wrong-bodies."""
-    named = re.findall(r"`([^`]*)`(\\\*)?", cell)
+    of an edit in wrong-bodies, one with a plus sign of an edit in wrong-bodies/tests."""
+    named = re.findall(r"`([^`]*)`(\\\*|\+)?", cell)
     wrong = []
     for name, star in named:
         crate, _, edit = name.partition("/")
-        shelf = other_shelf(crate) if star else gate_shelf(crate)
+        shelf = {"": gate_shelf, "+": test_shelf}.get(star, other_shelf)(crate)
         if not edit or not (shelf / f"{edit}.edit").is_file():
             wrong.append(f"there is no {(shelf / edit).relative_to(TOP)}.edit")
-    if named and all(star for _, star in named):
+    if named and all(star not in ("", "+") for _, star in named):
         wrong.append(f"rt ci tries none of {cell.strip()}")
     return "; ".join(wrong) or None
 
