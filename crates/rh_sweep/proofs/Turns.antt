@@ -1,8 +1,9 @@
 -- The workers take turns: the first has the outcome of the next plan, and goes behind the others with those that it has left.
-use Rattle.std.proofs.Common.{◌≡◌, ℕ, zero, suc, ◌+◌, ◌*◌, ◌<◌, List, [], ◌∷◌, ◌++◌, length, drop, map, Option, Some, None, get_or, slice_get, IsSome, Result, Ok, Err, IfOk, Vec}
+use Rattle.std.proofs.Common.{◌≡◌, ℕ, zero, suc, ◌+◌, ◌*◌, ◌<◌, List, [], ◌∷◌, ◌++◌, length, drop, map, Option, Some, None, get_or, slice_get, IsSome, Result, Ok, Err, IsOk, IfOk, OnOk, Vec, All}
 use Rattle.std.proofs.Common.{sym, ap, subst, ◌∙◌, inl, inr, refl, arith}
 use Rattle.std.specs.Option.{option_map, option_to_list}
 use Rattle.std.proofs.lemmas.List.{length_push, length-drop, map-append, get_or_append_left, get_or_push}
+use Rattle.std.proofs.lemmas.List.Elements.{All-nil, All-cons, All-get_or}
 use Rattle.std.proofs.lemmas.Option.{slice_get-get_or}
 use Rattle.std.proofs.lemmas.Bool.{cases_lt}
 use Rattle.rh_trail.specs.SimView.{SimView}
@@ -43,6 +44,31 @@ module _ {T X Z E : Type 0} (items : T → List X) where
       let others : map (λ s. Some (items s)) ts ≡ map given parts = cc in
       each-given (λ n. P (suc n)) ts parts others (λ w d within. each (suc w) d (omega (arith, within))) i (omega (arith, inside))
 
+  given-ok : (t : T) (part : Result (Vec X Z) E) → Some (items t) ≡ given part → IsOk part
+  given-ok t (Ok v) is = refl
+  given-ok t (Err e) is = absurd (cc is)
+
+  -- and each of them gave something
+  pub all-ok : (ts : List T) (parts : List (Result (Vec X Z) E)) → map (λ t. Some (items t)) ts ≡ map given parts → All IsOk parts
+  all-ok ts [] is = All-nil IsOk
+  all-ok [] (part ∷ parts) is = absurd (cc is)
+  all-ok (t ∷ ts) (part ∷ parts) is =
+      let first : Some (items t) ≡ given part = cc in
+      let others : map (λ s. Some (items s)) ts ≡ map given parts = cc in
+      All-cons IsOk part parts (given-ok t part first) (all-ok ts parts others)
+
+-- what holds where something was given
+pub on-ok : {X E : Type 0} (r : Result X E) (P : Type 0) → IsOk r → OnOk r P → P
+on-ok (Ok x) P ok is = is
+on-ok (Err e) P ok is = absurd (cc ok)
+
+-- and so of each of a list, where all were given
+pub each-on-ok : {X E : Type 0} (rs : List (Result X E)) (P : ℕ → Type 0) → All IsOk rs
+    → ((w : ℕ) (d : Result X E) → w < length rs → OnOk (get_or rs w d) (P w)) → (w : ℕ) → w < length rs → P w
+each-on-ok [] P all each w inside = absurd (omega (arith, inside))
+each-on-ok (r ∷ rs) P all each w inside =
+    on-ok (get_or (r ∷ rs) w r) (P w) (All-get_or IsOk (r ∷ rs) w r inside all) (each w r inside)
+
 module _ (s : SimView) (plans : List Plan) (k : ℕ) where
   -- the next plan is n, and the worker whose turn it is stands first
   pub record AreTurns (n : ℕ) (turns : List (List Outcome)) : Type 0 where
@@ -54,7 +80,7 @@ module _ (s : SimView) (plans : List Plan) (k : ℕ) where
     next-of : (turn : List Outcome) → AreTurns n (turn ∷ turns) → (d : Plan) → slice_get turn 0 ≡ Some (outcome_of s (get_or plans n d))
     next-of turn are d =
         let at : n + 0 + 0 * k ≡ n = omega arith in
-        are.each 0 (omega (arith, are.count)) 0 (omega (arith, inside))
+        are.each 0 (omega (arith, are.count)) 0
         ∙ ap (λ m. option_map (outcome_of s) (slice_get plans m)) at
         ∙ ap (option_map (outcome_of s)) (slice_get-get_or plans n d inside)
 
@@ -85,7 +111,7 @@ module _ (s : SimView) (plans : List Plan) (k : ℕ) where
 
       last : (i : ℕ) → i ≡ length turns → AreOutcomes s plans k (n + 1 + i) (get_or (turns ++ os ∷ []) i [])
       last i same = subst (AreOutcomes s plans k (n + 1 + i)) (sym (get_or_push turns os [] i (sym same)))
-          (λ j within.
+          (λ j.
           let at : n + 0 + suc j * k ≡ n + 1 + i + j * k = omega (arith, same, are.count) in
-          are.each 0 (omega (arith, are.count)) (suc j) (subst (λ m. m < length plans) (sym at) within)
+          are.each 0 (omega (arith, are.count)) (suc j)
           ∙ ap (λ m. option_map (outcome_of s) (slice_get plans m)) at)

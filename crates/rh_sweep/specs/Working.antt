@@ -55,10 +55,13 @@ pub record IsAtBase (b : Branch) (base : Held) : Type 0 where
   pub none : b.edits.items ≡ []
   pub kept : b.dropped ≡ false
 
--- the outcomes of the plans first, first + k, first + 2k and so on
+-- the outcomes of the plans first, first + k, first + 2k and so on, and no others
 abbrev pub AreOutcomes : SimView → List Plan → ℕ → ℕ → List Outcome → Type 0
-AreOutcomes base plans k first outcomes =
-    (j : ℕ) → first + j * k < length plans → slice_get outcomes j ≡ option_map (outcome_of base) (slice_get plans (first + j * k))
+AreOutcomes base plans k first outcomes = (j : ℕ) → slice_get outcomes j ≡ option_map (outcome_of base) (slice_get plans (first + j * k))
+
+-- it holds of the numbers first, first + k, first + 2k and so on below a count: those of the plans of one of k workers
+abbrev pub EachOf : (ℕ → Type 0) → ℕ → ℕ → ℕ → Type 0
+EachOf P count k first = (j : ℕ) → first + j * k < count → P (first + j * k)
 
 -- what a worker gave, if it had memory
 abbrev pub given : {X Z E : Type 0} → Result (Vec X Z) E → Option (List X)

@@ -1,13 +1,18 @@
 //! A base without its past, on which a worker tries plans.
 
-ghost use Rattle.std.specs.Prelude.{◌≡◌, IfOk, OnOk};
+ghost use Rattle.std.specs.Prelude.{◌≡◌, true, IfOk, OnOk};
 ghost use Rattle.rh_trail.specs.SimView.{SimView};
 ghost use Rattle.rh_sweep.specs.Outcomes.{outcome_of};
 ghost use Rattle.rh_sweep.specs.Sweeping.{HasRoom};
 
+mod alone;
+mod inside;
+
 use crate::standing::standings_in;
 use crate::steps::Steps;
 use crate::trial::tried;
+pub use alone::sweep_alone;
+pub(crate) use inside::Inside;
 use rh_base::OutOfMemory;
 use rh_plans::{Outcome, Plan, Standings};
 use rh_state::{Edit, State, go_back};
@@ -44,13 +49,9 @@ impl Branch {
         })
     }
 
-    /// The outcome of a plan, after which the branch is where its base is, as it was before.
-    pub(crate) fn try_plan(
-        &mut self,
-        alloc: Global,
-        base: &Sim,
-        plan: &Plan,
-    ) -> Result<Outcome, OutOfMemory>
+    // The outcome of a plan, after which the branch is where its base is, as it was before. A worker beside others tries its
+    // plans inside a gate alone (`Inside::try_plan`).
+    fn try_plan(&mut self, alloc: Global, base: &Sim, plan: &Plan) -> Result<Outcome, OutOfMemory>
         requires at { IsAtBase self.old base.now }
         requires room { HasRoom base.now.seen plan.now }
         ensures outcome { IfOk result (λ outcome. outcome ≡ outcome_of base.now.seen plan.now) }
@@ -69,10 +70,20 @@ impl Branch {
         ensures { OnOk result (IsAtBase self.new base.now) }
     {
         if self.dropped {
-            self.state = base.state().copy(alloc)?;
-        } else {
-            go_back(self.edits.as_mut_slice(), &mut self.state);
+            return self.copy_again(alloc, base);
         }
+        go_back(self.edits.as_mut_slice(), &mut self.state);
+        self.edits.clear();
+        Ok(())
+    }
+
+    // Copies the base's state again, for a branch that can't be taken back.
+    fn copy_again(&mut self, alloc: Global, base: &Sim) -> Result<(), OutOfMemory>
+        requires dropped { self.old.dropped ≡ true }
+        requires pick { self.old.pick ≡ base.now.seen.pick }
+        ensures { OnOk result (IsAtBase self.new base.now) }
+    {
+        self.state = base.state().copy(alloc)?;
         self.edits.clear();
         self.dropped = false;
         Ok(())

@@ -2,7 +2,8 @@
 //!
 //! A [`Plan`] is a list of events, and its [`Outcome`] is what comes of them from a base simulation, up to the first that
 //! is refused. [`try_plan`] gives the outcome of one plan and leaves the simulation as it was. [`sweep`] gives those of
-//! many, each worker on a copy of the base's state, with a [`Gate`] round each plan.
+//! many, each worker on a copy of the base's state, with a [`Gate`] round each plan, and [`sweep_alone`] those that one
+//! worker gives, without a thread.
 #![tactic(auto)]
 
 mod branch;
@@ -12,6 +13,7 @@ mod steps;
 mod trial;
 mod workers;
 
+pub use branch::sweep_alone;
 pub use rh_plans::{Outcome, Plan, Standings, SweepFault};
 pub use trial::try_plan;
 pub use workers::{FreeGate, Gate, MAX_WORKERS, sweep};

@@ -1,18 +1,36 @@
 //! How plans are shared out among workers, and their outcomes put together.
 
-ghost use Rattle.std.specs.Prelude.{◌≡◌, ◌<◌, ◌↔◌, ℕ, length, map, All, IsTrue, slice_index_or, IfOk, Some};
+ghost use Rattle.std.specs.Prelude.{◌≡◌, ◌<◌, ◌↔◌, ℕ, length, map, All, IsTrue, IsOk, slice_index_or, IfOk, IfSome, IfNone, OnOk, Some};
 ghost use Rattle.rh_sweep.specs.Outcomes.{outcome_of};
-ghost use Rattle.rh_sweep.specs.Sweeping.{HasRoom, IsAtEnd};
+ghost use Rattle.rh_sweep.specs.Sweeping.{HasRoom, IsAtEnd, MaySweep, WhyNotSwept};
 ghost use Rattle.rh_sweep.specs.Working.{AreOutcomes, given};
 
+use crate::workers::MAX_WORKERS;
 use rh_base::OutOfMemory;
-use rh_plans::{Outcome, Plan};
+use rh_plans::{Outcome, Plan, SweepFault};
 use rh_trail::Sim;
 use std::alloc::Global;
 use std::collections::VecDeque;
 
-/// Has the base's trail room for each of these plans?
-pub(crate) fn have_room(base: &Sim, plans: &[Plan]) -> bool
+/// Why so many workers can't sweep these plans from the base, if they can't.
+pub(crate) fn why_not_swept(base: &Sim, plans: &[Plan], workers: usize) -> Option<SweepFault>
+    ensures none { IfNone result (MaySweep base.now.seen plans.now workers) }
+    ensures some { IfSome result (WhyNotSwept base.now.seen plans.now workers) }
+{
+    if workers == 0 || workers > MAX_WORKERS {
+        return Some(SweepFault::WorkerCount);
+    }
+    if base.cursor() < base.trail().len() {
+        return Some(SweepFault::BaseNotAtEnd);
+    }
+    if !have_room(base, plans) {
+        return Some(SweepFault::TrailRoom);
+    }
+    None
+}
+
+// Has the base's trail room for each of these plans?
+fn have_room(base: &Sim, plans: &[Plan]) -> bool
     requires { IsAtEnd base.now.seen }
     ensures { IsTrue result ↔ All (HasRoom base.now.seen) plans.now }
 {
@@ -35,7 +53,8 @@ pub(crate) fn in_plan_order(
 ) -> Result<Vec<Outcome>, OutOfMemory>
     requires some { 0 < length parts.items }
     requires parts { (w : ℕ) (d : _) → w < length parts.items → IfOk (slice_index_or parts.items w d) (λ outcomes. AreOutcomes base.now.seen plans.now (length parts.items) w outcomes.items) }
-    ensures { IfOk result (λ outcomes. outcomes.items ≡ map (outcome_of base.now.seen) plans.now) }
+    ensures outcomes { IfOk result (λ outcomes. outcomes.items ≡ map (outcome_of base.now.seen) plans.now) }
+    ensures whole { OnOk result (All IsOk parts.items) }
 {
     // Only the contract speaks of the base.
     let _ = base;

@@ -1,12 +1,13 @@
 //! The workers of a sweep: threads, each with a branch of the base.
 
-ghost use Rattle.std.specs.Prelude.{◌≡◌, ◌<◌, length, map, All, IfOk, IfErr, OnOk};
+ghost use Rattle.std.specs.Prelude.{⊤, ◌≡◌, ◌<◌, ℕ, length, map, All, Some, IfOk, IfErr, OnOk, slice_get, slice_index_or};
+ghost use Rattle.std.specs.Option.{option_map};
 ghost use Rattle.rh_sweep.specs.Outcomes.{outcome_of};
-ghost use Rattle.rh_sweep.specs.Sweeping.{AreWorkers, HasRoom, IsAtEnd, MaySweep, WhyNotSwept};
-ghost use Rattle.rh_sweep.specs.Working.{AreOutcomes};
+ghost use Rattle.rh_sweep.specs.Sweeping.{AreWorkers, HasRoom, MaySweep, WhyNotSwept};
+ghost use Rattle.rh_sweep.specs.Working.{AreOutcomes, EachOf, IsAtBase};
 
-use crate::branch::Branch;
-use crate::shares::{have_room, in_plan_order};
+use crate::branch::{Branch, Inside};
+use crate::shares::{in_plan_order, why_not_swept};
 use rh_base::OutOfMemory;
 use rh_plans::{Outcome, Plan, SweepFault};
 use rh_trail::Sim;
@@ -22,11 +23,19 @@ pub const MAX_WORKERS: usize = 16;
 /// outcomes. That a worker is at work beside another is never sure: where no thread can be made, they work in turn, and a
 /// gate that waits for another worker waits for ever.
 pub trait Gate {
+    // It was entered for the plan of this number. An implementation may say what that comes to.
+    ghost entered: { Self → ℕ → Type 0 } = { λ gate plan. ⊤ };
+
+    // It was entered for this plan, and then left.
+    ghost left: { Self → ℕ → Type 0 } = { λ gate plan. ⊤ };
+
     /// Before the plan of this number is tried, counted from 0.
-    fn enter<R: Wait>(&self, rt: &R, plan: usize);
+    fn enter<R: Wait>(&self, rt: &R, plan: usize)
+        ensures { entered self.now plan };
 
     /// After it was tried.
-    fn leave<R: Wait>(&self, rt: &R, plan: usize);
+    fn leave<R: Wait>(&self, rt: &R, plan: usize)
+        ensures { entered self.now plan → left self.now plan };
 }
 
 /// A gate at which nobody waits.
@@ -42,8 +51,9 @@ impl Gate for FreeGate {
 /// The outcomes of the plans, in their order, each tried from the base.
 ///
 /// Worker w of k takes the plans w, w + k, w + 2k and so on, in order, on its own copy of the base's state, in a thread of its own
-/// where one can be made; otherwise its work runs before or after another's. The outcomes depend neither on the number of
-/// workers nor on the gate. The call returns when all workers have ended.
+/// where one can be made; otherwise its work runs before or after another's. Each plan is tried between entering the gate for it
+/// and leaving. The outcomes depend neither on the number of workers nor on the gate. The call returns when all workers have
+/// ended.
 ///
 /// # Errors
 /// The first of these that applies: `WorkerCount` unless there are 1 to 16 workers, `BaseNotAtEnd` if the base has steps
@@ -58,45 +68,45 @@ pub fn sweep<R: Threads + Wait + Sync, G: Gate + Sync>(
     gate: &G,
 ) -> Result<Vec<Outcome>, SweepFault>
     ensures outcomes { IfOk result (λ outcomes. outcomes.items ≡ map (outcome_of base.now.seen) plans.now) }
+    ensures left { OnOk result ((n : ℕ) → n < length plans.now → G.left gate.now n) }
     ensures fine { OnOk result (MaySweep base.now.seen plans.now workers) }
     ensures fault { IfErr result (WhyNotSwept base.now.seen plans.now workers) }
 {
-    if workers == 0 || workers > MAX_WORKERS {
-        return Err(SweepFault::WorkerCount);
-    }
-    if base.cursor() < base.trail().len() {
-        return Err(SweepFault::BaseNotAtEnd);
-    }
-    if !have_room(base, plans) {
-        return Err(SweepFault::TrailRoom);
-    }
-    match swept(rt, alloc, base, plans, workers, gate) {
+    let parts = parts_of(rt, alloc, base, plans, workers, gate)?;
+    match in_plan_order(alloc, base, plans, parts) {
         Ok(outcomes) => Ok(outcomes),
         Err(OutOfMemory) => Err(SweepFault::OutOfMemory),
     }
 }
 
-// The outcomes, each worker's on its own branch of the base.
-fn swept<R: Threads + Wait + Sync, G: Gate + Sync>(
+// What each worker made: that of number w has the outcomes of its plans, each of which was tried inside the gate.
+fn parts_of<R: Threads + Wait + Sync, G: Gate + Sync>(
     rt: &R,
     alloc: Global,
     base: &Sim,
     plans: &[Plan],
     workers: usize,
     gate: &G,
-) -> Result<Vec<Outcome>, OutOfMemory>
-    requires workers { AreWorkers workers }
-    requires end { IsAtEnd base.now.seen }
-    requires room { All (HasRoom base.now.seen) plans.now }
-    ensures { IfOk result (λ outcomes. outcomes.items ≡ map (outcome_of base.now.seen) plans.now) }
+) -> Result<Vec<Result<Vec<Outcome>, OutOfMemory>>, SweepFault>
+    ensures count { IfOk result (λ parts. length parts.items ≡ workers) }
+    ensures outcomes { IfOk result (λ parts. (w : ℕ) (d : _) → w < workers → IfOk (slice_index_or parts.items w d) (λ outcomes. AreOutcomes base.now.seen plans.now workers w outcomes.items)) }
+    ensures left { IfOk result (λ parts. (w : ℕ) (d : _) → w < workers → OnOk (slice_index_or parts.items w d) (EachOf (G.left gate.now) (length plans.now) workers w)) }
+    ensures fine { OnOk result (MaySweep base.now.seen plans.now workers) }
+    ensures fault { IfErr result (WhyNotSwept base.now.seen plans.now workers) }
 {
+    if let Some(fault) = why_not_swept(base, plans, workers) {
+        return Err(fault);
+    }
     let parts = thread::map_indices(
         rt,
         alloc,
         workers,
         &|first| { work(rt, alloc, base, plans, workers, first, gate) },
-    )?;
-    in_plan_order(alloc, base, plans, parts)
+    );
+    match parts {
+        Ok(parts) => Ok(parts),
+        Err(_) => Err(SweepFault::OutOfMemory),
+    }
 }
 
 // The outcomes of one worker's plans, in order, on a branch of the base. A worker without plans needs none.
@@ -112,7 +122,8 @@ fn work<R: Wait, G: Gate>(
     requires workers { AreWorkers workers }
     requires first { first < workers }
     requires room { All (HasRoom base.now.seen) plans.now }
-    ensures { IfOk result (λ outcomes. AreOutcomes base.now.seen plans.now workers first outcomes.items) }
+    ensures outcomes { IfOk result (λ outcomes. AreOutcomes base.now.seen plans.now workers first outcomes.items) }
+    ensures left { OnOk result (EachOf (G.left gate.now) (length plans.now) workers first) }
 {
     let mut outcomes = Vec::new(alloc);
     if first >= plans.len() {
@@ -121,12 +132,33 @@ fn work<R: Wait, G: Gate>(
     let mut branch = Branch::of(alloc, base)?;
     let mut number = first;
     'plans: while number < plans.len() {
-        gate.enter(rt, number);
-        let tried = branch.try_plan(alloc, base, &plans[number]);
-        gate.leave(rt, number);
+        let tried = try_inside(rt, alloc, base, plans, number, gate, &mut branch);
         let outcome = tried?.sharing(outcomes.last())?;
         outcomes.push(outcome)?;
         number += workers;
     }
     Ok(outcomes)
+}
+
+// The outcome of the plan of this number, which is tried between entering the gate for it and leaving.
+fn try_inside<R: Wait, G: Gate>(
+    rt: &R,
+    alloc: Global,
+    base: &Sim,
+    plans: &[Plan],
+    number: usize,
+    gate: &G,
+    branch: &mut Branch,
+) -> Result<Outcome, OutOfMemory>
+    requires at { IsAtBase branch.old base.now }
+    requires number { number < length plans.now }
+    requires room { All (HasRoom base.now.seen) plans.now }
+    ensures outcome { IfOk result (λ outcome. Some outcome ≡ option_map (outcome_of base.now.seen) (slice_get plans.now number)) }
+    ensures at { OnOk result (IsAtBase branch.new base.now) }
+    ensures left { G.left gate.now number }
+{
+    let inside = Inside::enter(rt, gate, number);
+    let tried = inside.try_plan(alloc, base, plans, branch);
+    inside.leave(rt, gate);
+    tried
 }

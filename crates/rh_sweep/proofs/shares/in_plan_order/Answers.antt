@@ -7,7 +7,7 @@ use Rattle.rh_plans.specs.declared.plan.Plan.{Plan}
 use Rattle.rh_sweep.specs.Outcomes.{outcome_of}
 use Rattle.rh_sweep.specs.Working.{AreOutcomes, given}
 use Rattle.rh_sweep.proofs.Strides.{any-plan}
-use Rattle.rh_sweep.proofs.Turns.{AreTurns, taken, each-given, has-outcome, is-outcome, turn-more}
+use Rattle.rh_sweep.proofs.Turns.{AreTurns, taken, each-given, all-ok, has-outcome, is-outcome, turn-more}
 use Rattle.rh_sweep.proofs.shares.in_plan_order.Goals as goal
 
 abbrev items : VecDeque Outcome Global → List Outcome
@@ -80,8 +80,11 @@ loop-number-preserved c =
           ∙ sym (map_more (outcome_of base) plans n d c.loop-number-test.true);
     }
 
-pub returns : goal.returns
-returns c =
+pub returns-clause-outcomes : goal.returns-clause-outcomes
+returns-clause-outcomes c =
     c.loop-number.invariant.outcomes
     ∙ ap (λ (ps : List Plan). map (outcome_of c.args.base.now.seen) ps)
     (take_all c.loop-number._number c.args.plans.now (omega (arith, c.loop-number-test.false)))
+
+pub returns-clause-whole : goal.returns-clause-whole
+returns-clause-whole c = all-ok items c.in_ok-turns.turns.items c.args.parts.items c.in_ok-turns.ensures

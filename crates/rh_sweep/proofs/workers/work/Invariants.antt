@@ -1,15 +1,14 @@
-use Rattle.std.proofs.Common.{◌≡◌, ◌<◌, ◌+◌, ◌-◌, ◌*◌, ℕ, length, slice_get}
-use Rattle.std.specs.Option.{option_map}
-use Rattle.rh_sweep.specs.Outcomes.{outcome_of}
+use Rattle.std.proofs.Common.{◌≡◌, ◌+◌, ◌-◌, ◌*◌, length}
 use Rattle.rh_sweep.specs.Working.{IsAtBase}
+use Rattle.rh_sweep.proofs.Strides.{AreFirst, HoldsFirst}
 use Rattle.rh_sweep.proofs.workers.work.Given as goal
 
 abbrev pub invariant-plans : goal.invariant-plans
 invariant-plans g l = record {
   at : IsAtBase l.branch l.base;
   number : l.number ≡ l.first + length l.outcomes.items * l.workers;
-  each : (j : ℕ) → j < length l.outcomes.items
-      → slice_get l.outcomes.items j ≡ option_map (outcome_of l.base.seen) (slice_get l.plans (l.first + j * l.workers));
+  outcomes : AreFirst l.base.seen l.plans l.workers l.first l.outcomes.items;
+  left : HoldsFirst (g.G.Gate.left l.gate) l.workers l.first (length l.outcomes.items);
 }
 
 abbrev pub decreases-plans : goal.decreases-plans
