@@ -212,6 +212,11 @@ def no_threads(program):
                 done = run(alone, row.words, input=row.input)
                 yield f"{os.path.relpath(path, ROWS)} without threads", fault_of(done, row.status, row.output)
         yield "sweeps without threads", None if refused() else "no thread was asked for"
+        for workers in (1, 2, 5, 16):
+            done = run(alone, ["sweep", "--workers", str(workers)], input=read(sweeps.EXAMPLE))
+            asked, owed = refused(), workers if workers > 1 else 0
+            wrong = None if done.returncode == 0 and asked == owed else f"status {done.returncode}, {asked} threads in place of {owed}"
+            yield f"threads that a sweep by {workers} asks for", wrong
 
 
 def named_rows(program, path):

@@ -1,5 +1,5 @@
 -- The exit status, and what it says (ours).
-use Rattle.std.specs.Prelude.{◌≡◌, ◌⊎◌, ℕ, List, Bool, true, false, Option, Some, None, Result, Ok, Err}
+use Rattle.std.specs.Prelude.{◌≡◌, ◌⊎◌, ◌==◌, ℕ, List, Bool, true, false, Option, Some, None, Result, Ok, Err}
 use Rattle.rh_sweep.specs.Sweeping.{AreWorkers}
 use Rattle.rh_app.specs.declared.fault.RunFault.{RunFault}
 use Rattle.rh_app.specs.declared.fault.RunFault.TheVariants as end
@@ -28,12 +28,12 @@ MayTear (Run pick) = NoThreads
 MayTear (Sessions pick) = AskHistory
 MayTear (Sweep pick workers) = NoThreads
 
--- it starts no threads
+-- it starts no threads: a sweep by one worker needs none beside the caller's
 abbrev pub is_alone : Program → Bool
 is_alone Check = true
 is_alone (Run pick) = true
 is_alone (Sessions pick) = false
-is_alone (Sweep pick workers) = false
+is_alone (Sweep pick workers) = workers == 1
 
 -- a sweep has a number of workers that there may be
 abbrev pub IsStaffed : Program → Type 0

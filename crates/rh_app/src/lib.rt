@@ -2,8 +2,9 @@
 //!
 //! [`run`] reads a cluster file, a line `===` and a script, and answers the commands of the script. [`run_check`] reads the
 //! cluster file alone, and says whether it is one. [`run_sessions`] has several sessions share one cluster, each in a thread
-//! of its own. [`run_sweep`] tries plans from the simulation behind a base, by several workers. [`rehearse_alone`] is the
-//! first two of them, up to the exit status, and [`rehearse_together`] each, with threads.
+//! of its own. [`run_sweep`] tries plans from the simulation behind a base, by several workers, and [`run_sweep_alone`] by
+//! one, without threads. [`rehearse_alone`] is those that start no threads, up to the exit status, and
+//! [`rehearse_together`] each, with threads.
 //!
 //! They read from a [`Source`] and write to a [`Sink`]: [`Reader`], [`Writer`] and [`Buffered`] are those of the standard library,
 //! [`Bytes`] and [`Text`] are memory. [`run_in_memory`] is a run over memory.
@@ -31,4 +32,4 @@ pub use rh_trail::report;
 pub use running::run;
 pub use sessions::run_sessions;
 pub use status::{Program, rehearse_alone, rehearse_together};
-pub use sweeping::run_sweep;
+pub use sweeping::{run_sweep, run_sweep_alone};

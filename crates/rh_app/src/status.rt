@@ -8,7 +8,7 @@ use crate::checking::run_check;
 use crate::fault::RunFault;
 use crate::running::run;
 use crate::sessions::run_sessions;
-use crate::sweeping::run_sweep;
+use crate::sweeping::{run_sweep, run_sweep_alone};
 use rh_devices::{Sink, Source, Watched};
 use rh_step::Pick;
 use std::alloc::Global;
@@ -29,13 +29,14 @@ pub enum Program {
 }
 
 impl Program {
-    /// Whether it starts no threads.
+    /// Whether it starts no threads: a sweep by one worker needs none beside the caller's.
     pub fn is_alone(self) -> bool
         ensures { result ≡ is_alone self }
     {
         match self {
             Program::Check | Program::Run(_) => true,
-            Program::Sessions(_) | Program::Sweep(_, _) => false,
+            Program::Sessions(_) => false,
+            Program::Sweep(_, workers) => workers == 1,
         }
     }
 }
@@ -44,7 +45,7 @@ impl Program {
 /// It is lent nothing by which it could wait.
 ///
 /// 0 says that the whole text of all that was read was written and flushed, and tells no fault. 2 is a text that describes no
-/// cluster, 3 a bad line, 4 a device that failed or an input that is too long, 5 want of memory.
+/// cluster, 3 a bad line, 4 a device that failed or an input that is too long, 5 want of memory, 6 plans that can't be swept.
 pub fn rehearse_alone<S: Source, K: Sink>(
     alloc: Global,
     program: Program,
@@ -64,7 +65,7 @@ pub fn rehearse_alone<S: Source, K: Sink>(
 /// Runs a program over its devices, with threads where it starts any, flushes the writer, however it ended, and answers the
 /// exit status. It may wait for its threads: the contract holds if it returns.
 ///
-/// The status is that of [`rehearse_alone`]; and 6 is plans that can't be swept, or sessions whose threads made no one history.
+/// The status is that of [`rehearse_alone`]; and 6 is sessions whose threads made no one history, too.
 pub fn rehearse_together<T: Threads + Wait + Sync, S: Source, K: Sink>(
     rt: &T,
     alloc: Global,
@@ -97,7 +98,8 @@ fn ended_alone<S: Source, K: Sink>(
     match program {
         Program::Check => run_check(alloc, reader, writer),
         Program::Run(pick) => run(alloc, reader, writer, pick),
-        Program::Sessions(_) | Program::Sweep(_, _) => unreachable!(),
+        Program::Sweep(pick, _) => run_sweep_alone(alloc, reader, writer, pick),
+        Program::Sessions(_) => unreachable!(),
     }
 }
 

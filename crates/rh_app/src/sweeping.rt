@@ -1,4 +1,4 @@
-//! The program `sweep`: plans are tried from the simulation behind a base, by several workers.
+//! The program `sweep`: plans are tried from the simulation behind a base, by one worker or by several.
 
 ghost use Rattle.std.specs.Prelude.{◌≡◌, false, map, OnOk, None};
 ghost use Rattle.std.specs.List.{flat_map};
@@ -12,14 +12,17 @@ ghost use Rattle.rh_app.specs.Programs.{ProgramGives, NoThreads};
 ghost use Rattle.rh_app.specs.RunText.{answers_text, Wrote, Broke};
 ghost use Rattle.rh_app.specs.SweepText.{why_not_swept, plan_outcome, plans_text, plans_end, lines_text, lines_end, sweep_text, sweep_end, OwesSweep};
 
+mod crews;
+
 use crate::fault::{RunFault, Told, ended};
 use crate::running::{answer_bad, answer_call, write_fault};
+use crews::{Alone, Crew, Threaded};
 use rh_base::Str;
 use rh_cluster::{Cluster, read_cluster};
 use rh_devices::{Sink, Source, Watched, WriteFault, read_input, write_text};
 use rh_script::{SweepScript, cut, outcome_text, sweep_fault_text, sweep_in};
 use rh_step::Pick;
-use rh_sweep::{FreeGate, Outcome, Plan, SweepFault, sweep};
+use rh_sweep::{Outcome, Plan, SweepFault};
 use rh_trail::{Call, Sim};
 use std::alloc::Global;
 use std::sync::Wait;
@@ -49,23 +52,57 @@ pub fn run_sweep<T: Threads + Wait + Sync, S: Source, K: Sink>(
     requires workers { AreWorkers workers }
     ensures { ProgramGives S.gives S.fails K.takes K.fails (OwesSweep pick) NoThreads result reader.old reader.new writer.old writer.new }
 {
+    run_by(&Threaded::new(rt, workers), alloc, reader, writer, pick)
+}
+
+/// Does what [`run_sweep`] does, with the caller as the only worker: it starts no thread and waits for none.
+///
+/// # Errors
+/// Those of [`run_sweep`].
+pub fn run_sweep_alone<S: Source, K: Sink>(
+    alloc: Global,
+    reader: &mut Watched<S>,
+    writer: &mut Watched<K>,
+    pick: Pick,
+) -> Result<(), RunFault>
+    requires reader { reader.old.failed ≡ false }
+    requires writer { writer.old.failed ≡ false }
+    ensures { ProgramGives S.gives S.fails K.takes K.fails (OwesSweep pick) NoThreads result reader.old reader.new writer.old writer.new }
+{
+    run_by(&Alone, alloc, reader, writer, pick)
+}
+
+// Reads the input and writes what comes of it, with these workers.
+fn run_by<C: Crew, S: Source, K: Sink>(
+    crew: &C,
+    alloc: Global,
+    reader: &mut Watched<S>,
+    writer: &mut Watched<K>,
+    pick: Pick,
+) -> Result<(), RunFault>
+    requires reader { reader.old.failed ≡ false }
+    requires writer { writer.old.failed ≡ false }
+    requires ready { C.ready crew.now }
+    requires workers { AreWorkers (C.workers crew.now) }
+    ensures { ProgramGives S.gives S.fails K.takes K.fails (OwesSweep pick) NoThreads result reader.old reader.new writer.old writer.new }
+{
     let input = read_input(alloc, reader)?;
-    let told = sweep_input(rt, alloc, input.as_slice(), writer, pick, workers)?;
+    let told = sweep_input(crew, alloc, input.as_slice(), writer, pick)?;
     ended(told)
 }
 
 // Writes what comes of an input.
 #[tactic(auto, unfolding(crate::specs::SweepText::sweep_text, crate::specs::SweepText::sweep_end))]
-fn sweep_input<T: Threads + Wait + Sync, K: Sink>(
-    rt: &T,
+fn sweep_input<C: Crew, K: Sink>(
+    crew: &C,
     alloc: Global,
     input: &[u8],
     writer: &mut Watched<K>,
     pick: Pick,
-    workers: usize,
 ) -> Result<Option<Told>, WriteFault>
     requires writer { writer.old.failed ≡ false }
-    requires workers { AreWorkers workers }
+    requires ready { C.ready crew.now }
+    requires workers { AreWorkers (C.workers crew.now) }
     ensures { Wrote K.takes K.fails result (sweep_text input.now pick) (sweep_end input.now pick) writer.old writer.new }
 {
     let (text, script) = cut(input);
@@ -77,22 +114,22 @@ fn sweep_input<T: Threads + Wait + Sync, K: Sink>(
             write_fault(alloc, &fault, writer)?;
             Ok(Some(Told::Cluster(fault)))
         }
-        Ok(cluster) => sweep_script(rt, alloc, cluster, script, writer, pick, workers),
+        Ok(cluster) => sweep_script(crew, alloc, cluster, script, writer, pick),
     }
 }
 
 // Writes what comes of a script.
-fn sweep_script<T: Threads + Wait + Sync, K: Sink>(
-    rt: &T,
+fn sweep_script<C: Crew, K: Sink>(
+    crew: &C,
     alloc: Global,
     cluster: Cluster,
     script: &[u8],
     writer: &mut Watched<K>,
     pick: Pick,
-    workers: usize,
 ) -> Result<Option<Told>, WriteFault>
     requires writer { writer.old.failed ≡ false }
-    requires workers { AreWorkers workers }
+    requires ready { C.ready crew.now }
+    requires workers { AreWorkers (C.workers crew.now) }
     ensures { Wrote K.takes K.fails result
         (lines_text cluster pick (sweep_lines_asked cluster (map content (raw_lines script.now)))
         (bad_sweep_line (sweep_lines_asked cluster (map content (raw_lines script.now)))))
@@ -107,7 +144,7 @@ fn sweep_script<T: Threads + Wait + Sync, K: Sink>(
         SweepScript::Sweep { base, plans } => {
             let mut sim = Sim::open(alloc, cluster, pick)?;
             answer_calls(alloc, &mut sim, base.as_slice(), writer)?;
-            sweep_plans(rt, alloc, &sim, plans.as_slice(), writer, workers)
+            sweep_plans(crew, alloc, &sim, plans.as_slice(), writer)
         }
     }
 }
@@ -131,21 +168,21 @@ fn answer_calls<K: Sink>(
 }
 
 // Writes what comes of plans from a base.
-fn sweep_plans<T: Threads + Wait + Sync, K: Sink>(
-    rt: &T,
+fn sweep_plans<C: Crew, K: Sink>(
+    crew: &C,
     alloc: Global,
     base: &Sim,
     plans: &[Plan],
     writer: &mut Watched<K>,
-    workers: usize,
 ) -> Result<Option<Told>, WriteFault>
     requires writer { writer.old.failed ≡ false }
-    requires workers { AreWorkers workers }
+    requires ready { C.ready crew.now }
+    requires workers { AreWorkers (C.workers crew.now) }
     ensures { Wrote K.takes K.fails result
         (plans_text base.now.seen.cluster base.now.seen (map plan_text plans.now) (why_not_swept base.now.seen (map plan_text plans.now)))
         (plans_end base.now.seen (map plan_text plans.now)) writer.old writer.new }
 {
-    match sweep(rt, alloc, base, plans, workers, &FreeGate) {
+    match crew.sweep(alloc, base, plans) {
         Ok(outcomes) => {
             write_outcomes(alloc, base, plans, outcomes.as_slice(), writer)?;
             Ok(None)

@@ -4,7 +4,7 @@ use Rattle.rh_devices.specs.Devices.{input_limit}
 use Rattle.rh_app.specs.Programs.{IsInput, NoThreads}
 use Rattle.rh_app.specs.SweepText.{sweep_text, sweep_end, OwesSweep}
 use Rattle.rh_app.proofs.Ending.{not_read, not_written, is_written}
-use Rattle.rh_app.proofs.sweeping.run_sweep.Goals as goal
+use Rattle.rh_app.proofs.sweeping.run_by.Goals as goal
 
 pub returns-in_err-input : goal.returns-in_err-input
 returns-in_err-input g c =
