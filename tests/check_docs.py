@@ -8,7 +8,8 @@ has the exit status 0 (a document shows another one by `; echo "status $?"`). Ea
 `check` accepts. Each command in a help text runs, and docs/help has these texts. Each text that the program can print
 stands in docs/ANSWERS.md. Each definition that docs/RULES.md names stands where it says. Each construct that
 docs/CLUSTER_FILES.md calls refused is. Each script of tests/live in which live nodes differ names its places in docs/LIVE_OTP.md.
-Each wrong body can be applied, and docs/WRONG_BODIES.md names it on the shelf where it is (shelves.py).
+Each wrong body can be applied, and docs/WRONG_BODIES.md names it on the shelf where it is (shelves.py). What the documents say of
+the sources is as docs/make makes it, which tells where it isn't (made_pages.py).
 
 run_program.py counts these tests too. The last line is 'N passed, M failed'.
 """
@@ -18,6 +19,7 @@ import re
 import shlex
 import subprocess
 
+import made_pages
 import shelves
 from groups import Group, command_line, finish
 from support import LONGEST_RUN, TOP, run
@@ -261,13 +263,14 @@ def help_files(program):
         yield f"docs/help/{name}.txt", None if is_same else f"it isn't what the program says to {' '.join(words)}"
 
 
+# Whether the pages are made isn't among them: run_program.py has that among the tests of ./test --quick.
 TESTS = (links, answers_told, definitions_named, constructs_refused, Group(shown_examples, documents()), help_examples, help_links,
          live_scripts, help_files, *shelves.TESTS)
 
 
 def main():
     given = command_line(__doc__).parse_args()
-    finish(TESTS, given.program, shows_times=given.times)
+    finish((*made_pages.TESTS, *TESTS), given.program, shows_times=given.times)
 
 
 if __name__ == "__main__":

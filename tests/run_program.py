@@ -23,6 +23,7 @@ import check_docs  # noqa: E402
 import failing_calls  # noqa: E402
 import growths  # noqa: E402
 import hostile  # noqa: E402
+import made_pages  # noqa: E402
 import prefixes  # noqa: E402
 import profiles  # noqa: E402
 import random_scripts  # noqa: E402
@@ -226,8 +227,8 @@ def named_rows(program, path):
 
 # What makes its inputs itself, for cluster files without a profile.
 MADE = (term_faults, large_inputs, long_chains, *sweeps.TESTS)
-# The worked rows, the examples, and what fails: devices, memory, threads.
-QUICK = (*refused_memory.TESTS, *failing_calls.TESTS, *hostile.TESTS, rows, examples, failing_devices,
+# The worked rows, the examples, what fails (devices, memory, threads), and what docs/make makes of the documents.
+QUICK = (*made_pages.TESTS, *refused_memory.TESTS, *failing_calls.TESTS, *hostile.TESTS, rows, examples, failing_devices,
          Group(no_threads, needs=("cc",)), *shipped.TESTS)
 # Those that take longest begin first.
 ALL = (*prefixes.TESTS, *growths.TESTS, *random_scripts.TESTS, *check_docs.TESTS, *QUICK, *MADE, *map(profiles.under_profile_1, MADE),
