@@ -17,6 +17,8 @@ BESIDE = ("companions", "tests", "wrong-bodies", "README.md", "rehearse", "build
 CHANGES = [
     ("crates/rh_step/src/step.rt", "    ensures ", "    ensures another_", "docs/CONTRACTS.md line"),
     ("crates/rh_settle/specs/Validity.antt", "\n-- ", "\n-- changed: ", "docs/DEFINITIONS.md line"),
+    ("crates.txt", "\nrh_plans: ", "\nrh_plans: rh_trail ", "docs/ARCHITECTURE.md line"),
+    ("crates/rh_events/src/event.rt", "StopA", "StopEveryA", "docs/CHANGING.md line"),
     ("docs/DEFINITIONS.md", "\n- `", "\n- by hand `", "docs/DEFINITIONS.md line"),
     ("docs/parts/contracts.md", "`", "`no_such_name` `", "docs/parts/contracts.md names what no source has: no_such_name"),
     ("docs/parts/notes.md", "\n- `", "\n- `served`: nothing\n- `", "tells of definitions that aren't there"),

@@ -1,8 +1,8 @@
-"""The names in parts that are written by hand: each has to stand in the sources."""
+"""The names in parts that are written by hand: each has to stand in the sources, and each crate has to be named."""
 import re
 from pathlib import Path
 
-from tree import CRATES, BadSource, crates, read, shown
+from tree import CRATES, BadSource, crates, proved_crates, read, shown
 
 NAME = re.compile(r"`([A-Za-z_]\w*(?:(?:::|/)\w+)*)`")
 
@@ -14,6 +14,13 @@ def words_of_sources() -> set[str]:
         for path in CRATES.glob(pattern):
             words |= set(re.findall(r"\w+", read(path)))
     return words
+
+
+def check_crates(path: Path) -> None:
+    """Sees to it that this file has a word for each crate with contracts."""
+    missing = [crate.name for crate in proved_crates() if f"`{crate.name}`" not in read(path)]
+    if missing:
+        raise BadSource(f"{shown(path)} has no word for {', '.join(missing)}")
 
 
 def check_names(paths: list[Path]) -> None:
