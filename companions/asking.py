@@ -9,16 +9,18 @@ import subprocess
 import sys
 from typing import NamedTuple
 
+from endings import Refused, run_main, tell, why_of, write_bytes  # noqa: F401: the companions have them from here
+
 HERE = os.path.dirname(os.path.realpath(__file__))
 # What may be a name in a cluster file: an atom in quotes or a plain one, outside of comments and strings.
 ATOM = re.compile(r"""%[^\n]*|"(?:\\.|[^"\\])*"|'((?:\\.|[^'\\])*)'|([a-z][A-Za-z0-9_@]*)""", re.DOTALL)
 # A profile as the first term: white space and comments may stand anywhere between its parts.
 PROFILE = re.compile(r"|{|'?profile'?|,|([0-9]+)|}|\.".replace("|", r"(?:\s|%[^\n]*\n)*"))
 ESCAPES = {"n": "\n", "t": "\t", "r": "\r", "s": " "}
-
-
-class Refused(Exception):
-    """What was read is refused. The text names the file, and the line or the name at fault."""
+# By its answer to this the program is known.
+GREETING, GREETED = "{node, nobody, []}.\n===\nshow\n", ["ok", "now 0", "node nobody down 0"]
+# What the program wrote to standard error, and was handed on: nothing is told twice.
+handed_on: set[str] = set()
 
 
 class BadLine(Refused):
@@ -26,14 +28,15 @@ class BadLine(Refused):
 
 
 class CommandLine(argparse.ArgumentParser):
-    """A command line: one that is wrong ends the companion with status 1."""
+    """A command line: one that is wrong ends the companion, of itself with status 1."""
 
-    def __init__(self, **options):
+    def __init__(self, wrong: int = 1, **options):
         super().__init__(formatter_class=argparse.RawDescriptionHelpFormatter, **options)
+        self.wrong = wrong
 
     def error(self, message):
         self.print_usage(sys.stderr)
-        self.exit(1, f"{self.prog}: {message}\n")
+        self.exit(self.wrong, f"{self.prog}: {message}\n")
 
     def add_program(self):
         """The options with which each companion that asks the program is told about it."""
@@ -42,12 +45,14 @@ class CommandLine(argparse.ArgumentParser):
         self.add_argument("--pick", choices=("first", "last"), default="first",
                           help="which of equally good nodes gets an application, as for the program (default: first)")
 
-    def program(self, given):
-        """The program that the options tell."""
+    def program(self, given) -> "Program":
+        """The program that the options tell, which has shown that it is the program."""
         path = given.rehearse or os.environ.get("REHEARSE") or os.path.join(os.path.dirname(HERE), "rehearse")
         if not os.access(path, os.X_OK) or os.path.isdir(path):
             self.error(f"there is no program {path}: tell it by --rehearse PATH")
-        return Program(os.path.abspath(path), given.pick)
+        program = Program(os.path.abspath(path), given.pick)
+        program.greet()
+        return program
 
 
 class Program(NamedTuple):
@@ -55,13 +60,46 @@ class Program(NamedTuple):
     path: str
     pick: str
 
+    def asked(self, words: list[str], text: str) -> tuple[int, list[str], str]:
+        """The status of the program for a whole input, the lines that it prints, and what it writes to standard error."""
+        try:
+            done = subprocess.run([self.path, *words, "--pick", self.pick], input=to_bytes(text), capture_output=True, check=False)
+        except OSError as fault:
+            raise Refused(f"{self.path} can't be run: {why_of(fault)}") from None
+        return done.returncode, lines_of(to_text(done.stdout)), to_text(done.stderr)
+
+    def greet(self) -> None:
+        """Refuses what isn't the program."""
+        status, lines, error = self.asked(["run"], GREETING)
+        if lines != GREETED or status != 0:
+            why = " ".join(error.split()) or "it doesn't answer as that does"
+            raise Refused(f"{self.path} isn't the program: {why[:300]}")
+        hand_on(error)
+
+    def told(self, words: list[str], text: str) -> tuple[int, list[str]]:
+        """The status of the program for a whole input, and the lines that it prints."""
+        status, lines, error = self.asked(words, text)
+        hand_on(error)
+        return status, lines
+
     def run(self, cluster, script, word="run"):
-        """The status of the program for a cluster file and the lines of a script, and the lines that it prints."""
-        text = cluster + "===\n" + "".join(f"{line}\n" for line in script)
-        # On standard error ./rehearse may say that the program is older than the sources.
-        words = [self.path, word, "--pick", self.pick]
-        done = subprocess.run(words, input=to_bytes(text), stdout=subprocess.PIPE, check=False)
-        return done.returncode, lines_of(to_text(done.stdout))
+        """The same for a cluster file and the lines of a script."""
+        return self.told([word], cluster + "===\n" + "".join(f"{line}\n" for line in script))
+
+    def lines(self, words: list[str], text: str, source: str) -> list[str]:
+        """The lines that the program prints for a whole input as it stands, which is refused where the program refuses it.
+        `source` names the file for which an error is told."""
+        status, lines = self.told(words, text)
+        if status == 3:
+            raise Refused(bad_line(source, lines_of(text), lines[-1], words[0] == "run"))
+        if status != 0:
+            raise Refused(f"{source}: {self.ended(status, lines)}")
+        return lines
+
+    def ended(self, status: int, lines: list[str]) -> str:
+        """Why the program didn't answer all of an input: by its last line, or else by its status."""
+        how = f"ended with status {status}" if status >= 0 else f"was ended by signal {-status}"
+        return lines[-1] if lines and status in (2, 6) else f"{self.path} {how}"
 
     def answers(self, cluster, script, source):
         """The answers to the commands of a script, each as its lines. `source` names the file for which an error is told."""
@@ -69,7 +107,7 @@ class Program(NamedTuple):
         if status == 3:
             raise BadLine(f"{source}: this line is no command: {script[int(words_of(told[-1])[2]) - 1]}")
         if status != 0:
-            raise Refused(f"{source}: {told[-1] if told else f'{self.path} ended with status {status}'}")
+            raise Refused(f"{source}: {self.ended(status, told)}")
         found = answers_in(told)
         if len(found) != len(list(filter(is_command, script))):
             raise Refused(f"{self.path} isn't the program: it doesn't answer each command")
@@ -81,10 +119,9 @@ class Program(NamedTuple):
         whole = lines_of(text)
         place = whole.index("===") if "===" in whole else len(whole)
         script = "\n".join(text.split("\n")[place + 1:])
-        asked = to_bytes("{node, nobody, []}.\n===\n" + script)
-        done = subprocess.run([self.path, "sweep"], input=asked, stdout=subprocess.PIPE, check=False)
-        if done.returncode == 3:
-            raise Refused(bad_line(source, whole, lines_of(to_text(done.stdout))[-1]))
+        status, told = self.told(["sweep"], "{node, nobody, []}.\n===\n" + script)
+        if status == 3:
+            raise Refused(bad_line(source, whole, told[-1]))
 
 
 class Input(NamedTuple):
@@ -97,15 +134,12 @@ class Input(NamedTuple):
     plans: list
 
 
-def run_main(name, main):
-    """Runs a companion: with status 2 where what it reads is refused."""
-    try:
-        main()
-    except Refused as fault:
-        print(f"{name}: {fault}", file=sys.stderr)
-        sys.exit(2)
-    except KeyboardInterrupt:
-        sys.exit(130)
+def hand_on(error: str) -> None:
+    """Hands on what the program wrote to standard error, as that it is older than its sources: each text once."""
+    if error and error not in handed_on and sys.stderr is not None:
+        handed_on.add(error)
+        sys.stderr.write(error.encode("utf-8", "replace").decode())
+        sys.stderr.flush()
 
 
 def to_text(data):
@@ -124,23 +158,25 @@ def called(path):
 
 
 def read_text(path):
-    """A file as a text; `-` is standard input."""
+    """A file as a text, which isn't empty; `-` is standard input."""
     try:
-        if path == "-":
-            return to_text(sys.stdin.buffer.read())
-        with open(path, "rb") as file:
-            return to_text(file.read())
+        if path != "-":
+            with open(path, "rb") as file:
+                data = file.read()
+        elif sys.stdin is None:
+            raise Refused("standard input: it is closed")
+        else:
+            data = sys.stdin.buffer.read()
     except OSError as fault:
         raise Refused(f"{called(path)}: {fault.strerror}") from None
+    if not data:
+        raise Refused(f"{called(path)}: it is empty")
+    return to_text(data)
 
 
 def write_out(text):
     """Writes a text to standard output. A reader that has gone away isn't an error of ours."""
-    try:
-        sys.stdout.buffer.write(to_bytes(text))
-        sys.stdout.buffer.flush()
-    except BrokenPipeError:
-        os.dup2(os.open(os.devnull, os.O_WRONLY), sys.stdout.fileno())
+    write_bytes(to_bytes(text))
 
 
 def lines_of(text):
@@ -197,8 +233,9 @@ def answers_in(told):
     found = []
     for line in told:
         if line == "ok" or line.startswith(("ok ", "refused ")):
-            found.append([])
-        found[-1].append(line)
+            found.append([line])
+        elif found:
+            found[-1].append(line)
     return found
 
 

@@ -1,6 +1,7 @@
 """The plans of a sweep's input by companions/live: for each whether live nodes do otherwise, hang or burn."""
 import json
 import os
+import signal
 import sys
 from argparse import Namespace
 from collections import Counter
@@ -52,7 +53,7 @@ class Judge:
         self.program, self.cluster, self.base = program, cluster, base
         status, told, pairs = rules_of(program, cluster, base)
         if status != 0 or len(pairs) != len(base):
-            raise Refused(told[-1] if told else f"{program.path} ended with status {status}")
+            raise Refused(program.ended(status, told))
         self.sides = Sides(cluster_of(cluster), orders, any(words_of(line)[0] in BACK_AND_FORTH for line in base))
         self.answers = [self.sides.answer(number, line, *pair) for number, (line, pair) in enumerate(zip(base, pairs), 1)]
 
@@ -69,7 +70,7 @@ class Judge:
         lines = [line for number, plan in enumerate(plans) for line in (f"plan p{number}", *plan.events)]
         status, told = self.program.run(self.cluster, self.base + lines, "sweep")
         if status != 0:
-            raise Refused(told[-1] if told else f"{self.program.path} ended with status {status}")
+            raise Refused(self.program.ended(status, told))
         return [int(words_of(line)[3]) for line in told if line.startswith("plan ")]
 
     def told(self, made: list[list[str]], back: list[list[str]]) -> Iterator[list[tuple[list[str], list[str]]]]:
@@ -77,7 +78,7 @@ class Judge:
         script = self.base + [line for events, undone in zip(made, back) for line in events + undone]
         status, told, pairs = rules_of(self.program, self.cluster, script)
         if status != 0:
-            raise Refused(told[-1] if told else f"{self.program.path} ended with status {status}")
+            raise Refused(self.program.ended(status, told))
         place = len(self.base)
         for events, undone in zip(made, back):
             yield pairs[place:place + len(events)]
@@ -107,8 +108,10 @@ judge: Optional[Judge] = None
 
 
 def begin(program: Program, cluster: str, base: list[str], orders: int) -> None:
-    """Begins a process: the base is made once in each."""
+    """Begins a process: the base is made once in each. Ctrl-C is for the process that hands out the work."""
     global judge
+    signal.signal(signal.SIGINT, signal.SIG_IGN)
+    signal.pthread_sigmask(signal.SIG_UNBLOCK, {signal.SIGINT})
     judge = Judge(program, cluster, base, orders)
 
 
@@ -123,7 +126,11 @@ def all_verdicts(begun: tuple[Program, str, list[str], int], plans: list[Plan], 
     pieces = [plans[place:place + AT_ONCE] for place in range(0, len(plans), AT_ONCE)]
     with ProcessPoolExecutor(max(1, min(jobs, len(pieces))), initializer=begin, initargs=begun) as pool:
         done = 0
-        for verdicts in pool.map(try_plans, pieces):
+        # A process that has just begun isn't interrupted before it ignores that.
+        signal.pthread_sigmask(signal.SIG_BLOCK, {signal.SIGINT})
+        found = pool.map(try_plans, pieces)
+        signal.pthread_sigmask(signal.SIG_UNBLOCK, {signal.SIGINT})
+        for verdicts in found:
             yield from verdicts
             done += len(verdicts)
             show_bar(done, len(plans))

@@ -51,14 +51,26 @@ check_names(File, Nodes) ->
 %% What the program answers to each command, with the report behind it.
 answers(Program, #{file := File, pick := Pick}, Cluster, Commands) ->
     filelib:is_regular(Program) orelse usage("there is no program ~ts: tell it by --rehearse PATH", [Program]),
+    greet(Program),
     Input = [Cluster, "===\n", [[C, "\nshow\n"] || {_, C} <- Commands]],
-    {Status, Lines} = printed(Program, Pick, unicode:characters_to_binary(Input)),
+    {Status, Lines, Error} = printed(Program, Pick, unicode:characters_to_binary(Input)),
+    io:put_chars(standard_error, Error),
     Ended = text("the program ended with status ~b", [Status]),
     Status =:= 3 andalso no_command(File, Cluster, Commands, lists:last([Ended | Lines])),
     Status =:= 0 orelse refuse("~ts: ~ts", [File, lists:last([Ended | Lines])]),
     Answers = pairs(answers_in(Lines)),
     length(Answers) =:= length(Commands) orelse refuse("~ts isn't the program: it doesn't answer each command", [Program]),
+    Answers =:= [] andalso refuse("~ts: it has no commands, so there is nothing to make", [File]),
     Answers.
+
+%% Refuses what isn't the program: by its answer to this it is known.
+greet(Program) ->
+    case printed(Program, "first", <<"{node, nobody, []}.\n===\nshow\n">>) of
+        {0, ["ok", "now 0", "node nobody down 0"], _} -> ok;
+        {_, _, Error} ->
+            Why = lists:join(" ", string:lexemes(Error, "\n") ++ ["it doesn't answer as that does" || string:trim(Error) =:= ""]),
+            refuse("~ts isn't the program: ~ts", [Program, Why])
+    end.
 
 %% Refuses the file for a line that is no command. The program counts the lines that it was given, two for each command.
 no_command(File, Cluster, Commands, "bad line " ++ Count) ->
@@ -70,12 +82,15 @@ no_command(File, _, _, Told) -> refuse("~ts: ~ts", [File, Told]).
 refuse_line(File, Front, {Number, Line}, Why) ->
     refuse("~ts line ~b (line ~b behind ===): ~ts: ~ts", [File, Front + 1 + Number, Number, Why, Line]).
 
+%% The status of the program for an input, the lines that it prints, and what it writes to standard error.
 printed(Program, Pick, Input) ->
     File = string:trim(os:cmd("mktemp -t rehearse-replay.XXXXXX")),
     ok = file:write_file(File, Input),
-    Words = ["-c", "\"$0\" run --pick \"$1\" < \"$2\"; done=$?; rm -f \"$2\"; exit $done", Program, Pick, File],
-    {Status, Bytes} = run("/bin/sh", Words),
-    {Status, [Line || Text <- [unicode:characters_to_list(Bytes)], is_list(Text), Line <- string:lexemes(Text, "\n")]}.
+    {Status, Bytes} = run("/bin/sh", ["-c", "exec \"$0\" run --pick \"$1\" < \"$2\" 2> \"$2.told\"", Program, Pick, File]),
+    {ok, Error} = file:read_file(File ++ ".told"),
+    [file:delete(Name) || Name <- [File, File ++ ".told"]],
+    {Status, [Line || Text <- [unicode:characters_to_list(Bytes)], is_list(Text), Line <- string:lexemes(Text, "\n")],
+     lists:flatten([Text || Text <- [unicode:characters_to_list(Error)], is_list(Text)])}.
 
 %% The status of a finished program, and what it printed.
 run(Path, Words) ->

@@ -355,9 +355,11 @@ def refusals(program, folder):
             ("a text that is cut", [], b"{node, a@x, ", 2, "cluster refused C1 T1 syntax line 1"),
             ("too many commands", [], cluster + b"show\n" * 10_001, 2, "10001 commands; a page shows at most 10000"),
             ("a file that isn't there", [f"{folder}/none"], b"", 2, f"{folder}/none: No such file"),
+            ("no plans", ["--sweep"], cluster + b"boot a@x\n", 2, "standard input: it has no plans, which --sweep needs: companions/plans"),
             ("a place that isn't there", ["-o", f"{folder}/none/page.html"], cluster, 2, f"{folder}/none/page.html: No such file"),
             ("a number of workers", ["--workers", "17"], b"", 1, "--workers"),
-            ("a program that isn't there", ["--rehearse", f"{folder}/none"], b"", 1, f"no program {folder}/none")]:
+            ("a program that isn't there", ["--rehearse", f"{folder}/none"], b"", 1, f"no program {folder}/none"),
+            ("another program", ["--rehearse", "/bin/true"], cluster, 2, "/bin/true isn't the program: it doesn't answer as that does")]:
         done = page(program, words, text)
         is_told = done.returncode == status and not done.stdout and told.encode() in done.stderr and b"Traceback" not in done.stderr
         yield f"refused: {name}", None if is_told else f"status {done.returncode}: {done.stdout[:100]} {done.stderr}"

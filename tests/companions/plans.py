@@ -218,7 +218,7 @@ def program_found(program):
     yield "the program of the environment", fault_of(done, 0, b"6\n")
     with tempfile.TemporaryDirectory() as folder:
         os.mkdir(os.path.join(folder, "companions"))
-        for name in ("plans", "asking.py"):
+        for name in ("plans", "plan_making.py", "asking.py", "endings.py"):
             shutil.copy(os.path.join(TOP, "companions", name), os.path.join(folder, "companions", name))
         os.symlink(program, os.path.join(folder, "rehearse"))
         env = {name: value for name, value in os.environ.items() if name != "REHEARSE"}

@@ -271,12 +271,12 @@ def release(_):
 def other_release(program, folder):
     """On another release than the measured one the first line says so."""
     copied(folder, lambda text: text.replace(f'"{measured()}"', '"17.0"'))
-    path = written(folder, "{node, a@x, []}.\n===\n# Nothing.\n")
+    path = written(folder, "{node, a@x, []}.\n===\n# Nothing.\nboot b@x\n")
     done = subprocess.run([os.path.join(folder, "replay"), "--rehearse", program, path], stdin=subprocess.DEVNULL,
                           capture_output=True, text=True, timeout=LONGEST_RUN)
     _, told, *lines = done.stdout.splitlines()
     is_right = re.fullmatch(r"#~ This is OTP [0-9.]+\. What .* was measured on OTP 17\.0\.", told)
-    is_right = is_right and lines == ["# Nothing.", "0 of 0 commands agree"] and done.returncode == 0 and not done.stderr
+    is_right = is_right and lines[0] == "# Nothing." and lines[-1] == "1 of 1 commands agree" and done.returncode == 0 and not done.stderr
     yield "another release", None if is_right else f"{done}"
     done = replay(program, [path])
     is_right = "#~" not in done.stdout or f"measured on OTP {measured()}" in done.stdout

@@ -251,7 +251,6 @@ def faults(program):
     for words, told in [(["--nonsense"], "no option --nonsense"), (["--shares", "0"], "--shares needs a number"),
                         (["--workers", "17"], "--workers is 1 to 16, not '17'"), (["--jobs"], "--jobs needs a value"), (["a", "b"], "not also b"),
                         (["--rehearse", "/nowhere/rehearse"], "no program /nowhere/rehearse"),
-                        (["--rehearse", "/bin/true"], "true isn't the program"),
                         (["--pick", "best"], "--pick is first or last, not 'best'")]:
         done = spread(program, words, EXAMPLE)
         is_right = done.returncode == 1 and done.stdout == b"" and told in done.stderr.decode()
@@ -261,7 +260,8 @@ def faults(program):
     done = spread(program, ["--remote", "/bin/true"], EXAMPLE)
     yield "nothing is answered", None if done.returncode == 9 and b"17 plans" in done.stderr else f"{done}"
     done = spread(program, ["/nowhere/plans"], b"")
-    yield "no file", None if done.returncode == 4 and b"/nowhere/plans" in done.stderr else f"{done}"
+    is_right = done.returncode == 2 and done.stderr == b"spread: /nowhere/plans: No such file or directory\n"
+    yield "no file", None if is_right else f"{done}"
     done = spread(program, ["--help"], b"")
     yield "--help", fault_of(done, 0, None) or (None if b"--sshlogin" in done.stdout else f"{done}")
 

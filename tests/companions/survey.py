@@ -57,13 +57,13 @@ def survey(program, words, text):
     return subprocess.run([COMPANION, "--rehearse", program, *words], input=text.encode(), capture_output=True, timeout=LONGEST_RUN)
 
 
-def timed(program, source, words=()):
-    """A finished run of the companion on the real program's sweep of an input, with its times."""
+def timed(program, source, words=(), options=()):
+    """A finished run of the companion on the real program's sweep of an input, with its times. The program has the words too."""
     with tempfile.NamedTemporaryFile() as file:
         file.write(source.encode())
         file.flush()
         swept = run(program, ["sweep", *words], input=source.encode())
-        return survey(program, ["--of", file.name, *words], swept.stdout.decode())
+        return survey(program, ["--of", file.name, *words, *options], swept.stdout.decode())
 
 
 def without_times(program):
@@ -262,6 +262,52 @@ def several(program):
     yield "--pick last", fault_of(done, 0, None) or (None if b"at c@x (1 plan)" in done.stdout else f"{done.stdout}")
 
 
+# Behind BASE web runs at a@x and ctl at c@x. Each plan crashes nodes, and time passes; the last one is refused.
+LOSSES = {"a": "crash a@x", "ab": "crash a@x\ncrash b@x", "bc": "crash b@x\ncrash c@x", "abc": "crash a@x\ncrash b@x\ncrash c@x",
+          "bca": "crash b@x\ncrash c@x\ncrash a@x", "back": "crash a@x\ncrash b@x\ncrash c@x\nboot c@x"}
+# web needs one of its three nodes, ctl one of c@x and b@x; web starts at c@x again where that boots, behind 5000 ms.
+LEAST = {"web": "least losses that leave it wanted: a@x+b@x+c@x", "ctl": "least losses that leave it wanted: b@x+c@x"}
+
+
+def losses(program):
+    """The least sets of lost nodes with which no node can run an application."""
+    plans = "".join(f"plan {name}\n{events}\ntick 5000\n" for name, events in LOSSES.items())
+    done = timed(program, CLUSTER + BASE + plans, options=["--least"])
+    blocks = {block.split(":")[0]: block for block in done.stdout.decode().split("\n\n")[1:]}
+    have = {app: blocks.get(app, "").splitlines()[-1].strip() for app in LEAST}
+    yield "the least losses", fault_of(done, 0, None) or (None if have == LEAST else f"{have}\n{done.stdout.decode()}")
+    done = timed(program, CLUSTER + BASE + "plan a\ncrash a@x\ntick 5000\n", options=["--least"])
+    yield "no loss", None if done.stdout.count(b"least losses that leave it wanted: none\n") == 2 else f"{done}"
+    # No node is lost where it is forbidden everywhere.
+    plan = "plan p\ncrash c@x\npermit b@x ctl false\nplan q\npermit c@x ctl false\npermit b@x ctl false\n"
+    done = timed(program, CLUSTER + BASE + plan, options=["--least"])
+    yield "no node", None if b"least losses that leave it wanted: no node\n" in done.stdout else f"{done}"
+
+
+def failing(program):
+    """The status of a pipeline, and what is named for it."""
+    good = CLUSTER + BASE + "plan p\ntick 5\n"
+    moved = CLUSTER + BASE + "plan p\ncrash a@x\ntick 5000\n"
+    lost = CLUSTER + BASE + "plan p\ncrash a@x\ncrash a@x\nplan q\nstop c@x ctl\n"
+    every = ["--fail-if", "nowhere", "--fail-if", "moved", "--fail-if", "refused"]
+    for name, text, words, told in (
+            ("nothing", good, every, []), ("moved", moved, every, ["moved: web in 1 plan"]), ("not asked", moved, every[:2], []),
+            ("nowhere, refused", lost, every, ["nowhere: web in 1 plan, ctl in 1 plan", "refused: an event in 1 plan"]),
+            ("refused alone", lost, every[-2:], ["refused: an event in 1 plan"])):
+        done = timed(program, text, options=words)
+        owed = (9 if told else 0, "".join(f"survey: --fail-if {line}\n" for line in told))
+        is_right = (done.returncode, done.stderr.decode()) == owed and done.stdout.startswith((b"1 plan, ", b"2 plans, "))
+        yield f"--fail-if: {name}", None if is_right else f"{done}"
+    done = survey(program, ["--fail-if", "nowhere", "--fail-if", "refused"], TOLD)
+    told = "nowhere: web in 3 plans, ctl in 2 plans", "refused: an event in 2 plans"
+    is_right = done.stderr.decode() == "".join(f"survey: --fail-if {line}\n" for line in told) and done.stdout == SUMMED.encode()
+    yield "--fail-if without --of", None if is_right and done.returncode == 9 else f"{done}"
+    for words, told in ((["--fail-if", "moved"], "--fail-if moved needs --of INPUT"), (["--least"], "--least needs --of INPUT"),
+                        (["--fail-if", "lost"], "invalid choice: 'lost'")):
+        done = survey(program, words, TOLD)
+        yield f"refused: {told}", None if done.returncode == 1 and told in done.stderr.decode() and not done.stdout else f"{done}"
+
+
 def faults(program):
     """What isn't a sweep's output, or not that of this input."""
     good = "plan p\ncrash a@x\ntick 5000\n"
@@ -275,7 +321,7 @@ def faults(program):
         yield f"refused for {name}", None if is_right else f"{done}"
     for name, text, told in [
             ("no plans", "ok\nup a@x\n", "standard input: it has no outcome of a plan"),
-            ("nothing", "", "standard input: it has no outcome of a plan"),
+            ("nothing", "", "standard input: it is empty"),
             ("a refused sweep", "ok\nsweep refused V3 trail_room\n",
              "standard input: the sweep was refused: sweep refused V3 trail_room\n"),
             ("a bad line", "bad line 5\n", "standard input: the sweep was refused: bad line 5 (counted behind ===)\n"),
@@ -307,4 +353,4 @@ def faults(program):
     yield "no file", fault_of(done, 2, b"") if b"/nowhere/output: No such file" not in done.stderr else None
 
 
-TESTS = (Group(limits, is_long=True), without_times, with_times, profiles, several, faults)
+TESTS = (Group(limits, is_long=True), without_times, with_times, profiles, several, losses, failing, faults)
