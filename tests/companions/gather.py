@@ -5,107 +5,16 @@ import random
 import re
 import subprocess
 
+from gathered import COMPANION, SHOP, SHOP_COMMENTS, THREE, bare, gather, refusal, shop, wrong_with
 from groups import Group
 from releases import BASE, application, compiled, erl, release, write
-from support import LONGEST_RUN, TOP, difference, in_folder, run
+from support import LONGEST_RUN, in_folder, run
 
 NEEDS = ("erl", "escript", "erlc")
-COMPANION = os.path.join(TOP, "companions", "gather")
 READ = ("distributed", "sync_nodes_mandatory", "sync_nodes_optional", "sync_nodes_timeout", "permissions")
 
 
-def gather(folder, *words, **environment):
-    """A finished run of the companion."""
-    return subprocess.run([COMPANION, *words], cwd=folder, capture_output=True, text=True, timeout=LONGEST_RUN,
-                          env={**os.environ, **environment})
-
-
-def bare(text):
-    """A cluster file without its comments, a term a line, without white space behind brackets."""
-    terms = re.sub(r"\s+", " ", re.sub(r"^%.*\n", "", text, flags=re.MULTILINE)).strip()
-    return re.sub(r"(?<=[\[{]) ", "", terms).replace("}. {", "}.\n{") + "\n"
-
-
-def wrong_with(program, done, want, comments=(), counts=None):
-    """What is wrong with a finished run that owes these terms and comments, and that `check` has to accept; or None."""
-    if done.returncode != 0 or done.stderr:
-        return f"status {done.returncode}: {done.stderr}"
-    if want is not None and bare(done.stdout) != bare(want):
-        return difference(bare(want).encode(), bare(done.stdout).encode())
-    missing = [line for line in comments if f"\n% {line}\n" not in done.stdout]
-    if missing:
-        return f"these comments aren't there: {missing}\n{done.stdout}"
-    checked = run(program, ["check"], input=done.stdout.encode())
-    told = b"ok %d nodes %d applications\n" % (counts or (want.count("{node, "), want.count("{application, ")))
-    return None if checked.stdout == told else f"check says {checked.stdout}, not {told}"
-
-
-def refusal(done, status, *parts):
-    """What is wrong with a finished run that has to be refused with a text that has these parts, or None."""
-    if done.returncode != status or done.stdout:
-        return f"status {done.returncode}, want {status}: {done.stdout[:200]}{done.stderr}"
-    missing = [part for part in parts if part not in done.stderr]
-    return f"{missing} isn't in: {done.stderr}" if missing else None
-
-
 # ---- One release at three nodes
-
-SHOP_CONFIG = """%% The configuration of all three nodes.
-[{kernel, [{distributed, [{billing, 5000, [a@host1, {b@host2, 'c-3@host3'}]}]}, {sync_nodes_timeout, 1}, {net_ticktime, 45}]},
- {pool, [{rate, 1.5}, {names, #{a => <<"x">>}}, {sorter, fun lists:sort/1}, {mask, 16#ff}, {sign, $c}]},
- "sync",
- {sasl, [{errlog_type, error}]}].
-"""
-SHOP_SYNC = """[{kernel, [{sync_nodes_optional, [a@host1, b@host2, 'c-3@host3']}, {sync_nodes_timeout, 100}]}]."""
-SHOP_NODE = """{node, %s, [
-  {kernel, [
-    {distributed, [{billing, 5000, [a@host1, {b@host2, 'c-3@host3'}]}]},
-    {sync_nodes_optional, [a@host1, b@host2, 'c-3@host3']},
-    {sync_nodes_timeout, 100}]},
-  {rehearse, [
-    {boot, [{pool, temporary}, {billing, permanent}, {report, transient}]},
-    {platform, [sasl]}]}]}.
-"""
-SHOP = "".join(SHOP_NODE % name for name in ("a@host1", "b@host2", "'c-3@host3'")) + """
-{application, pool, [{applications, [kernel, stdlib, sasl]},
-  {mod, {pool_app, [{size, 5}]}}]}.
-{application, billing, [{applications, [kernel, stdlib, pool]},
-  {mod, {billing_app, []}},
-  {start_phases, [{go, []}, {'Ready', "now"}]}]}.
-{application, report, [{applications, [kernel, stdlib, billing]}, {mod, {report_app, []}}]}.
-"""
-SHOP_COMMENTS = (
-    "Left out: the sections pool, sasl.", "Left out: the kernel parameters net_ticktime.",
-    "Left out, replaced and not started: the same as at a@host1.",
-    "Left out of billing: description, vsn, modules, included_applications (audit), env.",
-    "Replaced by []: the start argument of billing_app, since it has a map.",
-    "Replaced by []: the argument of the start phase go, since it has a binary.",
-    "Left out of report, since a release with it hasn't these: the optional charts.")
-THREE = ("--node", "a@host1", "--node", "b@host2", "--node", "c-3@host3")
-
-
-def shop(folder):
-    """Makes the release of the shop: its files in FOLDER, and unpacked in FOLDER/target."""
-    application(folder, "pool", ["sasl"], "[{size, 5}]")
-    application(folder, "billing", ["pool"], "#{retries => 3}", ", {start_phases, [{go, <<1>>}, {'Ready', \"now\"}]}, "
-                "{included_applications, [audit]}, {env, [{rate, 0.5}]}")
-    application(folder, "audit", [], "[]")
-    application(folder, "report", ["audit", "charts"], "[]", ", {optional_applications, [charts]}")
-    application(folder, "metrics", [], "[]")
-    application(folder, "tool")
-    compiled(folder)
-    write(folder, "sys.config", SHOP_CONFIG)
-    write(folder, "sync.config", SHOP_SYNC)
-    # report needs audit, which billing includes, and billing needs the pool: systools turns the order round.
-    apps = ['{report, "1.0", transient}', '{metrics, "1.0", load}', '{tool, "1.0", none}', '{billing, "1.0"}',
-            '{pool, "1.0", temporary}', '{audit, "1.0"}', '{sasl, "SASL", permanent}']
-    answer = release(folder, "shop", apps, ", local")
-    assert answer.startswith("{ok,"), answer
-    tar = erl(folder, 'io:format("~0p", [systools:make_tar("shop", [{path, ["ebin"]}, silent])])')
-    assert tar.startswith("{ok,"), tar
-    os.mkdir(os.path.join(folder, "target"))
-    subprocess.run(["tar", "xzf", "../shop.tar.gz"], cwd=os.path.join(folder, "target"), check=True, timeout=LONGEST_RUN)
-
 
 def one_release(program, folder):
     """One release at three nodes: unpacked, by its boot script, by its .rel."""
@@ -116,7 +25,7 @@ def one_release(program, folder):
     yield "an unpacked release", wrong_with(program, done, SHOP, SHOP_COMMENTS + idle)
     read = erl(folder, 'io:format("~b", [length(element(2, file:consult("written")))])'
                if write(folder, "written", done.stdout) else "")
-    yield "what is written is Erlang", None if read == "6" else read
+    yield "what is written is Erlang", None if read == "7" else read
     boot = os.path.join(target, "releases", "1", "start.boot")
     os.rename(boot, os.path.join(folder, "moved.boot"))
     idle = ("Not started: metrics (only loaded), tool (only its code is loaded), audit (included in billing).",)
@@ -145,17 +54,20 @@ def one_release(program, folder):
     yield "--rehearse and --platform", None if is_there else parts
 
 
+TAKEN_OVER = "started billing a@host1 takeover b@host2\nstopped billing b@host2\n"
+
+
 def both_profiles(program, folder):
     """The release with a profile, and what comes of a permission that is given back at the better node."""
     shop(folder)
     made = ("--boot", "shop.boot", "--config", "sys")
     for name, front, words, told in (
-            ("no profile", "", (*made, *THREE), ""), ("--profile 1", "{profile, 1}.\n", (*made, *THREE, "--profile", "1"), ""),
-            ("--profile 2", "{profile, 2}.\n", ("--profile", "2", *made, *THREE),
-             "started billing a@host1 takeover b@host2\nstopped billing b@host2\n")):
+            ("--profile 1", "{profile, 1}.\n", (*made, *THREE, "--profile", "1"), ""),
+            ("--profile 2", "{profile, 2}.\n", ("--profile", "2", *made, *THREE), TAKEN_OVER),
+            ("no profile", "{profile, 2}.\n", (*made, *THREE), TAKEN_OVER)):
         done = gather(folder, *words)
         head = "% A cluster file for rehearse. gather wrote it from the files that are named below.\n\n"
-        is_first = done.stdout.startswith(head + (front or "% a@host1: "))
+        is_first = done.stdout.startswith(head + front)
         yield name, wrong_with(program, done, front + SHOP, SHOP_COMMENTS) or (None if is_first else done.stdout)
         script = "===\nboot a@host1\nboot b@host2\nboot c-3@host3\npermit a@host1 billing false\npermit a@host1 billing true\n"
         answer = run(program, ["run"], input=(done.stdout + script).encode()).stdout.decode()
@@ -167,9 +79,7 @@ def both_profiles(program, folder):
 # ---- How much a profile takes
 
 # Words of the command line, the nodes of that profile, and what is told of the other one.
-PROFILES = [((), 32, (" (with --profile 2 it takes 64)", " (with --profile 2 it takes 128)")),
-            (("--profile", "1"), 32, (" (with --profile 2 it takes 64)", " (with --profile 2 it takes 128)")),
-            (("--profile", "2"), 64, ("", ""))]
+PROFILES = [((), 64, ("", "")), (("--profile", "1"), 32, (" (profile 2 takes 64)", " (profile 2 takes 128)"))]
 
 
 def limits(program, folder, profile):
@@ -197,18 +107,20 @@ def large_releases(program, folder):
     """Releases with more applications than are rehearsed, and with more platform names. One application is distributed."""
     for number in range(256):
         application(folder, f"app{number}")
-    for count in (65, 255, 256):
+    for count in (65, 129, 255, 256):
         listed = "".join(f', {{app{number}, "1.0"}}' for number in range(count))
         listed = f'{{kernel, "1"}}, {{stdlib, "1"}}{listed}'
         write(folder, f"rel{count}.rel", f'{{release, {{"many", "1"}}, {{erts, "1"}}, [{listed}]}}.\n')
     write(folder, "one.config", "[{kernel, [{distributed, [{app0, [a@b]}]}]}].")
     one = ("--lib", "ebin", "--node", "a@b", "--config", "one", "--rel")
-    yield "65 applications of a release", refusal(gather(folder, *one, "rel65"), 2, f"gather: 65 {TOO_MANY} the 64")
-    for words, apps in (("--profile", "2"), 65), (("--needed",), 1), (("--platform", "app64"), 64):
+    yield "129 applications of a release", refusal(gather(folder, *one, "rel129"), 2, f"gather: 129 {TOO_MANY} the 128")
+    told = f"gather: 65 {TOO_MANY} the 64"
+    yield "65 applications of a release, --profile 1", refusal(gather(folder, "--profile", "1", *one, "rel65"), 2, told)
+    for words, apps in ((), 65), (("--needed",), 1), (("--platform", "app64", "--profile", "1"), 64):
         done = gather(folder, *words, *one, "rel65")
         yield f"65 applications of a release, {' '.join(words)}", wrong_with(program, done, None, counts=(1, apps))
     # All others become platform names; kernel and stdlib are two more.
-    for words in ("--needed",), ("--needed", "--profile", "2"):
+    for words in ("--needed",), ("--needed", "--profile", "1"):
         done = gather(folder, *words, *one, "rel255")
         yield f"254 platform names, {' '.join(words)}", wrong_with(program, done, None, counts=(1, 1))
         told = "gather: 255 platform names are more than the 254 that rehearse takes\n"
@@ -286,7 +198,7 @@ def systools_order(program, folder):
     application(folder, "x1", ["x2"])
     application(folder, "x2", ["x1"])
     answer = release(folder, "x", ['{x1, "1.0"}', '{x2, "1.0"}'])
-    wrong = refusal(gather(folder, "--rel", "x", "--lib", ".", "--node", "a@b"), 2, "x.rel: x1 needs itself, by x2")
+    wrong = refusal(gather(folder, "--rel", "x", "--lib", ".", "--node", "a@b"), 2, "x.rel line 1: x1 needs itself, by x2")
     yield "a circle, which systools refuses", wrong if "circular_dependencies" in answer else answer
     for group in (list(made)[:5], list(made)[5:10]):
         nodes = [word for name in group for word in ("--node", f"{name}@x", "--rel", f"{name}.rel")]
@@ -371,7 +283,7 @@ def five_nodes(program, folder):
     done = gather(folder, "--lib", "ebin", "--env", "TIME=3000", *words, TIME="1", LEVEL="wrong")
     yield "five nodes", wrong_with(program, done, FIVE, FIVE_COMMENTS)
     done = gather(folder, "--lib", "ebin", *words)
-    yield "a variable that isn't set", refusal(done, 2, "edge/sys.config.src", "${TIME} isn't set")
+    yield "a variable that isn't set", refusal(done, 2, "edge/sys.config.src line 1: ${TIME} isn't set: give --env TIME=VALUE")
 
 
 # ---- Arguments of each kind, and what is refused
@@ -409,19 +321,27 @@ def arguments(program, folder):
 
 
 CONFIGS = {
-    "syntax": "[{kernel,\n [{distributed, }]}].", "tuple": "{kernel, []}.", "two": "[]. [].", "include": '["other"].',
-    "deep/sys": '["x"].', "again": "[{pool, []}, {pool, []}].", "param": "[{pool, [{a, 1}, {a, 2}]}].", "odd": "[{pool, [a]}].",
-    "blank": "[{kernel, [{permissions, [{'a b', true}]}]}].", "unknown": "[{kernel, [{sync_nodes_optional, [z@b]}]}].",
-    "time": "[{kernel, [{sync_nodes_timeout, 1.5}]}].", "twice": "[{kernel, [{distributed, [{pool, [a@b, {a@b}]}]}]}].",
-    "nowhere": "[{kernel, [{distributed, [{pool, []}]}]}].", "form": "[{kernel, [{distributed, [pool]}]}].",
-    "a": "[{kernel, [{distributed, [{pool, 1, [a@b]}]}]}].", "b": "[{kernel, [{distributed, [{pool, 2, [a@b]}]}]}]."}
+    "syntax": "[{kernel,\n [{distributed, }]}].", "open": "[{kernel,\n []}]\n", "tuple": "\n{kernel, []}.", "two": "[].\n%\n[].",
+    "include": '[\n"other"].', "deep/sys": '["y",\n"x"].', "deep/y": "[].", "again": "[{pool, [{pool, 1}]},\n{pool, []}].",
+    "param": "[{pool, [{a, 1},\n{a, 1}]}].", "odd": "[{pool,\n[{a, 1},\na]}].", "none": "", "many": "[{pool, [a]},\n{pool, [a]}].",
+    "blank": "[{kernel, [{permissions,\n[{a, true},\n{'a b', true}]}]}].", "unknown": "[{kernel,\n[{sync_nodes_optional, [z@b]}]}].",
+    "time": "[{kernel, [\n\n{sync_nodes_timeout, 1.5}]}].", "twice": "[{kernel, [{distributed,\n[{pool, [a@b,\n{a@b}]}]}]}].",
+    "nowhere": "[{kernel, [{distributed, [{pool,\n[]}]}]}].", "form": "[{kernel, [{distributed,\n[{x, [a@b]},\npool]}]}].",
+    "list": "[{kernel, [{distributed,\nx}]}].", "double": "[{kernel, [{distributed, [{x, [a@b]},\n{x, 1, [a@b]}]}]}].",
+    "a": "[\n{kernel, [{distributed, [{pool, 1, [a@b]}]}]}].", "b": "[{kernel,\n\n[{distributed, [{pool, 2, [a@b]}]}]}]."}
 REFUSED_CONFIGS = [  # a configuration, and parts of what is told
-    ("syntax", "syntax.config", "2"), ("tuple", "isn't a list"), ("two", "2 terms"), ("missing", "missing.config: no such file"),
-    ("include", "include.config", "in a sys.config itself alone"), ("deep/sys", "x.config: no such file"),
-    ("again", "section pool stands twice"), ("param", "section pool: a stands twice"), ("odd", "a is no {Parameter, Value}"),
-    ("blank", "a@b: 'a b'"), ("unknown", "sync_nodes_optional names z@b", "--node z@b"), ("time", "sync_nodes_timeout is 1.5"),
-    ("twice", "a@b: distributed lists a@b twice for pool"), ("nowhere", "for pool no list of nodes: []"),
-    ("form", "pool, which is no {App")]
+    ("syntax", "syntax.config line 2: syntax error before: '}'"), ("open", "open.config line 1: no dot ends the term"),
+    ("tuple", "tuple.config line 2: it isn't a list"), ("two", "two.config line 3: it has 2 terms"), ("none", "none.config: it has no term"),
+    ("missing", "missing.config: no such file"), ("include", "include.config line 2: ", "in a sys.config itself alone"),
+    ("deep/sys", "x.config: no such file or directory, which deep/sys.config line 2 names"),
+    ("again", "again.config line 2: section pool stands twice"), ("param", "param.config line 2: section pool: a stands twice"),
+    ("odd", "odd.config line 3: section pool: a is no {Parameter, Value}"),
+    ("blank", "a@b: blank.config line 3: 'a b'"), ("unknown", "a@b: unknown.config line 2: sync_nodes_optional names z@b", "--node z@b"),
+    ("time", "a@b: time.config line 3: sync_nodes_timeout is 1.5"),
+    ("twice", "a@b: twice.config line 2: distributed lists a@b twice for pool"),
+    ("nowhere", "a@b: nowhere.config line 2: distributed has for pool no list of nodes: []"),
+    ("form", "a@b: form.config line 3: distributed has pool, which is no {App"), ("list", "a@b: list.config line 2: distributed is x, and no list"),
+    ("double", "a@b: double.config line 2: distributed has x twice")]
 RELS = {"good": '{pool, "2.0"}', "old": '{pool, "1.0"}', "typed": '{pool, "2.0", sometimes}', "lost": '{lost, "1.0"}',
         "needy": '{needy, "1.0"}', "phased": '{phased, "1.0"}', "odd": '{odd, "1.0"}', "bytes": '{bytes, "1.0"}'}
 SHARES = 4
@@ -433,24 +353,27 @@ def refusals():
     for name, *parts in REFUSED_CONFIGS:
         yield f"refused: {name}", [*GOOD, "--config", name], 2, parts
     pair = [*GOOD[:-2], "--node", "a@b", "--config", "a", "--node", "b@b", "--config", "b"]
-    yield "refused: nodes that differ", pair, 2, ["a@b and b@b take part", "their distributed", "a.config", "b.config"]
-    for name, *parts in (("old", "pool 1.0: its .app file isn't in", "ebin/pool.app"),
-                         ("typed", "typed.rel: pool has type sometimes"), ("lost", "lost.rel: lost needs nobody"),
-                         ("phased", "phased (release phased 1 by phased.rel): start_phases has go"),
-                         ("needy", "ebin/needy.app: needy: applications is [kernel,stdlib,7]"),
-                         ("odd", "ebin/odd.app: odd: vsn is"),
-                         ("bytes", "ebin/bytes.app: "), ("absent", "absent: no such file")):
+    yield "refused: nodes that differ", pair, 2, [
+        "a@b and b@b take part", "their distributed", "(a@b: a.config line 2; b@b: b.config line 3)"]
+    for name, *parts in (("old", "old.rel line 1: pool 1.0: its .app file isn't in", "ebin/pool.app"),
+                         ("typed", "typed.rel line 1: pool has type sometimes"), ("lost", "lost.rel line 1: lost needs nobody"),
+                         ("phased", "ebin/phased.app line 1: start_phases has go"),
+                         ("needy", "ebin/needy.app line 1: needy: applications is [kernel,stdlib,7]"),
+                         ("odd", "ebin/odd.app line 1: odd: vsn is"),
+                         ("bytes", "ebin/bytes.app line 1: it isn't UTF-8"), ("absent", "absent: no such file")):
         yield f"refused: {name}.rel", ["--rel", name, "--lib", "ebin", "--node", "a@b"], 2, parts
     yield "refused: no release", ["--release", "ebin", "--node", "a@b"], 2, ["ebin: it has no releases/VERSION"]
     yield "refused: no boot script", ["--boot", "good.rel", "--node", "a@b"], 2, ["good.rel: it is no boot script"]
     for name, words in (("nothing", []), ("no release", ["--node", "a@b"]), ("no value", ["--node"]),
-                        ("no option", ["--nodes", "a@b"]), ("a word", ["a@b"]), ("twice", [*GOOD, "--node", "a@b"]),
+                        ("no option", ["--nonsense", "a@b"]), ("a flag with a value", ["--bare=yes", "--node", "a@b"]), ("a word", ["a@b"]), ("twice", [*GOOD, "--node", "a@b"]),
                         ("platform", [*GOOD, "--platform", "nobody"]), ("both", [*GOOD, "--boot", "good"])):
         yield f"a command line: {name}", words, 1, ["gather: ", "Try gather --help"]
     for words, told in ((["--profile", "3"], "3"), (["--profile", "02"], "02"), (["--profile", "1", "--profile", "2"], "1, 2")):
         told = f"--profile is 1 or 2, and given once, not {told}\n"
         yield f"a command line: {' '.join(words)}", [*GOOD, *words], 1, [told, "Try gather --help"]
-    yield "a command line: no profile", [*GOOD, "--profile"], 1, ["--profile wants a value"]
+    for words, told in ((["--profile"], "--profile needs a value"), (["--node"], "--node needs a value"),
+                        (["--relase=x"], "there is no option --relase: is --release meant?"), (["--nodes"], "--nodes: is --node meant?")):
+        yield f"a command line: {told}", [*GOOD, *words], 1, [told, "Try gather --help"]
 
 
 def made_to_be_refused(folder):
