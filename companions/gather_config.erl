@@ -85,7 +85,8 @@ merged(Old, New) -> lists:foldl(fun({P, _} = Pair, Env) -> lists:keystore(P, 1, 
 
 %% The words of an args file, each with where it stands.
 args(File, Options) ->
-    [{Word, text("~ts line ~b", [File, Line])} || {Line, Word} <- gather_source:words(gather_source:read(File, Options))].
+    Source = gather_source:read(File, Options#{comment => $#}),
+    [{Word, text("~ts line ~b", [File, Line])} || {Line, Word} <- gather_source:words(Source)].
 
 %% The configuration files and kernel parameters of a command line of erl, and flags that may be misspelt.
 flags([], Configs, Env, Misspelt) -> {Configs, Env, lists:reverse(Misspelt)};

@@ -6,14 +6,15 @@
 
 %% ---- Texts
 
-%% A file as a source. In one that ends in .src, variables are replaced, as the start script of a release does.
+%% A file as a source. In one that ends in .src, variables are replaced, as the start script of a release does. `comment` of the
+%% options is what begins a comment in it, if that isn't %.
 read(File, Options) ->
     Bytes = bytes(File),
     Encoding = case epp:read_encoding_from_binary(Bytes) of none -> utf8; Told -> Told end,
     Text = unicode:characters_to_list(Bytes, Encoding),
     is_list(Text) orelse refuse("~ts line ~b: it isn't UTF-8", [File, line_of_fault(Text)]),
     case filename:extension(File) of
-        ".src" -> #{file => File, text => replaced(Text, comment_mark(File), none, 1, {File, Options})};
+        ".src" -> #{file => File, text => replaced(Text, maps:get(comment, Options, $%), none, 1, {File, Options})};
         _ -> #{file => File, text => Text}
     end.
 
@@ -28,35 +29,30 @@ bytes(File) ->
         {error, Why} -> refuse("~ts: ~ts", [File, file:format_error(Why)])
     end.
 
-%% What begins a comment: of a vm.args.src and so on, or of a file of Erlang terms.
-comment_mark(File) ->
-    case lists:prefix("vm.args", filename:basename(File)) orelse filename:extension(filename:rootname(File)) =:= ".args" of
-        true -> $#;
-        false -> $%
-    end.
-
-%% A text with values in place of ${NAME} and ${NAME:-VALUE}, but for those in comments. `Inside` is the quote that is open, `comment`,
-%% or `none`.
+%% A text with values in place of ${NAME} and ${NAME:-VALUE}, but for those in comments. `Mark` begins a comment: % anywhere, # where no
+%% word is open. `Inside` is the quote that is open, `comment`, `word` or `none`.
 replaced([], _, _, _, _) -> [];
-replaced([$\n | Rest], Mark, comment, Line, From) -> [$\n | replaced(Rest, Mark, none, Line + 1, From)];
-replaced([$\n | Rest], Mark, Inside, Line, From) -> [$\n | replaced(Rest, Mark, Inside, Line + 1, From)];
+replaced([$\n | Rest], Mark, Inside, Line, From) when is_atom(Inside) -> [$\n | replaced(Rest, Mark, none, Line + 1, From)];
+replaced([$\n | Rest], Mark, Quote, Line, From) -> [$\n | replaced(Rest, Mark, Quote, Line + 1, From)];
 replaced([C | Rest], Mark, comment, Line, From) -> [C | replaced(Rest, Mark, comment, Line, From)];
 replaced("${" ++ Rest, Mark, Inside, Line, From) ->
     case lists:splitwith(fun(C) -> C =/= $} andalso C =/= $\n end, Rest) of
-        {Word, [$} | Behind]} -> value(Word, Line, From) ++ replaced(Behind, Mark, Inside, Line, From);
-        _ -> "${" ++ replaced(Rest, Mark, Inside, Line, From)
+        {Word, [$} | Behind]} -> value(Word, Line, From) ++ replaced(Behind, Mark, within(Inside, Mark), Line, From);
+        _ -> "${" ++ replaced(Rest, Mark, within(Inside, Mark), Line, From)
     end;
-replaced([$\\, C | Rest], Mark, Inside, Line, From) when C =/= $\n -> [$\\, C | replaced(Rest, Mark, Inside, Line, From)];
+replaced([$\\, C | Rest], Mark, Inside, Line, From) when C =/= $\n ->
+    [$\\, C | replaced(Rest, Mark, within(Inside, Mark), Line, From)];
 replaced([$$, C | Rest], $%, none, Line, From) when C =/= $\n, C =/= $\\ -> [$$, C | replaced(Rest, $%, none, Line, From)];
 replaced([Mark | Rest], Mark, none, Line, From) -> [Mark | replaced(Rest, Mark, comment, Line, From)];
-replaced([C | Rest], $#, none, Line, From) when C =/= $\s, C =/= $\t, C =/= $', C =/= $" ->
-    % Within a word of a vm.args # begins no comment.
-    {Word, Behind} = lists:splitwith(fun(D) -> not lists:member(D, " \t\n'\"$\\") end, Rest),
-    [C | Word] ++ replaced(Behind, $#, none, Line, From);
-replaced([Quote | Rest], Mark, none, Line, From) when Quote =:= $'; Quote =:= $" ->
-    [Quote | replaced(Rest, Mark, Quote, Line, From)];
-replaced([Quote | Rest], Mark, Quote, Line, From) -> [Quote | replaced(Rest, Mark, none, Line, From)];
-replaced([C | Rest], Mark, Inside, Line, From) -> [C | replaced(Rest, Mark, Inside, Line, From)].
+replaced([C | Rest], Mark, word, Line, From) when C =:= $\s; C =:= $\t; C =:= $\r -> [C | replaced(Rest, Mark, none, Line, From)];
+replaced([Quote | Rest], Mark, Quote, Line, From) -> [Quote | replaced(Rest, Mark, within(none, Mark), Line, From)];
+replaced([C | Rest], Mark, Inside, Line, From) when is_atom(Inside), C =:= $' orelse C =:= $" -> [C | replaced(Rest, Mark, C, Line, From)];
+replaced([C | Rest], Mark, none, Line, From) when C =:= $\s; C =:= $\t; C =:= $\r -> [C | replaced(Rest, Mark, none, Line, From)];
+replaced([C | Rest], Mark, Inside, Line, From) -> [C | replaced(Rest, Mark, within(Inside, Mark), Line, From)].
+
+%% What is open behind a letter.
+within(none, $#) -> word;
+within(Inside, _) -> Inside.
 
 %% The value of a variable: of --env, of the node, of the environment; else, or where that is empty, its default.
 value(Word, Line, {File, Options}) ->

@@ -50,6 +50,10 @@ def variables(program, folder):
     write(folder, "vm.args.src", "-kernel sync_nodes_timeout\n  ${FIRST}\n-config other\n")
     done = gather(folder, *given, *both)
     yield "an args file that names no configuration", refusal(done, 2, "other.config: no such file or directory, which vm.args.src line 3 names")
+    # Within a word # begins no comment, and so what stands behind it is replaced.
+    write(folder, "words.src", "\n-setcookie ${FIRST}#${NOT_SET}\n")
+    done = gather(folder, *given[:2], "--args", "words.src", *given[3:], *both)
+    yield "an args file with a # in a word", refusal(done, 2, "words.src line 2: ${NOT_SET} isn't set")
     write(folder, "vm.args.src", "# Nothing.\n-kernel sync_nodes_timeout '{'\n")
     done = gather(folder, *given, *both)
     yield "an args file without a term", refusal(done, 2, "vm.args.src line 2: -kernel sync_nodes_timeout {: this is no term")
