@@ -12,10 +12,10 @@ COMPANION = os.path.join(TOP, "companions", "spread")
 EXAMPLE = read(os.path.join(TOP, "examples", "five-nodes-sweep.txt"))
 HEAD = EXAMPLE.split(b"plan ", 1)[0]
 # The program, which writes down each process that sweeps.
-COUNTED = '#!/bin/sh\n[ "$1" = check ] || echo $$ >> "%s"\nexec "%s" "$@"\n'
+COUNTED = '#!/bin/sh\n[ "$1" = run ] || echo $$ >> "%s"\nexec "%s" "$@"\n'
 # The same, but the first run gets no input, and so doesn't end by itself.
 FIRST_WAITS = """#!/bin/sh
-[ "$1" = check ] && exec "%(program)s" "$@"
+[ "$1" = run ] && exec "%(program)s" "$@"
 echo $$ >> "%(starts)s"
 [ "$(wc -l < "%(starts)s")" -gt 1 ] || exec "%(program)s" "$@" <> "%(nothing)s"
 exec "%(program)s" "$@"
@@ -97,7 +97,7 @@ def odd_texts(program):
             ("a profile that is none", b"{profile, 3}.\n" + EXAMPLE),
             ("a profile that isn't the first term", EXAMPLE.replace(b"\n===", b"\n{profile, 2}.\n===", 1)),
             ("a cluster that is refused", EXAMPLE.replace(b"ledger, 3000", b"ledger, 3001", 1)),
-            ("no plan", HEAD), ("no script", HEAD.split(b"===")[0]), ("nothing", b"")]:
+            ("no plan", HEAD), ("no script", HEAD.split(b"===")[0])]:
         yield name, as_one_run(program, ["--shares", "3", "--jobs", "2"], text)
 
 
