@@ -2,14 +2,14 @@
 
 Texts are kept as they are, also where they aren't UTF-8: bytes that aren't stand in a str as lone surrogates.
 """
-import argparse
-import os
-import re
-import subprocess
-import sys
-from typing import NamedTuple
+from endings import Refused, run_main, tell, why_of, write_bytes  # noqa: F401: the companions have them from here; it stands first
 
-from endings import Refused, run_main, tell, why_of, write_bytes  # noqa: F401: the companions have them from here
+import argparse  # noqa: E402
+import os  # noqa: E402
+import re  # noqa: E402
+import subprocess  # noqa: E402
+import sys  # noqa: E402
+from typing import NamedTuple  # noqa: E402
 
 HERE = os.path.dirname(os.path.realpath(__file__))
 # What may be a name in a cluster file: an atom in quotes or a plain one, outside of comments and strings.

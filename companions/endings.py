@@ -3,11 +3,16 @@
 Statuses that all of them have: 2 what is read is refused, or it can't be written; 130 (as a shell tells it) Ctrl-C; 70 a fault of the
 companion itself. A reader of standard output that has gone away isn't an error: the status is that of what was done.
 """
-import os
 import signal
-import sys
-import traceback
-from typing import Callable, NoReturn, Optional
+
+# Until run_main is there to catch it, Ctrl-C ends a companion as it ends a program that doesn't catch it: so this is imported first.
+if signal.getsignal(signal.SIGINT) is signal.default_int_handler:
+    signal.signal(signal.SIGINT, signal.SIG_DFL)
+
+import os  # noqa: E402
+import sys  # noqa: E402
+import traceback  # noqa: E402
+from typing import Callable, NoReturn, Optional  # noqa: E402
 
 REFUSED, OWN_FAULT = 2, 70
 # Set to anything, it shows where in the companion a fault of its own is.
@@ -20,6 +25,8 @@ class Refused(Exception):
 
 def run_main(name: str, main: Callable[[], None]) -> NoReturn:
     """Runs a companion, and ends it."""
+    if signal.getsignal(signal.SIGINT) is signal.SIG_DFL:
+        signal.signal(signal.SIGINT, signal.default_int_handler)
     status = status_of(name, main)
     why = flush_fault()
     if why is not None:

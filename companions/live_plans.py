@@ -1,5 +1,6 @@
 """The plans of a sweep's input by companions/live: for each whether live nodes do otherwise, hang or burn."""
 import json
+import multiprocessing
 import os
 import signal
 import sys
@@ -10,6 +11,7 @@ from dataclasses import asdict, dataclass
 from typing import Iterator, Optional
 
 from asking import Program, Refused, is_command, plural, split_input, words_of, write_out
+from endings import end_by_interrupt
 from live_sides import BACK_AND_FORTH, Answer, Sides, rules_of
 from live_text import HEAD, NONE_DIFFERS, PAGE, SOME_DIFFER, SOMETHING_HANGS, first_of, status_of
 from otp25.cluster import cluster_of
@@ -108,7 +110,7 @@ judge: Optional[Judge] = None
 
 
 def begin(program: Program, cluster: str, base: list[str], orders: int) -> None:
-    """Begins a process: the base is made once in each. Ctrl-C is for the process that hands out the work."""
+    """Begins a process: the base is made once in each. At Ctrl-C the process that hands out the work ends it."""
     global judge
     signal.signal(signal.SIGINT, signal.SIG_IGN)
     signal.pthread_sigmask(signal.SIG_UNBLOCK, {signal.SIGINT})
@@ -126,14 +128,20 @@ def all_verdicts(begun: tuple[Program, str, list[str], int], plans: list[Plan], 
     pieces = [plans[place:place + AT_ONCE] for place in range(0, len(plans), AT_ONCE)]
     with ProcessPoolExecutor(max(1, min(jobs, len(pieces))), initializer=begin, initargs=begun) as pool:
         done = 0
-        # A process that has just begun isn't interrupted before it ignores that.
-        signal.pthread_sigmask(signal.SIG_BLOCK, {signal.SIGINT})
-        found = pool.map(try_plans, pieces)
-        signal.pthread_sigmask(signal.SIG_UNBLOCK, {signal.SIGINT})
-        for verdicts in found:
-            yield from verdicts
-            done += len(verdicts)
-            show_bar(done, len(plans))
+        try:
+            # A process that has just begun isn't interrupted before it ignores that.
+            signal.pthread_sigmask(signal.SIG_BLOCK, {signal.SIGINT})
+            found = pool.map(try_plans, pieces)
+            signal.pthread_sigmask(signal.SIG_UNBLOCK, {signal.SIGINT})
+            for verdicts in found:
+                yield from verdicts
+                done += len(verdicts)
+                show_bar(done, len(plans))
+        except KeyboardInterrupt:
+            # At once: the pool would wait for what its processes are at.
+            for child in multiprocessing.active_children():
+                child.kill()
+            end_by_interrupt()
 
 
 def show_bar(done: int, count: int) -> None:
