@@ -5,13 +5,17 @@ import os
 import re
 import resource
 import subprocess
+import sys
 
-from browser import OPTIONS, Browser
+from browser import OPTIONS
 from groups import Group
+from pages import COLUMN, HEADS, LABELS, OVERFLOW, WORDS, all_same, example, in_browser, made, page, same
 from support import LONGEST_RUN, TOP, example_files, in_folder
 
+sys.path.append(os.path.join(TOP, "companions"))
+from page_names import names_of  # noqa: E402
+
 NEEDS = ("chromium",)
-COMPANION = os.path.join(TOP, "companions", "page")
 THREE_UP = """now 0
 node cp1@cave up 1
   running myapp permanent normal
@@ -24,24 +28,14 @@ app myapp running cp1@cave
 # What a sheet of A4 on its side has room for, below its margins.
 HIGHEST = 700
 # The rows of the chart of examples/repaired-node.txt, with what stands in them at two steps.
-AT_4 = [["step", ""], ["clock, ms", "0 ms"], ["myapp", "myapp lost cp1@cave"],
-        ["cp1@cave", "cp1@cave is down, booted 1×"], ["myapp", "myapp lost cp1@cave"],
-        ["cp2@cave", "cp2@cave is up, booted 1×"], ["myapp", "myapp waits at cp2@cave, permanent"],
-        ["cp3@cave", "cp3@cave is up, booted 1×"], ["myapp", "myapp waits at cp3@cave, permanent"]]
-AT_8 = [["step", ""], ["clock, ms", "10000 ms"], ["myapp", "myapp running cp3@cave"],
-        ["cp1@cave", "cp1@cave is down, booted 1×"], ["myapp", ""],
-        ["cp2@cave", "cp2@cave is waiting, booted 2×"], ["myapp", ""],
-        ["cp3@cave", "cp3@cave is up, booted 1×"], ["myapp", "myapp runs at cp3@cave, permanent normal"]]
-# What a click would meet at a step, in each row that has a label.
-COLUMN = """(() => {
-  const cursor = document.getElementById("cursor").getBoundingClientRect();
-  return [...document.querySelectorAll(".names text")].map((label) => {
-    const box = label.getBoundingClientRect();
-    const there = document.elementFromPoint(cursor.left + cursor.width / 2, box.top + box.height / 2);
-    const title = there && there.closest("g") && there.closest("g").querySelector("title");
-    return [label.textContent, title ? title.textContent : ""];
-  });
-})()"""
+AT_4 = [["step", ""], ["clock", "0 ms"], ["passes", ""], ["myapp", "myapp lost cp1@cave"],
+        ["1 cp1", "cp1@cave is down, booted 1×"], ["myapp", "myapp lost cp1@cave"],
+        ["2 cp2", "cp2@cave is up, booted 1×"], ["myapp", "myapp waits at cp2@cave, permanent"],
+        ["3 cp3", "cp3@cave is up, booted 1×"], ["myapp", "myapp waits at cp3@cave, permanent"]]
+AT_8 = [["step", ""], ["clock", "10000 ms"], ["passes", ""], ["myapp", "myapp running cp3@cave"],
+        ["1 cp1", "cp1@cave is down, booted 1×"], ["myapp", ""],
+        ["2 cp2", "cp2@cave is waiting, booted 2×"], ["myapp", ""],
+        ["3 cp3", "cp3@cave is up, booted 1×"], ["myapp", "myapp runs at cp3@cave, permanent normal"]]
 # The milliseconds that the page takes for 100 keys and its layout behind each. A key that is pressed would wait for the browser
 # to paint, which on a machine with other work takes as long as that leaves.
 HUNDRED_KEYS = """(() => {
@@ -52,17 +46,8 @@ HUNDRED_KEYS = """(() => {
   }
   return performance.now() - begin;
 })()"""
-REFUSED_COMMANDS = "[...document.querySelectorAll('text.refused')].map((head) => head.textContent)"
-# The table of plans: each with its other cells.
-ROWS_OF_PLANS = """Object.fromEntries([...document.querySelectorAll('#sweep tbody tr')].map(
-  (row) => [row.firstChild.textContent, [...row.children].slice(1).map((cell) => cell.textContent)]))"""
 # Names that end elements and begin others, were they put into a page as they stand.
-STRANGE = ["</script><script>document.title=1</script>", "<img/src=x/onerror=document.title=2>", "&amp;\"<!--CHART-->", "\u00a0", "é\u2028x"]
-
-
-def page(program, words, text=None):
-    """A finished run of the companion."""
-    return subprocess.run([COMPANION, "--rehearse", program, *words], input=text, capture_output=True, timeout=LONGEST_RUN)
+STRANGE = ["</script><script>document.title=1</script>", "<img/src=x/onerror=document.title=2>", "&amp;\"<!--STORY-->", "\u00a0", "é\u2028x"]
 
 
 def made_within(seconds, program, folder, words, text):
@@ -72,30 +57,6 @@ def made_within(seconds, program, folder, words, text):
     end = resource.getrusage(resource.RUSAGE_CHILDREN)
     taken = end.ru_utime + end.ru_stime - begin.ru_utime - begin.ru_stime
     return path, None if taken < seconds else f"{taken:.1f} seconds"
-
-
-def same(want, have):
-    """What is wrong with a value, or None."""
-    return None if want == have else f"want {want!r}, have {have!r}"
-
-
-def all_same(*pairs):
-    """What is wrong with the first of some values that isn't as wanted, or None."""
-    return next((wrong for wrong in (same(*pair) for pair in pairs) if wrong), None)
-
-
-def made(program, folder, words, text=None):
-    """The path of a page that is made from words and an input."""
-    path = os.path.join(folder, "page.html")
-    done = page(program, [*words, "-o", path], text)
-    if done.returncode != 0 or done.stdout or done.stderr:
-        raise ValueError(f"status {done.returncode}: {done.stdout} {done.stderr}")
-    return path
-
-
-def example(name):
-    """The path of an example."""
-    return os.path.join(TOP, "examples", name)
 
 
 def one_rehearsal(program, folder, browser):
@@ -118,7 +79,7 @@ def one_rehearsal(program, folder, browser):
         ("6", browser.mouse((left + 8, middle[1]), (left + width / 4, middle[1]), middle)), ("5000", browser.text("clock")),
         ("7", browser.press("ArrowUp")), ("0", browser.press("PageUp")), ("10", browser.press("PageDown")))
     yield "undo goes back to the moment before", all_same(("undo", browser.text("command")), ("10000", browser.text("clock")))
-    names, column = browser.box(".names"), browser.box("#cursor")[2]
+    names, column = browser.box("#names"), browser.box("#cursor")[2]
     yield "a click into the chart", all_same(
         ("9", browser.mouse((names[0] + names[2] + 9.2 * column, names[1] + names[3] - 10))),
         ("4", browser.mouse((names[0] + names[2] + 4.8 * column, names[1] + 10))),
@@ -127,7 +88,7 @@ def one_rehearsal(program, folder, browser):
     browser.open(path, "#step=8")
     yield "the address tells a step", all_same(("8", browser.text("step")), (AT_8, browser.value(COLUMN)))
     yield "each span has a word", same(0, browser.value(
-        "[...document.querySelectorAll('.band g')].filter((span) => span.querySelector('title') && !span.querySelector('text')).length"))
+        "[...document.querySelectorAll('#body g')].filter((span) => span.querySelector('title') && !span.querySelector('text')).length"))
     browser.value("location.hash = '#step=3'")
     yield "a link to a step", same("3", browser.text_that_becomes("step", "3"))
     marked = ["node cp1@cave up 1", "  running myapp permanent normal", "node cp2@cave up 1", "  waiting myapp permanent",
@@ -146,13 +107,13 @@ def wanted_and_forbidden(program, folder, browser):
     text += "boot n1@lab\nboot n2@lab\ncrash n1@lab\ntick 1000\npermit n2@lab svc true\n"
     browser.open(made(program, folder, ["-"], text.encode()), "#step=4")
     yield "the chart where it is wanted", same(
-        [["step", ""], ["clock, ms", "1000 ms"], ["svc", "svc wanted n1@lab"], ["n1@lab", "n1@lab is down, booted 1×"],
-         ["svc", "svc wanted n1@lab"], ["log", ""], ["n2@lab", "n2@lab is up, booted 1×"],
+        [["step", ""], ["clock", "1000 ms"], ["passes", "1000 ms pass"], ["svc", "svc wanted n1@lab"],
+         ["1 n1", "n1@lab is down, booted 1×"], ["svc", "svc wanted n1@lab"], ["log", ""], ["2 n2", "n2@lab is up, booted 1×"],
          ["svc", "svc waits at n2@lab, permanent, forbidden"], ["log", "log runs at n2@lab, permanent normal"]], browser.value(COLUMN))
     browser.press("ArrowRight")
     have = browser.value(COLUMN)
-    yield "the chart where it is permitted", all_same((["svc", "svc running n2@lab"], have[2]), (["svc", ""], have[4]),
-                                                      (["svc", "svc runs at n2@lab, permanent normal"], have[7]))
+    yield "the chart where it is permitted", all_same((["svc", "svc running n2@lab"], have[3]), (["svc", ""], have[5]),
+                                                      (["svc", "svc runs at n2@lab, permanent normal"], have[8]))
 
 
 def dumped(program, folder):
@@ -166,20 +127,28 @@ def dumped(program, folder):
 
 
 def printed(program, folder, browser):
-    """Printed, the bands of the chart stand below one another, each with its labels."""
+    """Printed, the chart stands in bands below one another, each with its labels."""
     ticks = b"".join(b"tick 1000\n" for _ in range(100))
     path = made(program, folder, ["-", "--title", "A <long> one"], b"{node, a@x, []}.\n===\nboot a@x\n" + ticks)
     browser.open(path)
+    browser.value("addEventListener('beforeprint', () => { window.printed = document.querySelectorAll('.band').length; })")
     browser.call("Emulation.setEmulatedMedia", media="print")
     browser.call("Emulation.setDeviceMetricsOverride", width=1047, height=700, deviceScaleFactor=1, mobile=False)
+    browser.value("dispatchEvent(new Event('beforeprint'))")
     bands = browser.value("[...document.querySelectorAll('.band')].map((band) => [band.getBoundingClientRect().top, "
-                          "band.lastChild.getBoundingClientRect().right, band.querySelector('use').getBoundingClientRect().width])")
+                          "band.lastChild.getBoundingClientRect().right, band.firstChild.getBoundingClientRect().width, "
+                          "getComputedStyle(band).breakInside])")
     yield "bands in print", all_same(
-        (3, len(bands)), (sorted(bands), bands), (True, all(right <= 1047 and names > 40 for _, right, names in bands)),
-        (0, browser.value("document.querySelector('.names').getBoundingClientRect().width")))
-    yield "printed, a moment tells its step", same("step 0 of 101, clock 0 ms", browser.value("document.getElementById('paper').innerText"))
+        (2, len(bands)), (sorted(bands), bands), (True, all(right <= 1047 and names > 40 for _, right, names, _ in bands)),
+        ({"avoid"}, {cut for *_, cut in bands}), (0, browser.value("document.getElementById('frame').getBoundingClientRect().width")))
+    yield "all steps are in print", same([str(step) for step in range(102) if step % 2 == 0], browser.value(
+        "[...document.querySelectorAll('.band .number')].map((number) => number.textContent)"))
+    yield "printed, a moment tells its step", same("step 0 of 101, clock 0 ms", browser.value("document.getElementById('told').innerText"))
+    browser.value("dispatchEvent(new Event('afterprint'))")
+    browser.value("window.printed = 0")
     pdf = browser.call("Page.printToPDF", preferCSSPageSize=True, printBackground=False)["data"]
     yield "it prints", None if pdf.startswith("JVBERi") and len(pdf) > 20_000 else f"{len(pdf)} characters, {pdf[:20]}"
+    yield "it prints the chart", same(2, browser.value("window.printed"))
     browser.call("Emulation.setEmulatedMedia", media="")
     browser.call("Emulation.clearDeviceMetricsOverride")
     yield "its title", all_same(("A <long> one", browser.value("document.title")))
@@ -203,76 +172,70 @@ def strange_names(program, folder, browser):
         (0, browser.value("document.querySelectorAll('img, i').length")))
 
 
-def sweeps(program, folder, browser):
-    """A sweep's table. What becomes of the plans follows from the lists of the example: see README.md."""
-    browser.open(made(program, folder, ["--sweep", "--workers", "3", example("five-nodes-sweep.txt")]))
-    rows = browser.value(ROWS_OF_PLANS)
-    stays = ["= core1@site", "= edge1@site", "= edge3@site"]
-    yield "a sweep: plans", all_same(
-        (17, len(rows)), (["crash core1@site; tick 3000", "2 of 2", "1", "0", "→ core2@site", *stays[1:]], rows.get("core1")),
-        (["crash core2@site; tick 3000", "2 of 2", "0", "0", *stays], rows.get("core2")),
-        (["crash core1@site; crash core2@site; tick 3000", "3 of 3", "0", "0", "✗ wanted, was at core1@site", *stays[1:]],
-         rows.get("core1+core2")),
-        (["crash core1@site; crash core1@site; tick 3000✗ refused: 2 S5 not_alive", "1 of 3", "0", "0",
-          "… lost, was at core1@site", *stays[1:]], rows.get("core1-is-down")))
-    left, top, width, height = browser.value("(() => { const box = document.getElementById('few'); box.scrollIntoView({block: 'center'});"
-                                             " const at = box.getBoundingClientRect(); return [at.left, at.top, at.width, at.height]; })()")
-    browser.mouse((left + width / 2, top + height / 2))
-    yield "a sweep: only those", same(["core1+core2", "core2+edge3", "core1-is-down"], browser.value(
-        "[...document.querySelectorAll('#sweep tbody tr')].filter((row) => row.offsetHeight).map((row) => row.firstChild.textContent)"))
-    yield "a sweep: nothing went wrong", browser.troubles()
+def labels(program, folder, browser):
+    """Names as a release makes them: all with the same front, and hosts of one domain."""
+    hosts = [f"orders@{city}.prod.example.net" for city in ("ams1", "fra1", "ams2-app-09")]
+    kernel = f"{{distributed, [{{ledger_writer, 500, [{', '.join(repr(host) for host in hosts)}]}}]}}"
+    boot = "{boot, [{ledger_writer, permanent}]}"
+    text = "".join(f"{{node, '{host}', [{{kernel, [{kernel}]}}, {{rehearse, [{boot}]}}]}}.\n" for host in hosts)
+    text += "{application, ledger_writer, []}.\n===\n" + "".join(f"boot {host}\n" for host in hosts)
+    text += f"permit {hosts[2]} ledger_writer false\ntick 90000\ncrash {hosts[0]}\ntick 500\ntick 1500\n"
+    path = made(program, folder, ["-"], text.encode())
+    browser.open(path, "#step=8")
+    yield "labels of nodes", same(["1 orders@ams1", "2 orders@fra1", "3 orders@ams2-app-09"], browser.value(LABELS))
+    yield "a full name as a tooltip", same(hosts, browser.value(
+        "[...document.querySelectorAll('#names .node')].map((label) => label.parentNode.querySelector('title').textContent)"))
+    yield "heads aren't cut", same("permit ams2-app-09 ledger_writer false", browser.value(HEADS)[4].replace("|", " "))
+    yield "where it runs", same(["quiet", "orders@ams1", "lost", "orders@fra1"], browser.value(WORDS + "('ledger_writer')"))
+    yield "times", same(["0 ms", "0:01:30", "0:01:30.500", "01:32"], browser.value(WORDS + "('clock')"))
+    yield "what passes", all_same(
+        (["+90 s", "500ms", "1.5s"], browser.value(WORDS + "('passes')")), (["90000 ms pass", "500 ms pass", "1500 ms pass"], browser.value(
+            "[...document.querySelectorAll('#head rect.pass')].map((box) => box.parentNode.querySelector('title').textContent)")))
+    yield "the clock of the moment", all_same(("92000", browser.text("clock")), (" (0:01:32)", browser.text("time")))
+    browser.press("Home")
+    yield "the next loss", all_same(("6", browser.press("n")), ("6", browser.press("n")), ("1 loss", browser.text("losses")))
+    yield from sizes_of(browser, path)
 
 
-# Both nodes boot web, which is sent away from a@x at step 3. Behind that come plans.
-TWO_NODES = "".join(f"{{node, {node}, [{{kernel, [{{distributed, [{{web, 500, [a@x, b@x]}}]}}]}},\n"
-                    "  {rehearse, [{boot, [{web, permanent}]}]}]}.\n" for node in ("a@x", "b@x")) + "{application, web, []}.\n===\n"
-SENT_AWAY = "boot a@x\nboot b@x\npermit a@x web false\n"
-AT_ALL = "# It may run there again.\npermit a@x web true\nstop_all web\nstart_all web temporary\nstart_all web permanent\n"
-# The answer where web is permitted again, by the profile, and what the chart shows then: where web stands, and what it does at a@x
-# and at b@x.
-PULLED_BACK = {
-    1: ("ok", "running b@x", "web waits at a@x, permanent", "web runs at b@x, permanent normal"),
-    2: ("ok\nstarted web a@x takeover b@x\nstopped web b@x", "running a@x", "web runs at a@x, permanent takeover b@x",
-        "web waits at b@x, permanent")}
-STOPPED = {1: "ok\nstopped web b@x", 2: "ok\nstopped web a@x"}
-PLANS_AT_ALL = ("plan given-back\npermit a@x web true\nplan stopped\nstop_all web\nplan again\nstop_all web\n"
-                "start_all web temporary\nplan twice\nstart_all web permanent\n")
-GIVEN_BACK = {1: ["0", "= b@x"], 2: ["1", "→ a@x"]}
+def sizes_of(browser, path):
+    """The columns are made wider and narrower; a narrow window, in the light and in the dark."""
+    width = "document.getElementById('cursor').getBoundingClientRect().width"
+    before = browser.value(width)
+    browser.press("+")
+    wider = browser.value(width)
+    browser.press("-", "-")
+    yield "wider and narrower", None if wider > before > browser.value(width) else f"{wider} {before}"
+    browser.press("f")
+    yield "all side by side", same(True, browser.value("view.layout.x[view.layout.x.length - 1] <= sizes().width + 1"))
+    browser.value("document.getElementById('by-time').click()")
+    yield "a longer time is wider", same(True, browser.value("view.layout.x[6] - view.layout.x[5] > 4 * (view.layout.x[2] - view.layout.x[1])"))
+    browser.call("Emulation.setDeviceMetricsOverride", width=400, height=800, deviceScaleFactor=1, mobile=False)
+    browser.open(path, "#step=6")
+    yield "400 points: nothing is wider than the window", same(0, browser.value(OVERFLOW))
+    names, frame = browser.box("#names"), browser.box("#frame")
+    yield "400 points: the names leave room", None if names[2] < 0.45 * frame[2] else f"{names} {frame}"
+    yield "400 points: all controls are in the window", same([], browser.value(
+        "[...document.querySelectorAll('.bar *')].filter((each) => each.getBoundingClientRect().right > innerWidth).map((each) => each.id)"))
+    color = "getComputedStyle(document.body).backgroundColor"
+    light = browser.value(color)
+    browser.call("Emulation.setEmulatedMedia", features=[{"name": "prefers-color-scheme", "value": "dark"}])
+    yield "dark and light", None if light == "rgb(255, 255, 255)" != browser.value(color) else light
+    browser.call("Emulation.setEmulatedMedia", features=[])
+    browser.call("Emulation.clearDeviceMetricsOverride")
+    yield "its tables have captions and scopes", same(0, browser.value(
+        "document.querySelectorAll('table:not(:has(caption)), th:not([scope])').length"))
 
 
-def chart_of(web, at_a, at_b):
-    """The rows of the chart of both nodes at a step."""
-    return [["step", ""], ["clock, ms", "0 ms"], ["web", f"web {web}"], ["a@x", "a@x is up, booted 1×"], ["web", at_a],
-            ["b@x", "b@x is up, booted 1×"], ["web", at_b]]
-
-
-def at_all_nodes(program, folder, browser):
-    """Commands at all nodes, and a permission that is given back, in either profile."""
-    for name, front, profile in (("no profile", "", 1), ("profile 2", "% Mine.\n{profile, % 1\n2 }. ", 2)):
-        browser.open(made(program, folder, ["-"], (front + TWO_NODES + SENT_AWAY + AT_ALL).encode()), "#step=4")
-        told = f"2 nodes, profile {profile}, 7 steps, 0 ms. Made by companions/page from what rehearse answers."
-        yield f"{name}: what is counted", same(told, browser.value("document.querySelector('p.small').textContent"))
-        answer, *standing = PULLED_BACK[profile]
-        yield f"{name}: a permission given back", all_same(
-            ("permit a@x web true", browser.text("command")), ("It may run there again.", browser.text("notes")),
-            (answer, browser.text("answer")), (chart_of(*standing), browser.value(COLUMN)))
-        yield f"{name}: stopped at all nodes", all_same(
-            ("5", browser.press("ArrowRight")), ("stop_all web", browser.text("command")), (STOPPED[profile], browser.text("answer")),
-            (chart_of("quiet", "", ""), browser.value(COLUMN)))
-        yield f"{name}: started at all nodes", all_same(
-            ("6", browser.press("ArrowRight")), ("start_all web temporary", browser.text("command")),
-            ("ok\nstarted web a@x normal\nwaits web b@x", browser.text("answer")),
-            (chart_of("running a@x", "web runs at a@x, temporary normal", "web waits at b@x, temporary"), browser.value(COLUMN)))
-        yield f"{name}: refused at all nodes", all_same(
-            ("7", browser.press("ArrowRight")), ("refused S11 already_started", browser.text("answer")),
-            (["✗ start_all web permanent"], browser.value(REFUSED_COMMANDS)))
-        text = front + TWO_NODES + SENT_AWAY + PLANS_AT_ALL
-        browser.open(made(program, folder, ["--sweep", "-"], text.encode()))
-        owed = {"given-back": ["permit a@x web true", "1 of 1", "0", *GIVEN_BACK[profile]],
-                "stopped": ["stop_all web", "1 of 1", "0", "0", "– quiet"],
-                "again": ["stop_all web; start_all web temporary", "2 of 2", "0", "0", "= b@x"],
-                "twice": ["start_all web permanent✗ refused: 1 S11 already_started", "0 of 1", "0", "0", "= b@x"]}
-        yield f"{name}: plans", same(owed, browser.value(ROWS_OF_PLANS)) or browser.troubles()
+def short_names(_program, _folder):
+    """What tells nodes from one another."""
+    for full, labels_owed, shorts, lacks in (
+            (["a@h1.x.net", "a@h2.x.net"], ["a@h1", "a@h2"], ["h1", "h2"], ".x.net"), (["a@h", "b@h"], ["a", "b"], ["a", "b"], "@h"),
+            (["a@h1", "b@h2"], ["a@h1", "b@h2"], ["a", "b"], ""), (["a@x.net", "a@b.x.net"], ["a@x", "a@b.x"], ["x", "b.x"], ".net"),
+            (["a@h1.x", "b@h1.x", "a@h2.x"], ["a@h1", "b@h1", "a@h2"], ["a@h1", "b@h1", "a@h2"], ".x"),
+            (["a@h.x"], ["a@h.x"], ["a@h.x"], ""), (["n1", "n2@h"], ["n1", "n2@h"], ["n1", "n2@h"], "")):
+        names = names_of(full)
+        yield f"short names of {full}", all_same((labels_owed, [names.all[name].label for name in full]),
+                                                 (shorts, [names.all[name].short for name in full]), (lacks, names.lacks))
 
 
 def greatest(program, folder, browser):
@@ -288,17 +251,18 @@ def greatest(program, folder, browser):
     done = page(program, ["-"], text.encode())
     is_told = done.returncode == 2 and not done.stdout and b"standard input: cluster refused C3 too_many" in done.stderr
     yield "64 nodes of profile 1", None if is_told else f"{done}"
-    path, wrong = made_within(20, program, folder, ["-"], ("{profile, 2}.\n" + text).encode())
-    yield "64 nodes: made in 20 seconds", wrong
+    path, wrong = made_within(10, program, folder, ["-"], ("{profile, 2}.\n" + text).encode())
+    yield "64 nodes: made in 10 seconds", wrong
     browser.open(path)
     browser.press("End")
-    yield "64 nodes: at most 4 MB", None if os.path.getsize(path) < 4_000_000 else f"{os.path.getsize(path)} bytes"
+    yield "64 nodes: at most 0.5 MB", None if os.path.getsize(path) < 500_000 else f"{os.path.getsize(path)} bytes"
     yield "64 nodes: what is counted", same(
         "64 nodes, profile 2, 67 steps, 500 ms", browser.value("document.querySelector('p.small').textContent").split(".")[0])
     yield "64 nodes: the rows", all_same(*(
-        (count, browser.value(f"document.querySelectorAll('.names .label.{kind}').length"))
+        (count, browser.value(f"view.layout.body.filter(({{ row }}) => row.kind === '{kind}').length"))
         for kind, count in (("app", 128), ("node", 64), ("lane", 256))))
-    highest = browser.value("Math.max(...[...document.querySelectorAll('.names')].map((names) => names.height.baseVal.value))")
+    browser.value("dispatchEvent(new Event('beforeprint'))")
+    highest = browser.value("Math.max(...[...document.querySelectorAll('.band .names')].map((names) => names.height.baseVal.value))")
     yield "64 nodes: no block of the chart is higher than a sheet", None if highest <= HIGHEST else f"{highest}"
     # p63 and p127 are lost with n63, and n0 is behind it in their lists.
     lines = browser.text("report").split("\n")
@@ -319,11 +283,11 @@ def large(program, folder, browser):
     text += "{application, svc, []}. {application, far, []}. {application, log, []}.\n===\n" + "".join(f"boot {node}\n" for node in nodes)
     turns = [nodes[turn % 32] for turn in range(492)]
     text += "".join(f"crash {node}\ntick 1000\nboot {node}\ntick 1000\n" for node in turns)
-    path, wrong = made_within(20, program, folder, ["-"], text.encode())
-    yield "2,000 steps: made in 20 seconds", wrong
+    path, wrong = made_within(10, program, folder, ["-"], text.encode())
+    yield "2,000 steps: made in 10 seconds", wrong
     browser.open(path)
     browser.press("End")
-    yield "2,000 steps: at most 4 MB", None if os.path.getsize(path) < 4_000_000 else f"{os.path.getsize(path)} bytes"
+    yield "2,000 steps: at most 1 MB", None if os.path.getsize(path) < 1_000_000 else f"{os.path.getsize(path)} bytes"
     # 492 is 15 times 32 and 12: so often n0 crashed once more than n31.
     ends = [line for line in browser.text("report").split("\n") if line.startswith(("app ", "timer ", "node n0@x", "node n31@x"))]
     yield "2,000 steps: the end", all_same(
@@ -380,27 +344,6 @@ def all_examples(program, _):
         yield os.path.relpath(path, TOP), None if done.returncode == 0 and is_page else f"status {done.returncode}: {done.stderr}"
 
 
-def counts(program, _):
-    """One of each is counted as one."""
-    done = page(program, ["--sweep"], b"{node, a@x, []}.\n===\nboot a@x\nplan p\ncrash a@x\n")
-    missing = [words for words in (b"1 node, profile 1, 1 step, 0 ms", b"1 plan; 0 of them") if words not in done.stdout]
-    yield "one of each", f"status {done.returncode}, it lacks {missing}" if done.returncode or missing else None
-
-
-def in_browser(part):
-    """A group of tests: those of a function that takes a folder and a browser, too."""
-
-    def tests(program, folder):
-        browser = Browser(folder)
-        try:
-            yield from part(program, folder, browser)
-        finally:
-            browser.close()
-
-    tests.__name__ = part.__name__
-    return in_folder(tests)
-
-
 TESTS = (*(Group(in_browser(part), is_long=True) for part in (large, greatest)),
-         *map(in_browser, (one_rehearsal, wanted_and_forbidden, at_all_nodes, printed, strange_names, sweeps)),
-         *map(in_folder, (dumped, refusals, all_examples, counts)))
+         *map(in_browser, (one_rehearsal, wanted_and_forbidden, printed, strange_names, labels)),
+         *map(in_folder, (dumped, refusals, all_examples, short_names)))

@@ -18,7 +18,7 @@ PICTURE = os.path.join(TOP, "docs", "images", "six-commands.png")
 SIZE = (1280, 1020)
 # The plans' table: what became of both applications.
 TABLE = """Object.fromEntries([...document.querySelectorAll('#sweep tbody tr')].map(
-  (row) => [row.firstChild.textContent, [...row.children].slice(-2).map((cell) => cell.textContent)]))"""
+  (row) => [row.firstChild.textContent, [...row.children].slice(1, 3).map((cell) => cell.textContent)]))"""
 ROWS = {
     "a@host1": ["→ b@host2", "= c@host3"], "b@host2": ["= a@host1", "= c@host3"], "c@host3": ["= a@host1", "→ a@host1"],
     "a@host1+b@host2": ["→ c@host3", "= c@host3"], "a@host1+c@host3": ["→ b@host2", "✗ wanted, was at c@host3"],
