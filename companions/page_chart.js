@@ -12,6 +12,8 @@ const LONG_TIME = 60000;
 // A sheet of A4 on its side has room for so much.
 const SHEET = 1040;
 const HIGHEST = 690;
+// So much of the first sheet has the title and the legend.
+const TITLE = 130;
 const data = JSON.parse(document.getElementById("data").textContent);
 const nodes = new Map(data.names.map(([full, label, short], place) => [full, { label, short, number: String(place + 1) }]));
 const AT_NODE = new Set(["boot", "crash", "start", "stop", "permit", "takeover", "exit"]);
@@ -427,7 +429,7 @@ function blocksOf({ body, head, headHeight }) {
   const found = [[]];
   const bottom = (at) => body[at].y + body[at].height;
   body.forEach(({ row: { kind } }, at) => {
-    const room = HIGHEST - headHeight + (found.length > 1 ? head.height : 0);
+    const room = HIGHEST - headHeight + (found.length > 1 ? head.height : -TITLE);
     const block = found[found.length - 1];
     let end = at;
     while (kind !== "lane" && end + 1 < body.length && body[end + 1].row.kind === "lane") { end += 1; }
