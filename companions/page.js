@@ -185,7 +185,7 @@ function open(story, wish) {
   at("of").textContent = story === base ? "The base" : `Plan ${story.name}`;
   at("base").hidden = story === base;
   const count = story.losses.length;
-  at("losses").textContent = `${count} ${count === 1 ? "loss" : "losses"}`;
+  at("losses").textContent = `${count} ${count === 1 ? "step" : "steps"} with a loss`;
   for (const row of rowsOfPlans) { row.classList.toggle("now", story !== base && row === story.row); }
   place();
   show(wish);
@@ -200,7 +200,7 @@ function storyOfPlan(number) {
 // Opens what an address names: a plan, or the base.
 function openAddress() {
   const [, name, step] = /^#(?:plan=([^&]*))?&?(?:step=(\d+))?$/.exec(location.hash) || [];
-  const number = name === undefined ? -1 : data.plans.findIndex(([each]) => encodeURIComponent(each) === name);
+  const number = name === undefined ? -1 : data.plans.findIndex(([each]) => name === encodeURIComponent(each) || name === encodeURI(each));
   const isSweep = data.plans.length > 0;
   if (number >= 0) {
     open(storyOfPlan(number), step === undefined ? Infinity : Number(step));

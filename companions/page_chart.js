@@ -146,13 +146,13 @@ function passesOf(clock, count) {
   return found;
 }
 
-// The steps in which an application becomes lost or wanted.
+// The steps in which an application is lost: it becomes lost or wanted, and was neither before.
 function lossesOf(places) {
   const found = new Set();
   for (const place of places) {
-    const looks = place.texts.map((text) => (text.startsWith("app ") ? text.split(" ")[2] : ""));
-    looks.forEach((look, at) => {
-      if (at && look !== looks[at - 1] && (look === "lost" || look === "wanted")) { found.add(place.steps[at]); }
+    const isAway = place.texts.map((text) => /^app [^ ]+ (lost|wanted)/.test(text));
+    isAway.forEach((now, at) => {
+      if (at && now && !isAway[at - 1]) { found.add(place.steps[at]); }
     });
   }
   return [...found].sort((one, other) => one - other);

@@ -4,10 +4,14 @@ A report has places: the clock, each node with the lines below it, each distribu
 step only the places are kept whose text has changed, as pairs of a place and the number of a text; each text stands there once.
 """
 import json
+import re
 from collections.abc import Iterable, Sequence
 from typing import NamedTuple
 
 from page_names import Names
+
+# Between two parts of a report: the lines below a node begin with blanks.
+APART = re.compile("\n(?! )")
 
 
 class Step(NamedTuple):
@@ -21,16 +25,9 @@ class Step(NamedTuple):
 
 def parts_of(report: Iterable[str]) -> list[str]:
     """What stands in each place of a report."""
-    parts: list[str] = []
-    timers: list[str] = []
-    for line in report:
-        if line.startswith(" "):
-            parts[-1] += "\n" + line
-        elif line.startswith("timer "):
-            timers.append(line)
-        else:
-            parts.append(line)
-    return [*parts, "\n".join(timers)]
+    parts = APART.split("\n".join(report))
+    count = sum(not part.startswith("timer ") for part in parts)
+    return [*parts[:count], "\n".join(parts[count:])]
 
 
 class Data:

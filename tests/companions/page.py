@@ -193,7 +193,7 @@ def labels(program, folder, browser):
             "[...document.querySelectorAll('#head rect.pass')].map((box) => box.parentNode.querySelector('title').textContent)")))
     yield "the clock of the moment", all_same(("92000", browser.text("clock")), (" (0:01:32)", browser.text("time")))
     browser.press("Home")
-    yield "the next loss", all_same(("6", browser.press("n")), ("6", browser.press("n")), ("1 loss", browser.text("losses")))
+    yield "the next loss", all_same(("6", browser.press("n")), ("6", browser.press("n")), ("1 step with a loss", browser.text("losses")))
     yield from sizes_of(browser, path)
 
 
@@ -266,6 +266,12 @@ def greatest(program, folder, browser):
     yield "64 nodes: no block of the chart is higher than a sheet", None if highest <= HIGHEST else f"{highest}"
     # p63 and p127 are lost with n63, and n0 is behind it in their lists.
     lines = browser.text("report").split("\n")
+    browser.value("document.getElementById('frame').scrollTo(300, 3000)")
+    frame, head, names = (browser.box(selector) for selector in ("#frame", "#head", "#names"))
+    yield "64 nodes: heads and names stay in view", all_same((frame[1], head[1]), (frame[0], names[0]), (True, names[1] < frame[1] - 2000))
+    browser.value("draw()")
+    yield "64 nodes: what is in view is drawn", same([True, True], browser.value(
+        "[isDrawn(), document.querySelectorAll('#names g').length < 200]"))
     yield "64 nodes: the end", all_same(
         ("ok\nstopped p127 n0", browser.text("answer")), (True, "node n63 down 1" in lines),
         (["app p62 running n62", "app p63 running n0", "app p64 running n0"],
@@ -296,6 +302,10 @@ def large(program, folder, browser):
     shown = browser.value("(() => { const c = document.getElementById('cursor').getBoundingClientRect(),"
                           " f = document.getElementById('frame').getBoundingClientRect(); return c.left >= f.left && c.right <= f.right + 1; })()")
     yield "2,000 steps: the step is in view", same(True, shown)
+    left, top, width, height = browser.box("#overview")
+    browser.mouse((left + width / 2, top + height / 2))
+    yield "2,000 steps: a click into the strip above", same(True, browser.value(
+        "Math.abs(columnAt(view.layout.x, sizes().left + sizes().width / 2) - 1000) < 20"))
     browser.press("Home", *["ArrowRight"] * 33)
     lost = [line for line in browser.text("report").split("\n") if line.startswith(("app ", "timer ", "node n0@x"))]
     yield "2,000 steps: it is lost", same(["node n0@x down 1", "app svc lost n0@x", "app far running n31@x", "timer failover svc 1000"], lost)

@@ -98,7 +98,7 @@ def one_plan(browser, path):
         (["core1", "lost", "core2"], browser.value(WORDS + "('ledger')")), (["0 ms", "3000"], browser.value(WORDS + "('clock')")))
     yield "a plan: back to where it is lost", all_same(
         ("1", browser.press("p")), (True, "app ledger lost core1@site" in browser.text("report").split("\n")),
-        ("1 loss", browser.text("losses")), (True, browser.value("document.getElementById('loss-before').disabled")))
+        ("1 step with a loss", browser.text("losses")), (True, browser.value("document.getElementById('loss-before').disabled")))
     browser.press("b")
     yield "a plan: back to the base", all_same(("The base", browser.text("of")), ("5", browser.text("step")), ("5", browser.text("count")))
     browser.open(path, "#plan=core1-is-down&step=2")

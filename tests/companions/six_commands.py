@@ -19,6 +19,8 @@ SIZE = (1280, 1020)
 # The plans' table: what became of both applications.
 TABLE = """Object.fromEntries([...document.querySelectorAll('#sweep tbody tr')].map(
   (row) => [row.firstChild.textContent, [...row.children].slice(1, 3).map((cell) => cell.textContent)]))"""
+# The steps in which an application was lost, and the clock at each step.
+LOSSES = "[view.story.losses, view.story.steps.map((_, step) => clockAt(view.story, step))]"
 ROWS = {
     "a@host1": ["→ b@host2", "= c@host3"], "b@host2": ["= a@host1", "= c@host3"], "c@host3": ["= a@host1", "→ a@host1"],
     "a@host1+b@host2": ["→ c@host3", "= c@host3"], "a@host1+c@host3": ["→ b@host2", "✗ wanted, was at c@host3"],
@@ -46,8 +48,8 @@ def made(program, folder):
 
 
 def screenshot(folder, browser):
-    """The picture of the page that the fifth command wrote, at its last step."""
-    browser.open(os.path.join(folder, "plans.html"), "#step=3")
+    """The picture of the page that the fifth command wrote, with the steps of a plan."""
+    browser.open(os.path.join(folder, "plans.html"), "#plan=a@host1+c@host3")
     browser.call("Emulation.setDeviceMetricsOverride", width=SIZE[0], height=SIZE[1], deviceScaleFactor=1, mobile=False)
     return base64.b64decode(browser.call("Page.captureScreenshot", format="png")["data"])
 
@@ -76,6 +78,10 @@ def six_commands(program):
             picture = screenshot(folder, browser)
             rows = browser.value(TABLE)
             yield "the page's table of plans", None if rows == ROWS else f"{rows}"
+            # Both are lost; at 2000 ms there is no node for report, at 5000 ms billing starts at the next one.
+            steps = [browser.value(LOSSES), browser.text("report").split("\n")[-3:-1]]
+            owed = [[[1, 2], [0, 0, 0, 2000, 5000, 10000]], ["app billing running b@host2", "app report wanted c@host3"]]
+            yield "the steps of a plan", None if steps == owed else f"{steps}"
             yield "nothing went wrong in the page", browser.troubles()
             sizes = size_of(picture), size_of(read(PICTURE))
             yield "the picture is of this page's size", None if sizes == (SIZE, SIZE) else f"{sizes}"
