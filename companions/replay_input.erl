@@ -68,7 +68,8 @@ greet(Program) ->
     case printed(Program, "first", <<"{node, nobody, []}.\n===\nshow\n">>) of
         {0, ["ok", "now 0", "node nobody down 0"], _} -> ok;
         {_, _, Error} ->
-            Why = lists:join(" ", string:lexemes(Error, "\n") ++ ["it doesn't answer as that does" || string:trim(Error) =:= ""]),
+            Told = string:lexemes(lists:flatten(Error), "\n"),
+            Why = lists:join(" ", Told ++ ["it doesn't answer as that does" || Told =:= []]),
             refuse("~ts isn't the program: ~ts", [Program, Why])
     end.
 
@@ -82,15 +83,23 @@ no_command(File, _, _, Told) -> refuse("~ts: ~ts", [File, Told]).
 refuse_line(File, Front, {Number, Line}, Why) ->
     refuse("~ts line ~b (line ~b behind ===): ~ts: ~ts", [File, Front + 1 + Number, Number, Why, Line]).
 
-%% The status of the program for an input, the lines that it prints, and what it writes to standard error.
+%% The status of the program for an input, the lines that it prints, and what it writes to standard error: that comes behind a byte 0.
+%% The file of the input goes away as soon as it is open.
 printed(Program, Pick, Input) ->
     File = string:trim(os:cmd("mktemp -t rehearse-replay.XXXXXX")),
     ok = file:write_file(File, Input),
-    {Status, Bytes} = run("/bin/sh", ["-c", "exec \"$0\" run --pick \"$1\" < \"$2\" 2> \"$2.told\"", Program, Pick, File]),
-    {ok, Error} = file:read_file(File ++ ".told"),
-    [file:delete(Name) || Name <- [File, File ++ ".told"]],
-    {Status, [Line || Text <- [unicode:characters_to_list(Bytes)], is_list(Text), Line <- string:lexemes(Text, "\n")],
-     lists:flatten([Text || Text <- [unicode:characters_to_list(Error)], is_list(Text)])}.
+    Code = "exec < \"$2\"; rm -f \"$2\"; { told=$(\"$0\" run --pick \"$1\" 2>&1 >&3 3>&-); done=$?; } 3>&1; "
+           "exec 2> /dev/null; printf '\\0%s' \"$told\"; exit $done",
+    {Status, Bytes} = run("/bin/sh", ["-c", Code, Program, Pick, File]),
+    [Answers | Error] = [chars(Part) || Part <- binary:split(Bytes, <<0>>)],
+    {Status, string:lexemes(Answers, "\n"), [[Text, "\n"] || Text <- Error, Text =/= ""]}.
+
+%% Bytes as a text, or none where they are no UTF-8.
+chars(Bytes) ->
+    case unicode:characters_to_list(Bytes) of
+        Text when is_list(Text) -> Text;
+        _ -> ""
+    end.
 
 %% The status of a finished program, and what it printed.
 run(Path, Words) ->
