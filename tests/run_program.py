@@ -215,7 +215,8 @@ def no_threads(program):
         yield "sweeps without threads", None if refused() else "no thread was asked for"
         for workers in (1, 2, 5, 16):
             done = run(alone, ["sweep", "--workers", str(workers)], input=read(sweeps.EXAMPLE))
-            asked, owed = refused(), workers if workers > 1 else 0
+            # The caller's own thread is one of the workers.
+            asked, owed = refused(), workers - 1
             wrong = None if done.returncode == 0 and asked == owed else f"status {done.returncode}, {asked} threads in place of {owed}"
             yield f"threads that a sweep by {workers} asks for", wrong
 
