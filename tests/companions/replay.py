@@ -406,7 +406,7 @@ def refusals(program, folder):
             ("a type that is missing", one + "===\nstart_all web\n", [], 2,
              "input.txt line 3 (line 1 behind ===): it is no command here: start_all web"),
             ("a node without a host", "{node, a, []}.\n===\nboot a\n", [], 2, "a live node can't be called a"),
-            ("long and short names", one + "{node, 'a@x.y', []}.\n", [], 2, "don't see one another"),
+            ("long and short names", one + "{node, 'a@x.y', []}.\n===\nboot a@x\n", [], 2, "don't see one another"),
             ("long ticks", one + "===\ntick 700000\n", [], 2, "the ticks take 700 s"),
             ("a factor", one, ["--factor", "0"], 1, "--factor"), ("an option", one, ["--nonsense"], 1, "--nonsense"),
             ("a side", one, ["--compare", "page"], 1, "--compare page"), ("orders", one, ["--orders", "0"], 1, "--orders"),
