@@ -7,7 +7,6 @@ records (run_live.py --random) and their commands within the conditions, and tho
 rules; and of each condition, how many rehearsals it is the first to be broken in, and how many it alone keeps from differing
 within the conditions. Exit status: 0 none differs within the conditions, 1 some do, 2 the folder has no records.
 """
-import argparse
 import copy
 import json
 import os
@@ -19,9 +18,7 @@ from typing import Any, Callable, Iterator, Optional
 # No file is left behind.
 sys.dont_write_bytecode = True
 import model  # noqa: E402
-from groups import program_at  # noqa: E402
-from live_figures import Case, cases_of  # noqa: E402
-from live_records import BadRecord, records_of  # noqa: E402
+from live_figures import Case, asked  # noqa: E402
 from random_live import CAREFUL, Cluster, Rehearsal, sane, script_of  # noqa: E402
 from support import TOP  # noqa: E402
 
@@ -415,17 +412,7 @@ def lines_of(found: dict[str, Any]) -> Iterator[str]:
 
 
 def main() -> None:
-    line = argparse.ArgumentParser(usage="live_conditions.py [--json] FOLDER PROGRAM", description=__doc__,
-                                   formatter_class=argparse.RawTextHelpFormatter)
-    line.add_argument("--json", action="store_true")
-    line.add_argument("folder")
-    line.add_argument("program", type=program_at)
-    given = line.parse_args()
-    try:
-        cases = cases_of(given.program, records_of(given.folder))
-    except BadRecord as fault:
-        print(f"live_conditions: {fault}", file=sys.stderr)
-        sys.exit(2)
+    given, cases = asked("live_conditions", __doc__)
     found = told([breaks_of(given.program, case.record.text) for case in cases], cases)
     print(json.dumps(found, indent=1) if given.json else "\n".join(lines_of(found)))
     sys.exit(1 if found["all"]["differ_within"] else 0)

@@ -239,18 +239,23 @@ def differing_text(case: Case) -> str:
     return "\n".join(lines) + "\n"
 
 
-def main() -> None:
-    line = argparse.ArgumentParser(usage="live_figures.py [--json] FOLDER PROGRAM", description=__doc__,
+def asked(name: str, about: str | None) -> tuple[argparse.Namespace, list[Case]]:
+    """What the command line NAME [--json] FOLDER PROGRAM says, and the cases of that folder. A bad record ends with status 2."""
+    line = argparse.ArgumentParser(usage=f"{name}.py [--json] FOLDER PROGRAM", description=about,
                                    formatter_class=argparse.RawTextHelpFormatter)
     line.add_argument("--json", action="store_true")
     line.add_argument("folder")
     line.add_argument("program", type=program_at)
     given = line.parse_args()
     try:
-        cases = cases_of(given.program, records_of(given.folder))
+        return given, cases_of(given.program, records_of(given.folder))
     except BadRecord as fault:
-        print(f"live_figures: {fault}", file=sys.stderr)
+        print(f"{name}: {fault}", file=sys.stderr)
         sys.exit(2)
+
+
+def main() -> None:
+    given, cases = asked("live_figures", __doc__)
     print(as_json(cases) if given.json else "\n".join(table(cases)))
 
 
