@@ -8,11 +8,11 @@ use Rattle.rh_terms.specs.Tokens.{name_at}
 use Rattle.rh_terms.specs.Grammar.{terms_of, dotted, dot_at, inside, terms_up_to, some_terms, next_at, term_by, word_at}
 use Rattle.rh_model.specs.ClusterView.{ClusterView, numbered, app_numbered}
 use Rattle.rh_model.specs.declared.settings.Restart.TheVariants.{Permanent}
-use Rattle.rh_sections.specs.NameRule.{is_name}
-use Rattle.rh_sections.specs.Shapes.{as_entry, as_pair, as_profile, as_atom, as_list, as_tuple, as_triple, as_headed}
-use Rattle.rh_sections.specs.Faults.{list_faults}
-use Rattle.rh_sections.specs.Sections.{section_faults, parts_faults, parts_stage}
-use Rattle.rh_sections.specs.declared.fault.ClusterFault.TheVariants.{BadValue}
+use Rattle.rh_cluster.specs.NameRule.{is_name}
+use Rattle.rh_cluster.specs.Shapes.{as_entry, as_pair, as_profile, as_atom, as_list, as_tuple, as_triple, as_headed}
+use Rattle.rh_cluster.specs.Faults.{list_faults}
+use Rattle.rh_cluster.specs.Sections.{section_faults, parts_faults, parts_stage}
+use Rattle.rh_cluster.specs.declared.fault.ClusterFault.TheVariants.{BadValue}
 use Rattle.rh_cluster.specs.Headers.{node_names, app_names, new_name_faults, header_faults, headers_stage}
 use Rattle.rh_cluster.specs.Values.{elements, value_if, elements_under, platform_in_term, with_name, with_first_name, with_platforms, platforms_in}
 use Rattle.rh_cluster.specs.Values.{permissions_in, platforms_of, node_view, shares_in}

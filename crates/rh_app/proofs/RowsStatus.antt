@@ -1,6 +1,6 @@
 -- Worked rows: the exit status of each end of a program.
 use Rattle.std.proofs.Common.{◌≡◌, ℕ, Some, None, Ok, Err, refl, inl, inr}
-use Rattle.rh_sections.specs.declared.fault.ClusterFault.TheVariants.{NoNodes}
+use Rattle.rh_cluster.specs.declared.fault.ClusterFault.TheVariants.{NoNodes}
 use Rattle.rh_plans.specs.declared.fault.SweepFault.TheVariants.{BaseNotAtEnd, TrailRoom}
 use Rattle.rh_app.specs.declared.fault.RunFault.TheVariants as end
 use Rattle.rh_app.specs.declared.fault.Told.TheVariants as told

@@ -12,12 +12,12 @@ use Rattle.rh_model.specs.declared.node.App.{App}
 use Rattle.rh_model.specs.declared.settings.Restart.{Restart}
 use Rattle.rh_model.specs.ClusterView.{app_numbered}
 use Rattle.rh_model.specs.Names.{NamesView, is_among}
-use Rattle.rh_sections.specs.Shapes.{as_atom, as_pair, as_tuple, as_node, as_app, pair_in, ◌>>=◌}
-use Rattle.rh_sections.specs.Faults.{in_turn, list_faults}
-use Rattle.rh_sections.specs.Sections.{app_in, first_atom, atom_faults, name_faults, app_name_faults, pair_faults_by}
-use Rattle.rh_sections.specs.Sections.{boot_faults, as_restart, entry_faults, rehearse_keys, rehearse_faults, section_keys}
-use Rattle.rh_sections.specs.Sections.{section_faults, parts_faults, parts_faults_by, parts_stage}
-use Rattle.rh_sections.proofs.Unrepeated.{not_repeated}
+use Rattle.rh_cluster.specs.Shapes.{as_atom, as_pair, as_tuple, as_node, as_app, pair_in, ◌>>=◌}
+use Rattle.rh_cluster.specs.Faults.{in_turn, list_faults}
+use Rattle.rh_cluster.specs.Sections.{app_in, first_atom, atom_faults, name_faults, app_name_faults, pair_faults_by}
+use Rattle.rh_cluster.specs.Sections.{boot_faults, as_restart, entry_faults, rehearse_keys, rehearse_faults, section_keys}
+use Rattle.rh_cluster.specs.Sections.{section_faults, parts_faults, parts_faults_by, parts_stage}
+use Rattle.rh_cluster.proofs.Unrepeated.{not_repeated}
 use Rattle.rh_cluster.specs.Headers.{nodes_in}
 use Rattle.rh_cluster.specs.Values.{app_named, boot_entry, elements, elements_under, rehearse_of}
 use Rattle.rh_base.proofs.Elements.{none_left, none_right, All-cons_option}

@@ -5,10 +5,10 @@ use Rattle.rh_base.specs.Tree.{Tree, trees_from}
 use Rattle.rh_terms.specs.Grammar.{terms_of, FaultIs}
 use Rattle.rh_terms.specs.declared.fault.TermFault.{TermFault}
 use Rattle.rh_terms.specs.declared.fault.TermFault.TheVariants as terms
-use Rattle.rh_sections.specs.declared.fault.ClusterFault.{ClusterFault}
-use Rattle.rh_sections.specs.declared.fault.ClusterFault.TheVariants as fault
+use Rattle.rh_cluster.specs.declared.fault.ClusterFault.{ClusterFault}
+use Rattle.rh_cluster.specs.declared.fault.ClusterFault.TheVariants as fault
 use Rattle.rh_model.specs.ClusterView.{ClusterView}
-use Rattle.rh_sections.specs.Faults.{Finds, Gives, first, unless}
+use Rattle.rh_cluster.specs.Faults.{Finds, Gives, first, unless}
 use Rattle.rh_cluster.specs.ClusterOf.{faults_in, cluster_view, cluster_of_terms, cluster_in, cluster_of}
 use Rattle.rh_cluster.specs.Profile.{profile_of, behind_profile}
 use Rattle.rh_base.proofs.Trees.{list_of_trees-trees_from}

@@ -20,8 +20,8 @@ use Rattle.rh_model.specs.ClusterView.{NodeView, AppView, app_numbered, is_in, i
 use Rattle.rh_model.specs.Limits.{app_limit}
 use Rattle.rh_model.specs.Names.{is_among}
 use Rattle.rh_model.proofs.Texts.{position-map}
-use Rattle.rh_sections.specs.declared.fault.ClusterFault.TheVariants as fault
-use Rattle.rh_sections.specs.Shapes.{as_node, as_app, ◌>>=◌}
+use Rattle.rh_cluster.specs.declared.fault.ClusterFault.TheVariants as fault
+use Rattle.rh_cluster.specs.Shapes.{as_node, as_app, ◌>>=◌}
 use Rattle.rh_cluster.specs.declared.shares.Share.{Share}
 use Rattle.rh_cluster.specs.Headers.{every_platform, apps_in, node_names, app_names, new_name_faults, header_faults, header_faults_by, headers_stage}
 use Rattle.rh_cluster.specs.Values.{app_view, spread_for, spread_named}

@@ -13,10 +13,10 @@ use Rattle.rh_model.specs.declared.limits.TheConstants.{MAX_PLATFORMS}
 use Rattle.rh_model.specs.Limits.{node_limit, app_limit}
 use Rattle.rh_model.specs.declared.platforms.Platforms.{Platforms}
 use Rattle.rh_model.specs.Names.{is_among}
-use Rattle.rh_sections.specs.declared.fault.ClusterFault.TheVariants as fault
-use Rattle.rh_sections.specs.NameRule.{is_name}
-use Rattle.rh_sections.specs.Shapes.{as_node, as_app, atoms}
-use Rattle.rh_sections.specs.Faults.{in_turn, when}
+use Rattle.rh_cluster.specs.declared.fault.ClusterFault.TheVariants as fault
+use Rattle.rh_cluster.specs.NameRule.{is_name}
+use Rattle.rh_cluster.specs.Shapes.{as_node, as_app, atoms}
+use Rattle.rh_cluster.specs.Faults.{in_turn, when}
 use Rattle.rh_cluster.specs.Headers.{every_platform, new_name_faults, header_faults, header_faults_by, headers_stage, node_names, app_names}
 use Rattle.rh_cluster.specs.Values.{with_name, with_first_name, with_platforms, platforms_in, platform_in_term, elements}
 use Rattle.rh_base.proofs.Elements.{none_left, none_right}

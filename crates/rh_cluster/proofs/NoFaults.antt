@@ -9,11 +9,11 @@ use Rattle.std.proofs.lemmas.List.Elements.{All-nil, filter_map-append}
 use Rattle.std.proofs.lemmas.List.Folds.{list_any-append}
 use Rattle.std.proofs.lemmas.Option.{cond_some}
 use Rattle.rh_base.specs.Tree.{Tree}
-use Rattle.rh_sections.specs.declared.fault.ClusterFault.{ClusterFault}
-use Rattle.rh_sections.specs.declared.fault.ClusterFault.TheVariants as fault
-use Rattle.rh_sections.specs.Shapes.{as_list, ◌>>=◌}
-use Rattle.rh_sections.specs.Faults.{when, in_turn, in_turn_if_list, list_faults}
-use Rattle.rh_sections.specs.Sections.{has_key, entry_faults, entry_faults_by}
+use Rattle.rh_cluster.specs.declared.fault.ClusterFault.{ClusterFault}
+use Rattle.rh_cluster.specs.declared.fault.ClusterFault.TheVariants as fault
+use Rattle.rh_cluster.specs.Shapes.{as_list, ◌>>=◌}
+use Rattle.rh_cluster.specs.Faults.{when, in_turn, in_turn_if_list, list_faults}
+use Rattle.rh_cluster.specs.Sections.{has_key, entry_faults, entry_faults_by}
 use Rattle.rh_model.specs.Names.{is_among}
 use Rattle.rh_cluster.specs.Values.{elements, elements_under, value_if, value_under}
 use Rattle.rh_base.proofs.Elements.{none_left, none_right, from_either, or_true, All-cons_option, AllPairs-cons_option}

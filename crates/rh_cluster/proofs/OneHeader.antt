@@ -7,7 +7,7 @@ use Rattle.std.proofs.lemmas.Slice.Eq.{bytes_eq-Decides}
 use Rattle.std.proofs.lemmas.List.{map-append}
 use Rattle.std.proofs.lemmas.List.Elements.{filter_map-append}
 use Rattle.rh_base.specs.Tree.{Tree}
-use Rattle.rh_sections.specs.Shapes.{as_node, as_app, as_headed, as_triple, as_atom, ◌>>=◌}
+use Rattle.rh_cluster.specs.Shapes.{as_node, as_app, as_headed, as_triple, as_atom, ◌>>=◌}
 use Rattle.rh_cluster.specs.Headers.{node_names, app_names}
 
 pub on_ok : {A E : Type 0} {P : Type 0} (r : Result A E) → P → OnOk r P

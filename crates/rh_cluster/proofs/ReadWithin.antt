@@ -5,13 +5,13 @@ use Rattle.rh_base.specs.Tree.{Tree, Trees, list_of_trees}
 use Rattle.rh_terms.specs.Grammar.{terms_of}
 use Rattle.rh_terms.specs.declared.fault.TermFault.{TermFault}
 use Rattle.rh_model.specs.ClusterView.{ClusterView, IsWithin}
-use Rattle.rh_sections.specs.declared.fault.ClusterFault.{ClusterFault}
-use Rattle.rh_sections.specs.Faults.{unless}
+use Rattle.rh_cluster.specs.declared.fault.ClusterFault.{ClusterFault}
+use Rattle.rh_cluster.specs.Faults.{unless}
 use Rattle.rh_cluster.specs.Headers.{headers_stage}
 use Rattle.rh_cluster.specs.ClusterOf.{faults_behind_headers, faults_in, cluster_view, cluster_of_terms, cluster_in, cluster_of}
 use Rattle.rh_cluster.specs.Profile.{profile_named, profile_of, behind_profile}
 use Rattle.rh_model.specs.Limits.{is_profile}
-use Rattle.rh_sections.specs.Shapes.{as_entry, as_int, if_profile, as_profile, ◌>>=◌}
+use Rattle.rh_cluster.specs.Shapes.{as_entry, as_int, if_profile, as_profile, ◌>>=◌}
 use Rattle.std.specs.Str.{bytes_eq}
 use Rattle.std.proofs.lemmas.Option.{same_Some}
 use Rattle.rh_cluster.specs.Laws.{ClustersAreWithin}

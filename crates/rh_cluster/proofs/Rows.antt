@@ -15,15 +15,15 @@ use Rattle.rh_model.specs.declared.settings.SyncWait.TheVariants.{Unset}
 use Rattle.rh_model.specs.ClusterView.{ClusterView, AppView, app_numbered, deps_of}
 use Rattle.rh_model.specs.Limits.{node_limit, app_limit, timeout_limit}
 use Rattle.rh_model.specs.declared.limits.TheConstants.{MAX_PLATFORMS}
-use Rattle.rh_sections.specs.declared.fault.ClusterFault.TheVariants as fault
-use Rattle.rh_sections.specs.NameRule.{is_name}
-use Rattle.rh_sections.specs.declared.name_rule.TheConstants.{LONGEST_NAME}
-use Rattle.rh_sections.specs.Shapes.{as_atom, as_list, as_tuple, as_int, as_pair, as_triple, as_entry, as_headed, as_profile, as_time}
-use Rattle.rh_sections.specs.Faults.{list_faults}
-use Rattle.rh_sections.specs.Sections.{has_key, entry_faults, word_faults, name_faults, node_name_faults, app_in}
-use Rattle.rh_sections.specs.Sections.{app_name_faults, members, desc_faults, as_share, share_faults, as_sync_wait}
-use Rattle.rh_sections.specs.Sections.{kernel_faults, as_restart, boot_faults, rehearse_faults, section_faults, dep_faults}
-use Rattle.rh_sections.specs.Sections.{key_faults, parts_faults, parts_stage}
+use Rattle.rh_cluster.specs.declared.fault.ClusterFault.TheVariants as fault
+use Rattle.rh_cluster.specs.NameRule.{is_name}
+use Rattle.rh_cluster.specs.declared.name_rule.TheConstants.{LONGEST_NAME}
+use Rattle.rh_cluster.specs.Shapes.{as_atom, as_list, as_tuple, as_int, as_pair, as_triple, as_entry, as_headed, as_profile, as_time}
+use Rattle.rh_cluster.specs.Faults.{list_faults}
+use Rattle.rh_cluster.specs.Sections.{has_key, entry_faults, word_faults, name_faults, node_name_faults, app_in}
+use Rattle.rh_cluster.specs.Sections.{app_name_faults, members, desc_faults, as_share, share_faults, as_sync_wait}
+use Rattle.rh_cluster.specs.Sections.{kernel_faults, as_restart, boot_faults, rehearse_faults, section_faults, dep_faults}
+use Rattle.rh_cluster.specs.Sections.{key_faults, parts_faults, parts_stage}
 use Rattle.rh_cluster.specs.Headers.{node_names, app_names, new_name_faults, header_faults, headers_stage}
 use Rattle.rh_cluster.specs.Values.{elements, value_if, elements_under, platform_in_entry, platform_in_section}
 use Rattle.rh_cluster.specs.Values.{platform_in_term, with_name, with_first_name, with_platforms, platforms_in}

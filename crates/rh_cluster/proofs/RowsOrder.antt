@@ -5,13 +5,13 @@ use lib.Utf8.{encode}
 use Rattle.rh_terms.specs.Bytes.{past}
 use Rattle.rh_terms.specs.Tokens.{digits_at, integer_at, name_at, quoted, quoted_atom_at}
 use Rattle.rh_terms.specs.Grammar.{terms_of, dotted, dot_at, inside, terms_up_to, some_terms, next_at, term_by, word_at}
-use Rattle.rh_sections.specs.NameRule.{is_name}
-use Rattle.rh_sections.specs.Shapes.{as_atom, as_list, as_tuple, as_int, as_pair, as_triple, as_entry, as_headed, as_profile, as_time}
-use Rattle.rh_sections.specs.Faults.{list_faults}
-use Rattle.rh_sections.specs.Sections.{has_key, entry_faults, word_faults, name_faults, node_name_faults, app_in}
-use Rattle.rh_sections.specs.Sections.{app_name_faults, members, desc_faults, as_share, share_faults, as_sync_wait}
-use Rattle.rh_sections.specs.Sections.{kernel_faults, as_restart, boot_faults, rehearse_faults, section_faults, dep_faults}
-use Rattle.rh_sections.specs.Sections.{key_faults, parts_faults, parts_stage}
+use Rattle.rh_cluster.specs.NameRule.{is_name}
+use Rattle.rh_cluster.specs.Shapes.{as_atom, as_list, as_tuple, as_int, as_pair, as_triple, as_entry, as_headed, as_profile, as_time}
+use Rattle.rh_cluster.specs.Faults.{list_faults}
+use Rattle.rh_cluster.specs.Sections.{has_key, entry_faults, word_faults, name_faults, node_name_faults, app_in}
+use Rattle.rh_cluster.specs.Sections.{app_name_faults, members, desc_faults, as_share, share_faults, as_sync_wait}
+use Rattle.rh_cluster.specs.Sections.{kernel_faults, as_restart, boot_faults, rehearse_faults, section_faults, dep_faults}
+use Rattle.rh_cluster.specs.Sections.{key_faults, parts_faults, parts_stage}
 use Rattle.rh_cluster.specs.Headers.{node_names, app_names, new_name_faults, header_faults, headers_stage}
 use Rattle.rh_cluster.specs.Values.{elements, value_if, elements_under, platform_in_entry, platform_in_section}
 use Rattle.rh_cluster.specs.Values.{platform_in_term, with_name, with_first_name, with_platforms, platforms_in}
@@ -23,12 +23,12 @@ use Rattle.rh_cluster.specs.Agreement.{agreement_stage}
 use Rattle.rh_cluster.specs.ClusterOf.{names_of, node_views, all_shares, app_views, faults_behind_headers, faults_in, cluster_view, cluster_of_terms, cluster_of}
 use Rattle.rh_cluster.specs.Profile.{profile_of, behind_profile}
 use Rattle.rh_terms.specs.Tokens.{text_at}
-use Rattle.rh_sections.specs.Sections.{permission_faults, as_truth, platform_faults, is_start, are_phases}
+use Rattle.rh_cluster.specs.Sections.{permission_faults, as_truth, platform_faults, is_start, are_phases}
 use Rattle.std.specs.Result.{result_err}
-use Rattle.rh_sections.specs.declared.fault.ClusterFault.{ClusterFault}
-use Rattle.rh_sections.specs.declared.fault.ClusterFault.TheVariants.{NoNodes, TooMany, DuplicateName, UnknownName, DuplicateInList, Mismatch, BootNotListed, BadValue, BadName}
+use Rattle.rh_cluster.specs.declared.fault.ClusterFault.{ClusterFault}
+use Rattle.rh_cluster.specs.declared.fault.ClusterFault.TheVariants.{NoNodes, TooMany, DuplicateName, UnknownName, DuplicateInList, Mismatch, BootNotListed, BadValue, BadName}
 use Rattle.rh_terms.specs.declared.fault.TermFault.TheVariants.{Syntax}
-use Rattle.rh_sections.specs.declared.fault.ClusterFault.TheVariants.{Term}
+use Rattle.rh_cluster.specs.declared.fault.ClusterFault.TheVariants.{Term}
 use Rattle.rh_base.specs.Tree.{Tree, atom, list, tuple, none, more}
 use Rattle.std.specs.List.{range_with_len}
 

@@ -12,13 +12,13 @@ use Rattle.rh_model.specs.declared.settings.SyncWait.TheVariants.{Unset}
 use Rattle.rh_model.specs.ClusterView.{ClusterView, NodeView, AppView, app_numbered}
 use Rattle.rh_model.specs.declared.node.Node.{Node}
 use Rattle.rh_model.specs.declared.node.App.{App}
-use Rattle.rh_sections.specs.NameRule.{is_name}
-use Rattle.rh_sections.specs.Shapes.{as_atom, as_list, as_tuple, as_int, as_pair, as_triple, as_entry, as_headed, as_profile, as_time}
-use Rattle.rh_sections.specs.Faults.{list_faults}
-use Rattle.rh_sections.specs.Sections.{has_key, entry_faults, word_faults, name_faults, node_name_faults, app_in}
-use Rattle.rh_sections.specs.Sections.{app_name_faults, members, desc_faults, as_share, share_faults, as_sync_wait}
-use Rattle.rh_sections.specs.Sections.{kernel_faults, as_restart, boot_faults, rehearse_faults, section_faults, dep_faults}
-use Rattle.rh_sections.specs.Sections.{key_faults, parts_faults, parts_stage}
+use Rattle.rh_cluster.specs.NameRule.{is_name}
+use Rattle.rh_cluster.specs.Shapes.{as_atom, as_list, as_tuple, as_int, as_pair, as_triple, as_entry, as_headed, as_profile, as_time}
+use Rattle.rh_cluster.specs.Faults.{list_faults}
+use Rattle.rh_cluster.specs.Sections.{has_key, entry_faults, word_faults, name_faults, node_name_faults, app_in}
+use Rattle.rh_cluster.specs.Sections.{app_name_faults, members, desc_faults, as_share, share_faults, as_sync_wait}
+use Rattle.rh_cluster.specs.Sections.{kernel_faults, as_restart, boot_faults, rehearse_faults, section_faults, dep_faults}
+use Rattle.rh_cluster.specs.Sections.{key_faults, parts_faults, parts_stage}
 use Rattle.rh_cluster.specs.Headers.{node_names, app_names, new_name_faults, header_faults, headers_stage}
 use Rattle.rh_cluster.specs.Values.{elements, value_if, elements_under, platform_in_entry, platform_in_section}
 use Rattle.rh_cluster.specs.Values.{platform_in_term, with_name, with_first_name, with_platforms, platforms_in}
@@ -30,7 +30,7 @@ use Rattle.rh_cluster.specs.Agreement.{agreement_stage}
 use Rattle.rh_cluster.specs.ClusterOf.{names_of, node_views, all_shares, app_views, faults_behind_headers, faults_in, cluster_view, cluster_of_terms, cluster_of}
 use Rattle.rh_cluster.specs.Profile.{profile_of, behind_profile}
 use Rattle.rh_terms.specs.Tokens.{text_at}
-use Rattle.rh_sections.specs.Sections.{permission_faults, as_truth, platform_faults, is_start, are_phases}
+use Rattle.rh_cluster.specs.Sections.{permission_faults, as_truth, platform_faults, is_start, are_phases}
 use Rattle.rh_model.specs.declared.settings.Restart.TheVariants.{Permanent, Transient}
 use Rattle.rh_model.specs.declared.settings.SyncWait.TheVariants.{After, Forever}
 use Rattle.rh_model.specs.ClusterView.{numbered, node_of, app_of, dep_name, is_permitted, is_platform, group_of, is_listed_at}

@@ -6,8 +6,8 @@ use Rattle.rh_base.specs.Tree.{Tree}
 use Rattle.rh_model.specs.declared.settings.SyncWait.{SyncWait}
 use Rattle.rh_model.specs.declared.settings.SyncWait.TheVariants.{Unset, Forever}
 use Rattle.rh_model.specs.Limits.{timeout_limit, IsWithinLimit}
-use Rattle.rh_sections.specs.Sections.{as_sync_wait, wait_by}
-use Rattle.rh_sections.specs.Shapes.{as_atom, as_int, as_time, if_within, ◌>>=◌}
+use Rattle.rh_cluster.specs.Sections.{as_sync_wait, wait_by}
+use Rattle.rh_cluster.specs.Shapes.{as_atom, as_int, as_time, if_within, ◌>>=◌}
 use Rattle.rh_cluster.specs.Values.{time_or_zero, wait_in}
 
 -- a number that passes a limit is within it

@@ -20,8 +20,8 @@ use Rattle.rh_model.specs.ClusterView.{NodeView, AppView, IsWithin, numbered, ap
 use Rattle.rh_model.specs.Names.{NamesView, is_among}
 use Rattle.rh_model.specs.Limits.{is_profile, timeout_limit, IsWithinLimit}
 use Rattle.rh_model.specs.declared.settings.SyncWait.TheVariants.{Unset}
-use Rattle.rh_sections.specs.Shapes.{as_atom, as_pair, atoms, ◌>>=◌}
-use Rattle.rh_sections.specs.Sections.{as_share, as_restart, members, parts_stage}
+use Rattle.rh_cluster.specs.Shapes.{as_atom, as_pair, atoms, ◌>>=◌}
+use Rattle.rh_cluster.specs.Sections.{as_share, as_restart, members, parts_stage}
 use Rattle.rh_cluster.specs.declared.shares.Share.{Share}
 use Rattle.rh_cluster.specs.Headers.{every_platform, nodes_in, apps_in, headers_stage}
 use Rattle.rh_cluster.specs.Values.{node_named, app_named, boot_entry, dep_named, dep_by, elements, value_under, elements_under}

@@ -3,8 +3,8 @@ use Rattle.std.specs.Prelude.{◌≡◌, ℕ, List, [], ◌∷◌, ◌++◌, len
 use Rattle.std.specs.Prelude.{Bool, true, false, not, ◌&&◌, ◌||◌, ◌==◌, Option, Some, None, unwrap_or, Result, Ok, Err}
 use Rattle.std.specs.List.{list_any, list_all, find, range_with_len}
 use Rattle.std.specs.Option.{option_map}
-use Rattle.rh_sections.specs.declared.fault.ClusterFault.{ClusterFault}
-use Rattle.rh_sections.specs.declared.fault.ClusterFault.TheVariants as fault
+use Rattle.rh_cluster.specs.declared.fault.ClusterFault.{ClusterFault}
+use Rattle.rh_cluster.specs.declared.fault.ClusterFault.TheVariants as fault
 use Rattle.rh_model.specs.declared.node.Node.{Node}
 use Rattle.rh_model.specs.declared.node.App.{App}
 use Rattle.rh_model.specs.declared.settings.Restart.{Restart}
@@ -13,7 +13,7 @@ use Rattle.rh_model.specs.declared.settings.SyncWait.{SyncWait}
 use Rattle.rh_model.specs.declared.settings.SyncWait.TheVariants.{Unset, After, Forever}
 use Rattle.rh_cluster.specs.declared.shares.Share.{Share}
 use Rattle.rh_model.specs.ClusterView.{NodeView, numbered, is_in}
-use Rattle.rh_sections.specs.Faults.{when, first}
+use Rattle.rh_cluster.specs.Faults.{when, first}
 use Rattle.rh_cluster.specs.Values.{spread_for}
 
 -- ---- equal `distributed`

@@ -3,15 +3,15 @@ use Rattle.std.specs.Prelude.{ℕ, List, ◌++◌, map, Result, Ok, Err}
 use Rattle.rh_base.specs.Tree.{Tree, Trees, list_of_trees}
 use Rattle.rh_terms.specs.Grammar.{terms_of}
 use Rattle.rh_terms.specs.declared.fault.TermFault.{TermFault}
-use Rattle.rh_sections.specs.declared.fault.ClusterFault.{ClusterFault}
-use Rattle.rh_sections.specs.declared.fault.ClusterFault.TheVariants as fault
+use Rattle.rh_cluster.specs.declared.fault.ClusterFault.{ClusterFault}
+use Rattle.rh_cluster.specs.declared.fault.ClusterFault.TheVariants as fault
 use Rattle.rh_cluster.specs.declared.shares.Share.{Share}
 use Rattle.rh_model.specs.ClusterView.{ClusterView, NodeView, AppView}
-use Rattle.rh_sections.specs.Faults.{unless}
+use Rattle.rh_cluster.specs.Faults.{unless}
 use Rattle.rh_model.specs.Names.{NamesView}
 use Rattle.rh_cluster.specs.Headers.{nodes_in, apps_in, node_names, app_names, headers_stage}
 use Rattle.rh_cluster.specs.Profile.{profile_of, behind_profile}
-use Rattle.rh_sections.specs.Sections.{parts_stage}
+use Rattle.rh_cluster.specs.Sections.{parts_stage}
 use Rattle.rh_cluster.specs.Values.{platforms_in, node_view, shares_in, app_view}
 use Rattle.rh_cluster.specs.Agreement.{agreed_shares, agreement_stage}
 

@@ -2,13 +2,13 @@
 use Rattle.std.specs.Prelude.{ℕ, List, [], ◌∷◌, ◌++◌, length, map, filter_map, codes}
 use Rattle.std.specs.Prelude.{Bool, false, not, ◌||◌, ◌==◌, nat_le, Option, Some, None}
 use Rattle.rh_base.specs.Tree.{Tree}
-use Rattle.rh_sections.specs.declared.fault.ClusterFault.{ClusterFault}
-use Rattle.rh_sections.specs.declared.fault.ClusterFault.TheVariants as fault
+use Rattle.rh_cluster.specs.declared.fault.ClusterFault.{ClusterFault}
+use Rattle.rh_cluster.specs.declared.fault.ClusterFault.TheVariants as fault
 use Rattle.rh_model.specs.Limits.{node_limit, app_limit}
 use Rattle.rh_model.specs.Names.{is_among}
-use Rattle.rh_sections.specs.NameRule.{is_name}
-use Rattle.rh_sections.specs.Shapes.{as_node, as_app}
-use Rattle.rh_sections.specs.Faults.{when, in_turn}
+use Rattle.rh_cluster.specs.NameRule.{is_name}
+use Rattle.rh_cluster.specs.Shapes.{as_node, as_app}
+use Rattle.rh_cluster.specs.Faults.{when, in_turn}
 
 -- the names of the platform that every node has
 abbrev pub every_platform : List (List ℕ)

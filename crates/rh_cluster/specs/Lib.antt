@@ -1,3 +1,10 @@
+pub mod Shapes
+pub mod Faults
+pub mod Tests
+pub mod NameRule
+pub mod Sections
+pub mod TermMemory
+pub mod FaultTexts
 pub mod Headers
 pub mod Profile
 pub mod Values
@@ -6,5 +13,3 @@ pub mod ClusterOf
 pub mod Laws
 pub use Rattle.rh_model.specs.ClusterView
 pub use Rattle.rh_model.specs.TermSymbols
-pub use Rattle.rh_sections.specs.Faults
-pub use Rattle.rh_sections.specs.FaultTexts

@@ -1,7 +1,7 @@
 -- The profile of a file: what its first term may say (ours).
 use Rattle.std.specs.Prelude.{ℕ, List, [], ◌∷◌, Option, None, unwrap_or, is_some, drop, if◌then◌else◌}
 use Rattle.rh_base.specs.Tree.{Tree}
-use Rattle.rh_sections.specs.Shapes.{as_profile}
+use Rattle.rh_cluster.specs.Shapes.{as_profile}
 
 -- the profile that the first term names
 abbrev pub profile_named : List Tree → Option ℕ

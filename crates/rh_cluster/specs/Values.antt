@@ -17,12 +17,12 @@ use Rattle.rh_model.specs.declared.settings.Spread.{Spread}
 use Rattle.rh_model.specs.declared.platforms.Platforms.{Platforms}
 use Rattle.rh_model.specs.declared.limits.TheConstants.{MAX_PLATFORMS}
 use Rattle.rh_cluster.specs.declared.shares.Share.{Share}
-use Rattle.rh_sections.specs.Shapes.{as_atom, as_list, as_pair, as_entry, as_node, as_time, atoms, ◌>>=◌}
+use Rattle.rh_cluster.specs.Shapes.{as_atom, as_list, as_pair, as_entry, as_node, as_time, atoms, ◌>>=◌}
 use Rattle.rh_model.specs.Names.{is_among, NamesView}
 use Rattle.rh_cluster.specs.Headers.{every_platform}
 use Rattle.rh_model.specs.ClusterView.{NodeView, AppView, numbered, app_numbered}
 use Rattle.rh_model.specs.TermSymbols.{TermSymbol, symbols_of}
-use Rattle.rh_sections.specs.Sections.{as_sync_wait, as_truth, as_restart, as_share, members, atom_is}
+use Rattle.rh_cluster.specs.Sections.{as_sync_wait, as_truth, as_restart, as_share, members, atom_is}
 
 -- ---- entries
 

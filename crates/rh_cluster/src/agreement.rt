@@ -4,7 +4,7 @@ ghost use Rattle.std.specs.Prelude.{◌≡◌, ◌<◌, ◌≤◌, map, flat_map
 ghost use Rattle.std.specs.List.{list_any, list_all};
 ghost use Rattle.std.specs.Option.{option_map};
 ghost use Rattle.rh_model.specs.ClusterView.{is_in, numbered};
-ghost use Rattle.rh_sections.specs.Faults.{Finds, FindsFirst};
+ghost use Rattle.rh_cluster.specs.Faults.{Finds, FindsFirst};
 ghost use Rattle.rh_cluster.specs.Values.{spread_for};
 ghost use Rattle.rh_cluster.specs.Agreement.{same_group, same_groups, same_share, same_shares, same_wait, shares_at};
 ghost use Rattle.rh_cluster.specs.Agreement.{wait_at, lists_node, names_node, is_involved, first_involved};
@@ -16,7 +16,7 @@ use rh_base::{OutOfMemory, Str};
 use rh_model::{
     App, Group, MAX_NODES, NameSet, Node, NodeSettings, Restart, Spread, SyncWait, is_in,
 };
-use rh_sections::ClusterFault;
+use crate::fault::ClusterFault;
 use std::alloc::Global;
 
 // Are all of these nodes in the other group?

@@ -10,7 +10,7 @@ use crate::shares::Share;
 use crate::values::{elements, elements_under, value_under};
 use rh_base::{OutOfMemory, Term};
 use rh_model::{AppSettings, Dep, Names, Spread, copy_of_spread, copy_of_start};
-use rh_sections::shapes;
+use crate::shapes;
 use std::alloc::Global;
 
 // What the name stands for in `applications`: an application of the cluster, or else a platform name.

@@ -10,7 +10,9 @@ use crate::shares::{Share, Shares};
 use crate::values::{app_named, elements, elements_under};
 use rh_base::{OutOfMemory, Term};
 use rh_model::{Group, Groups, Names, Spread};
-use rh_sections::{members, shapes, share};
+use crate::shapes;
+use crate::descriptions::members;
+use crate::kernel::share;
 use std::alloc::Global;
 
 // The milliseconds of the value; without it, or for another term, 0.

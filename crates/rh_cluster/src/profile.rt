@@ -6,7 +6,7 @@ ghost use Rattle.rh_model.specs.Limits.{is_profile};
 ghost use Rattle.rh_cluster.specs.Profile.{profile_named, profile_of, behind_profile};
 
 use rh_base::Term;
-use rh_sections::shapes;
+use crate::shapes;
 
 // The profile that the first term names.
 fn profile_named(terms: &[Term]) -> Option<u8>

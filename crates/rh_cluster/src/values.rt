@@ -8,7 +8,7 @@ ghost use Rattle.rh_cluster.specs.Values.{elements, value_if, value_under, eleme
 
 use rh_base::Term;
 use rh_model::{App, Names, Node};
-use rh_sections::shapes;
+use crate::shapes;
 
 /// The elements of a list; another term has none.
 #[tactic(auto, unfolding(crate::specs::Values::elements))]

@@ -15,12 +15,12 @@ use Rattle.rh_terms.specs.declared.fault.TermFault.{TermFault}
 use Rattle.rh_model.specs.ClusterView.{ClusterView}
 use Rattle.rh_model.specs.Names.{is_among}
 use Rattle.rh_model.specs.Limits.{node_limit, app_limit}
-use Rattle.rh_sections.specs.declared.fault.ClusterFault.{ClusterFault}
-use Rattle.rh_sections.specs.declared.fault.ClusterFault.TheVariants as fault
-use Rattle.rh_sections.specs.declared.name_rule.TheConstants.{LONGEST_NAME}
-use Rattle.rh_sections.specs.NameRule.{is_name, is_name_byte}
-use Rattle.rh_sections.specs.Shapes.{as_node, as_app, as_profile, as_headed, as_triple, as_tuple, as_atom, ◌>>=◌}
-use Rattle.rh_sections.specs.Faults.{in_turn, when, unless}
+use Rattle.rh_cluster.specs.declared.fault.ClusterFault.{ClusterFault}
+use Rattle.rh_cluster.specs.declared.fault.ClusterFault.TheVariants as fault
+use Rattle.rh_cluster.specs.declared.name_rule.TheConstants.{LONGEST_NAME}
+use Rattle.rh_cluster.specs.NameRule.{is_name, is_name_byte}
+use Rattle.rh_cluster.specs.Shapes.{as_node, as_app, as_profile, as_headed, as_triple, as_tuple, as_atom, ◌>>=◌}
+use Rattle.rh_cluster.specs.Faults.{in_turn, when, unless}
 use Rattle.rh_cluster.specs.Headers.{every_platform, node_names, app_names, nodes_in, apps_in, new_name_faults, header_faults, header_faults_by, headers_stage}
 use Rattle.rh_cluster.specs.ClusterOf.{faults_behind_headers, faults_in, cluster_view, cluster_of_terms, cluster_in, cluster_of}
 use Rattle.rh_cluster.specs.Profile.{profile_of, behind_profile}

@@ -20,7 +20,7 @@ use Rattle.rh_script.specs.declared.session_lines.SessionLine.TheVariants as lin
 use Rattle.rh_script.specs.SessionLines.{command, session_line_of}
 use Rattle.rh_script.specs.Answers.{notice_line, answer_text, fault_text}
 use Rattle.rh_script.specs.CommandWords.{event_words, command_words}
-use Rattle.rh_sections.specs.declared.fault.ClusterFault.TheVariants.{Mismatch, Term}
+use Rattle.rh_cluster.specs.declared.fault.ClusterFault.TheVariants.{Mismatch, Term}
 use Rattle.rh_terms.specs.declared.fault.TermFault.TheVariants.{Syntax}
 
 abbrev one_node : ClusterView

@@ -14,7 +14,7 @@ use Rattle.rh_events.specs.declared.refusal.Refusal.TheVariants.{NotPermitted, D
 use Rattle.rh_trail.specs.declared.call.Call.TheVariants.{Step, Undo, Redo, UndoAll, RedoAll, Look}
 use Rattle.rh_trail.specs.declared.call.Reply.TheVariants.{Done, Refused, Undone, Redone, AtStart, AtEnd, Moved, Seen}
 use Rattle.rh_trail.specs.Report.{standing_line}
-use Rattle.rh_sections.specs.declared.fault.ClusterFault.TheVariants.{NoNodes, BadName}
+use Rattle.rh_cluster.specs.declared.fault.ClusterFault.TheVariants.{NoNodes, BadName}
 use Rattle.rh_plans.specs.declared.fault.SweepFault.TheVariants.{BaseNotAtEnd, TrailRoom}
 use Rattle.rh_script.specs.declared.script.TheConstants.{NO_NODE, NO_APP}
 use Rattle.rh_script.specs.Answers.{notice_line, answer_text, fault_text, bad_text}

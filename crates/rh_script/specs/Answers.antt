@@ -6,8 +6,8 @@ use Rattle.rh_model.specs.ClusterView.{ClusterView, dep_name}
 use Rattle.rh_model.specs.declared.node.Node.{Node}
 use Rattle.rh_model.specs.declared.node.App.{App}
 use Rattle.rh_model.specs.declared.settings.Dep.{Dep}
-use Rattle.rh_sections.specs.FaultTexts.{cluster_fault_text}
-use Rattle.rh_sections.specs.declared.fault.ClusterFault.{ClusterFault}
+use Rattle.rh_cluster.specs.FaultTexts.{cluster_fault_text}
+use Rattle.rh_cluster.specs.declared.fault.ClusterFault.{ClusterFault}
 use Rattle.rh_settle.specs.declared.notice.Notice.{Notice}
 use Rattle.rh_settle.specs.declared.notice.Notice.TheVariants.{Up, Ended, Started, Stopped, Waits}
 use Rattle.rh_events.specs.declared.refusal.Refusal.{Refusal}

@@ -17,11 +17,11 @@ use Rattle.rh_terms.proofs.Told.{told_read}
 use Rattle.rh_terms.proofs.Whole.{text_spelled}
 use Rattle.rh_model.specs.ClusterView.{ClusterView}
 use Rattle.rh_model.specs.Names.{is_among}
-use Rattle.rh_sections.specs.declared.fault.ClusterFault.{ClusterFault}
-use Rattle.rh_sections.specs.declared.fault.ClusterFault.TheVariants as fault
-use Rattle.rh_sections.specs.Faults.{when, in_turn, unless}
-use Rattle.rh_sections.specs.NameRule.{is_name}
-use Rattle.rh_sections.specs.Shapes.{as_node, as_app, as_profile, as_entry, as_pair, as_tuple, as_atom, as_int}
+use Rattle.rh_cluster.specs.declared.fault.ClusterFault.{ClusterFault}
+use Rattle.rh_cluster.specs.declared.fault.ClusterFault.TheVariants as fault
+use Rattle.rh_cluster.specs.Faults.{when, in_turn, unless}
+use Rattle.rh_cluster.specs.NameRule.{is_name}
+use Rattle.rh_cluster.specs.Shapes.{as_node, as_app, as_profile, as_entry, as_pair, as_tuple, as_atom, as_int}
 use Rattle.rh_cluster.specs.Headers.{every_platform, node_names, app_names, new_name_faults, header_faults_by, header_faults, headers_stage}
 use Rattle.rh_cluster.specs.Profile.{profile_named, profile_of, behind_profile}
 use Rattle.rh_cluster.specs.ClusterOf.{faults_behind_headers, faults_in, cluster_view, cluster_of_terms, cluster_in, cluster_of}

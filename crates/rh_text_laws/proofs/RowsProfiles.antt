@@ -7,7 +7,7 @@ use Rattle.rh_terms.specs.declared.fault.TermFault.{TermFault}
 use Rattle.rh_terms.specs.Bytes.{past}
 use Rattle.rh_terms.specs.Tokens.{digits_at, integer_at, name_at}
 use Rattle.rh_terms.specs.Grammar.{terms_of, dotted, dot_at, inside, terms_up_to, some_terms, next_at, term_by, word_at}
-use Rattle.rh_sections.specs.Shapes.{as_atom, as_tuple, as_int, as_pair, as_entry, as_profile}
+use Rattle.rh_cluster.specs.Shapes.{as_atom, as_tuple, as_int, as_pair, as_entry, as_profile}
 use Rattle.rh_cluster.specs.Profile.{profile_named}
 use Rattle.rh_place.specs.declared.choosing.Pick.TheVariants.{First}
 use Rattle.rh_state.specs.declared.status.Mode.TheVariants.{Up}

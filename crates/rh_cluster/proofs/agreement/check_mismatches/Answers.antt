@@ -1,6 +1,6 @@
 use Rattle.std.proofs.Common.{◌∙◌, ap, length, arith}
 use Rattle.std.proofs.lemmas.Result.{err_from_is_err_and}
-use Rattle.rh_sections.specs.Faults.{first}
+use Rattle.rh_cluster.specs.Faults.{first}
 use Rattle.rh_cluster.specs.Agreement.{mismatch_faults, has_name}
 use Rattle.rh_cluster.proofs.Agreed.{number_fails, number_wants, mismatches_are}
 use Rattle.rh_base.proofs.Elements.{number_passes}

@@ -2,7 +2,7 @@ use Rattle.std.proofs.Common.{◌∙◌, ◌++◌, ◌∷◌, [], ◌||◌, ℕ,
 use Rattle.rh_base.specs.Tree.{tree_of}
 use Rattle.rh_model.specs.Names.{is_among}
 use Rattle.rh_cluster.specs.Headers.{every_platform}
-use Rattle.rh_sections.specs.Shapes.{atoms}
+use Rattle.rh_cluster.specs.Shapes.{atoms}
 use Rattle.rh_base.proofs.Elements.{map_more_at}
 use Rattle.rh_cluster.proofs.building_nodes.platforms_of.Goals as goal
 

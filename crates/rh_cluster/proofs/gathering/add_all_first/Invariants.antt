@@ -1,7 +1,7 @@
 use Rattle.std.proofs.Common.{◌≡◌, ◌≤◌, map, take, length, fold}
 use Rattle.rh_base.specs.Tree.{tree_of}
 use Rattle.rh_model.specs.declared.limits.TheConstants.{MAX_PLATFORMS}
-use Rattle.rh_sections.specs.Shapes.{atoms}
+use Rattle.rh_cluster.specs.Shapes.{atoms}
 use Rattle.rh_cluster.specs.Values.{with_first_name}
 use Rattle.rh_cluster.proofs.gathering.add_all_first.Given as goal
 

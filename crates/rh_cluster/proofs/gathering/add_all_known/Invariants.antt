@@ -1,6 +1,6 @@
 use Rattle.std.proofs.Common.{◌≡◌, map, take, fold}
 use Rattle.rh_base.specs.Tree.{tree_of}
-use Rattle.rh_sections.specs.Shapes.{atoms}
+use Rattle.rh_cluster.specs.Shapes.{atoms}
 use Rattle.rh_cluster.specs.Values.{with_name}
 use Rattle.rh_cluster.proofs.gathering.add_all_known.Given as goal
 

@@ -1,7 +1,7 @@
 use Rattle.std.proofs.Common.{◌≡◌, map, drop, is_some}
 use Rattle.std.specs.List.{list_all}
 use Rattle.rh_base.specs.Tree.{tree_of}
-use Rattle.rh_sections.specs.Shapes.{as_atom}
+use Rattle.rh_cluster.specs.Shapes.{as_atom}
 use Rattle.rh_cluster.proofs.gathering.are_atoms.Given as goal
 
 abbrev pub invariant-loop-term : goal.invariant-loop-term

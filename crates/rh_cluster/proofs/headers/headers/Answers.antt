@@ -1,10 +1,10 @@
 use Rattle.std.proofs.Common.{◌≡◌, ◌∙◌, ◌++◌, ◌∷◌, [], ℕ, List, map, take, sym, ap, refl, arith}
 use Rattle.std.proofs.lemmas.Result.{err_from_is_err_and}
 use Rattle.rh_base.specs.Tree.{Tree, tree_of}
-use Rattle.rh_sections.specs.declared.fault.ClusterFault.{ClusterFault}
+use Rattle.rh_cluster.specs.declared.fault.ClusterFault.{ClusterFault}
 use Rattle.rh_cluster.specs.Headers.{header_faults, node_names, app_names, headers_stage}
 use Rattle.rh_cluster.proofs.OneHeader.{node_names-append, app_names-append}
-use Rattle.rh_sections.proofs.InTurn.{passes, fails, trees_more, first-append}
+use Rattle.rh_cluster.proofs.InTurn.{passes, fails, trees_more, first-append}
 use Rattle.rh_cluster.proofs.headers.headers.Goals as goal
 
 abbrev faults_of : ℕ → List Tree → Tree → List ClusterFault

@@ -1,7 +1,7 @@
 use Rattle.std.proofs.Common.{◌≡◌, ◌≤◌, [], map, take, length}
 use Rattle.rh_base.specs.Tree.{tree_of}
 use Rattle.rh_model.specs.declared.limits.TheConstants.{MAX_NODES, MAX_APPS}
-use Rattle.rh_sections.specs.Faults.{in_turn}
+use Rattle.rh_cluster.specs.Faults.{in_turn}
 use Rattle.rh_cluster.specs.Headers.{header_faults, node_names, app_names}
 use Rattle.rh_cluster.proofs.headers.headers.Given as goal
 

@@ -6,7 +6,7 @@ use Rattle.rh_model.specs.Names.{NamesView}
 use Rattle.rh_cluster.specs.Agreement.{agreed_shares}
 use Rattle.rh_cluster.specs.ClusterOf.{names_of, all_shares, faults_in, cluster_view}
 use Rattle.rh_cluster.proofs.Counts.{length-node_views, length-app_views}
-use Rattle.rh_sections.proofs.InTurn.{first-none}
+use Rattle.rh_cluster.proofs.InTurn.{first-none}
 use Rattle.rh_cluster.proofs.Within.{view_is_within}
 use Rattle.rh_cluster.proofs.reading.cluster_in.Goals as goal
 

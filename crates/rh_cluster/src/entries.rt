@@ -1,0 +1,71 @@
+//! Entries `{Key, Value}`, each among the terms before it.
+
+ghost use Rattle.std.specs.Prelude.{◌≡◌, map};
+ghost use Rattle.std.specs.List.{list_any};
+ghost use Rattle.rh_base.specs.Tree.{tree_of};
+ghost use Rattle.rh_cluster.specs.Faults.{Finds, FindsFirst, list_faults};
+ghost use Rattle.rh_cluster.specs.Tests.{FindsOfValues, FindsFirstOfValues, TellsKeys};
+ghost use Rattle.rh_cluster.specs.Sections.{has_key, entry_faults};
+
+use crate::fault::ClusterFault;
+use crate::shapes;
+use crate::lists::check_list;
+use rh_base::Term;
+
+// Is it an entry of this key?
+#[tactic(auto, unfolding(crate::specs::Sections::has_key))]
+fn has_key(key: &str, term: &Term) -> bool
+    ensures { result ≡ has_key key.now (tree_of term.now) }
+{
+    shapes::entry(term).is_some_and(|(other, _)| other == key)
+}
+
+// Is one of these an entry of this key?
+fn repeats_key(key: &str, earlier: &[Term]) -> bool
+    ensures { result ≡ list_any (has_key key.now) (map tree_of earlier.now) }
+{
+    for term in earlier {
+        if has_key(key, term) {
+            return true;
+        }
+    }
+    false
+}
+
+// Tests an entry behind earlier terms: a key that is read doesn't come twice, and the value passes
+// its test.
+#[tactic(auto, unfolding(crate::specs::Sections::entry_faults))]
+fn check_entry<R: Fn(&str) -> bool, V: Fn(&str, &Term) -> Result<(), ClusterFault>>(
+    earlier: &[Term],
+    term: &Term,
+    is_read: &R,
+    check_value: &V,
+) -> Result<(), ClusterFault>
+    requires keys { R.IsAlwaysCallable is_read.now }
+    requires values { V.IsAlwaysCallable check_value.now }
+    ensures finds { (reads : _) (faults : _) → TellsKeys R.Fn is_read.now reads → FindsOfValues V.Fn check_value.now faults → Finds result (entry_faults reads faults (map tree_of earlier.now) (tree_of term.now)) }
+    ensures exact { (reads : _) (faults : _) → TellsKeys R.Fn is_read.now reads → FindsFirstOfValues V.Fn check_value.now faults → FindsFirst result (entry_faults reads faults (map tree_of earlier.now) (tree_of term.now)) }
+{
+    let (key, value) = shapes::entry(term).ok_or(ClusterFault::BadValue)?;
+    if is_read(key) && repeats_key(key, earlier) {
+        return Err(ClusterFault::DuplicateParameter);
+    }
+    check_value(key, value)
+}
+
+/// Tests a value that must be a list of entries `{Key, Value}`, in which no key that is read comes
+/// twice.
+pub fn check_entries<R: Fn(&str) -> bool, V: Fn(&str, &Term) -> Result<(), ClusterFault>>(
+    value: &Term,
+    is_read: R,
+    check_value: V,
+) -> Result<(), ClusterFault>
+    requires keys { R.IsAlwaysCallable is_read }
+    requires values { V.IsAlwaysCallable check_value }
+    ensures finds { (reads : _) (faults : _) → TellsKeys R.Fn is_read reads → FindsOfValues V.Fn check_value faults → Finds result (list_faults (entry_faults reads faults) (tree_of value.now)) }
+    ensures exact { (reads : _) (faults : _) → TellsKeys R.Fn is_read reads → FindsFirstOfValues V.Fn check_value faults → FindsFirst result (list_faults (entry_faults reads faults) (tree_of value.now)) }
+{
+    check_list(value, |earlier, term| {
+        check_entry(earlier, term, &is_read, &check_value)
+    })
+}

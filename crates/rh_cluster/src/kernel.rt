@@ -1,0 +1,134 @@
+//! The third stage: the kernel's parameters.
+
+ghost use Rattle.std.specs.Prelude.{◌≡◌, map, IfSome};
+ghost use Rattle.std.specs.Option.{option_map};
+ghost use Rattle.rh_base.specs.Tree.{tree_of};
+ghost use Rattle.rh_cluster.specs.Faults.{FindsFirst};
+ghost use Rattle.rh_model.specs.Limits.{IsWithinLimit};
+ghost use Rattle.rh_model.specs.Names.{is_among};
+ghost use Rattle.rh_cluster.specs.Sections.{as_share, time_faults, share_faults, as_truth, permission_faults, as_sync_wait, kernel_keys, kernel_faults, entries_faults};
+
+use crate::descriptions::check_description;
+use crate::entries::check_entries;
+use crate::fault::ClusterFault;
+use crate::names::{check_app_name, check_node_name, check_pair};
+use crate::shapes;
+use crate::lists::{check_list, check_shape};
+use rh_base::Term;
+use rh_model::{Names, SyncWait};
+
+/// The parts of an entry of `distributed`: its application, its timeout if it has one, and its groups.
+#[tactic(auto, unfolding(crate::specs::Sections::as_share))]
+pub fn share(term: &Term) -> Option<(&Term, Option<&Term>, &Term)>
+    ensures { option_map (λ s. (tree_of s.0.now, option_map (λ t. tree_of t.now) s.1, tree_of s.2.now)) result ≡ as_share (tree_of term.now) }
+{
+    match shapes::tuple(term)? {
+        [app, groups] => Some((app, None, groups)),
+        [app, timeout, groups] => Some((app, Some(timeout), groups)),
+        _ => None,
+    }
+}
+
+/// The truth value that a word names, if it is `true` or `false`.
+#[tactic(auto, unfolding(crate::specs::Sections::as_truth))]
+pub fn truth(term: &Term) -> Option<bool>
+    ensures { result ≡ as_truth (tree_of term.now) }
+{
+    let word = shapes::atom(term)?;
+    if word == "true" {
+        Some(true)
+    } else if word == "false" {
+        Some(false)
+    } else {
+        None
+    }
+}
+
+/// How long a node waits: for ever, a time, or not at all where it is `undefined`.
+#[tactic(auto, unfolding(crate::specs::Sections::as_sync_wait))]
+pub fn sync_wait(term: &Term) -> Option<SyncWait>
+    ensures wait { result ≡ as_sync_wait (tree_of term.now) }
+    ensures limit { IfSome result (λ wait. IsWithinLimit wait) }
+{
+    if let Some(word) = shapes::atom(term) {
+        if word == "undefined" {
+            return Some(SyncWait::Unset);
+        }
+        if word == "infinity" {
+            return Some(SyncWait::Forever);
+        }
+        return None;
+    }
+    shapes::time(term).map(SyncWait::After)
+}
+
+// Tests an entry of `permissions`, behind earlier entries.
+#[tactic(auto, unfolding(crate::specs::Sections::permission_faults))]
+fn check_permission(names: &Names, earlier: &[Term], term: &Term) -> Result<(), ClusterFault>
+    ensures { FindsFirst result (permission_faults names.now (map tree_of earlier.now) (tree_of term.now)) }
+{
+    check_pair(names, earlier, term, |value| truth(value).is_some())
+}
+
+// Tests an entry of `distributed`, behind earlier entries.
+#[tactic(auto, unfolding(crate::specs::Sections::share_faults))]
+fn check_share(names: &Names, earlier: &[Term], term: &Term) -> Result<(), ClusterFault>
+    ensures { FindsFirst result (share_faults names.now (map tree_of earlier.now) (tree_of term.now)) }
+{
+    let (app, timeout, groups) = share(term).ok_or(ClusterFault::BadValue)?;
+    check_app_name(names, earlier, app)?;
+    check_timeout(timeout)?;
+    check_description(names, groups)
+}
+
+// Tests the timeout of an entry of `distributed`, if it has one.
+fn check_timeout(timeout: Option<&Term>) -> Result<(), ClusterFault>
+    ensures { FindsFirst result (time_faults (option_map (λ t. tree_of t.now) timeout.entry)) }
+{
+    match timeout {
+        Some(term) => check_shape(shapes::time(term).is_some()),
+        None => Ok(()),
+    }
+}
+
+// Is it a parameter that is read?
+fn is_kernel_key(key: &str) -> bool
+    ensures { result ≡ is_among kernel_keys key.now }
+{
+    key == "distributed"
+        || key == "sync_nodes_mandatory"
+        || key == "sync_nodes_optional"
+        || key == "sync_nodes_timeout"
+        || key == "permissions"
+}
+
+// Tests the value of a parameter.
+#[tactic(auto, unfolding(crate::specs::Sections::kernel_faults))]
+fn check_kernel_value(names: &Names, key: &str, value: &Term) -> Result<(), ClusterFault>
+    ensures { FindsFirst result (kernel_faults names.now key.now (tree_of value.now)) }
+{
+    if key == "distributed" {
+        check_list(value, |earlier, term| check_share(names, earlier, term))
+    } else if key == "sync_nodes_mandatory" || key == "sync_nodes_optional" {
+        check_list(value, |earlier, term| {
+            check_node_name(names, earlier, term)
+        })
+    } else if key == "sync_nodes_timeout" {
+        check_shape(sync_wait(value).is_some())
+    } else if key == "permissions" {
+        check_list(value, |earlier, term| {
+            check_permission(names, earlier, term)
+        })
+    } else {
+        Ok(())
+    }
+}
+
+/// Tests the section `kernel`.
+pub fn check_kernel(names: &Names, value: &Term) -> Result<(), ClusterFault>
+    ensures { FindsFirst result (entries_faults kernel_keys (kernel_faults names.now) (tree_of value.now)) }
+{
+    check_entries(value, is_kernel_key, |key, value| {
+        check_kernel_value(names, key, value)
+    })
+}

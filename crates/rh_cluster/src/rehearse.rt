@@ -1,0 +1,90 @@
+//! The third stage: the parameters of `rehearse`.
+
+ghost use Rattle.std.specs.Prelude.{◌≡◌, map};
+ghost use Rattle.rh_base.specs.Tree.{tree_of};
+ghost use Rattle.rh_cluster.specs.Faults.{FindsFirst};
+ghost use Rattle.rh_model.specs.Names.{is_among};
+ghost use Rattle.rh_cluster.specs.Sections.{as_restart, boot_faults, platform_faults, rehearse_keys, rehearse_faults, entries_faults};
+
+use crate::entries::check_entries;
+use crate::fault::ClusterFault;
+use crate::names::{check_pair, check_word, repeats_atom};
+use crate::shapes;
+use crate::lists::check_list;
+use rh_base::Term;
+use rh_model::{Names, Restart};
+
+/// The restart type that a word names.
+#[tactic(auto, unfolding(crate::specs::Sections::as_restart))]
+pub fn restart(term: &Term) -> Option<Restart>
+    ensures { result ≡ as_restart (tree_of term.now) }
+{
+    let word = shapes::atom(term)?;
+    if word == "permanent" {
+        Some(Restart::Permanent)
+    } else if word == "transient" {
+        Some(Restart::Transient)
+    } else if word == "temporary" {
+        Some(Restart::Temporary)
+    } else {
+        None
+    }
+}
+
+// Tests an entry of `boot`, behind earlier entries.
+#[tactic(auto, unfolding(crate::specs::Sections::boot_faults))]
+fn check_boot_entry(names: &Names, earlier: &[Term], term: &Term) -> Result<(), ClusterFault>
+    ensures { FindsFirst result (boot_faults names.now (map tree_of earlier.now) (tree_of term.now)) }
+{
+    check_pair(names, earlier, term, |value| restart(value).is_some())
+}
+
+// Tests a platform name, behind earlier ones of its list.
+#[tactic(auto, unfolding(crate::specs::Sections::platform_faults, crate::specs::Sections::name_faults))]
+fn check_platform_name(names: &Names, earlier: &[Term], term: &Term) -> Result<(), ClusterFault>
+    ensures { FindsFirst result (platform_faults names.now (map tree_of earlier.now) (tree_of term.now)) }
+{
+    let name = shapes::atom(term).ok_or(ClusterFault::BadValue)?;
+    check_word(name, true, repeats_atom(name, earlier))?;
+    if names.has_app(name) {
+        return Err(ClusterFault::DuplicateName);
+    }
+    if !names.has_platform(name) {
+        return Err(ClusterFault::TooMany);
+    }
+    Ok(())
+}
+
+// Is it a parameter that is read?
+fn is_rehearse_key(key: &str) -> bool
+    ensures { result ≡ is_among rehearse_keys key.now }
+{
+    key == "boot" || key == "platform"
+}
+
+// Tests the value of a parameter.
+#[tactic(auto, unfolding(crate::specs::Sections::rehearse_faults))]
+fn check_rehearse_value(names: &Names, key: &str, value: &Term) -> Result<(), ClusterFault>
+    ensures { FindsFirst result (rehearse_faults names.now key.now (tree_of value.now)) }
+{
+    if key == "boot" {
+        check_list(value, |earlier, term| {
+            check_boot_entry(names, earlier, term)
+        })
+    } else if key == "platform" {
+        check_list(value, |earlier, term| {
+            check_platform_name(names, earlier, term)
+        })
+    } else {
+        Err(ClusterFault::BadValue)
+    }
+}
+
+/// Tests the section `rehearse`.
+pub fn check_rehearse(names: &Names, value: &Term) -> Result<(), ClusterFault>
+    ensures { FindsFirst result (entries_faults rehearse_keys (rehearse_faults names.now) (tree_of value.now)) }
+{
+    check_entries(value, is_rehearse_key, |key, value| {
+        check_rehearse_value(names, key, value)
+    })
+}

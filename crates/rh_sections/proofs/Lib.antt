@@ -1,4 +1,0 @@
-pub mod MemberNames
-pub mod InTurn
-pub mod Unrepeated
-pub mod Rows

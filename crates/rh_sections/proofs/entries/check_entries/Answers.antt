@@ -1,6 +1,0 @@
-use Rattle.std.proofs.Common.{rules}
-use Rattle.rh_sections.specs.Sections.{entry_faults}
-use Rattle.rh_sections.proofs.entries.check_entries.Goals as goal
-
-pub returns-clause-finds : goal.returns-clause-finds
-returns-clause-finds g c reads faults tells finds = c.check_list.ensures.finds (entry_faults reads faults) (search rules)
