@@ -11,12 +11,12 @@ ghost use Rattle.rh_cluster.specs.Agreement.{wait_at, lists_node, names_node, is
 ghost use Rattle.rh_cluster.specs.Agreement.{agreed_shares, agree, mismatch_faults, mismatches, boot_entry_faults};
 ghost use Rattle.rh_cluster.specs.Agreement.{boot_list_faults, boot_at, agreement_stage, numbers_below, WantsForName};
 
+use crate::fault::ClusterFault;
 use crate::shares::{Share, Shares};
 use rh_base::{OutOfMemory, Str};
 use rh_model::{
     App, Group, MAX_NODES, NameSet, Node, NodeSettings, Restart, Spread, SyncWait, is_in,
 };
-use crate::fault::ClusterFault;
 use std::alloc::Global;
 
 // Are all of these nodes in the other group?

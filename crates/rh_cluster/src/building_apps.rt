@@ -6,11 +6,11 @@ ghost use Rattle.rh_base.specs.Tree.{tree_of};
 ghost use Rattle.rh_cluster.specs.Values.{dep_named, start_in, is_list_there, spread_named, app_view};
 
 use crate::agreement::spread_for;
+use crate::shapes;
 use crate::shares::Share;
 use crate::values::{elements, elements_under, value_under};
 use rh_base::{OutOfMemory, Term};
 use rh_model::{AppSettings, Dep, Names, Spread, copy_of_spread, copy_of_start};
-use crate::shapes;
 use std::alloc::Global;
 
 // What the name stands for in `applications`: an application of the cluster, or else a platform name.

@@ -13,13 +13,13 @@ ghost use Rattle.rh_cluster.specs.Sections.{as_truth, atom_is};
 ghost use Rattle.rh_cluster.specs.Values.{node_named, boot_entry, is_false, forbids, permissions_in, platforms_of, wait_in, node_view};
 
 use crate::headers::is_platform_everywhere;
-use crate::values::{app_named, elements, elements_under, node_named, value_under};
-use rh_base::{OutOfMemory, Term};
-use rh_model::{App, Names, Node, NodeSettings, Restart, SyncWait};
-use crate::shapes;
 use crate::kernel::{sync_wait, truth};
 use crate::names::repeats_atom;
 use crate::rehearse::restart;
+use crate::shapes;
+use crate::values::{app_named, elements, elements_under, node_named, value_under};
+use rh_base::{OutOfMemory, Term};
+use rh_model::{App, Names, Node, NodeSettings, Restart, SyncWait};
 use std::alloc::Global;
 
 /// The nodes of these names.

@@ -6,13 +6,13 @@ ghost use Rattle.rh_base.specs.Tree.{tree_of};
 ghost use Rattle.rh_cluster.specs.Values.{time_or_zero, group_in, elements, share_of, shares_in};
 
 use crate::building_nodes::nodes_named;
+use crate::descriptions::members;
+use crate::kernel::share;
+use crate::shapes;
 use crate::shares::{Share, Shares};
 use crate::values::{app_named, elements, elements_under};
 use rh_base::{OutOfMemory, Term};
 use rh_model::{Group, Groups, Names, Spread};
-use crate::shapes;
-use crate::descriptions::members;
-use crate::kernel::share;
 use std::alloc::Global;
 
 // The milliseconds of the value; without it, or for another term, 0.

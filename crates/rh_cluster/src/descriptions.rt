@@ -8,9 +8,9 @@ ghost use Rattle.rh_cluster.specs.Shapes.{atoms};
 ghost use Rattle.rh_cluster.specs.Sections.{node_name_faults, members, desc_faults};
 
 use crate::fault::ClusterFault;
+use crate::lists::check_each;
 use crate::names::{check_word, repeats_atom};
 use crate::shapes;
-use crate::lists::check_each;
 use rh_base::Term;
 use rh_model::Names;
 use std::slice;

@@ -8,8 +8,8 @@ ghost use Rattle.rh_cluster.specs.Tests.{FindsOfValues, FindsFirstOfValues, Tell
 ghost use Rattle.rh_cluster.specs.Sections.{has_key, entry_faults};
 
 use crate::fault::ClusterFault;
-use crate::shapes;
 use crate::lists::check_list;
+use crate::shapes;
 use rh_base::Term;
 
 // Is it an entry of this key?

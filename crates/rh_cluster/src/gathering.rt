@@ -8,10 +8,10 @@ ghost use Rattle.rh_cluster.specs.Shapes.{as_atom, atoms};
 ghost use Rattle.rh_cluster.specs.Values.{with_name, with_first_name, with_platforms, platform_in_entry};
 ghost use Rattle.rh_cluster.specs.Values.{platform_in_section, platform_in_term, platforms_in, elements};
 
+use crate::shapes;
 use crate::values::{elements, value_if};
 use rh_base::{OutOfMemory, Term};
 use rh_model::{MAX_PLATFORMS, NameSet, Platforms};
-use crate::shapes;
 use std::alloc::Global;
 
 // Adds a name, unless it is there.

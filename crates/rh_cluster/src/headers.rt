@@ -6,11 +6,11 @@ ghost use Rattle.rh_cluster.specs.Faults.{Finds, WantsLast};
 ghost use Rattle.rh_model.specs.Names.{is_among};
 ghost use Rattle.rh_cluster.specs.Headers.{every_platform, new_name_faults, header_faults, headers_stage, node_names, app_names};
 
-use rh_base::Term;
-use rh_model::{MAX_APPS, MAX_NODES, NameSet, app_limit, node_limit};
-use crate::shapes;
 use crate::fault::ClusterFault;
 use crate::name_rule::is_name;
+use crate::shapes;
+use rh_base::Term;
+use rh_model::{MAX_APPS, MAX_NODES, NameSet, app_limit, node_limit};
 use std::alloc::Global;
 
 /// Is it a platform name of every node?

@@ -11,9 +11,9 @@ ghost use Rattle.rh_cluster.specs.Sections.{as_share, time_faults, share_faults,
 use crate::descriptions::check_description;
 use crate::entries::check_entries;
 use crate::fault::ClusterFault;
+use crate::lists::{check_list, check_shape};
 use crate::names::{check_app_name, check_node_name, check_pair};
 use crate::shapes;
-use crate::lists::{check_list, check_shape};
 use rh_base::Term;
 use rh_model::{Names, SyncWait};
 

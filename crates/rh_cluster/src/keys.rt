@@ -10,9 +10,9 @@ ghost use Rattle.rh_cluster.specs.Sections.{dep_faults, deps_faults, is_start, a
 
 use crate::entries::check_entries;
 use crate::fault::ClusterFault;
+use crate::lists::check_shape;
 use crate::names::check_word;
 use crate::shapes;
-use crate::lists::check_shape;
 use rh_base::Term;
 use rh_model::{NameSet, Names};
 use std::alloc::Global;

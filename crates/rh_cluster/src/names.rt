@@ -10,9 +10,9 @@ ghost use Rattle.rh_cluster.specs.Shapes.{atoms};
 ghost use Rattle.rh_cluster.specs.Sections.{word_faults, node_name_faults, app_name_faults, app_in, pair_faults};
 
 use crate::fault::ClusterFault;
+use crate::lists::check_shape;
 use crate::name_rule::is_name;
 use crate::shapes;
-use crate::lists::check_shape;
 use rh_base::Term;
 use rh_model::Names;
 

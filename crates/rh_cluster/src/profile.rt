@@ -5,8 +5,8 @@ ghost use Rattle.rh_base.specs.Tree.{tree_of};
 ghost use Rattle.rh_model.specs.Limits.{is_profile};
 ghost use Rattle.rh_cluster.specs.Profile.{profile_named, profile_of, behind_profile};
 
-use rh_base::Term;
 use crate::shapes;
+use rh_base::Term;
 
 // The profile that the first term names.
 fn profile_named(terms: &[Term]) -> Option<u8>

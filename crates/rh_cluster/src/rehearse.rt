@@ -8,9 +8,9 @@ ghost use Rattle.rh_cluster.specs.Sections.{as_restart, boot_faults, platform_fa
 
 use crate::entries::check_entries;
 use crate::fault::ClusterFault;
+use crate::lists::check_list;
 use crate::names::{check_pair, check_word, repeats_atom};
 use crate::shapes;
-use crate::lists::check_list;
 use rh_base::Term;
 use rh_model::{Names, Restart};
 

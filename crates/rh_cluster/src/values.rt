@@ -6,9 +6,9 @@ ghost use Rattle.rh_base.specs.Tree.{tree_of};
 ghost use Rattle.rh_model.specs.Names.{NamesView};
 ghost use Rattle.rh_cluster.specs.Values.{elements, value_if, value_under, elements_under, node_named, app_named};
 
+use crate::shapes;
 use rh_base::Term;
 use rh_model::{App, Names, Node};
-use crate::shapes;
 
 /// The elements of a list; another term has none.
 #[tactic(auto, unfolding(crate::specs::Values::elements))]
