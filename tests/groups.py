@@ -14,11 +14,14 @@ import traceback
 from collections import deque
 from collections.abc import Callable, Iterable, Iterator, Sequence
 from dataclasses import dataclass, field
+from importlib.util import find_spec
 from multiprocessing.connection import Connection, wait
 from multiprocessing.process import BaseProcess
 from typing import Any, Optional
 
 Test = tuple[str, Optional[str]]
+# What may be needed and is no program: a package of Python.
+MODULES = ("jinja2",)
 SLOWEST = 10
 LAST_SECONDS = 2
 LONGEST_NAME = 80
@@ -37,7 +40,7 @@ class Group:
     tests: Callable[..., Iterable[Test]]
     # Where there are items, the tests are a function of one of them too, and those of each item are a part.
     items: Sequence[Any] = ()
-    # The programs that have to be on the PATH.
+    # The programs that have to be on the PATH, and the packages of Python that have to be there.
     needs: Sequence[str] = ()
     # Time counts in it, so that nothing may run beside it.
     is_alone: bool = False
@@ -52,7 +55,7 @@ class Group:
 
     def missing(self) -> list[str]:
         """The programs that it needs and that aren't there."""
-        return [need for need in self.needs if shutil.which(need) is None]
+        return [need for need in self.needs if shutil.which(need) is None and (need not in MODULES or find_spec(need) is None)]
 
     def parts(self) -> list["Part"]:
         """Its parts, one for each item."""

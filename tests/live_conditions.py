@@ -23,9 +23,10 @@ from random_live import CAREFUL, Cluster, Rehearsal, sane, script_of  # noqa: E4
 from support import TOP  # noqa: E402
 
 sys.path.append(os.path.join(TOP, "companions"))
-from asking import Program, words_of  # noqa: E402
-from live_sides import rules_of  # noqa: E402
-from otp25.cluster import ClusterFile, Entry, cluster_of  # noqa: E402
+from rehearse_tools.inputs import words_of  # noqa: E402
+from rehearse_tools.program import Program  # noqa: E402
+from rehearse_tools.live_sides import rules_of  # noqa: E402
+from rehearse_tools.otp25.cluster import ClusterFile, Entry, cluster_of  # noqa: E402
 
 
 # ---- What a condition looks at
@@ -308,10 +309,10 @@ def steps_of(program: str, text: str) -> tuple[ClusterFile, list[Step]]:
     front, script = text.split("\n===\n", 1)
     commands = [line for line in script.splitlines() if words_of(line) and not line.startswith("#")]
     cluster = cluster_of(front + "\n")
-    _, _, pairs = rules_of(Program(program, "first"), front + "\n", ["show", *commands])
-    states = [state_of(report) for _, report in pairs]
-    return cluster, [Step(cluster, words_of(line), answer, before, after)
-                     for line, (answer, _), before, after in zip(commands, pairs[1:], states, states[1:])]
+    _, told = rules_of(Program(program, "first"), front + "\n", ["show", *commands])
+    states = [state_of(ruled.report) for ruled in told]
+    return cluster, [Step(cluster, words_of(line), ruled.answer, before, after)
+                     for line, ruled, before, after in zip(commands, told[1:], states, states[1:])]
 
 
 def breaks_of(program: str, text: str) -> list[list[str]]:

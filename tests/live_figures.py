@@ -25,7 +25,7 @@ from random_live import CAREFUL, KINDS  # noqa: E402
 from support import LONGEST_RUN, TOP  # noqa: E402
 
 sys.path.append(os.path.join(TOP, "companions"))
-from live_sides import agree, rows_of  # noqa: E402
+from rehearse_tools.live_sides import agree, rows_of  # noqa: E402
 
 COMPANION = os.path.join(TOP, "companions", "live")
 NOT_TOLD = "not told by companions/live"

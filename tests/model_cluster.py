@@ -10,7 +10,7 @@ from typing import NamedTuple
 from support import TOP
 
 sys.path.append(os.path.join(TOP, "companions"))
-from terms import section, terms_of  # noqa: E402
+from rehearse_tools.terms import section, terms_of  # noqa: E402
 
 KERNEL = ("kernel", "stdlib")
 

@@ -1,7 +1,7 @@
 #!/usr/bin/env python3
 """Tests the companions with the built program: run_companions.py [--skip-nothing] [--times] PROGRAM [NAME..]
 
-Each companion, an executable file companions/NAME, has its tests in the module tests/companions/NAME.py: a constant NEEDS,
+Each companion, an executable file companions/NAME, has its tests in the module tests/companions/NAME.py (with _ for -): a constant NEEDS,
 the names of the programs that have to be on the PATH for them, and a constant TESTS, its groups (groups.py), which are run
 side by side on all processors. Where a program is missing, these tests are skipped, which a line tells; with --skip-nothing
 that is a failed test. The last line is 'N passed, M failed'. Where names of companions are given, these alone are tested.
@@ -23,8 +23,8 @@ MODULES = os.path.join(TOP, "tests", "companions")
 
 def companions():
     """The names of all companions, and of all modules of tests."""
-    files = {os.path.basename(path) for path in glob.glob(os.path.join(COMPANIONS, "*")) if os.access(path, os.X_OK)}
-    found = {name for name in files if os.path.isfile(os.path.join(COMPANIONS, name))}
+    files = [path for path in glob.glob(os.path.join(COMPANIONS, "*")) if os.path.isfile(path) and os.access(path, os.X_OK)]
+    found = {os.path.basename(path).replace("-", "_") for path in files}
     return sorted(found | {os.path.basename(path)[:-len(".py")] for path in glob.glob(os.path.join(MODULES, "*.py"))})
 
 

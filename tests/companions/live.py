@@ -116,7 +116,7 @@ def script_fault(name, path, done):
 
 def sentences():
     """All reasons, each with its sentence: the dictionary stands in the companion's own module."""
-    with open(os.path.join(TOP, "companions", "otp25", "reasons.py"), encoding="utf-8") as file:
+    with open(os.path.join(TOP, "companions", "rehearse_tools", "otp25", "reasons.py"), encoding="utf-8") as file:
         return re.findall(r'^    "([a-z0-9-]+)": "', file.read(), re.MULTILINE)
 
 

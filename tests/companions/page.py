@@ -13,9 +13,9 @@ from pages import COLUMN, HEADS, LABELS, OVERFLOW, WORDS, all_same, example, in_
 from support import LONGEST_RUN, TOP, example_files, in_folder
 
 sys.path.append(os.path.join(TOP, "companions"))
-from page_names import names_of  # noqa: E402
+from rehearse_tools.page_names import names_of  # noqa: E402
 
-NEEDS = ("chromium",)
+NEEDS = ("chromium", "jinja2")
 THREE_UP = """now 0
 node cp1@cave up 1
   running myapp permanent normal

@@ -4,7 +4,7 @@ by hand from docs/RULES.md, or told in README.md.
 from pages import COLUMN, HEADS, REFUSED_COMMANDS, ROWS_OF_PLANS, SHOWN_PLANS, WORDS, all_same, example, in_browser, made, page, same
 from support import in_folder
 
-NEEDS = ("chromium",)
+NEEDS = ("chromium", "jinja2")
 # Both nodes boot web, which is sent away from a@x at step 3. Behind that come plans.
 TWO_NODES = "".join(f"{{node, {node}, [{{kernel, [{{distributed, [{{web, 500, [a@x, b@x]}}]}}]}},\n"
                     "  {rehearse, [{boot, [{web, permanent}]}]}]}.\n" for node in ("a@x", "b@x")) + "{application, web, []}.\n===\n"

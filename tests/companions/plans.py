@@ -217,9 +217,7 @@ def program_found(program):
     done = subprocess.run([COMPANION, *words], input=text, capture_output=True, env={**os.environ, "REHEARSE": program})
     yield "the program of the environment", fault_of(done, 0, b"6\n")
     with tempfile.TemporaryDirectory() as folder:
-        os.mkdir(os.path.join(folder, "companions"))
-        for name in ("plans", "plan_making.py", "asking.py", "endings.py"):
-            shutil.copy(os.path.join(TOP, "companions", name), os.path.join(folder, "companions", name))
+        shutil.copytree(os.path.join(TOP, "companions"), os.path.join(folder, "companions"))
         os.symlink(program, os.path.join(folder, "rehearse"))
         env = {name: value for name, value in os.environ.items() if name != "REHEARSE"}
         done = subprocess.run([os.path.join(folder, "companions", "plans"), *words], input=text, capture_output=True, env=env)

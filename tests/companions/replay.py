@@ -18,6 +18,9 @@ NEEDS = ("python3",)
 ERLANG = ("erl", "escript", "erlc")
 COMPANIONS = os.path.join(TOP, "companions")
 COMPANION = os.path.join(COMPANIONS, "replay")
+PACKAGE = os.path.join(COMPANIONS, "rehearse_tools")
+ERLANG = os.path.join(PACKAGE, "erlang")
+SCRIPT = os.path.join(ERLANG, "replay")
 KERNEL = "{distributed, [{web, 500, [a@x, 'b-1@x']}]}, {sync_nodes_optional, [a@x, 'b-1@x']}, {sync_nodes_timeout, 5000}"
 CLUSTER = "".join(f"{{node, {node}, [\n  {{kernel, [{KERNEL}]}},\n  {{rehearse, [{{boot, [{{log, permanent}}, {{web, permanent}}]}}, "
                   "{platform, [ssl]}]}]}.\n" for node in ("a@x", "'b-1@x'"))
@@ -199,7 +202,7 @@ def erlang_fault(asked):
     """What is wrong with a match in Erlang, with the modules of the companion that need no nodes; or None."""
     load = "begin {ok, M, C} = compile:file(F, [binary]), code:load_binary(M, F, C) end"
     text = f'[{load} || F <- ["replay_compare", "replay_json"]], {asked}, halt().'
-    done = subprocess.run(["erl", "-noinput", "-eval", text], cwd=COMPANIONS, capture_output=True, text=True, timeout=LONGEST_RUN)
+    done = subprocess.run(["erl", "-noinput", "-eval", text], cwd=ERLANG, capture_output=True, text=True, timeout=LONGEST_RUN)
     return None if done.returncode == 0 else f"{asked}: {done.stdout[:1000]}"
 
 
@@ -259,20 +262,20 @@ def burning(program, folder):
 
 def measured():
     """The release on which the page and live were measured, as live has it."""
-    return re.search(r'MEASURED = Release\(\n +"([0-9.]+)"', read(os.path.join(COMPANIONS, "otp25", "release.py")).decode())[1]
+    return re.search(r'MEASURED = Release\(\n +"([0-9.]+)"', read(os.path.join(PACKAGE, "otp25", "release.py")).decode())[1]
 
 
 def release(_):
     """Replay has the same release as live."""
-    have = re.search(r'-define\(MEASURED, "([0-9.]+)"\)', read(COMPANION).decode())[1]
+    have = re.search(r'-define\(MEASURED, "([0-9.]+)"\)', read(SCRIPT).decode())[1]
     yield "the release that was measured", None if have == measured() else f"{have}, and live has {measured()}"
 
 
 def other_release(program, folder):
     """On another release than the measured one the first line says so."""
-    copied(folder, lambda text: text.replace(f'"{measured()}"', '"17.0"'))
+    script = copied(folder, lambda text: text.replace(f'"{measured()}"', '"17.0"'))
     path = written(folder, "{node, a@x, []}.\n===\n# Nothing.\nboot b@x\n")
-    done = subprocess.run([os.path.join(folder, "replay"), "--rehearse", program, path], stdin=subprocess.DEVNULL,
+    done = subprocess.run([script, "--rehearse", program, path], stdin=subprocess.DEVNULL,
                           capture_output=True, text=True, timeout=LONGEST_RUN)
     _, told, *lines = done.stdout.splitlines()
     is_right = re.fullmatch(r"#~ This is OTP [0-9.]+\. What .* was measured on OTP 17\.0\.", told)
@@ -284,24 +287,27 @@ def other_release(program, folder):
 
 
 def copied(folder, changed=lambda text: text):
-    """Puts a copy of the companion alone into a folder, with its script changed."""
-    for path in glob.glob(f"{COMPANION}*"):
-        shutil.copy(path, folder)
-    with open(os.path.join(folder, "replay"), "w", encoding="utf-8") as file:
-        file.write(changed(read(COMPANION).decode()))
+    """Puts a copy of the companion alone into a folder, with its script changed, and gives the path of that."""
+    there = os.path.join(folder, "rehearse_tools", "erlang")
+    os.makedirs(there)
+    for path in glob.glob(f"{SCRIPT}*"):
+        shutil.copy(path, there)
+    with open(os.path.join(there, "replay"), "w", encoding="utf-8") as file:
+        file.write(changed(read(SCRIPT).decode()))
+    return file.name
 
 
 def without(program, folder):
     """What --compare needs and isn't there is told."""
-    copied(folder)
+    script = copied(folder)
     path = written(folder, "{node, a@x, []}.\n===\nboot a@x\n")
     tools = os.path.join(folder, "tools")
     os.mkdir(tools)
     for name in ("escript", "erl", "sh", "mktemp", "rm", "sed", "dirname"):
         os.symlink(os.path.realpath(shutil.which(name)), os.path.join(tools, name))
     for name, companion, search, owed in [
-            ("live", os.path.join(folder, "replay"), os.environ["PATH"], f"there is no companion {folder}/live"),
-            ("python3", COMPANION, tools, "there is no python3, which the companion live needs")]:
+            ("live", script, os.environ["PATH"], f"there is no companion {folder}/live"),
+            ("python3", SCRIPT, tools, "there is no python3, which the companion live needs")]:
         done = subprocess.run([companion, "--rehearse", program, "--compare", "live", path], stdin=subprocess.DEVNULL,
                               capture_output=True, text=True, timeout=LONGEST_RUN, env={**os.environ, "PATH": search})
         is_right = done.returncode == 1 and not done.stdout and owed in done.stderr

@@ -12,7 +12,7 @@ import tempfile
 from browser import Browser
 from support import TOP, difference, read
 
-NEEDS = ("erl", "escript", "erlc", "chromium")
+NEEDS = ("erl", "escript", "erlc", "chromium", "jinja2")
 LONGEST_COMMAND = 120
 PICTURE = os.path.join(TOP, "docs", "images", "six-commands.png")
 SIZE = (1280, 1020)

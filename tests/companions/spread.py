@@ -7,7 +7,7 @@ import time
 
 from support import LONGEST_RUN, TOP, difference, fault_of, read, run
 
-NEEDS = ("bash", "parallel", "perl")
+NEEDS = ("python3", "parallel", "perl")
 COMPANION = os.path.join(TOP, "companions", "spread")
 EXAMPLE = read(os.path.join(TOP, "examples", "five-nodes-sweep.txt"))
 HEAD = EXAMPLE.split(b"plan ", 1)[0]
@@ -248,10 +248,11 @@ def machines(program):
 
 def faults(program):
     """Wrong command lines, programs that aren't ours, and help."""
-    for words, told in [(["--nonsense"], "no option --nonsense"), (["--shares", "0"], "--shares needs a number"),
-                        (["--workers", "17"], "--workers is 1 to 16, not '17'"), (["--jobs"], "--jobs needs a value"), (["a", "b"], "not also b"),
+    for words, told in [(["--nonsense"], "unrecognized arguments: --nonsense"), (["--shares", "0"], "--shares: '0' is no number from 1 on"),
+                        (["--workers", "17"], "--workers: '17' is no number from 1 to 16"),
+                        (["--jobs"], "--jobs: expected one argument"), (["a", "b"], "unrecognized arguments: b"),
                         (["--rehearse", "/nowhere/rehearse"], "no program /nowhere/rehearse"),
-                        (["--pick", "best"], "--pick is first or last, not 'best'")]:
+                        (["--pick", "best"], "--pick: invalid choice: 'best'")]:
         done = spread(program, words, EXAMPLE)
         is_right = done.returncode == 1 and done.stdout == b"" and told in done.stderr.decode()
         yield f"refused: {told}", None if is_right else f"{done}"

@@ -1,0 +1,1 @@
+"""The companions of rehearse: what stands round the program, as one package with one command."""

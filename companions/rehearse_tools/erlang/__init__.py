@@ -1,0 +1,21 @@
+"""The tools that are written in Erlang, and how they are started."""
+import os
+import shutil
+from collections.abc import Sequence
+from typing import NoReturn
+
+from rehearse_tools.endings import Refused
+
+FOLDER = os.path.dirname(os.path.realpath(__file__))
+
+
+def path_of(name: str) -> str:
+    """The path of a script in Erlang."""
+    return os.path.join(FOLDER, name)
+
+
+def become(name: str, words: Sequence[str]) -> NoReturn:
+    """This process goes on as a script in Erlang: so Ctrl-C, its status and its output are those of the script."""
+    if shutil.which("escript") is None:
+        raise Refused(f"{name} needs escript, a part of Erlang/OTP, which isn't there")
+    os.execv(path_of(name), [path_of(name), *words])

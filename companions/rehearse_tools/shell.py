@@ -1,0 +1,226 @@
+"""A prompt on a cluster file: each command of a script is answered at once, and can be taken back.
+
+  companions/shell cluster.txt
+
+FILE is a cluster file. Where it has a script, that is made first, up to a line `plan`, and you go on behind it. The prompt
+shows the clock. The TAB key completes commands, nodes, applications and restart types, and behind `tick` the times to the
+next timers. Besides the commands of a script (`help` lists them) there are:
+
+  save PATH      writes FILE and, as its script, the story so far: the steps that stand, what followed from each, and your
+                 own lines that begin with #. What was refused, shown or taken back is left out
+  save PATH all  the same with all that you entered
+  names          the nodes and the applications
+  help           the commands
+  quit           ends, as `exit` and Ctrl-D do
+
+What is saved is an input of `rehearse run`, and of this companion. The program is run anew for each command, on all that
+was entered so far. That takes some milliseconds; from about 10,000 commands on it takes a tenth of a second and more.
+
+Exit status: 0 done, 1 a wrong command line, 2 FILE is refused.
+"""
+import io
+import os
+import sys
+from collections.abc import Sequence
+from dataclasses import dataclass
+from typing import Optional
+
+from rehearse_tools.command_line import CommandLine
+from rehearse_tools.endings import Refused
+from rehearse_tools.inputs import called, is_command, joined, read_text, split_input, to_bytes, words_of
+from rehearse_tools.program import BadLine, Program
+from rehearse_tools.reading import Answer
+from rehearse_tools.shell_words import COMMANDS, HELP, OWN
+from rehearse_tools.words import plural
+
+# What leads an answer in a saved script.
+TOLD = "#   "
+# What moves in a story, and is no step of it.
+MOVES = ("undo", "redo", "undo_all", "redo_all")
+
+
+@dataclass(frozen=True)
+class Told:
+    """A command with the comments before it, and the lines of its answer."""
+    notes: list[str]
+    command: str
+    answer: list[str]
+
+    @property
+    def lines(self) -> list[str]:
+        """It as a saved script has it."""
+        return [*self.notes, self.command, *(TOLD + line for line in self.answer)]
+
+
+class Session:
+    """A rehearsal at a prompt: all lines that were entered and the answers to those that are commands."""
+
+    def __init__(self, program: Program, cluster: str, source: str):
+        self.program, self.cluster, self.source = program, cluster, source
+        self.names = program.names(cluster, source)
+        self.lines: list[str] = []
+        self.told: list[Answer] = []
+        self.saved: set[str] = set()
+        self.ask([])
+
+    def ask(self, lines: list[str]) -> list[Answer]:
+        """Makes these lines too, and gives their answers. Where one of them is no command, nothing is done."""
+        *told, shown = self.program.answers(self.cluster, self.lines + lines + ["show"], self.source)
+        new = told[len(self.told):]
+        self.report = shown.report
+        self.lines, self.told = self.lines + lines, told
+        return new
+
+    def times(self) -> list[str]:
+        """The times to the next timers."""
+        return [str(timer.due - self.report.now) for timer in self.report.timers]
+
+    def fitting(self, words: Sequence[str]) -> list[str]:
+        """What the word may be that stands behind these words of a line."""
+        if not words:
+            return [*COMMANDS, *OWN]
+        kinds = {**COMMANDS, **OWN}.get(words[0], ())
+        kind = kinds[len(words) - 1] if len(words) <= len(kinds) else ()
+        if words[0] in ("boot", "crash"):
+            return [node.name for node in self.report.nodes.values() if node.is_alive == (words[0] == "crash")]
+        if not isinstance(kind, str):
+            return list(kind)
+        known: dict[str, list[str]] = {"node": self.names.nodes, "app": self.names.apps, "distributed": list(self.report.apps),
+                                       "time": self.times(), "path": []}
+        return known[kind]
+
+
+def story(lines: Sequence[str], told: Sequence[Answer]) -> tuple[list[Told], list[str]]:
+    """The steps that stand at the end of a script, each with the comments before it; and the comments behind the last one."""
+    answers = iter(told)
+    steps: list[Told] = []
+    cursor, notes = 0, []
+    for line in lines:
+        if not is_command(line):
+            notes.append(line)
+            continue
+        answer, word = next(answers), words_of(line)[0]
+        if not answer.is_ok or word == "show":
+            continue
+        if word in MOVES:
+            cursor += answer.steps if word.startswith("redo") else -answer.steps
+        else:
+            steps[cursor:] = [Told(notes, line, answer.lines)]
+            cursor, notes = cursor + 1, []
+    return steps[:cursor], notes
+
+
+def saved(session: Session, is_all: bool) -> str:
+    """The input that is saved: the cluster file and its script."""
+    if is_all:
+        answers = iter(session.told)
+        lines = [part for line in session.lines
+                 for part in (Told([], line, next(answers).lines).lines if is_command(line) else [line])]
+    else:
+        steps, notes = story(session.lines, session.told)
+        lines = [line for step in steps for line in step.lines] + notes
+    return joined(session.cluster, lines)
+
+
+def save(session: Session, words: Sequence[str]) -> str:
+    """Writes what is saved, and tells so. A file that this session didn't write stays."""
+    if len(words) not in (2, 3) or list(words[2:]) not in ([], ["all"]):
+        return "save PATH, or save PATH all"
+    path = os.path.abspath(os.path.expanduser(words[1]))
+    try:
+        with open(path, "wb" if path in session.saved else "xb") as file:
+            file.write(to_bytes(saved(session, len(words) == 3)))
+    except OSError as fault:
+        return f"{words[1]}: {fault.strerror}"
+    session.saved.add(path)
+    return f"saved: rehearse run < {words[1]}"
+
+
+def answer_to(session: Session, line: str) -> str:
+    """What is told for a line at the prompt."""
+    words = words_of(line)
+    if words[0] == "save":
+        return save(session, words)
+    if words == ["names"]:
+        return f"nodes: {' '.join(session.names.nodes)}\napplications: {' '.join(session.names.apps)}"
+    if words[0] == "help":
+        return HELP
+    try:
+        return "\n".join(session.ask([line])[-1].lines)
+    except BadLine:
+        return f"that is no command: {form_of(words[0])}"
+    except Refused as fault:
+        return str(fault)
+
+
+def form_of(word: str) -> str:
+    """How a command is written."""
+    if word not in COMMANDS:
+        return "help lists them"
+    names = {"node": "N", "app": "A", "distributed": "A", "time": "MILLISECONDS"}
+    return " ".join([word, *(names[kind] if isinstance(kind, str) else "|".join(kind) for kind in COMMANDS[word])])
+
+
+def set_up_keys(session: Session) -> None:
+    """Lets TAB complete."""
+    import readline
+
+    def complete(_: str, number: int) -> Optional[str]:
+        front = readline.get_line_buffer()[:readline.get_begidx()]
+        begun = readline.get_line_buffer()[readline.get_begidx():readline.get_endidx()]
+        found = [word + " " for word in session.fitting(words_of(front)) if word.startswith(begun)]
+        return found[number] if number < len(found) else None
+
+    readline.set_completer(complete)
+    readline.set_completer_delims(" ")
+    readline.parse_and_bind("tab: complete")
+
+
+def serve(session: Session) -> bool:
+    """Answers one line of the prompt, and tells whether another one is to come."""
+    text = input(f"{session.report.now} ms> " if sys.stdin.isatty() else "")
+    if words_of(text) in (["quit"], ["exit"]):
+        return False
+    if is_command(text):
+        print(answer_to(session, text))
+    elif text:
+        session.lines.append(text)
+    return True
+
+
+def opened(program: Program, path: str) -> tuple[Session, str]:
+    """A session behind the script of a file, and what is told of it."""
+    source, parts = called(path), split_input(read_text(path))
+    session = Session(program, parts.cluster, source)
+    program.check_script(joined(parts.cluster, parts.lines), source)
+    session.ask([line for line in parts.lines if not line.startswith(TOLD)])
+    behind = f", behind {plural(len(parts.base), 'command')} of the script" if parts.base else ""
+    names = session.names
+    counts = f"{plural(len(names.nodes), 'node')}, {plural(len(names.apps), 'application')}"
+    return session, f"{counts}, profile {names.profile}{behind}; help lists the commands"
+
+
+def main(words: Sequence[str]) -> None:
+    """Answers the lines of a prompt."""
+    line = CommandLine("shell", __doc__)
+    line.add_argument("file", metavar="FILE", help="a cluster file, with a script or without one")
+    line.add_program()
+    given = line.parse_args(words)
+    if sys.stdin is None or sys.stdout is None:
+        raise Refused(f"standard {'input' if sys.stdin is None else 'output'}: it is closed")
+    session, told = opened(line.program(given), given.file)
+    print(told)
+    if sys.stdin.isatty():
+        set_up_keys(session)
+    for stream in (sys.stdin, sys.stdout):
+        if isinstance(stream, io.TextIOWrapper):
+            stream.reconfigure(errors="surrogateescape")
+    while True:
+        try:
+            if not serve(session):
+                return
+        except EOFError:
+            print(end="\n" if sys.stdin.isatty() else "")
+            return
+        except KeyboardInterrupt:
+            print()

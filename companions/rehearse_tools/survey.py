@@ -1,0 +1,162 @@
+"""Sums up a sweep: for each distributed application the plans that leave it nowhere, and the longest time without it.
+
+  ./rehearse sweep < plans.txt | companions/survey
+  ./rehearse sweep < plans.txt | companions/survey --of plans.txt
+  ./rehearse sweep < plans.txt | companions/survey --of plans.txt --least --fail-if nowhere --fail-if refused
+
+OUTPUT is what `rehearse sweep` (or companions/spread) printed; `-` or nothing is standard input. A sweep tells where each
+application stands at the end of a plan, and no times. For these name the sweep's input by --of: then the program goes
+through each plan once more, with its ticks cut at every timer, so that the moment of each start and end is known exactly.
+
+Where an application is nowhere, the word behind the plan tells why: `wanted`, no node can run it; `lost`, its failover
+time isn't over, so let the plan end by a longer tick; `quiet`, it was stopped or ended by itself, or nobody started it.
+
+The time without an application is the one from its end to its next start, within a plan. Where the plan ends first, the
+application is counted as nowhere, and the time up to there is told as `at least`.
+
+In a pipeline --fail-if gives the status 9 where some plan ends in a way that may not be, and names it on standard error: with an
+application `nowhere`, `moved` (it runs elsewhere than behind the base: that needs --of), or `refused` at an event.
+
+Exit status: 0 done, 1 a wrong command line, 2 what was read is refused: it is no sweep's output, or not that of --of; 9 what
+--fail-if names.
+"""
+import sys
+from argparse import Namespace
+from collections import Counter
+from collections.abc import Iterator, Sequence
+from dataclasses import dataclass
+from typing import Optional
+
+from rehearse_tools.command_line import CommandLine
+from rehearse_tools.courses import Courses, Gap, courses_of, losses_of, paired
+from rehearse_tools.endings import Refused, tell
+from rehearse_tools.inputs import called, lines_of, read_text, split_input, text_of, write_out
+from rehearse_tools.reading import Outcome, outcomes_in
+from rehearse_tools.words import plural, some
+
+FAILED = 9
+MOST_NAMES, MOST_LONGEST = 10, 3
+
+
+@dataclass(frozen=True)
+class Swept:
+    """What is known of a sweep: its outcomes, and with --of the report behind the base and the courses of the plans."""
+    outcomes: list[Outcome]
+    courses: Optional[Courses] = None
+
+    @property
+    def apps(self) -> list[str]:
+        """The distributed applications."""
+        return list(self.outcomes[0].standing)
+
+    def gaps(self, app: str) -> list[Gap]:
+        """The times without an application."""
+        plans = self.courses.plans if self.courses is not None else []
+        return [gap for course in plans for name, gap in course.gaps if name == app]
+
+
+def command_line() -> CommandLine:
+    """The command line of this tool."""
+    line = CommandLine("survey", __doc__)
+    line.add_argument("output", metavar="OUTPUT", nargs="?", default="-", help="a sweep's output (default: standard input)")
+    line.add_argument("--of", metavar="INPUT", help="the sweep's input: tells times too, by asking the program")
+    line.add_argument("--all", action="store_true", help="names every plan (else at most 10 for each application and word)")
+    line.add_argument("--least", action="store_true",
+                      help="with --of: tells for each application the least sets of lost nodes that leave it `wanted`, those of "
+                      "which no part does so")
+    line.add_argument("--fail-if", choices=("nowhere", "moved", "refused"), action="append", default=[],
+                      help="ends with status 9 where some plan leaves an application nowhere, has moved one (with --of), or ended "
+                      "at a refused event; may be repeated")
+    line.add_program()
+    return line
+
+
+def lines_about(app: str, swept: Swept, is_least: bool, most: Optional[int]) -> Iterator[str]:
+    """What is told of an application."""
+    nowhere: dict[str, list[str]] = {}
+    ran: dict[str, list[str]] = {}
+    for outcome in swept.outcomes:
+        standing = outcome.standing[app]
+        chosen, key = (ran, standing.node) if standing.is_running else (nowhere, standing.word)
+        chosen.setdefault(key, []).append(outcome.name)
+    yield f"{app}: nowhere at the end of {sum(map(len, nowhere.values()))} of {plural(len(swept.outcomes), 'plan')}"
+    yield from (f"  {word}: {some(plans, most)}" for word, plans in nowhere.items())
+    if ran:
+        yield "  ran at the end at " + ", ".join(f"{node} ({plural(len(plans), 'plan')})" for node, plans in ran.items())
+    if swept.courses is not None:
+        yield from longest_of(swept.gaps(app), most)
+    if is_least and swept.courses is not None:
+        losses = ["+".join(nodes) or "no node" for nodes, _ in losses_of(app, swept.courses)]
+        yield f"  least losses that leave it wanted: {some(losses or ['none'], most)}"
+
+
+def longest_of(gaps: Sequence[Gap], most: Optional[int]) -> Iterator[str]:
+    """The longest time without an application up to its next start, and the longest one at the end of a plan."""
+    names = MOST_LONGEST if most is not None else None
+    over, open_ended = [gap for gap in gaps if gap.is_over], [gap for gap in gaps if not gap.is_over]
+    yield f"  longest time without it {longest(over, names)}" if over else "  it never ended and started again"
+    if open_ended:
+        yield f"  without it to the end of the plan, for at least {longest(open_ended, names)}"
+
+
+def longest(gaps: Sequence[Gap], most: Optional[int]) -> str:
+    """The longest of some times, with its plans."""
+    length = max(gap.length for gap in gaps)
+    return f"{length} ms: {some(list(dict.fromkeys(gap.plan for gap in gaps if gap.length == length)), most)}"
+
+
+def failures(swept: Swept, wanted: Sequence[str]) -> Iterator[str]:
+    """What --fail-if names: for each of its words that applies, a line."""
+    base = swept.courses.base.apps if swept.courses is not None else {}
+    counts: dict[str, Counter[str]] = {"nowhere": Counter(), "moved": Counter(), "refused": Counter()}
+    for outcome in swept.outcomes:
+        counts["refused"]["an event"] += outcome.refused is not None
+        for app, standing in outcome.standing.items():
+            counts["nowhere"][app] += not standing.is_running
+            counts["moved"][app] += standing.is_running and app in base and base[app].is_running and standing != base[app]
+    for word, counter in counts.items():
+        found = [f"{name} in {plural(number, 'plan')}" for name, number in counter.items() if number]
+        if found and word in wanted:
+            yield f"--fail-if {word}: {some(found, MOST_NAMES)}"
+
+
+def swept_of(line: CommandLine, given: Namespace) -> Swept:
+    """What is known of the sweep that a command line names."""
+    source = called(given.output)
+    outcomes = outcomes_in(lines_of(read_text(given.output)), source)
+    if not outcomes:
+        raise Refused(f"{source}: it has no outcome of a plan, so it isn't what a sweep printed")
+    if given.of is None:
+        return Swept(outcomes)
+    program, text = line.program(given), read_text(given.of)
+    program.check_script(text, called(given.of))
+    parts = split_input(text)
+    tried = paired(outcomes, parts.plans, source, called(given.of))
+    return Swept(outcomes, courses_of(program, parts, tried, called(given.of)))
+
+
+def summary(swept: Swept, is_least: bool, most: Optional[int]) -> Iterator[str]:
+    """All that is told of a sweep."""
+    refused = [f"{outcome.name} ({outcome.refused})" for outcome in swept.outcomes if outcome.refused is not None]
+    yield f"{plural(len(swept.outcomes), 'plan')}, {plural(len(swept.apps), 'distributed application')}"
+    if refused:
+        yield f"{plural(len(refused), 'plan')} ended at an event that was refused: {some(refused, most)}"
+    for app in swept.apps:
+        yield ""
+        yield from lines_about(app, swept, is_least, most)
+
+
+def main(words: Sequence[str]) -> None:
+    """Sums up a sweep."""
+    line = command_line()
+    given = line.parse_args(words)
+    for word, is_wanted in (("--least", given.least), ("--fail-if moved", "moved" in given.fail_if)):
+        if is_wanted and given.of is None:
+            line.error(f"{word} needs --of INPUT")
+    swept = swept_of(line, given)
+    write_out(text_of(summary(swept, given.least, None if given.all else MOST_NAMES)))
+    failed = list(failures(swept, given.fail_if))
+    for why in failed:
+        tell("survey", why)
+    if failed:
+        sys.exit(FAILED)
