@@ -5,11 +5,12 @@ A sweep tells where each application stands at the end of a plan, and no times. 
 """
 from collections.abc import Iterator, Sequence
 from dataclasses import dataclass
+from typing import Callable
 
 from rehearse_tools.endings import Refused
 from rehearse_tools.inputs import Input, Plan, to_bytes, words_of
 from rehearse_tools.program import Program
-from rehearse_tools.reading import Answer, Outcome, Report
+from rehearse_tools.reading import Answer, Outcome, Report, Standing
 
 # So many plans go into one run of the program, and events of so many bytes: more than twice that is what it is given.
 AT_ONCE = 500
@@ -204,11 +205,21 @@ def least_sets(sets: Sequence[frozenset[str]]) -> Iterator[frozenset[str]]:
             yield one
 
 
-def losses_of(app: str, courses: Courses) -> list[tuple[list[str], Course]]:
-    """The least sets of lost nodes behind which an application is wanted, each with its nodes in the order of the report and the first
-    course that has it."""
+def is_wanted(standing: Standing) -> bool:
+    """Whether an application is to run and no node can run it."""
+    return standing.word == "wanted"
+
+
+def is_nowhere(standing: Standing) -> bool:
+    """Whether an application doesn't run."""
+    return not standing.is_running
+
+
+def losses_of(app: str, courses: Courses, is_bad: Callable[[Standing], bool] = is_wanted) -> list[tuple[list[str], Course]]:
+    """The least sets of lost nodes behind which an application stands badly, each with its nodes in the order of the report and the
+    first course that has it."""
     first: dict[frozenset[str], Course] = {}
     for course in courses.plans:
-        if course.outcome.standing[app].word == "wanted":
+        if is_bad(course.outcome.standing[app]):
             first.setdefault(lost_nodes(courses.base, course.report), course)
     return [([node for node in courses.base.nodes if node in least], first[least]) for least in least_sets(list(first))]

@@ -146,6 +146,11 @@ def all_verdicts(sweep: Sweep, plans: Sequence[Plan], jobs: Optional[int]) -> It
             end_by_interrupt()
 
 
+def judged(sweep: Sweep, plans: Sequence[Plan], jobs: Optional[int] = None) -> tuple[list[Answer], list[Verdict]]:
+    """What live nodes do at the base of a sweep, and what becomes of its plans."""
+    return Judge(sweep).answers, list(all_verdicts(sweep, plans, jobs)) if plans else []
+
+
 # ---- What is told
 
 
@@ -157,9 +162,7 @@ def judge_plans(program: Program, source: str, text: str, given: Namespace) -> i
         write_out(run.last + "\n")
         return run.status
     program.check_script(text, source)
-    sweep = Sweep(program, parts.cluster, parts.base, given.orders)
-    answers = Judge(sweep).answers
-    verdicts = list(all_verdicts(sweep, parts.plans, given.jobs)) if parts.plans else []
+    answers, verdicts = judged(Sweep(program, parts.cluster, parts.base, given.orders), parts.plans, given.jobs)
     words = Counter(verdict.word for verdict in verdicts)
     worst = SOMETHING_HANGS if words["hangs"] or words["burns"] else SOME_DIFFER if words["differs"] else NONE_DIFFERS
     status = max(status_of(answers), worst)

@@ -21,6 +21,7 @@ Exit status: 0 done, 1 a wrong command line, 2 FILE is refused, or PAGE can't be
 import os
 from argparse import Namespace
 from collections.abc import Iterator, Sequence
+from typing import Any, Optional
 
 from rehearse_tools.command_line import CommandLine, workers
 from rehearse_tools.endings import Refused, write_bytes
@@ -80,11 +81,12 @@ def page_of(given: Namespace, program: Program) -> bytes:
     """The page for what a command line asks."""
     source, text = called(given.file), read_text(given.file)
     title = given.title or ("A rehearsal" if given.file == "-" else os.path.basename(given.file))
-    return page_of_text(program, text, source, title, given.workers if given.sweep else None)
+    return rendered("page.html.j2", title=title, maker="companions/page",
+                    **values_of(program, text, source, given.workers if given.sweep else None))
 
 
-def page_of_text(program: Program, text: str, source: str, title: str, workers_of_sweep: str | None) -> bytes:
-    """The page of an input, with the plans where there are workers to sweep them."""
+def values_of(program: Program, text: str, source: str, workers_of_sweep: Optional[str]) -> dict[str, Any]:
+    """What the template of a page shows of an input, with the plans where there are workers to sweep them."""
     parts = split_input(text)
     is_sweep = workers_of_sweep is not None
     if is_sweep and not parts.plans:
@@ -103,8 +105,8 @@ def page_of_text(program: Program, text: str, source: str, title: str, workers_o
     courses = timelines(program, parts.cluster, parts.base, last, plans, source)
     facts = (f"{plural(len(names.all), 'node')}, profile {names_in(parts.cluster).profile}, {plural(len(steps) - 1, 'step')}, "
              f"{time_of(last.now)}")
-    return rendered("page.html.j2", title=title, facts=facts, lacks=names.lacks, steps=story(steps),
-                    plans=table_of(plans, last.apps, names), is_sweep=is_sweep, data=data_of(steps, courses, names))
+    return {"facts": facts, "lacks": names.lacks, "steps": story(steps), "plans": table_of(plans, last.apps, names),
+            "is_sweep": is_sweep, "data": data_of(steps, courses, names)}
 
 
 def main(words: Sequence[str]) -> None:

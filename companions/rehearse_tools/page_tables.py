@@ -1,6 +1,7 @@
 """The tables of a page, as their rows: all steps, and all plans with what became of each distributed application."""
 from collections.abc import Sequence
 from dataclasses import dataclass
+from typing import Optional
 
 from rehearse_tools.page_data import Step
 from rehearse_tools.page_names import Names
@@ -116,7 +117,7 @@ def shorter(text: str, mark: str, names: Names) -> Text:
     return Text(mark.join(map(names.shown, text.split(mark))), text)
 
 
-def refused_text(refused: RefusedEvent | None) -> str:
+def refused_text(refused: Optional[RefusedEvent]) -> str:
     """What is told of an event that was refused."""
     return "" if refused is None else f"\u2717 refused: {refused}"
 

@@ -29,8 +29,12 @@ class Program:
 
     def asked(self, words: Sequence[str], text: str) -> tuple[Run, str]:
         """A run of the program on a whole input, and what it writes to standard error."""
+        return self.asked_plainly([*words, "--pick", self.pick], text)
+
+    def asked_plainly(self, words: Sequence[str], text: str) -> tuple[Run, str]:
+        """The same without a word of how it picks."""
         try:
-            done = subprocess.run([self.path, *words, "--pick", self.pick], input=to_bytes(text), capture_output=True, check=False)
+            done = subprocess.run([self.path, *words], input=to_bytes(text), capture_output=True, check=False)
         except OSError as fault:
             raise Refused(f"{self.path} can't be run: {why_of(fault)}") from None
         return Run(done.returncode, lines_of(to_text(done.stdout))), to_text(done.stderr)
@@ -48,6 +52,11 @@ class Program:
         run, error = self.asked(words, text)
         hand_on(error)
         return run
+
+    def has(self, word: str) -> bool:
+        """Whether the program has a subcommand, by its help."""
+        run, error = self.asked_plainly(["--help"], "")
+        return any(words_of(line)[:1] == [word] for line in [*run.lines, *lines_of(error)])
 
     def run(self, cluster: str, script: Sequence[str]) -> Run:
         """A run of the program on a cluster file and the lines of a script."""

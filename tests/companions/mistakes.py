@@ -39,7 +39,9 @@ class Call(NamedTuple):
 CALLS = {
     "plans": Call(("FILE",)), "survey": Call(("--of", "PLANS", "OUTPUT"), "OUTPUT"), "page": Call(("FILE",)), "shell": Call(("FILE",)),
     "live": Call(("FILE",), wrong=4), "compare": Call(("FILE", "FILE"), wrong=4), "spread": Call(("PLANS",), "PLANS"),
-    "replay": Call(("FILE",)), "gather": Call(("--bare", "--config", "CONFIG", "--node", "a@x", "--node", "b@x"), "CONFIG", asks=False)}
+    "replay": Call(("FILE",)), "report": Call(("FILE",)), "gather": Call(("--bare", "--config", "CONFIG", "--node", "a@x", "--node", "b@x"), "CONFIG", asks=False)}
+# These have no path of their own.
+NEW = ("report",)
 # Files that aren't what is to be read, with the end of what is told of them.
 FILES = {"no file": "No such file or directory", "a folder": "Is a directory", "an empty file": "it is empty"}
 
@@ -58,7 +60,8 @@ def files_in(program: str, folder: str) -> dict[str, str]:
 def call_of(name: str, program: str, paths: dict[str, str]) -> list[str]:
     """The command line of a companion."""
     asked = ["--rehearse", program] if CALLS[name].asks else []
-    return [os.path.join(COMPANIONS, name), *asked, *(paths.get(word, word) for word in CALLS[name].words)]
+    tool = ["rehearse-tools", name] if name in NEW else [name]
+    return [os.path.join(COMPANIONS, tool[0]), *tool[1:], *asked, *(paths.get(word, word) for word in CALLS[name].words)]
 
 
 def finished(words: list[str], **options) -> subprocess.CompletedProcess:
@@ -84,8 +87,8 @@ def files(program: str, folder: str, name: str) -> Iterator[Test]:
     for mistake, told in FILES.items():
         done = finished(call_of(name, program, {**paths, call.file: wrong[mistake]}))
         yield f"{name}: {mistake}", line_fault(name, done, 2, os.path.basename(wrong[mistake]))
-        # Erlang has words of its own.
-        is_told = told in done.stderr or name in ERLANG
+        # Erlang has words of its own, and by it a folder is a release that lacks something.
+        is_told = told in done.stderr or name in ERLANG or name == "report" and mistake == "a folder"
         yield f"{name}: {mistake}, the reason", None if is_told else done.stderr
 
 
@@ -174,7 +177,7 @@ def all_companions(_: str) -> Iterator[Test]:
     """Every companion has its row."""
     there = {name for name in os.listdir(COMPANIONS)
              if os.path.isfile(os.path.join(COMPANIONS, name)) and os.access(os.path.join(COMPANIONS, name), os.X_OK)}
-    yield "every companion has a row", None if there - {"rehearse-tools"} == set(CALLS) else f"{there ^ set(CALLS)}"
+    yield "every companion has a row", None if there == {*CALLS, "rehearse-tools"} - set(NEW) else f"{there}"
 
 
 # Its lines tell of an error in words that Erlang has for it.
@@ -183,4 +186,4 @@ PYTHON = ("plans", "survey", "shell", "live", "compare")
 TESTS = (all_companions, own_faults, *(
     Group(in_folder(tests), items=names, needs=needs)
     for tests in (files, programs, outputs, interrupted)
-    for names, needs in ((PYTHON, ()), (("page",), ("jinja2",)), (("spread",), ("parallel",)), (("gather", "replay"), ("escript",)))))
+    for names, needs in ((PYTHON, ()), (("page", "report"), ("jinja2",)), (("spread",), ("parallel",)), (("gather", "replay"), ("escript",)))))

@@ -19,8 +19,8 @@ ERLANG = ("erl", "escript", "erlc")
 COMPANIONS = os.path.join(TOP, "companions")
 COMPANION = os.path.join(COMPANIONS, "replay")
 PACKAGE = os.path.join(COMPANIONS, "rehearse_tools")
-ERLANG = os.path.join(PACKAGE, "erlang")
-SCRIPT = os.path.join(ERLANG, "replay")
+SCRIPTS = os.path.join(PACKAGE, "erlang")
+SCRIPT = os.path.join(SCRIPTS, "replay")
 KERNEL = "{distributed, [{web, 500, [a@x, 'b-1@x']}]}, {sync_nodes_optional, [a@x, 'b-1@x']}, {sync_nodes_timeout, 5000}"
 CLUSTER = "".join(f"{{node, {node}, [\n  {{kernel, [{KERNEL}]}},\n  {{rehearse, [{{boot, [{{log, permanent}}, {{web, permanent}}]}}, "
                   "{platform, [ssl]}]}]}.\n" for node in ("a@x", "'b-1@x'"))
@@ -202,7 +202,7 @@ def erlang_fault(asked):
     """What is wrong with a match in Erlang, with the modules of the companion that need no nodes; or None."""
     load = "begin {ok, M, C} = compile:file(F, [binary]), code:load_binary(M, F, C) end"
     text = f'[{load} || F <- ["replay_compare", "replay_json"]], {asked}, halt().'
-    done = subprocess.run(["erl", "-noinput", "-eval", text], cwd=ERLANG, capture_output=True, text=True, timeout=LONGEST_RUN)
+    done = subprocess.run(["erl", "-noinput", "-eval", text], cwd=SCRIPTS, capture_output=True, text=True, timeout=LONGEST_RUN)
     return None if done.returncode == 0 else f"{asked}: {done.stdout[:1000]}"
 
 

@@ -14,8 +14,13 @@ def path_of(name: str) -> str:
     return os.path.join(FOLDER, name)
 
 
-def become(name: str, words: Sequence[str]) -> NoReturn:
-    """This process goes on as a script in Erlang: so Ctrl-C, its status and its output are those of the script."""
+def found_escript(name: str) -> None:
+    """Refuses where Erlang isn't there."""
     if shutil.which("escript") is None:
         raise Refused(f"{name} needs escript, a part of Erlang/OTP, which isn't there")
+
+
+def become(name: str, words: Sequence[str]) -> NoReturn:
+    """This process goes on as a script in Erlang: so Ctrl-C, its status and its output are those of the script."""
+    found_escript(name)
     os.execv(path_of(name), [path_of(name), *words])

@@ -1,7 +1,7 @@
 %% The kernel parameters of a node in the forms that a rehearsal takes, and what has to hold of those of all nodes. `At` tells where a
 %% part of a parameter stands.
 -module(gather_kernel).
--export([parameters/1, name/2, value/2, flat/1, known_nodes/1, agree/1]).
+-export([parameters/1, name/2, value/2, flat/1, known_nodes/1, named/1, agree/1]).
 -import(gather_text, [refuse/2, text/2, names/1, unique/1, doubles/1]).
 -define(READ, [distributed, sync_nodes_mandatory, sync_nodes_optional, sync_nodes_timeout, permissions]).
 -define(LONGEST, 1000000000000).
@@ -78,6 +78,9 @@ known_nodes(Nodes) ->
     [refuse("~ts: ~ts names ~ts, which isn't given: add --node ~ts", [place(P, Named, N), P, Named, Named])
      || N <- Nodes, P <- [distributed, sync_nodes_mandatory, sync_nodes_optional], Named <- named(P, N),
         not lists:any(fun(#{name := Name}) -> Name =:= Named end, Nodes)].
+
+%% All nodes that the parameters of a node name, each once.
+named(Node) -> unique(lists:append([named(P, Node) || P <- [distributed, sync_nodes_mandatory, sync_nodes_optional]])).
 
 named(distributed, Node) -> lists:append([flat(element(tuple_size(E), E)) || E <- value(distributed, Node)]);
 named(Parameter, Node) -> value(Parameter, Node).

@@ -1,0 +1,80 @@
+"""From releases to a cluster file, by gather."""
+import errno
+import os
+import shlex
+import subprocess
+from collections.abc import Sequence
+from dataclasses import dataclass
+
+from rehearse_tools.endings import Refused, why_of
+from rehearse_tools.erlang import found_escript, path_of
+from rehearse_tools.inputs import lines_of, read_text, split_input, to_text
+
+ARCHIVES = (".tar.gz", ".tgz")
+SELF, WARNING = "gather: ", "gather: warning: "
+CLUSTER_FILE = "cluster.txt"
+
+
+@dataclass(frozen=True)
+class Gathered:
+    """A cluster file, how it is called, what gather warned of, and the command that makes it, if any does."""
+    cluster: str
+    source: str
+    warnings: list[str]
+    command: str
+
+    @property
+    def file(self) -> str:
+        """The file that the commands behind it read."""
+        return CLUSTER_FILE if self.command else shlex.quote(self.source)
+
+
+@dataclass(frozen=True)
+class Release:
+    """A release, and the nodes that run it, if they are told."""
+    path: str
+    nodes: list[str]
+
+
+def release_of(word: str) -> Release:
+    """What a word names: RELEASE, or RELEASE:NODE,NODE.."""
+    path, mark, nodes = word.rpartition(":")
+    if not mark or os.path.exists(word):
+        return Release(word, [])
+    return Release(path, nodes.split(","))
+
+
+def is_cluster_file(path: str) -> bool:
+    """Whether a word names a cluster file in place of a release."""
+    return os.path.isfile(path) and not path.endswith(ARCHIVES)
+
+
+def gather_words(releases: Sequence[Release], more: Sequence[str]) -> list[str]:
+    """The words of gather. One release without nodes runs at all that its configuration names."""
+    if len(releases) == 1 and not releases[0].nodes:
+        return ["--release", releases[0].path, "--named", *more]
+    for release in releases:
+        if not release.nodes:
+            raise Refused(f"{release.path}: which nodes run it? Of several releases each names them, as {release.path}:NODE,NODE")
+    return [*more, *(word for release in releases for node in release.nodes for word in ("--node", node, "--release", release.path))]
+
+
+def gathered(words: Sequence[str], more: Sequence[str]) -> Gathered:
+    """The cluster file of some releases, or the one that the only word names."""
+    if len(words) == 1 and is_cluster_file(words[0]):
+        return Gathered(split_input(read_text(words[0])).cluster, words[0], [], "")
+    releases = [release_of(word) for word in words]
+    for release in releases:
+        if not os.path.exists(release.path):
+            raise Refused(f"{release.path}: {os.strerror(errno.ENOENT)}")
+    asked = gather_words(releases, more)
+    found_escript("gather")
+    try:
+        done = subprocess.run([path_of("gather"), *asked], stdin=subprocess.DEVNULL, capture_output=True, check=False)
+    except OSError as fault:
+        raise Refused(why_of(fault)) from None
+    told = lines_of(to_text(done.stderr))
+    if done.returncode != 0:
+        raise Refused(" ".join(line.removeprefix(SELF) for line in told if not line.startswith("Try ")) or "gather failed")
+    return Gathered(to_text(done.stdout), ", ".join(release.path for release in releases),
+                    [line.removeprefix(WARNING) for line in told], f"companions/rehearse-tools gather {shlex.join(asked)} > {CLUSTER_FILE}")

@@ -1,0 +1,132 @@
+"""From a release to one page that a team can read: what is safe, what is not, and what live nodes would do otherwise.
+
+  companions/rehearse-tools report target > report.html
+  companions/rehearse-tools report shop.tar.gz:a@host1,b@host2 edge.tar.gz:c@host3 > report.html
+  companions/rehearse-tools report cluster.txt > report.html
+
+RELEASE is an unpacked release, or NAME.tar.gz, as for gather; or a cluster file in place of all releases. Behind a colon stand the nodes
+that run it. One release alone runs at all nodes that its configuration names, if none are told.
+
+It does what these do one after the other: gather, the program's check (and its lint and explore, if it has them), plans for every
+loss of one node and of two behind the boot of all, the sweep of them with the times of each, live, survey and page. The page has for
+each distributed application whether it is safe; which least losses leave it nowhere, with the shortest sequence of commands that
+does; how long it is away; what live nodes do otherwise, and why; each plan step by step; and the commands that tell all of it again.
+
+An application is safe where it runs at the end of each plan, and live nodes come to the same at the boot of all and in each plan, as
+the model of `live` tells. By the rules alone: it runs, but live nodes do otherwise in some, or weren't asked (--no-live).
+
+Exit status: 0 done, 1 a wrong command line, 2 what was read is refused, or PAGE can't be written.
+"""
+from argparse import Namespace
+from collections.abc import Sequence
+from dataclasses import dataclass
+from typing import Any, Optional
+
+from rehearse_tools.command_line import CommandLine, count, thousand
+from rehearse_tools.courses import Courses, courses_of, paired
+from rehearse_tools.endings import Refused, write_bytes
+from rehearse_tools.inputs import Input, joined, write_file
+from rehearse_tools.live_plans import Sweep, Verdict, judged
+from rehearse_tools.live_sides import Answer
+from rehearse_tools.live_text import NONE_DIFFERS, status_of
+from rehearse_tools.page import values_of
+from rehearse_tools.plan_making import Crashes, boots_of, crash_count, crash_plans, longest_wait
+from rehearse_tools.program import Program
+from rehearse_tools.releases import Gathered, gathered
+from rehearse_tools.report_facts import app_facts, headline, live_facts
+from rehearse_tools.templates import rendered
+
+# Subcommands of the program that a report shows as they stand, where the program has them.
+MORE = ("lint", "explore")
+MOST_PLANS = 10_000
+
+
+@dataclass(frozen=True)
+class Told:
+    """What the program tells by one more subcommand, as its lines."""
+    word: str
+    lines: list[str]
+
+
+def command_line() -> CommandLine:
+    """The command line of this tool."""
+    line = CommandLine("report", __doc__)
+    line.add_argument("releases", metavar="RELEASE", nargs="+", help="a release, perhaps with :NODE,NODE.. behind it; or a cluster file")
+    line.add_argument("-o", "--output", metavar="PAGE", help="the file to write (default: standard output)")
+    line.add_argument("--title", help="the title of the page (default: the names of the releases)")
+    line.add_argument("--crashes", metavar="K", type=count, default=2, help="every loss of up to so many nodes (default: 2)")
+    line.add_argument("--env", metavar="NAME=VALUE", action="append", default=[], help="as for gather; may be repeated")
+    line.add_argument("--needed", action="store_true", help="as for gather: rehearses only what is distributed and what that needs")
+    line.add_argument("--orders", metavar="N", type=thousand, default=8, help="so many orders of messages are tried by live (default: 8)")
+    line.add_argument("--jobs", metavar="N", type=thousand, help="so many processes for live (default: one for each processor)")
+    line.add_argument("--no-live", action="store_true", help="doesn't ask what live nodes do, which takes longest")
+    line.add_program()
+    return line
+
+
+def parts_of(program: Program, release: Gathered, crashes: int) -> Input:
+    """The cluster file, with a base that boots all nodes, and the plans."""
+    cluster, source = release.cluster, release.source
+    nodes = program.names(cluster, source).nodes
+    wanted = crash_count(len(nodes), Crashes(crashes))
+    if wanted > MOST_PLANS:
+        raise Refused(f"{source}: {wanted} plans are more than the {MOST_PLANS} of a report: fewer --crashes")
+    boots = boots_of(nodes)
+    plans = list(crash_plans(nodes, Crashes(crashes), longest_wait(program, cluster, boots, nodes, source)))
+    return Input(cluster, True, boots, boots, plans)
+
+
+def tried(program: Program, parts: Input, source: str) -> Courses:
+    """The plans, with what came of each."""
+    outcomes = program.outcomes(parts.cluster, parts.base, parts.plans, source)
+    return courses_of(program, parts, paired(outcomes, parts.plans, source, "the plans"), source)
+
+
+def more_told(program: Program, cluster: str) -> list[Told]:
+    """What further subcommands tell of a cluster file."""
+    return [Told(word, program.asked_plainly([word], cluster)[0].lines) for word in MORE if program.has(word)]
+
+
+def repeated(release: Gathered, crashes: int) -> list[str]:
+    """The commands that tell all of it again."""
+    return [*([release.command] if release.command else []), f"./rehearse check < {release.file}",
+            f"companions/rehearse-tools plans {release.file} --crashes {crashes} > plans.txt",
+            "./rehearse sweep < plans.txt | companions/rehearse-tools survey --of plans.txt --least",
+            "companions/rehearse-tools live --plans plans.txt", "companions/rehearse-tools page --sweep plans.txt > plans.html"]
+
+
+def facts_of(parts: Input, courses: Courses, answers: list[Answer], verdicts: Optional[list[Verdict]], crashes: int) -> dict[str, Any]:
+    """What is told of the applications and of live nodes."""
+    named = None if verdicts is None else {verdict.name: verdict for verdict in verdicts}
+    is_as_booted = status_of(answers) == NONE_DIFFERS
+    apps = sorted((app_facts(app, courses, named, is_as_booted) for app in courses.base.apps), key=lambda app: not app.losses)
+    return {"apps": apps, "headline": headline(apps, parts.plans, crashes),
+            "live": None if verdicts is None else live_facts(answers, verdicts)}
+
+
+def report_of(given: Namespace, program: Program) -> bytes:
+    """The page for what a command line asks."""
+    more = [word for value in given.env for word in ("--env", value)] + (["--needed"] if given.needed else [])
+    release = gathered(given.releases, more)
+    parts = parts_of(program, release, given.crashes)
+    courses = tried(program, parts, release.source)
+    answers: list[Answer] = []
+    verdicts: Optional[list[Verdict]] = None
+    if not given.no_live:
+        answers, verdicts = judged(Sweep(program, parts.cluster, parts.base, given.orders), parts.plans, given.jobs)
+    text = joined(parts.cluster, [*parts.base, *(line for plan in parts.plans for line in plan.lines)])
+    return rendered("report.html.j2", title=given.title or f"What {release.source} survives", maker="rehearse-tools report",
+                    warnings=release.warnings, more=more_told(program, parts.cluster), commands=repeated(release, given.crashes),
+                    cluster=parts.cluster, base=parts.base, **facts_of(parts, courses, answers, verdicts, given.crashes),
+                    **values_of(program, text, release.source, "1"))
+
+
+def main(words: Sequence[str]) -> None:
+    """Writes a report."""
+    line = command_line()
+    given = line.parse_args(words)
+    page = report_of(given, line.program(given))
+    if given.output is None:
+        write_bytes(page)
+    else:
+        write_file(given.output, page)

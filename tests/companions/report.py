@@ -1,0 +1,177 @@
+"""Tests of rehearse-tools report. What a report owes is worked out by hand from docs/RULES.md, and from docs/LIVE_OTP.md what live nodes
+would do otherwise."""
+import html
+import os
+import re
+import subprocess
+
+from groups import Group
+from support import LONGEST_RUN, TOP, in_folder
+
+NEEDS = ("jinja2",)
+COMMAND = os.path.join(TOP, "companions", "rehearse-tools")
+ENTRY = "{node, %s, [{kernel, [{distributed, [%s]}, {sync_nodes_optional, [%s]}, {sync_nodes_timeout, 1000}]}, {rehearse, [{boot, [%s]}]}]}.\n"
+# web runs at a@x, else at b@x; one and two run at a@x, else at the same two standbys after the same time.
+PAIR, TRIPLE = ("a@x", "b@x"), ("a@x", "b@x", "c@x")
+WEB = ("{web, 5000, [a@x, b@x]}", ("web",))
+TOGETHER = ("{one, 2000, [a@x, {b@x, c@x}]}, {two, 2000, [a@x, {b@x, c@x}]}", ("one", "two"))
+
+
+def cluster(nodes, entries):
+    """A cluster file of some nodes that all boot the same applications."""
+    distributed, apps = entries
+    boot = ", ".join(f"{{{app}, permanent}}" for app in apps)
+    return "".join(ENTRY % (node, distributed, ", ".join(nodes), boot) for node in nodes) + "".join(f"{{application, {app}, []}}.\n" for app in apps)
+
+
+def report(program, *words, **options):
+    """A finished run of the tool."""
+    return subprocess.run([COMMAND, "report", "--rehearse", program, *words], capture_output=True, text=True, timeout=LONGEST_RUN, **options)
+
+
+def written(folder, text, name="cluster.txt"):
+    """The path of a file with a text."""
+    path = os.path.join(folder, name)
+    with open(path, "w", encoding="utf-8") as file:
+        file.write(text)
+    return path
+
+
+def text_of(markup):
+    """What is read of some HTML: its cells apart by a bar, its white space as one blank."""
+    plain = html.unescape(re.sub(r"<[^>]*>", "", re.sub(r"</t[dh]>", " | ", markup)))
+    return re.sub(r"\s+", " ", plain).strip()
+
+
+def part(page, name):
+    """The text of the element with this id."""
+    found = re.search(rf'<(\w+)[^>]* id="{re.escape(name)}"[^>]*>(.*?)</\1>|<(\w+) id="{re.escape(name)}"[^>]*>(.*?)</\3>', page, re.DOTALL)
+    return text_of(found[2] or found[4]) if found else f"there is no {name}"
+
+
+def row(page, app):
+    """The cells of an application's row."""
+    rows = [[text_of(cell) for cell in re.split(r"</t[dh]>", cells)[:-1]]
+            for cells in re.findall(r"(?s)<tr>(<th scope=\"row\">.*?)</tr>", page)]
+    return next((cells for cells in rows if cells[0] == app), None)
+
+
+def owed(name, have, want):
+    """A test of one value."""
+    return name, None if have == want else f"want {want!r}, have {have!r}"
+
+
+def losses(program, folder):
+    """An application of two nodes survives the loss of each, and not of both."""
+    path = written(folder, cluster(PAIR, WEB))
+    done = report(program, path)
+    yield "a cluster file of two nodes", None if done.returncode == 0 and not done.stderr else f"{done}"[:2000]
+    page = done.stdout
+    yield owed("in one sentence", part(page, "headline"),
+               "Of 1 distributed application, over every loss of up to 2 nodes (3 plans): 1 application is not safe.")
+    yield owed("its row", row(page, "web"), ["web", "a@x", "not safe", "a@x + b@x", "5000 ms (a@x)", "5000 ms (a@x+b@x)", "0"])
+    told = part(page, "loss-web-1")
+    is_right = told.startswith("Behind the loss of a@x and b@x it is wanted a@x.") and told.endswith("crash a@x crash b@x tick 5000")
+    yield "the shortest sequence", None if is_right else told
+    yield owed("the links to its steps", re.findall(r'href="#plan=([^"]*)"', page), ["a%40x%2Bb%40x"])
+    commands = part(page, "commands")
+    yield owed("the commands to repeat it", commands, (
+        f"./rehearse check < {path} companions/rehearse-tools plans {path} --crashes 2 > plans.txt "
+        "./rehearse sweep < plans.txt | companions/rehearse-tools survey --of plans.txt --least "
+        "companions/rehearse-tools live --plans plans.txt companions/rehearse-tools page --sweep plans.txt > plans.html"))
+    yield "the plans step by step", None if page.count("class=open data-plan=") == 3 else page[-2000:]
+
+
+def safe(program, folder):
+    """Over the loss of one node it is safe; where live nodes aren't asked only by the rules."""
+    path = written(folder, cluster(PAIR, WEB))
+    for words, verdict, doubts in (((), "safe", "0"), (("--no-live",), "safe by the rules alone", "")):
+        page = report(program, "--crashes", "1", *words, path).stdout
+        yield owed(f"{verdict}", row(page, "web"), ["web", "a@x", verdict, "none", "5000 ms (a@x)", "", doubts])
+        yield owed(f"{verdict}, in one sentence", part(page, "headline"),
+                   f"Of 1 distributed application, over every loss of one node (2 plans): 1 application is {verdict}.")
+    page = report(program, "--crashes", "1", "--title", "<Mine> & yours", path).stdout
+    yield "a title", None if "<title>&lt;Mine&gt; &amp; yours</title>" in page and "<Mine>" not in page else page[:500]
+    done = report(program, "--crashes", "1", path, "-o", os.path.join(folder, "page.html"))
+    there = os.path.join(folder, "page.html")
+    is_right = done.returncode == 0 and not done.stdout and os.path.getsize(there) > 10_000
+    yield "-o", None if is_right else f"{done}"
+
+
+def otherwise(program, folder):
+    """Applications that share a tuple of standbys and a timeout run elsewhere by the rules; live nodes hang."""
+    done = report(program, "--crashes", "1", written(folder, cluster(TRIPLE, TOGETHER)))
+    page = done.stdout
+    yield owed("in one sentence", part(page, "headline"),
+               "Of 2 distributed applications, over every loss of one node (3 plans): 2 applications are safe by the rules alone.")
+    yield owed("the row of one", row(page, "one"), ["one", "a@x", "safe by the rules alone", "none", "2000 ms (a@x)", "", "1"])
+    live = part(page, "live")
+    is_right = "applications lost together wait for one another at the standbys | 1 | a@x hangs at tick 2000" in live
+    yield "why", None if is_right and "docs/LIVE_OTP.md#lost-together" in live else live
+    yield owed("what hangs", part(page, "stuck"), "They hang, or burn, for good in: a@x.")
+
+
+def otherwise_booted(program, folder):
+    """Without sync_nodes_* live nodes don't know one another, and each runs an instance: that is so at the boot already."""
+    text = re.sub(r", {sync_nodes_optional, [^]]*]}, {sync_nodes_timeout, 1000}", "", cluster(PAIR, WEB))
+    page = report(program, "--crashes", "1", written(folder, text)).stdout
+    told = text_of(page.split('<section id="report"')[1].split("<table")[0])
+    yield owed("web", (row(page, "web") or [])[:4], ["web", "a@x", "safe by the rules alone", "none"])
+    yield "what differs", None if "They differ at the boot of all nodes already: boot b@x: without sync_nodes_* the nodes don't connect" in told else told
+
+
+def more(program, folder):
+    """What the program tells by further subcommands is shown, where it has them."""
+    path = written(folder, cluster(PAIR, WEB))
+    script = written(folder, f"""#!/bin/sh
+case $1 in
+  --help) echo "  lint  Warns"; exec "{program}" "$@" ;;
+  lint) echo "warning: a & b" ;;
+  *) exec "{program}" "$@" ;;
+esac
+""", "program")
+    os.chmod(script, 0o700)
+    page = report(script, "--crashes", "1", path).stdout
+    yield "lint", None if "<h2>What lint tells</h2>" in page and "<pre>warning: a &amp; b</pre>" in page else page[:200]
+    yield "no explore", None if "What explore tells" not in page else "it is there"
+    yield "no lint", None if "What lint tells" not in report(program, "--crashes", "1", path).stdout else "it is there"
+
+
+def faults(program, folder):
+    """What isn't there, or is refused."""
+    path = written(folder, cluster(PAIR, WEB))
+    wrong = written(folder, "{node, a@x, [}.", "wrong.txt")
+    for words, status, told in (
+            ([], 1, "the following arguments are required: RELEASE"), (["/nowhere"], 2, "report: /nowhere: No such file or directory"),
+            ([wrong], 2, f"report: {wrong}: cluster refused C1 T1 syntax line 1"),
+            ([path, "--crashes", "0"], 1, "--crashes: '0' is no number from 1 on"),
+            ([folder, f"{folder}:a@x"], 2, f"report: {folder}: which nodes run it?")):
+        done = report(program, *words)
+        is_right = done.returncode == status and not done.stdout and told in done.stderr and "Traceback" not in done.stderr
+        yield f"refused: {told}", None if is_right else f"{done}"
+
+
+def from_release(program, folder):
+    """The release of README.md, unpacked and packed: its nodes are those that its configuration names."""
+    subprocess.run([os.path.join(TOP, "examples", "shop", "make"), os.path.join(folder, "target")], check=True, capture_output=True,
+                   timeout=LONGEST_RUN)
+    done = report(program, "target", cwd=folder)
+    page = done.stdout
+    yield "a release", None if done.returncode == 0 and not done.stderr else f"{done}"[:2000]
+    # As README.md tells it of its fourth and sixth command.
+    away = "5000 ms (a@host1, a@host1+b@host2, a@host1+c@host3)"
+    yield owed("billing", row(page, "billing"), ["billing", "a@host1", "safe", "none", away, "", "0"])
+    yield owed("report", row(page, "report"), ["report", "c@host3", "not safe", "a@host1 + c@host3", "2000 ms (c@host3, b@host2+c@host3)",
+                                              "10000 ms (a@host1+c@host3)", "0"])
+    command = part(page, "commands").split(" ./rehearse check")[0]
+    yield owed("the command of the cluster file", command, "companions/rehearse-tools gather --release target --named > cluster.txt")
+    done = report(program, "--crashes", "1", "target:a@host1,b@host2,c@host3", cwd=folder)
+    is_right = done.returncode == 0 and "--node c@host3 --release target" in part(done.stdout, "commands")
+    yield "a release with its nodes", None if is_right else f"{done}"[:2000]
+    done = report(program, "target:a@host1", cwd=folder)
+    is_right = done.returncode == 2 and "names b@host2, which isn't given: add --node b@host2" in done.stderr and not done.stdout
+    yield "a node that isn't given", None if is_right else f"{done}"[:2000]
+
+
+TESTS = (*(Group(in_folder(tests)) for tests in (losses, safe, otherwise, otherwise_booted, more, faults)),
+         Group(in_folder(from_release), needs=("erl", "escript", "erlc")))
