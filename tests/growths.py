@@ -25,7 +25,7 @@ NO_GROWTH = {
         # The types round a list, and devices that are watched.
         "Str::of", "Str::as_str", "Str::same", "Term::same", "Terms::of", "Terms::as_slice", "Terms::same", "Group::of",
         "Group::as_slice", "Groups::of", "Groups::as_slice",
-        "Notices::of", "Notices::as_slice", "Notices::same", "Standings::as_slice", "Standings::same", "Standings::share",
+        "Notices::as_slice", "Notices::same", "Notices::share", "Standings::as_slice", "Standings::same", "Standings::share",
         "Watched::new", "Watched::failed", "Watched::into_inner",
         # The readers of a cluster.
         "Cluster::profile", "Cluster::node_count", "Cluster::app_count", "Cluster::platform_count", "Cluster::node_name",
@@ -48,7 +48,8 @@ NO_GROWTH = {
         "operational", "candidates", "choose", "best", "start_kind", "refusal_of"),
     "rh_growths": (
         "Sim::undo", "Sim::redo", "Sim::undo_all", "Sim::redo_all", "Sim::cut_redo", "Sim::cluster", "Sim::cursor", "Sim::trail",
-        "Sim::record", "Sim::state", "Sim::pick", "Bytes::as_slice", "Bytes::share",
+        "Sim::record", "Sim::state", "Sim::pick", "Bytes::as_slice", "Bytes::share", "Reply::share", "Replies::of",
+        "Replies::into_one", "Replies::into_three",
         "Room::log", "Room::sim", "Room::sessions", "Pass::session", "Pass::receipts", "close", "FreeGate::enter", "FreeGate::leave",
         # A session has room for all its receipts, and a room for all its entries, so these take none in a room either.
         "Room::serve of undo", "Room::serve of redo", "Room::serve of undo_all", "Room::serve of redo_all",
@@ -58,7 +59,7 @@ NO_GROWTH = {
 # work.
 GROWTH = {
     "rh_part_growths": (
-        "read_terms", "read_cluster", "Str::copy", "Term::copy", "Terms::copy", "Notices::copy", "Standings::of", "Cluster::copy",
+        "read_terms", "read_cluster", "Str::copy", "Term::copy", "Terms::copy", "Notices::of", "Standings::of", "Cluster::copy",
         "Lists::new", "Lists::copy", "Wheel::new", "Wheel::copy", "first_state", "State::copy", "State::timers"),
     "rh_growths": (
         "perform", "report", "Bytes::of", "Sim::open", "Sim::copy", "Sim::step where timers fire", "Sim::step of a boot",
@@ -247,7 +248,7 @@ SURFACE = {
     "rh_state": ("state", "state/reading", "state/setting", "state/timers", "state/exchanging", "state/comparing"),
     "rh_place": ("choosing", "operating", "starting"), "rh_events": ("refusing",), "rh_plans": ("plan",),
     "rh_step": ("step", "notices"),
-    "rh_trail": ("sim", "sim/moves", "text", "call"), "rh_room": ("room", "opening", "closing", "pass"),
+    "rh_trail": ("sim", "sim/moves", "text", "call", "replies"), "rh_room": ("room", "opening", "closing", "pass"),
     "rh_sweep": ("trial", "workers"),
 }
 # Calls that do nothing: their contracts are what they are for.
@@ -255,7 +256,7 @@ FACTS = {"Cluster::is_within", "Lists::formed", "Wheel::formed", "State::formed"
 # Parts of calls that have rows, which crates above make by themselves too.
 PARTS = {
     "text_of_bytes", "text_of_vec", "is_in", "Cluster::of", "first_state_sharing", "operational_among", "operational_nodes",
-    "missing_dep", "deps_run", "Outcome::sharing", "Bytes::same", "Reply::copy", "Reply::same", "Sim::step_copies", "Sim::answer",
+    "missing_dep", "deps_run", "Outcome::sharing", "Bytes::same", "Reply::same", "Sim::answer",
     "Sim::look"}
 
 

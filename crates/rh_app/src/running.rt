@@ -176,7 +176,7 @@ pub fn answer_call<K: Sink>(
     ensures cluster { OnOk result (sim.new.seen.cluster ≡ sim.old.seen.cluster) }
     ensures text { Broke K.takes K.fails result (answer_text sim.old.seen.cluster (served sim.old.seen call).reply) writer.old writer.new }
 {
-    let reply = sim.answer(alloc, call)?;
+    let reply = sim.answer(alloc, call)?.into_one();
     write_answer(alloc, sim.cluster(), &reply, writer)
 }
 

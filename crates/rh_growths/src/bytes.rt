@@ -1,10 +1,10 @@
-//! Reports, and bytes that are shared.
+//! Reports, and bytes and replies that are shared.
 
 use crate::clusters::{PAIR, sim_behind};
 use crate::first::TWO_TIMERS;
 use rh_marks::{Answer, begin, end};
 use rh_state::State;
-use rh_trail::{Bytes, report};
+use rh_trail::{Bytes, Replies, Reply, report};
 use std::alloc::Global;
 
 /// What comes of the call of this name, if it is here.
@@ -19,8 +19,78 @@ pub fn answer(alloc: Global, name: &str) -> Option<Answer> {
     } else if name == "Bytes::share" {
         Some(sharing(alloc, &Bytes::of(alloc, bytes(alloc)?).ok()?))
     } else {
+        answer_of_replies(alloc, name)
+    }
+}
+
+fn answer_of_replies(alloc: Global, name: &str) -> Option<Answer> {
+    if name == "Reply::share" {
+        Some(sharing_reply(alloc, &look(alloc)?))
+    } else if name == "Replies::of" {
+        Some(making_replies(alloc, look(alloc)?))
+    } else if name == "Replies::into_one" {
+        Some(taking_one(alloc, Replies::of(look(alloc)?).ok()?))
+    } else if name == "Replies::into_three" {
+        Some(taking_three(alloc, Replies::of(look(alloc)?).ok()?))
+    } else {
         None
     }
+}
+
+// The reply to a look.
+fn look(alloc: Global) -> Option<Reply> {
+    let text = Bytes::of(alloc, bytes(alloc)?).ok()?;
+    Some(Reply::Seen {
+        cursor: 0,
+        trail: 2,
+        text,
+    })
+}
+
+// Is this the reply to that look?
+fn is_look(reply: &Reply) -> bool {
+    match reply {
+        Reply::Seen {
+            cursor,
+            trail,
+            text,
+        } => *cursor == 0 && *trail == 2 && text.as_slice() == b"now 0".as_slice(),
+        _ => false,
+    }
+}
+
+fn sharing_reply(alloc: Global, reply: &Reply) -> Answer {
+    begin(alloc);
+    let shared = reply.share();
+    end(alloc);
+    match shared {
+        Ok(shared) => Answer::done(is_look(&shared)),
+        Err(_) => Answer::Changed("answer"),
+    }
+}
+
+fn making_replies(alloc: Global, reply: Reply) -> Answer {
+    begin(alloc);
+    let replies = Replies::of(reply);
+    end(alloc);
+    match replies {
+        Ok(replies) => Answer::done(is_look(&replies.into_one())),
+        Err(_) => Answer::Changed("answer"),
+    }
+}
+
+fn taking_one(alloc: Global, replies: Replies) -> Answer {
+    begin(alloc);
+    let reply = replies.into_one();
+    end(alloc);
+    Answer::done(is_look(&reply))
+}
+
+fn taking_three(alloc: Global, replies: Replies) -> Answer {
+    begin(alloc);
+    let (logged, kept, told) = replies.into_three();
+    end(alloc);
+    Answer::done(is_look(&logged) && is_look(&kept) && is_look(&told))
 }
 
 fn bytes(alloc: Global) -> Option<Vec<u8>> {

@@ -14,8 +14,6 @@ static UP: Notice = Notice::Up { node: Node(0) };
 pub fn answer(alloc: Global, name: &str) -> Option<Answer> {
     if name == "Notices::of" {
         Some(telling(alloc, notices(alloc)?))
-    } else if name == "Notices::copy" {
-        Some(copying(alloc, &Notices::of(notices(alloc)?)))
     } else if name == "Standings::of" {
         Some(standing(alloc, items(alloc)?))
     } else if name == "Watched::new" {
@@ -35,17 +33,10 @@ fn items(alloc: Global) -> Option<Vec<(App, Standing)>> {
 
 fn telling(alloc: Global, notices: Vec<Notice>) -> Answer {
     begin(alloc);
-    let made = Notices::of(notices);
+    let made = Notices::of(alloc, notices);
     end(alloc);
-    Answer::done(made.as_slice() == [UP].as_slice())
-}
-
-fn copying(alloc: Global, notices: &Notices) -> Answer {
-    begin(alloc);
-    let copy = notices.copy(alloc);
-    end(alloc);
-    match copy {
-        Ok(copy) => Answer::done(copy.same(notices)),
+    match made {
+        Ok(made) => Answer::done(made.as_slice() == [UP].as_slice()),
         Err(_) => Answer::Refused,
     }
 }
@@ -68,7 +59,7 @@ fn watching(alloc: Global) -> Answer {
 }
 
 fn reading(alloc: Global, name: &str) -> Option<Answer> {
-    let notices = Notices::of(notices(alloc)?);
+    let notices = Notices::of(alloc, notices(alloc)?).ok()?;
     let standings = Standings::of(alloc, items(alloc)?).ok()?;
     let watched = Watched::new(Bytes::new(b"text".as_slice()));
     begin(alloc);
@@ -87,6 +78,8 @@ fn is_read(notices: &Notices, standings: &Standings, name: &str) -> Option<bool>
         Some(notices.as_slice() == [UP].as_slice())
     } else if name == "Notices::same" {
         Some(notices.same(notices))
+    } else if name == "Notices::share" {
+        Some(notices.share().is_ok())
     } else if name == "Standings::as_slice" {
         Some(standings.as_slice().len() == 1)
     } else if name == "Standings::same" {

@@ -5,12 +5,12 @@ ghost use Rattle.std.specs.Option.{option_map};
 ghost use Rattle.rh_trail.specs.Chain.{chain, kept_to};
 ghost use Rattle.rh_trail.specs.Lone.{served, opened, TakesMemory};
 ghost use Rattle.rh_trail.specs.Laws.{IsReversible, is_refusal};
+ghost use Rattle.rh_trail.specs.Words.{LeavesWords, LeavesRecords};
 ghost use Rattle.rh_room.specs.Legal.{IsSession, IsRoom, entry, session_limit, log_limit};
 ghost use Rattle.rh_room.specs.Serving.{last_of, place_of, IsPassOf, receipt_of, WhyNot};
-ghost use Rattle.rh_room.specs.Words.{LeavesWords, LeavesRecords};
 
 use crate::pass::{Entry, Pass, Receipt, RoomFault};
-use crate::replies::{Replies, replies_to};
+use crate::replies::reply_to;
 use rh_base::OutOfMemory;
 use rh_trail::{Call, Sim};
 use std::alloc::Global;
@@ -168,7 +168,8 @@ impl Room {
     {
         let session = pass.session();
         let place = self.log.len();
-        let Replies { logged, kept, told } = replies_to(alloc, &mut self.sim, &self.log, call)?;
+        let replies = reply_to(alloc, &mut self.sim, &self.log, call)?;
+        let (logged, kept, told) = replies.into_three();
         let entry = Entry {
             session,
             call,

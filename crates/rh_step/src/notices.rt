@@ -6,11 +6,12 @@ use rh_base::{OutOfMemory, are_same};
 use rh_settle::Notice;
 use std::alloc::Global;
 use std::marker::Model;
+use std::sync::Arc;
 
-/// The notices of a step, in order.
+/// The notices of a step, in order, which lie in memory once for all who share them.
 #[derive(Drop)]
 pub struct Notices {
-    items: Vec<Notice>,
+    items: Arc<Vec<Notice>>,
 }
 
 impl Model for Notices {
@@ -19,15 +20,18 @@ impl Model for Notices {
 
     ghost Value = { List Notice };
 
-    ghost view = { λ n. n.items.items };
+    ghost view = { λ n. n.items.value.items };
 }
 
 impl Notices {
     /// These notices.
-    pub fn of(items: Vec<Notice>) -> Notices
-        ensures { result ≡ items.items }
+    pub fn of(alloc: Global, items: Vec<Notice>) -> Result<Notices, OutOfMemory>
+        ensures { IfOk result (λ notices. notices ≡ items.items) }
     {
-        Notices { items }
+        let mut items = items;
+        items.shrink_to_fit();
+        let items = Arc::new(alloc, items)?;
+        Ok(Notices { items })
     }
 
     /// The notices.
@@ -37,11 +41,11 @@ impl Notices {
         self.items.as_slice()
     }
 
-    /// An equal list.
-    pub fn copy(&self, alloc: Global) -> Result<Notices, OutOfMemory>
+    /// The same notices, which lie in memory once. The error says that there are too many who share them.
+    pub fn share(&self) -> Result<Notices, OutOfMemory>
         ensures { IfOk result (λ copy. copy ≡ self.now) }
     {
-        let items = Vec::from_slice(alloc, self.as_slice())?;
+        let items = Arc::try_clone(&self.items)?;
         Ok(Notices { items })
     }
 

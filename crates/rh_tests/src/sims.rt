@@ -1,10 +1,10 @@
-//! Simulations by themselves: what one was opened with, copies, and steps in several equal lists.
+//! Simulations by themselves: what one was opened with, copies, and replies that are shared.
 
 use crate::support::{make_all, sim_on};
 use rh_cluster::Node;
 use rh_samples::ONE_NODE;
-use rh_step::{Event, Notices, Pick, Refusal};
-use rh_trail::{Reply, Sim, report};
+use rh_step::{Event, Pick, Refusal};
+use rh_trail::{Call, Reply, Sim, report};
 use std::alloc::Global;
 use std::process::Abort;
 
@@ -30,34 +30,42 @@ fn a_simulation_tells_what_it_was_opened_with(rt: HostRuntime) {
     is_new_in_copy(&rt, rt.alloc(), &sim);
 }
 
-// Are these two equal lists of so many notices?
-fn are_equal(rt: &impl Abort, alloc: Global, lists: &[Notices], count: usize) -> bool {
-    match lists {
-        [first, second] => {
-            let copy = first.copy(alloc).ok().expect(rt, "memory");
-            first.same(second) && copy.same(first) && first.as_slice().len() == count
-        }
+// Does a reply have so many notices?
+fn tells(reply: &Reply, count: usize) -> bool {
+    match reply {
+        Reply::Done(notices) => notices.as_slice().len() == count,
         _ => false,
     }
 }
 
-fn steps_in_two_lists(rt: &impl Abort, alloc: Global, sim: &mut Sim) {
+fn boots(rt: &impl Abort, alloc: Global, sim: &mut Sim) {
     let [boot] = BOOT;
-    let lists = sim.step_copies(alloc, boot, 2).ok().expect(rt, "a step");
-    assert!(rt; are_equal(rt, alloc, lists.as_slice(), 4));
+    let replies = sim
+        .answer(alloc, Call::Step(boot))
+        .ok()
+        .expect(rt, "memory");
+    let (logged, kept, told) = replies.into_three();
+    let shared = told.share().ok().expect(rt, "few who share it");
+    assert!(rt; logged.same(&kept) && kept.same(&told) && told.same(&shared));
+    assert!(rt; tells(&logged, 4) && tells(&shared, 4) && sim.cursor() == 1);
 }
 
 fn is_refused(rt: &impl Abort, alloc: Global, sim: &mut Sim) {
     let [boot] = BOOT;
-    let refusal = sim.step_copies(alloc, boot, 3).err().expect(rt, "refused");
-    assert!(rt; refusal == Refusal::AlreadyAlive && !refusal.is_memory());
-    assert!(rt; Refusal::OutOfMemory.is_memory() && sim.cursor() == 1);
+    let replies = sim
+        .answer(alloc, Call::Step(boot))
+        .ok()
+        .expect(rt, "memory");
+    let reply = replies.into_one();
+    assert!(rt; reply.same(&Reply::Refused(Refusal::AlreadyAlive)) && !tells(&reply, 4));
+    assert!(rt; Refusal::OutOfMemory.is_memory() && !Refusal::AlreadyAlive.is_memory());
+    assert!(rt; sim.cursor() == 1);
 }
 
 #[test]
-fn a_step_answers_in_equal_lists(rt: HostRuntime) {
+fn a_step_answers_in_equal_replies(rt: HostRuntime) {
     let mut sim = sim_on(&rt, rt.alloc(), ONE_NODE);
-    steps_in_two_lists(&rt, rt.alloc(), &mut sim);
+    boots(&rt, rt.alloc(), &mut sim);
     is_refused(&rt, rt.alloc(), &mut sim);
 }
 
@@ -69,7 +77,7 @@ fn seen(rt: &impl Abort, alloc: Global, sim: &Sim) -> Reply {
 // Do looks at the two show the same?
 fn look_same(rt: &impl Abort, alloc: Global, one: &Sim, other: &Sim) -> bool {
     let shown = seen(rt, alloc, one);
-    let copy = shown.copy(alloc).ok().expect(rt, "memory");
+    let copy = shown.share().ok().expect(rt, "few who share it");
     copy.same(&seen(rt, alloc, other))
 }
 

@@ -5,3 +5,4 @@ pub mod Chain
 pub mod Report
 pub mod Lone
 pub mod Laws
+pub mod Words

@@ -66,6 +66,17 @@ TakesMemory s call.UndoAll = ⊥
 TakesMemory s call.RedoAll = ⊥
 TakesMemory s call.Look = Unit {0}
 
+-- the replies whose notices or report lie in memory once for all who keep them
+abbrev pub IsShared : Reply → Type 0
+IsShared (reply.Done _) = Unit {0}
+IsShared (reply.Seen _ _ _) = Unit {0}
+IsShared (reply.Refused _) = ⊥
+IsShared reply.Undone = ⊥
+IsShared reply.Redone = ⊥
+IsShared reply.AtStart = ⊥
+IsShared reply.AtEnd = ⊥
+IsShared (reply.Moved _) = ⊥
+
 -- the reply that an answer of undo or redo stands for
 abbrev pub undo_reply : Result ℕ AtStart → Reply
 undo_reply (Ok _) = reply.Undone

@@ -1,6 +1,7 @@
 //! A caller's calls, and the replies to them.
 
-ghost use Rattle.std.specs.Prelude.{◌≡◌, ◌↔◌, IsTrue, IfOk};
+ghost use Rattle.std.specs.Prelude.{◌≡◌, ◌↔◌, IsTrue, IfOk, OnErr};
+ghost use Rattle.rh_trail.specs.Lone.{IsShared};
 
 use rh_base::OutOfMemory;
 use rh_step::{Event, Notices, Refusal};
@@ -99,12 +100,13 @@ pub enum Reply {
 }
 
 impl Reply {
-    /// An equal reply, which shares the report.
-    pub fn copy(&self, alloc: Global) -> Result<Reply, OutOfMemory>
-        ensures { IfOk result (λ copy. copy ≡ self.now) }
+    /// The same reply, whose notices or report lie in memory once. The error says that there are too many who share them.
+    pub fn share(&self) -> Result<Reply, OutOfMemory>
+        ensures same { IfOk result (λ copy. copy ≡ self.now) }
+        ensures last { OnErr result (IsShared self.now) }
     {
         Ok(match self {
-            Reply::Done(notices) => Reply::Done(notices.copy(alloc)?),
+            Reply::Done(notices) => Reply::Done(notices.share()?),
             Reply::Refused(refusal) => Reply::Refused(*refusal),
             Reply::Undone => Reply::Undone,
             Reply::Redone => Reply::Redone,

@@ -8,10 +8,12 @@
 mod call;
 mod laws;
 mod records;
+mod replies;
 mod sim;
 mod text;
 
 pub use call::{Bytes, Call, Reply};
 pub use laws::calls_are_reversible;
+pub use replies::Replies;
 pub use sim::{AtEnd, AtStart, Sim};
 pub use text::{NO_NAME, app_word, node_word, push_kind, push_standing_line, report, restart_word};

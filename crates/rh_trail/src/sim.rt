@@ -4,6 +4,7 @@ ghost use Rattle.std.specs.Prelude.{◌≡◌, ◌≤◌, ◌<◌, [], length, s
 ghost use Rattle.rh_state.specs.Stored.{read};
 
 mod moves;
+mod told;
 
 use crate::records::Records;
 use rh_base::OutOfMemory;

@@ -1,6 +1,6 @@
 //! The calls that move a simulation: steps, undo and redo.
 
-ghost use Rattle.std.specs.Prelude.{◌≡◌, ◌≢◌, ◌<◌, ◌≤◌, ◌+◌, ◌-◌, ◌++◌, ◌∷◌, [], ℕ, List, length, take, drop, slice_set, replicate, true, Err, IfOk, IfErr, OnOk, OnErr, None};
+ghost use Rattle.std.specs.Prelude.{◌≡◌, ◌≢◌, ◌<◌, ◌≤◌, ◌+◌, ◌-◌, ◌++◌, ◌∷◌, [], ℕ, List, length, take, drop, slice_set, true, false, Err, IfOk, IfErr, OnOk, OnErr, None};
 ghost use Rattle.rh_base.specs.Exchanges.{back, backed, forth, forthed, AllBack};
 ghost use Rattle.rh_settle.specs.declared.notice.Notice.{Notice};
 ghost use Rattle.rh_state.specs.Edits.{exchange, turned};
@@ -14,16 +14,19 @@ ghost use Rattle.rh_trail.specs.Chain.{IsSmall, chain, kept_to};
 ghost use Rattle.rh_trail.specs.Laws.{is_refusal};
 ghost use Rattle.rh_trail.specs.SimView.{state_of, record_at};
 ghost use Rattle.rh_trail.specs.Lone.{served, answered, undo_reply, redo_reply, trail_limit, cut, TakesMemory};
+ghost use Rattle.rh_trail.specs.Words.{LeavesWords, LeavesRecords};
 ghost use Rattle.rh_trail.specs.declared.call.Call.TheVariants as call;
 ghost use Rattle.rh_trail.specs.declared.call.Reply.TheVariants as reply;
 
 use crate::call::{Bytes, Call, Reply};
 use crate::records::Records;
+use crate::replies::Replies;
+use crate::sim::told::Told;
 use crate::sim::{AtEnd, AtStart, Sim};
 use crate::text::report;
 use rh_base::OutOfMemory;
 use rh_state::{Edit, State, go_back};
-use rh_step::{Event, Notice, Notices, Pick, Refusal, perform, refusal_of};
+use rh_step::{Event, Notice, Pick, Refusal, perform, refusal_of};
 use std::alloc::Global;
 
 impl Sim {
@@ -50,33 +53,6 @@ impl Sim {
         }
     }
 
-    /// Makes an event as [`Sim::step`] does, and gives its notices in as many equal lists as `count` says, 1 to 3. All of
-    /// them are made before the trail changes.
-    pub fn step_copies(
-        &mut self,
-        alloc: Global,
-        event: Event,
-        count: usize,
-    ) -> Result<Vec<Notices>, Refusal>
-        requires { (1 ≤ count) × (count ≤ 3) }
-        ensures done { IfOk result (λ copies. (notices : List Notice) × (copies.items ≡ replicate count notices) × (served self.old.seen (call.Step event) ≡ answered (reply.Done notices) self.new.seen)) }
-        ensures refused { IfErr result (λ refusal. refusal ≢ Refusal.OutOfMemory → served self.old.seen (call.Step event) ≡ answered (reply.Refused refusal) self.new.seen) }
-        ensures kept { OnErr result (self.new ≡ self.old) }
-
-        // Want of memory is the last reason.
-        ensures last { result ≡ Err Refusal.OutOfMemory → (refused (state_of self.old.seen) event ≡ None) × (self.old.seen.cursor < trail_limit) }
-
-        // What stood before stands, and its records are as they were.
-        ensures chain { OnOk result ((k : ℕ) → k ≤ self.old.seen.cursor → chain self.new k ≡ chain self.old k) }
-        ensures records { OnOk result (take self.old.seen.cursor self.new.records ≡ take self.old.seen.cursor self.old.records) }
-    {
-        self.accept(&event)?;
-        match self.make_copies(alloc, event, count) {
-            Err(OutOfMemory) => Err(Refusal::OutOfMemory),
-            Ok(copies) => Ok(copies),
-        }
-    }
-
     // Whether an event is accepted, or why it is refused.
     fn accept(&self, event: &Event) -> Result<(), Refusal>
         ensures room { OnOk result (self.now.seen.cursor < trail_limit) }
@@ -94,23 +70,19 @@ impl Sim {
     }
 
     // Makes an event that is accepted, and keeps it.
-    fn make(&mut self, alloc: Global, event: Event) -> Result<Vec<Notice>, OutOfMemory>
+    fn make<T: Told>(&mut self, alloc: Global, event: Event) -> Result<T, OutOfMemory>
         requires room { self.old.seen.cursor < trail_limit }
         requires fine { refused (state_of self.old.seen) event ≡ None }
-        ensures done { IfOk result (λ notices. served self.old.seen (call.Step event) ≡ answered (reply.Done notices.items) self.new.seen) }
-        ensures chain { OnOk result ((k : ℕ) → k ≤ self.old.seen.cursor → chain self.new k ≡ chain self.old k) }
-        ensures records { OnOk result (take self.old.seen.cursor self.new.records ≡ take self.old.seen.cursor self.old.records) }
+        ensures done { IfOk result (λ told. (notices : List Notice) × T.tells told notices
+            × (served self.old.seen (call.Step event)
+            ≡ answered (reply.Done notices) self.new.seen)) }
+        ensures chain { OnOk result ((k : ℕ) → k ≤ self.old.seen.cursor
+            → chain self.new k ≡ chain self.old k) }
+        ensures records { OnOk result (take self.old.seen.cursor self.new.records
+            ≡ take self.old.seen.cursor self.old.records) }
         ensures err { OnErr result (self.new ≡ self.old) }
     {
-        let mut notices = Vec::new(alloc);
-        perform(
-            alloc,
-            &mut self.state,
-            &event,
-            self.pick,
-            &mut self.spare,
-            &mut notices,
-        )?;
+        let told = perform_told(alloc, &mut self.state, &event, self.pick, &mut self.spare)?;
         keep(
             event,
             self.cursor,
@@ -120,41 +92,7 @@ impl Sim {
             &mut self.records,
         )?;
         self.cursor += 1;
-        Ok(notices)
-    }
-
-    // The same, with the notices in so many equal lists.
-    fn make_copies(
-        &mut self,
-        alloc: Global,
-        event: Event,
-        count: usize,
-    ) -> Result<Vec<Notices>, OutOfMemory>
-        requires room { self.old.seen.cursor < trail_limit }
-        requires fine { refused (state_of self.old.seen) event ≡ None }
-        ensures done { IfOk result (λ copies. (notices : List Notice) × (copies.items ≡ replicate count notices) × (served self.old.seen (call.Step event) ≡ answered (reply.Done notices) self.new.seen)) }
-        ensures chain { OnOk result ((k : ℕ) → k ≤ self.old.seen.cursor → chain self.new k ≡ chain self.old k) }
-        ensures records { OnOk result (take self.old.seen.cursor self.new.records ≡ take self.old.seen.cursor self.old.records) }
-        ensures err { OnErr result (self.new ≡ self.old) }
-    {
-        let copies = perform_copies(
-            alloc,
-            &mut self.state,
-            &event,
-            self.pick,
-            count,
-            &mut self.spare,
-        )?;
-        keep(
-            event,
-            self.cursor,
-            &mut self.state,
-            &mut self.spare,
-            &mut self.trail,
-            &mut self.records,
-        )?;
-        self.cursor += 1;
-        Ok(copies)
+        Ok(told)
     }
 
     /// Takes the last step back, and says how many edits it has.
@@ -238,9 +176,13 @@ impl Sim {
     }
 
     /// Serves a call of any kind, and gives the reply. Want of memory changes nothing.
-    pub fn answer(&mut self, alloc: Global, call: Call) -> Result<Reply, OutOfMemory>
+    pub fn answer(&mut self, alloc: Global, call: Call) -> Result<Replies, OutOfMemory>
         ensures ok { IfOk result (λ reply. served self.old.seen call ≡ answered reply self.new.seen) }
         ensures chain { (k : ℕ) → k ≤ kept_to self.old.seen call → chain self.new k ≡ chain self.old k }
+        ensures words { IfOk result (λ reply. is_refusal reply ≡ false
+            → LeavesWords self.old call self.new) }
+        ensures records { IfOk result (λ reply. is_refusal reply ≡ false
+            → LeavesRecords self.old call self.new) }
         ensures refused { IfOk result (λ reply. is_refusal reply ≡ true → self.new ≡ self.old) }
         ensures err { OnErr result (self.new ≡ self.old) }
 
@@ -249,22 +191,21 @@ impl Sim {
     {
         self.is_chained();
         match call {
-            Call::Step(event) => match self.step(alloc, event) {
-                Ok(notices) => Ok(Reply::Done(Notices::of(notices))),
-                Err(Refusal::OutOfMemory) => Err(OutOfMemory),
-                Err(refusal) => Ok(Reply::Refused(refusal)),
+            Call::Step(event) => match self.accept(&event) {
+                Ok(()) => self.make(alloc, event),
+                Err(refusal) => Replies::of(Reply::Refused(refusal)),
             },
             Call::Undo => match self.undo() {
-                Ok(_) => Ok(Reply::Undone),
-                Err(_) => Ok(Reply::AtStart),
+                Ok(_) => Replies::of(Reply::Undone),
+                Err(_) => Replies::of(Reply::AtStart),
             },
             Call::Redo => match self.redo() {
-                Ok(_) => Ok(Reply::Redone),
-                Err(_) => Ok(Reply::AtEnd),
+                Ok(_) => Replies::of(Reply::Redone),
+                Err(_) => Replies::of(Reply::AtEnd),
             },
-            Call::UndoAll => Ok(Reply::Moved(self.undo_all())),
-            Call::RedoAll => Ok(Reply::Moved(self.redo_all())),
-            Call::Look => self.look(alloc),
+            Call::UndoAll => Replies::of(Reply::Moved(self.undo_all())),
+            Call::RedoAll => Replies::of(Reply::Moved(self.redo_all())),
+            Call::Look => Replies::of(self.look(alloc)?),
         }
     }
 
@@ -282,42 +223,31 @@ impl Sim {
     }
 }
 
-// These notices in so many equal lists.
-fn copies_of(alloc: Global, notices: Vec<Notice>, count: usize) -> Result<Vec<Notices>, OutOfMemory>
-    ensures { IfOk result (λ copies. copies.items ≡ replicate count notices.items) }
-{
-    let notices = Notices::of(notices);
-    let mut copies = Vec::new(alloc);
-    for _ in 0..count {
-        copies.push(notices.copy(alloc)?)?;
-    }
-    Ok(copies)
-}
-
-// Makes an event, and gives its notices in so many equal lists. Where memory is refused, nothing changes.
-fn perform_copies(
+// Makes an event, and tells its notices. Where memory is refused, nothing changes.
+fn perform_told<T: Told>(
     alloc: Global,
     state: &mut State,
     event: &Event,
     pick: Pick,
-    count: usize,
     edits: &mut Vec<Edit>,
-) -> Result<Vec<Notices>, OutOfMemory>
+) -> Result<T, OutOfMemory>
     requires accepted { refused (read state.old) event.now ≡ None }
     requires valid { IsValid (read state.old) }
     requires none { edits.old.items ≡ [] }
     ensures state { OnOk result (read state.new ≡ (next (read state.old) event.now pick).state) }
-    ensures copies { IfOk result (λ copies. copies.items ≡ replicate count (next (read state.old) event.now pick).notices) }
+    ensures told { IfOk result (λ told.
+        T.tells told (next (read state.old) event.now pick).notices) }
     ensures valid { OnOk result (IsValid (read state.new)) }
     ensures led { OnOk result (LedBy state.old edits.new.items state.new) }
-    ensures few { OnOk result (length edits.new.items ≤ most_edits (read state.old) event.now (next (read state.old) event.now pick)) }
+    ensures few { OnOk result (length edits.new.items
+        ≤ most_edits (read state.old) event.now (next (read state.old) event.now pick)) }
     ensures kept { OnErr result (state.new ≡ state.old) }
     ensures empty { OnErr result (edits.new.items ≡ []) }
 {
     let mut notices = Vec::new(alloc);
     perform(alloc, state, event, pick, edits, &mut notices)?;
-    match copies_of(alloc, notices, count) {
-        Ok(copies) => Ok(copies),
+    match T::telling(alloc, notices) {
+        Ok(told) => Ok(told),
         Err(OutOfMemory) => {
             take_back(state, edits);
             Err(OutOfMemory)

@@ -1,4 +1,6 @@
-use Rattle.std.proofs.Common.{◌<◌, ◌∙◌, length, sym, subst, arith}
+use Rattle.std.proofs.Common.{◌≡◌, ◌<◌, ◌∙◌, length, sym, subst, arith}
+use Rattle.rh_trail.specs.declared.call.Reply.{Reply}
+use Rattle.rh_trail.specs.Lone.{answered, served}
 use Rattle.rh_room.specs.declared.pass.Receipt.{Receipt}
 use Rattle.rh_room.specs.Legal.{IsRoom, IsSession, RoomView, PassView, InOrder, receipt, log_limit}
 use Rattle.rh_room.specs.Serving.{IsPassOf}
@@ -6,8 +8,8 @@ use Rattle.rh_room.proofs.Rooms.{room_goes_on, look_is_still}
 use Rattle.rh_room.proofs.Orders.{order_goes_on, few_receipts}
 use Rattle.rh_room.proofs.room.Room.serve_known.Goals as goal
 
-pub replies_to-requires : goal.replies_to-requires
-replies_to-requires c =
+pub reply_to-requires : goal.reply_to-requires
+reply_to-requires c =
     rw c.deref.ensures.value (look_is_still c.self.inside.sim.seen c.self.inside.sessions c.self.inside.log.items c.self.invariant.legal)
 
 pub push_reserved-requires : goal.push_reserved-requires
@@ -20,10 +22,10 @@ pub invariant_of-self-2 : goal.invariant_of-self-2
 invariant_of-self-2 c =
     let s = c.self.inside in
     record {
-      legal = subst (IsRoom c.replies_to.new.sim.seen s.sessions) (sym c.push_reserved.ensures.items)
-          (room_goes_on s.sim.seen c.replies_to.new.sim.seen s.sessions s.log.items c.session-session.result c.args.call c.in_ok-logged.field-0.logged
+      legal = subst (IsRoom c.reply_to.new.sim.seen s.sessions) (sym c.push_reserved.ensures.items)
+          (room_goes_on s.sim.seen c.reply_to.new.sim.seen s.sessions s.log.items c.session-session.result c.args.call c.into_three-logged.result.0
           c.self.invariant.legal
-          c.in_ok-logged.ensures.logged
+          (subst (λ (r : Reply). served s.sim.seen c.args.call ≡ answered r c.reply_to.new.sim.seen) (sym c.into_three-logged.ensures.logged) c.in_ok-replies.ensures.reply)
           (subst (λ n. IsSession s.sessions n) (sym c.session-session.ensures)
           (subst (λ (v : RoomView). IsSession v.sessions c.args.pass.now.session) (sym c.self.view_is) c.requires.known.0))
           (subst (λ (v : RoomView). length v.log < log_limit) (sym c.self.view_is) c.requires.room));
@@ -46,7 +48,7 @@ invariant_of-pass c =
     let p = c.pass.inside in
     let room : RoomView = record { sim = c.self.inside.sim; sessions = c.self.inside.sessions; log = c.self.inside.log.items } in
     let pass : PassView = record { session = p.session; receipts = p.receipts.items } in
-    let r : Receipt = receipt c.len-place.result c.args.call c.in_ok-logged.field-0.kept in
+    let r : Receipt = receipt c.len-place.result c.args.call c.into_three-logged.result.1 in
     let known : IsPassOf room pass = subst (λ (v : PassView). IsPassOf room v) (sym c.pass.view_is)
     (subst (λ (v : RoomView). IsPassOf v c.args.pass.now) (sym c.self.view_is) c.requires.known) in
     record {

@@ -1,8 +1,7 @@
-use Rattle.std.proofs.Common.{length, arith, ◌≡◌, ◌<◌, ◌≤◌, ◌++◌, List, None, sym, ap, subst, ◌∙◌}
+use Rattle.std.proofs.Common.{length, ◌≡◌, ◌<◌, ◌≤◌, List, None, refl, sym, ap, subst, ◌∙◌}
 use Rattle.rh_events.specs.Refusals.{refused}
 use Rattle.rh_settle.specs.declared.notice.Notice.{Notice}
 use Rattle.rh_settle.specs.Validity.{IsValid}
-use Rattle.rh_state.specs.declared.edit.Edit.{Edit}
 use Rattle.rh_state.specs.Records.{LedBy}
 use Rattle.rh_state.specs.StateView.{StateView}
 use Rattle.rh_state.specs.Stored.{Stored, read}
@@ -13,67 +12,70 @@ use Rattle.rh_trail.specs.Chain.{chain}
 use Rattle.rh_trail.specs.Lone.{served, trail_limit}
 use Rattle.rh_trail.specs.SimView.{Held, state_of}
 use Rattle.rh_trail.proofs.Chains.{chain_reads}
-use Rattle.rh_trail.proofs.Moves.{led_by, made_keeps, made_chains, made_serves}
+use Rattle.rh_trail.proofs.Moves.{made_keeps, made_chains, made_serves}
+use Rattle.rh_trail.proofs.sim.Sim.make.Given.{Over}
 use Rattle.rh_trail.proofs.sim.Sim.make.Goals as goal
 
-pub perform-requires-clause-accepted : goal.perform-requires-clause-accepted
-perform-requires-clause-accepted c =
+pub perform_told-requires-clause-accepted : goal.perform_told-requires-clause-accepted
+perform_told-requires-clause-accepted g c =
     let s = c.self.inside in
     ap (λ (x : StateView). refused x c.args.event)
     (chain_reads s.state.cluster s.pick s.trail.items s.state s.records s.cursor c.self.invariant.chain ∙ (λ i. state_of (c.self.view_is i).seen))
     ∙ c.requires.fine
 
-pub perform-requires-clause-valid : goal.perform-requires-clause-valid
-perform-requires-clause-valid c =
+pub perform_told-requires-clause-valid : goal.perform_told-requires-clause-valid
+perform_told-requires-clause-valid g c =
     let s = c.self.inside in
     subst IsValid (sym (chain_reads s.state.cluster s.pick s.trail.items s.state s.records s.cursor c.self.invariant.chain))
     (c.self.invariant.chain.valid s.cursor c.self.invariant.chain.within)
 
 -- the words and the edits of the step
-led : (c : goal.After-self-1) → LedBy c.self.inside.state c.perform.new.edits.items c.keep.new.state
-led c = subst (λ (w : Stored). LedBy c.self.inside.state c.perform.new.edits.items w) (sym c.in_ok-keep.ensures.state)
-    (led_by c.self.inside.state c.perform.new.state c.self.inside.spare.items c.perform.new.edits.items c.self.invariant.spare c.in_ok-perform.ensures.edits)
+led : (g : Over) (c : goal.After-self-1 g) → LedBy c.self.inside.state c.perform_told.new.edits.items c.keep.new.state
+led g c = subst (λ (w : Stored). LedBy c.self.inside.state c.perform_told.new.edits.items w) (sym c.in_ok-keep.ensures.state)
+    (c.in_ok-told.ensures.led)
 
-room : (c : goal.After-self-1) → c.self.inside.cursor < trail_limit
-room c = subst (λ (v : Held). v.seen.cursor < trail_limit) (sym c.self.view_is) c.requires.room
+room : (g : Over) (c : goal.After-self-1 g) → c.self.inside.cursor < trail_limit
+room g c = subst (λ (v : Held). v.seen.cursor < trail_limit) (sym c.self.view_is) c.requires.room
 
-reads : (c : goal.After-self-1) → read c.keep.new.state ≡ (next (read c.self.inside.state) c.args.event c.self.inside.pick).state
-reads c = ap read c.in_ok-keep.ensures.state ∙ c.in_ok-perform.ensures.state
+reads : (g : Over) (c : goal.After-self-1 g) → read c.keep.new.state ≡ (next (read c.self.inside.state) c.args.event c.self.inside.pick).state
+reads g c = ap read c.in_ok-keep.ensures.state ∙ c.in_ok-told.ensures.state
 
-valid : (c : goal.After-self-1) → IsValid (read c.keep.new.state)
-valid c = subst (λ (w : Stored). IsValid (read w)) (sym c.in_ok-keep.ensures.state) c.in_ok-perform.ensures.valid
+valid : (g : Over) (c : goal.After-self-1 g) → IsValid (read c.keep.new.state)
+valid g c = subst (λ (w : Stored). IsValid (read w)) (sym c.in_ok-keep.ensures.state) c.in_ok-told.ensures.valid
 
-few : (c : goal.After-self-1)
-    → length c.perform.new.edits.items ≤ most_edits (read c.self.inside.state) c.args.event (next (read c.self.inside.state) c.args.event c.self.inside.pick)
-few c =
-    let none = ap (λ (es : List Edit). length es) c.self.invariant.spare in omega (arith, none, c.in_ok-perform.ensures.few)
+few : (g : Over) (c : goal.After-self-1 g)
+    → length c.perform_told.new.edits.items ≤ most_edits (read c.self.inside.state) c.args.event (next (read c.self.inside.state) c.args.event c.self.inside.pick)
+few g c = c.in_ok-told.ensures.few
 
 pub invariant_of-self-2 : goal.invariant_of-self-2
-invariant_of-self-2 c =
+invariant_of-self-2 g c =
     let s = c.self.inside in
     record {
       chain = made_keeps s.pick s.trail.items c.keep.new.trail.items s.state c.keep.new.state s.records c.keep.new.records s.cursor c.args.event
-          c.perform.new.edits.items c.self.invariant.chain (room c) (led c) (reads c) (valid c) (few c) c.in_ok-keep.ensures.trail c.in_ok-keep.ensures.records;
+          c.perform_told.new.edits.items c.self.invariant.chain (room g c) (led g c) (reads g c) (valid g c) (few g c) c.in_ok-keep.ensures.trail c.in_ok-keep.ensures.records;
       spare = c.keep.ensures.edits;
     }
 
 pub returns-clause-done : goal.returns-clause-done
-returns-clause-done c =
+returns-clause-done g c =
     let s = c.self.inside in
     let fine : refused (read s.state) c.args.event ≡ None =
     ap (λ (x : StateView). refused x c.args.event)
     (chain_reads s.state.cluster s.pick s.trail.items s.state s.records s.cursor c.self.invariant.chain ∙ (λ i. state_of (c.self.view_is i).seen))
     ∙ c.requires.fine in
-    (λ i. served (sym c.self.view_is i).seen (call.Step c.args.event))
-    ∙ made_serves s.pick s.trail.items c.keep.new.trail.items s.state c.keep.new.state s.records c.keep.new.records s.cursor c.args.event
-    c.perform.new.edits.items c.self.invariant.chain (room c) (led c) (reads c) (valid c) (few c) c.in_ok-keep.ensures.trail c.in_ok-keep.ensures.records
-    c.perform.new.notices.items fine
-    (c.in_ok-perform.ensures.notices ∙ ap (λ (ns : List Notice). ns ++ (next (read s.state) c.args.event s.pick).notices) c.new-notices.ensures.items)
+    let told : List Notice = (next (read s.state) c.args.event s.pick).notices in (
+      told,
+      c.in_ok-told.ensures.told,
+      (λ i. served (sym c.self.view_is i).seen (call.Step c.args.event))
+          ∙ made_serves s.pick s.trail.items c.keep.new.trail.items s.state c.keep.new.state s.records c.keep.new.records s.cursor c.args.event
+          c.perform_told.new.edits.items c.self.invariant.chain (room g c) (led g c) (reads g c) (valid g c) (few g c) c.in_ok-keep.ensures.trail c.in_ok-keep.ensures.records
+          told fine refl,
+    )
 
 pub returns-clause-chain : goal.returns-clause-chain
-returns-clause-chain c = λ k bound.
+returns-clause-chain g c = λ k bound.
     let s = c.self.inside in
     made_chains s.pick s.trail.items c.keep.new.trail.items s.state c.keep.new.state s.records c.keep.new.records s.cursor c.args.event
-    c.perform.new.edits.items c.self.invariant.chain (room c) (led c) (reads c) (valid c) (few c) c.in_ok-keep.ensures.trail c.in_ok-keep.ensures.records
+    c.perform_told.new.edits.items c.self.invariant.chain (room g c) (led g c) (reads g c) (valid g c) (few g c) c.in_ok-keep.ensures.trail c.in_ok-keep.ensures.records
     k (subst (λ (v : Held). k ≤ v.seen.cursor) (sym c.self.view_is) bound)
     ∙ (λ i. chain (c.self.view_is i) k)
