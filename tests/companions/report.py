@@ -5,8 +5,9 @@ import os
 import re
 import subprocess
 
+from browser import Browser
 from groups import Group
-from support import LONGEST_RUN, TOP, in_folder
+from support import LONGEST_RUN, TOP, in_folder, read
 
 NEEDS = ("jinja2",)
 COMMAND = os.path.join(TOP, "companions", "rehearse-tools")
@@ -115,7 +116,7 @@ def otherwise_booted(program, folder):
     """Without sync_nodes_* live nodes don't know one another, and each runs an instance: that is so at the boot already."""
     text = re.sub(r", {sync_nodes_optional, [^]]*]}, {sync_nodes_timeout, 1000}", "", cluster(PAIR, WEB))
     page = report(program, "--crashes", "1", written(folder, text)).stdout
-    told = text_of(page.split('<section id="report"')[1].split("<table")[0])
+    told = text_of(page.split('<section id="summary"')[1].split("<table")[0])
     yield owed("web", (row(page, "web") or [])[:4], ["web", "a@x", "safe by the rules alone", "none"])
     yield "what differs", None if "They differ at the boot of all nodes already: boot b@x: without sync_nodes_* the nodes don't connect" in told else told
 
@@ -173,5 +174,27 @@ def from_release(program, folder):
     yield "a node that isn't given", None if is_right else f"{done}"[:2000]
 
 
+def in_browser(program, folder):
+    """The summary stands above the plans and their steps, and a link of it opens the steps of a plan."""
+    there = os.path.join(folder, "page.html")
+    report(program, written(folder, cluster(PAIR, WEB)), "-o", there)
+    page = read(there).decode()
+    ids = re.findall(r'\bid="([^"]*)"', page.split("<script", 1)[0])
+    yield owed("each id stands once", len(ids), len(set(ids)))
+    browser = Browser(folder)
+    try:
+        browser.open(there, "#plan=a%40x%2Bb%40x")
+        yield owed("the plan that is shown", browser.text("of"), "Plan a@x+b@x")
+        yield owed("its end", browser.text("report").strip().split("\n")[-1], "app web wanted a@x")
+        yield owed("the summary", browser.text("headline"), part(page, "headline"))
+        browser.open(there, "")
+        yield owed("the base first", browser.text("of"), "The base")
+        browser.value("document.querySelector('#loss-web-1 a').click()")
+        yield owed("a link to a plan", browser.text_that_becomes("of", "Plan a@x+b@x"), "Plan a@x+b@x")
+        yield "nothing went wrong in the page", browser.troubles()
+    finally:
+        browser.close()
+
+
 TESTS = (*(Group(in_folder(tests)) for tests in (losses, safe, otherwise, otherwise_booted, more, faults)),
-         Group(in_folder(from_release), needs=("erl", "escript", "erlc")))
+         Group(in_folder(in_browser), needs=("chromium",)), Group(in_folder(from_release), needs=("erl", "escript", "erlc")))
