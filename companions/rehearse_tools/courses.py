@@ -10,6 +10,7 @@ from typing import Callable
 from rehearse_tools.endings import Refused
 from rehearse_tools.inputs import Input, Plan, to_bytes, words_of
 from rehearse_tools.program import Program
+from rehearse_tools.progress import Bar
 from rehearse_tools.reading import Answer, Outcome, Report, Standing
 
 # So many plans go into one run of the program, and events of so many bytes: more than twice that is what it is given.
@@ -122,7 +123,10 @@ def cut_ticks(program: Program, parts: Input, tried: Sequence[Tried], of: str) -
 
 def courses_of(program: Program, parts: Input, tried: Sequence[Tried], of: str) -> Courses:
     """The report behind the base, and the courses of all plans."""
-    runs = [run_courses(program, parts, some, of) for some in runs_of(tried)]
+    runs, bar = [], Bar(len(tried), "plans timed")
+    for some in runs_of(tried):
+        runs.append(run_courses(program, parts, some, of))
+        bar.go_on(len(some))
     return Courses(runs[0].base, [course for run in runs for course in run.plans])
 
 

@@ -1,9 +1,95 @@
-"""Writes a cluster file from an operator's own files. Erlang reads them: the script erlang/gather with the modules beside it."""
-from collections.abc import Sequence
+"""Writes a cluster file for rehearse from your own files. Erlang reads them, so that any term may stand there.
 
+  companions/gather --release /srv/shop --node a@host1 --node b@host2 --node c@host3 > cluster.txt
+  companions/gather --release shop-1.2.tar.gz --env FAILOVER_MS=5000 --node a@host1 --node b@host2 > cluster.txt
+  companions/gather --lib _build/default/lib --node a@host1 --config a/sys.config --rel a/shop.rel \\
+                    --node b@host2 --config b/sys.config --rel b/shop.rel > cluster.txt
+
+Options in front of the first --node hold for all nodes, those behind a --node for that one. What is rehearsed (--profile, --needed,
+--platform, --rehearse) holds for all nodes, wherever it stands.
+
+Only what a rehearsal reads is written; comments say what was left out or replaced. A name that may be misspelt, a kernel parameter
+distribted say, is warned of on standard error. Then: rehearse check < cluster.txt
+
+Exit status: 0 done; 1 a wrong command line; 2 something that was read is refused, or standard output can't be written: standard error
+names it.
+"""
+import argparse
+import difflib
+import re
+from collections.abc import Sequence
+from typing import Any, NoReturn, Optional, Union
+
+from rehearse_tools.command_line import CommandLine
 from rehearse_tools.erlang import become
+
+LACKS_VALUE = re.compile("argument ([^:]*): expected one argument")
+# Each option with what stands for its value (None: it has none) and what it is for, under these heads.
+OPTIONS: dict[str, dict[str, tuple[Optional[str], str]]] = {
+    "what is started": {
+        "--release": ("DIR", "a release, unpacked or as NAME.tar.gz: its boot script (else its .rel and lib/*/ebin/*.app), sys.config and "
+                      "vm.args, or those that end in .src"),
+        "--version": ("VSN", "which version of the release (else that of releases/start_erl.data, or the only one)"),
+        "--boot": ("FILE", "a boot script, NAME.boot or NAME.script, which also holds the keys of the .app files"),
+        "--rel": ("FILE", "a release resource file, in place of a boot script: it is sorted as systools does"),
+        "--lib": ("DIR", "for --rel: where .app files are, as DIR/*.app, DIR/ebin/*.app, DIR/*/ebin/*.app; again for more"),
+        "--bare": (None, "there is no release: nothing is started")},
+    "with which configuration": {
+        "--config": ("FILE", "as the -config of erl; again for more; in place of the release's own sys.config"),
+        "--args": ("FILE", "a vm.args, of which -config and -kernel are read; in place of the release's own"),
+        "--env": ("NAME=VALUE", "for ${NAME} and ${NAME:-DEFAULT} in files that end in .src; else the environment has it. ${NODE_NAME} "
+                  "is what --node says")},
+    "at which nodes": {
+        "--node": ("NAME", "a node; again for each"),
+        "--named": (None, "in place of --node: all nodes that the configuration names")},
+    "what is rehearsed": {
+        "--profile": ("N", "the profile 1 or 2, which is written as the first term (2: twice as many nodes and applications, and a "
+                      "permission that is given back pulls back, as in a live OTP)"),
+        "--needed": (None, "only what is distributed and what that needs; all else is a platform name"),
+        "--platform": ("APP", "this is a platform name: it runs, and isn't rehearsed. OTP's and Elixir's are, without a word"),
+        "--rehearse": ("APP", "rehearse this one of OTP's")}}
+
+
+class Line(CommandLine):
+    """A command line, whose faults are told as those that Erlang finds."""
+
+    def error(self, message: str) -> NoReturn:
+        told = LACKS_VALUE.sub(r"\1 needs a value", message)
+        self.exit(self.wrong, f"{self.name}: {told}\nTry {self.name} --help\n")
+
+
+class InOrder(argparse.Action):
+    """Keeps an option with its value in the order of the command line, as the words for Erlang."""
+
+    def __call__(self, parser: argparse.ArgumentParser, given: argparse.Namespace, values: Union[str, Sequence[Any], None],
+                 option: Optional[str] = None) -> None:
+        given.words += [option, *([values] if isinstance(values, str) else [])]
+
+
+def command_line() -> Line:
+    """The command line of this tool."""
+    line = Line("gather", __doc__, allow_abbrev=False)
+    line.set_defaults(words=[])
+    for head, options in OPTIONS.items():
+        group = line.add_argument_group(head)
+        for option, (value, does) in options.items():
+            kept: dict[str, Any] = {"nargs": 0} if value is None else {"metavar": value}
+            group.add_argument(option, action=InOrder, help=does, **kept)
+    return line
+
+
+def meant(word: str) -> str:
+    """A question for the option that is nearly called so."""
+    every = [option for options in OPTIONS.values() for option in options]
+    near = difflib.get_close_matches(word, every, 1)
+    return f": is {near[0]} meant?" if near else ""
 
 
 def main(words: Sequence[str]) -> None:
-    """Becomes the script."""
-    become("gather", words)
+    """Becomes the script in Erlang, on words that are options and values."""
+    line = command_line()
+    given, others = line.parse_known_args(words)
+    for word in others:
+        option = word.partition("=")[0]
+        line.error(f"there is no option {option}{meant(option)}")
+    become("gather", given.words)

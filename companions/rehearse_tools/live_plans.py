@@ -130,7 +130,7 @@ def all_verdicts(sweep: Sweep, plans: Sequence[Plan], jobs: Optional[int]) -> It
     pieces = [plans[place:place + AT_ONCE] for place in range(0, len(plans), AT_ONCE)]
     most = jobs or os.cpu_count() or 1
     with ProcessPoolExecutor(max(1, min(most, len(pieces))), initializer=begin, initargs=(sweep,)) as pool:
-        bar = Bar(len(plans), "plans")
+        bar = Bar(len(plans), "plans judged")
         try:
             # A process that has just begun isn't interrupted before it ignores that.
             signal.pthread_sigmask(signal.SIG_BLOCK, {signal.SIGINT})

@@ -11,6 +11,7 @@ from rehearse_tools.endings import Refused
 from rehearse_tools.inputs import Plan, to_bytes, words_of
 from rehearse_tools.page_data import Step
 from rehearse_tools.program import Program
+from rehearse_tools.progress import Bar
 from rehearse_tools.reading import Outcome, Report
 
 # What goes into one run of the program has events of so many bytes, and reports of so many lines.
@@ -101,9 +102,11 @@ def check_end(plan: PlanTold, steps: Sequence[Step], report: Report, source: str
 def timelines(program: Program, cluster: str, base: Sequence[str], report: Report, plans: Sequence[PlanTold],
               source: str) -> Iterator[tuple[str, list[Step]]]:
     """For each plan its name and its steps, behind a base that ends with a report."""
+    bar = Bar(len(plans), "plans drawn")
     for share in shares(plans, report):
         whole = played(program, cluster, base, [[(event, []) for event in plan.accepted] for plan in share], source)
         events = [cut_at_timers(steps, report) for steps in whole]
         for plan, steps in zip(share, played(program, cluster, base, events, source)):
             check_end(plan, steps, report, source)
             yield plan.name, steps + refused_step(plan, steps[-1].report if steps else report)
+        bar.go_on(len(share))

@@ -407,7 +407,7 @@ def refused_live(_, folder):
                               text=True, timeout=LONGEST_RUN, env={**os.environ, "ERL_CRASH_DUMP": os.devnull}).stdout
         yield f"a live node refuses this too: {name}", None if "invalid config data" in told else told
     done = gather(folder, "--help")
-    is_there = done.stdout.startswith("Writes a cluster file") and "\n  --profile N " in done.stdout
+    is_there = "\nWrites a cluster file" in done.stdout and "\n  --profile N " in done.stdout
     yield "--help", None if done.returncode == 0 and is_there else f"{done}"
 
 

@@ -415,7 +415,7 @@ def refusals(program, folder):
             ("long and short names", one + "{node, 'a@x.y', []}.\n===\nboot a@x\n", [], 2, "don't see one another"),
             ("long ticks", one + "===\ntick 700000\n", [], 2, "the ticks take 700 s"),
             ("a factor", one, ["--factor", "0"], 1, "--factor"), ("an option", one, ["--nonsense"], 1, "--nonsense"),
-            ("a side", one, ["--compare", "page"], 1, "--compare page"), ("orders", one, ["--orders", "0"], 1, "--orders"),
+            ("a side", one, ["--compare", "page"], 1, "--compare: invalid choice: 'page'"), ("orders", one, ["--orders", "0"], 1, "--orders"),
             ("another program", one + "===\nboot a@x\n", ["--rehearse", shutil.which("echo")], 2, "isn't the program"),
             ("no program", one, ["--rehearse", "/nowhere/rehearse"], 1, "no program /nowhere/rehearse")]:
         done = replay(program, [*words, written(folder, text)])

@@ -1,6 +1,6 @@
 %% What replay reads: a rehearsal, and what the program and companions/live tell of it.
 -module(replay_input).
--export([companions/1, parts/1, words/1, is_command/1, terms/2, check_names/2, answers/4, live/3]).
+-export([parts/1, words/1, is_command/1, terms/2, check_names/2, answers/4, live/3]).
 
 refuse(Format, Values) -> throw({refused, io_lib:format(Format, Values)}).
 usage(Format, Values) -> throw({usage, io_lib:format(Format, Values)}).
