@@ -33,7 +33,7 @@ from collections.abc import Iterator, Sequence
 from typing import Optional
 
 from rehearse_tools.command_line import CommandLine
-from rehearse_tools.comparing import Row, Side, base_rows, groups_of, name_rows, side_of
+from rehearse_tools.comparing import Row, Side, base_rows, groups_of, least_rows, name_rows, side_of
 from rehearse_tools.endings import Refused
 from rehearse_tools.inputs import Plan, called, commands_of, read_text, split_input, text_of, write_out
 from rehearse_tools.plan_making import Crashes, boots_of, crash_plans, longest_wait
@@ -44,6 +44,7 @@ SAME, DIFFERENT = 0, 1
 MOST_NAMES = 10
 COLOURS = {"-": "\x1b[31m", "+": "\x1b[32m", "plan": "\x1b[1m"}
 PLAIN = "\x1b[0m"
+HEADS = ("plan ", "plans ", "behind ", "least ", "--- ", "+++ ")
 
 
 def command_line() -> CommandLine:
@@ -53,6 +54,8 @@ def command_line() -> CommandLine:
     line.add_argument("new", metavar="NEW", help="another one; one of both may be - for standard input")
     line.add_argument("--plans", metavar="FILE", help="the plans, as companions/plans writes them (default: every node of OLD, and every "
                       "two of them)")
+    line.add_argument("--least", action="store_true", help="tells too, where they differ, the least sets of lost nodes that leave an "
+                      "application `wanted`, those of which no part does so")
     line.add_argument("--all", action="store_true", help=f"names every plan (else at most {MOST_NAMES} in a line)")
     line.add_program()
     return line
@@ -82,7 +85,7 @@ def lines_of_rows(rows: Sequence[Row]) -> Iterator[str]:
     yield from (f"{mark} {text}" for mark, text in rows)
 
 
-def told(old: Side, new: Side, most: Optional[int]) -> tuple[list[str], bool]:
+def told(old: Side, new: Side, is_least: bool, most: Optional[int]) -> tuple[list[str], bool]:
     """What is told of both sides, and whether something differs."""
     names, base, groups = list(name_rows(old, new)), list(base_rows(old, new)), groups_of(old, new)
     lines = [f"--- {old.source}", f"+++ {new.source}", *lines_of_rows(names)]
@@ -90,6 +93,9 @@ def told(old: Side, new: Side, most: Optional[int]) -> tuple[list[str], bool]:
         lines += ["", "behind the base", *lines_of_rows(base)]
     for rows, plans in groups.items():
         lines += ["", f"{'plan' if len(plans) == 1 else 'plans'} {some(plans, most)}", *lines_of_rows(rows)]
+    least = list(least_rows(old, new)) if is_least else []
+    if least:
+        lines += ["", "least losses that leave it wanted", *lines_of_rows(least)]
     number = sum(map(len, groups.values()))
     lines += ["", f"{number or 'none'} of {plural(len(old.courses), 'plan')} {'differs' if number < 2 else 'differ'}"]
     return lines, bool(names or base or groups)
@@ -97,7 +103,7 @@ def told(old: Side, new: Side, most: Optional[int]) -> tuple[list[str], bool]:
 
 def coloured(line: str) -> str:
     """A line as a terminal shows it."""
-    kind = "plan" if line.startswith(("plan ", "plans ", "behind ", "--- ", "+++ ")) else line[:1]
+    kind = "plan" if line.startswith(HEADS) else line[:1]
     return f"{COLOURS[kind]}{line}{PLAIN}" if kind in COLOURS else line
 
 
@@ -118,6 +124,6 @@ def main(words: Sequence[str]) -> None:
     if not plans:
         raise Refused(f"{clusters[0][0]}: it has no node to crash")
     old, new = (side_of(program, source, cluster, base, plans) for source, cluster in clusters)
-    lines, differs = told(old, new, None if given.all else MOST_NAMES)
+    lines, differs = told(old, new, given.least, None if given.all else MOST_NAMES)
     write_out(text_of(map(coloured, lines) if shows_colours() else lines))
     sys.exit(DIFFERENT if differs else SAME)

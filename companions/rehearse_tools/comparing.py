@@ -2,7 +2,7 @@
 from collections.abc import Iterator, Sequence
 from dataclasses import dataclass
 
-from rehearse_tools.courses import Course, courses_of, paired
+from rehearse_tools.courses import Course, Courses, courses_of, losses_of, paired
 from rehearse_tools.inputs import Input, Plan
 from rehearse_tools.names import Names
 from rehearse_tools.plan_making import boots_of
@@ -90,6 +90,19 @@ def plan_rows(old: Side, new: Side, place: int) -> list[Row]:
     rows = list(standing_rows(old, new, [course.report for course in courses], [times_of(course) for course in courses]))
     moves = [f"failovers {course.outcome.failovers}, takeovers {course.outcome.takeovers}" for course in courses]
     return rows or (changed(*moves) if old.spread == new.spread else [])
+
+
+def least_rows(old: Side, new: Side) -> Iterator[Row]:
+    """What differs between the least sets of lost nodes that leave an application wanted, of what both sides have."""
+    for app in old.spread:
+        if app in new.spread:
+            yield from changed(*(f"{app} {least_losses(app, side)}" for side in (old, new)))
+
+
+def least_losses(app: str, side: Side) -> str:
+    """The least sets of lost nodes that leave an application wanted on a side."""
+    sets = ["+".join(nodes) or "no node" for nodes, _ in losses_of(app, Courses(side.report, side.courses))]
+    return ", ".join(sets) or "none"
 
 
 def end_of(course: Course, plan: Plan) -> str:

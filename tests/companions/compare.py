@@ -223,4 +223,16 @@ def faults(program: str, folder: str) -> Iterator[Test]:
     yield "--help", None if done.returncode == 0 and b"companions/compare old.txt new.txt" in done.stdout else f"{done}"
 
 
-TESTS = tuple(Group(in_folder(tests)) for tests in (whole_texts, names, given_plans, many, colours, faults))
+def least(program: str, folder: str) -> Iterator[Test]:
+    """The least losses that leave it wanted, where they differ: of three nodes no two do; of two nodes the loss of both does."""
+    fewer = cluster(groups="[a@x, b@x]", nodes=("a@x", "b@x"))
+    lines = compared(program, folder, cluster(), fewer, "--least").stdout.decode().splitlines()
+    place = lines.index("least losses that leave it wanted") if "least losses that leave it wanted" in lines else len(lines)
+    yield "--least", None if lines[place + 1:place + 3] == ["- web none", "+ web a@x+b@x"] else f"{lines}"
+    done = compared(program, folder, cluster(), cluster(8000), "--least")
+    yield "--least, the same ones", fault(done, 1, LONGER)
+    done = compared(program, folder, cluster(), fewer)
+    yield "without --least", None if b"least" not in done.stdout else f"{done}"
+
+
+TESTS = tuple(Group(in_folder(tests)) for tests in (whole_texts, names, given_plans, many, colours, least, faults))
