@@ -58,7 +58,7 @@ class NodeState:
         return self.mode != "down"
 
 
-@dataclass(frozen=True)
+@dataclass
 class Report:
     """A report, as its lines, and what they tell."""
     lines: list[str]
@@ -124,7 +124,7 @@ class Notice:
     app: str = ""
 
 
-@dataclass(frozen=True)
+@dataclass
 class Answer:
     """What a command was answered by, as its lines: in front `ok`, or why it was refused; below it what followed, or the report."""
     lines: list[str]
