@@ -48,8 +48,8 @@ NO_GROWTH = {
         "operational", "candidates", "choose", "best", "start_kind", "refusal_of"),
     "rh_growths": (
         "Sim::undo", "Sim::redo", "Sim::undo_all", "Sim::redo_all", "Sim::cut_redo", "Sim::cluster", "Sim::cursor", "Sim::trail",
-        "Sim::record", "Sim::state", "Sim::pick", "Bytes::as_slice", "Bytes::share", "Reply::share", "Replies::of",
-        "Replies::into_one", "Replies::into_three",
+        "Sim::record", "Sim::state", "Sim::pick", "FiredTimer::due", "FiredTimer::told", "Bytes::as_slice", "Bytes::share",
+        "Reply::share", "Replies::of", "Replies::into_one", "Replies::into_three",
         "Room::log", "Room::sim", "Room::sessions", "Pass::session", "Pass::receipts", "close", "FreeGate::enter", "FreeGate::leave",
         # A session has room for all its receipts, and a room for all its entries, so these take none in a room either.
         "Room::serve of undo", "Room::serve of redo", "Room::serve of undo_all", "Room::serve of redo_all",
@@ -62,7 +62,8 @@ GROWTH = {
         "read_terms", "read_cluster", "Str::copy", "Term::copy", "Terms::copy", "Notices::of", "Standings::of", "Cluster::copy",
         "Lists::new", "Lists::copy", "Wheel::new", "Wheel::copy", "first_state", "State::copy", "State::timers"),
     "rh_growths": (
-        "perform", "report", "Bytes::of", "Sim::open", "Sim::copy", "Sim::step where timers fire", "Sim::step of a boot",
+        "perform", "firings_of", "Sim::firings", "report", "Bytes::of", "Sim::open", "Sim::copy",
+        "Sim::step where timers fire", "Sim::step of a boot",
         "Sim::step behind an undone one", "Sim::step of stop_all", "Sim::step of start_all", "Sim::step of a permission",
         "try_plan", "open_room", "Room::serve of a step", "Room::serve of a look", "Room::fork", "sweep"),
 }
@@ -247,12 +248,13 @@ SURFACE = {
     "rh_arena": ("lists",), "rh_wheel": ("wheel",), "rh_devices": ("watched",),
     "rh_state": ("state", "state/reading", "state/setting", "state/timers", "state/exchanging", "state/comparing"),
     "rh_place": ("choosing", "operating", "starting"), "rh_events": ("refusing",), "rh_plans": ("plan",),
-    "rh_step": ("step", "notices"),
-    "rh_trail": ("sim", "sim/moves", "text", "call", "replies"), "rh_room": ("room", "opening", "closing", "pass"),
+    "rh_step": ("step", "firings", "notices"),
+    "rh_trail": ("sim", "sim/moves", "sim/firings", "text", "call", "replies"), "rh_room": ("room", "opening", "closing", "pass"),
     "rh_sweep": ("trial", "workers"),
 }
 # Calls that do nothing: their contracts are what they are for.
-FACTS = {"Cluster::is_within", "Lists::formed", "Wheel::formed", "State::formed", "Sim::is_chained", "Sim::is_reversible"}
+FACTS = {"Cluster::is_within", "Lists::formed", "Wheel::formed", "State::formed", "Sim::is_chained", "Sim::is_reversible",
+         "firings_tell_the_tick", "firings_are_in_time"}
 # Parts of calls that have rows, which crates above make by themselves too.
 PARTS = {
     "text_of_bytes", "text_of_vec", "is_in", "Cluster::of", "first_state_sharing", "operational_among", "operational_nodes",

@@ -6,6 +6,7 @@
 mod all_nodes;
 mod bytes;
 mod clusters;
+mod firings;
 mod first;
 mod kept;
 mod many;
@@ -34,6 +35,8 @@ fn call<T: Runtime<A = Global> + Threads + Wait + Sync>(rt: &T, name: &str) -> O
     } else if let Some(answer) = moves::answer(rt.alloc(), name) {
         Some(answer)
     } else if let Some(answer) = all_nodes::answer(rt.alloc(), name) {
+        Some(answer)
+    } else if let Some(answer) = firings::answer(rt.alloc(), name) {
         Some(answer)
     } else {
         rooms::answer(rt.alloc(), name)

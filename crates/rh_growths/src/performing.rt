@@ -11,8 +11,8 @@ use rh_state::{Edit, State, first_state};
 use rh_step::{Event, Notice, Pick, first_is_valid, perform, refusal_of};
 use std::alloc::Global;
 
-// The first state of a cluster.
-fn first(alloc: Global, cluster: &Cluster) -> Option<State>
+/// The first state of a cluster.
+pub fn first(alloc: Global, cluster: &Cluster) -> Option<State>
     ensures { IfSome result (λ state. IsValid (read state)) }
 {
     cluster.is_within();
@@ -48,8 +48,8 @@ fn then(
     made(alloc, state, &kept, edits, told)
 }
 
-// Makes an event, if it is accepted and memory suffices.
-fn make(
+/// Makes an event, if it is accepted and memory suffices.
+pub fn make(
     alloc: Global,
     state: &mut State,
     event: &Event,

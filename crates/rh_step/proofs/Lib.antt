@@ -29,3 +29,4 @@ pub mod QuietStays
 pub mod StartedStays
 pub mod Everywhere
 pub mod PullsBack
+pub mod FiringsTold

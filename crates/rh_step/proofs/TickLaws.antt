@@ -37,7 +37,7 @@ effect_after base o (Sync n) = by (all_alive o.state (mandatory_of o.state.clust
     by false = ended_after base o n
 effect_after base o (Failover a) = refl
 
-fired_after : (base : List Notice) (pick : Pick) (o : Course) (entry : ℕ × Timer)
+pub fired_after : (base : List Notice) (pick : Pick) (o : Course) (entry : ℕ × Timer)
     → fired pick (after_notices base o) entry ≡ after_notices base (fired pick o entry)
 unfolding fired
 fired_after base pick o entry =

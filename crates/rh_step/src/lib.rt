@@ -3,11 +3,13 @@
 //! [`refusal_of`] says why an [`Event`] is refused in a state, and [`perform`] makes one that isn't.
 #![tactic(auto)]
 
+mod firings;
 mod laws;
 mod notices;
 mod step;
 mod ticks;
 
+pub use firings::{FiredTimer, firings_are_in_time, firings_of, firings_tell_the_tick};
 pub use laws::{
     ends_without_mandatory, first_is_valid, lost_stays, lost_stays_at_other_timers, lost_until_due,
     next_is_allowed, next_is_valid, permission_pulls_back, quiet_until_started,

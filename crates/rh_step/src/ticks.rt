@@ -59,7 +59,7 @@ fn fire_due(state: &mut State, limit: u64, pick: Pick, trace: &mut Trace) -> Res
 }
 
 // The timer that fires next, if it is due by the limit.
-fn due_by(state: &State, limit: u64) -> Option<(u64, Timer)>
+pub(crate) fn due_by(state: &State, limit: u64) -> Option<(u64, Timer)>
     ensures next { result ≡ due_by limit (earliest (read state.now)) }
     ensures due { IfSome result (λ entry. entry.0 ≤ limit) }
     ensures timer { IfSome result (λ entry. IsTimerOf (read state.now).cluster entry.1) }
@@ -87,7 +87,7 @@ fn take_off(state: &mut State, due: u64, timer: Timer, trace: &mut Trace) -> Res
 
 // The timer that is set first fires, and what follows from it happens.
 #[tactic(auto, unfolding(crate::specs::Ticks::fired), using(rh_settle::proofs::Ways::goes_more))]
-fn fire(
+pub(crate) fn fire(
     state: &mut State,
     due: u64,
     timer: Timer,

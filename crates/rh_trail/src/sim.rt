@@ -3,6 +3,7 @@
 ghost use Rattle.std.specs.Prelude.{◌≡◌, ◌≤◌, ◌<◌, [], length, slice_get, Some, IfOk};
 ghost use Rattle.rh_state.specs.Stored.{read};
 
+mod firings;
 mod moves;
 mod told;
 
