@@ -33,7 +33,7 @@ from rehearse_tools.page import values_of
 from rehearse_tools.plan_making import Crashes, boots_of, crash_count, crash_plans, longest_wait
 from rehearse_tools.program import Program
 from rehearse_tools.releases import Gathered, gathered
-from rehearse_tools.report_facts import app_facts, headline, live_facts
+from rehearse_tools.report_facts import UNSAFE, app_facts, headline, live_facts
 from rehearse_tools.templates import rendered
 
 # Subcommands of the program that a report shows as they stand, where the program has them.
@@ -99,7 +99,7 @@ def facts_of(parts: Input, courses: Courses, answers: list[Answer], verdicts: Op
     """What is told of the applications and of live nodes."""
     named = None if verdicts is None else {verdict.name: verdict for verdict in verdicts}
     is_as_booted = status_of(answers) == NONE_DIFFERS
-    apps = sorted((app_facts(app, courses, named, is_as_booted) for app in courses.base.apps), key=lambda app: not app.losses)
+    apps = sorted((app_facts(app, courses, named, is_as_booted) for app in courses.base.apps), key=lambda app: app.verdict != UNSAFE)
     return {"apps": apps, "headline": headline(apps, parts.plans, crashes),
             "live": None if verdicts is None else live_facts(answers, verdicts)}
 

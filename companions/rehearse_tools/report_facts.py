@@ -82,15 +82,17 @@ def loss_of(app: str, nodes: list[str], course: Course) -> Loss:
 
 
 def app_facts(app: str, courses: Courses, verdicts: Optional[dict[str, Verdict]], is_as_booted: bool) -> AppFacts:
-    """What is told of an application. Without verdicts of live nodes nothing is safe but by the rules, nor where live nodes differ at
-    the base already."""
-    losses = [loss_of(app, nodes, course) for nodes, course in losses_of(app, courses, is_nowhere)]
+    """What is told of an application. One that doesn't run behind the base isn't safe, and needs no loss for it. Without verdicts of
+    live nodes nothing is safe but by the rules, nor where live nodes differ at the base already."""
+    home = courses.base.apps[app]
+    losses = [loss_of(app, nodes, course) for nodes, course in losses_of(app, courses, is_nowhere)] if home.is_running else []
     runs = [course.outcome.name for course in courses.plans if course.outcome.standing[app].is_running]
     doubts = sum(verdicts[plan].word != AGREES for plan in runs) if verdicts is not None else 0
     is_certain = verdicts is not None and is_as_booted and not doubts
     gaps = [gap for course in courses.plans for name, gap in course.gaps if name == app]
-    return AppFacts(app, courses.base.apps[app], UNSAFE if losses else SAFE if is_certain else DOUBTFUL, losses,
-                    longest([gap for gap in gaps if gap.is_over]), longest([gap for gap in gaps if not gap.is_over]), doubts)
+    verdict = UNSAFE if losses or not home.is_running else SAFE if is_certain else DOUBTFUL
+    return AppFacts(app, home, verdict, losses, longest([gap for gap in gaps if gap.is_over]),
+                    longest([gap for gap in gaps if not gap.is_over]), doubts)
 
 
 def live_facts(answers: list[Answer], verdicts: Sequence[Verdict]) -> LiveFacts:
@@ -110,8 +112,10 @@ def live_facts(answers: list[Answer], verdicts: Sequence[Verdict]) -> LiveFacts:
 
 def headline(apps: Sequence[AppFacts], plans: Sequence[Plan], most: int) -> str:
     """The report in one sentence."""
+    if not apps:
+        return "No application is distributed, so none fails over. Is a name in the configuration misspelt?"
     counts = Counter(app.verdict for app in apps)
     losses = "every loss of one node" if most == 1 else f"every loss of up to {most} nodes"
     told = [f"{plural(counts[verdict], 'application')} {'is' if counts[verdict] == 1 else 'are'} {verdict}"
             for verdict in (UNSAFE, DOUBTFUL, SAFE) if counts[verdict]]
-    return f"Of {plural(len(apps), 'distributed application')}, over {losses} ({plural(len(plans), 'plan')}): {', '.join(told) or 'none'}."
+    return f"Of {plural(len(apps), 'distributed application')}, over {losses} ({plural(len(plans), 'plan')}): {', '.join(told)}."

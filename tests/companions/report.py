@@ -121,6 +121,18 @@ def otherwise_booted(program, folder):
     yield "what differs", None if "They differ at the boot of all nodes already: boot b@x: without sync_nodes_* the nodes don't connect" in told else told
 
 
+def unstarted(program, folder):
+    """What nobody starts isn't safe, and no loss is to blame for it; and where nothing is distributed that is said."""
+    idle = cluster(PAIR, WEB).replace("{boot, [{web, permanent}]}", "{boot, []}")
+    page = report(program, "--crashes", "1", written(folder, idle)).stdout
+    # Nothing fails over, so the longest wait is that of a booting node.
+    owed_row = ["web", "quiet", "not safe", "none is needed: it doesn't run behind the boot of all nodes", "", "1000 ms (a@x, b@x)", "0"]
+    yield owed("an application that nobody starts", row(page, "web"), owed_row)
+    page = report(program, "--crashes", "1", written(folder, cluster(PAIR, WEB).replace("{distributed,", "{distribted,"))).stdout
+    yield owed("nothing is distributed", part(page, "headline"),
+               "No application is distributed, so none fails over. Is a name in the configuration misspelt?")
+
+
 def more(program, folder):
     """What the program tells by further subcommands is shown, where it has them."""
     path = written(folder, cluster(PAIR, WEB))
@@ -196,5 +208,5 @@ def in_browser(program, folder):
         browser.close()
 
 
-TESTS = (*(Group(in_folder(tests)) for tests in (losses, safe, otherwise, otherwise_booted, more, faults)),
+TESTS = (*(Group(in_folder(tests)) for tests in (losses, safe, otherwise, otherwise_booted, unstarted, more, faults)),
          Group(in_folder(in_browser), needs=("chromium",)), Group(in_folder(from_release), needs=("erl", "escript", "erlc")))
