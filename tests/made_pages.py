@@ -18,6 +18,8 @@ CHANGES = [
     ("crates/rh_step/src/step.rt", "    ensures ", "    ensures another_", "docs/CONTRACTS.md line"),
     ("crates/rh_settle/specs/Validity.antt", "\n-- ", "\n-- changed: ", "docs/DEFINITIONS.md line"),
     ("crates.txt", "\nrh_plans: ", "\nrh_plans: rh_trail ", "docs/ARCHITECTURE.md line"),
+    ("crates/rh_script/src/forms.rt", '"boot"', '"reboot"', "companions/rehearse_tools/commands.json line"),
+    ("docs/help/run.txt", "\n  boot N ", "\n  reboot N ", "docs/help/run.txt line"),
     ("crates/rh_events/src/event.rt", "StopA", "StopEveryA", "docs/CHANGING.md line"),
     ("docs/DEFINITIONS.md", "\n- `", "\n- by hand `", "docs/DEFINITIONS.md line"),
     ("docs/parts/contracts.md", "`", "`no_such_name` `", "docs/parts/contracts.md names what no source has: no_such_name"),

@@ -14,6 +14,7 @@ from dataclasses import dataclass, field
 from typing import Callable, Iterator, Optional, Union
 
 import model
+from support import ARGUMENTS
 
 KINDS = ("sane", "wild")
 # The kind that keeps to the conditions of live_conditions.py.
@@ -304,13 +305,12 @@ class Script:
         number = self.cluster.nodes.index(node)
         is_forbidden = self.cluster.apps.index(app) in self.rehearsal.state.forbidden[number]
         allow = str(is_forbidden if chance.random() < 0.95 else not is_forbidden).lower()
-        made: dict[str, Callable[[], Optional[str]]] = {
-            "tick": self.tick, "show": lambda: "show", "boot": lambda: f"boot {node}", "crash": lambda: f"crash {node}",
-            "start": lambda: f"start {node} {app} {restart}", "stop": lambda: f"stop {node} {app}",
-            "permit": lambda: f"permit {node} {app} {allow}", "takeover": lambda: f"takeover {node} {app} {restart}",
-            "exit": lambda: f"exit {node} {app} {chance.choice(['normal', 'abnormal'])}",
-            "start_all": lambda: f"start_all {app} {restart}", "stop_all": lambda: f"stop_all {app}"}
-        return made[word]()
+        if word == "tick":
+            return self.tick()
+        kinds = ARGUMENTS[word]
+        given = {"node": node, "app": app, "restart": restart, "truth": allow,
+                 "ending": chance.choice(["normal", "abnormal"]) if "ending" in kinds else ""}
+        return " ".join([word, *(given[kind] for kind in kinds)])
 
     def next(self) -> Optional[str]:
         """The next command: one that isn't refused, but for a few."""

@@ -7,13 +7,16 @@ import random
 
 import model
 from groups import Group
-from support import fault_of, run
+from support import ARGUMENTS, COMMANDS, EVENT_WORDS, fault_of, run
 
 SCRIPTS, AT_ONCE = 480, 40
 TYPES = ["permanent", "transient", "temporary"]
 TIMES = [1, 250, 499, 500, 501, 1_000, 3_000]
-EVENTS = ["boot"] * 8 + ["crash"] * 3 + ["tick"] * 4 + ["start"] * 6 + ["stop"] * 2 + ["permit"] * 12 + ["takeover"] * 4 + [
-    "exit"] * 2 + ["start_all"] * 6 + ["stop_all"] * 2
+# How often each event comes, if not twice.
+OFTEN = {"boot": 8, "crash": 3, "tick": 4, "start": 6, "permit": 12, "takeover": 4, "start_all": 6}
+EVENTS = [word for word in EVENT_WORDS for _ in range(OFTEN.get(word, 2))]
+# The notices that the table of commands has for each event.
+NOTICES = {command["word"]: command["notices"] for command in COMMANDS}
 REFUSALS = [1, 2, 3, 5, 6, 7, 8, 9, 10, 11, 12, 13, 14, 15, 16, 17]
 
 
@@ -94,10 +97,9 @@ class Part:
         restart = chance.choice(TYPES)
         if word == "tick":
             return f"tick {chance.choice(TIMES) if chance.random() < 0.97 else chance.choice([0, 10 ** 12])}"
-        behind = {"boot": [node], "crash": [node], "start": [node, app, restart], "stop": [node, app],
-                  "permit": [node, app, chance.choice(["true", "true", "false"])], "takeover": [node, app, restart],
-                  "exit": [node, app, chance.choice(["normal", "abnormal"])], "start_all": [app, restart], "stop_all": [app]}[word]
-        return " ".join([word, *behind])
+        given = {"node": node, "app": app, "restart": restart, "truth": chance.choice(["true", "true", "false"]),
+                 "ending": chance.choice(["normal", "abnormal"])}
+        return " ".join([word, *(given[kind] for kind in ARGUMENTS[word])])
 
     def likely(self, rehearsal):
         """An event, which most often isn't refused there."""
@@ -168,7 +170,8 @@ def reached(seen):
     wanted = [(profile, event) for profile in (1, 2) for event in events] + [f"S{number}" for number in REFUSALS]
     wanted += [(2, "pulled back"), "takeover", "failover", "waits", "timer sync", "timer failover"]
     missing = [what for what in wanted if seen[what] < 3]
-    # In the first profile nothing is pulled back.
+    # In the first profile nothing is pulled back, and no event tells what the table of commands doesn't have for it.
+    missing += ["only what the table of commands has"] * bool(seen["untold"])
     return f"reached less than three times: {missing}" if missing or seen[1, "pulled back"] else None
 
 
@@ -183,6 +186,8 @@ def note(seen, text, owed):
             word, is_permission = words[0], words[-1] == "true"
         if line == "ok":
             seen[profile, word] += 1
+        elif word != "show" and line.split()[0] not in ("ok", "refused", *NOTICES[word]):
+            seen["untold"] += 1
         elif line.startswith("refused S"):
             seen[line.split()[1]] += 1
         elif is_permission and " takeover " in line:

@@ -34,7 +34,7 @@ from cluster_limits import cluster_limits  # noqa: E402
 from groups import Group, command_line, finish  # noqa: E402
 from no_threads import without_threads  # noqa: E402
 from row_files import EXAMPLE_ROWS, EXAMPLES, ROWS, RowFault, example_row, row_at  # noqa: E402
-from support import TOP, chain, example_files, fault_of, files_below, read, run  # noqa: E402
+from support import COMMANDS, TOP, chain, example_files, fault_of, files_below, read, run  # noqa: E402
 from term_faults import term_faults  # noqa: E402
 
 # Chance decides how its sessions take turns, so it has no row.
@@ -125,11 +125,9 @@ def command_lines(program):
     """What a newcomer reads: help and version go to standard error, with status 1."""
     for words, texts in [
             (["--help"], [b"rehearse", b"run", b"Exit status", b"docs/ANSWERS.md", b"docs/LIVE_OTP.md", b"<< 'EOF'"]),
-            (["run", "--help"], [b"--pick", b"boot N", b"crash N", b"tick D", b"start N A T", b"stop N A", b"permit N A B",
-                                 b"takeover N A T", b"exit N A R", b"start_all A T", b"stop_all A", b"undo", b"redo",
-                                 b"undo_all", b"redo_all", b"show", b"1 to 10^12", b"milliseconds", b"app A quiet",
-                                 b"app A wanted", b"app A running N", b"app A lost N", b"from 1 behind `===`",
-                                 b"docs/ANSWERS.md", b"docs/SCRIPTS.md"]),
+            (["run", "--help"], [b"--pick", *(f"\n  {it['usage']} ".encode() for it in COMMANDS), b"1 to 10^12", b"milliseconds",
+                                 b"app A quiet", b"app A wanted", b"app A running N", b"app A lost N",
+                                 b"from 1 behind `===`", b"docs/ANSWERS.md", b"docs/SCRIPTS.md"]),
             (["check", "--help"], [b"{profile, Number}", b"{node, Name, SysConfig}", b"{application, Name, Keys}",
                                    b"cluster refused", b"distributed", b"sync_nodes_timeout", b"permissions", b"boot",
                                    b"platform", b"0 to 10^12 milliseconds", b"32 nodes and 64 applications", b"profile 2",

@@ -1,10 +1,17 @@
 """What the tests of the built program share: running it, and what is wrong with a finished run."""
 import difflib
+import json
 import os
 import subprocess
 import tempfile
 
 TOP = os.path.dirname(os.path.dirname(os.path.abspath(__file__)))
+with open(os.path.join(TOP, "companions", "rehearse_tools", "commands.json"), encoding="utf-8") as _file:
+    # The commands of a script in their order, of the table by which the program reads and prints them.
+    COMMANDS = json.load(_file)
+# What stands behind the word of each, and the words of those that are events.
+ARGUMENTS = {command["word"]: command["arguments"] for command in COMMANDS}
+EVENT_WORDS = [command["word"] for command in COMMANDS if command["refusals"]]
 LONGEST_RUN = 300
 
 

@@ -2,7 +2,7 @@
 import os
 import random
 
-from support import TOP, fault_of, read, run
+from support import ARGUMENTS, EVENT_WORDS, TOP, fault_of, read, run
 
 EXAMPLE = os.path.join(TOP, "examples", "five-nodes-sweep.txt")
 TWO_NODES = b"{node, a@x, []}. {node, b@x, []}.\n===\n"
@@ -21,15 +21,13 @@ def five_nodes():
 
 def random_event(chance):
     """An event of the five nodes, which may be refused."""
-    node = chance.choice([b"core1@site", b"core2@site", b"edge1@site", b"edge2@site", b"edge3@site"])
-    app = chance.choice([b"ledger", b"gateway", b"monitor"])
-    restart = chance.choice([b"permanent", b"transient", b"temporary"])
-    return chance.choice([
-        b"boot %s" % node, b"crash %s" % node, b"crash %s" % node, b"tick %d" % chance.choice([1, 999, 1000, 3000]),
-        b"start %s %s %s" % (node, app, restart), b"stop %s %s" % (node, app),
-        b"permit %s %s %s" % (node, app, chance.choice([b"true", b"false"])), b"takeover %s %s %s" % (node, app, restart),
-        b"exit %s %s %s" % (node, app, chance.choice([b"normal", b"abnormal"])), b"start_all %s %s" % (app, restart),
-        b"stop_all %s" % app])
+    node = chance.choice(["core1@site", "core2@site", "edge1@site", "edge2@site", "edge3@site"])
+    app = chance.choice(["ledger", "gateway", "monitor"])
+    given = {"node": node, "app": app, "restart": chance.choice(["permanent", "transient", "temporary"]),
+             "milliseconds": str(chance.choice([1, 999, 1000, 3000])), "truth": chance.choice(["true", "false"]),
+             "ending": chance.choice(["normal", "abnormal"])}
+    word = chance.choice(["crash", *EVENT_WORDS])
+    return " ".join([word, *(given[kind] for kind in ARGUMENTS[word])]).encode()
 
 
 def answers(output):

@@ -4,11 +4,12 @@ from collections.abc import Callable, Iterator
 from functools import cache
 from pathlib import Path
 
+from commands import made_commands
 from tree import TOP, BadSource, Crate, crates, head_of, proved_crates, read, shown
 
 BLOCK = re.compile(r"(?ms)^(<!-- made: (\w+)(?: ([^\n]+?))? -->\n).*?^(<!-- end -->)$")
 # Pages whose blocks are made: in one of these a word tells nothing of what is to be changed.
-PAGES = ("ARCHITECTURE.md", "CHANGING.md")
+PAGES = ("ARCHITECTURE.md", "CHANGING.md", "SCRIPTS.md")
 MADE_PAGES = ("CONTRACTS.md", "DEFINITIONS.md", "CHANGING.md")
 SOURCE_FOLDERS = ("src", "specs", "proofs", "must-fail")
 
@@ -90,7 +91,8 @@ def made_files(words: str) -> Iterator[str]:
             yield f"- `{folder}`: {names}" if folder != "." else f"- {names}"
 
 
-MAKERS: dict[str, Callable[[str], Iterator[str]]] = {"drawing": made_drawing, "crates": made_table, "files": made_files}
+MAKERS: dict[str, Callable[[str], Iterator[str]]] = {
+    "drawing": made_drawing, "crates": made_table, "files": made_files, "commands": made_commands}
 
 
 def with_blocks(path: Path) -> str:

@@ -84,7 +84,7 @@ def conversations(program):
                 ("quit", "boot a@x\nquit\nboot b-1@x\n", "ok\n"), ("exit", "exit\nboot a@x\n", "")]:
             yield name, fault_of(talk(program, entered, file), 0, (BANNER + owed).encode())
         done = talk(program, "help\n", file)
-        yield "help", fault_of(done, 0, None) or (None if b"\nstart_all A T, stop_all A " in done.stdout else f"{done}")
+        yield "help", fault_of(done, 0, None) or (None if b"\nstart_all A T " in done.stdout and b"\nstop_all A " in done.stdout else f"{done}")
 
 
 def second_profile(program):

@@ -25,6 +25,7 @@ use Rattle.rh_trail.specs.Runs.{step}
 use Rattle.rh_trail.specs.Report.{standing_line}
 use Rattle.rh_sweep.specs.Outcomes.{standing_in}
 use Rattle.rh_script.specs.Lines.{content, script_lines}
+use Rattle.rh_script.specs.Forms.{verb_named}
 use Rattle.rh_script.specs.Commands.{line_of}
 use Rattle.rh_script.specs.Answers.{notice_line, answer_text, bad_text}
 use Rattle.rh_app.specs.RunText.{script_text, bad_line, lines_asked}
@@ -47,7 +48,7 @@ limits_row = (refl, refl, refl, refl, refl, refl)
 
 script_row : script_text one_node (opened one_node First) 1 (lines_asked one_node (script_lines (codes "===\nboot a\nundo\nflip a\nshow\n")))
     ≡ codes "ok\nup a\nok\nbad line 3\n"
-unfolding content line_of answer_text notice_line bad_text nodes_of apps_of configured moved_by all_moved all_alive is_ready mark_all come_up come_up_if_ready
+unfolding content line_of verb_named answer_text notice_line bad_text nodes_of apps_of configured moved_by all_moved all_alive is_ready mark_all come_up come_up_if_ready
     ready_come_up booted followed refused next step digits is_utf8 chars encode
 script_row = refl
 
@@ -62,13 +63,13 @@ one_spread = record one_node {
 all_nodes_row : script_text one_spread (opened one_spread First) 1
     (lines_asked one_spread (script_lines (codes "===\nboot a\nstart_all w permanent\nstart_all w temporary\nstop_all w\nstop_all w\nstop_all a\n")))
     ≡ codes "ok\nup a\nok\nstarted w a normal\nrefused S11 already_started\nok\nstopped w a\nrefused S12 never_started\nrefused S2 unknown_app\n"
-unfolding content line_of answer_text notice_line nodes_of apps_of configured moved_by all_moved all_alive is_ready with_mark mark_all come_up come_up_if_ready
+unfolding content line_of verb_named answer_text notice_line nodes_of apps_of configured moved_by all_moved all_alive is_ready with_mark mark_all come_up come_up_if_ready
     ready_come_up booted start_all targets stop_all left_everywhere missing_dep deps_run is_operational best candidates can_start local_moves placements
     calls_away takeovers next_moves followed refused has_host has_target missing_at_targets is_started_anywhere next step is_utf8 chars encode
 all_nodes_row = refl
 
 bad_line_row : bad_line 1 (lines_asked one_node (script_lines (codes "===\nboot a\nundo\nflip a\nshow\n"))) ≡ Some 3
-unfolding content line_of is_utf8 chars encode
+unfolding content line_of verb_named is_utf8 chars encode
 bad_line_row = refl
 
 count_row : count_text one_node ≡ codes "ok 1 nodes 0 applications\n"
@@ -77,11 +78,11 @@ count_row = refl
 
 sweep_row : lines_text one_node First (sweep_lines_asked one_node (script_lines (codes "===\nboot a\nplan p\ncrash a\ncrash a\n"))) None
     ≡ codes "ok\nup a\nplan p accepted 1 failovers 0 takeovers 0\nrefused 2 S5 not_alive\n"
-unfolding content sweep_line_of answer_text notice_line outcome_text plan_line refused_line standing_line standing_in nodes_of apps_of configured moved_by
+unfolding content sweep_line_of verb_named answer_text notice_line outcome_text plan_line refused_line standing_line standing_in nodes_of apps_of configured moved_by
     all_moved all_alive is_ready mark_all come_up come_up_if_ready ready_come_up booted cleared lost_if_ran all_lost ended followed refused next step digits
     is_utf8 chars encode
 sweep_row = refl
 
 sweep_bad_line_row : bad_sweep_line (sweep_lines_asked one_node (script_lines (codes "===\nundo\nplan p\ncrash a\nundo\n"))) ≡ Some 4
-unfolding content sweep_line_of is_utf8 chars encode
+unfolding content sweep_line_of verb_named is_utf8 chars encode
 sweep_bad_line_row = refl

@@ -41,12 +41,13 @@ use Rattle.rh_room.specs.declared.pass.Entry.{Entry}
 use Rattle.rh_room.specs.Legal.{entry}
 use Rattle.rh_plans.specs.declared.fault.SweepFault.TheVariants.{BaseNotAtEnd, TrailRoom}
 use Rattle.rh_script.specs.Lines.{content, script_lines}
+use Rattle.rh_script.specs.Forms.{verb_named}
 use Rattle.rh_script.specs.Commands.{line_of}
 use Rattle.rh_script.specs.SessionLines.{command, session_line_of}
 use Rattle.rh_script.specs.declared.session_lines.Command.{Command}
 use Rattle.rh_script.specs.declared.session_lines.SessionLine.TheVariants as session
 use Rattle.rh_script.specs.Answers.{notice_line, answer_text, fault_text, bad_text}
-use Rattle.rh_script.specs.CommandWords.{event_words, command_words}
+use Rattle.rh_script.specs.CommandWords.{command_words}
 use Rattle.rh_script.specs.SweepLines.{PlanText, sweep_line_of}
 use Rattle.rh_script.specs.SweepAnswers.{sweep_fault_text}
 use Rattle.rh_app.specs.declared.fault.Told.TheVariants as told
@@ -81,7 +82,7 @@ accepted_file_row : (run_text accepted_file First ≡ codes "ok\nup a\nbad line 
     × (sweep_text accepted_file First ≡ codes "bad line 2\n") × (sweep_end accepted_file First ≡ Some (told.BadLine 2))
     × (check_text accepted_file ≡ codes "ok 1 nodes 0 applications\n") × (check_end accepted_file ≡ None)
     × MayGive First accepted_file (codes "bad line 1\n") (Some (told.BadLine 1))
-unfolding run_text run_end sweep_text sweep_end check_text check_end count_text MayGive content bad_text line_of sweep_line_of session_line_of answer_text
+unfolding run_text run_end sweep_text sweep_end check_text check_end count_text MayGive content bad_text line_of sweep_line_of session_line_of verb_named answer_text
     notice_line is_utf8 chars encode digits terms_of dotted dot_at inside terms_up_to some_terms next_at term_by word_at name_at past cluster_of cluster_of_terms profile_of behind_profile
     as_profile as_pair as_entry faults_in
     headers_stage header_faults new_name_faults node_names app_names as_headed as_triple as_tuple as_atom as_list is_name faults_behind_headers names_of
@@ -96,7 +97,7 @@ accepted_file_row = (refl, refl, refl, refl, refl, refl, (refl, refl))
 -- the answers to the base, and then the fault in place of all plans
 no_sweep_row : (sweep_text (codes "{node, a, []}.\n===\nboot a\nundo\nplan p\ncrash a\n") First ≡ codes "ok\nup a\nok\nsweep refused V2 base_not_at_end\n")
     × (sweep_end (codes "{node, a, []}.\n===\nboot a\nundo\nplan p\ncrash a\n") First ≡ Some (told.Sweep BaseNotAtEnd))
-unfolding sweep_text sweep_end content sweep_line_of sweep_fault_text answer_text notice_line is_utf8 chars encode terms_of dotted dot_at inside terms_up_to
+unfolding sweep_text sweep_end content sweep_line_of verb_named sweep_fault_text answer_text notice_line is_utf8 chars encode terms_of dotted dot_at inside terms_up_to
     some_terms next_at term_by word_at name_at past cluster_of cluster_of_terms profile_of behind_profile
     as_profile as_pair as_entry faults_in headers_stage header_faults new_name_faults node_names app_names as_headed
     as_triple as_tuple as_atom as_list is_name faults_behind_headers names_of parts_stage parts_faults list_faults section_faults node_views all_shares
@@ -129,7 +130,7 @@ commands script = commands_of (session_lines_asked one_node (script_lines script
 
 -- there are as many sessions as the greatest number says, and one without a command
 session_count_row : (session_count (commands (codes "===\n2 undo\n5 show\n3 boot a\n")) ≡ 5) × (session_count (commands (codes "===\n# 4 undo\n")) ≡ 1)
-unfolding content session_line_of is_utf8 chars encode
+unfolding content session_line_of verb_named is_utf8 chars encode
 session_count_row = (refl, refl)
 
 -- the first line that is no command, or one more command than a log can hold
@@ -144,21 +145,21 @@ told_of log = history_text one_node log (last_state one_node First log)
 -- each entry with its session, its command and its answer, in the order of the log, and at last the report of the last state
 history_row : told_of (entry 2 Undo AtStart ∷ entry 1 (Step (Boot (numbered 0))) (Done (Up (numbered 0) ∷ [])) ∷ [])
     ≡ codes "entry 2 undo\nrefused at_start\nentry 1 boot a\nok\nup a\nfinal\nnow 0\nnode a up 1\n"
-unfolding entry_text command_words event_words answer_text notice_line nodes_of apps_of configured moved_by all_moved all_alive is_ready mark_all come_up
+unfolding entry_text command_words answer_text notice_line nodes_of apps_of configured moved_by all_moved all_alive is_ready mark_all come_up
     come_up_if_ready ready_come_up booted followed refused next step node_line line_if_forbidden standing_line app_line timer_line node_lines digits
 history_row = refl
 
 -- a command names the application, or what is shown for a name that nothing has
 all_nodes_row : told_of (entry 3 (Step (StartAll (app_numbered 255) Permanent)) (Refused UnknownApp) ∷ entry 1 (Step (StopAll (app_numbered 255))) (Refused UnknownApp) ∷ [])
     ≡ codes "entry 3 start_all ? permanent\nrefused S2 unknown_app\nentry 1 stop_all ?\nrefused S2 unknown_app\nfinal\nnow 0\nnode a down 0\n"
-unfolding entry_text command_words event_words answer_text nodes_of apps_of configured refused next step node_line line_if_forbidden standing_line app_line
+unfolding entry_text command_words answer_text nodes_of apps_of configured refused next step node_line line_if_forbidden standing_line app_line
     timer_line node_lines digits
 all_nodes_row = refl
 
 -- of one session the log is its commands in their order
 lone_session_row : MayGive First (codes "{node, a, []}.\n===\n1 boot a\n1 undo\n")
     (codes "entry 1 boot a\nok\nup a\nentry 1 undo\nok\nfinal\nnow 0\nnode a down 0\n") None
-unfolding MayGive content session_line_of entry_text command_words event_words answer_text notice_line digits is_utf8 chars encode terms_of dotted dot_at
+unfolding MayGive content session_line_of verb_named entry_text command_words answer_text notice_line digits is_utf8 chars encode terms_of dotted dot_at
     inside terms_up_to some_terms next_at term_by word_at name_at past cluster_of cluster_of_terms profile_of behind_profile
     as_profile as_pair as_entry faults_in headers_stage header_faults new_name_faults node_names app_names
     as_headed as_triple as_tuple as_atom as_list is_name faults_behind_headers names_of parts_stage parts_faults list_faults section_faults node_views

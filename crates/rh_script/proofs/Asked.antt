@@ -1,15 +1,14 @@
 -- What a line asks can be told by words, where nothing is named as a missing name is shown.
 use Rattle.std.proofs.Common.{◌≡◌, ◌<◌, ◌≤◌, ◌+◌, ◌-◌, ◌^◌, ◌&&◌, inl, inr, ℕ, Bool, true, false, cond, codes, List, [], ◌∷◌, nat_lt, nat_le}
-use Rattle.std.proofs.Common.{Option, Some, None, refl, subst, arith}
-use Rattle.std.specs.Prelude.{position, unwrap_or}
-use Rattle.std.specs.Option.{option_map}
+use Rattle.std.proofs.Common.{Option, Some, None, IfSome, refl, subst, arith}
+use Rattle.std.specs.Prelude.{position, unwrap_or, option_map, option_and_then}
 use Rattle.std.specs.Str.{is_utf8, bytes_eq}
 use Rattle.std.specs.Str.Parse.{digits_value}
 use Rattle.std.proofs.lemmas.Bool.Decides.{nat_tests}
 use Rattle.std.proofs.lemmas.List.Quantifiers.{position-Some}
 use Rattle.rh_model.specs.ClusterView.{ClusterView, node_of, app_of, numbered, app_numbered}
 use Rattle.rh_events.specs.declared.event.Event.{Event}
-use Rattle.rh_events.specs.declared.event.Event.TheVariants.{Tick, Start, Stop, Permit, Takeover, Exit, StartAll, StopAll}
+use Rattle.rh_events.specs.declared.event.Event.TheVariants as event
 use Rattle.rh_trail.specs.declared.call.Call.{Call}
 use Rattle.rh_trail.specs.declared.call.Call.TheVariants as call
 use Rattle.rh_trail.specs.Report.{no_name}
@@ -20,9 +19,16 @@ use Rattle.rh_script.specs.declared.session_lines.Command.{Command}
 use Rattle.rh_script.specs.declared.session_lines.SessionLine.{SessionLine}
 use Rattle.rh_script.specs.declared.session_lines.SessionLine.TheVariants as line
 use Rattle.rh_script.specs.declared.session_lines.TheConstants.{LAST_SESSION}
-use Rattle.rh_script.specs.Commands.{words_of, named, named_app, begins_with, is_numeral, milliseconds, restart_named, first_of, plain_command, two_word_command, three_word_command, four_word_command, command_of, line_of, step_command}
+use Rattle.rh_script.specs.declared.forms.Argument.{Argument}
+use Rattle.rh_script.specs.declared.forms.Argument.TheVariants as argument
+use Rattle.rh_script.specs.declared.forms.Verb.{Verb}
+use Rattle.rh_script.specs.declared.forms.Verb.TheVariants as verb
+use Rattle.rh_script.specs.declared.forms.Given.{Given}
+use Rattle.rh_script.specs.Forms.{arguments_of, verb_named, nothing, two, three, call_of}
+use Rattle.rh_script.specs.Commands.{words_of, named, named_app, begins_with, is_numeral, milliseconds, restart_named, first_of, with_argument, given_in, row_asks, call_asked, asking, command_of, line_of}
+use Rattle.rh_script.specs.CommandWords.{truth_word, reason_word}
 use Rattle.rh_script.specs.SessionLines.{session_named, asked_by, session_command, session_line_of}
-use Rattle.rh_script.specs.Laws.{IsNodeTold, IsAppTold, IsTold, IsCommandTold}
+use Rattle.rh_script.specs.Laws.{IsNodeTold, IsAppTold, IsGivenTold, IsTold, IsCommandTold}
 
 -- of a line: the call that it asks, if it asks one
 abbrev AsksTold : ClusterView → Line → Type 0
@@ -44,10 +50,6 @@ small word ms read = by (is_numeral word) (nat_lt (digits_value 10 word) (2 ^ 64
     by true false fits same = cc
     by false u fits same = cc
 
-tick_told : (c : ClusterView) (word : List ℕ) (o : Option ℕ) → milliseconds word ≡ o → AsksTold c (step_command (option_map (λ ms. Tick ms) o))
-tick_told c word None read = tt
-tick_told c word (Some ms) read = small word ms read
-
 module _ (c : ClusterView) (node_free : node_of c no_name ≡ None) (app_free : app_of c no_name ≡ None) where
   node_told : (name : List ℕ) → IsNodeTold c (named c name)
   node_told name = by (position (bytes_eq name) c.node_names) refl
@@ -63,53 +65,93 @@ module _ (c : ClusterView) (node_free : node_of c no_name ≡ None) (app_free : 
       by None at = inr (refl, app_free)
       by (Some i) at = inl (position-Some (bytes_eq name) c.app_names i [] at).0
 
-  one_told : (word : List ℕ) → AsksTold c (plain_command word)
-  one_told word =
-      either (AsksTold c) (bytes_eq word (codes "undo")) _ _ tt
-      (either (AsksTold c) (bytes_eq word (codes "redo")) _ _ tt
-      (either (AsksTold c) (bytes_eq word (codes "undo_all")) _ _ tt
-      (either (AsksTold c) (bytes_eq word (codes "redo_all")) _ _ tt
-      (either (AsksTold c) (bytes_eq word (codes "show")) (Asks call.Look) Bad tt tt))))
+  -- ---- what is given by words
 
-  two_told : (word name : List ℕ) → AsksTold c (two_word_command c word name)
-  two_told word name =
-      either (AsksTold c) (bytes_eq word (codes "boot")) _ _ (node_told name)
-      (either (AsksTold c) (bytes_eq word (codes "crash")) _ _ (node_told name)
-      (either (AsksTold c) (bytes_eq word (codes "tick")) _ _ (tick_told c name (milliseconds name) refl)
-      (either (AsksTold c) (bytes_eq word (codes "stop_all")) (Asks (call.Step (StopAll (named_app c name)))) Bad (app_told name) tt)))
+  set_told : {A : Type 0} (set : A → Given) (o : Option A) → ((x : A) → IsGivenTold c (set x)) → IfSome (option_map set o) (IsGivenTold c)
+  set_told set None told = tt
+  set_told set (Some x) told = told x
 
-  -- an event that needs an option
-  with_option : {A : Type 0} (event : A → Event) (o : Option A) → ((x : A) → IsTold c (call.Step (event x))) → AsksTold c (step_command (option_map event o))
-  with_option event None told = tt
-  with_option event (Some x) told = told x
+  number_told : (g : Given) → IsGivenTold c g → (word : List ℕ) (o : Option ℕ) → milliseconds word ≡ o
+      → IfSome (option_map (λ n. record g { ms = Some n }) o) (IsGivenTold c)
+  number_told g told word None read = tt
+  number_told g told word (Some ms) read = (told.0, told.1, small word ms read)
 
-  three_told : (word name other : List ℕ) → AsksTold c (three_word_command c word name other)
-  three_told word name other =
-      either (AsksTold c) (bytes_eq word (codes "stop")) _ _ (node_told name, app_told other)
-      (either (AsksTold c) (bytes_eq word (codes "start_all")) _ Bad
-      (with_option (λ restart. StartAll (named_app c name) restart) (restart_named other) (λ _. app_told name)) tt)
+  argument_told : (a : Argument) (word : List ℕ) (g : Given) → IsGivenTold c g → IfSome (with_argument c a word g) (IsGivenTold c)
+  argument_told argument.Node word g told = (node_told word, told.1, told.2)
+  argument_told argument.App word g told = (told.0, app_told word, told.2)
+  argument_told argument.Restart word g told = set_told (λ r. record g { restart = Some r }) (restart_named word) (λ _. told)
+  argument_told argument.Truth word g told = set_told (λ t. record g { truth = Some t }) (first_of (truth_word true) (truth_word false) word) (λ _. told)
+  argument_told argument.Ending word g told = set_told (λ t. record g { ending = Some t }) (first_of (reason_word true) (reason_word false) word) (λ _. told)
+  argument_told argument.Milliseconds word g told = number_told g told word (milliseconds word) refl
 
-  four_told : (word node app option : List ℕ) → AsksTold c (four_word_command word (named c node) (named_app c app) option)
-  unfolding four_word_command
-  four_told word node app option =
-      let n = named c node in
-      let a = named_app c app in
-      either (AsksTold c) (bytes_eq word (codes "start")) _ _
-      (with_option (λ restart. Start n a restart) (restart_named option) (λ _. (node_told node, app_told app)))
-      (either (AsksTold c) (bytes_eq word (codes "permit")) _ _
-      (with_option (λ allow. Permit n a allow) (first_of (codes "true") (codes "false") option) (λ _. (node_told node, app_told app)))
-      (either (AsksTold c) (bytes_eq word (codes "takeover")) _ _
-      (with_option (λ restart. Takeover n a restart) (restart_named option) (λ _. (node_told node, app_told app)))
-      (either (AsksTold c) (bytes_eq word (codes "exit")) _ Bad
-      (with_option (λ normal. Exit n a normal) (first_of (codes "normal") (codes "abnormal") option) (λ _. (node_told node, app_told app))) tt)))
+  then_told : {B : Type 0} (f : Given → Option B) (P : B → Type 0) → ((g : Given) → IsGivenTold c g → IfSome (f g) P)
+      → (o : Option Given) → IfSome o (IsGivenTold c) → IfSome (option_and_then f o) P
+  then_told f P each None told = tt
+  then_told f P each (Some g) told = each g told
+
+  given_told : (arguments : List Argument) (words : List (List ℕ)) (g : Given) → IsGivenTold c g → IfSome (given_in c arguments words g) (IsGivenTold c)
+  given_told [] [] g told = told
+  given_told [] (word ∷ words) g told = tt
+  given_told (a ∷ arguments) [] g told = tt
+  given_told (a ∷ arguments) (word ∷ words) g told =
+      then_told (given_in c arguments words) (IsGivenTold c) (λ h is. given_told arguments words h is) (with_argument c a word g) (argument_told a word g told)
+
+  -- ---- the call that they ask
+
+  any : {A : Type 0} (o : Option A) → IfSome o (λ _. Unit {0})
+  any None = tt
+  any (Some x) = tt
+
+  -- an event of one, two or three that are given
+  one : {A : Type 0} (event : A → Event) (P : A → Type 0) (o : Option A) → IfSome o P → ((x : A) → P x → IsTold c (call.Step (event x)))
+      → IfSome (option_map (λ e. call.Step e) (option_map event o)) (IsTold c)
+  one event P None is told = tt
+  one event P (Some x) is told = told x is
+
+  both : {A B : Type 0} (event : A → B → Event) (P : A → Type 0) (Q : B → Type 0) (o : Option A) (p : Option B) → IfSome o P → IfSome p Q
+      → ((x : A) (y : B) → P x → Q y → IsTold c (call.Step (event x y))) → IfSome (option_map (λ e. call.Step e) (two event o p)) (IsTold c)
+  both event P Q None p is are told = tt
+  both event P Q (Some x) p is are told = one (event x) Q p are (λ y q. told x y is q)
+
+  all : {A B C : Type 0} (event : A → B → C → Event) (P : A → Type 0) (Q : B → Type 0) (o : Option A) (p : Option B) (q : Option C) → IfSome o P → IfSome p Q
+      → ((x : A) (y : B) (z : C) → P x → Q y → IsTold c (call.Step (event x y z))) → IfSome (option_map (λ e. call.Step e) (three event o p q)) (IsTold c)
+  all event P Q None p q is are told = tt
+  all event P Q (Some x) p q is are told = both (event x) Q (λ _. Unit {0}) p q are (any q) (λ y z r _. told x y z is r)
+
+  call_told : (v : Verb) (g : Given) → IsGivenTold c g → IfSome (call_of v g) (IsTold c)
+  call_told verb.Boot g told = one (λ n. event.Boot n) (IsNodeTold c) g.node told.0 (λ n is. (is, tt, tt))
+  call_told verb.Crash g told = one (λ n. event.Crash n) (IsNodeTold c) g.node told.0 (λ n is. (is, tt, tt))
+  call_told verb.Tick g told = one (λ ms. event.Tick ms) (λ ms. ms < 2 ^ 64) g.ms told.2 (λ ms is. (tt, tt, is))
+  call_told verb.Start g told =
+      all (λ n a restart. event.Start n a restart) (IsNodeTold c) (IsAppTold c) g.node g.app g.restart told.0 told.1 (λ n a restart is are. (is, are, tt))
+  call_told verb.Stop g told = both (λ n a. event.Stop n a) (IsNodeTold c) (IsAppTold c) g.node g.app told.0 told.1 (λ n a is are. (is, are, tt))
+  call_told verb.Permit g told =
+      all (λ n a allow. event.Permit n a allow) (IsNodeTold c) (IsAppTold c) g.node g.app g.truth told.0 told.1 (λ n a allow is are. (is, are, tt))
+  call_told verb.Takeover g told =
+      all (λ n a restart. event.Takeover n a restart) (IsNodeTold c) (IsAppTold c) g.node g.app g.restart told.0 told.1 (λ n a restart is are. (is, are, tt))
+  call_told verb.Exit g told =
+      all (λ n a normal. event.Exit n a normal) (IsNodeTold c) (IsAppTold c) g.node g.app g.ending told.0 told.1 (λ n a normal is are. (is, are, tt))
+  call_told verb.StartAll g told =
+      both (λ a restart. event.StartAll a restart) (IsAppTold c) (λ _. Unit {0}) g.app g.restart told.1 (any g.restart) (λ a restart is _. (tt, is, tt))
+  call_told verb.StopAll g told = one (λ a. event.StopAll a) (IsAppTold c) g.app told.1 (λ a is. (tt, is, tt))
+  call_told verb.Undo g told = (tt, tt, tt)
+  call_told verb.Redo g told = (tt, tt, tt)
+  call_told verb.UndoAll g told = (tt, tt, tt)
+  call_told verb.RedoAll g told = (tt, tt, tt)
+  call_told verb.Show g told = (tt, tt, tt)
+
+  row_told : (o : Option Verb) (words : List (List ℕ)) → IfSome (row_asks c o words) (IsTold c)
+  row_told None words = tt
+  row_told (Some v) words =
+      then_told (call_of v) (IsTold c) (call_told v) (given_in c (arguments_of v) words nothing) (given_told (arguments_of v) words nothing (tt, tt, tt))
+
+  asking_told : (o : Option Call) → IfSome o (IsTold c) → AsksTold c (asking o)
+  asking_told None told = tt
+  asking_told (Some asked) told = told
 
   words_told : (words : List (List ℕ)) → AsksTold c (command_of c words)
   words_told [] = tt
-  words_told (word ∷ []) = one_told word
-  words_told (word ∷ name ∷ []) = two_told word name
-  words_told (word ∷ name ∷ other ∷ []) = three_told word name other
-  words_told (word ∷ node ∷ app ∷ option ∷ []) = four_told word node app option
-  words_told (word ∷ node ∷ app ∷ option ∷ other ∷ more) = tt
+  words_told (word ∷ words) = asking_told (call_asked c word words) (row_told (verb_named word) words)
 
   pub line_told : (bytes : List ℕ) (asked : Call) → line_of c bytes ≡ Asks asked → IsTold c asked
   unfolding line_of

@@ -5,6 +5,7 @@ pub mod RowsLines
 pub mod RowsTexts
 pub mod SweepReading
 pub mod Words
+pub mod Verbs
 pub mod Telling
 pub mod Scripts
 pub mod Asked

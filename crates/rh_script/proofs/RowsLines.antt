@@ -11,7 +11,8 @@ use Rattle.rh_script.specs.declared.script.Line.TheVariants.{Nothing, Asks, Bad}
 use Rattle.rh_script.specs.declared.session_lines.SessionLine.TheVariants as session
 use Rattle.rh_script.specs.declared.sweep_lines.SweepLine.TheVariants as asks
 use Rattle.rh_script.specs.Lines.{content, cluster_text, script_lines}
-use Rattle.rh_script.specs.Commands.{milliseconds, four_word_command, line_of}
+use Rattle.rh_script.specs.Forms.{verb_named}
+use Rattle.rh_script.specs.Commands.{milliseconds, line_of}
 use Rattle.rh_script.specs.SessionLines.{command, session_line_of}
 use Rattle.rh_script.specs.declared.script.Line.{Line}
 use Rattle.rh_script.specs.declared.sweep_lines.SweepLine.{SweepLine}
@@ -23,7 +24,7 @@ c = record { profile = 1; node_names = codes "a" ∷ codes "b" ∷ []; app_names
 
 plain_commands_row : map (line_of c) (codes "undo" ∷ codes "redo" ∷ codes "undo_all" ∷ codes "redo_all" ∷ codes "show" ∷ [])
     ≡ Asks Undo ∷ Asks Redo ∷ Asks UndoAll ∷ Asks RedoAll ∷ Asks Look ∷ []
-unfolding line_of four_word_command is_utf8 chars encode
+unfolding line_of verb_named is_utf8 chars encode
 plain_commands_row = refl
 
 events_row : map (line_of c) (codes "boot b" ∷ codes "crash b" ∷ codes "tick 5" ∷ codes "start b w permanent" ∷ codes "stop b w" ∷ codes "permit b w true"
@@ -31,7 +32,7 @@ events_row : map (line_of c) (codes "boot b" ∷ codes "crash b" ∷ codes "tick
     ≡ map (λ event. Asks (Step event)) (Boot (numbered 1) ∷ Crash (numbered 1) ∷ Tick 5 ∷ Start (numbered 1) (app_numbered 0) Permanent
     ∷ Stop (numbered 1) (app_numbered 0) ∷ Permit (numbered 1) (app_numbered 0) true ∷ Takeover (numbered 1) (app_numbered 0) Transient
     ∷ Exit (numbered 1) (app_numbered 0) true ∷ Exit (numbered 1) (app_numbered 0) false ∷ StartAll (app_numbered 0) Temporary ∷ StopAll (app_numbered 0) ∷ [])
-unfolding line_of four_word_command milliseconds is_utf8 chars encode
+unfolding line_of verb_named milliseconds is_utf8 chars encode
 events_row = refl
 
 -- a name that nothing has stands for number 255; a node's isn't an application's
@@ -39,7 +40,7 @@ no_names_row : (NO_NODE ≡ numbered 255) × (NO_APP ≡ app_numbered 255)
     × (map (line_of c) (codes "crash c" ∷ codes "stop w a" ∷ codes "stop b ?" ∷ codes "start_all a permanent" ∷ codes "stop_all b" ∷ [])
     ≡ Asks (Step (Crash (numbered 255))) ∷ Asks (Step (Stop (numbered 255) (app_numbered 255))) ∷ Asks (Step (Stop (numbered 1) (app_numbered 255)))
     ∷ Asks (Step (StartAll (app_numbered 255) Permanent)) ∷ Asks (Step (StopAll (app_numbered 255))) ∷ [])
-unfolding line_of four_word_command is_utf8 chars encode
+unfolding line_of verb_named is_utf8 chars encode
 no_names_row = (refl, refl, refl)
 
 numbers_row : map milliseconds (codes "0" ∷ codes "007" ∷ codes "18446744073709551615" ∷ codes "18446744073709551616" ∷ [] ∷ codes "+5" ∷ codes "-1" ∷ codes "5ms"
@@ -54,12 +55,12 @@ bad_lines_row : map (line_of c) (codes "flip a" ∷ codes "Undo" ∷ codes "undo
     ∷ codes "takeover a w normal" ∷ codes "start_all w" ∷ codes "start_all w always" ∷ codes "start_all a w permanent" ∷ codes "start_all" ∷ codes "stop_all"
     ∷ codes "stop_all a w" ∷ codes "stop_all w permanent" ∷ codes "undo\r" ∷ codes " # x" ∷ codes "plan p" ∷ codes "1 undo" ∷ (255 ∷ []) ∷ [])
     ≡ replicate 28 Bad
-unfolding line_of four_word_command milliseconds is_utf8 chars encode
+unfolding line_of verb_named milliseconds is_utf8 chars encode
 bad_lines_row = refl
 
 -- spaces alone, and a line that begins with `#`, whatever stands behind it
 nothing_row : map (line_of c) ([] ∷ codes "  " ∷ codes "#" ∷ codes "#undo" ∷ (35 ∷ 255 ∷ []) ∷ []) ≡ replicate 5 Nothing
-unfolding line_of four_word_command is_utf8 chars encode
+unfolding line_of verb_named is_utf8 chars encode
 nothing_row = refl
 
 -- ---- lines
@@ -83,20 +84,20 @@ ends_row = refl
 session_lines_row : map (session_line_of c) (codes "1 undo" ∷ codes " 8  boot b" ∷ codes "2 start_all w transient" ∷ codes "3 stop_all w" ∷ codes "  " ∷ codes "# x" ∷ (35 ∷ 255 ∷ []) ∷ [])
     ≡ session.Asks (command 1 Undo) ∷ session.Asks (command 8 (Step (Boot (numbered 1))))
     ∷ session.Asks (command 2 (Step (StartAll (app_numbered 0) Transient))) ∷ session.Asks (command 3 (Step (StopAll (app_numbered 0)))) ∷ replicate 3 session.Nothing
-unfolding session_line_of four_word_command is_utf8 chars encode
+unfolding session_line_of verb_named is_utf8 chars encode
 session_lines_row = refl
 
 bad_session_lines_row : map (session_line_of c) (codes "0 undo" ∷ codes "9 undo" ∷ codes "11 undo" ∷ codes "1" ∷ codes "undo" ∷ codes "1 # x" ∷ codes "1 flip" ∷ codes "1 1 undo"
     ∷ codes "a undo" ∷ codes "/ undo" ∷ codes ": undo" ∷ (49 ∷ 32 ∷ 255 ∷ []) ∷ [])
     ≡ replicate 12 session.Bad
-unfolding session_line_of four_word_command is_utf8 chars encode
+unfolding session_line_of verb_named is_utf8 chars encode
 bad_session_lines_row = refl
 
 -- ---- sweeps
 
 plan_lines_row : map (sweep_line_of c) (codes "plan p" ∷ codes " plan  plan " ∷ codes "plan" ∷ codes "plan p q" ∷ codes "undo" ∷ codes "#plan p" ∷ (255 ∷ []) ∷ [])
     ≡ asks.Begins (codes "p") ∷ asks.Begins (codes "plan") ∷ asks.Plain Bad ∷ asks.Plain Bad ∷ asks.Plain (Asks Undo) ∷ asks.Plain Nothing ∷ asks.Plain Bad ∷ []
-unfolding sweep_line_of four_word_command is_utf8 chars encode
+unfolding sweep_line_of verb_named is_utf8 chars encode
 plan_lines_row = refl
 
 -- what stands before the first plan is the base; names may be the same, and a plan may be empty
@@ -112,7 +113,7 @@ plans_row : parts (sweep_lines_asked c (
           ∷ record { name = codes "q"; events = Tick 1 ∷ StopAll (app_numbered 0) ∷ StartAll (app_numbered 0) Permanent ∷ [] } ∷ [],
       None,
     )
-unfolding sweep_line_of four_word_command milliseconds is_utf8 chars encode
+unfolding sweep_line_of verb_named milliseconds is_utf8 chars encode
 plans_row = refl
 
 -- behind a plan's line only events fit
@@ -120,5 +121,5 @@ unfit_row : map (λ last. bad_sweep_line (sweep_lines_asked c (codes "show" ∷ 
     (codes "boot a" ∷ codes "start_all w transient" ∷ codes "stop_all w" ∷ codes "undo" ∷ codes "redo" ∷ codes "undo_all" ∷ codes "redo_all" ∷ codes "show"
     ∷ codes "flip" ∷ [])
     ≡ None ∷ None ∷ None ∷ replicate 6 (Some 3)
-unfolding sweep_line_of four_word_command is_utf8 chars encode
+unfolding sweep_line_of verb_named is_utf8 chars encode
 unfit_row = refl

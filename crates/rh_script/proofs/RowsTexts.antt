@@ -18,7 +18,7 @@ use Rattle.rh_cluster.specs.declared.fault.ClusterFault.TheVariants.{NoNodes, Ba
 use Rattle.rh_plans.specs.declared.fault.SweepFault.TheVariants.{BaseNotAtEnd, TrailRoom}
 use Rattle.rh_script.specs.declared.script.TheConstants.{NO_NODE, NO_APP}
 use Rattle.rh_script.specs.Answers.{notice_line, answer_text, fault_text, bad_text}
-use Rattle.rh_script.specs.CommandWords.{event_words, command_words}
+use Rattle.rh_script.specs.CommandWords.{command_words}
 use Rattle.rh_script.specs.SweepAnswers.{plan_line, refused_line, outcome_text, sweep_fault_text}
 
 -- nodes a and b, and applications w and v
@@ -76,7 +76,7 @@ commands_row : map (command_words c) (Step (Boot (numbered 1)) ∷ Step (Crash (
     ≡ codes "boot b" ∷ codes "crash a" ∷ codes "tick 5" ∷ codes "start b w permanent" ∷ codes "stop b v" ∷ codes "permit a v true" ∷ codes "permit a v false"
     ∷ codes "takeover a w temporary" ∷ codes "exit b w normal" ∷ codes "exit b w abnormal" ∷ codes "start ? ? transient"
     ∷ codes "start_all v permanent" ∷ codes "start_all ? temporary" ∷ codes "stop_all v" ∷ codes "stop_all ?" ∷ codes "undo" ∷ codes "redo" ∷ codes "undo_all" ∷ codes "redo_all" ∷ codes "show" ∷ []
-unfolding command_words event_words digits
+unfolding command_words digits
 commands_row = refl
 
 -- ---- plans

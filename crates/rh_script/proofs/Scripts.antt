@@ -1,6 +1,6 @@
 -- The words of calls as the lines of a script: where each line ends.
 use Rattle.std.proofs.Common.{◌≡◌, ◌≢◌, ◌<◌, ◌-◌, ◌^◌, ◌==◌, ◌&&◌, ℕ, Bool, true, false, not, cond, codes, List, [], ◌∷◌, ◌++◌, length, take, map, nat_lt}
-use Rattle.std.proofs.Common.{Option, Some, None, refl, ap, ◌∙◌, subst, arith, append_assoc}
+use Rattle.std.proofs.Common.{Option, Some, None, IfSome, refl, ap, ◌∙◌, subst, arith, append_assoc}
 use Rattle.std.specs.Prelude.{All, slice_get, slice_index, unwrap_or}
 use Rattle.std.specs.List.{list_all, flat_map, onto_first}
 use Rattle.std.specs.Char.{digit_value}
@@ -16,20 +16,22 @@ use Rattle.rh_model.specs.declared.node.Node.{Node}
 use Rattle.rh_model.specs.declared.node.App.{App}
 use Rattle.rh_model.specs.declared.settings.Restart.{Restart}
 use Rattle.rh_model.specs.declared.settings.Restart.TheVariants.{Permanent, Transient, Temporary}
-use Rattle.rh_events.specs.declared.event.Event.{Event}
-use Rattle.rh_events.specs.declared.event.Event.TheVariants.{Boot, Crash, Tick, Start, Stop, Permit, Takeover, Exit, StartAll, StopAll}
 use Rattle.rh_trail.specs.declared.call.Call.{Call}
-use Rattle.rh_trail.specs.declared.call.Call.TheVariants as call
 use Rattle.rh_trail.specs.Report.{no_name, node_word, app_word, restart_words}
 use Rattle.rh_script.specs.declared.script.Line.TheVariants.{Asks}
+use Rattle.rh_script.specs.declared.forms.Argument.{Argument}
+use Rattle.rh_script.specs.declared.forms.Argument.TheVariants as argument
+use Rattle.rh_script.specs.declared.forms.Given.{Given}
 use Rattle.rh_script.specs.declared.session_lines.Command.{Command}
 use Rattle.rh_script.specs.declared.session_lines.SessionLine.TheVariants as line
 use Rattle.rh_script.specs.Lines.{raw_lines, content, ends_with, without_last}
+use Rattle.rh_script.specs.Forms.{word_of, arguments_of, said}
 use Rattle.rh_script.specs.Commands.{line_of}
-use Rattle.rh_script.specs.CommandWords.{place_words, truth_word, reason_word, event_words, command_words}
+use Rattle.rh_script.specs.CommandWords.{truth_word, reason_word, spaced, argument_words, command_words}
 use Rattle.rh_script.specs.SessionLines.{session_line_of}
-use Rattle.rh_script.specs.Laws.{IsUnbroken, HasUnbroken, IsEventTold, IsTold, IsCommandTold, session_words, ScriptsAskAgain, SessionsAskAgain}
+use Rattle.rh_script.specs.Laws.{IsUnbroken, HasUnbroken, IsGivenTold, IsTold, IsCommandTold, session_words, ScriptsAskAgain, SessionsAskAgain}
 use Rattle.rh_script.proofs.Words.{each_passes}
+use Rattle.rh_script.proofs.Verbs.{verb_is}
 use Rattle.rh_script.proofs.Telling.{call_asks, line_asks, entry_asks}
 
 -- ---- lines
@@ -139,47 +141,35 @@ module _ (c : ClusterView) (names : HasUnbroken c) where
   app_unbroken : (a : App) → IsUnbroken (app_word c a)
   app_unbroken a = name_unbroken c.app_names a.0 names.apps
 
-  place_unbroken : (n : Node) (a : App) → IsUnbroken (place_words c n a)
-  place_unbroken n a =
-      joined (node_word c n ++ codes " ") (app_word c a) (joined (node_word c n) (codes " ") (node_unbroken n) (closed (codes " ") refl)) (app_unbroken a)
+  spaced_unbroken : {A : Type 0} (show : A → List ℕ) (P : A → Type 0) → ((x : A) → P x → IsUnbroken (show x)) → (o : Option A) → IfSome o P
+      → IsUnbroken (spaced show o)
+  spaced_unbroken show P each None is = All-nil NoEnd
+  spaced_unbroken show P each (Some x) is = joined (codes " ") (show x) (closed (codes " ") refl) (each x is)
 
-  -- a word, a place and one more word
-  there_unbroken : (front option : List ℕ) (n : Node) (a : App) → IsUnbroken front → IsUnbroken option
-      → IsUnbroken (front ++ place_words c n a ++ codes " " ++ option)
-  there_unbroken front option n a is_front is_option =
-      joined (front ++ place_words c n a ++ codes " ") option
-      (joined (front ++ place_words c n a) (codes " ") (joined front (place_words c n a) is_front (place_unbroken n a)) (closed (codes " ") refl)) is_option
+  any : {A : Type 0} (o : Option A) → IfSome o (λ _. Unit {0})
+  any None = tt
+  any (Some x) = tt
 
-  -- a word and an application
-  word_and_app : (front : List ℕ) (a : App) → IsUnbroken front → IsUnbroken (front ++ app_word c a)
-  word_and_app front a is_front = joined front (app_word c a) is_front (app_unbroken a)
+  argument_unbroken : (g : Given) → IsGivenTold c g → (a : Argument) → IsUnbroken (argument_words c g a)
+  argument_unbroken g told argument.Node = spaced_unbroken (node_word c) (λ _. Unit {0}) (λ n _. node_unbroken n) g.node (any g.node)
+  argument_unbroken g told argument.App = spaced_unbroken (app_word c) (λ _. Unit {0}) (λ a _. app_unbroken a) g.app (any g.app)
+  argument_unbroken g told argument.Restart = spaced_unbroken restart_words (λ _. Unit {0}) (λ r _. restart_unbroken r) g.restart (any g.restart)
+  argument_unbroken g told argument.Truth = spaced_unbroken truth_word (λ _. Unit {0}) (λ t _. allow_unbroken t) g.truth (any g.truth)
+  argument_unbroken g told argument.Ending = spaced_unbroken reason_word (λ _. Unit {0}) (λ t _. normal_unbroken t) g.ending (any g.ending)
+  argument_unbroken g told argument.Milliseconds = spaced_unbroken decimal (λ ms. ms < 2 ^ 64) number_unbroken g.ms told.2
 
-  event_unbroken : (event : Event) → IsEventTold c event → IsUnbroken (event_words c event)
-  unfolding event_words
-  event_unbroken (Boot n) told = joined (codes "boot ") (node_word c n) (closed (codes "boot ") refl) (node_unbroken n)
-  event_unbroken (Crash n) told = joined (codes "crash ") (node_word c n) (closed (codes "crash ") refl) (node_unbroken n)
-  event_unbroken (Tick ms) told = joined (codes "tick ") (decimal ms) (closed (codes "tick ") refl) (number_unbroken ms told)
-  event_unbroken (Start n a restart) told =
-      there_unbroken (codes "start ") (restart_words restart) n a (closed (codes "start ") refl) (restart_unbroken restart)
-  event_unbroken (Stop n a) told = joined (codes "stop ") (place_words c n a) (closed (codes "stop ") refl) (place_unbroken n a)
-  event_unbroken (Permit n a allow) told = there_unbroken (codes "permit ") (truth_word allow) n a (closed (codes "permit ") refl) (allow_unbroken allow)
-  event_unbroken (Takeover n a restart) told =
-      there_unbroken (codes "takeover ") (restart_words restart) n a (closed (codes "takeover ") refl) (restart_unbroken restart)
-  event_unbroken (Exit n a normal) told = there_unbroken (codes "exit ") (reason_word normal) n a (closed (codes "exit ") refl) (normal_unbroken normal)
-  event_unbroken (StartAll a restart) told =
-      joined (codes "start_all " ++ app_word c a ++ codes " ") (restart_words restart)
-      (joined (codes "start_all " ++ app_word c a) (codes " ") (word_and_app (codes "start_all ") a (closed (codes "start_all ") refl)) (closed (codes " ") refl))
-      (restart_unbroken restart)
-  event_unbroken (StopAll a) told = word_and_app (codes "stop_all ") a (closed (codes "stop_all ") refl)
+  arguments_unbroken : (g : Given) → IsGivenTold c g → (arguments : List Argument) → IsUnbroken (flat_map (argument_words c g) arguments)
+  arguments_unbroken g told [] = All-nil NoEnd
+  arguments_unbroken g told (a ∷ arguments) =
+      joined (argument_words c g a) (flat_map (argument_words c g) arguments) (argument_unbroken g told a) (arguments_unbroken g told arguments)
 
   words_unbroken : (asked : Call) → IsTold c asked → IsUnbroken (command_words c asked)
   unfolding command_words
-  words_unbroken (call.Step event) told = event_unbroken event told
-  words_unbroken call.Undo told = closed (codes "undo") refl
-  words_unbroken call.Redo told = closed (codes "redo") refl
-  words_unbroken call.UndoAll told = closed (codes "undo_all") refl
-  words_unbroken call.RedoAll told = closed (codes "redo_all") refl
-  words_unbroken call.Look told = closed (codes "show") refl
+  words_unbroken asked told =
+      let v = (said asked).0 in
+      let g = (said asked).1 in
+      joined (word_of v) (flat_map (argument_words c g) (arguments_of v)) (closed (word_of v) (verb_is v).unbroken)
+      (arguments_unbroken g told (arguments_of v))
 
   session_unbroken : (asked : Command) → IsCommandTold c asked → IsUnbroken (session_words c asked)
   session_unbroken asked told =

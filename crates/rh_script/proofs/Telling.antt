@@ -1,8 +1,8 @@
 -- The words of a call, as a line and behind the number of a session.
-use Rattle.std.proofs.Common.{◌≡◌, ◌≤◌, ◌+◌, ◌-◌, ◌==◌, ◌&&◌, inl, inr, ℕ, Bool, true, false, cond, codes, List, [], ◌∷◌, ◌++◌, get_or, nat_le}
-use Rattle.std.proofs.Common.{Option, Some, None, refl, sym, ap, ◌∙◌, subst, arith, append_assoc}
-use Rattle.std.specs.Prelude.{unwrap_or}
-use Rattle.std.specs.Option.{option_map}
+use Rattle.std.proofs.Common.{◌≡◌, ◌<◌, ◌≤◌, ◌+◌, ◌-◌, ◌^◌, ◌==◌, ◌&&◌, inl, inr, ℕ, Bool, true, false, cond, codes, List, [], ◌∷◌, ◌++◌, get_or, nat_le, map}
+use Rattle.std.proofs.Common.{Option, Some, None, IfSome, refl, sym, ap, ◌∙◌, subst, arith, append_assoc, append-nil}
+use Rattle.std.specs.Prelude.{unwrap_or, option_map, option_and_then}
+use Rattle.std.specs.List.{list_all, flat_map}
 use Rattle.std.specs.Fmt.{decimal}
 use Rattle.std.specs.Str.{is_utf8}
 use Rattle.std.proofs.lemmas.Bool.Decides.{nat_tests}
@@ -15,20 +15,22 @@ use Rattle.rh_model.specs.declared.node.Node.{Node}
 use Rattle.rh_model.specs.declared.node.App.{App}
 use Rattle.rh_model.specs.declared.settings.Restart.{Restart}
 use Rattle.rh_model.specs.declared.settings.Restart.TheVariants.{Permanent, Transient, Temporary}
-use Rattle.rh_events.specs.declared.event.Event.{Event}
-use Rattle.rh_events.specs.declared.event.Event.TheVariants.{Boot, Crash, Tick, Start, Stop, Permit, Takeover, Exit, StartAll, StopAll}
 use Rattle.rh_trail.specs.declared.call.Call.{Call}
-use Rattle.rh_trail.specs.declared.call.Call.TheVariants as call
 use Rattle.rh_trail.specs.Report.{no_name, node_word, app_word, restart_words}
 use Rattle.rh_script.specs.declared.script.TheConstants.{NO_NODE, NO_APP}
 use Rattle.rh_script.specs.declared.script.Line.TheVariants.{Nothing, Asks, Bad}
+use Rattle.rh_script.specs.declared.forms.Argument.{Argument}
+use Rattle.rh_script.specs.declared.forms.Argument.TheVariants as argument
+use Rattle.rh_script.specs.declared.forms.Given.{Given}
 use Rattle.rh_script.specs.declared.session_lines.SessionLine.TheVariants as line
 use Rattle.rh_script.specs.declared.session_lines.TheConstants.{LAST_SESSION}
-use Rattle.rh_script.specs.Commands.{words_of, named, named_app, begins_with, three_word_command, four_word_command, command_of, line_of, step_command}
-use Rattle.rh_script.specs.CommandWords.{place_words, truth_word, reason_word, event_words, command_words}
+use Rattle.rh_script.specs.Forms.{word_of, arguments_of, nothing, call_of, said}
+use Rattle.rh_script.specs.Commands.{words_of, named, named_app, begins_with, milliseconds, restart_named, first_of, with_argument, given_in, row_asks, asking, command_of, line_of}
+use Rattle.rh_script.specs.CommandWords.{truth_word, reason_word, spaced, argument_words, command_words}
 use Rattle.rh_script.specs.SessionLines.{command, session_named, asked_by, session_command, session_line_of}
-use Rattle.rh_script.specs.Laws.{IsWord, HasWords, IsNodeTold, IsAppTold, IsEventTold, IsTold}
+use Rattle.rh_script.specs.Laws.{IsWord, HasWords, IsNodeTold, IsAppTold, IsGivenTold, IsTold}
 use Rattle.rh_script.proofs.Words.{first_word, last_word, joined_text, ascii_text, closed_word, decimal_word, milliseconds_told, place_of_name}
+use Rattle.rh_script.proofs.Verbs.{verb_is, is_given, has, put, put_all, says}
 
 -- ---- nodes and applications
 
@@ -107,183 +109,152 @@ pub record Commands (c : ClusterView) (bytes : List ℕ) (asked : Call) : Type 0
   pub text : is_utf8 bytes ≡ true
   pub asks : command_of c (words_of bytes) ≡ Asks asked
 
--- two words, and three
-two_words : (v w : List ℕ) → IsWord v → IsWord w → words_of (v ++ codes " " ++ w) ≡ v ∷ w ∷ []
-two_words v w is_v is_w =
-    ap words_of (append_assoc v (codes " ") w) ∙ first_word v w is_v ∙ ap (λ (ws : List (List ℕ)). v ∷ ws) (last_word w is_w)
+both : (t u : Bool) → (t && u) ≡ true → (t ≡ true) × (u ≡ true)
+both true u h = (refl, h)
+both false u h = absurd (cc h)
 
-three_words : (v w x : List ℕ) → IsWord v → IsWord w → IsWord x → words_of (v ++ codes " " ++ w ++ codes " " ++ x) ≡ v ∷ w ∷ x ∷ []
-three_words v w x is_v is_w is_x =
-    let first : v ++ codes " " ++ w ++ codes " " ++ x ≡ v ++ 32 ∷ (w ++ codes " " ++ x) =
-    ap (λ (l : List ℕ). l ++ codes " " ++ x) (append_assoc v (codes " ") w)
-    ∙ ap (λ (l : List ℕ). l ++ x) (append_assoc v (codes " " ++ w) (codes " "))
-    ∙ append_assoc v (codes " " ++ w ++ codes " ") x in
-    ap words_of first ∙ first_word v (w ++ codes " " ++ x) is_v ∙ ap (λ (ws : List (List ℕ)). v ∷ ws) (two_words w x is_w is_x)
+-- ---- arguments
 
-two_text : (v w : List ℕ) → IsWord v → IsWord w → is_utf8 (v ++ codes " " ++ w) ≡ true
-two_text v w is_v is_w = joined_text (v ++ codes " ") w (joined_text v (codes " ") is_v.text (ascii_text (codes " ") refl)) is_w.text
+-- what is shown of what is given, without the space before it
+abbrev from : {A : Type 0} → (A → List ℕ) → Option A → List ℕ
+from show None = []
+from show (Some it) = show it
 
-three_text : (v w x : List ℕ) → IsWord v → IsWord w → IsWord x → is_utf8 (v ++ codes " " ++ w ++ codes " " ++ x) ≡ true
-three_text v w x is_v is_w is_x =
-    let front : is_utf8 (v ++ codes " " ++ w ++ codes " ") ≡ true =
-    joined_text (v ++ codes " " ++ w) (codes " ") (two_text v w is_v is_w) (ascii_text (codes " ") refl) in
-    joined_text (v ++ codes " " ++ w ++ codes " ") x front is_x.text
+abbrev shown : ClusterView → Given → Argument → List ℕ
+shown c g argument.Node = from (node_word c) g.node
+shown c g argument.App = from (app_word c) g.app
+shown c g argument.Restart = from restart_words g.restart
+shown c g argument.Truth = from truth_word g.truth
+shown c g argument.Ending = from reason_word g.ending
+shown c g argument.Milliseconds = from decimal g.ms
+
+-- a space and a word are shown of it, which is read as what was given
+record Argues (c : ClusterView) (g : Given) (a : Argument) : Type 0 where
+  words : argument_words c g a ≡ 32 ∷ shown c g a
+  word : IsWord (shown c g a)
+  reads : (h : Given) → with_argument c a (shown c g a) h ≡ Some (put g a h)
 
 restart_word : (restart : Restart) → IsWord (restart_words restart)
 restart_word Permanent = closed_word (restart_words Permanent) refl refl refl
 restart_word Transient = closed_word (restart_words Transient) refl refl refl
 restart_word Temporary = closed_word (restart_words Temporary) refl refl refl
 
+restart_again : (restart : Restart) → restart_named (restart_words restart) ≡ Some restart
+restart_again Permanent = refl
+restart_again Transient = refl
+restart_again Temporary = refl
+
 allow_word : (allow : Bool) → IsWord (truth_word allow)
 allow_word true = closed_word (codes "true") refl refl refl
 allow_word false = closed_word (codes "false") refl refl refl
+
+allow_again : (allow : Bool) → first_of (truth_word true) (truth_word false) (truth_word allow) ≡ Some allow
+allow_again true = refl
+allow_again false = refl
 
 normal_word : (normal : Bool) → IsWord (reason_word normal)
 normal_word true = closed_word (codes "normal") refl refl refl
 normal_word false = closed_word (codes "abnormal") refl refl refl
 
--- ---- events
+normal_again : (normal : Bool) → first_of (reason_word true) (reason_word false) (reason_word normal) ≡ Some normal
+normal_again true = refl
+normal_again false = refl
 
--- a word, a node, an application and one more word
-starts : (n : Node) (a : App) (restart : Restart) → four_word_command (codes "start") n a (restart_words restart) ≡ Asks (call.Step (Start n a restart))
-unfolding four_word_command
-starts n a Permanent = refl
-starts n a Transient = refl
-starts n a Temporary = refl
+-- where something is given, it is shown, and is a word; and a reading of that word is one of what was given
+module _ {A : Type 0} (show : A → List ℕ) (P : A → Type 0) (is_word : (x : A) → P x → IsWord (show x)) where
+  spaced_word : (o : Option A) → is_given o ≡ true → IfSome o P → (spaced show o ≡ 32 ∷ from show o) × IsWord (from show o)
+  spaced_word None given told = absurd (cc given)
+  spaced_word (Some x) given told = (refl, is_word x told)
 
-permits : (n : Node) (a : App) (allow : Bool) → four_word_command (codes "permit") n a (truth_word allow) ≡ Asks (call.Step (Permit n a allow))
-unfolding four_word_command
-permits n a true = refl
-permits n a false = refl
+  read_again : (read : List ℕ → Option A) → ((x : A) → P x → read (show x) ≡ Some x) → (o : Option A) → is_given o ≡ true → IfSome o P → read (from show o) ≡ o
+  read_again read again None given told = absurd (cc given)
+  read_again read again (Some x) given told = again x told
 
-takes_over : (n : Node) (a : App) (restart : Restart)
-    → four_word_command (codes "takeover") n a (restart_words restart) ≡ Asks (call.Step (Takeover n a restart))
-unfolding four_word_command
-takes_over n a Permanent = refl
-takes_over n a Transient = refl
-takes_over n a Temporary = refl
+any : {A : Type 0} (o : Option A) → IfSome o (λ _. Unit {0})
+any None = tt
+any (Some x) = tt
 
-exits : (n : Node) (a : App) (normal : Bool) → four_word_command (codes "exit") n a (reason_word normal) ≡ Asks (call.Step (Exit n a normal))
-unfolding four_word_command
-exits n a true = refl
-exits n a false = refl
+-- a reading in two steps
+kept : {A : Type 0} (set : Option A → Given) (o p : Option A) → is_given p ≡ true → o ≡ p → option_map (λ x. set (Some x)) o ≡ Some (set p)
+kept set o None given same = absurd (cc given)
+kept set o (Some x) given same = ap (option_map (λ x. set (Some x))) same
 
--- a word, an application and one more word
-starts_all : (c : ClusterView) (name : List ℕ) (restart : Restart)
-    → three_word_command c (codes "start_all") name (restart_words restart) ≡ Asks (call.Step (StartAll (named_app c name) restart))
-starts_all c name Permanent = refl
-starts_all c name Transient = refl
-starts_all c name Temporary = refl
+module _ (c : ClusterView) (within : IsWithin c) (words : HasWords c) (g : Given) (told : IsGivenTold c g) where
+  argues : (a : Argument) → has g a ≡ true → Argues c g a
+  argues argument.Node given =
+      let is = spaced_word (node_word c) (IsNodeTold c) (λ n t. (node_by_word c within words n t).word) g.node given told.0 in
+      let again = read_again (node_word c) (IsNodeTold c) (λ n t. (node_by_word c within words n t).word) (λ w. Some (named c w))
+      (λ n t. ap (λ (m : Node). Some m) (node_by_word c within words n t).names) g.node given told.0 in
+      record { words = is.0; word = is.1; reads = λ h. ap (λ (o : Option Node). Some (record h { node = o })) again }
+  argues argument.App given =
+      let is = spaced_word (app_word c) (IsAppTold c) (λ a t. (app_by_word c within words a t).word) g.app given told.1 in
+      let again = read_again (app_word c) (IsAppTold c) (λ a t. (app_by_word c within words a t).word) (λ w. Some (named_app c w))
+      (λ a t. ap (λ (b : App). Some b) (app_by_word c within words a t).names) g.app given told.1 in
+      record { words = is.0; word = is.1; reads = λ h. ap (λ (o : Option App). Some (record h { app = o })) again }
+  argues argument.Restart given =
+      let is = spaced_word restart_words (λ _. Unit {0}) (λ r _. restart_word r) g.restart given (any g.restart) in
+      let again = read_again restart_words (λ _. Unit {0}) (λ r _. restart_word r) restart_named (λ r _. restart_again r) g.restart given (any g.restart) in
+      record { words = is.0; word = is.1; reads = λ h. kept (λ o. record h { restart = o }) (restart_named (shown c g argument.Restart)) g.restart given again }
+  argues argument.Truth given =
+      let is = spaced_word truth_word (λ _. Unit {0}) (λ t _. allow_word t) g.truth given (any g.truth) in
+      let again = read_again truth_word (λ _. Unit {0}) (λ t _. allow_word t) (first_of (truth_word true) (truth_word false)) (λ t _. allow_again t) g.truth given (any g.truth) in
+      record { words = is.0; word = is.1; reads = λ h. kept (λ o. record h { truth = o }) (first_of (truth_word true) (truth_word false) (shown c g argument.Truth)) g.truth given again }
+  argues argument.Ending given =
+      let is = spaced_word reason_word (λ _. Unit {0}) (λ t _. normal_word t) g.ending given (any g.ending) in
+      let again = read_again reason_word (λ _. Unit {0}) (λ t _. normal_word t) (first_of (reason_word true) (reason_word false)) (λ t _. normal_again t) g.ending given (any g.ending) in
+      record { words = is.0; word = is.1; reads = λ h. kept (λ o. record h { ending = o }) (first_of (reason_word true) (reason_word false) (shown c g argument.Ending)) g.ending given again }
+  argues argument.Milliseconds given =
+      let is = spaced_word decimal (λ ms. ms < 2 ^ 64) decimal_word g.ms given told.2 in
+      let again = read_again decimal (λ ms. ms < 2 ^ 64) decimal_word milliseconds milliseconds_told g.ms given told.2 in
+      record { words = is.0; word = is.1; reads = λ h. kept (λ o. record h { ms = o }) (milliseconds (shown c g argument.Milliseconds)) g.ms given again }
 
-module _ (c : ClusterView) (within : IsWithin c) (words : HasWords c) where
-  -- what the words of a place and one more ask behind a first word
-  asked_there : (word option : List ℕ) (n : Node) (a : App) (asked : Call) → IsNodeTold c n → IsAppTold c a → IsWord option
-      → four_word_command word n a option ≡ Asks asked → command_of c (word ∷ words_of (place_words c n a ++ codes " " ++ option)) ≡ Asks asked
-  asked_there word option n a asked node_told app_told is_word asks =
-      let node = node_by_word c within words n node_told in
-      let app = app_by_word c within words a app_told in
-      ap (λ (ws : List (List ℕ)). command_of c (word ∷ ws)) (three_words (node_word c n) (app_word c a) option node.word app.word is_word)
-      ∙ (λ i. four_word_command word (node.names i) (app.names i) option) ∙ asks
+  -- ---- all arguments of a row
 
-  text_there : (front option : List ℕ) (n : Node) (a : App) → IsNodeTold c n → IsAppTold c a → IsWord option → is_utf8 front ≡ true
-      → is_utf8 (front ++ (place_words c n a ++ codes " " ++ option)) ≡ true
-  text_there front option n a node_told app_told is_word text =
-      let node = node_by_word c within words n node_told in
-      let app = app_by_word c within words a app_told in
-      joined_text front (place_words c n a ++ codes " " ++ option) text (three_text (node_word c n) (app_word c a) option node.word app.word is_word)
+  -- a word and what is shown behind it are that word and these, a text, and are read as what was given
+  record Follows (arguments : List Argument) : Type 0 where
+    parts : (v : List ℕ) → IsWord v → words_of (v ++ flat_map (argument_words c g) arguments) ≡ v ∷ map (shown c g) arguments
+    text : (v : List ℕ) → IsWord v → is_utf8 (v ++ flat_map (argument_words c g) arguments) ≡ true
+    reads : (h : Given) → given_in c arguments (map (shown c g) arguments) h ≡ Some (put_all g arguments h)
 
-  event_asks : (event : Event) → IsEventTold c event → Commands c (event_words c event) (call.Step event)
-  unfolding event_words
-  event_asks (Boot n) told =
-      let node = node_by_word c within words n told in
+  follows : (arguments : List Argument) → list_all (has g) arguments ≡ true → Follows arguments
+  follows [] whole = record {
+    parts = λ v is. ap words_of (append-nil v) ∙ last_word v is;
+    text = λ v is. ap is_utf8 (append-nil v) ∙ is.text;
+    reads = λ h. refl;
+  }
+  follows (a ∷ arguments) whole =
+      let given = both (has g a) (list_all (has g) arguments) whole in
+      let here = argues a given.0 in
+      let others = follows arguments given.1 in
+      let rest = flat_map (argument_words c g) arguments in
       record {
-        plain = refl;
-        text = joined_text (codes "boot ") (node_word c n) (ascii_text (codes "boot ") refl) node.word.text;
-        asks = ap (λ (ws : List (List ℕ)). command_of c (codes "boot" ∷ ws)) (last_word (node_word c n) node.word)
-            ∙ ap (λ (m : Node). Asks (call.Step (Boot m))) node.names;
-      }
-  event_asks (Crash n) told =
-      let node = node_by_word c within words n told in
-      record {
-        plain = refl;
-        text = joined_text (codes "crash ") (node_word c n) (ascii_text (codes "crash ") refl) node.word.text;
-        asks = ap (λ (ws : List (List ℕ)). command_of c (codes "crash" ∷ ws)) (last_word (node_word c n) node.word)
-            ∙ ap (λ (m : Node). Asks (call.Step (Crash m))) node.names;
-      }
-  event_asks (Tick ms) told =
-      let word = decimal_word ms told in
-      record {
-        plain = refl;
-        text = joined_text (codes "tick ") (decimal ms) (ascii_text (codes "tick ") refl) word.text;
-        asks = ap (λ (ws : List (List ℕ)). command_of c (codes "tick" ∷ ws)) (last_word (decimal ms) word)
-            ∙ ap (λ (o : Option ℕ). step_command (option_map (λ m. Tick m) o)) (milliseconds_told ms told);
-      }
-  event_asks (Start n a restart) told =
-      let word = restart_word restart in
-      record {
-        plain = refl;
-        text = text_there (codes "start ") (restart_words restart) n a told.0 told.1 word (ascii_text (codes "start ") refl);
-        asks = asked_there (codes "start") (restart_words restart) n a (call.Step (Start n a restart)) told.0 told.1 word (starts n a restart);
-      }
-  event_asks (Stop n a) told =
-      let node = node_by_word c within words n told.0 in
-      let app = app_by_word c within words a told.1 in
-      record {
-        plain = refl;
-        text = joined_text (codes "stop ") (place_words c n a) (ascii_text (codes "stop ") refl) (two_text (node_word c n) (app_word c a) node.word app.word);
-        asks = ap (λ (ws : List (List ℕ)). command_of c (codes "stop" ∷ ws)) (two_words (node_word c n) (app_word c a) node.word app.word)
-            ∙ (λ i. Asks (call.Step (Stop (node.names i) (app.names i))));
-      }
-  event_asks (Permit n a allow) told =
-      let word = allow_word allow in
-      record {
-        plain = refl;
-        text = text_there (codes "permit ") (truth_word allow) n a told.0 told.1 word (ascii_text (codes "permit ") refl);
-        asks = asked_there (codes "permit") (truth_word allow) n a (call.Step (Permit n a allow)) told.0 told.1 word (permits n a allow);
-      }
-  event_asks (Takeover n a restart) told =
-      let word = restart_word restart in
-      record {
-        plain = refl;
-        text = text_there (codes "takeover ") (restart_words restart) n a told.0 told.1 word (ascii_text (codes "takeover ") refl);
-        asks = asked_there (codes "takeover") (restart_words restart) n a (call.Step (Takeover n a restart)) told.0 told.1 word (takes_over n a restart);
-      }
-  event_asks (Exit n a normal) told =
-      let word = normal_word normal in
-      record {
-        plain = refl;
-        text = text_there (codes "exit ") (reason_word normal) n a told.0 told.1 word (ascii_text (codes "exit ") refl);
-        asks = asked_there (codes "exit") (reason_word normal) n a (call.Step (Exit n a normal)) told.0 told.1 word (exits n a normal);
-      }
-  event_asks (StartAll a restart) told =
-      let app = app_by_word c within words a told in
-      let option = restart_word restart in
-      record {
-        plain = refl;
-        text = joined_text (codes "start_all ") (app_word c a ++ codes " " ++ restart_words restart) (ascii_text (codes "start_all ") refl)
-            (two_text (app_word c a) (restart_words restart) app.word option);
-        asks = ap (λ (ws : List (List ℕ)). command_of c (codes "start_all" ∷ ws)) (two_words (app_word c a) (restart_words restart) app.word option)
-            ∙ starts_all c (app_word c a) restart ∙ ap (λ (b : App). Asks (call.Step (StartAll b restart))) app.names;
-      }
-  event_asks (StopAll a) told =
-      let app = app_by_word c within words a told in
-      record {
-        plain = refl;
-        text = joined_text (codes "stop_all ") (app_word c a) (ascii_text (codes "stop_all ") refl) app.word.text;
-        asks = ap (λ (ws : List (List ℕ)). command_of c (codes "stop_all" ∷ ws)) (last_word (app_word c a) app.word)
-            ∙ ap (λ (b : App). Asks (call.Step (StopAll b))) app.names;
+        parts = λ v is. ap (λ ws. words_of (v ++ (ws ++ rest))) here.words ∙ first_word v (shown c g a ++ rest) is
+            ∙ ap (λ (ws : List (List ℕ)). v ∷ ws) (others.parts (shown c g a) here.word);
+        text = λ v is. ap (λ ws. is_utf8 (v ++ (ws ++ rest))) here.words
+            ∙ joined_text v (32 ∷ (shown c g a ++ rest)) is.text
+            (joined_text (codes " ") (shown c g a ++ rest) (ascii_text (codes " ") refl) (others.text (shown c g a) here.word));
+        reads = λ h. ap (option_and_then (given_in c arguments (map (shown c g) arguments))) (here.reads h) ∙ others.reads (put g a h);
       }
 
-  -- ---- calls
+-- ---- calls
 
-  pub call_asks : (asked : Call) → IsTold c asked → Commands c (command_words c asked) asked
-  unfolding command_words
-  call_asks (call.Step event) told = event_asks event told
-  call_asks call.Undo told = record { plain = refl; text = ascii_text (codes "undo") refl; asks = refl }
-  call_asks call.Redo told = record { plain = refl; text = ascii_text (codes "redo") refl; asks = refl }
-  call_asks call.UndoAll told = record { plain = refl; text = ascii_text (codes "undo_all") refl; asks = refl }
-  call_asks call.RedoAll told = record { plain = refl; text = ascii_text (codes "redo_all") refl; asks = refl }
-  call_asks call.Look told = record { plain = refl; text = ascii_text (codes "show") refl; asks = refl }
+pub call_asks : (c : ClusterView) → IsWithin c → HasWords c → (asked : Call) → IsTold c asked → Commands c (command_words c asked) asked
+unfolding command_words
+call_asks c within words asked told =
+    let v = (said asked).0 in
+    let g = (said asked).1 in
+    let row = verb_is v in
+    let it = says asked in
+    let behind = follows c within words g told (arguments_of v) it.whole in
+    record {
+      plain = row.plain (flat_map (argument_words c g) (arguments_of v));
+      text = behind.text (word_of v) row.word;
+      asks = ap (command_of c) (behind.parts (word_of v) row.word)
+          ∙ ap (λ o. asking (row_asks c o (map (shown c g) (arguments_of v)))) row.found
+          ∙ ap (λ o. asking (option_and_then (call_of v) o)) (behind.reads nothing)
+          ∙ ap (λ h. asking (call_of v h)) it.again
+          ∙ ap asking it.means;
+    }
 
 -- ---- whole lines
 

@@ -2,7 +2,7 @@
 use Rattle.std.specs.Prelude.{ℕ, ◌^◌, ◌&&◌, ◌==◌, List, [], ◌∷◌, length, filter, Bool, true, false, not, nat_lt, if◌then◌else◌, codes, Option, Some, None}
 use Rattle.std.specs.Prelude.{unwrap_or}
 use Rattle.std.specs.List.{slice_split, list_all}
-use Rattle.std.specs.Option.{option_map}
+use Rattle.std.specs.Prelude.{option_map, option_and_then}
 use Rattle.std.specs.Char.{digit_value}
 use Rattle.std.specs.Str.{bytes_eq, is_utf8}
 use Rattle.std.specs.Str.Parse.{digits_value}
@@ -11,14 +11,17 @@ use Rattle.rh_model.specs.declared.node.Node.{Node}
 use Rattle.rh_model.specs.declared.node.App.{App}
 use Rattle.rh_model.specs.declared.settings.Restart.{Restart}
 use Rattle.rh_model.specs.declared.settings.Restart.TheVariants.{Permanent, Transient, Temporary}
-use Rattle.rh_events.specs.declared.event.Event.{Event}
-use Rattle.rh_events.specs.declared.event.Event.TheVariants.{Boot, Crash, Tick, Start, Stop, Permit, Takeover, Exit, StartAll, StopAll}
 use Rattle.rh_trail.specs.declared.call.Call.{Call}
-use Rattle.rh_trail.specs.declared.call.Call.TheVariants as call
 use Rattle.rh_trail.specs.Report.{restart_words}
 use Rattle.rh_script.specs.declared.script.TheConstants.{NO_NODE, NO_APP}
 use Rattle.rh_script.specs.declared.script.Line.{Line}
 use Rattle.rh_script.specs.declared.script.Line.TheVariants.{Nothing, Asks, Bad}
+use Rattle.rh_script.specs.declared.forms.Argument.{Argument}
+use Rattle.rh_script.specs.declared.forms.Argument.TheVariants as argument
+use Rattle.rh_script.specs.declared.forms.Verb.{Verb}
+use Rattle.rh_script.specs.declared.forms.Given.{Given}
+use Rattle.rh_script.specs.Forms.{arguments_of, verb_named, nothing, call_of, with_node, with_app, with_restart, with_truth, with_ending, with_ms}
+use Rattle.rh_script.specs.CommandWords.{truth_word, reason_word}
 
 -- the words between runs of spaces
 abbrev pub words_of : List ℕ → List (List ℕ)
@@ -31,16 +34,6 @@ named c name = unwrap_or (node_of c name) NO_NODE
 -- and the application
 abbrev pub named_app : ClusterView → List ℕ → App
 named_app c name = unwrap_or (app_of c name) NO_APP
-
--- a command of one word
-abbrev pub plain_command : List ℕ → Line
-plain_command word =
-    if bytes_eq word (codes "undo") then Asks call.Undo
-    else if bytes_eq word (codes "redo") then Asks call.Redo
-    else if bytes_eq word (codes "undo_all") then Asks call.UndoAll
-    else if bytes_eq word (codes "redo_all") then Asks call.RedoAll
-    else if bytes_eq word (codes "show") then Asks call.Look
-    else Bad
 
 -- does the line begin with this byte?
 abbrev pub begins_with : ℕ → List ℕ → Bool
@@ -55,20 +48,6 @@ is_numeral word = not (length word == 0) && list_all (λ b. nat_lt (digit_value 
 unfoldable pub milliseconds : List ℕ → Option ℕ
 milliseconds word = if is_numeral word && nat_lt (digits_value 10 word) (2 ^ 64) then Some (digits_value 10 word) else None
 
--- the command of an event, or none without one
-abbrev pub step_command : Option Event → Line
-step_command None = Bad
-step_command (Some event) = Asks (call.Step event)
-
--- a command of two words
-abbrev pub two_word_command : ClusterView → List ℕ → List ℕ → Line
-two_word_command c word name =
-    if bytes_eq word (codes "boot") then Asks (call.Step (Boot (named c name)))
-    else if bytes_eq word (codes "crash") then Asks (call.Step (Crash (named c name)))
-    else if bytes_eq word (codes "tick") then step_command (option_map (λ ms. Tick ms) (milliseconds name))
-    else if bytes_eq word (codes "stop_all") then Asks (call.Step (StopAll (named_app c name)))
-    else Bad
-
 -- the restart type of this word (application(3), `start/2`)
 abbrev pub restart_named : List ℕ → Option Restart
 restart_named word =
@@ -81,30 +60,40 @@ restart_named word =
 abbrev pub first_of : List ℕ → List ℕ → List ℕ → Option Bool
 first_of yea nay word = if bytes_eq word yea then Some true else if bytes_eq word nay then Some false else None
 
--- a command of three words
-abbrev pub three_word_command : ClusterView → List ℕ → List ℕ → List ℕ → Line
-three_word_command c word name other =
-    if bytes_eq word (codes "stop") then Asks (call.Step (Stop (named c name) (named_app c other)))
-    else if bytes_eq word (codes "start_all") then step_command (option_map (λ restart. StartAll (named_app c name) restart) (restart_named other))
-    else Bad
+-- what is given, and this word as an argument of this kind
+abbrev pub with_argument : ClusterView → Argument → List ℕ → Given → Option Given
+with_argument c argument.Node word g = Some (with_node g (named c word))
+with_argument c argument.App word g = Some (with_app g (named_app c word))
+with_argument c argument.Restart word g = option_map (with_restart g) (restart_named word)
+with_argument c argument.Truth word g = option_map (with_truth g) (first_of (truth_word true) (truth_word false) word)
+with_argument c argument.Ending word g = option_map (with_ending g) (first_of (reason_word true) (reason_word false) word)
+with_argument c argument.Milliseconds word g = option_map (with_ms g) (milliseconds word)
 
--- a command of four words
-unfoldable pub four_word_command : List ℕ → Node → App → List ℕ → Line
-four_word_command word n a option =
-    if bytes_eq word (codes "start") then step_command (option_map (λ restart. Start n a restart) (restart_named option))
-    else if bytes_eq word (codes "permit") then step_command (option_map (λ allow. Permit n a allow) (first_of (codes "true") (codes "false") option))
-    else if bytes_eq word (codes "takeover") then step_command (option_map (λ restart. Takeover n a restart) (restart_named option))
-    else if bytes_eq word (codes "exit") then step_command (option_map (λ normal. Exit n a normal) (first_of (codes "normal") (codes "abnormal") option))
-    else Bad
+-- what is given, and these words as arguments of these kinds: one word for each
+abbrev pub given_in : ClusterView → List Argument → List (List ℕ) → Given → Option Given
+given_in c [] [] g = Some g
+given_in c [] (word ∷ words) g = None
+given_in c (argument ∷ arguments) [] g = None
+given_in c (argument ∷ arguments) (word ∷ words) g = option_and_then (given_in c arguments words) (with_argument c argument word g)
+
+-- the call that the row of a command asks with these words, where they are the arguments that the row wants
+abbrev pub row_asks : ClusterView → Option Verb → List (List ℕ) → Option Call
+row_asks c None words = None
+row_asks c (Some v) words = option_and_then (call_of v) (given_in c (arguments_of v) words nothing)
+
+-- the call that a word asks with the words behind it
+abbrev pub call_asked : ClusterView → List ℕ → List (List ℕ) → Option Call
+call_asked c word words = row_asks c (verb_named word) words
+
+-- a line of this call, or none without one
+abbrev pub asking : Option Call → Line
+asking (Some call) = Asks call
+asking None = Bad
 
 -- the command that the words make, and nothing of none
 abbrev pub command_of : ClusterView → List (List ℕ) → Line
 command_of c [] = Nothing
-command_of c (word ∷ []) = plain_command word
-command_of c (word ∷ name ∷ []) = two_word_command c word name
-command_of c (word ∷ name ∷ other ∷ []) = three_word_command c word name other
-command_of c (word ∷ node ∷ app ∷ option ∷ []) = four_word_command word (named c node) (named_app c app) option
-command_of c (word ∷ node ∷ app ∷ option ∷ other ∷ more) = Bad
+command_of c (word ∷ words) = asking (call_asked c word words)
 
 -- what a line asks; one that begins with `#` is a comment
 unfoldable pub line_of : ClusterView → List ℕ → Line

@@ -1,5 +1,5 @@
 -- That the words of a call ask for that call again (ours).
-use Rattle.std.specs.Prelude.{◌≡◌, ◌≢◌, ◌⊎◌, ◌<◌, ◌≤◌, ◌^◌, ◌++◌, ℕ, List, length, map, All, IsTrue, codes, None, Ok}
+use Rattle.std.specs.Prelude.{◌≡◌, ◌≢◌, ◌⊎◌, ◌<◌, ◌≤◌, ◌^◌, ◌++◌, ℕ, List, length, map, All, IsTrue, IfSome, codes, None, Ok}
 use Rattle.std.specs.List.{flat_map}
 use Rattle.std.specs.Fmt.{decimal}
 use Rattle.std.specs.Str.{is_utf8}
@@ -7,17 +7,16 @@ use Rattle.rh_model.specs.ClusterView.{ClusterView, IsWithin, node_count, app_co
 use Rattle.rh_model.specs.declared.node.Node.{Node}
 use Rattle.rh_model.specs.declared.node.App.{App}
 use Rattle.rh_cluster.specs.ClusterOf.{cluster_of}
-use Rattle.rh_events.specs.declared.event.Event.{Event}
-use Rattle.rh_events.specs.declared.event.Event.TheVariants.{Boot, Crash, Tick, Start, Stop, Permit, Takeover, Exit, StartAll, StopAll}
 use Rattle.rh_trail.specs.declared.call.Call.{Call}
-use Rattle.rh_trail.specs.declared.call.Call.TheVariants as call
 use Rattle.rh_trail.specs.Report.{no_name}
 use Rattle.rh_script.specs.declared.script.TheConstants.{NO_NODE, NO_APP}
 use Rattle.rh_script.specs.declared.script.Line.TheVariants.{Asks}
+use Rattle.rh_script.specs.declared.forms.Given.{Given}
 use Rattle.rh_script.specs.declared.session_lines.Command.{Command}
 use Rattle.rh_script.specs.declared.session_lines.SessionLine.TheVariants as line
 use Rattle.rh_script.specs.declared.session_lines.TheConstants.{LAST_SESSION}
 use Rattle.rh_script.specs.Lines.{raw_lines, content}
+use Rattle.rh_script.specs.Forms.{said}
 use Rattle.rh_script.specs.Commands.{line_of}
 use Rattle.rh_script.specs.CommandWords.{command_words}
 use Rattle.rh_script.specs.SessionLines.{session_line_of}
@@ -50,27 +49,13 @@ IsNodeTold c n = (n.0 < node_count c) ⊎ ((n ≡ NO_NODE) × (node_of c no_name
 abbrev pub IsAppTold : ClusterView → App → Type 0
 IsAppTold c a = (a.0 < app_count c) ⊎ ((a ≡ NO_APP) × (app_of c no_name ≡ None))
 
--- an event of such nodes and applications, or a tick within 64 bits
-abbrev pub IsEventTold : ClusterView → Event → Type 0
-IsEventTold c (Boot n) = IsNodeTold c n
-IsEventTold c (Crash n) = IsNodeTold c n
-IsEventTold c (Tick ms) = ms < 2 ^ 64
-IsEventTold c (Start n a restart) = IsNodeTold c n × IsAppTold c a
-IsEventTold c (Stop n a) = IsNodeTold c n × IsAppTold c a
-IsEventTold c (Permit n a allow) = IsNodeTold c n × IsAppTold c a
-IsEventTold c (Takeover n a restart) = IsNodeTold c n × IsAppTold c a
-IsEventTold c (Exit n a normal) = IsNodeTold c n × IsAppTold c a
-IsEventTold c (StartAll a restart) = IsAppTold c a
-IsEventTold c (StopAll a) = IsAppTold c a
+-- such a node, such an application and a number within 64 bits, where they are given
+abbrev pub IsGivenTold : ClusterView → Given → Type 0
+IsGivenTold c g = IfSome g.node (IsNodeTold c) × IfSome g.app (IsAppTold c) × IfSome g.ms (λ ms. ms < 2 ^ 64)
 
--- the step of such an event, or any other call
+-- a call whose command is given such
 abbrev pub IsTold : ClusterView → Call → Type 0
-IsTold c (call.Step event) = IsEventTold c event
-IsTold c call.Undo = Unit {0}
-IsTold c call.Redo = Unit {0}
-IsTold c call.UndoAll = Unit {0}
-IsTold c call.RedoAll = Unit {0}
-IsTold c call.Look = Unit {0}
+IsTold c asked = IsGivenTold c (said asked).1
 
 -- the words of such a call are a line that asks it
 abbrev pub WordsAskAgain : Type 0

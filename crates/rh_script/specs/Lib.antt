@@ -1,4 +1,5 @@
 pub mod Lines
+pub mod Forms
 pub mod Commands
 pub mod SessionLines
 pub mod Answers

@@ -1,90 +1,81 @@
 //! Calls as the commands that ask them.
 
-ghost use Rattle.std.specs.Prelude.{◌≡◌, ◌++◌, OnOk, IfOk, codes};
+ghost use Rattle.std.specs.Prelude.{◌≡◌, ◌++◌, OnOk, IfOk};
+ghost use Rattle.std.specs.List.{flat_map};
+ghost use Rattle.std.specs.Fmt.{decimal};
 ghost use Rattle.std.specs.String.{string_bytes};
-ghost use Rattle.rh_script.specs.CommandWords.{place_words, truth_word, reason_word, event_words, command_words};
+ghost use Rattle.rh_script.specs.CommandWords.{truth_word, reason_word, spaced, argument_words, command_words};
 
+use crate::forms::{Argument, Given, said};
 use rh_base::OutOfMemory;
-use rh_cluster::{App, Cluster, Node};
-use rh_step::Event;
+use rh_cluster::Cluster;
 use rh_trail::{Call, app_word, node_word, restart_word};
 use std::alloc::Global;
 
 // The word of a permission.
-fn truth_word(allow: bool) -> &'static str
+pub fn truth_word(allow: bool) -> &'static str
     ensures { result.now ≡ truth_word allow }
 {
     if allow { "true" } else { "false" }
 }
 
 // The word of a reason to end.
-fn reason_word(normal: bool) -> &'static str
+pub fn reason_word(normal: bool) -> &'static str
     ensures { result.now ≡ reason_word normal }
 {
     if normal { "normal" } else { "abnormal" }
 }
 
-// Adds a word, a node and an application.
-fn push_place(
-    text: &mut String,
-    word: &str,
-    cluster: &Cluster,
-    node: Node,
-    app: App,
-) -> Result<(), OutOfMemory>
-    ensures { OnOk result (string_bytes text.new ≡ string_bytes text.old ++ word.now ++ codes " " ++ place_words cluster.now node app) }
+// Adds a word behind a space, where there is one.
+fn push_word(text: &mut String, word: Option<&str>) -> Result<(), OutOfMemory>
+    ensures { OnOk result (string_bytes text.new ≡ string_bytes text.old ++ spaced (λ word. word.now) word.entry) }
 {
-    let node = node_word(cluster, node);
-    let app = app_word(cluster, app);
-    write!(text, "{word} {node} {app}")?;
+    if let Some(word) = word {
+        write!(text, " {word}")?;
+    }
     Ok(())
 }
 
-// Adds the command of an event.
-#[tactic(auto, unfolding(crate::specs::CommandWords::event_words))]
-fn push_event(text: &mut String, cluster: &Cluster, event: Event) -> Result<(), OutOfMemory>
-    ensures { OnOk result (string_bytes text.new ≡ string_bytes text.old ++ event_words cluster.now event) }
+// Adds a number likewise.
+fn push_number(text: &mut String, number: Option<u64>) -> Result<(), OutOfMemory>
+    ensures { OnOk result (string_bytes text.new ≡ string_bytes text.old ++ spaced decimal number) }
 {
-    match event {
-        Event::Boot { node } => {
-            let name = node_word(cluster, node);
-            write!(text, "boot {name}")?;
-        }
-        Event::Crash { node } => {
-            let name = node_word(cluster, node);
-            write!(text, "crash {name}")?;
-        }
-        Event::Tick { ms } => write!(text, "tick {ms}")?,
-        Event::Start { node, app, restart } => {
-            push_place(text, "start", cluster, node, app)?;
-            let word = restart_word(restart);
-            write!(text, " {word}")?;
-        }
-        Event::Stop { node, app } => push_place(text, "stop", cluster, node, app)?,
-        Event::Permit { node, app, allow } => {
-            push_place(text, "permit", cluster, node, app)?;
-            let word = truth_word(allow);
-            write!(text, " {word}")?;
-        }
-        Event::Takeover { node, app, restart } => {
-            push_place(text, "takeover", cluster, node, app)?;
-            let word = restart_word(restart);
-            write!(text, " {word}")?;
-        }
-        Event::Exit { node, app, normal } => {
-            push_place(text, "exit", cluster, node, app)?;
-            let word = reason_word(normal);
-            write!(text, " {word}")?;
-        }
-        Event::StartAll { app, restart } => {
-            let name = app_word(cluster, app);
-            let word = restart_word(restart);
-            write!(text, "start_all {name} {word}")?;
-        }
-        Event::StopAll { app } => {
-            let name = app_word(cluster, app);
-            write!(text, "stop_all {name}")?;
-        }
+    if let Some(number) = number {
+        write!(text, " {number}")?;
+    }
+    Ok(())
+}
+
+// Adds an argument of this kind behind a space, where one is given.
+fn push_argument(
+    text: &mut String,
+    cluster: &Cluster,
+    argument: Argument,
+    given: Given,
+) -> Result<(), OutOfMemory>
+    ensures { OnOk result (string_bytes text.new ≡ string_bytes text.old ++ argument_words cluster.now given argument) }
+{
+    match argument {
+        Argument::Node => push_word(text, given.node.map(|node| node_word(cluster, node))),
+        Argument::App => push_word(text, given.app.map(|app| app_word(cluster, app))),
+        Argument::Restart => push_word(text, given.restart.map(|restart| restart_word(restart))),
+        Argument::Truth => push_word(text, given.truth.map(truth_word)),
+        Argument::Ending => push_word(text, given.ending.map(reason_word)),
+        Argument::Milliseconds => push_number(text, given.ms),
+    }
+}
+
+// Adds arguments of these kinds.
+fn push_arguments(
+    text: &mut String,
+    cluster: &Cluster,
+    arguments: &[Argument],
+    given: Given,
+) -> Result<(), OutOfMemory>
+    ensures { OnOk result (string_bytes text.new ≡ string_bytes text.old ++ flat_map (argument_words cluster.now given) arguments.now) }
+{
+    for argument in arguments {
+        push_argument(text, cluster, *argument, given)?;
     }
     Ok(())
 }
@@ -95,14 +86,10 @@ fn push_event(text: &mut String, cluster: &Cluster, event: Event) -> Result<(), 
 pub fn command_text(alloc: Global, cluster: &Cluster, call: Call) -> Result<String, OutOfMemory>
     ensures { IfOk result (λ text. string_bytes text ≡ command_words cluster.now call) }
 {
+    let (verb, given) = said(call);
+    let form = verb.form();
     let mut text = String::new(alloc);
-    match call {
-        Call::Step(event) => push_event(&mut text, cluster, event)?,
-        Call::Undo => text.push_str("undo")?,
-        Call::Redo => text.push_str("redo")?,
-        Call::UndoAll => text.push_str("undo_all")?,
-        Call::RedoAll => text.push_str("redo_all")?,
-        Call::Look => text.push_str("show")?,
-    }
+    text.push_str(form.word)?;
+    push_arguments(&mut text, cluster, form.arguments, given)?;
     Ok(text)
 }

@@ -8,6 +8,7 @@
 
 mod answers;
 mod command_words;
+mod forms;
 mod laws;
 mod lines;
 mod script;

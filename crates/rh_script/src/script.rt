@@ -4,11 +4,12 @@ ghost use Rattle.std.specs.Prelude.{not, ◌==◌, ◌≡◌, if◌then◌else�
 ghost use Rattle.std.specs.List.{slice_split};
 ghost use Rattle.std.specs.Option.{option_map};
 ghost use Rattle.std.specs.Str.{is_utf8};
-ghost use Rattle.rh_script.specs.Commands.{words_of, named, named_app, begins_with, milliseconds, step_command, plain_command, two_word_command, restart_named, first_of, three_word_command, four_word_command, command_of, line_of};
+ghost use Rattle.rh_script.specs.Commands.{words_of, named, named_app, begins_with, milliseconds, restart_named, first_of, with_argument, given_in, call_asked, asking, command_of, line_of};
 
+use crate::command_words::{reason_word, truth_word};
+use crate::forms::{Argument, Given, NOTHING, call_of, verb_named};
 use rh_base::OutOfMemory;
 use rh_cluster::{App, Cluster, Node, Restart};
-use rh_step::Event;
 use rh_trail::{Call, restart_word};
 use std::alloc::{AllocError, Global};
 
@@ -64,25 +65,6 @@ fn named_app(cluster: &Cluster, name: &str) -> App
     cluster.app_of(name).unwrap_or(NO_APP)
 }
 
-// A command of one word.
-fn plain_command(word: &str) -> Line
-    ensures { result ≡ plain_command word.now }
-{
-    if word == "undo" {
-        Line::Asks(Call::Undo)
-    } else if word == "redo" {
-        Line::Asks(Call::Redo)
-    } else if word == "undo_all" {
-        Line::Asks(Call::UndoAll)
-    } else if word == "redo_all" {
-        Line::Asks(Call::RedoAll)
-    } else if word == "show" {
-        Line::Asks(Call::Look)
-    } else {
-        Line::Bad
-    }
-}
-
 // Does the line begin with this byte?
 pub fn begins_with(byte: u8, line: &[u8]) -> bool
     ensures { result ≡ begins_with byte line.now }
@@ -99,36 +81,6 @@ fn milliseconds(word: &str) -> Option<u64>
         return None;
     }
     word.parse::<u64>().ok()
-}
-
-// The command of an event, or none without one.
-fn step_command(event: Option<Event>) -> Line
-    ensures { result ≡ step_command event }
-{
-    match event {
-        Some(event) => Line::Asks(Call::Step(event)),
-        None => Line::Bad,
-    }
-}
-
-// A command of two words.
-fn two_word_command(cluster: &Cluster, word: &str, name: &str) -> Line
-    ensures { result ≡ two_word_command cluster.now word.now name.now }
-{
-    if word == "boot" {
-        let node = named(cluster, name);
-        Line::Asks(Call::Step(Event::Boot { node }))
-    } else if word == "crash" {
-        let node = named(cluster, name);
-        Line::Asks(Call::Step(Event::Crash { node }))
-    } else if word == "tick" {
-        step_command(milliseconds(name).map(|ms| Event::Tick { ms }))
-    } else if word == "stop_all" {
-        let app = named_app(cluster, name);
-        Line::Asks(Call::Step(Event::StopAll { app }))
-    } else {
-        Line::Bad
-    }
 }
 
 // The restart type of this name.
@@ -159,45 +111,62 @@ fn first_of(yea: &str, nay: &str, word: &str) -> Option<bool>
     }
 }
 
-// A command of three words.
-fn three_word_command(cluster: &Cluster, word: &str, name: &str, other: &str) -> Line
-    ensures { result ≡ three_word_command cluster.now word.now name.now other.now }
+// What is given, and this word as an argument of this kind. There is nothing where the word is no such argument.
+fn with_argument(cluster: &Cluster, argument: Argument, word: &str, given: Given) -> Option<Given>
+    ensures { result ≡ with_argument cluster.now argument word.now given }
 {
-    if word == "stop" {
-        let node = named(cluster, name);
-        let app = named_app(cluster, other);
-        Line::Asks(Call::Step(Event::Stop { node, app }))
-    } else if word == "start_all" {
-        let app = named_app(cluster, name);
-        step_command(restart_named(other).map(|restart| Event::StartAll { app, restart }))
-    } else {
-        Line::Bad
+    Some(match argument {
+        Argument::Node => given.with_node(named(cluster, word)),
+        Argument::App => given.with_app(named_app(cluster, word)),
+        Argument::Restart => given.with_restart(restart_named(word)?),
+        Argument::Truth => given.with_truth(first_of(truth_word(true), truth_word(false), word)?),
+        Argument::Ending => {
+            given.with_ending(first_of(reason_word(true), reason_word(false), word)?)
+        }
+        Argument::Milliseconds => given.with_ms(milliseconds(word)?),
+    })
+}
+
+// What is given, and these words as arguments of these kinds: one word for each.
+fn given_in(
+    cluster: &Cluster,
+    arguments: &[Argument],
+    words: &[&str],
+    given: Given,
+) -> Option<Given>
+    ensures { result ≡ given_in cluster.now arguments.now (map (λ word. word.now) words.now) given }
+{
+    match arguments {
+        [] => match words {
+            [] => Some(given),
+            [_, ..] => None,
+        },
+        [argument, arguments @ ..] => match words {
+            [] => None,
+            [word, words @ ..] => {
+                let given = with_argument(cluster, *argument, word, given)?;
+                given_in(cluster, arguments, words, given)
+            }
+        },
     }
 }
 
-// A command of four words.
-#[tactic(auto, unfolding(crate::specs::Commands::four_word_command))]
-fn four_word_command(word: &str, node: Node, app: App, option: &str) -> Line
-    ensures { result ≡ four_word_command word.now node app option.now }
+// The call that a word asks with the words behind it.
+fn call_asked(cluster: &Cluster, word: &str, words: &[&str]) -> Option<Call>
+    ensures { result ≡ call_asked cluster.now word.now (map (λ word. word.now) words.now) }
 {
-    if word == "start" {
-        step_command(restart_named(option).map(|restart| Event::Start { node, app, restart }))
-    } else if word == "permit" {
-        step_command(first_of("true", "false", option).map(|allow| Event::Permit {
-            node,
-            app,
-            allow,
-        }))
-    } else if word == "takeover" {
-        step_command(restart_named(option).map(|restart| Event::Takeover { node, app, restart }))
-    } else if word == "exit" {
-        step_command(first_of("normal", "abnormal", option).map(|normal| Event::Exit {
-            node,
-            app,
-            normal,
-        }))
-    } else {
-        Line::Bad
+    let verb = verb_named(word)?;
+    let given = given_in(cluster, verb.form().arguments, words, NOTHING)?;
+    call_of(verb, given)
+}
+
+// A line that asks this call, or is no command without one.
+fn asking(call: Option<Call>) -> Line
+    ensures { result ≡ asking call }
+{
+    match call {
+        Some(call) => Line::Asks(call),
+        None => Line::Bad,
     }
 }
 
@@ -207,13 +176,7 @@ pub fn command_of(cluster: &Cluster, words: &[&str]) -> Line
 {
     match words {
         [] => Line::Nothing,
-        [word] => plain_command(word),
-        [word, name] => two_word_command(cluster, word, name),
-        [word, name, other] => three_word_command(cluster, word, name, other),
-        [word, node, app, option] => {
-            four_word_command(word, named(cluster, node), named_app(cluster, app), option)
-        }
-        _ => Line::Bad,
+        [word, words @ ..] => asking(call_asked(cluster, word, words)),
     }
 }
 

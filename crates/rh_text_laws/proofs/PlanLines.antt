@@ -13,6 +13,7 @@ use Rattle.rh_script.specs.declared.script.Line.TheVariants as line
 use Rattle.rh_script.specs.declared.sweep_lines.SweepLine.{SweepLine}
 use Rattle.rh_script.specs.declared.sweep_lines.SweepLine.TheVariants.{Begins, Plain}
 use Rattle.rh_script.specs.Lines.{script_lines}
+use Rattle.rh_script.specs.Forms.{verb_named}
 use Rattle.rh_script.specs.Commands.{words_of, begins_with, command_of, line_of, calls_of}
 use Rattle.rh_script.specs.SweepLines.{plan_named, begun_or, sweep_line_of, sweep_lines_asked, fits_base, fits_plan, base_lines, event_in, plan_events}
 use Rattle.rh_app.specs.RunText.{bad_line, lines_asked, script_end, end_over, run_end}
@@ -21,7 +22,7 @@ use Rattle.rh_text_laws.specs.PlanLines.{begins_plan, is_of_base, is_of_plan, Co
 
 -- ---- one line
 plain_is : (c : ClusterView) (text : List ℕ) → begins_plan (sweep_line_of c text) ≡ false → sweep_line_of c text ≡ Plain (line_of c text)
-unfolding sweep_line_of line_of
+unfolding sweep_line_of line_of verb_named
 plain_is c text = by (begins_with 35 text) (is_utf8 text) (plan_named (words_of text)) (command_of c (words_of text))
   where
     by : (comment utf8 : Bool) (named : Option (List ℕ)) (read : Line)
@@ -120,7 +121,7 @@ module _ (c : ClusterView) where
 
   -- ---- and at last the report
   show_asks : line_of c (codes "show") ≡ line.Asks call.Look
-  unfolding line_of is_utf8 chars encode
+  unfolding line_of verb_named is_utf8 chars encode
   show_asks = refl
 
   shown : lines_asked c (codes "show" ∷ []) ≡ line.Asks call.Look ∷ []

@@ -42,6 +42,7 @@ use Rattle.rh_events.specs.Refusals.{refused}
 use Rattle.rh_step.specs.Outcomes.{followed, next}
 use Rattle.rh_trail.specs.Runs.{step}
 use Rattle.rh_script.specs.Lines.{content, script_lines}
+use Rattle.rh_script.specs.Forms.{verb_named}
 use Rattle.rh_script.specs.Commands.{line_of}
 use Rattle.rh_script.specs.SweepLines.{PlanText, plan_events, sweep_line_of, sweep_lines_asked, plans_of}
 use Rattle.rh_app.specs.RunText.{run_end}
@@ -94,11 +95,11 @@ unfolding is_utf8 chars encode terms_of dotted dot_at inside terms_up_to some_te
 file_row = refl
 
 plan_row : plans_of (sweep_lines_asked one (script_lines swept)) ≡ plan ∷ []
-unfolding content sweep_line_of is_utf8 chars encode
+unfolding content sweep_line_of verb_named is_utf8 chars encode
 plan_row = refl
 
 swept_row : sweep_end swept First ≡ None
-unfolding sweep_end content sweep_line_of nodes_of apps_of configured moved_by all_moved all_alive is_ready mark_all come_up come_up_if_ready ready_come_up
+unfolding sweep_end content sweep_line_of verb_named nodes_of apps_of configured moved_by all_moved all_alive is_ready mark_all come_up come_up_if_ready ready_come_up
     booted followed refused next step is_utf8 chars encode terms_of dotted dot_at inside terms_up_to some_terms next_at term_by word_at name_at past quoted quoted_atom_at text_at
     integer_at digits_at cluster_of cluster_of_terms profile_of behind_profile as_profile faults_in headers_stage header_faults new_name_faults
     node_names app_names as_headed as_triple as_tuple as_atom is_name faults_behind_headers names_of parts_stage parts_faults section_faults
@@ -111,7 +112,7 @@ unfolding sweep_end content sweep_line_of nodes_of apps_of configured moved_by a
 swept_row = refl
 
 asks_row : AsksForPlan one (base_calls one swept) plan.events answers run
-unfolding run_end content line_of sweep_line_of is_utf8 chars encode terms_of dotted dot_at inside terms_up_to some_terms next_at term_by word_at name_at past quoted quoted_atom_at text_at
+unfolding run_end content line_of sweep_line_of verb_named is_utf8 chars encode terms_of dotted dot_at inside terms_up_to some_terms next_at term_by word_at name_at past quoted quoted_atom_at text_at
     integer_at digits_at cluster_of cluster_of_terms profile_of behind_profile as_profile faults_in headers_stage header_faults new_name_faults
     node_names app_names as_headed as_triple as_tuple as_atom is_name faults_behind_headers names_of parts_stage parts_faults section_faults
     entry_faults has_key list_faults as_list as_entry as_pair kernel_faults share_faults app_name_faults app_in node_name_faults name_faults
@@ -133,7 +134,7 @@ abbrev copied : List (List ℕ)
 copied = codes "crash a" ∷ codes "crash a" ∷ []
 
 copied_row : IsCopied one swept run copied
-unfolding content sweep_line_of is_utf8 chars encode
+unfolding content sweep_line_of verb_named is_utf8 chars encode
 copied_row = record {
   base = codes "boot a" ∷ [];
   first = codes "plan p";
@@ -146,12 +147,12 @@ copied_row = record {
 }
 
 copied_asks_row : plan_events (sweep_lines_asked one copied) ≡ events_answered answers plan.events
-unfolding sweep_line_of is_utf8 chars encode
+unfolding sweep_line_of verb_named is_utf8 chars encode
 copied_asks_row = refl
 
 -- and no command of the run gives a permission back
 none_given_row : NoneGivesBack (opened one First) (calls_in one run)
-unfolding content line_of is_utf8 chars encode
+unfolding content line_of verb_named is_utf8 chars encode
 none_given_row = (refl, (refl, (refl, (refl, tt))))
 
 -- nor does the base of the sweep, or its plan
@@ -159,9 +160,9 @@ abbrev Gives : PlanText → Type 0
 Gives p = NoneGivesBack (base_of one First swept) (steps p.events)
 
 base_row : NoneGivesBack (opened one First) (base_calls one swept)
-unfolding content sweep_line_of is_utf8 chars encode
+unfolding content sweep_line_of verb_named is_utf8 chars encode
 base_row = (refl, tt)
 
 plans_row : NoPlanGivesBack (base_of one First swept) (plans_of (sweep_lines_asked one (script_lines swept)))
-unfolding content sweep_line_of is_utf8 chars encode
+unfolding content sweep_line_of verb_named is_utf8 chars encode
 plans_row = All-cons Gives plan [] (refl, (refl, (refl, tt))) (All-nil Gives)
