@@ -15,7 +15,7 @@ use Rattle.rh_model.specs.Names.{NamesView, is_among}
 use Rattle.rh_cluster.specs.Shapes.{as_atom, as_pair, as_tuple, as_node, as_app, pair_in, ◌>>=◌}
 use Rattle.rh_cluster.specs.Faults.{in_turn, list_faults}
 use Rattle.rh_cluster.specs.Sections.{app_in, first_atom, atom_faults, name_faults, app_name_faults, pair_faults_by}
-use Rattle.rh_cluster.specs.Sections.{boot_faults, as_restart, entry_faults, rehearse_keys, rehearse_faults, section_keys}
+use Rattle.rh_cluster.specs.Sections.{boot_faults, as_restart, entry_faults, rehearse_key, rehearse_faults, section_key}
 use Rattle.rh_cluster.specs.Sections.{section_faults, parts_faults, parts_faults_by, parts_stage}
 use Rattle.rh_cluster.proofs.Unrepeated.{not_repeated}
 use Rattle.rh_cluster.specs.Headers.{nodes_in}
@@ -98,16 +98,16 @@ module _ (names : NamesView) where
 
   -- the parts of a SysConfig are in order
   abbrev pub IsInOrder : (List ℕ × Tree) → Type 0
-  IsInOrder n = list_faults (entry_faults (is_among section_keys) (section_faults names)) n.1 ≡ []
+  IsInOrder n = list_faults (entry_faults section_key (section_faults names)) n.1 ≡ []
 
-  boot_none : (config : Tree) → list_faults (entry_faults (is_among section_keys) (section_faults names)) config ≡ []
+  boot_none : (config : Tree) → list_faults (entry_faults section_key (section_faults names)) config ≡ []
       → in_turn (boot_faults names) [] (elements_under (codes "boot") (rehearse_of config)) ≡ []
   unfolding section_faults rehearse_faults
   boot_none config none =
-      under_none (is_among rehearse_keys) (rehearse_faults names) (boot_faults names) (codes "boot") (rehearse_of config) (λ v k. k)
-      (under_none (is_among section_keys) (section_faults names) (entry_faults (is_among rehearse_keys) (rehearse_faults names)) (codes "rehearse")
+      under_none rehearse_key (rehearse_faults names) (boot_faults names) (codes "boot") (rehearse_of config) (λ v k. k)
+      (under_none section_key (section_faults names) (entry_faults rehearse_key (rehearse_faults names)) (codes "rehearse")
       (elements config) (λ v k. k)
-      (list_none (entry_faults (is_among section_keys) (section_faults names)) config none))
+      (list_none (entry_faults section_key (section_faults names)) config none))
 
   pub boot_once_in : (n : List ℕ × Tree) → IsInOrder n
       → AllPairs (λ (e later : App × Restart). e.0.0 ≢ later.0.0) (filter_map (boot_entry names) (elements_under (codes "boot") (rehearse_of n.1)))

@@ -1,6 +1,6 @@
 -- What follows where a stage finds no fault.
 use Rattle.std.proofs.Common.{◌≡◌, ◌≢◌, ◌||◌, ◌&&◌, ℕ, Bool, true, false, cond, List, [], ◌∷◌, ◌++◌, Option, Some, None}
-use Rattle.std.proofs.Common.{unwrap_or, option_map, refl, sym, ap, ◌∙◌, arith}
+use Rattle.std.proofs.Common.{is_some, unwrap_or, option_map, refl, sym, ap, ◌∙◌, arith}
 use Rattle.std.specs.Prelude.{All, AllPairs}
 use Rattle.std.specs.List.{list_any, filter_map, cons_option}
 use Rattle.std.specs.Str.{bytes_eq}
@@ -40,19 +40,19 @@ otherwise : (b : Bool) (f : ClusterFault) (fs : List ClusterFault) → cond b (f
 otherwise true f fs h = cc
 otherwise false f fs h = h
 
-module _ (is_read : List ℕ → Bool) (value_faults : List ℕ → Tree → List ClusterFault) where
-  entry_none : (earlier : List Tree) (key : List ℕ) (v : Tree) (o : Option (List ℕ × Tree)) → entry_faults_by is_read value_faults earlier o ≡ []
-      → (o >>= λ e. cond (bytes_eq e.0 key) (Some e.1) None) ≡ Some v → value_faults key v ≡ []
+module _ {K : Type 0} (key_of : List ℕ → Option K) (value_faults : Option K → Tree → List ClusterFault) where
+  entry_none : (earlier : List Tree) (key : List ℕ) (v : Tree) (o : Option (List ℕ × Tree)) → entry_faults_by key_of value_faults earlier o ≡ []
+      → (o >>= λ e. cond (bytes_eq e.0 key) (Some e.1) None) ≡ Some v → value_faults (key_of key) v ≡ []
   entry_none earlier key v None none h = cc
   entry_none earlier key v (Some e) none h =
       let same = cond_some (bytes_eq e.0 key) e.1 v h in
       let named : e.0 ≡ key = (bytes_eq-Decides e.0 key).0 same.0 in
-      (λ i. value_faults (sym named i) (sym same.1 i))
-      ∙ otherwise (is_read e.0 && list_any (has_key e.0) earlier) fault.DuplicateParameter (value_faults e.0 e.1) none
+      (λ i. value_faults (key_of (sym named i)) (sym same.1 i))
+      ∙ otherwise (is_some (key_of e.0) && list_any (has_key e.0) earlier) fault.DuplicateParameter (value_faults (key_of e.0) e.1) none
 
   -- the value of a key
-  pub value_none : (earlier ts : List Tree) (key : List ℕ) (v : Tree) → in_turn (entry_faults is_read value_faults) earlier ts ≡ []
-      → value_under key ts ≡ Some v → value_faults key v ≡ []
+  pub value_none : (earlier ts : List Tree) (key : List ℕ) (v : Tree) → in_turn (entry_faults key_of value_faults) earlier ts ≡ []
+      → value_under key ts ≡ Some v → value_faults (key_of key) v ≡ []
   unfolding entry_faults value_if
   value_none earlier [] key v none h = cc
   value_none earlier (t ∷ ts) key v none h =
@@ -61,8 +61,8 @@ module _ (is_read : List ℕ → Bool) (value_faults : List ℕ → Tree → Lis
       (value_none (earlier ++ t ∷ []) ts key v (none_right _ _ none)) h
 
   -- the elements of that value
-  pub under_none : (f : List Tree → Tree → List ClusterFault) (key : List ℕ) (ts : List Tree) → ((v : Tree) → value_faults key v ≡ [] → list_faults f v ≡ [])
-      → in_turn (entry_faults is_read value_faults) [] ts ≡ [] → in_turn f [] (elements_under key ts) ≡ []
+  pub under_none : (f : List Tree → Tree → List ClusterFault) (key : List ℕ) (ts : List Tree) → ((v : Tree) → value_faults (key_of key) v ≡ [] → list_faults f v ≡ [])
+      → in_turn (entry_faults key_of value_faults) [] ts ≡ [] → in_turn f [] (elements_under key ts) ≡ []
   unfolding elements_under
   under_none f key ts lists none = by (value_under key ts) refl
     where

@@ -63,7 +63,7 @@ entry_order_row = refl
 
 -- a parameter that came before, with a value that it can't have
 parameter_order_row :
-    entry_faults (λ key. true) (λ key value. BadValue ∷ []) (tuple (more (atom (codes "boot")) (more (list none) none)) ∷ [])
+    entry_faults (λ key. Some key) (λ key value. BadValue ∷ []) (tuple (more (atom (codes "boot")) (more (list none) none)) ∷ [])
     (tuple (more (atom (codes "boot")) (more (atom (codes "x")) none)))
     ≡ DuplicateParameter ∷ []
 unfolding entry_faults has_key as_entry as_pair as_tuple as_atom

@@ -11,6 +11,14 @@ use Rattle.rh_model.specs.declared.settings.Restart.{Restart}
 use Rattle.rh_model.specs.declared.settings.Restart.TheVariants.{Permanent, Transient, Temporary}
 use Rattle.rh_model.specs.declared.settings.SyncWait.{SyncWait}
 use Rattle.rh_model.specs.declared.settings.SyncWait.TheVariants.{Unset, After, Forever}
+use Rattle.rh_cluster.specs.declared.kernel.KernelKey.{KernelKey}
+use Rattle.rh_cluster.specs.declared.kernel.KernelKey.TheVariants.{Distributed, Mandatory, Optional, Timeout, Permissions}
+use Rattle.rh_cluster.specs.declared.rehearse.RehearseKey.{RehearseKey}
+use Rattle.rh_cluster.specs.declared.rehearse.RehearseKey.TheVariants.{Boot, Platform}
+use Rattle.rh_cluster.specs.declared.sections.SectionKey.{SectionKey}
+use Rattle.rh_cluster.specs.declared.sections.SectionKey.TheVariants.{Kernel, Rehearse}
+use Rattle.rh_cluster.specs.declared.keys.AppKey.{AppKey}
+use Rattle.rh_cluster.specs.declared.keys.AppKey.TheVariants.{Applications, Mod, StartPhases}
 use Rattle.rh_cluster.specs.Shapes.{as_atom, as_list, as_tuple, as_pair, as_entry, as_node, as_app, as_time}
 use Rattle.rh_cluster.specs.Shapes.{atoms, ◌>>=◌}
 use Rattle.rh_cluster.specs.Faults.{when, in_turn, list_faults}
@@ -23,21 +31,23 @@ use Rattle.rh_model.specs.Names.{is_among, NamesView}
 unfoldable pub has_key : List ℕ → Tree → Bool
 has_key key t = option_map_or (λ e. bytes_eq e.0 key) (as_entry t) false
 
-abbrev pub entry_faults_by : (List ℕ → Bool) → (List ℕ → Tree → List ClusterFault) → List Tree → Option (List ℕ × Tree)
-    → List ClusterFault
-entry_faults_by is_read value_faults earlier None = fault.BadValue ∷ []
-entry_faults_by is_read value_faults earlier (Some e) =
-    if is_read e.0 && list_any (has_key e.0) earlier then fault.DuplicateParameter ∷ []
-    else value_faults e.0 e.1
+abbrev pub entry_faults_by : {K : Type 0} → (List ℕ → Option K) → (Option K → Tree → List ClusterFault) → List Tree
+    → Option (List ℕ × Tree) → List ClusterFault
+entry_faults_by key_of value_faults earlier None = fault.BadValue ∷ []
+entry_faults_by key_of value_faults earlier (Some e) =
+    if is_some (key_of e.0) && list_any (has_key e.0) earlier then fault.DuplicateParameter ∷ []
+    else value_faults (key_of e.0) e.1
 
--- an entry: it is one, a key that is read doesn't come twice, and the value is in order
-unfoldable pub entry_faults : (List ℕ → Bool) → (List ℕ → Tree → List ClusterFault) → List Tree → Tree
+-- An entry: it is one, a key that is read doesn't come twice, and the value is in order. A key is read if the table names what
+-- stands under it.
+unfoldable pub entry_faults : {K : Type 0} → (List ℕ → Option K) → (Option K → Tree → List ClusterFault) → List Tree → Tree
     → List ClusterFault
-entry_faults is_read value_faults earlier t = entry_faults_by is_read value_faults earlier (as_entry t)
+entry_faults key_of value_faults earlier t = entry_faults_by key_of value_faults earlier (as_entry t)
 
--- a list of entries, of which those with these keys are read
-abbrev pub entries_faults : List (List ℕ) → (List ℕ → Tree → List ClusterFault) → Tree → List ClusterFault
-entries_faults keys value_faults v = list_faults (entry_faults (is_among keys) value_faults) v
+-- a list of entries
+abbrev pub entries_faults : {K : Type 0} → (List ℕ → Option K) → (Option K → Tree → List ClusterFault) → Tree
+    → List ClusterFault
+entries_faults key_of value_faults v = list_faults (entry_faults key_of value_faults) v
 
 -- ---- names in values (ours)
 
@@ -148,23 +158,24 @@ wait_by None o = option_map After o
 unfoldable pub as_sync_wait : Tree → Option SyncWait
 as_sync_wait t = wait_by (as_atom t) (as_time t)
 
--- the kernel parameters that are read
-abbrev pub kernel_keys : List (List ℕ)
-kernel_keys =
-    codes "distributed" ∷ codes "sync_nodes_mandatory" ∷ codes "sync_nodes_optional" ∷ codes "sync_nodes_timeout"
-    ∷ codes "permissions" ∷ []
-
-abbrev pub is_sync_nodes : List ℕ → Bool
-is_sync_nodes key = bytes_eq key (codes "sync_nodes_mandatory") || bytes_eq key (codes "sync_nodes_optional")
+-- the kernel parameter of a key, if it is read
+abbrev pub kernel_key : List ℕ → Option KernelKey
+kernel_key key =
+    if bytes_eq key (codes "distributed") then Some Distributed
+    else if bytes_eq key (codes "sync_nodes_mandatory") then Some Mandatory
+    else if bytes_eq key (codes "sync_nodes_optional") then Some Optional
+    else if bytes_eq key (codes "sync_nodes_timeout") then Some Timeout
+    else if bytes_eq key (codes "permissions") then Some Permissions
+    else None
 
 -- the value of a kernel parameter
-unfoldable pub kernel_faults : NamesView → List ℕ → Tree → List ClusterFault
-kernel_faults names key v =
-    if bytes_eq key (codes "distributed") then list_faults (share_faults names) v
-    else if is_sync_nodes key then list_faults (node_name_faults names) v
-    else if bytes_eq key (codes "sync_nodes_timeout") then when (is_none (as_sync_wait v)) fault.BadValue
-    else if bytes_eq key (codes "permissions") then list_faults (permission_faults names) v
-    else []
+unfoldable pub kernel_faults : NamesView → Option KernelKey → Tree → List ClusterFault
+kernel_faults names (Some Distributed) v = list_faults (share_faults names) v
+kernel_faults names (Some Mandatory) v = list_faults (node_name_faults names) v
+kernel_faults names (Some Optional) v = list_faults (node_name_faults names) v
+kernel_faults names (Some Timeout) v = when (is_none (as_sync_wait v)) fault.BadValue
+kernel_faults names (Some Permissions) v = list_faults (permission_faults names) v
+kernel_faults names None v = []
 
 -- ---- parameters of `rehearse` (ours)
 
@@ -194,29 +205,33 @@ platform_faults names earlier t =
     ++ when (atom_is (is_among names.apps) (as_atom t)) fault.DuplicateName
     ++ when (not (atom_is (is_among names.platforms) (as_atom t))) fault.TooMany
 
--- its parameters
-abbrev pub rehearse_keys : List (List ℕ)
-rehearse_keys = codes "boot" ∷ codes "platform" ∷ []
+-- its parameter of a key
+abbrev pub rehearse_key : List ℕ → Option RehearseKey
+rehearse_key key =
+    if bytes_eq key (codes "boot") then Some Boot
+    else if bytes_eq key (codes "platform") then Some Platform
+    else None
 
--- the value of a parameter of `rehearse`
-unfoldable pub rehearse_faults : NamesView → List ℕ → Tree → List ClusterFault
-rehearse_faults names key v =
-    if bytes_eq key (codes "boot") then list_faults (boot_faults names) v
-    else if bytes_eq key (codes "platform") then list_faults (platform_faults names) v
-    else fault.BadValue ∷ []
+-- the value of a parameter of `rehearse`; there are no others
+unfoldable pub rehearse_faults : NamesView → Option RehearseKey → Tree → List ClusterFault
+rehearse_faults names (Some Boot) v = list_faults (boot_faults names) v
+rehearse_faults names (Some Platform) v = list_faults (platform_faults names) v
+rehearse_faults names None v = fault.BadValue ∷ []
 
 -- ---- sections of a SysConfig (config(4))
 
--- the sections that are read
-abbrev pub section_keys : List (List ℕ)
-section_keys = codes "kernel" ∷ codes "rehearse" ∷ []
+-- the section of a key, if it is read
+abbrev pub section_key : List ℕ → Option SectionKey
+section_key key =
+    if bytes_eq key (codes "kernel") then Some Kernel
+    else if bytes_eq key (codes "rehearse") then Some Rehearse
+    else None
 
 -- the list of a section; of other sections than the two only that there is one
-unfoldable pub section_faults : NamesView → List ℕ → Tree → List ClusterFault
-section_faults names key v =
-    if bytes_eq key (codes "kernel") then entries_faults kernel_keys (kernel_faults names) v
-    else if bytes_eq key (codes "rehearse") then entries_faults rehearse_keys (rehearse_faults names) v
-    else when (is_none (as_list v)) fault.BadValue
+unfoldable pub section_faults : NamesView → Option SectionKey → Tree → List ClusterFault
+section_faults names (Some Kernel) v = entries_faults kernel_key (kernel_faults names) v
+section_faults names (Some Rehearse) v = entries_faults rehearse_key (rehearse_faults names) v
+section_faults names None v = when (is_none (as_list v)) fault.BadValue
 
 -- ---- the keys of an application (app(4))
 
@@ -241,24 +256,27 @@ are_entries o = option_map_or (list_all (λ t. is_some (as_entry t))) o false
 unfoldable pub are_phases : Tree → Bool
 are_phases t = atom_is (λ s. bytes_eq s (codes "undefined")) (as_atom t) || are_entries (as_list t)
 
--- the keys that are read
-abbrev pub app_keys : List (List ℕ)
-app_keys = codes "applications" ∷ codes "mod" ∷ codes "start_phases" ∷ []
+-- what is read under a key of an application, if it is
+abbrev pub app_key : List ℕ → Option AppKey
+app_key key =
+    if bytes_eq key (codes "applications") then Some Applications
+    else if bytes_eq key (codes "mod") then Some Mod
+    else if bytes_eq key (codes "start_phases") then Some StartPhases
+    else None
 
 -- the value of a key of an application
-unfoldable pub key_faults : NamesView → List (List ℕ) → List ℕ → List ℕ → Tree → List ClusterFault
-key_faults names platforms own key v =
-    if bytes_eq key (codes "applications") then deps_faults names platforms own v
-    else if bytes_eq key (codes "mod") then when (not (is_start v)) fault.BadValue
-    else if bytes_eq key (codes "start_phases") then when (not (are_phases v)) fault.BadValue
-    else []
+unfoldable pub key_faults : NamesView → List (List ℕ) → List ℕ → Option AppKey → Tree → List ClusterFault
+key_faults names platforms own (Some Applications) v = deps_faults names platforms own v
+key_faults names platforms own (Some Mod) v = when (not (is_start v)) fault.BadValue
+key_faults names platforms own (Some StartPhases) v = when (not (are_phases v)) fault.BadValue
+key_faults names platforms own None v = []
 
 -- ---- terms (ours)
 
 abbrev pub parts_faults_by : NamesView → List (List ℕ) → Option (List ℕ × Tree) → Option (List ℕ × Tree)
     → List ClusterFault
-parts_faults_by names platforms (Some node) app = entries_faults section_keys (section_faults names) node.1
-parts_faults_by names platforms None (Some app) = entries_faults app_keys (key_faults names platforms app.0) app.1
+parts_faults_by names platforms (Some node) app = entries_faults section_key (section_faults names) node.1
+parts_faults_by names platforms None (Some app) = entries_faults app_key (key_faults names platforms app.0) app.1
 parts_faults_by names platforms None None = []
 
 -- the parts of a term from left to right

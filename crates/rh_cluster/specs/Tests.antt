@@ -1,5 +1,5 @@
 -- What a test that is passed on finds (ours).
-use Rattle.std.specs.Prelude.{◌≡◌, ℕ, List, map, Bool, Result}
+use Rattle.std.specs.Prelude.{◌≡◌, ℕ, List, map, Bool, Option, Result}
 use Rattle.std.specs.Borrow.{Bor}
 use Rattle.std.specs.Fn.{Shared}
 use Rattle.rh_base.specs.declared.term.Term.{Term}
@@ -25,23 +25,21 @@ FindsFirstOfEach calls test faults =
     (earlier : Bor (List Term)) (t : Bor Term) (r : Found) → calls.post test (earlier, (t, tt)) r
     → FindsFirst r (faults (map tree_of earlier.now) (tree_of t.now))
 
--- the test finds the first of the faults that the value of a key has, unless memory runs out
-abbrev pub FindsOfValues : {F : Type 0} → Shared F (Bor (List ℕ) × (Bor Term × Unit {0})) Found
-    → F → (List ℕ → Tree → List ClusterFault) → Type 0
+-- the test finds the first of the faults that the value has which stands under a key, unless memory runs out
+abbrev pub FindsOfValues : {F K : Type 0} → Shared F (Option K × (Bor Term × Unit {0})) Found
+    → F → (Option K → Tree → List ClusterFault) → Type 0
 FindsOfValues calls test faults =
-    (key : Bor (List ℕ)) (v : Bor Term) (r : Found) → calls.post test (key, (v, tt)) r
-    → Finds r (faults key.now (tree_of v.now))
+    (key : Option _) (v : Bor Term) (r : Found) → calls.post test (key, (v, tt)) r → Finds r (faults key (tree_of v.now))
 
 -- the same of a test that takes no memory
-abbrev pub FindsFirstOfValues : {F : Type 0} → Shared F (Bor (List ℕ) × (Bor Term × Unit {0})) Found
-    → F → (List ℕ → Tree → List ClusterFault) → Type 0
+abbrev pub FindsFirstOfValues : {F K : Type 0} → Shared F (Option K × (Bor Term × Unit {0})) Found
+    → F → (Option K → Tree → List ClusterFault) → Type 0
 FindsFirstOfValues calls test faults =
-    (key : Bor (List ℕ)) (v : Bor Term) (r : Found) → calls.post test (key, (v, tt)) r
-    → FindsFirst r (faults key.now (tree_of v.now))
+    (key : Option _) (v : Bor Term) (r : Found) → calls.post test (key, (v, tt)) r → FindsFirst r (faults key (tree_of v.now))
 
--- the test tells whether a key is read
-abbrev pub TellsKeys : {F : Type 0} → Shared F (Bor (List ℕ) × Unit {0}) Bool → F → (List ℕ → Bool) → Type 0
-TellsKeys calls test is_read = (key : Bor (List ℕ)) (r : Bool) → calls.post test (key, tt) r → r ≡ is_read key.now
+-- the table tells what stands under a key, if it is read
+abbrev pub TellsKeys : {F K : Type 0} → Shared F (Bor (List ℕ) × Unit {0}) (Option K) → F → (List ℕ → Option K) → Type 0
+TellsKeys calls table key_of = (key : Bor (List ℕ)) (r : Option _) → calls.post table (key, tt) r → r ≡ key_of key.now
 
 -- the test tells whether a term is such a value
 abbrev pub TellsValues : {F : Type 0} → Shared F (Bor Term × Unit {0}) Bool → F → (Tree → Bool) → Type 0

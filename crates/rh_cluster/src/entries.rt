@@ -33,39 +33,47 @@ fn repeats_key(key: &str, earlier: &[Term]) -> bool
 }
 
 // Tests an entry behind earlier terms: a key that is read doesn't come twice, and the value passes
-// its test.
+// its test. A key is read if the table names what stands under it.
 #[tactic(auto, unfolding(crate::specs::Sections::entry_faults))]
-fn check_entry<R: Fn(&str) -> bool, V: Fn(&str, &Term) -> Result<(), ClusterFault>>(
-    earlier: &[Term],
-    term: &Term,
-    is_read: &R,
-    check_value: &V,
-) -> Result<(), ClusterFault>
-    requires keys { R.IsAlwaysCallable is_read.now }
+fn check_entry<
+    K: Copy,
+    R: Fn(&str) -> Option<K>,
+    V: Fn(Option<K>, &Term) -> Result<(), ClusterFault>,
+>(earlier: &[Term], term: &Term, key_of: &R, check_value: &V) -> Result<(), ClusterFault>
+    requires keys { R.IsAlwaysCallable key_of.now }
     requires values { V.IsAlwaysCallable check_value.now }
-    ensures finds { (reads : _) (faults : _) → TellsKeys R.Fn is_read.now reads → FindsOfValues V.Fn check_value.now faults → Finds result (entry_faults reads faults (map tree_of earlier.now) (tree_of term.now)) }
-    ensures exact { (reads : _) (faults : _) → TellsKeys R.Fn is_read.now reads → FindsFirstOfValues V.Fn check_value.now faults → FindsFirst result (entry_faults reads faults (map tree_of earlier.now) (tree_of term.now)) }
+    ensures finds { (keys : _) (faults : _) → TellsKeys R.Fn key_of.now keys →
+        FindsOfValues V.Fn check_value.now faults →
+        Finds result (entry_faults keys faults (map tree_of earlier.now) (tree_of term.now)) }
+    ensures exact { (keys : _) (faults : _) → TellsKeys R.Fn key_of.now keys →
+        FindsFirstOfValues V.Fn check_value.now faults →
+        FindsFirst result (entry_faults keys faults (map tree_of earlier.now) (tree_of term.now)) }
 {
     let (key, value) = shapes::entry(term).ok_or(ClusterFault::BadValue)?;
-    if is_read(key) && repeats_key(key, earlier) {
+    let known = key_of(key);
+    if known.is_some() && repeats_key(key, earlier) {
         return Err(ClusterFault::DuplicateParameter);
     }
-    check_value(key, value)
+    check_value(known, value)
 }
 
 /// Tests a value that must be a list of entries `{Key, Value}`, in which no key that is read comes
 /// twice.
-pub fn check_entries<R: Fn(&str) -> bool, V: Fn(&str, &Term) -> Result<(), ClusterFault>>(
-    value: &Term,
-    is_read: R,
-    check_value: V,
-) -> Result<(), ClusterFault>
-    requires keys { R.IsAlwaysCallable is_read }
+pub fn check_entries<
+    K: Copy,
+    R: Fn(&str) -> Option<K>,
+    V: Fn(Option<K>, &Term) -> Result<(), ClusterFault>,
+>(value: &Term, key_of: R, check_value: V) -> Result<(), ClusterFault>
+    requires keys { R.IsAlwaysCallable key_of }
     requires values { V.IsAlwaysCallable check_value }
-    ensures finds { (reads : _) (faults : _) → TellsKeys R.Fn is_read reads → FindsOfValues V.Fn check_value faults → Finds result (list_faults (entry_faults reads faults) (tree_of value.now)) }
-    ensures exact { (reads : _) (faults : _) → TellsKeys R.Fn is_read reads → FindsFirstOfValues V.Fn check_value faults → FindsFirst result (list_faults (entry_faults reads faults) (tree_of value.now)) }
+    ensures finds { (keys : _) (faults : _) → TellsKeys R.Fn key_of keys →
+        FindsOfValues V.Fn check_value faults →
+        Finds result (list_faults (entry_faults keys faults) (tree_of value.now)) }
+    ensures exact { (keys : _) (faults : _) → TellsKeys R.Fn key_of keys →
+        FindsFirstOfValues V.Fn check_value faults →
+        FindsFirst result (list_faults (entry_faults keys faults) (tree_of value.now)) }
 {
     check_list(value, |earlier, term| {
-        check_entry(earlier, term, &is_read, &check_value)
+        check_entry(earlier, term, &key_of, &check_value)
     })
 }

@@ -3,10 +3,9 @@
 ghost use Rattle.std.specs.Prelude.{◌≡◌, map, IfSome};
 ghost use Rattle.std.specs.Option.{option_map};
 ghost use Rattle.rh_base.specs.Tree.{tree_of};
-ghost use Rattle.rh_cluster.specs.Faults.{FindsFirst};
+ghost use Rattle.rh_cluster.specs.Faults.{FindsFirst, list_faults};
 ghost use Rattle.rh_model.specs.Limits.{IsWithinLimit};
-ghost use Rattle.rh_model.specs.Names.{is_among};
-ghost use Rattle.rh_cluster.specs.Sections.{as_share, time_faults, share_faults, as_truth, permission_faults, as_sync_wait, kernel_keys, kernel_faults, entries_faults};
+ghost use Rattle.rh_cluster.specs.Sections.{as_share, time_faults, share_faults, as_truth, permission_faults, as_sync_wait, kernel_key, node_name_faults, kernel_faults, entries_faults};
 
 use crate::descriptions::check_description;
 use crate::entries::check_entries;
@@ -91,44 +90,67 @@ fn check_timeout(timeout: Option<&Term>) -> Result<(), ClusterFault>
     }
 }
 
-// Is it a parameter that is read?
-fn is_kernel_key(key: &str) -> bool
-    ensures { result ≡ is_among kernel_keys key.now }
-{
-    key == "distributed"
-        || key == "sync_nodes_mandatory"
-        || key == "sync_nodes_optional"
-        || key == "sync_nodes_timeout"
-        || key == "permissions"
+// A parameter that is read.
+#[derive(Clone, Copy)]
+enum KernelKey {
+    Distributed,
+    Mandatory,
+    Optional,
+    Timeout,
+    Permissions,
 }
 
-// Tests the value of a parameter.
-#[tactic(auto, unfolding(crate::specs::Sections::kernel_faults))]
-fn check_kernel_value(names: &Names, key: &str, value: &Term) -> Result<(), ClusterFault>
-    ensures { FindsFirst result (kernel_faults names.now key.now (tree_of value.now)) }
+// The parameter of a key, if it is read.
+fn kernel_key(key: &str) -> Option<KernelKey>
+    ensures { result ≡ kernel_key key.now }
 {
-    if key == "distributed" {
-        check_list(value, |earlier, term| check_share(names, earlier, term))
-    } else if key == "sync_nodes_mandatory" || key == "sync_nodes_optional" {
-        check_list(value, |earlier, term| {
-            check_node_name(names, earlier, term)
-        })
-    } else if key == "sync_nodes_timeout" {
-        check_shape(sync_wait(value).is_some())
-    } else if key == "permissions" {
-        check_list(value, |earlier, term| {
-            check_permission(names, earlier, term)
-        })
-    } else {
-        Ok(())
+    match key {
+        "distributed" => Some(KernelKey::Distributed),
+        "sync_nodes_mandatory" => Some(KernelKey::Mandatory),
+        "sync_nodes_optional" => Some(KernelKey::Optional),
+        "sync_nodes_timeout" => Some(KernelKey::Timeout),
+        "permissions" => Some(KernelKey::Permissions),
+        _ => None,
     }
+}
+
+// Tests the value of a parameter; others are skipped.
+#[tactic(auto, unfolding(crate::specs::Sections::kernel_faults))]
+fn check_kernel_value(
+    names: &Names,
+    key: Option<KernelKey>,
+    value: &Term,
+) -> Result<(), ClusterFault>
+    ensures { FindsFirst result (kernel_faults names.now key (tree_of value.now)) }
+{
+    match key {
+        Some(KernelKey::Distributed) => {
+            check_list(value, |earlier, term| check_share(names, earlier, term))
+        }
+        Some(KernelKey::Mandatory) => check_node_names(names, value),
+        Some(KernelKey::Optional) => check_node_names(names, value),
+        Some(KernelKey::Timeout) => check_shape(sync_wait(value).is_some()),
+        Some(KernelKey::Permissions) => check_list(value, |earlier, term| {
+            check_permission(names, earlier, term)
+        }),
+        None => Ok(()),
+    }
+}
+
+// Tests a list of nodes' names.
+fn check_node_names(names: &Names, value: &Term) -> Result<(), ClusterFault>
+    ensures { FindsFirst result (list_faults (node_name_faults names.now) (tree_of value.now)) }
+{
+    check_list(value, |earlier, term| {
+        check_node_name(names, earlier, term)
+    })
 }
 
 /// Tests the section `kernel`.
 pub fn check_kernel(names: &Names, value: &Term) -> Result<(), ClusterFault>
-    ensures { FindsFirst result (entries_faults kernel_keys (kernel_faults names.now) (tree_of value.now)) }
+    ensures { FindsFirst result (entries_faults kernel_key (kernel_faults names.now) (tree_of value.now)) }
 {
-    check_entries(value, is_kernel_key, |key, value| {
+    check_entries(value, kernel_key, |key, value| {
         check_kernel_value(names, key, value)
     })
 }

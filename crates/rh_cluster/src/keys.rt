@@ -4,9 +4,8 @@ ghost use Rattle.std.specs.Prelude.{◌≡◌, [], ◌∷◌, ◌++◌, map, is_
 ghost use Rattle.std.specs.List.{list_all};
 ghost use Rattle.rh_base.specs.Tree.{tree_of};
 ghost use Rattle.rh_cluster.specs.Faults.{Finds, WantsLast};
-ghost use Rattle.rh_model.specs.Names.{is_among};
 ghost use Rattle.rh_cluster.specs.Shapes.{atoms, as_entry};
-ghost use Rattle.rh_cluster.specs.Sections.{dep_faults, deps_faults, is_start, are_phases, app_keys, key_faults, entries_faults};
+ghost use Rattle.rh_cluster.specs.Sections.{dep_faults, deps_faults, is_start, are_phases, app_key, key_faults, entries_faults};
 
 use crate::entries::check_entries;
 use crate::fault::ClusterFault;
@@ -90,33 +89,43 @@ fn are_phases(value: &Term) -> bool
     shapes::atom(value) == Some("undefined") || shapes::list(value).is_some_and(are_entries)
 }
 
-// Is it a key that is read?
-fn is_app_key(key: &str) -> bool
-    ensures { result ≡ is_among app_keys key.now }
-{
-    key == "applications" || key == "mod" || key == "start_phases"
+// What is read under a key.
+#[derive(Clone, Copy)]
+enum AppKey {
+    Applications,
+    Mod,
+    StartPhases,
 }
 
-// Tests the value of a key.
+// What is read under a key, if it is.
+fn app_key(key: &str) -> Option<AppKey>
+    ensures { result ≡ app_key key.now }
+{
+    match key {
+        "applications" => Some(AppKey::Applications),
+        "mod" => Some(AppKey::Mod),
+        "start_phases" => Some(AppKey::StartPhases),
+        _ => None,
+    }
+}
+
+// Tests the value of a key; others are skipped.
 #[tactic(auto, unfolding(crate::specs::Sections::key_faults))]
 fn check_key_value(
     alloc: Global,
     names: &Names,
     platforms: &NameSet,
     own: &str,
-    key: &str,
+    key: Option<AppKey>,
     value: &Term,
 ) -> Result<(), ClusterFault>
-    ensures { Finds result (key_faults names.now platforms.now own.now key.now (tree_of value.now)) }
+    ensures { Finds result (key_faults names.now platforms.now own.now key (tree_of value.now)) }
 {
-    if key == "applications" {
-        check_deps(alloc, names, platforms, own, value)
-    } else if key == "mod" {
-        check_shape(is_start(value))
-    } else if key == "start_phases" {
-        check_shape(are_phases(value))
-    } else {
-        Ok(())
+    match key {
+        Some(AppKey::Applications) => check_deps(alloc, names, platforms, own, value),
+        Some(AppKey::Mod) => check_shape(is_start(value)),
+        Some(AppKey::StartPhases) => check_shape(are_phases(value)),
+        None => Ok(()),
     }
 }
 
@@ -128,9 +137,9 @@ pub fn check_keys(
     own: &str,
     value: &Term,
 ) -> Result<(), ClusterFault>
-    ensures { Finds result (entries_faults app_keys (key_faults names.now platforms.now own.now) (tree_of value.now)) }
+    ensures { Finds result (entries_faults app_key (key_faults names.now platforms.now own.now) (tree_of value.now)) }
 {
-    check_entries(value, is_app_key, |key, value| {
+    check_entries(value, app_key, |key, value| {
         check_key_value(alloc, names, platforms, own, key, value)
     })
 }

@@ -3,8 +3,7 @@
 ghost use Rattle.std.specs.Prelude.{◌≡◌, map};
 ghost use Rattle.rh_base.specs.Tree.{tree_of};
 ghost use Rattle.rh_cluster.specs.Faults.{FindsFirst};
-ghost use Rattle.rh_model.specs.Names.{is_among};
-ghost use Rattle.rh_cluster.specs.Sections.{as_restart, boot_faults, platform_faults, rehearse_keys, rehearse_faults, entries_faults};
+ghost use Rattle.rh_cluster.specs.Sections.{as_restart, boot_faults, platform_faults, rehearse_key, rehearse_faults, entries_faults};
 
 use crate::entries::check_entries;
 use crate::fault::ClusterFault;
@@ -55,36 +54,49 @@ fn check_platform_name(names: &Names, earlier: &[Term], term: &Term) -> Result<(
     Ok(())
 }
 
-// Is it a parameter that is read?
-fn is_rehearse_key(key: &str) -> bool
-    ensures { result ≡ is_among rehearse_keys key.now }
-{
-    key == "boot" || key == "platform"
+// A parameter.
+#[derive(Clone, Copy)]
+enum RehearseKey {
+    Boot,
+    Platform,
 }
 
-// Tests the value of a parameter.
-#[tactic(auto, unfolding(crate::specs::Sections::rehearse_faults))]
-fn check_rehearse_value(names: &Names, key: &str, value: &Term) -> Result<(), ClusterFault>
-    ensures { FindsFirst result (rehearse_faults names.now key.now (tree_of value.now)) }
+// The parameter of a key.
+fn rehearse_key(key: &str) -> Option<RehearseKey>
+    ensures { result ≡ rehearse_key key.now }
 {
-    if key == "boot" {
-        check_list(value, |earlier, term| {
+    match key {
+        "boot" => Some(RehearseKey::Boot),
+        "platform" => Some(RehearseKey::Platform),
+        _ => None,
+    }
+}
+
+// Tests the value of a parameter; there are no others.
+#[tactic(auto, unfolding(crate::specs::Sections::rehearse_faults))]
+fn check_rehearse_value(
+    names: &Names,
+    key: Option<RehearseKey>,
+    value: &Term,
+) -> Result<(), ClusterFault>
+    ensures { FindsFirst result (rehearse_faults names.now key (tree_of value.now)) }
+{
+    match key {
+        Some(RehearseKey::Boot) => check_list(value, |earlier, term| {
             check_boot_entry(names, earlier, term)
-        })
-    } else if key == "platform" {
-        check_list(value, |earlier, term| {
+        }),
+        Some(RehearseKey::Platform) => check_list(value, |earlier, term| {
             check_platform_name(names, earlier, term)
-        })
-    } else {
-        Err(ClusterFault::BadValue)
+        }),
+        None => Err(ClusterFault::BadValue),
     }
 }
 
 /// Tests the section `rehearse`.
 pub fn check_rehearse(names: &Names, value: &Term) -> Result<(), ClusterFault>
-    ensures { FindsFirst result (entries_faults rehearse_keys (rehearse_faults names.now) (tree_of value.now)) }
+    ensures { FindsFirst result (entries_faults rehearse_key (rehearse_faults names.now) (tree_of value.now)) }
 {
-    check_entries(value, is_rehearse_key, |key, value| {
+    check_entries(value, rehearse_key, |key, value| {
         check_rehearse_value(names, key, value)
     })
 }

@@ -3,8 +3,7 @@
 ghost use Rattle.std.specs.Prelude.{◌≡◌, map};
 ghost use Rattle.rh_base.specs.Tree.{tree_of};
 ghost use Rattle.rh_cluster.specs.Faults.{Finds, FindsFirst};
-ghost use Rattle.rh_model.specs.Names.{is_among};
-ghost use Rattle.rh_cluster.specs.Sections.{section_keys, section_faults, entries_faults, parts_faults, parts_stage};
+ghost use Rattle.rh_cluster.specs.Sections.{section_key, section_faults, entries_faults, parts_faults, parts_stage};
 
 use crate::entries::check_entries;
 use crate::fault::ClusterFault;
@@ -17,32 +16,45 @@ use rh_base::Term;
 use rh_model::{NameSet, Names};
 use std::alloc::Global;
 
-// Tests what a section holds.
-#[tactic(auto, unfolding(crate::specs::Sections::section_faults))]
-fn check_section_value(names: &Names, key: &str, value: &Term) -> Result<(), ClusterFault>
-    ensures { FindsFirst result (section_faults names.now key.now (tree_of value.now)) }
+// A section that is read.
+#[derive(Clone, Copy)]
+enum SectionKey {
+    Kernel,
+    Rehearse,
+}
+
+// The section of a key, if it is read.
+fn section_key(key: &str) -> Option<SectionKey>
+    ensures { result ≡ section_key key.now }
 {
-    if key == "kernel" {
-        check_kernel(names, value)
-    } else if key == "rehearse" {
-        check_rehearse(names, value)
-    } else {
-        check_shape(shapes::list(value).is_some())
+    match key {
+        "kernel" => Some(SectionKey::Kernel),
+        "rehearse" => Some(SectionKey::Rehearse),
+        _ => None,
     }
 }
 
-// Is it a section that is read?
-fn is_section_key(key: &str) -> bool
-    ensures { result ≡ is_among section_keys key.now }
+// Tests what a section holds; of the others only that they are lists.
+#[tactic(auto, unfolding(crate::specs::Sections::section_faults))]
+fn check_section_value(
+    names: &Names,
+    key: Option<SectionKey>,
+    value: &Term,
+) -> Result<(), ClusterFault>
+    ensures { FindsFirst result (section_faults names.now key (tree_of value.now)) }
 {
-    key == "kernel" || key == "rehearse"
+    match key {
+        Some(SectionKey::Kernel) => check_kernel(names, value),
+        Some(SectionKey::Rehearse) => check_rehearse(names, value),
+        None => check_shape(shapes::list(value).is_some()),
+    }
 }
 
 // Tests the configuration of a node.
 fn check_sections(names: &Names, value: &Term) -> Result<(), ClusterFault>
-    ensures { FindsFirst result (entries_faults section_keys (section_faults names.now) (tree_of value.now)) }
+    ensures { FindsFirst result (entries_faults section_key (section_faults names.now) (tree_of value.now)) }
 {
-    check_entries(value, is_section_key, |key, value| {
+    check_entries(value, section_key, |key, value| {
         check_section_value(names, key, value)
     })
 }
