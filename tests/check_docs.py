@@ -31,7 +31,7 @@ UNSEEN = {"weights-for-ever"}
 # The definitions of what the program prints.
 PRINTED = ["rh_trail/specs/Report", "rh_script/specs/Answers", "rh_script/specs/SweepAnswers", "rh_plans/specs/FaultWords",
            "rh_app/specs/CheckText", "rh_app/specs/Histories",
-           "rh_events/specs/Refusals", "rh_cluster/specs/FaultTexts", "rh_terms/specs/FaultTexts"]
+           "rh_rules/specs/Refusals", "rh_cluster/specs/FaultTexts", "rh_terms/specs/FaultTexts"]
 HELPS = [["--help"], ["run", "--help"], ["check", "--help"], ["sessions", "--help"], ["sweep", "--help"]]
 
 

@@ -20,7 +20,7 @@ CHANGES = [
     ("crates.txt", "\nrh_plans: ", "\nrh_plans: rh_trail ", "docs/ARCHITECTURE.md line"),
     ("crates/rh_script/src/forms.rt", '"boot"', '"reboot"', "companions/rehearse_tools/commands.json line"),
     ("docs/help/run.txt", "\n  boot N ", "\n  reboot N ", "docs/help/run.txt line"),
-    ("crates/rh_events/src/event.rt", "StopA", "StopEveryA", "docs/CHANGING.md line"),
+    ("crates/rh_rules/src/event.rt", "StopA", "StopEveryA", "docs/CHANGING.md line"),
     ("docs/DEFINITIONS.md", "\n- `", "\n- by hand `", "docs/DEFINITIONS.md line"),
     ("docs/parts/contracts.md", "`", "`no_such_name` `", "docs/parts/contracts.md names what no source has: no_such_name"),
     ("docs/parts/notes.md", "\n- `", "\n- `served`: nothing\n- `", "tells of definitions that aren't there"),

@@ -9,7 +9,7 @@ from functools import cache
 from tree import CRATES, TOP, BadSource, read, shown
 
 FORMS = CRATES / "rh_script" / "src" / "forms.rt"
-REFUSALS = CRATES / "rh_events" / "specs" / "Refusals.antt"
+REFUSALS = CRATES / "rh_rules" / "specs" / "Refusals.antt"
 HELP_SOURCE, HELP_PAGE = CRATES / "rehearse" / "src" / "help.rt", TOP / "docs" / "help" / "run.txt"
 JSON = TOP / "companions" / "rehearse_tools" / "commands.json"
 # How an argument of each kind is written in texts of help.

@@ -6,7 +6,7 @@ from pathlib import Path
 
 from tree import BadSource, Crate, read
 
-BEGIN = re.compile(r"(?:(?:abbrev|unfoldable|opaque) )*pub (?:(record|data) )?(\S+)(.*)")
+BEGIN = re.compile(r"(?:(?:abbrev|unfoldable|opaque) )*pub (?!use )(?:(record|data) )?(\S+)(.*)")
 PART = re.compile(r"(?:pub )?([\w-]+) :(?: |$)")
 RULE = re.compile(r"-- ----+ (.*)")
 # A definition without arguments is shown with what it is, where both have so many characters at most.

@@ -15,8 +15,8 @@ use Rattle.clap.specs.ValueTests.{is_numeral, is_unsigned_in}
 use Rattle.rh_sweep.specs.declared.workers.TheConstants.{MAX_WORKERS}
 use Rattle.std.specs.Str.{bytes_eq}
 use Rattle.std.proofs.lemmas.Slice.Eq.{bytes_eq-Decides}
-use Rattle.rh_place.specs.declared.choosing.Pick.{Pick}
-use Rattle.rh_place.specs.declared.choosing.Pick.TheVariants.{First, Last}
+use Rattle.rh_rules.specs.declared.pick.Pick.{Pick}
+use Rattle.rh_rules.specs.declared.pick.Pick.TheVariants.{First, Last}
 use Rattle.rehearse.specs.Asking.{allowed, pick_of, workers_of}
 
 -- a choice that is the last for `last` and else the first is the one that the word means

@@ -12,8 +12,8 @@ use Rattle.clap.specs.Values.{kind_of}
 use Rattle.clap.specs.ValueTests.{is_unsigned_in}
 use Rattle.clap.specs.declared.error.Error.{Error}
 use Rattle.clap.specs.declared.error.kind.ErrorKind.TheVariants as kind
-use Rattle.rh_place.specs.declared.choosing.Pick.{Pick}
-use Rattle.rh_place.specs.declared.choosing.Pick.TheVariants.{First, Last}
+use Rattle.rh_rules.specs.declared.pick.Pick.{Pick}
+use Rattle.rh_rules.specs.declared.pick.Pick.TheVariants.{First, Last}
 use Rattle.rh_sweep.specs.declared.workers.TheConstants.{MAX_WORKERS}
 use Rattle.rh_app.specs.declared.status.Program.{Program}
 use Rattle.rh_app.specs.declared.status.Program.TheVariants as program

@@ -4,7 +4,7 @@ ghost use Rattle.std.specs.Prelude.{◌≡◌, ◌≢◌, ◌⊎◌, false, map,
 ghost use Rattle.std.specs.Option.{option_map};
 ghost use Rattle.std.specs.String.{string_bytes};
 ghost use Rattle.clap.specs.Words.{app_of, found_of, kind_of, rows_of, rule_of, subcommand_rows_of};
-ghost use Rattle.rh_place.specs.declared.choosing.Pick.TheVariants as pick;
+ghost use Rattle.rh_rules.specs.declared.pick.Pick.TheVariants as pick;
 ghost use Rattle.rh_sweep.specs.Sweeping.{AreWorkers};
 ghost use Rattle.rh_app.specs.Status.{IsStaffed};
 ghost use Rattle.rehearse.specs.CommandLine.{IsCommand, check_line, line, pick_option, run_line, sessions_line, sweep_line, workers_option};

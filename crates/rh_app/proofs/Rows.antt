@@ -8,19 +8,17 @@ use Rattle.rh_model.specs.declared.settings.SyncWait.TheVariants.{Unset}
 use Rattle.rh_state.specs.Limits.{time_limit, incarnation_limit}
 use Rattle.rh_state.specs.Numbers.{nodes_of, apps_of}
 use Rattle.rh_state.specs.First.{configured}
-use Rattle.rh_place.specs.Placing.{missing_dep, deps_run, is_operational, best, candidates}
-use Rattle.rh_place.specs.declared.choosing.Pick.TheVariants.{First}
-use Rattle.rh_settle.specs.Moves.{can_start, local_moves, placements, calls_away, takeovers, next_moves}
-use Rattle.rh_settle.specs.Settling.{moved_by, all_moved}
-use Rattle.rh_settle.specs.Readiness.{all_alive, is_ready}
-use Rattle.rh_events.specs.Marking.{with_mark, mark_all}
-use Rattle.rh_events.specs.ComingUp.{come_up, come_up_if_ready, ready_come_up}
-use Rattle.rh_events.specs.Changes.{booted}
-use Rattle.rh_events.specs.ByHand.{is_started_anywhere}
-use Rattle.rh_events.specs.Everywhere.{targets, has_host, has_target, missing_at_targets, start_all, left_everywhere, stop_all}
-use Rattle.rh_events.specs.Ending.{cleared, lost_if_ran, all_lost, ended}
-use Rattle.rh_events.specs.Refusals.{refused}
-use Rattle.rh_step.specs.Outcomes.{followed, next}
+use Rattle.rh_rules.specs.Placing.{missing_dep, deps_run, is_operational, best, candidates}
+use Rattle.rh_rules.specs.declared.pick.Pick.TheVariants.{First}
+use Rattle.rh_rules.specs.Moves.{can_start, local_moves, placements, calls_away, takeovers}
+use Rattle.rh_rules.specs.Settling.{next_moves, moved_by, all_moved}
+use Rattle.rh_rules.specs.NodesStart.{all_alive, is_ready, come_up, come_up_if_ready, ready_come_up, booted}
+use Rattle.rh_rules.specs.Marking.{with_mark, mark_all}
+use Rattle.rh_rules.specs.ByHand.{is_started_anywhere}
+use Rattle.rh_rules.specs.Everywhere.{targets, has_host, has_target, missing_at_targets, start_all, left_everywhere, stop_all}
+use Rattle.rh_rules.specs.NodesEnd.{cleared, lost_if_ran, all_lost, ended}
+use Rattle.rh_rules.specs.Refusals.{refused}
+use Rattle.rh_rules.specs.Steps.{followed, next}
 use Rattle.rh_trail.specs.Runs.{step}
 use Rattle.rh_trail.specs.Report.{standing_line}
 use Rattle.rh_sweep.specs.Outcomes.{standing_in}

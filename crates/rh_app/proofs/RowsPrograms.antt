@@ -21,17 +21,15 @@ use Rattle.rh_cluster.specs.ClusterOf.{names_of, node_views, all_shares, app_vie
 use Rattle.rh_cluster.specs.Profile.{profile_of, behind_profile}
 use Rattle.rh_state.specs.Numbers.{nodes_of, apps_of}
 use Rattle.rh_state.specs.First.{configured}
-use Rattle.rh_place.specs.declared.choosing.Pick.TheVariants.{First}
-use Rattle.rh_settle.specs.Settling.{moved_by, all_moved}
-use Rattle.rh_settle.specs.Readiness.{all_alive, is_ready}
-use Rattle.rh_settle.specs.declared.notice.Notice.TheVariants.{Up}
-use Rattle.rh_events.specs.Marking.{mark_all}
-use Rattle.rh_events.specs.ComingUp.{come_up, come_up_if_ready, ready_come_up}
-use Rattle.rh_events.specs.Changes.{booted}
-use Rattle.rh_events.specs.Refusals.{refused}
-use Rattle.rh_events.specs.declared.event.Event.TheVariants.{Boot, StartAll, StopAll}
-use Rattle.rh_events.specs.declared.refusal.Refusal.TheVariants.{UnknownApp}
-use Rattle.rh_step.specs.Outcomes.{followed, next}
+use Rattle.rh_rules.specs.declared.pick.Pick.TheVariants.{First}
+use Rattle.rh_rules.specs.Settling.{moved_by, all_moved}
+use Rattle.rh_rules.specs.NodesStart.{all_alive, is_ready, come_up, come_up_if_ready, ready_come_up, booted}
+use Rattle.rh_rules.specs.declared.notice.Notice.TheVariants.{Up}
+use Rattle.rh_rules.specs.Marking.{mark_all}
+use Rattle.rh_rules.specs.Refusals.{refused}
+use Rattle.rh_rules.specs.declared.event.Event.TheVariants.{Boot, StartAll, StopAll}
+use Rattle.rh_rules.specs.declared.refusal.Refusal.TheVariants.{UnknownApp}
+use Rattle.rh_rules.specs.Steps.{followed, next}
 use Rattle.rh_trail.specs.declared.call.Call.TheVariants.{Step, Undo}
 use Rattle.rh_trail.specs.declared.call.Reply.TheVariants.{Done, Refused, Undone, AtStart}
 use Rattle.rh_trail.specs.Runs.{step}

@@ -10,7 +10,7 @@ use Rattle.rh_model.specs.ClusterView.{ClusterView}
 use Rattle.rh_trail.specs.declared.call.Call.{Call}
 use Rattle.rh_trail.specs.SimView.{SimView}
 use Rattle.rh_trail.specs.Lone.{opened, served, sim_after}
-use Rattle.rh_place.specs.declared.choosing.Pick.{Pick}
+use Rattle.rh_rules.specs.declared.pick.Pick.{Pick}
 use Rattle.rh_plans.specs.declared.fault.SweepFault.{SweepFault}
 use Rattle.rh_plans.specs.declared.fault.SweepFault.TheVariants.{WorkerCount, BaseNotAtEnd, TrailRoom, OutOfMemory}
 use Rattle.rh_plans.specs.declared.plan.Outcome.{Outcome}

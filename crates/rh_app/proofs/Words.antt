@@ -1,13 +1,12 @@
 -- What undo and redo restore in memory, by what the calls of a simulation say.
 use Rattle.std.proofs.Common.{◌≡◌, ◌≢◌, ℕ, ◌+◌, ◌-◌, ◌≤◌, ◌==◌, List, [], ◌∷◌, ◌++◌, length, Option, Some, None, Result, OnOk, Bool, true, false, cond, sym, ap, subst, refl, ◌∙◌, arith}
-use Rattle.rh_events.specs.declared.refusal.Refusal.{Refusal}
-use Rattle.rh_events.specs.declared.refusal.Refusal.TheVariants.{TrailFull}
-use Rattle.rh_events.specs.Refusals.{refused}
-use Rattle.rh_events.specs.declared.event.Event.{Event}
-use Rattle.rh_settle.specs.declared.notice.Notice.{Notice}
+use Rattle.rh_rules.specs.declared.refusal.Refusal.{Refusal}
+use Rattle.rh_rules.specs.declared.refusal.Refusal.TheVariants.{TrailFull}
+use Rattle.rh_rules.specs.Refusals.{refused}
+use Rattle.rh_rules.specs.declared.event.Event.{Event}
+use Rattle.rh_rules.specs.declared.notice.Notice.{Notice}
 use Rattle.rh_state.specs.Stored.{read}
-use Rattle.rh_step.specs.Allowed.{Allowed}
-use Rattle.rh_step.specs.Outcomes.{outcome, next}
+use Rattle.rh_rules.specs.Steps.{Allowed, outcome, next}
 use Rattle.rh_trail.specs.declared.call.Call.{Call}
 use Rattle.rh_trail.specs.declared.call.Call.TheVariants as call
 use Rattle.rh_trail.specs.declared.call.Reply.{Reply}

@@ -4,7 +4,7 @@ use Rattle.std.specs.Prelude.{◌≡◌, ℕ, List, Bool, Option, Some, None, Re
 use Rattle.rh_model.specs.ClusterView.{ClusterView}
 use Rattle.rh_cluster.specs.ClusterOf.{cluster_of}
 use Rattle.rh_cluster.specs.declared.fault.ClusterFault.{ClusterFault}
-use Rattle.rh_place.specs.declared.choosing.Pick.{Pick}
+use Rattle.rh_rules.specs.declared.pick.Pick.{Pick}
 use Rattle.rh_room.specs.declared.pass.Entry.{Entry}
 use Rattle.rh_script.specs.declared.session_lines.Command.{Command}
 use Rattle.rh_script.specs.Lines.{cluster_text, script_lines}

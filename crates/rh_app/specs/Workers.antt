@@ -2,7 +2,7 @@
 use Rattle.std.specs.Prelude.{◌≡◌, ◌⊎◌, ℕ, List, ◌++◌, map, All, Bool, true, false, is_some, Option, Some, None}
 use Rattle.std.specs.List.{AllZip, list_any}
 use Rattle.rh_model.specs.ClusterView.{ClusterView}
-use Rattle.rh_place.specs.declared.choosing.Pick.{Pick}
+use Rattle.rh_rules.specs.declared.pick.Pick.{Pick}
 use Rattle.rh_room.specs.declared.closing.CloseReason.{CloseReason}
 use Rattle.rh_room.specs.Closing.{AreAll, Agrees, IsOn, WhyOpen}
 use Rattle.rh_room.specs.Legal.{PassView, RoomView}

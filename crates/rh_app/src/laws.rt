@@ -11,11 +11,10 @@
 //! allow, and that the state is valid, rests on the rules.
 
 ghost use Rattle.std.specs.Prelude.{◌≡◌, ◌+◌, ◌++◌, ◌∷◌, [], ℕ, List, length, take, IfOk, OnOk, OnErr};
-ghost use Rattle.rh_settle.specs.declared.notice.Notice.{Notice};
+ghost use Rattle.rh_rules.specs.declared.notice.Notice.{Notice};
 ghost use Rattle.rh_state.specs.First.{first_words};
 ghost use Rattle.rh_state.specs.Stored.{read};
-ghost use Rattle.rh_step.specs.Allowed.{Allowed};
-ghost use Rattle.rh_step.specs.Outcomes.{outcome};
+ghost use Rattle.rh_rules.specs.Steps.{Allowed, outcome};
 ghost use Rattle.rh_trail.specs.declared.call.Call.TheVariants as call;
 ghost use Rattle.rh_trail.specs.Chain.{chain};
 ghost use Rattle.rh_trail.specs.Laws.{Accepts};

@@ -13,12 +13,12 @@ use Rattle.rh_state.specs.Limits.{time_limit, incarnation_limit}
 use Rattle.rh_state.specs.Numbers.{same_node}
 use Rattle.rh_state.specs.Shape.{IsNodeOf, IsAppOf}
 use Rattle.rh_state.specs.StateView.{StateView, mode_of, incarnation_of, is_alive, is_up, is_started, is_allowed, runs_at, standing_of}
-use Rattle.rh_place.specs.Placing.{missing_dep}
-use Rattle.rh_settle.specs.Moves.{is_local}
-use Rattle.rh_events.specs.declared.event.Event.TheVariants.{Boot, Crash, Tick, Start, Stop, Permit, Takeover, Exit, StartAll, StopAll}
-use Rattle.rh_events.specs.declared.refusal.Refusal.{Refusal}
-use Rattle.rh_events.specs.declared.refusal.Refusal.TheVariants.{NotListed, AlreadyStarted, NeverStarted, NotRunningHere}
-use Rattle.rh_events.specs.Refusals.{refused, tests, tests_by_hand, first_that_applies, dep_tests}
+use Rattle.rh_rules.specs.Placing.{missing_dep}
+use Rattle.rh_rules.specs.Course.{is_local}
+use Rattle.rh_rules.specs.declared.event.Event.TheVariants.{Boot, Crash, Tick, Start, Stop, Permit, Takeover, Exit, StartAll, StopAll}
+use Rattle.rh_rules.specs.declared.refusal.Refusal.{Refusal}
+use Rattle.rh_rules.specs.declared.refusal.Refusal.TheVariants.{NotListed, AlreadyStarted, NeverStarted, NotRunningHere}
+use Rattle.rh_rules.specs.Refusals.{refused, tests, tests_by_hand, first_that_applies, dep_tests}
 use Rattle.rh_state.specs.Standings.{is_running, is_running_at}
 
 -- ---- no test applied

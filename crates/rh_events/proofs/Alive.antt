@@ -8,7 +8,7 @@ use Rattle.rh_state.specs.declared.status.Mode.TheVariants.{Down}
 use Rattle.rh_state.specs.declared.status.Timer.{Timer}
 use Rattle.rh_state.specs.Timers.{same_timer, without_timer, due_among}
 use Rattle.rh_state.specs.StateView.{StateView, mode_of, is_alive}
-use Rattle.rh_settle.specs.Readiness.{all_alive}
+use Rattle.rh_rules.specs.NodesStart.{all_alive}
 
 -- a number that no node has is that of no node that is alive
 pub unknown_dead : (s : StateView) (n : Node) → length s.modes ≡ node_count s.cluster → node_count s.cluster ≤ n.0 → is_alive (mode_of s n) ≡ false

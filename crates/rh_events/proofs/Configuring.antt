@@ -13,7 +13,7 @@ use Rattle.rh_state.specs.StateView.{StateView}
 use Rattle.rh_state.specs.Setters.{with_allowed}
 use Rattle.rh_state.specs.Tables.{row, with_cell}
 use Rattle.rh_state.proofs.FirstStates.{map_numbered_more}
-use Rattle.rh_events.specs.Ending.{with_configured}
+use Rattle.rh_rules.specs.NodesEnd.{with_configured}
 use Rattle.rh_events.proofs.Emptying.{set_same}
 
 -- a list, and behind it what is left of another that it was written over

@@ -4,14 +4,15 @@ use Rattle.rh_model.specs.ClusterView.{ClusterView}
 use Rattle.rh_model.specs.declared.node.Node.{Node}
 use Rattle.rh_model.specs.declared.node.App.{App}
 use Rattle.rh_model.specs.declared.settings.Restart.{Restart}
-use Rattle.rh_settle.specs.declared.notice.Notice.{Notice}
+use Rattle.rh_rules.specs.declared.notice.Notice.{Notice}
 use Rattle.rh_settle.specs.Counts.{FewEdits, FewWeighed, weight, weights}
-use Rattle.rh_settle.specs.Course.{Course, TraceView}
+use Rattle.rh_rules.specs.Course.{Course}
+use Rattle.rh_settle.specs.Traces.{TraceView}
 use Rattle.rh_settle.specs.Ways.{Tells}
 use Rattle.rh_settle.proofs.Counts.{weights_told, weighed}
-use Rattle.rh_events.specs.declared.event.Event.{Event}
+use Rattle.rh_rules.specs.declared.event.Event.{Event}
 use Rattle.rh_events.specs.Counts.{own_edits}
-use Rattle.rh_events.specs.Marking.{mark_booted, mark_all}
+use Rattle.rh_rules.specs.Marking.{mark_booted, mark_all}
 
 -- where one notice was told, its weight pays for the edits
 pub told_once : (c : ClusterView) (n : Notice) (old new : TraceView) → new.notices ≡ old.notices ++ n ∷ []

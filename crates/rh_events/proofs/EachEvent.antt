@@ -8,18 +8,19 @@ use Rattle.rh_state.specs.declared.status.Standing.TheVariants.{Running}
 use Rattle.rh_state.specs.Numbers.{same_node}
 use Rattle.rh_state.specs.StateView.{StateView, mode_of, is_allowed, runs_at, restart_of, standing_of}
 use Rattle.rh_base.proofs.Lists.{cases}
-use Rattle.rh_settle.specs.declared.notice.Notice.{Notice}
-use Rattle.rh_settle.specs.declared.notice.Pair.{Pair}
-use Rattle.rh_settle.specs.Course.{Course, IsPairOf, course_of}
+use Rattle.rh_rules.specs.declared.notice.Notice.{Notice}
+use Rattle.rh_rules.specs.declared.notice.Pair.{Pair}
+use Rattle.rh_rules.specs.Course.{Course, course_of}
+use Rattle.rh_settle.specs.Traces.{IsPairOf}
 use Rattle.rh_settle.specs.Validity.{IsSound}
 use Rattle.rh_settle.proofs.Behind.{after_notices}
-use Rattle.rh_events.specs.declared.event.Event.{Event}
-use Rattle.rh_events.specs.declared.event.Event.TheVariants.{Boot, Crash, Tick, Start, Stop, Permit, Takeover, Exit, StartAll, StopAll}
-use Rattle.rh_events.specs.Marking.{pair, with_mark}
-use Rattle.rh_events.specs.Ending.{ended}
-use Rattle.rh_events.specs.ByHand.{stopped, left_waiting, forbidden, permitted, permission_set, taken_from, taken_over, ends_node, exited}
-use Rattle.rh_events.specs.Changes.{change}
-use Rattle.rh_events.specs.Refusals.{refused}
+use Rattle.rh_rules.specs.declared.event.Event.{Event}
+use Rattle.rh_rules.specs.declared.event.Event.TheVariants.{Boot, Crash, Tick, Start, Stop, Permit, Takeover, Exit, StartAll, StopAll}
+use Rattle.rh_rules.specs.Marking.{pair, with_mark}
+use Rattle.rh_rules.specs.NodesEnd.{ended}
+use Rattle.rh_rules.specs.ByHand.{stopped, left_waiting, forbidden, permitted, permission_set, taken_from, taken_over, ends_node, exited}
+use Rattle.rh_rules.specs.Steps.{change}
+use Rattle.rh_rules.specs.Refusals.{refused}
 use Rattle.rh_events.proofs.Accepted.{same_standing, accepted_boot, accepted_crash, accepted_start, accepted_stop, accepted_permit, accepted_takeover}
 use Rattle.rh_events.proofs.Accepted.{accepted_exit, accepted_start_all, accepted_stop_all}
 use Rattle.rh_events.proofs.Fields.{SameTime, in_time, booted_same, ended_same, marked_same, stopped_same, left_waiting_same, permitted_same}

@@ -12,7 +12,7 @@ use Rattle.rh_base.proofs.Lists.{cases}
 use Rattle.rh_settle.proofs.Every.{filter_no, filter_yes}
 use Rattle.rh_settle.proofs.Places.{or_left, or_right}
 use Rattle.rh_settle.proofs.ListWalks.{first_is_next, is_in_list}
-use Rattle.rh_events.specs.Ending.{emptied}
+use Rattle.rh_rules.specs.NodesEnd.{emptied}
 
 -- ---- writes
 -- of two writes at a place, the later one stays

@@ -10,9 +10,9 @@ use Rattle.rh_state.specs.Numbers.{same_node, apps_of}
 use Rattle.rh_state.specs.Tables.{row}
 use Rattle.rh_state.specs.StateView.{StateView, standing_of, running_at, waiting_at}
 use Rattle.rh_state.specs.Setters.{with_standing, with_timer}
-use Rattle.rh_settle.specs.Course.{Course}
+use Rattle.rh_rules.specs.Course.{Course}
 use Rattle.rh_settle.proofs.Places.{at_set_there}
-use Rattle.rh_events.specs.Ending.{timeout_of, cleared, lost_at, lost_from, lost_if_ran, all_lost, ended}
+use Rattle.rh_rules.specs.NodesEnd.{timeout_of, cleared, lost_at, lost_from, lost_if_ran, all_lost, ended}
 use Rattle.rh_events.specs.Laws.{EndLeavesOthers}
 use Rattle.rh_events.proofs.Fields.{ended_modes}
 

@@ -13,13 +13,12 @@ use Rattle.rh_state.specs.declared.status.Timer.TheVariants.{Failover}
 use Rattle.rh_state.specs.Numbers.{same_node, apps_of}
 use Rattle.rh_state.specs.StateView.{StateView, incarnation_of, runs_at, is_allowed, restart_of, standing_of}
 use Rattle.rh_state.specs.Setters.{with_mode, with_incarnation, with_allowed, with_standing, with_timer, without_due, unlisted}
-use Rattle.rh_settle.specs.Course.{Course}
-use Rattle.rh_settle.specs.Moves.{is_local, with_stopped}
-use Rattle.rh_events.specs.Marking.{with_distributed_standing, with_mark}
-use Rattle.rh_events.specs.Ending.{timeout_of, cleared, lost_at, lost_from, lost_if_ran, all_lost, ended}
-use Rattle.rh_events.specs.ByHand.{stopped, is_started_anywhere, quiet_if_nowhere, left_waiting, forbidden, permitted, permission_set, taken_from, taken_over, ends_node}
-use Rattle.rh_events.specs.ByHand.{exited}
-use Rattle.rh_events.specs.Changes.{with_sync_timer, booted}
+use Rattle.rh_rules.specs.Course.{Course, is_local}
+use Rattle.rh_rules.specs.Moves.{with_stopped}
+use Rattle.rh_rules.specs.Marking.{with_distributed_standing, with_mark}
+use Rattle.rh_rules.specs.NodesEnd.{timeout_of, cleared, lost_at, lost_from, lost_if_ran, all_lost, ended}
+use Rattle.rh_rules.specs.ByHand.{stopped, is_started_anywhere, quiet_if_nowhere, left_waiting, forbidden, permitted, permission_set, taken_from, taken_over, ends_node, exited}
+use Rattle.rh_rules.specs.NodesStart.{with_sync_timer, booted}
 use Rattle.rh_events.proofs.Marks.{mark_any}
 
 -- the cluster, the time and what is known of its nodes

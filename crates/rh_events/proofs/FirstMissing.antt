@@ -10,10 +10,11 @@ use Rattle.rh_model.specs.declared.node.App.{App}
 use Rattle.rh_model.specs.declared.settings.Dep.{Dep}
 use Rattle.rh_state.specs.Numbers.{nodes_of}
 use Rattle.rh_state.specs.StateView.{StateView}
-use Rattle.rh_place.specs.Placing.{missing_dep}
+use Rattle.rh_rules.specs.Placing.{missing_dep}
 use Rattle.rh_base.proofs.Lists.{cases}
 use Rattle.rh_settle.proofs.Entries.{same_number, other_number}
-use Rattle.rh_events.specs.Everywhere.{is_target, targets, first_missing, missing_if_target, missing_at_targets}
+use Rattle.rh_rules.specs.Everywhere.{is_target, targets, first_missing, missing_at_targets}
+use Rattle.rh_events.specs.Everywhere.{missing_if_target}
 
 module _ (s : StateView) (a : App) where
   -- node after node, each only if the application is still to be started there

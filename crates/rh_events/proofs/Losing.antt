@@ -21,7 +21,7 @@ use Rattle.rh_settle.specs.Validity.{TimersFit}
 use Rattle.rh_state.specs.Standings.{is_lost}
 use Rattle.rh_settle.proofs.Places.{at_set_there}
 use Rattle.rh_events.proofs.Tables.{differ}
-use Rattle.rh_events.specs.Ending.{timeout_of, cleared, lost_at, lost_from, lost_if_ran}
+use Rattle.rh_rules.specs.NodesEnd.{timeout_of, cleared, lost_at, lost_from, lost_if_ran}
 
 -- ---- the first i applications, each if it ran at the node
 abbrev pub lost_below : StateView → Node → ℕ → StateView

@@ -7,13 +7,13 @@ use Rattle.rh_model.specs.declared.node.App.{App}
 use Rattle.rh_model.specs.declared.settings.Restart.{Restart}
 use Rattle.rh_state.specs.Numbers.{nodes_of}
 use Rattle.rh_state.specs.Shape.{IsNodeOf, IsAppOf}
-use Rattle.rh_settle.specs.declared.notice.Notice.TheVariants as notice
-use Rattle.rh_settle.specs.Course.{Course, IsPairOf, told, now_in}
+use Rattle.rh_rules.specs.declared.notice.Notice.TheVariants as notice
+use Rattle.rh_rules.specs.Course.{Course, told, now_in}
+use Rattle.rh_settle.specs.Traces.{IsPairOf}
 use Rattle.rh_state.specs.StateView.{StateView}
-use Rattle.rh_events.specs.Ending.{ended}
-use Rattle.rh_settle.specs.Readiness.{is_ready}
-use Rattle.rh_events.specs.Marking.{pair, mark, mark_booted, mark_all}
-use Rattle.rh_events.specs.ComingUp.{come_up, come_up_if_ready, ready_come_up}
+use Rattle.rh_rules.specs.NodesEnd.{ended}
+use Rattle.rh_rules.specs.NodesStart.{is_ready, come_up, come_up_if_ready, ready_come_up}
+use Rattle.rh_rules.specs.Marking.{pair, mark, mark_booted, mark_all}
 use Rattle.rh_events.proofs.SoundComingUp.{up, all_nodes, come_up_if_ready_cluster}
 
 marked_marks : (c : ClusterView) (boot : List (App × Restart)) (o : Course) (n : Node) → IsNodeOf c n → All (λ (e : App × Restart). IsAppOf c e.0) boot

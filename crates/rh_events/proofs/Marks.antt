@@ -11,9 +11,8 @@ use Rattle.rh_state.specs.Numbers.{same_node}
 use Rattle.rh_state.specs.Timers.{without_timer}
 use Rattle.rh_state.specs.StateView.{StateView, runs_at, waits_at, is_started, standing_of}
 use Rattle.rh_state.specs.Setters.{with_restart, with_standing, with_waiting, without_due}
-use Rattle.rh_settle.specs.Moves.{is_local}
-use Rattle.rh_settle.specs.Course.{Course}
-use Rattle.rh_events.specs.Marking.{wanted_by_mark, with_mark, mark, mark_booted}
+use Rattle.rh_rules.specs.Course.{is_local, Course}
+use Rattle.rh_rules.specs.Marking.{wanted_by_mark, with_mark, mark, mark_booted}
 use Rattle.rh_settle.proofs.Entries.{is_false, both, same_number, put_has}
 use Rattle.rh_events.proofs.SoundMarks.{not_started, neither}
 

@@ -10,11 +10,10 @@ use Rattle.rh_state.specs.declared.status.Mode.TheVariants.{Waiting, Up}
 use Rattle.rh_state.specs.declared.status.Timer.TheVariants.{Sync}
 use Rattle.rh_state.specs.StateView.{StateView, incarnation_of}
 use Rattle.rh_state.specs.Setters.{with_mode, with_incarnation, without_due}
-use Rattle.rh_settle.specs.declared.notice.Notice.TheVariants as notice
-use Rattle.rh_settle.specs.Course.{Course, told, now_in}
-use Rattle.rh_events.specs.Marking.{mark, mark_booted, mark_all}
-use Rattle.rh_events.specs.ComingUp.{come_up}
-use Rattle.rh_events.specs.Changes.{with_sync_timer, booted}
+use Rattle.rh_rules.specs.declared.notice.Notice.TheVariants as notice
+use Rattle.rh_rules.specs.Course.{Course, told, now_in}
+use Rattle.rh_rules.specs.Marking.{mark, mark_booted, mark_all}
+use Rattle.rh_rules.specs.NodesStart.{come_up, with_sync_timer, booted}
 use Rattle.rh_events.proofs.Fields.{marked_same}
 
 marks_modes : (n : Node) (boot : List (App × Restart)) (o : Course) → (fold (mark_booted n) o boot).state.modes ≡ o.state.modes

@@ -13,10 +13,11 @@ use Rattle.rh_state.specs.StateView.{StateView, runs_at, place_of}
 use Rattle.rh_state.specs.Setters.{with_waiting, with_running, with_kind, with_standing, unlisted}
 use Rattle.rh_settle.proofs.Every.{filter_no}
 use Rattle.rh_settle.proofs.Places.{at_set_here, same_refl, or_right, append_gives, started_on}
-use Rattle.rh_settle.specs.declared.notice.Move.TheVariants.{Takeover}
-use Rattle.rh_settle.specs.declared.notice.Notice.TheVariants as notice
-use Rattle.rh_settle.specs.Course.{TraceView, course, told}
-use Rattle.rh_settle.specs.Moves.{moved, with_stopped}
+use Rattle.rh_rules.specs.declared.notice.Move.TheVariants.{Takeover}
+use Rattle.rh_rules.specs.declared.notice.Notice.TheVariants as notice
+use Rattle.rh_settle.specs.Traces.{TraceView, course}
+use Rattle.rh_rules.specs.Course.{told}
+use Rattle.rh_rules.specs.Moves.{moved, with_stopped}
 
 -- an application that enters a list and leaves it again
 without_pushed : (xs : List App) (a : App) → without_app (xs ++ a ∷ []) a ≡ without_app xs a

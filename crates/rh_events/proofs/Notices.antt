@@ -11,17 +11,16 @@ use Rattle.rh_state.specs.declared.status.Timer.TheVariants.{Sync}
 use Rattle.rh_state.specs.Numbers.{nodes_of}
 use Rattle.rh_state.specs.StateView.{runs_at, is_allowed, restart_of, standing_of}
 use Rattle.rh_state.specs.Setters.{with_mode, with_allowed, with_restart, without_due, unlisted}
-use Rattle.rh_settle.specs.declared.notice.Move.TheVariants as move
-use Rattle.rh_settle.specs.declared.notice.Notice.{Notice}
-use Rattle.rh_settle.specs.declared.notice.Notice.TheVariants as notice
-use Rattle.rh_settle.specs.Course.{Course, told, now_in}
-use Rattle.rh_settle.specs.Moves.{with_stopped}
+use Rattle.rh_rules.specs.declared.notice.Move.TheVariants as move
+use Rattle.rh_rules.specs.declared.notice.Notice.{Notice}
+use Rattle.rh_rules.specs.declared.notice.Notice.TheVariants as notice
+use Rattle.rh_rules.specs.Course.{Course, told, now_in}
+use Rattle.rh_rules.specs.Moves.{with_stopped}
 use Rattle.rh_settle.proofs.Behind.{after_notices, told_after, fold_after, moved_after}
-use Rattle.rh_settle.specs.Readiness.{is_ready}
-use Rattle.rh_events.specs.Marking.{with_distributed_standing, mark, mark_booted, mark_all}
-use Rattle.rh_events.specs.ComingUp.{come_up, come_up_if_ready, ready_come_up}
-use Rattle.rh_events.specs.Ending.{cleared, all_lost, ended}
-use Rattle.rh_events.specs.ByHand.{stopped, left_waiting, forbidden, permitted, permission_set, taken_from, taken_over, ends_node, exited}
+use Rattle.rh_rules.specs.NodesStart.{is_ready, come_up, come_up_if_ready, ready_come_up}
+use Rattle.rh_rules.specs.Marking.{with_distributed_standing, mark, mark_booted, mark_all}
+use Rattle.rh_rules.specs.NodesEnd.{cleared, all_lost, ended}
+use Rattle.rh_rules.specs.ByHand.{stopped, left_waiting, forbidden, permitted, permission_set, taken_from, taken_over, ends_node, exited}
 
 -- ---- marks, and nodes that come up
 pub mark_after : (base : List Notice) (o : Course) (n : Node) (a : App) (r : Restart) → mark (after_notices base o) n a r ≡ after_notices base (mark o n a r)

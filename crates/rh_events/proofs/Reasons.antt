@@ -3,13 +3,13 @@ use Rattle.std.proofs.Common.{◌≡◌, ◌&&◌, Bool, true, false, not, cond,
 use Rattle.std.specs.List.{list_all}
 use Rattle.rh_model.specs.declared.settings.Dep.{Dep}
 use Rattle.rh_state.specs.StateView.{StateView}
-use Rattle.rh_place.specs.Placing.{missing_dep}
-use Rattle.rh_events.specs.declared.event.Event.{Event}
-use Rattle.rh_events.specs.declared.event.Event.TheVariants.{Start, Takeover, StartAll}
-use Rattle.rh_events.specs.declared.refusal.Refusal.{Refusal}
-use Rattle.rh_events.specs.declared.refusal.Refusal.TheVariants.{OutOfMemory}
-use Rattle.rh_events.specs.Everywhere.{missing_at_targets}
-use Rattle.rh_events.specs.Refusals.{refused, tests, dep_tests, first_that_applies}
+use Rattle.rh_rules.specs.Placing.{missing_dep}
+use Rattle.rh_rules.specs.declared.event.Event.{Event}
+use Rattle.rh_rules.specs.declared.event.Event.TheVariants.{Start, Takeover, StartAll}
+use Rattle.rh_rules.specs.declared.refusal.Refusal.{Refusal}
+use Rattle.rh_rules.specs.declared.refusal.Refusal.TheVariants.{OutOfMemory}
+use Rattle.rh_rules.specs.Everywhere.{missing_at_targets}
+use Rattle.rh_rules.specs.Refusals.{refused, tests, dep_tests, first_that_applies}
 
 abbrev pub is_memory : Refusal → Bool
 is_memory OutOfMemory = true

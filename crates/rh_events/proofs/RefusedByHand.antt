@@ -9,14 +9,13 @@ use Rattle.rh_state.specs.declared.status.Place.{Place}
 use Rattle.rh_state.specs.declared.status.Place.TheVariants.{Off, InRunning, InWaiting}
 use Rattle.rh_state.specs.declared.status.Standing.{Standing}
 use Rattle.rh_state.specs.StateView.{StateView, is_started, is_allowed, runs_at, waits_at, place_of, standing_of}
-use Rattle.rh_place.specs.Placing.{missing_dep}
-use Rattle.rh_settle.specs.Moves.{is_local}
-use Rattle.rh_events.specs.declared.event.Event.{Event}
-use Rattle.rh_events.specs.declared.event.Event.TheVariants.{Start, Stop, Permit, Takeover, Exit}
-use Rattle.rh_events.specs.declared.refusal.Refusal.{Refusal}
-use Rattle.rh_events.specs.declared.refusal.Refusal.TheVariants.{NotDistributed, NotListed, AlreadyStarted, NeverStarted, NotRunning, RunsHere, NotRunningHere}
-use Rattle.rh_events.specs.declared.refusal.Refusal.TheVariants.{NotPermitted}
-use Rattle.rh_events.specs.Refusals.{refused, tests, tests_by_hand, dep_tests, first_that_applies}
+use Rattle.rh_rules.specs.Placing.{missing_dep}
+use Rattle.rh_rules.specs.Course.{is_local}
+use Rattle.rh_rules.specs.declared.event.Event.{Event}
+use Rattle.rh_rules.specs.declared.event.Event.TheVariants.{Start, Stop, Permit, Takeover, Exit}
+use Rattle.rh_rules.specs.declared.refusal.Refusal.{Refusal}
+use Rattle.rh_rules.specs.declared.refusal.Refusal.TheVariants.{NotDistributed, NotListed, AlreadyStarted, NeverStarted, NotRunning, RunsHere, NotRunningHere, NotPermitted}
+use Rattle.rh_rules.specs.Refusals.{refused, tests, tests_by_hand, dep_tests, first_that_applies}
 use Rattle.rh_state.specs.Standings.{is_running, is_running_at}
 
 -- what the tests that all have give, for any others behind them

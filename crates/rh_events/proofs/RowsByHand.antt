@@ -10,14 +10,14 @@ use Rattle.rh_state.specs.declared.status.Standing.TheVariants.{Quiet, Wanted, R
 use Rattle.rh_state.specs.declared.status.Timer.TheVariants.{Failover}
 use Rattle.rh_state.specs.Numbers.{nodes_of}
 use Rattle.rh_state.specs.StateView.{StateView}
-use Rattle.rh_settle.specs.declared.notice.Notice.TheVariants.{Started, Stopped}
-use Rattle.rh_settle.specs.Course.{Course, course_of}
-use Rattle.rh_events.specs.declared.event.Event.{Event}
-use Rattle.rh_events.specs.declared.event.Event.TheVariants.{Start, Stop, Permit, Takeover, Exit}
-use Rattle.rh_events.specs.Marking.{with_mark}
-use Rattle.rh_events.specs.Ending.{ended}
-use Rattle.rh_events.specs.ByHand.{stopped, is_started_anywhere, left_waiting, forbidden, permitted, ends_node, taken_over, exited}
-use Rattle.rh_events.specs.Changes.{change}
+use Rattle.rh_rules.specs.declared.notice.Notice.TheVariants.{Started, Stopped}
+use Rattle.rh_rules.specs.Course.{Course, course_of}
+use Rattle.rh_rules.specs.declared.event.Event.{Event}
+use Rattle.rh_rules.specs.declared.event.Event.TheVariants.{Start, Stop, Permit, Takeover, Exit}
+use Rattle.rh_rules.specs.Marking.{with_mark}
+use Rattle.rh_rules.specs.NodesEnd.{ended}
+use Rattle.rh_rules.specs.ByHand.{stopped, is_started_anywhere, left_waiting, forbidden, permitted, ends_node, taken_over, exited}
+use Rattle.rh_rules.specs.Steps.{change}
 use Rattle.rh_events.proofs.Scene.{p, q, job, twin, far, tool, aid, at, scene, in_second, none}
 
 abbrev pub after : StateView → Event → Course

@@ -8,17 +8,17 @@ use Rattle.rh_state.specs.declared.status.Standing.TheVariants.{Quiet, Wanted, R
 use Rattle.rh_state.specs.declared.status.Timer.TheVariants.{Failover}
 use Rattle.rh_state.specs.Numbers.{nodes_of}
 use Rattle.rh_state.specs.StateView.{StateView}
-use Rattle.rh_place.specs.Placing.{missing_dep}
-use Rattle.rh_settle.specs.declared.notice.Notice.TheVariants.{Stopped}
-use Rattle.rh_settle.specs.Course.{course_of}
-use Rattle.rh_events.specs.declared.event.Event.{Event}
-use Rattle.rh_events.specs.declared.event.Event.TheVariants.{StartAll, StopAll}
-use Rattle.rh_events.specs.declared.refusal.Refusal.{Refusal}
-use Rattle.rh_events.specs.declared.refusal.Refusal.TheVariants.{UnknownApp, NodeNotUp, NotDistributed, AlreadyStarted, NeverStarted, DependencyNotStarted}
-use Rattle.rh_events.specs.Marking.{with_mark}
-use Rattle.rh_events.specs.ByHand.{is_started_anywhere}
-use Rattle.rh_events.specs.Everywhere.{targets, has_host, has_target, missing_at_targets, start_all, left_everywhere, stop_all}
-use Rattle.rh_events.specs.Refusals.{refused}
+use Rattle.rh_rules.specs.Placing.{missing_dep}
+use Rattle.rh_rules.specs.declared.notice.Notice.TheVariants.{Stopped}
+use Rattle.rh_rules.specs.Course.{course_of}
+use Rattle.rh_rules.specs.declared.event.Event.{Event}
+use Rattle.rh_rules.specs.declared.event.Event.TheVariants.{StartAll, StopAll}
+use Rattle.rh_rules.specs.declared.refusal.Refusal.{Refusal}
+use Rattle.rh_rules.specs.declared.refusal.Refusal.TheVariants.{UnknownApp, NodeNotUp, NotDistributed, AlreadyStarted, NeverStarted, DependencyNotStarted}
+use Rattle.rh_rules.specs.Marking.{with_mark}
+use Rattle.rh_rules.specs.ByHand.{is_started_anywhere}
+use Rattle.rh_rules.specs.Everywhere.{targets, has_host, has_target, missing_at_targets, start_all, left_everywhere, stop_all}
+use Rattle.rh_rules.specs.Refusals.{refused}
 use Rattle.rh_events.proofs.RowsByHand.{after, up, all_temporary}
 use Rattle.rh_events.proofs.Scene.{p, q, nothing, job, twin, far, tool, aid, at, scene, turned, twin_forbidden, none}
 

@@ -8,14 +8,12 @@ use Rattle.rh_state.specs.declared.status.Mode.TheVariants.{Down, Waiting, Up}
 use Rattle.rh_state.specs.declared.status.Standing.{Standing}
 use Rattle.rh_state.specs.declared.status.Standing.TheVariants.{Quiet, Wanted, Running, Lost}
 use Rattle.rh_state.specs.StateView.{StateView}
-use Rattle.rh_place.specs.Placing.{missing_dep}
-use Rattle.rh_events.specs.declared.event.Event.{Event}
-use Rattle.rh_events.specs.declared.event.Event.TheVariants.{Boot, Crash, Tick, Start, Stop, Permit, Takeover, Exit}
-use Rattle.rh_events.specs.declared.refusal.Refusal.{Refusal}
-use Rattle.rh_events.specs.declared.refusal.Refusal.TheVariants.{UnknownNode, UnknownApp, AlreadyAlive, IncarnationLimit, NotAlive, ZeroTick, TimeLimit}
-use Rattle.rh_events.specs.declared.refusal.Refusal.TheVariants.{NodeNotUp, NotDistributed, NotListed, AlreadyStarted, NeverStarted, NotRunning, RunsHere}
-use Rattle.rh_events.specs.declared.refusal.Refusal.TheVariants.{NotRunningHere, NotPermitted, DependencyNotStarted, TrailFull, OutOfMemory}
-use Rattle.rh_events.specs.Refusals.{refused, refusal_words}
+use Rattle.rh_rules.specs.Placing.{missing_dep}
+use Rattle.rh_rules.specs.declared.event.Event.{Event}
+use Rattle.rh_rules.specs.declared.event.Event.TheVariants.{Boot, Crash, Tick, Start, Stop, Permit, Takeover, Exit}
+use Rattle.rh_rules.specs.declared.refusal.Refusal.{Refusal}
+use Rattle.rh_rules.specs.declared.refusal.Refusal.TheVariants.{UnknownNode, UnknownApp, AlreadyAlive, IncarnationLimit, NotAlive, ZeroTick, TimeLimit, NodeNotUp, NotDistributed, NotListed, AlreadyStarted, NeverStarted, NotRunning, RunsHere, NotRunningHere, NotPermitted, DependencyNotStarted, TrailFull, OutOfMemory}
+use Rattle.rh_rules.specs.Refusals.{refused, refusal_words}
 use Rattle.rh_events.proofs.Scene.{p, q, nowhere, nothing, job, twin, far, tool, aid, scene, none}
 
 abbrev why : StateView → List Event → List (Option Refusal)

@@ -14,7 +14,7 @@ use Rattle.rh_state.specs.declared.status.Mode.{Mode}
 use Rattle.rh_state.specs.declared.status.Standing.{Standing}
 use Rattle.rh_state.specs.First.{first}
 use Rattle.rh_state.specs.StateView.{StateView}
-use Rattle.rh_settle.specs.declared.notice.Pair.{Pair}
+use Rattle.rh_rules.specs.declared.notice.Pair.{Pair}
 
 abbrev pub p : Node
 p = record { 0 = 0 }

@@ -18,7 +18,7 @@ use Rattle.rh_base.proofs.Lists.{cases}
 use Rattle.rh_settle.specs.Validity.{TimersFit, IsSound, is_timed}
 use Rattle.rh_settle.proofs.Shapes.{shaped_timers, shaped_mode, shaped_incarnation}
 use Rattle.rh_settle.proofs.Places.{at_set_here, at_set_there}
-use Rattle.rh_events.specs.Changes.{with_sync_timer, booted}
+use Rattle.rh_rules.specs.NodesStart.{with_sync_timer, booted}
 use Rattle.rh_settle.proofs.Entries.{same_number, other_number}
 use Rattle.rh_events.proofs.Tables.{differ}
 use Rattle.rh_events.proofs.TimersToldApart.{is_set}

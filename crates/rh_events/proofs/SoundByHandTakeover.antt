@@ -14,15 +14,15 @@ use Rattle.rh_state.specs.Tables.{row}
 use Rattle.rh_state.specs.Lists.{without_app}
 use Rattle.rh_state.specs.StateView.{StateView, mode_of, is_up, runs_at, waits_at, standing_of}
 use Rattle.rh_state.specs.Setters.{with_running, with_restart, unlisted}
-use Rattle.rh_settle.specs.Course.{Course}
-use Rattle.rh_settle.specs.Moves.{is_local, with_started, with_stopped, moved_state}
-use Rattle.rh_settle.specs.declared.notice.Move.TheVariants.{Takeover}
+use Rattle.rh_rules.specs.Course.{Course, is_local}
+use Rattle.rh_rules.specs.Moves.{with_started, with_stopped, moved_state}
+use Rattle.rh_rules.specs.declared.notice.Move.TheVariants.{Takeover}
 use Rattle.rh_settle.specs.Validity.{IsSound}
 use Rattle.rh_state.specs.Standings.{is_lost}
 use Rattle.rh_base.proofs.Lists.{cases}
 use Rattle.rh_settle.proofs.Shapes.{shaped_standing, shaped_restart, shaped_started, shaped_stopped}
 use Rattle.rh_settle.proofs.Places.{or_left}
-use Rattle.rh_events.specs.ByHand.{taken_from, taken_over}
+use Rattle.rh_rules.specs.ByHand.{taken_from, taken_over}
 use Rattle.rh_settle.proofs.Entries.{same_number, other_number, both, row_there, taken, put, has, taken_has, taken_not, taken_keeps, there, put_has, put_keeps}
 use Rattle.rh_settle.proofs.Entries.{put_gives}
 use Rattle.rh_settle.proofs.Kept.{at_pair}

@@ -18,14 +18,13 @@ use Rattle.rh_state.specs.StateView.{StateView, mode_of, is_up, is_waiting, runn
 use Rattle.rh_state.specs.Lists.{has_app}
 use Rattle.rh_state.specs.Setters.{with_mode, without_due}
 use Rattle.rh_base.proofs.Lists.{cases}
-use Rattle.rh_settle.specs.declared.notice.Notice.TheVariants as notice
-use Rattle.rh_settle.specs.Course.{Course, told, now_in}
+use Rattle.rh_rules.specs.declared.notice.Notice.TheVariants as notice
+use Rattle.rh_rules.specs.Course.{Course, told, now_in}
 use Rattle.rh_settle.specs.Validity.{TimersFit, IsSound, is_timed}
 use Rattle.rh_settle.proofs.Shapes.{shaped_timers, shaped_mode}
 use Rattle.rh_settle.proofs.Places.{at_set_here, at_set_there}
-use Rattle.rh_settle.specs.Readiness.{is_ready}
-use Rattle.rh_events.specs.Marking.{mark, mark_booted, mark_all}
-use Rattle.rh_events.specs.ComingUp.{come_up, come_up_if_ready, ready_come_up}
+use Rattle.rh_rules.specs.NodesStart.{is_ready, come_up, come_up_if_ready, ready_come_up}
+use Rattle.rh_rules.specs.Marking.{mark, mark_booted, mark_all}
 use Rattle.rh_settle.proofs.Entries.{same_number, other_number}
 use Rattle.rh_events.proofs.Tables.{differ}
 use Rattle.rh_events.proofs.Marks.{marks_any, mark_cluster, mark_modes, mark_starts_no_other}

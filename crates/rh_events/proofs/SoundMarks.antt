@@ -13,12 +13,12 @@ use Rattle.rh_state.specs.Shape.{IsNodeOf, IsAppOf, IsStandingOf}
 use Rattle.rh_state.specs.StateView.{StateView, mode_of, is_up, waiting_at, runs_at, waits_at, is_started, standing_of, due_of}
 use Rattle.rh_state.specs.Setters.{with_restart, with_standing, with_waiting, without_due}
 use Rattle.rh_base.proofs.Lists.{cases}
-use Rattle.rh_settle.specs.Moves.{is_local}
+use Rattle.rh_rules.specs.Course.{is_local}
 use Rattle.rh_settle.specs.Validity.{IdleUnlessUp, StandsWhereItRuns, TimersFit, IsSound}
 use Rattle.rh_state.specs.Standings.{is_lost}
 use Rattle.rh_settle.proofs.Shapes.{shaped_timers, shaped_standing, shaped_restart, shaped_waiting}
 use Rattle.rh_settle.proofs.Places.{at_set_here, at_set_there, or_left, or_right}
-use Rattle.rh_events.specs.Marking.{with_distributed_standing, wanted_by_mark, with_mark}
+use Rattle.rh_rules.specs.Marking.{with_distributed_standing, wanted_by_mark, with_mark}
 use Rattle.rh_events.proofs.Alive.{without_unset}
 use Rattle.rh_settle.proofs.Entries.{same_number, other_number, both, put_has}
 use Rattle.rh_settle.proofs.Kept.{once_waiting}

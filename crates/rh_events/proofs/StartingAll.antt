@@ -15,15 +15,17 @@ use Rattle.rh_state.specs.Numbers.{nodes_of}
 use Rattle.rh_state.specs.Shape.{IsNodeOf, IsAppOf}
 use Rattle.rh_state.specs.StateView.{StateView, mode_of, is_up, runs_at, waits_at, is_started, restart_of, standing_of}
 use Rattle.rh_state.specs.Setters.{with_restart, with_waiting}
-use Rattle.rh_settle.specs.declared.notice.Notice.{Notice}
-use Rattle.rh_settle.specs.Course.{Course, IsPairOf}
+use Rattle.rh_rules.specs.declared.notice.Notice.{Notice}
+use Rattle.rh_rules.specs.Course.{Course}
+use Rattle.rh_settle.specs.Traces.{IsPairOf}
 use Rattle.rh_settle.specs.Validity.{IsSound}
 use Rattle.rh_settle.proofs.Behind.{after_notices, fold_after}
 use Rattle.rh_base.proofs.Lists.{cases}
 use Rattle.rh_settle.proofs.Entries.{both, has, put, there, put_keeps, put_gives, length_put, either, same_number}
 use Rattle.rh_settle.proofs.Places.{at_set_there, or_left, or_right, same_refl}
-use Rattle.rh_events.specs.Marking.{pair, with_mark, mark}
-use Rattle.rh_events.specs.Everywhere.{is_host, is_target, targets, start_at, start_if_target, start_all}
+use Rattle.rh_rules.specs.Marking.{pair, with_mark, mark}
+use Rattle.rh_rules.specs.Everywhere.{is_host, is_target, targets, start_at, start_all}
+use Rattle.rh_events.specs.Everywhere.{start_if_target}
 use Rattle.rh_events.proofs.Fields.{SameNodes, same_then, marked_same}
 use Rattle.rh_events.proofs.Marks.{mark_any, wanted_any}
 use Rattle.rh_events.proofs.SoundMarks.{sound_mark}

@@ -9,16 +9,16 @@ use Rattle.rh_model.specs.declared.node.App.{App}
 use Rattle.rh_state.specs.declared.status.Mode.{Mode}
 use Rattle.rh_state.specs.declared.status.Mode.TheVariants.{Down, Waiting, Up}
 use Rattle.rh_state.specs.StateView.{StateView, mode_of, runs_at, restart_of, is_alive, is_up}
-use Rattle.rh_settle.specs.declared.notice.Notice.{Notice}
-use Rattle.rh_settle.specs.declared.notice.Notice.TheVariants as notice
-use Rattle.rh_settle.specs.Course.{Course}
+use Rattle.rh_rules.specs.declared.notice.Notice.{Notice}
+use Rattle.rh_rules.specs.declared.notice.Notice.TheVariants as notice
+use Rattle.rh_rules.specs.Course.{Course}
 use Rattle.rh_settle.proofs.Places.{at_set}
-use Rattle.rh_events.specs.declared.event.Event.TheVariants.{Boot, Stop, Exit}
-use Rattle.rh_events.specs.ComingUp.{come_up}
-use Rattle.rh_events.specs.Ending.{ended}
-use Rattle.rh_events.specs.ByHand.{stopped, left_waiting, ends_node, exited}
-use Rattle.rh_events.specs.Changes.{booted, change}
-use Rattle.rh_events.specs.Refusals.{refused}
+use Rattle.rh_rules.specs.declared.event.Event.TheVariants.{Boot, Stop, Exit}
+use Rattle.rh_rules.specs.NodesStart.{come_up, booted}
+use Rattle.rh_rules.specs.NodesEnd.{ended}
+use Rattle.rh_rules.specs.ByHand.{stopped, left_waiting, ends_node, exited}
+use Rattle.rh_rules.specs.Steps.{change}
+use Rattle.rh_rules.specs.Refusals.{refused}
 use Rattle.rh_settle.proofs.Behind.{after_notices}
 use Rattle.rh_events.proofs.Notices.{come_up_after, ended_after}
 use Rattle.rh_events.proofs.Fields.{ended_modes, stopped_same, left_waiting_same}

@@ -14,13 +14,11 @@ use Rattle.rh_state.specs.Numbers.{nodes_of, apps_of, same_node}
 use Rattle.rh_state.specs.Timers.{same_timer, without_timer}
 use Rattle.rh_state.specs.StateView.{StateView, standing_of}
 use Rattle.rh_state.specs.Setters.{with_mode, with_standing, with_restart, with_waiting, without_due}
-use Rattle.rh_settle.specs.declared.notice.Notice.TheVariants as notice
-use Rattle.rh_settle.specs.Course.{Course, told, now_in}
-use Rattle.rh_settle.specs.Moves.{is_local}
-use Rattle.rh_settle.specs.Readiness.{is_ready}
-use Rattle.rh_events.specs.Marking.{with_distributed_standing, wanted_by_mark, with_mark, mark, mark_booted, mark_all}
-use Rattle.rh_events.specs.ComingUp.{come_up, come_up_if_ready, ready_come_up}
-use Rattle.rh_events.specs.Ending.{cleared, lost_at, lost_from, lost_if_ran, all_lost, ended}
+use Rattle.rh_rules.specs.declared.notice.Notice.TheVariants as notice
+use Rattle.rh_rules.specs.Course.{Course, told, now_in, is_local}
+use Rattle.rh_rules.specs.NodesStart.{is_ready, come_up, come_up_if_ready, ready_come_up}
+use Rattle.rh_rules.specs.Marking.{with_distributed_standing, wanted_by_mark, with_mark, mark, mark_booted, mark_all}
+use Rattle.rh_rules.specs.NodesEnd.{cleared, lost_at, lost_from, lost_if_ran, all_lost, ended}
 
 abbrev pub timer_count : Course → ℕ
 timer_count o = length o.state.timers

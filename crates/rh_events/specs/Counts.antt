@@ -1,8 +1,8 @@
 -- How many edits an event keeps of itself, beside those for what it tells (ours).
 use Rattle.std.specs.Prelude.{ℕ, ◌+◌, ◌*◌}
 use Rattle.rh_model.specs.ClusterView.{ClusterView, node_count}
-use Rattle.rh_events.specs.declared.event.Event.{Event}
-use Rattle.rh_events.specs.declared.event.Event.TheVariants.{Boot, Crash, Tick, Start, Stop, Permit, Takeover, Exit, StartAll, StopAll}
+use Rattle.rh_rules.specs.declared.event.Event.{Event}
+use Rattle.rh_rules.specs.declared.event.Event.TheVariants.{Boot, Crash, Tick, Start, Stop, Permit, Takeover, Exit, StartAll, StopAll}
 
 -- at most; those of a tick are its timers'
 abbrev pub own_edits : ClusterView → Event → ℕ

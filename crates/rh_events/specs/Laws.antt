@@ -2,8 +2,8 @@
 use Rattle.std.specs.Prelude.{◌≡◌, ◌≢◌}
 use Rattle.rh_model.specs.declared.node.Node.{Node}
 use Rattle.rh_state.specs.StateView.{mode_of, running_at, waiting_at}
-use Rattle.rh_settle.specs.Course.{Course}
-use Rattle.rh_events.specs.Ending.{ended}
+use Rattle.rh_rules.specs.Course.{Course}
+use Rattle.rh_rules.specs.NodesEnd.{ended}
 
 -- the end of a node changes no list of another one, and no other node's mode
 abbrev pub EndLeavesOthers : Type 0

@@ -8,15 +8,15 @@ ghost use Rattle.rh_state.specs.Setters.{unlisted};
 ghost use Rattle.rh_state.specs.Stored.{read};
 ghost use Rattle.rh_state.specs.declared.status.Place.TheVariants.{Off, InRunning, InWaiting};
 ghost use Rattle.rh_state.specs.declared.status.Standing.TheVariants.{Running};
-ghost use Rattle.rh_settle.specs.declared.notice.Move.TheVariants.{Takeover};
-ghost use Rattle.rh_settle.specs.Course.{course};
+ghost use Rattle.rh_rules.specs.declared.notice.Move.TheVariants.{Takeover};
+ghost use Rattle.rh_settle.specs.Traces.{course};
 ghost use Rattle.rh_settle.specs.Counts.{FewEdits, FewWeighed};
 ghost use Rattle.rh_settle.specs.Ways.{Goes};
-ghost use Rattle.rh_settle.specs.Moves.{moved};
+ghost use Rattle.rh_rules.specs.Moves.{moved};
 ghost use Rattle.rh_settle.specs.Validity.{RunsWhereItStands, IsSound};
-ghost use Rattle.rh_events.specs.ByHand.{stopped, is_started_anywhere, quiet_if_nowhere, left_waiting, forbidden, pulls_back, frees, freed_by, permitted, taken_over, ends_node, exited};
-ghost use Rattle.rh_events.specs.Changes.{change};
-ghost use Rattle.rh_events.specs.declared.event.Event.TheVariants.{Stop};
+ghost use Rattle.rh_rules.specs.ByHand.{stopped, is_started_anywhere, quiet_if_nowhere, left_waiting, forbidden, pulls_back, frees, freed_by, permitted, taken_over, ends_node, exited};
+ghost use Rattle.rh_rules.specs.Steps.{change};
+ghost use Rattle.rh_rules.specs.declared.event.Event.TheVariants.{Stop};
 
 use crate::ending::end;
 use crate::marking::set_distributed_standing;
@@ -27,7 +27,7 @@ use rh_settle::{Move, Notice, Pair, Trace, make_move, recording};
 use rh_state::{Place, Standing, State, Timer};
 
 // An application that runs at a node stops there.
-#[tactic(auto, unfolding(crate::specs::ByHand::stopped), using(rh_settle::proofs::Ways::goes_none, rh_settle::proofs::Ways::goes_told, rh_settle::proofs::Ways::goes_more))]
+#[tactic(auto, unfolding(rh_rules::specs::ByHand::stopped), using(rh_settle::proofs::Ways::goes_none, rh_settle::proofs::Ways::goes_told, rh_settle::proofs::Ways::goes_more))]
 fn stop_running(
     state: &mut State,
     node: Node,
@@ -59,7 +59,7 @@ pub fn is_started_at(state: &State, node: Node, app: App) -> bool
 }
 
 /// Is an application started at some node?
-#[tactic(auto, unfolding(crate::specs::ByHand::is_started_anywhere, rh_state::specs::Numbers::nodes_of))]
+#[tactic(auto, unfolding(rh_rules::specs::ByHand::is_started_anywhere, rh_state::specs::Numbers::nodes_of))]
 pub fn is_started_anywhere(state: &State, app: App) -> bool
     requires { IsAppOf (read state.now).cluster app }
     ensures { result ≡ is_started_anywhere (read state.now) app }
@@ -100,7 +100,7 @@ fn quieten_if_nowhere(state: &mut State, app: App, trace: &mut Trace) -> Result<
 }
 
 // An application that waits at a node is stopped there.
-#[tactic(auto, unfolding(crate::specs::ByHand::left_waiting), using(rh_settle::proofs::Ways::goes_more))]
+#[tactic(auto, unfolding(rh_rules::specs::ByHand::left_waiting), using(rh_settle::proofs::Ways::goes_more))]
 fn leave_waiting(
     state: &mut State,
     node: Node,
@@ -122,7 +122,7 @@ fn leave_waiting(
 }
 
 /// An application that is started at a node is stopped there (application(3), `stop/1`).
-#[tactic(auto, unfolding(crate::specs::ByHand::left_waiting))]
+#[tactic(auto, unfolding(rh_rules::specs::ByHand::left_waiting))]
 pub fn stop(state: &mut State, node: Node, app: App, trace: &mut Trace) -> Result<(), OutOfMemory>
     requires node { IsNodeOf (read state.old).cluster node }
     requires app { IsAppOf (read state.old).cluster app }
@@ -138,7 +138,7 @@ pub fn stop(state: &mut State, node: Node, app: App, trace: &mut Trace) -> Resul
 }
 
 // An application that runs at a node may do so no longer: it stops there, waits, and is wanted.
-#[tactic(auto, unfolding(crate::specs::ByHand::forbidden), using(rh_settle::proofs::Ways::goes_none, rh_settle::proofs::Ways::goes_told, rh_settle::proofs::Ways::goes_more))]
+#[tactic(auto, unfolding(rh_rules::specs::ByHand::forbidden), using(rh_settle::proofs::Ways::goes_none, rh_settle::proofs::Ways::goes_told, rh_settle::proofs::Ways::goes_more))]
 fn forbid(state: &mut State, node: Node, app: App, trace: &mut Trace) -> Result<(), OutOfMemory>
     requires node { IsNodeOf (read state.old).cluster node }
     requires app { IsAppOf (read state.old).cluster app }
@@ -199,7 +199,7 @@ fn free(
 
 /// An application may run at a node from now on, or may not (application(3), `permit/2`). In the second profile (ours) one that
 /// is started there and may run there again is taken back from a node of a later group.
-#[tactic(auto, unfolding(crate::specs::ByHand::permitted), using(rh_settle::proofs::Ways::goes_more))]
+#[tactic(auto, unfolding(rh_rules::specs::ByHand::permitted), using(rh_settle::proofs::Ways::goes_more))]
 pub fn permit(
     state: &mut State,
     node: Node,
@@ -271,7 +271,7 @@ fn move_by_hand(
 
 /// A distributed application that runs elsewhere moves to a node, and has the given restart type there (application(3),
 /// `takeover/2`).
-#[tactic(auto, unfolding(crate::specs::ByHand::taken_over), using(rh_settle::proofs::Ways::goes_none, rh_settle::proofs::Ways::goes_more))]
+#[tactic(auto, unfolding(rh_rules::specs::ByHand::taken_over), using(rh_settle::proofs::Ways::goes_none, rh_settle::proofs::Ways::goes_more))]
 pub fn take_over(
     state: &mut State,
     node: Node,
@@ -308,7 +308,7 @@ fn ends_node(restart: Restart, normal: bool) -> bool
 }
 
 /// An application that runs at a node ends there, for a normal reason or another one (application(3), restart types).
-#[tactic(auto, unfolding(crate::specs::ByHand::exited))]
+#[tactic(auto, unfolding(rh_rules::specs::ByHand::exited))]
 pub fn exit(
     state: &mut State,
     node: Node,

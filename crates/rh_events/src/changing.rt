@@ -2,21 +2,21 @@
 
 ghost use Rattle.std.specs.Prelude.{◌≡◌, None, OnOk};
 ghost use Rattle.rh_state.specs.Stored.{read};
-ghost use Rattle.rh_settle.specs.Course.{course};
+ghost use Rattle.rh_settle.specs.Traces.{course};
 ghost use Rattle.rh_settle.specs.Counts.{FewWeighed};
 ghost use Rattle.rh_settle.specs.Ways.{Goes};
 ghost use Rattle.rh_settle.specs.Validity.{IsSound};
-ghost use Rattle.rh_events.specs.Changes.{change};
+ghost use Rattle.rh_rules.specs.Steps.{change};
 ghost use Rattle.rh_events.specs.Counts.{own_edits};
-ghost use Rattle.rh_events.specs.Refusals.{refused};
+ghost use Rattle.rh_rules.specs.Refusals.{refused};
 
 use crate::booting::boot;
 use crate::by_hand::{exit, permit, stop, take_over};
 use crate::ending::end;
-use crate::event::Event;
 use crate::everywhere::{start_all, stop_all};
 use crate::marking::mark;
 use rh_base::OutOfMemory;
+use rh_rules::Event;
 use rh_settle::Trace;
 use rh_state::State;
 

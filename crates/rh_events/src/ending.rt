@@ -10,10 +10,10 @@ ghost use Rattle.rh_state.specs.Setters.{with_allowed};
 ghost use Rattle.rh_state.specs.Stored.{read};
 ghost use Rattle.rh_state.specs.declared.status.Standing.TheVariants.{Running};
 ghost use Rattle.rh_state.specs.declared.status.Timer.TheVariants.{Failover};
-ghost use Rattle.rh_settle.specs.Course.{course};
+ghost use Rattle.rh_settle.specs.Traces.{course};
 ghost use Rattle.rh_settle.specs.Counts.{FewEdits, FewWeighed};
 ghost use Rattle.rh_settle.specs.Ways.{Goes};
-ghost use Rattle.rh_events.specs.Ending.{timeout_of, emptied, with_configured, cleared, lost_at, lost_if_ran, all_lost, ended};
+ghost use Rattle.rh_rules.specs.NodesEnd.{timeout_of, emptied, with_configured, cleared, lost_at, lost_if_ran, all_lost, ended};
 
 use crate::readiness::cancel_if_set;
 use rh_base::OutOfMemory;
@@ -92,7 +92,7 @@ fn configure(state: &mut State, node: Node, trace: &mut Trace) -> Result<(), Out
 }
 
 // A node is down: nothing is started there, it waits no longer, and its permissions are as configured.
-#[tactic(auto, unfolding(crate::specs::Ending::cleared), using(rh_settle::proofs::Ways::goes_more))]
+#[tactic(auto, unfolding(rh_rules::specs::NodesEnd::cleared), using(rh_settle::proofs::Ways::goes_more))]
 fn clear(state: &mut State, node: Node, trace: &mut Trace) -> Result<(), OutOfMemory>
     requires { IsNodeOf (read state.old).cluster node }
     ensures part { OnOk result (read state.new ≡ cleared (read state.old) node) }
@@ -144,7 +144,7 @@ fn lose_at(state: &mut State, node: Node, app: App, trace: &mut Trace) -> Result
 }
 
 // An application is lost so if it stands as running at the node.
-#[tactic(auto, unfolding(crate::specs::Ending::lost_if_ran), using(rh_settle::proofs::Ways::goes_none))]
+#[tactic(auto, unfolding(rh_rules::specs::NodesEnd::lost_if_ran), using(rh_settle::proofs::Ways::goes_none))]
 fn lose_if_ran(
     state: &mut State,
     node: Node,
@@ -168,7 +168,7 @@ fn lose_if_ran(
 }
 
 // Each application that stands as running at the node is lost so, in order.
-#[tactic(auto, unfolding(crate::specs::Ending::all_lost, rh_state::specs::Numbers::apps_of), using(rh_settle::proofs::Ways::goes_none, rh_settle::proofs::Ways::goes_more))]
+#[tactic(auto, unfolding(rh_rules::specs::NodesEnd::all_lost, rh_state::specs::Numbers::apps_of), using(rh_settle::proofs::Ways::goes_none, rh_settle::proofs::Ways::goes_more))]
 fn lose_all(state: &mut State, node: Node, trace: &mut Trace) -> Result<(), OutOfMemory>
     requires node { IsNodeOf (read state.old).cluster node }
     requires unset { (a : App) → standing_of (read state.old) a ≡ Running node → IsNone (due_of (read state.old) (Failover a)) }
@@ -187,7 +187,7 @@ fn lose_all(state: &mut State, node: Node, trace: &mut Trace) -> Result<(), OutO
 }
 
 /// A node ends (Distributed Applications, "Failover"): nothing is started there any more, and what ran there is lost.
-#[tactic(auto, unfolding(crate::specs::Ending::ended), using(rh_settle::proofs::Ways::goes_told, rh_settle::proofs::Ways::goes_more))]
+#[tactic(auto, unfolding(rh_rules::specs::NodesEnd::ended), using(rh_settle::proofs::Ways::goes_told, rh_settle::proofs::Ways::goes_more))]
 pub fn end(state: &mut State, node: Node, trace: &mut Trace) -> Result<(), OutOfMemory>
     requires node { IsNodeOf (read state.old).cluster node }
     requires unset { (a : App) → standing_of (read state.old) a ≡ Running node → IsNone (due_of (read state.old) (Failover a)) }

@@ -4,10 +4,11 @@ ghost use Rattle.std.specs.Prelude.{◌≡◌, ◌+◌, ◌*◌, OnOk};
 ghost use Rattle.rh_model.specs.ClusterView.{node_count};
 ghost use Rattle.rh_state.specs.Shape.{IsNodeOf, IsAppOf};
 ghost use Rattle.rh_state.specs.Stored.{read};
-ghost use Rattle.rh_settle.specs.Course.{course};
+ghost use Rattle.rh_settle.specs.Traces.{course};
 ghost use Rattle.rh_settle.specs.Counts.{FewEdits};
 ghost use Rattle.rh_settle.specs.Ways.{Goes};
-ghost use Rattle.rh_events.specs.Everywhere.{start_if_target, start_all, leave_at, left_everywhere, stop_all};
+ghost use Rattle.rh_events.specs.Everywhere.{start_if_target};
+ghost use Rattle.rh_rules.specs.Everywhere.{start_all, leave_at, left_everywhere, stop_all};
 
 use crate::marking::mark;
 use crate::readiness::cancel_if_set;
@@ -79,7 +80,7 @@ fn leave(state: &mut State, node: Node, app: App, trace: &mut Trace) -> Result<(
 }
 
 // So at each node, in node order.
-#[tactic(auto, unfolding(crate::specs::Everywhere::left_everywhere, rh_state::specs::Numbers::nodes_of), using(rh_settle::proofs::Ways::goes_none))]
+#[tactic(auto, unfolding(rh_rules::specs::Everywhere::left_everywhere, rh_state::specs::Numbers::nodes_of), using(rh_settle::proofs::Ways::goes_none))]
 fn leave_everywhere(state: &mut State, app: App, trace: &mut Trace) -> Result<(), OutOfMemory>
     requires app { IsAppOf (read state.old).cluster app }
     ensures course { OnOk result (course (read state.new) trace.new ≡ left_everywhere (course (read state.old) trace.old) app) }
@@ -96,7 +97,7 @@ fn leave_everywhere(state: &mut State, app: App, trace: &mut Trace) -> Result<()
 
 /// A distributed application is stopped at all its nodes (application(3), `stop/1`), in node order. It is to run nowhere then,
 /// and nothing awaits its return.
-#[tactic(auto, unfolding(crate::specs::Everywhere::stop_all), using(rh_settle::proofs::Ways::goes_more))]
+#[tactic(auto, unfolding(rh_rules::specs::Everywhere::stop_all), using(rh_settle::proofs::Ways::goes_more))]
 pub fn stop_all(state: &mut State, app: App, trace: &mut Trace) -> Result<(), OutOfMemory>
     requires app { IsAppOf (read state.old).cluster app }
     ensures course { OnOk result (course (read state.new) trace.new ≡ stop_all (course (read state.old) trace.old) app) }

@@ -8,7 +8,7 @@ ghost use Rattle.rh_state.specs.Shape.{IsNodeOf, IsTimerOf};
 ghost use Rattle.rh_state.specs.Stored.{read};
 ghost use Rattle.rh_settle.specs.Counts.{FewEdits};
 ghost use Rattle.rh_settle.specs.Ways.{Goes};
-ghost use Rattle.rh_settle.specs.Readiness.{all_alive, is_ready};
+ghost use Rattle.rh_rules.specs.NodesStart.{all_alive, is_ready};
 
 use rh_base::OutOfMemory;
 use rh_model::{Node, SyncWait};
@@ -33,7 +33,7 @@ pub fn cancel_if_set(state: &mut State, timer: Timer, trace: &mut Trace) -> Resu
 }
 
 /// Are these nodes alive?
-#[tactic(auto, unfolding(rh_settle::specs::Readiness::all_alive))]
+#[tactic(auto, unfolding(rh_rules::specs::NodesStart::all_alive))]
 pub fn all_alive(state: &State, nodes: &[Node]) -> bool
     ensures { result ≡ all_alive (read state.now) nodes.now }
 {
@@ -56,7 +56,7 @@ fn is_alive(state: &State, node: Node) -> bool
 
 /// Is a node ready to come up (kernel(6), sync_nodes_mandatory, sync_nodes_optional, sync_nodes_timeout)? It is if it waits, and
 /// either none of its mandatory and optional nodes is missing or it awaits none.
-#[tactic(auto, unfolding(rh_settle::specs::Readiness::is_ready))]
+#[tactic(auto, unfolding(rh_rules::specs::NodesStart::is_ready))]
 pub fn is_ready(state: &State, node: Node) -> bool
     requires { IsNodeOf (read state.now).cluster node }
     ensures { result ≡ is_ready (read state.now) node }

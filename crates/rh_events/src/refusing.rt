@@ -5,18 +5,17 @@ ghost use Rattle.std.specs.Option.{option_or};
 ghost use Rattle.rh_model.specs.ClusterView.{is_listed_at};
 ghost use Rattle.rh_state.specs.Shape.{IsNodeOf, IsAppOf};
 ghost use Rattle.rh_state.specs.Stored.{read};
-ghost use Rattle.rh_place.specs.Placing.{missing_dep};
-ghost use Rattle.rh_events.specs.declared.event.Event.TheVariants.{Boot, Crash, Tick, Start, Stop, Permit, Takeover, Exit};
-ghost use Rattle.rh_events.specs.declared.refusal.Refusal.{Refusal};
-ghost use Rattle.rh_events.specs.declared.refusal.Refusal.TheVariants.{NotRunning, RunsHere};
-ghost use Rattle.rh_events.specs.Refusals.{refused, tests_by_hand, first_that_applies, dep_tests};
+ghost use Rattle.rh_rules.specs.Placing.{missing_dep};
+ghost use Rattle.rh_rules.specs.declared.event.Event.TheVariants.{Boot, Crash, Tick, Start, Stop, Permit, Takeover, Exit};
+ghost use Rattle.rh_rules.specs.declared.refusal.Refusal.{Refusal};
+ghost use Rattle.rh_rules.specs.declared.refusal.Refusal.TheVariants.{NotRunning, RunsHere};
+ghost use Rattle.rh_rules.specs.Refusals.{refused, tests_by_hand, first_that_applies, dep_tests};
 ghost use Rattle.rh_state.specs.Standings.{is_running, is_running_at};
 
-use crate::event::Event;
-use crate::refusal::Refusal;
 use crate::targets::{start_all_refusal, stop_all_refusal};
 use rh_model::{App, Node, Restart};
 use rh_place::missing_dep;
+use rh_rules::{Event, Refusal};
 use rh_state::{Mode, Place, Standing, State};
 
 /// Why an event is refused in a state: the first reason that applies, or `None`.
@@ -39,7 +38,7 @@ pub fn refusal_of(state: &State, event: &Event) -> Option<Refusal>
 }
 
 // Why a node can't start.
-#[tactic(auto, unfolding(crate::specs::Refusals::refused))]
+#[tactic(auto, unfolding(rh_rules::specs::Refusals::refused))]
 fn boot_refusal(state: &State, node: Node) -> Option<Refusal>
     ensures { result ≡ refused (read state.now) (Boot node) }
 {
@@ -59,7 +58,7 @@ fn boot_refusal(state: &State, node: Node) -> Option<Refusal>
 }
 
 // Why a node can't end.
-#[tactic(auto, unfolding(crate::specs::Refusals::refused))]
+#[tactic(auto, unfolding(rh_rules::specs::Refusals::refused))]
 fn crash_refusal(state: &State, node: Node) -> Option<Refusal>
     ensures { result ≡ refused (read state.now) (Crash node) }
 {
@@ -73,7 +72,7 @@ fn crash_refusal(state: &State, node: Node) -> Option<Refusal>
 }
 
 // Why so much time can't pass.
-#[tactic(auto, unfolding(crate::specs::Refusals::refused))]
+#[tactic(auto, unfolding(rh_rules::specs::Refusals::refused))]
 fn tick_refusal(state: &State, ms: u64) -> Option<Refusal>
     ensures { result ≡ refused (read state.now) (Tick ms) }
 {
@@ -124,7 +123,7 @@ fn dep_refusal(state: &State, node: Node, app: App) -> Option<Refusal>
 }
 
 // Why an application can't be started.
-#[tactic(auto, unfolding(crate::specs::Refusals::refused))]
+#[tactic(auto, unfolding(rh_rules::specs::Refusals::refused))]
 fn start_refusal(state: &State, node: Node, app: App, restart: Restart) -> Option<Refusal>
     ensures { result ≡ refused (read state.now) (Start node app restart) }
 {
@@ -142,7 +141,7 @@ fn start_refusal(state: &State, node: Node, app: App, restart: Restart) -> Optio
 }
 
 // Why it can't be stopped.
-#[tactic(auto, unfolding(crate::specs::Refusals::refused))]
+#[tactic(auto, unfolding(rh_rules::specs::Refusals::refused))]
 fn stop_refusal(state: &State, node: Node, app: App) -> Option<Refusal>
     ensures { result ≡ refused (read state.now) (Stop node app) }
 {
@@ -156,7 +155,7 @@ fn stop_refusal(state: &State, node: Node, app: App) -> Option<Refusal>
 }
 
 // Why its permission can't be set.
-#[tactic(auto, unfolding(crate::specs::Refusals::refused))]
+#[tactic(auto, unfolding(rh_rules::specs::Refusals::refused))]
 fn permit_refusal(state: &State, node: Node, app: App, allow: bool) -> Option<Refusal>
     ensures { result ≡ refused (read state.now) (Permit node app allow) }
 {
@@ -176,7 +175,7 @@ fn standing_refusal(node: Node, standing: Standing) -> Option<Refusal>
 }
 
 // Why it can't be taken over.
-#[tactic(auto, unfolding(crate::specs::Refusals::refused))]
+#[tactic(auto, unfolding(rh_rules::specs::Refusals::refused))]
 fn takeover_refusal(state: &State, node: Node, app: App, restart: Restart) -> Option<Refusal>
     ensures { result ≡ refused (read state.now) (Takeover node app restart) }
 {
@@ -200,7 +199,7 @@ fn takeover_refusal(state: &State, node: Node, app: App, restart: Restart) -> Op
 }
 
 // Why it can't end there.
-#[tactic(auto, unfolding(crate::specs::Refusals::refused))]
+#[tactic(auto, unfolding(rh_rules::specs::Refusals::refused))]
 fn exit_refusal(state: &State, node: Node, app: App, normal: bool) -> Option<Refusal>
     ensures { result ≡ refused (read state.now) (Exit node app normal) }
 {

@@ -3,15 +3,16 @@
 ghost use Rattle.std.specs.Prelude.{◌≡◌};
 ghost use Rattle.rh_state.specs.Shape.{IsNodeOf, IsAppOf};
 ghost use Rattle.rh_state.specs.Stored.{read};
-ghost use Rattle.rh_events.specs.declared.event.Event.TheVariants.{StartAll, StopAll};
-ghost use Rattle.rh_events.specs.Everywhere.{is_host, is_target, has_host, has_target, missing_if_target, missing_at_targets};
-ghost use Rattle.rh_events.specs.Refusals.{refused};
+ghost use Rattle.rh_rules.specs.declared.event.Event.TheVariants.{StartAll, StopAll};
+ghost use Rattle.rh_rules.specs.Everywhere.{is_host, is_target, has_host, has_target, missing_at_targets};
+ghost use Rattle.rh_events.specs.Everywhere.{missing_if_target};
+ghost use Rattle.rh_rules.specs.Refusals.{refused};
 
 use crate::by_hand::{is_started_anywhere, is_started_at};
-use crate::refusal::Refusal;
 use crate::refusing::is_listed_at;
 use rh_model::{App, Dep, Node, Restart};
 use rh_place::missing_dep;
+use rh_rules::Refusal;
 use rh_state::{Mode, State};
 
 // Is a node up, and may it start the application (kernel(6), `distributed`)?
@@ -33,7 +34,7 @@ pub fn is_target(state: &State, app: App, node: Node) -> bool
 }
 
 // Is some node up that may start it?
-#[tactic(auto, unfolding(crate::specs::Everywhere::has_host, rh_state::specs::Numbers::nodes_of))]
+#[tactic(auto, unfolding(rh_rules::specs::Everywhere::has_host, rh_state::specs::Numbers::nodes_of))]
 fn has_host(state: &State, app: App) -> bool
     requires { IsAppOf (read state.now).cluster app }
     ensures { result ≡ has_host (read state.now) app }
@@ -48,7 +49,7 @@ fn has_host(state: &State, app: App) -> bool
 }
 
 // Is it still to be started at some node?
-#[tactic(auto, unfolding(crate::specs::Everywhere::has_target, rh_state::specs::Numbers::nodes_of))]
+#[tactic(auto, unfolding(rh_rules::specs::Everywhere::has_target, rh_state::specs::Numbers::nodes_of))]
 fn has_target(state: &State, app: App) -> bool
     requires { IsAppOf (read state.now).cluster app }
     ensures { result ≡ has_target (read state.now) app }
@@ -76,7 +77,7 @@ fn missing_if_target(state: &State, app: App, node: Node) -> Option<Dep>
 }
 
 // The first dependency that doesn't run at the first of those nodes at which one doesn't.
-#[tactic(auto, unfolding(crate::specs::Everywhere::missing_at_targets))]
+#[tactic(auto, unfolding(rh_rules::specs::Everywhere::missing_at_targets))]
 fn missing_at_targets(state: &State, app: App) -> Option<Dep>
     requires { IsAppOf (read state.now).cluster app }
     ensures { result ≡ missing_at_targets (read state.now) app }
@@ -92,7 +93,7 @@ fn missing_at_targets(state: &State, app: App) -> Option<Dep>
 }
 
 /// Why it can't be started at all its nodes.
-#[tactic(auto, unfolding(crate::specs::Refusals::refused))]
+#[tactic(auto, unfolding(rh_rules::specs::Refusals::refused))]
 pub fn start_all_refusal(state: &State, app: App, restart: Restart) -> Option<Refusal>
     ensures { result ≡ refused (read state.now) (StartAll app restart) }
 {
@@ -114,7 +115,7 @@ pub fn start_all_refusal(state: &State, app: App, restart: Restart) -> Option<Re
 }
 
 /// Why it can't be stopped at all its nodes.
-#[tactic(auto, unfolding(crate::specs::Refusals::refused))]
+#[tactic(auto, unfolding(rh_rules::specs::Refusals::refused))]
 pub fn stop_all_refusal(state: &State, app: App) -> Option<Refusal>
     ensures { result ≡ refused (read state.now) (StopAll app) }
 {

@@ -9,11 +9,12 @@ use Rattle.rh_state.specs.declared.status.Standing.TheVariants.{Quiet, Wanted, R
 use Rattle.rh_state.specs.Numbers.{nodes_of, apps_of}
 use Rattle.rh_state.specs.StateView.{StateView, standing_of, waiting_at, running_count}
 use Rattle.rh_base.specs.Lists.{head, least, or_else, first_given}
-use Rattle.rh_place.specs.Placing.{groups_of, best, candidates, is_operational}
-use Rattle.rh_settle.specs.declared.notice.Move.{Move}
-use Rattle.rh_settle.specs.declared.notice.Move.TheVariants.{Local, Placement, Takeover}
-use Rattle.rh_settle.specs.declared.notice.Pair.{Pair}
-use Rattle.rh_settle.specs.Moves.{can_start, local_move, local_moves, placements_from, placements, calls_away, takeovers_from, takeovers, next_moves}
+use Rattle.rh_rules.specs.Placing.{groups_of, best, candidates, is_operational}
+use Rattle.rh_rules.specs.declared.notice.Move.{Move}
+use Rattle.rh_rules.specs.declared.notice.Move.TheVariants.{Local, Placement, Takeover}
+use Rattle.rh_rules.specs.declared.notice.Pair.{Pair}
+use Rattle.rh_rules.specs.Moves.{can_start, local_move, local_moves, placements_from, placements, calls_away, takeovers_from, takeovers}
+use Rattle.rh_rules.specs.Settling.{next_moves}
 use Rattle.rh_laws.specs.Laws.{NamesNodesOnce}
 use Rattle.rh_settle.proofs.Every.{Every, every_filter}
 use Rattle.rh_settle.proofs.Firsts.{In, every_in}

@@ -1,11 +1,10 @@
 -- In each settling that the rules allow, a placement is at a best node of its moment.
 use Rattle.std.proofs.Common.{List, [], ◌∷◌, ◌++◌, fold, subst}
-use Rattle.rh_settle.specs.declared.notice.Move.{Move}
-use Rattle.rh_settle.specs.declared.notice.Move.TheVariants.{Placement}
-use Rattle.rh_settle.specs.Course.{Course, fresh_of}
-use Rattle.rh_settle.specs.Enabled.{IsFirst}
-use Rattle.rh_settle.specs.Moves.{moved}
-use Rattle.rh_settle.specs.Settling.{AreFirst}
+use Rattle.rh_rules.specs.declared.notice.Move.{Move}
+use Rattle.rh_rules.specs.declared.notice.Move.TheVariants.{Placement}
+use Rattle.rh_rules.specs.Course.{Course, fresh_of}
+use Rattle.rh_rules.specs.Settling.{IsFirst, AreFirst}
+use Rattle.rh_rules.specs.Moves.{moved}
 use Rattle.rh_laws.specs.Laws.{PlacedAtBestNodes}
 
 -- each move is a first one of its moment

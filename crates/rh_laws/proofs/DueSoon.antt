@@ -22,23 +22,21 @@ use Rattle.rh_state.specs.Standings.{is_quiet, is_lost_at}
 use Rattle.rh_state.specs.Timers.{same_timer, without_timer}
 use Rattle.rh_state.specs.StateView.{StateView, incarnation_of, runs_at, is_allowed, restart_of, standing_of, earliest}
 use Rattle.rh_state.specs.Setters.{with_mode, with_incarnation, with_allowed, with_restart, with_waiting, with_standing, with_timer, without_due, unlisted}
-use Rattle.rh_place.specs.declared.choosing.Pick.{Pick}
-use Rattle.rh_settle.specs.declared.notice.Notice.TheVariants as notice
-use Rattle.rh_settle.specs.Course.{Course, course_of, told, now_in}
-use Rattle.rh_settle.specs.Moves.{is_local, with_stopped}
-use Rattle.rh_settle.specs.Readiness.{all_alive, is_ready}
-use Rattle.rh_settle.specs.Settling.{settled}
+use Rattle.rh_rules.specs.declared.pick.Pick.{Pick}
+use Rattle.rh_rules.specs.declared.notice.Notice.TheVariants as notice
+use Rattle.rh_rules.specs.Course.{Course, course_of, told, now_in, is_local}
+use Rattle.rh_rules.specs.Moves.{with_stopped}
+use Rattle.rh_rules.specs.NodesStart.{all_alive, is_ready, come_up, come_up_if_ready, ready_come_up, with_sync_timer, booted}
+use Rattle.rh_rules.specs.Settling.{settled}
 use Rattle.rh_settle.specs.Validity.{IsValid}
-use Rattle.rh_events.specs.declared.event.Event.{Event}
-use Rattle.rh_events.specs.declared.event.Event.TheVariants.{Boot, Crash, Tick, Start, Stop, Permit, Takeover, Exit, StartAll, StopAll}
-use Rattle.rh_events.specs.Marking.{with_distributed_standing, with_mark, mark, mark_booted, mark_all}
-use Rattle.rh_events.specs.ComingUp.{come_up, come_up_if_ready, ready_come_up}
-use Rattle.rh_events.specs.Ending.{timeout_of, cleared, lost_at, lost_from, lost_if_ran, all_lost, ended}
-use Rattle.rh_events.specs.ByHand.{stopped, is_started_anywhere, quiet_if_nowhere, left_waiting, forbidden, permitted, permission_set, taken_from, taken_over, ends_node, exited}
-use Rattle.rh_events.specs.Everywhere.{start_at, targets, start_all, leave_at, left_everywhere, stop_all}
-use Rattle.rh_events.specs.Changes.{with_sync_timer, booted, change}
-use Rattle.rh_step.specs.Ticks.{due_by, wanted_if_lost, effect, taken_off, fired, all_fired, ticked}
-use Rattle.rh_step.specs.Outcomes.{followed, next}
+use Rattle.rh_rules.specs.declared.event.Event.{Event}
+use Rattle.rh_rules.specs.declared.event.Event.TheVariants.{Boot, Crash, Tick, Start, Stop, Permit, Takeover, Exit, StartAll, StopAll}
+use Rattle.rh_rules.specs.Marking.{with_distributed_standing, with_mark, mark, mark_booted, mark_all}
+use Rattle.rh_rules.specs.NodesEnd.{timeout_of, cleared, lost_at, lost_from, lost_if_ran, all_lost, ended, wanted_if_lost}
+use Rattle.rh_rules.specs.ByHand.{stopped, is_started_anywhere, quiet_if_nowhere, left_waiting, forbidden, permitted, permission_set, taken_from, taken_over, ends_node, exited}
+use Rattle.rh_rules.specs.Everywhere.{start_at, targets, start_all, leave_at, left_everywhere, stop_all}
+use Rattle.rh_rules.specs.Steps.{change, followed, next}
+use Rattle.rh_rules.specs.Time.{due_by, effect, taken_off, fired, all_fired, ticked}
 use Rattle.rh_settle.proofs.Every.{Every, every_filter}
 use Rattle.rh_settle.proofs.Unchanged.{settled_timers, settled_time, settled_cluster}
 use Rattle.rh_events.proofs.Accepted.{accepted_tick}

@@ -20,22 +20,21 @@ use Rattle.rh_state.specs.Standings.{is_quiet, is_lost}
 use Rattle.rh_state.specs.Timers.{same_timer, due_among}
 use Rattle.rh_state.specs.StateView.{StateView, mode_of, is_waiting, standing_of, runs_at, earliest}
 use Rattle.rh_state.specs.Setters.{with_mode, with_standing, without_due, with_time}
-use Rattle.rh_place.specs.declared.choosing.Pick.{Pick}
-use Rattle.rh_place.specs.Placing.{is_operational}
-use Rattle.rh_settle.specs.declared.notice.Move.{Move}
-use Rattle.rh_settle.specs.declared.notice.Move.TheVariants.{Local, Placement, Takeover}
-use Rattle.rh_settle.specs.declared.notice.Notice.TheVariants as notice
-use Rattle.rh_settle.specs.Course.{Course, course_of, told, now_in}
-use Rattle.rh_settle.specs.Moves.{is_local, moved, moved_state}
-use Rattle.rh_settle.specs.Readiness.{all_alive, is_ready}
-use Rattle.rh_settle.specs.Settling.{settled}
+use Rattle.rh_rules.specs.declared.pick.Pick.{Pick}
+use Rattle.rh_rules.specs.Placing.{is_operational}
+use Rattle.rh_rules.specs.declared.notice.Move.{Move}
+use Rattle.rh_rules.specs.declared.notice.Move.TheVariants.{Local, Placement, Takeover}
+use Rattle.rh_rules.specs.declared.notice.Notice.TheVariants as notice
+use Rattle.rh_rules.specs.Course.{Course, course_of, told, now_in, is_local}
+use Rattle.rh_rules.specs.Moves.{moved, moved_state}
+use Rattle.rh_rules.specs.NodesStart.{all_alive, is_ready, come_up, come_up_if_ready, ready_come_up}
+use Rattle.rh_rules.specs.Settling.{settled}
 use Rattle.rh_settle.specs.Validity.{IsSound, IsValid}
-use Rattle.rh_events.specs.declared.event.Event.TheVariants.{Tick}
-use Rattle.rh_events.specs.Marking.{wanted_by_mark, with_mark, mark, mark_booted, mark_all}
-use Rattle.rh_events.specs.ComingUp.{come_up, come_up_if_ready, ready_come_up}
-use Rattle.rh_events.specs.Ending.{cleared, all_lost, ended}
-use Rattle.rh_step.specs.Ticks.{due_by, wanted_if_lost, effect, taken_off, fired, all_fired, ticked}
-use Rattle.rh_step.specs.Outcomes.{next}
+use Rattle.rh_rules.specs.declared.event.Event.TheVariants.{Tick}
+use Rattle.rh_rules.specs.Marking.{wanted_by_mark, with_mark, mark, mark_booted, mark_all}
+use Rattle.rh_rules.specs.NodesEnd.{cleared, all_lost, ended, wanted_if_lost}
+use Rattle.rh_rules.specs.Time.{due_by, effect, taken_off, fired, all_fired, ticked}
+use Rattle.rh_rules.specs.Steps.{next}
 use Rattle.rh_laws.specs.Laws.{RunsAgain, FailsOverInTime}
 use Rattle.rh_base.proofs.Lists.{cases}
 use Rattle.rh_settle.proofs.Entries.{both, same_number, is_false}

@@ -13,16 +13,14 @@ use Rattle.rh_state.specs.declared.status.Standing.TheVariants.{Wanted}
 use Rattle.rh_state.specs.Shape.{IsNodeOf, IsAppOf}
 use Rattle.rh_state.specs.Tables.{cell}
 use Rattle.rh_state.specs.StateView.{StateView, mode_of, is_up, runs_at, waits_at, is_started, is_allowed, standing_of}
-use Rattle.rh_place.specs.declared.choosing.Pick.{Pick}
-use Rattle.rh_place.specs.declared.choosing.Pick.TheVariants.{First, Last}
-use Rattle.rh_place.specs.Picks.{picked}
-use Rattle.rh_place.specs.Placing.{dep_runs, deps_run, is_operational}
-use Rattle.rh_settle.specs.declared.notice.Move.{Move}
-use Rattle.rh_settle.specs.declared.notice.Move.TheVariants.{Local, Placement, Takeover}
-use Rattle.rh_settle.specs.declared.notice.Notice.{Notice}
-use Rattle.rh_settle.specs.Course.{course_of}
-use Rattle.rh_settle.specs.Moves.{is_local}
-use Rattle.rh_settle.specs.Settling.{NoneEnabled, waits_told, settled}
+use Rattle.rh_rules.specs.declared.pick.Pick.{Pick}
+use Rattle.rh_rules.specs.declared.pick.Pick.TheVariants.{First, Last}
+use Rattle.rh_rules.specs.Placing.{picked, dep_runs, deps_run, is_operational}
+use Rattle.rh_rules.specs.declared.notice.Move.{Move}
+use Rattle.rh_rules.specs.declared.notice.Move.TheVariants.{Local, Placement, Takeover}
+use Rattle.rh_rules.specs.declared.notice.Notice.{Notice}
+use Rattle.rh_rules.specs.Course.{course_of, is_local}
+use Rattle.rh_rules.specs.Settling.{NoneEnabled, waits_told, settled}
 use Rattle.rh_settle.proofs.Entries.{both, either}
 use Rattle.rh_settle.proofs.FieldLaws.{never_left_wanted}
 use Rattle.rh_settle.proofs.Fuel.{ended}

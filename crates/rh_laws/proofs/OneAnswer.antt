@@ -13,29 +13,25 @@ use Rattle.rh_state.specs.Numbers.{nodes_of}
 use Rattle.rh_state.specs.Setters.{with_time}
 use Rattle.rh_state.specs.Shape.{IsShaped}
 use Rattle.rh_state.specs.StateView.{StateView, standing_of, earliest}
-use Rattle.rh_place.specs.declared.choosing.Pick.{Pick}
-use Rattle.rh_place.specs.declared.choosing.Pick.TheVariants.{First, Last}
-use Rattle.rh_place.specs.Picks.{picked}
-use Rattle.rh_place.specs.Starting.{start_kind}
-use Rattle.rh_settle.specs.declared.notice.Move.{Move}
-use Rattle.rh_settle.specs.declared.notice.Move.TheVariants.{Local, Placement, Takeover}
-use Rattle.rh_settle.specs.declared.notice.Notice.{Notice}
-use Rattle.rh_settle.specs.declared.notice.Notice.TheVariants as notice
-use Rattle.rh_settle.specs.declared.notice.Pair.{Pair}
-use Rattle.rh_settle.specs.Course.{Course, course_of, fresh_of}
-use Rattle.rh_settle.specs.Enabled.{IsFirst}
-use Rattle.rh_settle.specs.Moves.{moved, lost_elsewhere}
-use Rattle.rh_settle.specs.Settling.{AreFirst, Settles, nexts, waits_told, settled}
+use Rattle.rh_rules.specs.declared.pick.Pick.{Pick}
+use Rattle.rh_rules.specs.declared.pick.Pick.TheVariants.{First, Last}
+use Rattle.rh_rules.specs.Placing.{picked, start_kind}
+use Rattle.rh_rules.specs.declared.notice.Move.{Move}
+use Rattle.rh_rules.specs.declared.notice.Move.TheVariants.{Local, Placement, Takeover}
+use Rattle.rh_rules.specs.declared.notice.Notice.{Notice}
+use Rattle.rh_rules.specs.declared.notice.Notice.TheVariants as notice
+use Rattle.rh_rules.specs.declared.notice.Pair.{Pair}
+use Rattle.rh_rules.specs.Course.{Course, course_of, fresh_of}
+use Rattle.rh_rules.specs.Settling.{IsFirst, AreFirst, Settles, nexts, waits_told, settled}
+use Rattle.rh_rules.specs.Moves.{moved, lost_elsewhere}
 use Rattle.rh_settle.specs.Validity.{IsSound}
 use Rattle.rh_settle.specs.Ways.{Tells}
-use Rattle.rh_events.specs.declared.event.Event.{Event}
-use Rattle.rh_events.specs.declared.event.Event.TheVariants.{Tick}
-use Rattle.rh_events.specs.ComingUp.{come_up, come_up_if_ready, ready_come_up}
-use Rattle.rh_events.specs.Changes.{change}
-use Rattle.rh_events.specs.Refusals.{refused}
-use Rattle.rh_step.specs.Allowed.{ComeUp, no_node, ready, not_ready, ComesOf, Fires, none_due, one_due, Passes, Happens, Follows}
-use Rattle.rh_step.specs.Outcomes.{Outcome, outcome, outcome_of, followed, next}
-use Rattle.rh_step.specs.Ticks.{due_by, effect, taken_off, fired, all_fired, ticked}
+use Rattle.rh_rules.specs.declared.event.Event.{Event}
+use Rattle.rh_rules.specs.declared.event.Event.TheVariants.{Tick}
+use Rattle.rh_rules.specs.NodesStart.{come_up, come_up_if_ready, ready_come_up}
+use Rattle.rh_rules.specs.Steps.{change, ComeUp, no_node, ready, not_ready, ComesOf, Fires, none_due, one_due, Passes, Happens, Follows, Outcome, outcome, outcome_of, followed, next}
+use Rattle.rh_rules.specs.Refusals.{refused}
+use Rattle.rh_rules.specs.Time.{due_by, effect, taken_off, fired, all_fired, ticked}
 use Rattle.rh_laws.specs.Laws.{NamesNodesOnce, OneAnswer}
 use Rattle.rh_settle.proofs.Behind.{after_notices, settled_after}
 use Rattle.rh_settle.proofs.Entries.{both}

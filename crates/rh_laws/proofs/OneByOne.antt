@@ -12,21 +12,19 @@ use Rattle.rh_state.specs.Tables.{row}
 use Rattle.rh_state.specs.Shape.{IsAppOf}
 use Rattle.rh_state.specs.StateView.{StateView, runs_at, is_started}
 use Rattle.rh_state.specs.Setters.{unlisted}
-use Rattle.rh_place.specs.declared.choosing.Pick.{Pick}
-use Rattle.rh_settle.specs.declared.notice.Notice.{Notice}
-use Rattle.rh_settle.specs.declared.notice.Notice.TheVariants as notice
-use Rattle.rh_settle.specs.Course.{Course, course_of, told, now_in}
-use Rattle.rh_settle.specs.Moves.{is_local}
-use Rattle.rh_settle.specs.Settling.{settled}
+use Rattle.rh_rules.specs.declared.pick.Pick.{Pick}
+use Rattle.rh_rules.specs.declared.notice.Notice.{Notice}
+use Rattle.rh_rules.specs.declared.notice.Notice.TheVariants as notice
+use Rattle.rh_rules.specs.Course.{Course, course_of, told, now_in, is_local}
+use Rattle.rh_rules.specs.Settling.{settled}
 use Rattle.rh_settle.specs.Validity.{IsSound, IsValid}
-use Rattle.rh_events.specs.declared.event.Event.TheVariants.{Stop, StopAll}
-use Rattle.rh_events.specs.declared.refusal.Refusal.{Refusal}
-use Rattle.rh_events.specs.declared.refusal.Refusal.TheVariants.{UnknownApp, NotDistributed, NeverStarted}
-use Rattle.rh_events.specs.Changes.{change}
-use Rattle.rh_events.specs.Everywhere.{leave_at, left_everywhere, stop_all}
-use Rattle.rh_events.specs.Refusals.{refused}
-use Rattle.rh_events.specs.ByHand.{is_started_anywhere}
-use Rattle.rh_step.specs.Outcomes.{Outcome, outcome, outcome_of, followed, next}
+use Rattle.rh_rules.specs.declared.event.Event.TheVariants.{Stop, StopAll}
+use Rattle.rh_rules.specs.declared.refusal.Refusal.{Refusal}
+use Rattle.rh_rules.specs.declared.refusal.Refusal.TheVariants.{UnknownApp, NotDistributed, NeverStarted}
+use Rattle.rh_rules.specs.Steps.{change, Outcome, outcome, outcome_of, followed, next}
+use Rattle.rh_rules.specs.Everywhere.{leave_at, left_everywhere, stop_all}
+use Rattle.rh_rules.specs.Refusals.{refused}
+use Rattle.rh_rules.specs.ByHand.{is_started_anywhere}
 use Rattle.rh_laws.specs.Laws.{stop_next, AllStop, StopAllIsStops}
 use Rattle.rh_base.proofs.Lists.{cases}
 use Rattle.rh_settle.proofs.Entries.{both, has, taken, taken_not, there, same_number, other_number}

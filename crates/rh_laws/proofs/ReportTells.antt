@@ -16,7 +16,7 @@ use Rattle.rh_state.specs.Numbers.{nodes_of, apps_of, same_app}
 use Rattle.rh_state.specs.Shape.{IsAppOf, IsTimerOf}
 use Rattle.rh_state.specs.Tables.{row}
 use Rattle.rh_state.specs.StateView.{StateView, running_at, waiting_at, runs_at, waits_at, is_allowed, restart_of, kind_of, standing_of}
-use Rattle.rh_settle.specs.Moves.{is_local}
+use Rattle.rh_rules.specs.Course.{is_local}
 use Rattle.rh_settle.specs.Validity.{IsSound}
 use Rattle.rh_base.proofs.Lists.{cases}
 use Rattle.rh_settle.proofs.Entries.{either, same_number, row_there}

@@ -10,18 +10,17 @@ use Rattle.rh_state.specs.declared.status.Standing.TheVariants.{Quiet, Wanted, R
 use Rattle.rh_state.specs.declared.status.Timer.TheVariants.{Failover}
 use Rattle.rh_state.specs.Numbers.{nodes_of, apps_of}
 use Rattle.rh_state.specs.StateView.{StateView, standing_of}
-use Rattle.rh_place.specs.declared.choosing.Pick.TheVariants.{First, Last}
-use Rattle.rh_place.specs.Placing.{deps_run, is_operational, best, candidates}
-use Rattle.rh_settle.specs.declared.notice.Notice.TheVariants.{Started, Waits}
-use Rattle.rh_settle.specs.Moves.{can_start, local_moves, placements, calls_away, takeovers, next_moves}
-use Rattle.rh_settle.specs.Settling.{moved_by, all_moved}
-use Rattle.rh_settle.specs.Readiness.{all_alive, is_ready}
-use Rattle.rh_events.specs.declared.event.Event.TheVariants.{Tick, StartAll}
-use Rattle.rh_events.specs.Marking.{with_mark}
-use Rattle.rh_events.specs.ComingUp.{come_up_if_ready, ready_come_up}
-use Rattle.rh_events.specs.Everywhere.{targets, start_all}
-use Rattle.rh_step.specs.Ticks.{fired, fired_by, all_fired, ticked}
-use Rattle.rh_step.specs.Outcomes.{followed, next}
+use Rattle.rh_rules.specs.declared.pick.Pick.TheVariants.{First, Last}
+use Rattle.rh_rules.specs.Placing.{deps_run, is_operational, best, candidates}
+use Rattle.rh_rules.specs.declared.notice.Notice.TheVariants.{Started, Waits}
+use Rattle.rh_rules.specs.Moves.{can_start, local_moves, placements, calls_away, takeovers}
+use Rattle.rh_rules.specs.Settling.{next_moves, moved_by, all_moved}
+use Rattle.rh_rules.specs.NodesStart.{all_alive, is_ready, come_up_if_ready, ready_come_up}
+use Rattle.rh_rules.specs.declared.event.Event.TheVariants.{Tick, StartAll}
+use Rattle.rh_rules.specs.Marking.{with_mark}
+use Rattle.rh_rules.specs.Everywhere.{targets, start_all}
+use Rattle.rh_rules.specs.Time.{fired, fired_by, all_fired, ticked}
+use Rattle.rh_rules.specs.Steps.{followed, next}
 use Rattle.rh_events.proofs.Scene.{p, q, job, twin, aid, scene, none}
 
 -- ---- job was lost with p, and its timer is due at 1000; it waits at q, where aid runs, which it needs

@@ -4,17 +4,15 @@ use Rattle.rh_state.specs.declared.status.Mode.TheVariants.{Down}
 use Rattle.rh_state.specs.declared.status.Standing.TheVariants.{Quiet, Wanted}
 use Rattle.rh_state.specs.Numbers.{nodes_of, apps_of}
 use Rattle.rh_state.specs.StateView.{StateView, standing_of}
-use Rattle.rh_place.specs.declared.choosing.Pick.TheVariants.{First}
-use Rattle.rh_place.specs.Placing.{deps_run, is_operational, best, candidates}
-use Rattle.rh_settle.specs.Moves.{can_start, local_moves, placements, calls_away, takeovers, next_moves}
-use Rattle.rh_settle.specs.Settling.{moved_by, all_moved}
-use Rattle.rh_settle.specs.Readiness.{all_alive, is_ready}
-use Rattle.rh_events.specs.declared.event.Event.TheVariants.{Boot}
-use Rattle.rh_events.specs.Changes.{booted}
-use Rattle.rh_events.specs.ComingUp.{come_up, come_up_if_ready, ready_come_up}
-use Rattle.rh_events.specs.Marking.{with_mark, mark_all}
+use Rattle.rh_rules.specs.declared.pick.Pick.TheVariants.{First}
+use Rattle.rh_rules.specs.Placing.{deps_run, is_operational, best, candidates}
+use Rattle.rh_rules.specs.Moves.{can_start, local_moves, placements, calls_away, takeovers}
+use Rattle.rh_rules.specs.Settling.{next_moves, moved_by, all_moved}
+use Rattle.rh_rules.specs.NodesStart.{all_alive, is_ready, booted, come_up, come_up_if_ready, ready_come_up}
+use Rattle.rh_rules.specs.declared.event.Event.TheVariants.{Boot}
+use Rattle.rh_rules.specs.Marking.{with_mark, mark_all}
 use Rattle.rh_step.specs.Laws.{boots}
-use Rattle.rh_step.specs.Outcomes.{followed, next}
+use Rattle.rh_rules.specs.Steps.{followed, next}
 use Rattle.rh_events.proofs.Scene.{p, job, twin, scene, none}
 
 -- p boots job, and not twin: as it comes up job is to run, and twin stays quiet

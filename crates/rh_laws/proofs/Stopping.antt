@@ -18,17 +18,16 @@ use Rattle.rh_state.specs.Standings.{is_lost}
 use Rattle.rh_state.specs.Timers.{same_timer, without_timer}
 use Rattle.rh_state.specs.StateView.{StateView, mode_of, is_up, runs_at, waits_at, is_started, standing_of}
 use Rattle.rh_state.specs.Setters.{with_standing, without_due, unlisted}
-use Rattle.rh_settle.specs.declared.notice.Notice.{Notice}
-use Rattle.rh_settle.specs.declared.notice.Notice.TheVariants as notice
-use Rattle.rh_settle.specs.Course.{Course, course_of, told, now_in}
-use Rattle.rh_settle.specs.Moves.{is_local}
+use Rattle.rh_rules.specs.declared.notice.Notice.{Notice}
+use Rattle.rh_rules.specs.declared.notice.Notice.TheVariants as notice
+use Rattle.rh_rules.specs.Course.{Course, course_of, told, now_in, is_local}
 use Rattle.rh_settle.specs.Validity.{IsSound}
-use Rattle.rh_events.specs.declared.event.Event.TheVariants.{Stop}
-use Rattle.rh_events.specs.declared.refusal.Refusal.TheVariants.{UnknownNode, UnknownApp, NodeNotUp, NeverStarted}
-use Rattle.rh_events.specs.ByHand.{stopped, is_started_anywhere, quiet_if_nowhere, left_waiting}
-use Rattle.rh_events.specs.Everywhere.{leave_at, quietened}
-use Rattle.rh_events.specs.Changes.{change}
-use Rattle.rh_events.specs.Refusals.{refused}
+use Rattle.rh_rules.specs.declared.event.Event.TheVariants.{Stop}
+use Rattle.rh_rules.specs.declared.refusal.Refusal.TheVariants.{UnknownNode, UnknownApp, NodeNotUp, NeverStarted}
+use Rattle.rh_rules.specs.ByHand.{stopped, is_started_anywhere, quiet_if_nowhere, left_waiting}
+use Rattle.rh_rules.specs.Everywhere.{leave_at, quietened}
+use Rattle.rh_rules.specs.Steps.{change}
+use Rattle.rh_rules.specs.Refusals.{refused}
 use Rattle.rh_settle.proofs.Entries.{both, either, taken_has, has, taken}
 use Rattle.rh_settle.proofs.Every.{filter_yes}
 use Rattle.rh_settle.proofs.Places.{at_set, at_set_here, or_left}

@@ -10,24 +10,21 @@ use Rattle.rh_state.specs.declared.status.Standing.TheVariants.{Running, Lost}
 use Rattle.rh_state.specs.declared.status.Timer.TheVariants.{Failover}
 use Rattle.rh_state.specs.Numbers.{nodes_of}
 use Rattle.rh_state.specs.StateView.{StateView, runs_at, is_started, standing_of, due_of}
-use Rattle.rh_place.specs.declared.choosing.Pick.{Pick}
-use Rattle.rh_place.specs.declared.choosing.Pick.TheVariants.{First, Last}
-use Rattle.rh_place.specs.Placing.{is_operational, groups_of}
-use Rattle.rh_settle.specs.Course.{Course, course_of}
-use Rattle.rh_settle.specs.declared.notice.Move.{Move}
-use Rattle.rh_settle.specs.declared.notice.Move.TheVariants.{Placement}
-use Rattle.rh_settle.specs.Moves.{moved}
-use Rattle.rh_settle.specs.Enabled.{IsBest}
-use Rattle.rh_settle.specs.Settling.{Settles, settled}
+use Rattle.rh_rules.specs.declared.pick.Pick.{Pick}
+use Rattle.rh_rules.specs.declared.pick.Pick.TheVariants.{First, Last}
+use Rattle.rh_rules.specs.Placing.{is_operational, groups_of}
+use Rattle.rh_rules.specs.Course.{Course, course_of}
+use Rattle.rh_rules.specs.declared.notice.Move.{Move}
+use Rattle.rh_rules.specs.declared.notice.Move.TheVariants.{Placement}
+use Rattle.rh_rules.specs.Moves.{moved}
+use Rattle.rh_rules.specs.Settling.{IsBest, Settles, settled}
 use Rattle.rh_settle.specs.Validity.{IsValid}
-use Rattle.rh_events.specs.declared.event.Event.{Event}
-use Rattle.rh_events.specs.declared.event.Event.TheVariants.{Tick, Start, Stop, StartAll, StopAll}
-use Rattle.rh_events.specs.Changes.{change}
-use Rattle.rh_events.specs.ComingUp.{ready_come_up}
-use Rattle.rh_events.specs.Everywhere.{targets}
-use Rattle.rh_events.specs.Refusals.{refused}
-use Rattle.rh_step.specs.Allowed.{Allowed}
-use Rattle.rh_step.specs.Outcomes.{Outcome, outcome, outcome_of, next}
+use Rattle.rh_rules.specs.declared.event.Event.{Event}
+use Rattle.rh_rules.specs.declared.event.Event.TheVariants.{Tick, Start, Stop, StartAll, StopAll}
+use Rattle.rh_rules.specs.Steps.{change, Allowed, Outcome, outcome, outcome_of, next}
+use Rattle.rh_rules.specs.NodesStart.{ready_come_up}
+use Rattle.rh_rules.specs.Everywhere.{targets}
+use Rattle.rh_rules.specs.Refusals.{refused}
 
 -- an application runs at a node, and stands so
 abbrev pub RunsAgain : StateView → App → Type 0

@@ -6,7 +6,7 @@ use Rattle.rh_model.specs.declared.node.Node.{Node}
 use Rattle.rh_model.specs.declared.node.App.{App}
 use Rattle.rh_state.specs.declared.status.Mode.TheVariants.{Down}
 use Rattle.rh_state.specs.StateView.{StateView, is_up, is_started, is_allowed}
-use Rattle.rh_place.specs.Placing.{is_operational, deps_run}
+use Rattle.rh_rules.specs.Placing.{is_operational, deps_run}
 
 pub beyond : (s : StateView) (a : App) (n : Node) → length s.modes ≤ n.0 → is_operational s a n ≡ false
 unfolding is_operational

@@ -12,7 +12,7 @@ use Rattle.rh_model.specs.declared.settings.SyncWait.TheVariants.{Unset}
 use Rattle.rh_model.specs.ClusterView.{NodeView, deps_of, is_platform, node_count, IsWithin}
 use Rattle.rh_model.specs.Needs.{is_at_hand, has_platforms, listed, is_home, needed_apps}
 use Rattle.rh_state.specs.StateView.{StateView, runs_at}
-use Rattle.rh_place.specs.Placing.{dep_runs, deps_run}
+use Rattle.rh_rules.specs.Placing.{dep_runs, deps_run}
 
 swapped : (a b c : Bool) → a && (b && c) ≡ b && (a && c)
 swapped true b c = refl

@@ -10,10 +10,9 @@ use Rattle.rh_model.specs.declared.node.App.{App}
 use Rattle.rh_model.specs.declared.settings.Spread.{Spread}
 use Rattle.rh_model.specs.ClusterView.{is_in, group_of, spread_of}
 use Rattle.rh_state.specs.StateView.{StateView, running_count}
-use Rattle.rh_place.specs.Placing.{best}
-use Rattle.rh_place.specs.declared.choosing.Pick.{Pick}
+use Rattle.rh_rules.specs.Placing.{best, picked}
+use Rattle.rh_rules.specs.declared.pick.Pick.{Pick}
 use Rattle.rh_base.specs.Lists.{or_else, first_given, lightest}
-use Rattle.rh_place.specs.Picks.{picked}
 use Rattle.rh_base.proofs.Lists.{cases, any_filter, none_filter, place_any, nothing_given}
 use Rattle.rh_place.proofs.Picks.{picked_none}
 

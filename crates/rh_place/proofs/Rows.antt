@@ -9,11 +9,9 @@ use Rattle.rh_state.specs.declared.status.Kind.TheVariants.{Normal, Failover}
 use Rattle.rh_state.specs.declared.status.Mode.TheVariants.{Down, Up}
 use Rattle.rh_state.specs.First.{first}
 use Rattle.rh_state.specs.StateView.{StateView}
-use Rattle.rh_place.specs.declared.choosing.Pick.TheVariants.{First, Last}
+use Rattle.rh_rules.specs.declared.pick.Pick.TheVariants.{First, Last}
 use Rattle.rh_place.specs.Sets.{has}
-use Rattle.rh_place.specs.Picks.{picked}
-use Rattle.rh_place.specs.Placing.{is_operational, deps_run, missing_dep, best, candidates}
-use Rattle.rh_place.specs.Starting.{start_kind}
+use Rattle.rh_rules.specs.Placing.{picked, is_operational, deps_run, missing_dep, best, candidates, start_kind}
 
 abbrev n1 : Node
 n1 = record { 0 = 0 }

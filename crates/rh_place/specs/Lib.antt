@@ -1,4 +1,1 @@
 pub mod Sets
-pub mod Picks
-pub mod Placing
-pub mod Starting

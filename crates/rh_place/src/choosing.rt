@@ -10,27 +10,18 @@ ghost use Rattle.rh_state.specs.Shape.{IsNodeOf};
 ghost use Rattle.rh_state.specs.Stored.{read};
 ghost use Rattle.rh_place.specs.Sets.{has};
 ghost use Rattle.rh_base.specs.Lists.{first_given, least};
-ghost use Rattle.rh_place.specs.Picks.{picked};
-ghost use Rattle.rh_place.specs.Placing.{is_operational, groups_of, best, candidates};
+ghost use Rattle.rh_rules.specs.Placing.{picked, is_operational, groups_of, best, candidates};
 
 use crate::node_set::NodeSet;
 use crate::operating::operational;
 use rh_model::{App, Group, Node};
+use rh_rules::Pick;
 use rh_state::State;
-
-/// Which of several equally good nodes is taken (ours: the manual leaves it open).
-#[derive(Clone, Copy, Debug, PartialEq, Eq)]
-pub enum Pick {
-    /// The one that is written first in its group.
-    First,
-    /// The one that is written last.
-    Last,
-}
 
 /// The nodes at which an application that is wanted can be placed (Distributed Applications): of the first group of its
 /// list that has a node where it can run, those such nodes at which fewest applications run. There are none if it isn't
 /// distributed.
-#[tactic(auto, unfolding(crate::specs::Placing::candidates, crate::specs::Placing::best))]
+#[tactic(auto, unfolding(rh_rules::specs::Placing::candidates, rh_rules::specs::Placing::best))]
 pub fn candidates(state: &State, app: App) -> NodeSet
     requires { app.0 < app_count (read state.now).cluster }
     ensures { (n : Node) → has result n ≡ is_in n (candidates (read state.now) app) }
@@ -42,7 +33,7 @@ pub fn candidates(state: &State, app: App) -> NodeSet
 }
 
 /// The one of the [`candidates`] that the pick takes: `None` exactly if the application can run at no node of its list.
-#[tactic(auto, unfolding(crate::specs::Placing::candidates))]
+#[tactic(auto, unfolding(rh_rules::specs::Placing::candidates))]
 pub fn choose(state: &State, app: App, pick: Pick) -> Option<Node>
     requires { app.0 < app_count (read state.now).cluster }
     ensures choice { result ≡ picked pick (candidates (read state.now) app) }
@@ -55,7 +46,7 @@ pub fn choose(state: &State, app: App, pick: Pick) -> Option<Node>
 /// The same rule among the nodes of a set (Distributed Applications): of the first group of the application's list that
 /// meets the set, the node of the set at which fewest applications run, and of several such nodes the one that the pick
 /// takes. `None` exactly if no node of the set is in the list.
-#[tactic(auto, unfolding(crate::specs::Placing::best))]
+#[tactic(auto, unfolding(rh_rules::specs::Placing::best))]
 pub fn best(state: &State, app: App, set: NodeSet, pick: Pick) -> Option<Node>
     requires { app.0 < app_count (read state.now).cluster }
     ensures choice { result ≡ picked pick (best (read state.now) app (has set)) }

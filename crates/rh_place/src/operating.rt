@@ -6,7 +6,7 @@ ghost use Rattle.std.specs.List.{list_all};
 ghost use Rattle.rh_model.specs.Needs.{needed_apps};
 ghost use Rattle.rh_state.specs.StateView.{runs_at};
 ghost use Rattle.rh_state.specs.Stored.{read};
-ghost use Rattle.rh_place.specs.Placing.{dep_runs, deps_run, missing_dep, is_operational};
+ghost use Rattle.rh_rules.specs.Placing.{dep_runs, deps_run, missing_dep, is_operational};
 
 use rh_model::{App, Dep, Node};
 use rh_state::{Mode, Place, State};
@@ -34,7 +34,7 @@ fn dep_runs(state: &State, node: Node, dep: Dep) -> bool
 
 /// The first of the dependencies of an application, in written order, that doesn't run at a node (app(4),
 /// `applications`): `None` exactly if all run there.
-#[tactic(auto, unfolding(crate::specs::Placing::missing_dep))]
+#[tactic(auto, unfolding(rh_rules::specs::Placing::missing_dep))]
 pub fn missing_dep(state: &State, node: Node, app: App) -> Option<Dep>
     requires node { node.0 < node_count (read state.now).cluster }
     requires app { app.0 < app_count (read state.now).cluster }
@@ -79,7 +79,7 @@ pub fn deps_run(state: &State, node: Node, app: App) -> bool
 
 /// Can an application run at a node (Distributed Applications)? The node must be up, the application started there and
 /// permitted to run there, and all that it depends on must run there.
-#[tactic(auto, unfolding(crate::specs::Placing::is_operational))]
+#[tactic(auto, unfolding(rh_rules::specs::Placing::is_operational))]
 pub fn operational(state: &State, app: App, node: Node) -> bool
     requires node { node.0 < node_count (read state.now).cluster }
     requires app { app.0 < app_count (read state.now).cluster }

@@ -1,7 +1,7 @@
 -- Worked rows: when a room serves a pass, what it answers, and when it closes.
 use Rattle.std.proofs.Common.{◌≡◌, ◌<◌, ℕ, List, [], ◌∷◌, length, All, refl, arith}
 use Rattle.rh_model.specs.ClusterView.{ClusterView}
-use Rattle.rh_place.specs.declared.choosing.Pick.{Pick}
+use Rattle.rh_rules.specs.declared.pick.Pick.{Pick}
 use Rattle.rh_trail.specs.declared.call.Call.{Call}
 use Rattle.rh_trail.specs.declared.call.Call.TheVariants.{Undo, Redo}
 use Rattle.rh_trail.specs.declared.call.Reply.TheVariants.{AtStart, AtEnd}

@@ -7,9 +7,9 @@ use Rattle.rh_model.specs.ClusterView.{ClusterView, numbered, app_numbered}
 use Rattle.rh_model.specs.declared.settings.Dep.TheVariants.{Listed, Platform}
 use Rattle.rh_model.specs.declared.settings.Restart.TheVariants.{Permanent, Transient, Temporary}
 use Rattle.rh_state.specs.declared.status.Kind.TheVariants as kind
-use Rattle.rh_settle.specs.declared.notice.Notice.TheVariants.{Started, Stopped, Waits}
-use Rattle.rh_events.specs.declared.event.Event.TheVariants.{Boot, Tick, Start, Stop, Permit, Takeover, Exit, StartAll, StopAll}
-use Rattle.rh_events.specs.declared.refusal.Refusal.TheVariants.{DependencyNotStarted}
+use Rattle.rh_rules.specs.declared.notice.Notice.TheVariants.{Started, Stopped, Waits}
+use Rattle.rh_rules.specs.declared.event.Event.TheVariants.{Boot, Tick, Start, Stop, Permit, Takeover, Exit, StartAll, StopAll}
+use Rattle.rh_rules.specs.declared.refusal.Refusal.TheVariants.{DependencyNotStarted}
 use Rattle.rh_trail.specs.declared.call.Call.TheVariants.{Step, Undo, Look}
 use Rattle.rh_trail.specs.declared.call.Reply.TheVariants.{Refused}
 use Rattle.rh_script.specs.declared.script.TheConstants.{NO_NODE, NO_APP}

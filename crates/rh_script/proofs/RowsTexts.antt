@@ -6,11 +6,9 @@ use Rattle.rh_model.specs.declared.settings.Dep.TheVariants.{Listed, Platform}
 use Rattle.rh_model.specs.declared.settings.Restart.TheVariants.{Permanent, Transient, Temporary}
 use Rattle.rh_state.specs.declared.status.Kind.TheVariants as kind
 use Rattle.rh_state.specs.declared.status.Standing.TheVariants as standing
-use Rattle.rh_settle.specs.declared.notice.Notice.TheVariants.{Up, Ended, Started, Stopped, Waits}
-use Rattle.rh_events.specs.declared.event.Event.TheVariants.{Boot, Crash, Tick, Start, Stop, Permit, Takeover, Exit, StartAll, StopAll}
-use Rattle.rh_events.specs.declared.refusal.Refusal.TheVariants.{UnknownNode, UnknownApp, AlreadyAlive, IncarnationLimit, NotAlive, ZeroTick, TimeLimit, NodeNotUp}
-use Rattle.rh_events.specs.declared.refusal.Refusal.TheVariants.{NotDistributed, NotListed, AlreadyStarted, NeverStarted, NotRunning, RunsHere, NotRunningHere}
-use Rattle.rh_events.specs.declared.refusal.Refusal.TheVariants.{NotPermitted, DependencyNotStarted, TrailFull}
+use Rattle.rh_rules.specs.declared.notice.Notice.TheVariants.{Up, Ended, Started, Stopped, Waits}
+use Rattle.rh_rules.specs.declared.event.Event.TheVariants.{Boot, Crash, Tick, Start, Stop, Permit, Takeover, Exit, StartAll, StopAll}
+use Rattle.rh_rules.specs.declared.refusal.Refusal.TheVariants.{UnknownNode, UnknownApp, AlreadyAlive, IncarnationLimit, NotAlive, ZeroTick, TimeLimit, NodeNotUp, NotDistributed, NotListed, AlreadyStarted, NeverStarted, NotRunning, RunsHere, NotRunningHere, NotPermitted, DependencyNotStarted, TrailFull}
 use Rattle.rh_trail.specs.declared.call.Call.TheVariants.{Step, Undo, Redo, UndoAll, RedoAll, Look}
 use Rattle.rh_trail.specs.declared.call.Reply.TheVariants.{Done, Refused, Undone, Redone, AtStart, AtEnd, Moved, Seen}
 use Rattle.rh_trail.specs.Report.{standing_line}

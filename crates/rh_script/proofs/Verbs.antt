@@ -1,7 +1,7 @@
 -- The table of commands, row by row: each word is one, it leads back to its row, and what a call says asks it again.
 use Rattle.std.proofs.Common.{◌≡◌, ◌==◌, ◌&&◌, ◌++◌, ℕ, Bool, true, false, not, List, [], ◌∷◌, Option, Some, None, refl}
 use Rattle.std.specs.List.{list_all}
-use Rattle.rh_events.specs.declared.event.Event.TheVariants as event
+use Rattle.rh_rules.specs.declared.event.Event.TheVariants as event
 use Rattle.rh_trail.specs.declared.call.Call.{Call}
 use Rattle.rh_trail.specs.declared.call.Call.TheVariants as call
 use Rattle.rh_script.specs.declared.forms.Argument.{Argument}

@@ -2,7 +2,7 @@
 use Rattle.std.specs.Prelude.{◌≡◌, ℕ, List, [], ◌∷◌, ◌++◌, map, Bool, true, false, if◌then◌else◌, codes, Option, Some, None}
 use Rattle.std.specs.Str.{bytes_eq, is_utf8}
 use Rattle.rh_model.specs.ClusterView.{ClusterView}
-use Rattle.rh_events.specs.declared.event.Event.{Event}
+use Rattle.rh_rules.specs.declared.event.Event.{Event}
 use Rattle.rh_trail.specs.declared.call.Call.TheVariants as call
 use Rattle.rh_plans.specs.declared.plan.Plan.{Plan}
 use Rattle.rh_script.specs.declared.script.Line.{Line}

@@ -2,16 +2,16 @@
 use Rattle.std.proofs.Common.{◌≡◌, ℕ, ◌*◌, zero, suc, Bool, true, false, cond, List, [], ◌∷◌, ◌++◌, fold, Option, Some, None, refl, ap, ◌∙◌, append_assoc}
 use Rattle.rh_state.specs.declared.status.Kind.TheVariants as kind
 use Rattle.rh_state.specs.StateView.{waits_at}
-use Rattle.rh_place.specs.declared.choosing.Pick.{Pick}
-use Rattle.rh_place.specs.Picks.{picked}
-use Rattle.rh_settle.specs.declared.notice.Move.{Move}
-use Rattle.rh_settle.specs.declared.notice.Move.TheVariants.{Local, Placement, Takeover}
-use Rattle.rh_settle.specs.declared.notice.Notice.{Notice}
-use Rattle.rh_settle.specs.declared.notice.Notice.TheVariants as notice
-use Rattle.rh_settle.specs.declared.notice.Pair.{Pair}
-use Rattle.rh_settle.specs.Course.{Course, told, now_in}
-use Rattle.rh_settle.specs.Moves.{moved, moved_state}
-use Rattle.rh_settle.specs.Settling.{nexts, after_move, moved_by, pair_count, all_moved, tell_waiting, waits_told, settled}
+use Rattle.rh_rules.specs.declared.pick.Pick.{Pick}
+use Rattle.rh_rules.specs.Placing.{picked}
+use Rattle.rh_rules.specs.declared.notice.Move.{Move}
+use Rattle.rh_rules.specs.declared.notice.Move.TheVariants.{Local, Placement, Takeover}
+use Rattle.rh_rules.specs.declared.notice.Notice.{Notice}
+use Rattle.rh_rules.specs.declared.notice.Notice.TheVariants as notice
+use Rattle.rh_rules.specs.declared.notice.Pair.{Pair}
+use Rattle.rh_rules.specs.Course.{Course, told, now_in}
+use Rattle.rh_rules.specs.Moves.{moved, moved_state}
+use Rattle.rh_rules.specs.Settling.{nexts, after_move, moved_by, pair_count, all_moved, tell_waiting, waits_told, settled}
 
 -- the same course behind earlier notices
 abbrev pub after_notices : List Notice → Course → Course

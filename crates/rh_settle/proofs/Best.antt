@@ -10,10 +10,10 @@ use Rattle.rh_model.specs.declared.settings.Spread.{Spread}
 use Rattle.rh_model.specs.ClusterView.{ClusterView, is_in, group_of, spread_of, numbered}
 use Rattle.rh_state.specs.StateView.{StateView, running_count}
 use Rattle.rh_base.specs.Lists.{least, lightest}
-use Rattle.rh_place.specs.Placing.{best, groups_of}
+use Rattle.rh_rules.specs.Placing.{best, groups_of}
 use Rattle.rh_base.proofs.Lists.{cases}
-use Rattle.rh_settle.specs.Moves.{comes_before}
-use Rattle.rh_settle.specs.Enabled.{IsBest}
+use Rattle.rh_rules.specs.Moves.{comes_before}
+use Rattle.rh_rules.specs.Settling.{IsBest}
 use Rattle.rh_settle.proofs.Entries.{both, same_number}
 use Rattle.rh_settle.proofs.Places.{same_refl, or_left, or_right}
 use Rattle.rh_settle.proofs.Every.{Every, every_filter, every_passes}

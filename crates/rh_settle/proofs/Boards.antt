@@ -20,18 +20,19 @@ use Rattle.rh_state.specs.Shape.{IsShaped, IsNodeOf, IsAppOf}
 use Rattle.rh_state.specs.StateView.{StateView, mode_of, is_up, is_allowed, standing_of}
 use Rattle.rh_base.specs.Lists.{or_else, first_given, head}
 use Rattle.rh_base.proofs.Lists.{cases}
-use Rattle.rh_place.specs.declared.choosing.Pick.TheVariants.{First}
-use Rattle.rh_place.specs.Placing.{dep_runs, deps_run, is_operational, best}
+use Rattle.rh_rules.specs.declared.pick.Pick.TheVariants.{First}
+use Rattle.rh_rules.specs.Placing.{dep_runs, deps_run, is_operational, best}
 use Rattle.rh_place.specs.Sets.{NodeBits, has}
 use Rattle.rh_place.proofs.Picks.{picked_none}
 use Rattle.rh_place.proofs.Nowhere.{none_chosen}
-use Rattle.rh_settle.specs.declared.notice.Move.{Move}
-use Rattle.rh_settle.specs.declared.notice.Move.TheVariants.{Local, Placement, Takeover}
-use Rattle.rh_settle.specs.declared.notice.Pair.{Pair}
+use Rattle.rh_rules.specs.declared.notice.Move.{Move}
+use Rattle.rh_rules.specs.declared.notice.Move.TheVariants.{Local, Placement, Takeover}
+use Rattle.rh_rules.specs.declared.notice.Pair.{Pair}
 use Rattle.rh_settle.specs.Boards.{AppSets, AppMarks, BoardView, is_among, is_marked, is_wanted, is_touched, touches_local, matters, nodes_changed, mover}
 use Rattle.rh_settle.specs.Boards.{IsExactAt, IsBoardOf}
-use Rattle.rh_settle.specs.Course.{is_fresh}
-use Rattle.rh_settle.specs.Moves.{is_local, can_start, local_move, local_moves, comes_before, calls_away, takeovers, takeovers_from, moved_state, CanBeMade}
+use Rattle.rh_rules.specs.Course.{is_fresh, is_local}
+use Rattle.rh_rules.specs.Moves.{can_start, local_move, local_moves, comes_before, calls_away, takeovers, takeovers_from, moved_state}
+use Rattle.rh_settle.specs.Making.{CanBeMade}
 use Rattle.rh_settle.proofs.Entries.{taken, put, has as entry, taken_apart, put_apart, is_below, is_above, is_false, both, same_number, other_number}
 use Rattle.rh_settle.proofs.NextMoves.{operational_within}
 use Rattle.rh_settle.proofs.Points.{not_before}

@@ -2,9 +2,9 @@
 use Rattle.std.proofs.Common.{◌≡◌, ◌≤◌, ◌+◌, ◌*◌, ℕ, List, [], ◌∷◌, ◌++◌, length, length-append, Result, Ok, Err, OnOk, ap, arith}
 use Rattle.std.proofs.lemmas.List.Sums.{sum_by_push, sum_by-cons, sum_by-append}
 use Rattle.rh_model.specs.ClusterView.{ClusterView}
-use Rattle.rh_settle.specs.declared.notice.Notice.{Notice}
-use Rattle.rh_settle.specs.declared.notice.Notice.TheVariants.{Up, Ended}
-use Rattle.rh_settle.specs.Course.{TraceView}
+use Rattle.rh_rules.specs.declared.notice.Notice.{Notice}
+use Rattle.rh_rules.specs.declared.notice.Notice.TheVariants.{Up, Ended}
+use Rattle.rh_settle.specs.Traces.{TraceView}
 use Rattle.rh_settle.specs.Counts.{FewEdits, FewWeighed, weight, weights}
 use Rattle.rh_settle.specs.Ways.{Tells}
 

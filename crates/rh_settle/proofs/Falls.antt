@@ -9,9 +9,10 @@ use Rattle.rh_state.specs.Numbers.{same_app}
 use Rattle.rh_state.specs.Shape.{IsShaped}
 use Rattle.rh_state.specs.StateView.{StateView, waits_at, standing_of, is_started}
 use Rattle.rh_base.proofs.Lists.{cases}
-use Rattle.rh_settle.specs.declared.notice.Move.{Move}
-use Rattle.rh_settle.specs.declared.notice.Move.TheVariants.{Local, Placement, Takeover}
-use Rattle.rh_settle.specs.Moves.{is_local, comes_before, moved_state}
+use Rattle.rh_rules.specs.declared.notice.Move.{Move}
+use Rattle.rh_rules.specs.declared.notice.Move.TheVariants.{Local, Placement, Takeover}
+use Rattle.rh_rules.specs.Course.{is_local}
+use Rattle.rh_rules.specs.Moves.{comes_before, moved_state}
 use Rattle.rh_settle.proofs.Places.{at_set, at_set_here}
 use Rattle.rh_settle.proofs.Entries.{taken, taken_has, taken_not, put_other, same_number, both}
 use Rattle.rh_settle.proofs.Points.{standing_point, points_at, points, point_le, point_lt, not_before, through, falls_by, standing_le}

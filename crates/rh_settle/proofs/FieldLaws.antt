@@ -9,17 +9,15 @@ use Rattle.rh_model.specs.ClusterView.{ClusterView, is_in, spread_of, group_of}
 use Rattle.rh_state.specs.declared.status.Standing.TheVariants.{Wanted}
 use Rattle.rh_state.specs.Shape.{IsNodeOf, IsAppOf}
 use Rattle.rh_state.specs.StateView.{StateView, runs_at, waits_at, is_allowed, standing_of}
-use Rattle.rh_place.specs.declared.choosing.Pick.TheVariants.{First}
-use Rattle.rh_place.specs.Picks.{picked}
-use Rattle.rh_place.specs.Placing.{is_operational, best, deps_run}
+use Rattle.rh_rules.specs.declared.pick.Pick.TheVariants.{First}
+use Rattle.rh_rules.specs.Placing.{picked, is_operational, best, deps_run}
 use Rattle.rh_base.proofs.Lists.{cases}
 use Rattle.rh_place.proofs.Nowhere.{none_chosen}
-use Rattle.rh_settle.specs.declared.notice.Move.TheVariants.{Local, Placement, Takeover}
-use Rattle.rh_settle.specs.declared.notice.Pair.{Pair}
-use Rattle.rh_settle.specs.Course.{is_fresh}
-use Rattle.rh_settle.specs.Moves.{is_local, comes_before, calls_away, next_moves}
-use Rattle.rh_settle.specs.Enabled.{IsBest}
-use Rattle.rh_settle.specs.Settling.{NoneEnabled}
+use Rattle.rh_rules.specs.declared.notice.Move.TheVariants.{Local, Placement, Takeover}
+use Rattle.rh_rules.specs.declared.notice.Pair.{Pair}
+use Rattle.rh_rules.specs.Course.{is_fresh, is_local}
+use Rattle.rh_rules.specs.Moves.{comes_before, calls_away}
+use Rattle.rh_rules.specs.Settling.{next_moves, IsBest, NoneEnabled}
 use Rattle.rh_settle.specs.Validity.{IsSound}
 use Rattle.rh_settle.proofs.Entries.{is_false}
 use Rattle.rh_settle.proofs.Kept.{same_running}

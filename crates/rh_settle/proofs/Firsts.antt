@@ -4,7 +4,7 @@ use Rattle.std.proofs.Common.{◌∙◌, arith, subst}
 use Rattle.std.specs.List.{Contains, range_with_len}
 use Rattle.rh_base.specs.Lists.{or_else, first_given}
 use Rattle.rh_base.proofs.Lists.{cases}
-use Rattle.rh_settle.specs.declared.notice.Move.{Move}
+use Rattle.rh_rules.specs.declared.notice.Move.{Move}
 use Rattle.rh_settle.proofs.Every.{Every}
 use Rattle.rh_settle.proofs.Entries.{both, same_number, other_number}
 

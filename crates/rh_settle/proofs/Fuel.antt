@@ -3,13 +3,13 @@ use Rattle.std.proofs.Common.{◌≡◌, ℕ, ◌*◌, ◌<◌, ◌≤◌, zero,
 use Rattle.rh_model.specs.ClusterView.{ClusterView, node_count, app_count}
 use Rattle.rh_state.specs.Shape.{IsShaped}
 use Rattle.rh_state.specs.StateView.{StateView}
-use Rattle.rh_place.specs.declared.choosing.Pick.{Pick}
-use Rattle.rh_place.specs.Picks.{picked}
-use Rattle.rh_settle.specs.declared.notice.Move.{Move}
-use Rattle.rh_settle.specs.declared.notice.Move.TheVariants.{Local, Placement, Takeover}
-use Rattle.rh_settle.specs.Course.{Course, fresh_of}
-use Rattle.rh_settle.specs.Moves.{moved, moved_state}
-use Rattle.rh_settle.specs.Settling.{nexts, after_move, moved_by, pair_count, all_moved}
+use Rattle.rh_rules.specs.declared.pick.Pick.{Pick}
+use Rattle.rh_rules.specs.Placing.{picked}
+use Rattle.rh_rules.specs.declared.notice.Move.{Move}
+use Rattle.rh_rules.specs.declared.notice.Move.TheVariants.{Local, Placement, Takeover}
+use Rattle.rh_rules.specs.Course.{Course, fresh_of}
+use Rattle.rh_rules.specs.Moves.{moved, moved_state}
+use Rattle.rh_rules.specs.Settling.{nexts, after_move, moved_by, pair_count, all_moved}
 use Rattle.rh_settle.proofs.Searches.{contains_picked}
 use Rattle.rh_settle.proofs.Points.{points, bounded}
 use Rattle.rh_settle.proofs.Falls.{Progresses, falls}

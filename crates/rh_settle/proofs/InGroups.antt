@@ -8,7 +8,7 @@ use Rattle.rh_model.specs.declared.node.Node.{Node}
 use Rattle.rh_model.specs.ClusterView.{is_in, numbered}
 use Rattle.rh_base.specs.Lists.{or_else, first_given}
 use Rattle.rh_base.proofs.Lists.{cases, any_filter, none_filter}
-use Rattle.rh_settle.specs.Moves.{comes_before}
+use Rattle.rh_rules.specs.Moves.{comes_before}
 use Rattle.rh_settle.proofs.Places.{same_refl, or_left, or_right}
 use Rattle.rh_settle.proofs.Entries.{both, same_number}
 use Rattle.rh_settle.proofs.Every.{Every, every_filter, every_passes, filter_no, filter_yes}

@@ -16,9 +16,10 @@ use Rattle.rh_state.specs.Shape.{IsShaped, IsNodeOf, IsStandingOf, OnceAtEachNod
 use Rattle.rh_state.specs.StateView.{StateView, runs_at, waits_at, standing_of}
 use Rattle.rh_state.specs.Setters.{unlisted, with_running, with_waiting}
 use Rattle.rh_base.proofs.Lists.{cases}
-use Rattle.rh_settle.specs.declared.notice.Move.{Move}
-use Rattle.rh_settle.specs.declared.notice.Move.TheVariants.{Local, Placement, Takeover}
-use Rattle.rh_settle.specs.Moves.{comes_before, with_started, with_stopped, moved_state, CanBeMade}
+use Rattle.rh_rules.specs.declared.notice.Move.{Move}
+use Rattle.rh_rules.specs.declared.notice.Move.TheVariants.{Local, Placement, Takeover}
+use Rattle.rh_rules.specs.Moves.{comes_before, with_started, with_stopped, moved_state}
+use Rattle.rh_settle.specs.Making.{CanBeMade}
 use Rattle.rh_settle.specs.Validity.{RunsWhereItStands}
 use Rattle.rh_settle.proofs.Places.{at_set_here, at_set_there, or_left, or_right, started_on}
 use Rattle.rh_settle.proofs.Entries.{same_number, other_number, is_false, both, taken, put, has, taken_has, taken_not, taken_keeps, there, put_has, put_keeps}

@@ -11,10 +11,10 @@ use Rattle.rh_state.specs.Lists.{has_app}
 use Rattle.rh_state.specs.StateView.{StateView, waiting_at}
 use Rattle.rh_base.specs.Lists.{or_else, first_given}
 use Rattle.rh_base.proofs.Lists.{cases}
-use Rattle.rh_settle.specs.declared.notice.Move.{Move}
-use Rattle.rh_settle.specs.declared.notice.Move.TheVariants.{Local}
-use Rattle.rh_settle.specs.Moves.{comes_before, can_start, local_move, local_moves}
-use Rattle.rh_settle.specs.Enabled.{stands_before, goes_before}
+use Rattle.rh_rules.specs.declared.notice.Move.{Move}
+use Rattle.rh_rules.specs.declared.notice.Move.TheVariants.{Local}
+use Rattle.rh_rules.specs.Moves.{comes_before, can_start, local_move, local_moves}
+use Rattle.rh_rules.specs.Settling.{stands_before, goes_before}
 use Rattle.rh_settle.proofs.Places.{same_refl, or_left, or_right}
 use Rattle.rh_settle.proofs.Entries.{both, same_number}
 use Rattle.rh_settle.proofs.Falls.{app_of}

@@ -2,13 +2,14 @@
 use Rattle.std.proofs.Common.{◌≡◌, ◌<◌, ◌+◌, ℕ, List, [], Some, None, length, get_or, take, fold, sym, ap, ◌∙◌, arith, subst}
 use Rattle.std.proofs.lemmas.List.Sums.{fold_more}
 use Rattle.rh_state.specs.Shape.{IsShaped}
-use Rattle.rh_place.specs.declared.choosing.Pick.{Pick}
-use Rattle.rh_place.specs.Picks.{picked}
-use Rattle.rh_settle.specs.declared.notice.Move.{Move}
-use Rattle.rh_settle.specs.declared.notice.Pair.{Pair}
-use Rattle.rh_settle.specs.Course.{Course}
-use Rattle.rh_settle.specs.Moves.{moved, moved_state, CanBeMade}
-use Rattle.rh_settle.specs.Settling.{nexts, all_moved, tell_waiting}
+use Rattle.rh_rules.specs.declared.pick.Pick.{Pick}
+use Rattle.rh_rules.specs.Placing.{picked}
+use Rattle.rh_rules.specs.declared.notice.Move.{Move}
+use Rattle.rh_rules.specs.declared.notice.Pair.{Pair}
+use Rattle.rh_rules.specs.Course.{Course}
+use Rattle.rh_rules.specs.Moves.{moved, moved_state}
+use Rattle.rh_settle.specs.Making.{CanBeMade}
+use Rattle.rh_rules.specs.Settling.{nexts, all_moved, tell_waiting}
 use Rattle.rh_settle.specs.Validity.{RunsWhereItStands}
 use Rattle.rh_settle.proofs.Searches.{none_picked}
 use Rattle.rh_settle.proofs.Points.{points}

@@ -9,13 +9,13 @@ use Rattle.rh_state.specs.declared.status.Standing.TheVariants.{Quiet, Wanted, R
 use Rattle.rh_state.specs.Numbers.{nodes_of, apps_of}
 use Rattle.rh_state.specs.StateView.{StateView, is_allowed, standing_of}
 use Rattle.rh_base.specs.Lists.{or_else, first_given}
-use Rattle.rh_place.specs.Placing.{deps_run, is_operational, best, candidates}
-use Rattle.rh_settle.specs.declared.notice.Move.{Move}
-use Rattle.rh_settle.specs.declared.notice.Move.TheVariants.{Local, Placement, Takeover}
-use Rattle.rh_settle.specs.declared.notice.Pair.{Pair}
-use Rattle.rh_settle.specs.Moves.{is_local, can_start, local_moves, placements, placements_from, takeovers, takeovers_from, calls_away, next_moves}
-use Rattle.rh_settle.specs.Enabled.{IsBest, IsEnabled, IsFirst, goes_before}
-use Rattle.rh_settle.specs.Settling.{NoneEnabled}
+use Rattle.rh_rules.specs.Placing.{deps_run, is_operational, best, candidates}
+use Rattle.rh_rules.specs.declared.notice.Move.{Move}
+use Rattle.rh_rules.specs.declared.notice.Move.TheVariants.{Local, Placement, Takeover}
+use Rattle.rh_rules.specs.declared.notice.Pair.{Pair}
+use Rattle.rh_rules.specs.Course.{is_local}
+use Rattle.rh_rules.specs.Moves.{can_start, local_moves, placements, placements_from, takeovers, takeovers_from, calls_away}
+use Rattle.rh_rules.specs.Settling.{next_moves, IsBest, IsEnabled, IsFirst, goes_before, NoneEnabled}
 use Rattle.rh_settle.proofs.Falls.{app_of}
 use Rattle.rh_settle.proofs.Best.{each_best, in_best}
 use Rattle.rh_settle.proofs.Firsts.{In, in_contained, contained_in, every_in, empty_of, in_map, of_map, either_of, Firsts, firsts_flat, firsts_nil, firsts_as}

@@ -11,14 +11,14 @@ use Rattle.rh_state.specs.declared.status.Mode.{Mode}
 use Rattle.rh_state.specs.declared.status.Mode.TheVariants.{Down}
 use Rattle.rh_state.specs.Shape.{IsShaped}
 use Rattle.rh_state.specs.StateView.{StateView, mode_of, is_up, runs_at, is_started, is_allowed}
-use Rattle.rh_place.specs.Placing.{is_operational, deps_run}
+use Rattle.rh_rules.specs.Placing.{is_operational, deps_run}
 use Rattle.rh_base.proofs.Lists.{cases}
-use Rattle.rh_settle.specs.declared.notice.Move.{Move}
-use Rattle.rh_settle.specs.declared.notice.Move.TheVariants.{Local, Placement, Takeover}
-use Rattle.rh_settle.specs.declared.notice.Pair.{Pair}
-use Rattle.rh_settle.specs.Course.{is_fresh}
-use Rattle.rh_settle.specs.Moves.{is_local, comes_before, calls_away, next_moves}
-use Rattle.rh_settle.specs.Enabled.{IsEnabled}
+use Rattle.rh_rules.specs.declared.notice.Move.{Move}
+use Rattle.rh_rules.specs.declared.notice.Move.TheVariants.{Local, Placement, Takeover}
+use Rattle.rh_rules.specs.declared.notice.Pair.{Pair}
+use Rattle.rh_rules.specs.Course.{is_fresh, is_local}
+use Rattle.rh_rules.specs.Moves.{comes_before, calls_away}
+use Rattle.rh_rules.specs.Settling.{next_moves, IsEnabled}
 use Rattle.rh_settle.proofs.Places.{or_right}
 use Rattle.rh_settle.proofs.Entries.{both, is_below, is_above}
 use Rattle.rh_settle.proofs.Falls.{Progresses}

@@ -7,7 +7,8 @@ use Rattle.rh_model.specs.ClusterView.{ClusterView, node_count, app_count, numbe
 use Rattle.rh_state.specs.declared.status.Standing.{Standing}
 use Rattle.rh_state.specs.declared.status.Standing.TheVariants.{Quiet, Wanted, Running, Lost}
 use Rattle.rh_state.specs.StateView.{StateView, waits_at, standing_of}
-use Rattle.rh_settle.specs.Moves.{is_local, comes_before}
+use Rattle.rh_rules.specs.Course.{is_local}
+use Rattle.rh_rules.specs.Moves.{comes_before}
 use Rattle.rh_settle.proofs.Sums.{sum_to, sum_le, sum_lt, sum_bound}
 
 -- a waiting pair of a local application can start once; and one of a distributed application can start where

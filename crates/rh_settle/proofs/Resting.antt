@@ -6,15 +6,14 @@ use Rattle.rh_state.specs.declared.status.Standing.{Standing}
 use Rattle.rh_state.specs.declared.status.Standing.TheVariants.{Quiet, Wanted, Running}
 use Rattle.rh_state.specs.Standings.{is_quiet, is_lost}
 use Rattle.rh_state.specs.StateView.{StateView, standing_of}
-use Rattle.rh_place.specs.declared.choosing.Pick.{Pick}
-use Rattle.rh_place.specs.Picks.{picked}
-use Rattle.rh_settle.specs.declared.notice.Move.{Move}
-use Rattle.rh_settle.specs.declared.notice.Move.TheVariants.{Local, Placement, Takeover}
-use Rattle.rh_settle.specs.declared.notice.Pair.{Pair}
-use Rattle.rh_settle.specs.Course.{Course, fresh_of}
-use Rattle.rh_settle.specs.Moves.{moved, moved_state}
-use Rattle.rh_settle.specs.Enabled.{IsEnabled}
-use Rattle.rh_settle.specs.Settling.{nexts, after_move, moved_by, pair_count, all_moved, settled}
+use Rattle.rh_rules.specs.declared.pick.Pick.{Pick}
+use Rattle.rh_rules.specs.Placing.{picked}
+use Rattle.rh_rules.specs.declared.notice.Move.{Move}
+use Rattle.rh_rules.specs.declared.notice.Move.TheVariants.{Local, Placement, Takeover}
+use Rattle.rh_rules.specs.declared.notice.Pair.{Pair}
+use Rattle.rh_rules.specs.Course.{Course, fresh_of}
+use Rattle.rh_rules.specs.Moves.{moved, moved_state}
+use Rattle.rh_rules.specs.Settling.{IsEnabled, nexts, after_move, moved_by, pair_count, all_moved, settled}
 use Rattle.rh_settle.proofs.Fuel.{state_moved, by_option}
 use Rattle.rh_settle.proofs.Searches.{contains_picked}
 use Rattle.rh_settle.proofs.NextFirsts.{next_are_first}

@@ -13,14 +13,13 @@ use Rattle.rh_state.specs.declared.status.Standing.TheVariants.{Quiet, Wanted, R
 use Rattle.rh_state.specs.First.{first}
 use Rattle.rh_state.specs.Numbers.{nodes_of, apps_of}
 use Rattle.rh_state.specs.StateView.{StateView}
-use Rattle.rh_place.specs.Placing.{is_operational, deps_run, best, candidates}
-use Rattle.rh_settle.specs.declared.notice.Move.TheVariants.{Placement, Takeover}
-use Rattle.rh_settle.specs.declared.notice.Notice.TheVariants.{Started, Stopped, Waits}
-use Rattle.rh_settle.specs.declared.notice.Pair.{Pair}
-use Rattle.rh_settle.specs.Course.{course_of}
-use Rattle.rh_settle.specs.Moves.{can_start, local_moves, placements, calls_away, takeovers, next_moves, moved}
-use Rattle.rh_settle.specs.Settling.{waits_told}
-use Rattle.rh_settle.specs.Enabled.{goes_before}
+use Rattle.rh_rules.specs.Placing.{is_operational, deps_run, best, candidates}
+use Rattle.rh_rules.specs.declared.notice.Move.TheVariants.{Placement, Takeover}
+use Rattle.rh_rules.specs.declared.notice.Notice.TheVariants.{Started, Stopped, Waits}
+use Rattle.rh_rules.specs.declared.notice.Pair.{Pair}
+use Rattle.rh_rules.specs.Course.{course_of}
+use Rattle.rh_rules.specs.Moves.{can_start, local_moves, placements, calls_away, takeovers, moved}
+use Rattle.rh_rules.specs.Settling.{next_moves, waits_told, goes_before}
 
 abbrev p : Node
 p = record { 0 = 0 }

@@ -7,7 +7,7 @@ use Rattle.rh_model.specs.declared.settings.SyncWait.TheVariants.{Unset, After, 
 use Rattle.rh_state.specs.declared.status.Mode.{Mode}
 use Rattle.rh_state.specs.declared.status.Mode.TheVariants.{Down, Waiting, Up}
 use Rattle.rh_state.specs.First.{first}
-use Rattle.rh_settle.specs.Readiness.{all_alive, is_ready}
+use Rattle.rh_rules.specs.NodesStart.{all_alive, is_ready}
 
 abbrev one : Node
 one = record { 0 = 0 }

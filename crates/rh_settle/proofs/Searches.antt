@@ -5,10 +5,10 @@ use Rattle.std.specs.List.{Contains, range_with_len, last_or}
 use Rattle.std.specs.Option.{option_map}
 use Rattle.std.proofs.lemmas.List.{length-map}
 use Rattle.std.proofs.lemmas.List.FromFn.{get_or-range_with_len, length-range_with_len}
-use Rattle.rh_place.specs.declared.choosing.Pick.{Pick}
-use Rattle.rh_place.specs.declared.choosing.Pick.TheVariants.{First, Last}
+use Rattle.rh_rules.specs.declared.pick.Pick.{Pick}
+use Rattle.rh_rules.specs.declared.pick.Pick.TheVariants.{First, Last}
 use Rattle.rh_base.specs.Lists.{or_else, first_given}
-use Rattle.rh_place.specs.Picks.{picked}
+use Rattle.rh_rules.specs.Placing.{picked}
 use Rattle.rh_place.proofs.Picks.{picked_none}
 use Rattle.std.proofs.lemmas.List.{at_drop_more, at_drop_all}
 use Rattle.rh_state.specs.Numbers.{nodes_of, apps_of}

@@ -1,14 +1,13 @@
 -- What settling by the pick has to do with settling.
 use Rattle.std.proofs.Common.{◌≡◌, ℕ, ◌*◌, ◌≤◌, zero, suc, List, [], ◌∷◌, length, Some, None, sym, ap, ◌∙◌, arith, fold}
 use Rattle.rh_state.specs.Shape.{IsShaped}
-use Rattle.rh_place.specs.declared.choosing.Pick.{Pick}
-use Rattle.rh_place.specs.Picks.{picked}
+use Rattle.rh_rules.specs.declared.pick.Pick.{Pick}
+use Rattle.rh_rules.specs.Placing.{picked}
 use Rattle.rh_settle.proofs.Searches.{none_picked, contains_picked}
-use Rattle.rh_settle.specs.declared.notice.Move.{Move}
-use Rattle.rh_settle.specs.Course.{Course, fresh_of}
-use Rattle.rh_settle.specs.Moves.{moved}
-use Rattle.rh_settle.specs.Enabled.{IsFirst}
-use Rattle.rh_settle.specs.Settling.{nexts, NoneEnabled, AreFirst, Settles, pair_count, all_moved, waits_told, settled}
+use Rattle.rh_rules.specs.declared.notice.Move.{Move}
+use Rattle.rh_rules.specs.Course.{Course, fresh_of}
+use Rattle.rh_rules.specs.Moves.{moved}
+use Rattle.rh_rules.specs.Settling.{IsFirst, nexts, NoneEnabled, AreFirst, Settles, pair_count, all_moved, waits_told, settled}
 use Rattle.rh_settle.proofs.Points.{points}
 use Rattle.rh_settle.proofs.Falls.{falls}
 use Rattle.rh_settle.proofs.NextFirsts.{next_are_first, still_if_none_enabled}

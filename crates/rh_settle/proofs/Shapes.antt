@@ -23,11 +23,11 @@ use Rattle.rh_state.specs.StateView.{StateView, running_at, waiting_at, is_start
 use Rattle.rh_state.specs.Setters.{with_time, with_mode, with_incarnation, with_restart, with_kind, with_allowed, with_standing, with_running, with_waiting}
 use Rattle.rh_state.specs.Setters.{unlisted}
 use Rattle.rh_state.proofs.Listings.{IsShaped-running, IsShaped-waiting}
-use Rattle.rh_place.specs.Starting.{start_kind}
+use Rattle.rh_rules.specs.Placing.{start_kind}
 use Rattle.rh_base.proofs.Lists.{cases}
-use Rattle.rh_settle.specs.declared.notice.Move.{Move}
-use Rattle.rh_settle.specs.declared.notice.Move.TheVariants.{Local, Placement, Takeover}
-use Rattle.rh_settle.specs.Moves.{with_started, with_stopped, moved_state}
+use Rattle.rh_rules.specs.declared.notice.Move.{Move}
+use Rattle.rh_rules.specs.declared.notice.Move.TheVariants.{Local, Placement, Takeover}
+use Rattle.rh_rules.specs.Moves.{with_started, with_stopped, moved_state}
 use Rattle.rh_settle.proofs.Entries.{same_number, either}
 use Rattle.rh_settle.proofs.Falls.{Progresses}
 

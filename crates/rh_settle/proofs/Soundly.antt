@@ -13,9 +13,10 @@ use Rattle.rh_state.specs.Lists.{has_app, without_app}
 use Rattle.rh_state.specs.Shape.{IsShaped}
 use Rattle.rh_state.specs.StateView.{StateView, mode_of, is_up, runs_at, waits_at, is_started, standing_of}
 use Rattle.rh_base.proofs.Lists.{cases}
-use Rattle.rh_settle.specs.declared.notice.Move.{Move}
-use Rattle.rh_settle.specs.declared.notice.Move.TheVariants.{Local, Placement, Takeover}
-use Rattle.rh_settle.specs.Moves.{is_local, with_started, with_stopped, moved_state}
+use Rattle.rh_rules.specs.declared.notice.Move.{Move}
+use Rattle.rh_rules.specs.declared.notice.Move.TheVariants.{Local, Placement, Takeover}
+use Rattle.rh_rules.specs.Course.{is_local}
+use Rattle.rh_rules.specs.Moves.{with_started, with_stopped, moved_state}
 use Rattle.rh_settle.specs.Validity.{RunsWhereItStands, IdleUnlessUp, StandsWhereItRuns, TimersFit, IsSound}
 use Rattle.rh_state.specs.Standings.{is_lost}
 use Rattle.rh_settle.proofs.Places.{at_set, at_set_here, at_set_there, or_left, or_right}

@@ -2,14 +2,13 @@
 use Rattle.std.proofs.Common.{false, List, [], ◌∷◌, fold, refl, sym, ap, ◌∙◌, subst}
 use Rattle.rh_state.specs.Shape.{IsShaped}
 use Rattle.rh_state.specs.StateView.{StateView}
-use Rattle.rh_place.specs.declared.choosing.Pick.{Pick}
-use Rattle.rh_settle.specs.declared.notice.Move.{Move}
-use Rattle.rh_settle.specs.declared.notice.Move.TheVariants.{Local, Placement, Takeover}
-use Rattle.rh_settle.specs.declared.notice.Pair.{Pair}
-use Rattle.rh_settle.specs.Course.{Course, fresh_of}
-use Rattle.rh_settle.specs.Moves.{moved}
-use Rattle.rh_settle.specs.Enabled.{IsEnabled}
-use Rattle.rh_settle.specs.Settling.{NoneEnabled, AreFirst, settled, Settles}
+use Rattle.rh_rules.specs.declared.pick.Pick.{Pick}
+use Rattle.rh_rules.specs.declared.notice.Move.{Move}
+use Rattle.rh_rules.specs.declared.notice.Move.TheVariants.{Local, Placement, Takeover}
+use Rattle.rh_rules.specs.declared.notice.Pair.{Pair}
+use Rattle.rh_rules.specs.Course.{Course, fresh_of}
+use Rattle.rh_rules.specs.Moves.{moved}
+use Rattle.rh_rules.specs.Settling.{IsEnabled, NoneEnabled, AreFirst, settled, Settles}
 use Rattle.rh_settle.specs.Validity.{IsSound}
 use Rattle.rh_settle.proofs.Entries.{both}
 use Rattle.rh_settle.proofs.NextMoves.{all_called, enabled_progresses}

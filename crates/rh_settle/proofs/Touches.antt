@@ -14,7 +14,7 @@ use Rattle.rh_state.specs.Shape.{IsAppOf}
 use Rattle.rh_base.specs.Lists.{or_else, first_given}
 use Rattle.rh_base.proofs.Lists.{cases}
 use Rattle.rh_settle.specs.Boards.{is_touched, touches_local}
-use Rattle.rh_settle.specs.Moves.{is_local}
+use Rattle.rh_rules.specs.Course.{is_local}
 use Rattle.rh_settle.proofs.Entries.{taken, put, both, is_false, same_number}
 use Rattle.rh_settle.proofs.Every.{filter_no, filter_yes}
 use Rattle.rh_settle.proofs.Places.{at_set}

@@ -10,8 +10,8 @@ use Rattle.rh_state.specs.Edits.{exchange, put, is_done}
 use Rattle.rh_state.specs.Formed.{IsFormed}
 use Rattle.rh_state.specs.Stored.{Stored, read}
 use Rattle.rh_state.proofs.Records.{grows_none, grows_one, grows_more}
-use Rattle.rh_settle.specs.declared.notice.Notice.{Notice}
-use Rattle.rh_settle.specs.Course.{TraceView}
+use Rattle.rh_rules.specs.declared.notice.Notice.{Notice}
+use Rattle.rh_settle.specs.Traces.{TraceView}
 use Rattle.rh_settle.specs.Ways.{Tells, Goes}
 
 tells_same : (old new : List Notice) → new ≡ old → Tells old new

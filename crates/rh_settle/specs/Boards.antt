@@ -12,13 +12,13 @@ use Rattle.rh_state.specs.Numbers.{same_app, apps_of}
 use Rattle.rh_state.specs.Shape.{IsNodeOf, IsAppOf}
 use Rattle.rh_state.specs.StateView.{StateView, standing_of}
 use Rattle.rh_base.specs.Lists.{head}
-use Rattle.rh_place.specs.Placing.{is_operational}
+use Rattle.rh_rules.specs.Placing.{is_operational}
 use Rattle.rh_place.specs.Sets.{NodeBits, has}
-use Rattle.rh_settle.specs.declared.notice.Move.{Move}
-use Rattle.rh_settle.specs.declared.notice.Move.TheVariants.{Local, Placement, Takeover}
-use Rattle.rh_settle.specs.declared.notice.Pair.{Pair}
-use Rattle.rh_settle.specs.Course.{is_fresh}
-use Rattle.rh_settle.specs.Moves.{is_local, local_moves}
+use Rattle.rh_rules.specs.declared.notice.Move.{Move}
+use Rattle.rh_rules.specs.declared.notice.Move.TheVariants.{Local, Placement, Takeover}
+use Rattle.rh_rules.specs.declared.notice.Pair.{Pair}
+use Rattle.rh_rules.specs.Course.{is_fresh, is_local}
+use Rattle.rh_rules.specs.Moves.{local_moves}
 
 -- for each application, by its number, a set of nodes
 pub record AppSets : Type 0 where

@@ -2,9 +2,9 @@
 use Rattle.std.specs.Prelude.{ℕ, ◌+◌, ◌*◌, ◌≤◌, List, length}
 use Rattle.std.specs.List.{sum_by}
 use Rattle.rh_model.specs.ClusterView.{ClusterView, app_count, boot_of}
-use Rattle.rh_settle.specs.declared.notice.Notice.{Notice}
-use Rattle.rh_settle.specs.declared.notice.Notice.TheVariants.{Up, Ended}
-use Rattle.rh_settle.specs.Course.{TraceView}
+use Rattle.rh_rules.specs.declared.notice.Notice.{Notice}
+use Rattle.rh_rules.specs.declared.notice.Notice.TheVariants.{Up, Ended}
+use Rattle.rh_settle.specs.Traces.{TraceView}
 
 -- from one trace to a later one: four for each notice that was told between them, and so many more, at most
 abbrev pub FewEdits : ℕ → TraceView → TraceView → Type 0

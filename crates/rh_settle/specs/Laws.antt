@@ -7,15 +7,14 @@ use Rattle.rh_state.specs.declared.status.Standing.TheVariants.{Wanted}
 use Rattle.rh_state.specs.Standings.{is_quiet, is_lost}
 use Rattle.rh_state.specs.Shape.{IsShaped, IsNodeOf, IsAppOf}
 use Rattle.rh_state.specs.StateView.{StateView, runs_at, waits_at, is_allowed, standing_of}
-use Rattle.rh_place.specs.declared.choosing.Pick.{Pick}
-use Rattle.rh_place.specs.Placing.{deps_run, is_operational}
-use Rattle.rh_settle.specs.declared.notice.Move.{Move}
-use Rattle.rh_settle.specs.declared.notice.Move.TheVariants.{Placement, Takeover}
-use Rattle.rh_settle.specs.declared.notice.Pair.{Pair}
-use Rattle.rh_settle.specs.Course.{Course, is_fresh}
-use Rattle.rh_settle.specs.Moves.{is_local, comes_before, next_moves}
-use Rattle.rh_settle.specs.Enabled.{IsBest, IsFirst}
-use Rattle.rh_settle.specs.Settling.{NoneEnabled, Settles, settled, pair_count}
+use Rattle.rh_rules.specs.declared.pick.Pick.{Pick}
+use Rattle.rh_rules.specs.Placing.{deps_run, is_operational}
+use Rattle.rh_rules.specs.declared.notice.Move.{Move}
+use Rattle.rh_rules.specs.declared.notice.Move.TheVariants.{Placement, Takeover}
+use Rattle.rh_rules.specs.declared.notice.Pair.{Pair}
+use Rattle.rh_rules.specs.Course.{Course, is_fresh, is_local}
+use Rattle.rh_rules.specs.Moves.{comes_before}
+use Rattle.rh_rules.specs.Settling.{next_moves, IsBest, IsFirst, NoneEnabled, Settles, settled, pair_count}
 use Rattle.rh_settle.specs.Validity.{IsSound}
 
 -- the settling that the pick takes is one of those that are allowed (ours)

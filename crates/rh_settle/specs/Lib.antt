@@ -1,10 +1,7 @@
-pub mod Course
+pub mod Traces
 pub mod Counts
 pub mod Ways
-pub mod Moves
-pub mod Enabled
+pub mod Making
 pub mod Boards
-pub mod Readiness
-pub mod Settling
 pub mod Validity
 pub mod Laws

@@ -14,9 +14,9 @@ use Rattle.rh_state.specs.Standings.{is_lost}
 use Rattle.rh_state.specs.Tables.{row}
 use Rattle.rh_state.specs.Timers.{same_timer}
 use Rattle.rh_state.specs.StateView.{StateView, mode_of, is_up, is_waiting, running_at, waiting_at, runs_at, is_started, standing_of, due_of}
-use Rattle.rh_settle.specs.Moves.{is_local}
-use Rattle.rh_settle.specs.Readiness.{is_ready}
-use Rattle.rh_settle.specs.Settling.{NoneEnabled}
+use Rattle.rh_rules.specs.Course.{is_local}
+use Rattle.rh_rules.specs.NodesStart.{is_ready}
+use Rattle.rh_rules.specs.Settling.{NoneEnabled}
 
 -- at a node that isn't up nothing is started, and its permissions are as configured
 pub record IdleUnlessUp (s : StateView) : Type 0 where

@@ -2,8 +2,8 @@
 use Rattle.std.specs.Prelude.{◌≡◌, ◌++◌, List}
 use Rattle.rh_state.specs.Records.{Grows}
 use Rattle.rh_state.specs.Stored.{Stored}
-use Rattle.rh_settle.specs.declared.notice.Notice.{Notice}
-use Rattle.rh_settle.specs.Course.{TraceView}
+use Rattle.rh_rules.specs.declared.notice.Notice.{Notice}
+use Rattle.rh_settle.specs.Traces.{TraceView}
 
 -- notices were added behind those that were told
 pub record Tells (old new : List Notice) : Type 0 where

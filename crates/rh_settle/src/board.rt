@@ -13,19 +13,19 @@ ghost use Rattle.rh_state.specs.StateView.{StateView, standing_of};
 ghost use Rattle.rh_state.specs.Stored.{read};
 ghost use Rattle.rh_base.specs.Lists.{head};
 ghost use Rattle.rh_place.specs.declared.node_set.TheConstants.NodeSet.{LIMIT};
-ghost use Rattle.rh_place.specs.Placing.{is_operational};
+ghost use Rattle.rh_rules.specs.Placing.{is_operational};
 ghost use Rattle.rh_place.specs.Sets.{has};
-ghost use Rattle.rh_settle.specs.declared.notice.Pair.{Pair};
+ghost use Rattle.rh_rules.specs.declared.notice.Pair.{Pair};
 ghost use Rattle.rh_settle.specs.Boards.{is_among, is_marked, is_wanted, is_touched, touches_local, matters, nodes_changed, mover, IsBoardOf};
-ghost use Rattle.rh_settle.specs.Course.{is_fresh};
-ghost use Rattle.rh_settle.specs.Moves.{local_moves, moved_state};
+ghost use Rattle.rh_rules.specs.Course.{is_fresh};
+ghost use Rattle.rh_rules.specs.Moves.{local_moves, moved_state};
 
 use crate::app_marks::AppMarks;
 use crate::app_sets::AppSets;
-use crate::notice::{Move, Pair};
 use crate::search::{is_local, local_at};
 use rh_model::{App, Cluster, MAX_APPS, Node};
 use rh_place::{NodeSet, operational, operational_among, operational_nodes};
+use rh_rules::{Move, Pair};
 use rh_state::{Standing, State};
 use std::marker::Model;
 

@@ -8,7 +8,6 @@ mod app_sets;
 mod board;
 mod laws;
 mod make;
-mod notice;
 pub mod recording;
 mod search;
 mod settling;
@@ -20,7 +19,7 @@ pub use laws::{
     taken_over_by_earlier_groups, waits_for_a_reason,
 };
 pub use make::make_move;
-pub use notice::{Move, Notice, Pair};
+pub use rh_rules::{Move, Notice, Pair};
 pub use search::next_move;
 pub use settling::settle;
 pub use trace::Trace;

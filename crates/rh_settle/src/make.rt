@@ -3,20 +3,21 @@
 ghost use Rattle.std.specs.Prelude.{◌≡◌, ◌++◌, ◌∷◌, [], None, OnOk};
 ghost use Rattle.rh_state.specs.Shape.{IsKindOf};
 ghost use Rattle.rh_state.specs.Stored.{read};
-ghost use Rattle.rh_settle.specs.declared.notice.Move.TheVariants.{Local, Placement, Takeover};
+ghost use Rattle.rh_rules.specs.declared.notice.Move.TheVariants.{Local, Placement, Takeover};
 ghost use Rattle.rh_state.specs.declared.status.Kind.TheVariants as kind;
-ghost use Rattle.rh_settle.specs.declared.notice.Notice.TheVariants.{Started, Stopped};
-ghost use Rattle.rh_settle.specs.Course.{course};
+ghost use Rattle.rh_rules.specs.declared.notice.Notice.TheVariants.{Started, Stopped};
+ghost use Rattle.rh_settle.specs.Traces.{course};
 ghost use Rattle.rh_settle.specs.Counts.{FewEdits};
 ghost use Rattle.rh_settle.specs.Ways.{Goes, Tells};
-ghost use Rattle.rh_settle.specs.Moves.{with_started, with_stopped, lost_elsewhere, moved, IsStartedPair, CanBeMade};
+ghost use Rattle.rh_rules.specs.Moves.{with_started, with_stopped, lost_elsewhere, moved};
+ghost use Rattle.rh_settle.specs.Making.{IsStartedPair, CanBeMade};
 
-use crate::notice::{Move, Notice};
 use crate::recording;
 use crate::trace::Trace;
 use rh_base::OutOfMemory;
 use rh_model::{App, Node};
 use rh_place::start_kind;
+use rh_rules::{Move, Notice};
 use rh_state::{Kind, Standing, State};
 
 // A pair that is started runs from now on.

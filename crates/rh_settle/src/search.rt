@@ -7,20 +7,20 @@ ghost use Rattle.rh_model.specs.declared.node.Node.{Node};
 ghost use Rattle.rh_state.specs.declared.status.Standing.TheVariants.{Running};
 ghost use Rattle.rh_state.specs.Numbers.{nodes_of, apps_of};
 ghost use Rattle.rh_state.specs.Stored.{read};
-ghost use Rattle.rh_place.specs.declared.choosing.Pick.{Pick};
+ghost use Rattle.rh_rules.specs.declared.pick.Pick.{Pick};
 ghost use Rattle.rh_base.specs.Lists.{first_given};
-ghost use Rattle.rh_place.specs.Picks.{picked};
+ghost use Rattle.rh_rules.specs.Placing.{picked, is_operational};
 ghost use Rattle.rh_place.specs.Sets.{has};
-ghost use Rattle.rh_settle.specs.declared.notice.Pair.{Pair};
-ghost use Rattle.rh_place.specs.Placing.{is_operational};
-ghost use Rattle.rh_settle.specs.Course.{is_fresh};
+ghost use Rattle.rh_rules.specs.declared.notice.Pair.{Pair};
+ghost use Rattle.rh_rules.specs.Course.{is_fresh, is_local};
 ghost use Rattle.rh_settle.specs.Boards.{IsExactAt, IsBoardOf};
-ghost use Rattle.rh_settle.specs.Moves.{is_local, can_start, local_moves, placements, comes_before, takeovers, takeovers_from, next_moves};
+ghost use Rattle.rh_rules.specs.Moves.{can_start, local_moves, placements, comes_before, takeovers, takeovers_from};
+ghost use Rattle.rh_rules.specs.Settling.{next_moves};
 
 use crate::board::Board;
-use crate::notice::{Move, Pair};
 use rh_model::{App, Cluster, Node};
 use rh_place::{NodeSet, Pick, best, deps_run};
+use rh_rules::{Move, Pair};
 use rh_state::{Standing, State};
 
 /// Isn't the application distributed?
@@ -32,7 +32,7 @@ pub(crate) fn is_local(cluster: &Cluster, app: App) -> bool
 }
 
 // Can a local application start at a node where it waits?
-#[tactic(auto, unfolding(crate::specs::Moves::can_start))]
+#[tactic(auto, unfolding(rh_rules::specs::Moves::can_start))]
 fn can_start(state: &State, node: Node, app: App) -> bool
     requires node { node.0 < node_count (read state.now).cluster }
     requires app { app.0 < app_count (read state.now).cluster }
@@ -164,7 +164,7 @@ fn takeover_from(state: &State, app: App, from: Node, callers: NodeSet, pick: Pi
 }
 
 // The takeover of an application by one of these nodes.
-#[tactic(auto, unfolding(crate::specs::Moves::takeovers))]
+#[tactic(auto, unfolding(rh_rules::specs::Moves::takeovers))]
 fn takeover_by(state: &State, app: App, callers: NodeSet, pick: Pick) -> Option<Move>
     requires { app.0 < app_count (read state.now).cluster }
     ensures { (fresh : List Pair) → ((n : Node) → n.0 < node_count (read state.now).cluster → has callers n ≡ (is_fresh fresh n app && is_operational (read state.now) app n)) → result ≡ picked pick (takeovers (read state.now) fresh app) }

@@ -3,19 +3,20 @@
 ghost use Rattle.std.specs.Prelude.{◌≡◌, ◌≤◌, ◌*◌, [], length, All, OnOk};
 ghost use Rattle.rh_state.specs.StateView.{waits_at};
 ghost use Rattle.rh_state.specs.Stored.{read};
-ghost use Rattle.rh_settle.specs.Course.{Course, IsPairOf, course, fresh_of};
+ghost use Rattle.rh_rules.specs.Course.{Course, fresh_of};
+ghost use Rattle.rh_settle.specs.Traces.{IsPairOf, course};
 ghost use Rattle.rh_settle.specs.Counts.{FewEdits};
 ghost use Rattle.rh_settle.specs.Ways.{Goes};
-ghost use Rattle.rh_settle.specs.Settling.{NoneEnabled, nexts, all_moved, tell_waiting, waits_told, settled, Settles, pair_count};
+ghost use Rattle.rh_rules.specs.Settling.{NoneEnabled, nexts, all_moved, tell_waiting, waits_told, settled, Settles, pair_count};
 ghost use Rattle.rh_settle.specs.Validity.{RunsWhereItStands};
 
 use crate::board::Board;
 use crate::make::make_move;
-use crate::notice::{Notice, Pair};
 use crate::search::next_on;
 use crate::trace::Trace;
 use rh_base::OutOfMemory;
 use rh_place::Pick;
+use rh_rules::{Notice, Pair};
 use rh_state::{Place, State};
 
 // Makes next moves until there is none.

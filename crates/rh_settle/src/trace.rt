@@ -1,10 +1,10 @@
 //! What is told, marked and freed on the way through an event.
 
 ghost use Rattle.std.specs.Prelude.{◌≡◌, ◌++◌, ◌∷◌, [], OnOk, OnErr};
-ghost use Rattle.rh_settle.specs.Course.{trace_of};
+ghost use Rattle.rh_settle.specs.Traces.{trace_of};
 
-use crate::notice::{Notice, Pair};
 use rh_base::OutOfMemory;
+use rh_rules::{Notice, Pair};
 use rh_state::Edit;
 use std::alloc::Global;
 use std::marker::Model;
@@ -20,7 +20,7 @@ pub struct Trace {
 }
 
 impl Model for Trace {
-    ghost use Rattle.rh_settle.specs.Course.{TraceView};
+    ghost use Rattle.rh_settle.specs.Traces.{TraceView};
 
     ghost Value = { TraceView };
 

@@ -15,13 +15,13 @@ use Rattle.rh_state.specs.Numbers.{nodes_of, apps_of}
 use Rattle.rh_state.specs.StateView.{StateView, mode_of, is_alive, is_up, is_waiting, is_started, is_allowed, waiting_at, standing_of}
 use Rattle.rh_state.specs.Setters.{with_time}
 use Rattle.rh_base.specs.Lists.{or_else, first_given}
-use Rattle.rh_place.specs.Placing.{dep_runs, deps_run, is_operational, best, candidates}
-use Rattle.rh_settle.specs.declared.notice.Move.TheVariants.{Local, Placement, Takeover}
-use Rattle.rh_settle.specs.declared.notice.Pair.{Pair}
-use Rattle.rh_settle.specs.Course.{is_fresh}
-use Rattle.rh_settle.specs.Moves.{is_local, can_start, local_moves, placements_from, placements, comes_before, calls_away, takeovers_from, takeovers}
-use Rattle.rh_settle.specs.Moves.{next_moves}
-use Rattle.rh_settle.specs.Readiness.{all_alive, has_others, is_ready}
+use Rattle.rh_rules.specs.Placing.{dep_runs, deps_run, is_operational, best, candidates}
+use Rattle.rh_rules.specs.declared.notice.Move.TheVariants.{Local, Placement, Takeover}
+use Rattle.rh_rules.specs.declared.notice.Pair.{Pair}
+use Rattle.rh_rules.specs.Course.{is_fresh, is_local}
+use Rattle.rh_rules.specs.Moves.{can_start, local_moves, placements_from, placements, comes_before, calls_away, takeovers_from, takeovers}
+use Rattle.rh_rules.specs.Settling.{next_moves}
+use Rattle.rh_rules.specs.NodesStart.{all_alive, has_others, is_ready}
 
 -- whether a node is ready hangs on the cluster and the modes alone
 others_alike : (s t : StateView) (n : Node) (wait : SyncWait) → t.cluster ≡ s.cluster → t.modes ≡ s.modes → has_others t n wait ≡ has_others s n wait

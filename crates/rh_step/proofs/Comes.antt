@@ -2,13 +2,12 @@
 use Rattle.std.proofs.Common.{◌≡◌, Bool, true, false, cond, List, [], ◌∷◌, fold, refl}
 use Rattle.rh_model.specs.declared.node.Node.{Node}
 use Rattle.rh_state.specs.Numbers.{nodes_of}
-use Rattle.rh_place.specs.declared.choosing.Pick.{Pick}
-use Rattle.rh_settle.specs.Course.{Course}
-use Rattle.rh_settle.specs.Settling.{settled}
+use Rattle.rh_rules.specs.declared.pick.Pick.{Pick}
+use Rattle.rh_rules.specs.Course.{Course}
+use Rattle.rh_rules.specs.Settling.{settled}
 use Rattle.rh_settle.specs.Validity.{IsSound}
-use Rattle.rh_settle.specs.Readiness.{is_ready}
-use Rattle.rh_events.specs.ComingUp.{come_up, come_up_if_ready, ready_come_up}
-use Rattle.rh_step.specs.Allowed.{ComeUp, no_node, ready, not_ready, ComesOf}
+use Rattle.rh_rules.specs.NodesStart.{is_ready, come_up, come_up_if_ready, ready_come_up}
+use Rattle.rh_rules.specs.Steps.{ComeUp, no_node, ready, not_ready, ComesOf}
 use Rattle.rh_settle.proofs.SettlingLaws.{settles_by_pick}
 use Rattle.rh_events.proofs.SoundComingUp.{sound_ready_come_up}
 

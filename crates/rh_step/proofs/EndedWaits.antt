@@ -11,14 +11,13 @@ use Rattle.rh_state.specs.declared.status.Mode.TheVariants.{Down, Up}
 use Rattle.rh_state.specs.declared.status.Timer.TheVariants.{Sync}
 use Rattle.rh_state.specs.Numbers.{nodes_of}
 use Rattle.rh_state.specs.StateView.{StateView, mode_of, is_alive, is_up, is_waiting}
-use Rattle.rh_place.specs.declared.choosing.Pick.{Pick}
-use Rattle.rh_settle.specs.declared.notice.Notice.TheVariants as notice
-use Rattle.rh_settle.specs.Course.{Course}
-use Rattle.rh_settle.specs.Readiness.{all_alive, is_ready}
-use Rattle.rh_settle.specs.Settling.{settled}
-use Rattle.rh_events.specs.ComingUp.{come_up, come_up_if_ready, ready_come_up}
-use Rattle.rh_events.specs.Ending.{ended}
-use Rattle.rh_step.specs.Ticks.{taken_off, fired}
+use Rattle.rh_rules.specs.declared.pick.Pick.{Pick}
+use Rattle.rh_rules.specs.declared.notice.Notice.TheVariants as notice
+use Rattle.rh_rules.specs.Course.{Course}
+use Rattle.rh_rules.specs.NodesStart.{all_alive, is_ready, come_up, come_up_if_ready, ready_come_up}
+use Rattle.rh_rules.specs.Settling.{settled}
+use Rattle.rh_rules.specs.NodesEnd.{ended}
+use Rattle.rh_rules.specs.Time.{taken_off, fired}
 use Rattle.rh_step.specs.Laws.{EndsWithoutMandatory}
 use Rattle.rh_settle.proofs.Entries.{is_false, both}
 use Rattle.rh_settle.proofs.Places.{at_set}

@@ -8,25 +8,23 @@ use Rattle.rh_state.specs.declared.status.Timer.TheVariants.{Failover}
 use Rattle.rh_state.specs.Standings.{is_lost}
 use Rattle.rh_state.specs.Tables.{cell}
 use Rattle.rh_state.specs.StateView.{StateView, mode_of, is_up, is_started, restart_of, standing_of, due_of}
-use Rattle.rh_place.specs.declared.choosing.Pick.{Pick}
-use Rattle.rh_settle.specs.Course.{Course, course_of}
-use Rattle.rh_settle.specs.Moves.{is_local}
-use Rattle.rh_settle.specs.Settling.{settled}
+use Rattle.rh_rules.specs.declared.pick.Pick.{Pick}
+use Rattle.rh_rules.specs.Course.{Course, course_of, is_local}
+use Rattle.rh_rules.specs.Settling.{settled}
 use Rattle.rh_settle.specs.Validity.{IsValid}
 use Rattle.rh_settle.proofs.NextMoves.{up_within}
 use Rattle.rh_settle.proofs.Resting.{rests, settled_rests}
 use Rattle.rh_settle.proofs.Unchanged.{settled_restarts}
-use Rattle.rh_events.specs.declared.event.Event.{Event}
-use Rattle.rh_events.specs.declared.event.Event.TheVariants.{StartAll, StopAll}
-use Rattle.rh_events.specs.Changes.{change}
-use Rattle.rh_events.specs.Everywhere.{start_all, stop_all}
+use Rattle.rh_rules.specs.declared.event.Event.{Event}
+use Rattle.rh_rules.specs.declared.event.Event.TheVariants.{StartAll, StopAll}
+use Rattle.rh_rules.specs.Steps.{change, followed, next}
+use Rattle.rh_rules.specs.Everywhere.{start_all, stop_all}
 use Rattle.rh_events.proofs.Accepted.{accepted_stop_all}
 use Rattle.rh_events.proofs.EachEvent.{sound_changed}
 use Rattle.rh_events.proofs.Fields.{SameNodes}
 use Rattle.rh_events.proofs.SoundEndingLists.{lists_fit}
 use Rattle.rh_events.proofs.StartingAll.{started_all_same, started_at_hosts, started_all_types}
 use Rattle.rh_events.proofs.StoppingAll.{stopped_all_same, stopped_all_nowhere, stopped_all_quiet}
-use Rattle.rh_step.specs.Outcomes.{followed, next}
 use Rattle.rh_step.specs.Laws.{StopAllLeavesNothing, StartAllStartsEverywhere, StartAllKeepsTypes}
 use Rattle.rh_step.proofs.AnyTime.{ready_alike}
 use Rattle.rh_step.proofs.StartedStays.{settled_keeps, settled_starts_none}

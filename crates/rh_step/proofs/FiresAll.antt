@@ -3,11 +3,11 @@ use Rattle.std.proofs.Common.{◌≡◌, ℕ, zero, suc, ◌≤◌, Some, sym, a
 use Rattle.rh_state.specs.declared.status.Timer.{Timer}
 use Rattle.rh_state.specs.Limits.{time_limit}
 use Rattle.rh_state.specs.StateView.{earliest}
-use Rattle.rh_place.specs.declared.choosing.Pick.{Pick}
-use Rattle.rh_settle.specs.Course.{Course}
+use Rattle.rh_rules.specs.declared.pick.Pick.{Pick}
+use Rattle.rh_rules.specs.Course.{Course}
 use Rattle.rh_settle.specs.Validity.{IsSound}
-use Rattle.rh_step.specs.Ticks.{due_by, effect, taken_off, fired, fired_by, all_fired}
-use Rattle.rh_step.specs.Allowed.{ComesOf, Fires, none_due, one_due}
+use Rattle.rh_rules.specs.Time.{due_by, effect, taken_off, fired, fired_by, all_fired}
+use Rattle.rh_rules.specs.Steps.{ComesOf, Fires, none_due, one_due}
 use Rattle.rh_step.proofs.Comes.{comes_of}
 use Rattle.rh_step.proofs.TakenOff.{sound_effect}
 use Rattle.rh_step.proofs.Fuel.{timer_count, goes, by_found, nothing_due, due_is_first, due_in_time, fired_fewer, sound_fired}

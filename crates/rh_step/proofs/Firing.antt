@@ -10,17 +10,17 @@ use Rattle.rh_state.specs.declared.status.Timer.TheVariants.{Sync, Failover}
 use Rattle.rh_state.specs.Shape.{IsTimerOf}
 use Rattle.rh_state.specs.Setters.{with_time, without_due}
 use Rattle.rh_state.specs.StateView.{StateView, standing_of, due_of, earliest, running_at, waiting_at}
-use Rattle.rh_settle.specs.declared.notice.Pair.{Pair}
-use Rattle.rh_settle.specs.Course.{Course, IsPairOf}
+use Rattle.rh_rules.specs.declared.notice.Pair.{Pair}
+use Rattle.rh_rules.specs.Course.{Course}
+use Rattle.rh_settle.specs.Traces.{IsPairOf}
 use Rattle.rh_settle.specs.Validity.{IsSound}
-use Rattle.rh_settle.specs.Readiness.{all_alive}
-use Rattle.rh_events.specs.ComingUp.{come_up}
-use Rattle.rh_events.specs.Ending.{ended}
+use Rattle.rh_rules.specs.NodesStart.{all_alive, come_up}
+use Rattle.rh_rules.specs.NodesEnd.{ended, wanted_if_lost}
 use Rattle.rh_events.proofs.Losing.{due_without_sync}
 use Rattle.rh_events.proofs.Marked.{marked_come_up, ended_marked}
 use Rattle.rh_events.proofs.SoundComingUp.{idle_waits, come_up_cluster}
 use Rattle.rh_events.proofs.Fields.{ended_cluster}
-use Rattle.rh_step.specs.Ticks.{effect, wanted_if_lost}
+use Rattle.rh_rules.specs.Time.{effect}
 use Rattle.rh_events.proofs.Requirements.{unset_failover}
 use Rattle.rh_step.proofs.TakenOff.{waits_to_end}
 

@@ -11,19 +11,18 @@ use Rattle.rh_state.specs.declared.status.Timer.{Timer}
 use Rattle.rh_state.specs.declared.status.Timer.TheVariants.{Sync, Failover}
 use Rattle.rh_state.specs.StateView.{StateView, earliest, standing_of}
 use Rattle.rh_model.specs.ClusterView.{mandatory_of}
-use Rattle.rh_place.specs.declared.choosing.Pick.{Pick}
-use Rattle.rh_settle.specs.Course.{Course, course_of}
-use Rattle.rh_settle.specs.Readiness.{all_alive}
+use Rattle.rh_rules.specs.declared.pick.Pick.{Pick}
+use Rattle.rh_rules.specs.Course.{Course, course_of}
+use Rattle.rh_rules.specs.NodesStart.{all_alive, come_up, ready_come_up}
 use Rattle.rh_settle.specs.Validity.{IsSound}
 use Rattle.rh_settle.proofs.Behind.{after_notices}
 use Rattle.rh_settle.proofs.Unchanged.{settled_time}
-use Rattle.rh_events.specs.ComingUp.{come_up, ready_come_up}
-use Rattle.rh_events.specs.Ending.{ended}
+use Rattle.rh_rules.specs.NodesEnd.{ended, wanted_if_lost}
 use Rattle.rh_events.proofs.Accepted.{accepted_tick}
 use Rattle.rh_events.proofs.Fields.{ended_time}
 use Rattle.rh_events.proofs.SoundComingUp.{come_up_time, ready_come_up_time}
-use Rattle.rh_step.specs.Ticks.{due_by, effect, taken_off, wanted_if_lost, fired, fired_by, all_fired, ticked}
-use Rattle.rh_step.specs.Outcomes.{next}
+use Rattle.rh_rules.specs.Time.{due_by, effect, taken_off, fired, fired_by, all_fired, ticked}
+use Rattle.rh_rules.specs.Steps.{next}
 use Rattle.rh_step.specs.Firings.{FiringView, firing, fired_in, if_due, firings_by, firings, told_by, FiringsTellTheTick, FiringsAreInTime}
 use Rattle.rh_step.proofs.Fuel.{goes, by_found, nothing_due, due_stands_first, due_within, fired_fewer, sound_fired}
 use Rattle.rh_step.proofs.TickLaws.{fired_after}

@@ -17,14 +17,13 @@ use Rattle.rh_state.specs.Limits.{time_limit}
 use Rattle.rh_state.specs.Numbers.{same_node}
 use Rattle.rh_state.specs.Timers.{same_timer, without_timer}
 use Rattle.rh_state.specs.StateView.{StateView, mode_of, is_waiting, is_up, runs_at, standing_of, earliest}
-use Rattle.rh_place.specs.declared.choosing.Pick.{Pick}
+use Rattle.rh_rules.specs.declared.pick.Pick.{Pick}
 use Rattle.rh_base.proofs.Lists.{cases}
-use Rattle.rh_settle.specs.Course.{Course}
+use Rattle.rh_rules.specs.Course.{Course}
 use Rattle.rh_settle.specs.Validity.{IsSound}
-use Rattle.rh_settle.specs.Readiness.{all_alive}
-use Rattle.rh_events.specs.ComingUp.{come_up, ready_come_up}
-use Rattle.rh_events.specs.Ending.{ended}
-use Rattle.rh_step.specs.Ticks.{due_by, wanted_if_lost, effect, taken_off, fired, go_on, fired_by, all_fired}
+use Rattle.rh_rules.specs.NodesStart.{all_alive, come_up, ready_come_up}
+use Rattle.rh_rules.specs.NodesEnd.{ended, wanted_if_lost}
+use Rattle.rh_rules.specs.Time.{due_by, effect, taken_off, fired, go_on, fired_by, all_fired}
 use Rattle.rh_events.proofs.TimersFall.{come_up_timers, ended_timers, ready_timers}
 use Rattle.rh_settle.proofs.Unchanged.{settled_timers}
 use Rattle.rh_events.proofs.SoundComingUp.{sound_ready_come_up}

@@ -1,15 +1,14 @@
 -- Earlier notices don't matter to an event.
 use Rattle.std.proofs.Common.{◌≡◌, List, [], sym, ap, ◌∙◌, append-nil}
 use Rattle.rh_state.specs.StateView.{StateView}
-use Rattle.rh_place.specs.declared.choosing.Pick.{Pick}
-use Rattle.rh_settle.specs.declared.notice.Notice.{Notice}
-use Rattle.rh_settle.specs.Course.{Course, course_of}
-use Rattle.rh_settle.specs.Settling.{settled}
-use Rattle.rh_events.specs.declared.event.Event.{Event}
-use Rattle.rh_events.specs.declared.event.Event.TheVariants.{Tick}
-use Rattle.rh_events.specs.ComingUp.{ready_come_up}
-use Rattle.rh_events.specs.Changes.{change}
-use Rattle.rh_step.specs.Outcomes.{followed, next_from}
+use Rattle.rh_rules.specs.declared.pick.Pick.{Pick}
+use Rattle.rh_rules.specs.declared.notice.Notice.{Notice}
+use Rattle.rh_rules.specs.Course.{Course, course_of}
+use Rattle.rh_rules.specs.Settling.{settled}
+use Rattle.rh_rules.specs.declared.event.Event.{Event}
+use Rattle.rh_rules.specs.declared.event.Event.TheVariants.{Tick}
+use Rattle.rh_rules.specs.NodesStart.{ready_come_up}
+use Rattle.rh_rules.specs.Steps.{change, followed, next_from}
 use Rattle.rh_settle.proofs.Behind.{after_notices, settled_after}
 use Rattle.rh_events.proofs.EachEvent.{change_after}
 use Rattle.rh_events.proofs.Notices.{ready_come_up_after}

@@ -2,13 +2,13 @@
 use Rattle.std.proofs.Common.{◌≡◌, List, [], ◌++◌, None, refl, sym, ap, ◌∙◌, subst}
 use Rattle.rh_state.specs.StateView.{StateView}
 use Rattle.rh_state.specs.declared.edit.Edit.{Edit}
-use Rattle.rh_place.specs.declared.choosing.Pick.{Pick}
-use Rattle.rh_settle.specs.declared.notice.Notice.{Notice}
-use Rattle.rh_settle.specs.Course.{TraceView, trace_of, course_of, course}
-use Rattle.rh_events.specs.declared.event.Event.{Event}
-use Rattle.rh_events.specs.Refusals.{refused}
-use Rattle.rh_step.specs.Outcomes.{Outcome, outcome, outcome_of, next_from, next}
-use Rattle.rh_step.specs.Allowed.{Allowed}
+use Rattle.rh_rules.specs.declared.pick.Pick.{Pick}
+use Rattle.rh_rules.specs.declared.notice.Notice.{Notice}
+use Rattle.rh_settle.specs.Traces.{TraceView, trace_of, course}
+use Rattle.rh_rules.specs.Course.{course_of}
+use Rattle.rh_rules.specs.declared.event.Event.{Event}
+use Rattle.rh_rules.specs.Refusals.{refused}
+use Rattle.rh_rules.specs.Steps.{Outcome, outcome, outcome_of, next_from, next, Allowed}
 use Rattle.rh_settle.specs.Validity.{IsValid}
 use Rattle.rh_settle.proofs.Behind.{after_notices}
 use Rattle.rh_step.proofs.NextAfter.{next_after}

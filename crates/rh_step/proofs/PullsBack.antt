@@ -5,16 +5,16 @@ use Rattle.rh_model.specs.declared.node.Node.{Node}
 use Rattle.rh_model.specs.declared.node.App.{App}
 use Rattle.rh_state.specs.Shape.{IsAppOf}
 use Rattle.rh_state.specs.StateView.{StateView, is_started, is_allowed}
-use Rattle.rh_place.specs.declared.choosing.Pick.{Pick}
-use Rattle.rh_settle.specs.Course.{Course, course_of, fresh_of, is_fresh}
-use Rattle.rh_settle.specs.Moves.{comes_before}
-use Rattle.rh_settle.specs.Settling.{NoneEnabled, settled}
+use Rattle.rh_rules.specs.declared.pick.Pick.{Pick}
+use Rattle.rh_rules.specs.Course.{Course, course_of, fresh_of, is_fresh}
+use Rattle.rh_rules.specs.Moves.{comes_before}
+use Rattle.rh_rules.specs.Settling.{NoneEnabled, settled}
 use Rattle.rh_settle.specs.Validity.{IsValid}
-use Rattle.rh_events.specs.declared.event.Event.TheVariants.{Permit}
-use Rattle.rh_events.specs.Marking.{pair}
-use Rattle.rh_events.specs.ByHand.{pulls_back, frees, permission_set, permitted}
-use Rattle.rh_events.specs.Refusals.{refused}
-use Rattle.rh_step.specs.Outcomes.{followed, next}
+use Rattle.rh_rules.specs.declared.event.Event.TheVariants.{Permit}
+use Rattle.rh_rules.specs.Marking.{pair}
+use Rattle.rh_rules.specs.ByHand.{pulls_back, frees, permission_set, permitted}
+use Rattle.rh_rules.specs.Refusals.{refused}
+use Rattle.rh_rules.specs.Steps.{followed, next}
 use Rattle.rh_step.specs.Laws.{PermissionPullsBack}
 use Rattle.rh_settle.proofs.FieldLaws.{never_behind}
 use Rattle.rh_settle.proofs.Places.{same_refl}

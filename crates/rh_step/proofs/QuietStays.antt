@@ -15,23 +15,21 @@ use Rattle.rh_state.specs.declared.status.Timer.TheVariants.{Sync, Failover}
 use Rattle.rh_state.specs.Numbers.{same_node, same_app, nodes_of, apps_of}
 use Rattle.rh_state.specs.StateView.{StateView, standing_of, runs_at, is_allowed, restart_of}
 use Rattle.rh_state.specs.Setters.{with_mode, with_standing, with_timer, with_allowed, without_due, unlisted}
-use Rattle.rh_place.specs.declared.choosing.Pick.{Pick}
-use Rattle.rh_settle.specs.declared.notice.Notice.TheVariants as notice
-use Rattle.rh_settle.specs.Course.{Course, course_of, told, now_in}
-use Rattle.rh_settle.specs.Moves.{is_local, with_stopped}
-use Rattle.rh_settle.specs.Readiness.{all_alive, is_ready}
-use Rattle.rh_settle.specs.Settling.{settled}
+use Rattle.rh_rules.specs.declared.pick.Pick.{Pick}
+use Rattle.rh_rules.specs.declared.notice.Notice.TheVariants as notice
+use Rattle.rh_rules.specs.Course.{Course, course_of, told, now_in, is_local}
+use Rattle.rh_rules.specs.Moves.{with_stopped}
+use Rattle.rh_rules.specs.NodesStart.{all_alive, is_ready, come_up, come_up_if_ready, ready_come_up}
+use Rattle.rh_rules.specs.Settling.{settled}
 use Rattle.rh_settle.specs.Validity.{IsSound}
-use Rattle.rh_events.specs.declared.event.Event.{Event}
-use Rattle.rh_events.specs.declared.event.Event.TheVariants.{Boot, Crash, Tick, Start, Stop, Permit, Takeover, Exit, StartAll, StopAll}
-use Rattle.rh_events.specs.Marking.{mark, mark_booted, mark_all}
-use Rattle.rh_events.specs.ComingUp.{come_up, come_up_if_ready, ready_come_up}
-use Rattle.rh_events.specs.Ending.{timeout_of, cleared, lost_at, lost_from, lost_if_ran, all_lost, ended}
-use Rattle.rh_events.specs.ByHand.{stopped, is_started_anywhere, quiet_if_nowhere, left_waiting, forbidden, permitted, permission_set, taken_from, taken_over, ends_node, exited}
-use Rattle.rh_events.specs.Changes.{change}
-use Rattle.rh_events.specs.Refusals.{refused}
-use Rattle.rh_step.specs.Ticks.{wanted_if_lost, effect, taken_off, fired, all_fired, ticked}
-use Rattle.rh_step.specs.Outcomes.{followed, next}
+use Rattle.rh_rules.specs.declared.event.Event.{Event}
+use Rattle.rh_rules.specs.declared.event.Event.TheVariants.{Boot, Crash, Tick, Start, Stop, Permit, Takeover, Exit, StartAll, StopAll}
+use Rattle.rh_rules.specs.Marking.{mark, mark_booted, mark_all}
+use Rattle.rh_rules.specs.NodesEnd.{timeout_of, cleared, lost_at, lost_from, lost_if_ran, all_lost, ended, wanted_if_lost}
+use Rattle.rh_rules.specs.ByHand.{stopped, is_started_anywhere, quiet_if_nowhere, left_waiting, forbidden, permitted, permission_set, taken_from, taken_over, ends_node, exited}
+use Rattle.rh_rules.specs.Steps.{change, followed, next}
+use Rattle.rh_rules.specs.Refusals.{refused}
+use Rattle.rh_rules.specs.Time.{effect, taken_off, fired, all_fired, ticked}
 use Rattle.rh_step.specs.Laws.{boots, starts, QuietUntilStarted}
 use Rattle.rh_base.proofs.Lists.{cases}
 use Rattle.rh_settle.proofs.Behind.{settled_after}

@@ -12,23 +12,21 @@ use Rattle.rh_state.specs.declared.status.Kind.TheVariants.{Normal}
 use Rattle.rh_state.specs.Numbers.{nodes_of, apps_of}
 use Rattle.rh_state.specs.First.{first, configured}
 use Rattle.rh_state.specs.StateView.{StateView}
-use Rattle.rh_place.specs.declared.choosing.Pick.TheVariants.{First}
-use Rattle.rh_place.specs.Placing.{missing_dep, deps_run, is_operational, best, candidates}
-use Rattle.rh_settle.specs.declared.notice.Notice.{Notice}
-use Rattle.rh_settle.specs.declared.notice.Notice.TheVariants.{Up, Ended, Started, Stopped, Waits}
-use Rattle.rh_settle.specs.Moves.{can_start, local_moves, placements, calls_away, takeovers, next_moves}
-use Rattle.rh_settle.specs.Settling.{moved_by, all_moved}
-use Rattle.rh_events.specs.declared.event.Event.{Event}
-use Rattle.rh_events.specs.declared.event.Event.TheVariants.{Boot, Crash, Start, Stop, Permit}
-use Rattle.rh_settle.specs.Readiness.{all_alive, is_ready}
-use Rattle.rh_events.specs.Marking.{with_mark, mark_all}
-use Rattle.rh_events.specs.ComingUp.{come_up, come_up_if_ready, ready_come_up}
-use Rattle.rh_events.specs.Ending.{cleared, lost_if_ran, all_lost, ended}
-use Rattle.rh_events.specs.ByHand.{stopped, is_started_anywhere, left_waiting, forbidden, permitted}
-use Rattle.rh_events.specs.Changes.{booted}
-use Rattle.rh_events.specs.declared.refusal.Refusal.TheVariants.{NodeNotUp, AlreadyStarted, DependencyNotStarted}
-use Rattle.rh_events.specs.Refusals.{refused}
-use Rattle.rh_step.specs.Outcomes.{followed, next}
+use Rattle.rh_rules.specs.declared.pick.Pick.TheVariants.{First}
+use Rattle.rh_rules.specs.Placing.{missing_dep, deps_run, is_operational, best, candidates}
+use Rattle.rh_rules.specs.declared.notice.Notice.{Notice}
+use Rattle.rh_rules.specs.declared.notice.Notice.TheVariants.{Up, Ended, Started, Stopped, Waits}
+use Rattle.rh_rules.specs.Moves.{can_start, local_moves, placements, calls_away, takeovers}
+use Rattle.rh_rules.specs.Settling.{next_moves, moved_by, all_moved}
+use Rattle.rh_rules.specs.declared.event.Event.{Event}
+use Rattle.rh_rules.specs.declared.event.Event.TheVariants.{Boot, Crash, Start, Stop, Permit}
+use Rattle.rh_rules.specs.NodesStart.{all_alive, is_ready, come_up, come_up_if_ready, ready_come_up, booted}
+use Rattle.rh_rules.specs.Marking.{with_mark, mark_all}
+use Rattle.rh_rules.specs.NodesEnd.{cleared, lost_if_ran, all_lost, ended}
+use Rattle.rh_rules.specs.ByHand.{stopped, is_started_anywhere, left_waiting, forbidden, permitted}
+use Rattle.rh_rules.specs.declared.refusal.Refusal.TheVariants.{NodeNotUp, AlreadyStarted, DependencyNotStarted}
+use Rattle.rh_rules.specs.Refusals.{refused}
+use Rattle.rh_rules.specs.Steps.{followed, next}
 
 abbrev pub state_after : StateView → List Event → StateView
 state_after s [] = s

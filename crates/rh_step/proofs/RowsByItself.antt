@@ -6,18 +6,17 @@ use Rattle.rh_state.specs.declared.status.Mode.TheVariants.{Up}
 use Rattle.rh_state.specs.declared.status.Standing.TheVariants.{Quiet, Wanted, Running}
 use Rattle.rh_state.specs.Numbers.{nodes_of, apps_of}
 use Rattle.rh_state.specs.StateView.{StateView}
-use Rattle.rh_place.specs.declared.choosing.Pick.TheVariants.{First}
-use Rattle.rh_place.specs.Placing.{deps_run, is_operational, best, candidates}
-use Rattle.rh_settle.specs.declared.notice.Notice.TheVariants.{Started, Stopped, Waits}
-use Rattle.rh_settle.specs.Moves.{can_start, local_moves, placements, calls_away, takeovers, next_moves}
-use Rattle.rh_settle.specs.Settling.{moved_by, all_moved}
-use Rattle.rh_settle.specs.Readiness.{is_ready}
-use Rattle.rh_events.specs.declared.event.Event.TheVariants.{Start, Stop, Permit, Exit}
-use Rattle.rh_events.specs.Marking.{with_mark}
-use Rattle.rh_events.specs.ComingUp.{come_up_if_ready, ready_come_up}
-use Rattle.rh_events.specs.ByHand.{stopped, forbidden, permitted, exited}
+use Rattle.rh_rules.specs.declared.pick.Pick.TheVariants.{First}
+use Rattle.rh_rules.specs.Placing.{deps_run, is_operational, best, candidates}
+use Rattle.rh_rules.specs.declared.notice.Notice.TheVariants.{Started, Stopped, Waits}
+use Rattle.rh_rules.specs.Moves.{can_start, local_moves, placements, calls_away, takeovers}
+use Rattle.rh_rules.specs.Settling.{next_moves, moved_by, all_moved}
+use Rattle.rh_rules.specs.NodesStart.{is_ready, come_up_if_ready, ready_come_up}
+use Rattle.rh_rules.specs.declared.event.Event.TheVariants.{Start, Stop, Permit, Exit}
+use Rattle.rh_rules.specs.Marking.{with_mark}
+use Rattle.rh_rules.specs.ByHand.{stopped, forbidden, permitted, exited}
 use Rattle.rh_events.proofs.Scene.{p, q, job, twin, aid, scene, none}
-use Rattle.rh_step.specs.Outcomes.{outcome, followed, next}
+use Rattle.rh_rules.specs.Steps.{outcome, followed, next}
 
 -- twin runs at p, and could run at q; what it is there is temporary
 abbrev ready_at_q : StateView

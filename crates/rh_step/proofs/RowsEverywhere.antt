@@ -11,22 +11,20 @@ use Rattle.rh_state.specs.declared.status.Standing.TheVariants.{Quiet}
 use Rattle.rh_state.specs.Numbers.{nodes_of, apps_of}
 use Rattle.rh_state.specs.First.{first, configured}
 use Rattle.rh_state.specs.StateView.{StateView}
-use Rattle.rh_place.specs.Placing.{missing_dep, deps_run, is_operational, best, candidates}
-use Rattle.rh_settle.specs.declared.notice.Notice.TheVariants.{Up, Ended, Started, Stopped, Waits}
-use Rattle.rh_settle.specs.Moves.{can_start, local_moves, placements, calls_away, takeovers, next_moves}
-use Rattle.rh_settle.specs.Settling.{moved_by, all_moved}
-use Rattle.rh_events.specs.declared.event.Event.TheVariants.{Boot, Crash, Tick, Start, StartAll, StopAll}
-use Rattle.rh_settle.specs.Readiness.{all_alive, is_ready}
-use Rattle.rh_events.specs.Marking.{with_mark, mark_all}
-use Rattle.rh_events.specs.ComingUp.{come_up, come_up_if_ready, ready_come_up}
-use Rattle.rh_events.specs.Ending.{cleared, lost_if_ran, all_lost, ended}
-use Rattle.rh_events.specs.ByHand.{is_started_anywhere}
-use Rattle.rh_events.specs.Everywhere.{targets, has_host, has_target, missing_at_targets, start_all, left_everywhere, stop_all}
-use Rattle.rh_events.specs.Changes.{booted}
-use Rattle.rh_events.specs.declared.refusal.Refusal.TheVariants.{UnknownApp, NodeNotUp, NotDistributed, AlreadyStarted, NeverStarted, DependencyNotStarted}
-use Rattle.rh_events.specs.Refusals.{refused}
-use Rattle.rh_step.specs.Ticks.{fired, fired_by, all_fired, ticked}
-use Rattle.rh_step.specs.Outcomes.{followed, next}
+use Rattle.rh_rules.specs.Placing.{missing_dep, deps_run, is_operational, best, candidates}
+use Rattle.rh_rules.specs.declared.notice.Notice.TheVariants.{Up, Ended, Started, Stopped, Waits}
+use Rattle.rh_rules.specs.Moves.{can_start, local_moves, placements, calls_away, takeovers}
+use Rattle.rh_rules.specs.Settling.{next_moves, moved_by, all_moved}
+use Rattle.rh_rules.specs.declared.event.Event.TheVariants.{Boot, Crash, Tick, Start, StartAll, StopAll}
+use Rattle.rh_rules.specs.NodesStart.{all_alive, is_ready, come_up, come_up_if_ready, ready_come_up, booted}
+use Rattle.rh_rules.specs.Marking.{with_mark, mark_all}
+use Rattle.rh_rules.specs.NodesEnd.{cleared, lost_if_ran, all_lost, ended}
+use Rattle.rh_rules.specs.ByHand.{is_started_anywhere}
+use Rattle.rh_rules.specs.Everywhere.{targets, has_host, has_target, missing_at_targets, start_all, left_everywhere, stop_all}
+use Rattle.rh_rules.specs.declared.refusal.Refusal.TheVariants.{UnknownApp, NodeNotUp, NotDistributed, AlreadyStarted, NeverStarted, DependencyNotStarted}
+use Rattle.rh_rules.specs.Refusals.{refused}
+use Rattle.rh_rules.specs.Time.{fired, fired_by, all_fired, ticked}
+use Rattle.rh_rules.specs.Steps.{followed, next}
 use Rattle.rh_step.proofs.Rows.{state_after, answers, one, a, three_apps}
 use Rattle.rh_step.proofs.RowsElsewhere.{p, q, svc, waiting}
 

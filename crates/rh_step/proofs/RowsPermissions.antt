@@ -9,19 +9,18 @@ use Rattle.rh_state.specs.declared.status.Standing.{Standing}
 use Rattle.rh_state.specs.declared.status.Standing.TheVariants.{Quiet, Wanted, Running}
 use Rattle.rh_state.specs.Numbers.{nodes_of, apps_of}
 use Rattle.rh_state.specs.StateView.{StateView}
-use Rattle.rh_place.specs.declared.choosing.Pick.TheVariants.{First}
-use Rattle.rh_place.specs.Placing.{deps_run, is_operational, best, candidates}
-use Rattle.rh_settle.specs.declared.notice.Notice.TheVariants.{Started, Stopped, Waits}
-use Rattle.rh_settle.specs.Moves.{can_start, local_moves, placements, calls_away, takeovers, next_moves}
-use Rattle.rh_settle.specs.Settling.{moved_by, all_moved}
-use Rattle.rh_settle.specs.Readiness.{is_ready}
-use Rattle.rh_events.specs.declared.event.Event.TheVariants.{Start, Permit, StartAll}
-use Rattle.rh_events.specs.Marking.{with_mark}
-use Rattle.rh_events.specs.ComingUp.{come_up_if_ready, ready_come_up}
-use Rattle.rh_events.specs.ByHand.{permitted}
-use Rattle.rh_events.specs.Everywhere.{targets, start_all}
+use Rattle.rh_rules.specs.declared.pick.Pick.TheVariants.{First}
+use Rattle.rh_rules.specs.Placing.{deps_run, is_operational, best, candidates}
+use Rattle.rh_rules.specs.declared.notice.Notice.TheVariants.{Started, Stopped, Waits}
+use Rattle.rh_rules.specs.Moves.{can_start, local_moves, placements, calls_away, takeovers}
+use Rattle.rh_rules.specs.Settling.{next_moves, moved_by, all_moved}
+use Rattle.rh_rules.specs.NodesStart.{is_ready, come_up_if_ready, ready_come_up}
+use Rattle.rh_rules.specs.declared.event.Event.TheVariants.{Start, Permit, StartAll}
+use Rattle.rh_rules.specs.Marking.{with_mark}
+use Rattle.rh_rules.specs.ByHand.{permitted}
+use Rattle.rh_rules.specs.Everywhere.{targets, start_all}
 use Rattle.rh_events.proofs.Scene.{p, q, job, twin, aid, scene, in_second, twin_forbidden, none}
-use Rattle.rh_step.specs.Outcomes.{outcome, followed, next}
+use Rattle.rh_rules.specs.Steps.{outcome, followed, next}
 
 -- both nodes are up; what runs, what waits, what is permitted at p, and where job and twin stand
 abbrev at_both : List (List App) → List (List App) → List Bool → Standing → Standing → StateView

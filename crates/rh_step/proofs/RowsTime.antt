@@ -10,22 +10,20 @@ use Rattle.rh_state.specs.declared.status.Timer.TheVariants.{Sync, Failover}
 use Rattle.rh_state.specs.First.{configured}
 use Rattle.rh_state.specs.Numbers.{nodes_of, apps_of}
 use Rattle.rh_state.specs.StateView.{StateView}
-use Rattle.rh_place.specs.declared.choosing.Pick.TheVariants.{First}
-use Rattle.rh_place.specs.Placing.{deps_run, is_operational, best, candidates}
-use Rattle.rh_settle.specs.declared.notice.Notice.TheVariants as notice
-use Rattle.rh_settle.specs.Course.{course_of}
-use Rattle.rh_settle.specs.Moves.{can_start, local_moves, placements, calls_away, takeovers, next_moves}
-use Rattle.rh_settle.specs.Settling.{moved_by, all_moved}
-use Rattle.rh_settle.specs.Readiness.{all_alive, is_ready}
-use Rattle.rh_events.specs.declared.event.Event.TheVariants.{Boot, Tick, Start, StartAll}
-use Rattle.rh_events.specs.Marking.{with_mark, mark_all}
-use Rattle.rh_events.specs.ComingUp.{come_up, come_up_if_ready, ready_come_up}
-use Rattle.rh_events.specs.Ending.{cleared, lost_if_ran, all_lost, ended}
-use Rattle.rh_events.specs.Everywhere.{targets, start_all}
-use Rattle.rh_events.specs.Changes.{booted}
+use Rattle.rh_rules.specs.declared.pick.Pick.TheVariants.{First}
+use Rattle.rh_rules.specs.Placing.{deps_run, is_operational, best, candidates}
+use Rattle.rh_rules.specs.declared.notice.Notice.TheVariants as notice
+use Rattle.rh_rules.specs.Course.{course_of}
+use Rattle.rh_rules.specs.Moves.{can_start, local_moves, placements, calls_away, takeovers}
+use Rattle.rh_rules.specs.Settling.{next_moves, moved_by, all_moved}
+use Rattle.rh_rules.specs.NodesStart.{all_alive, is_ready, come_up, come_up_if_ready, ready_come_up, booted}
+use Rattle.rh_rules.specs.declared.event.Event.TheVariants.{Boot, Tick, Start, StartAll}
+use Rattle.rh_rules.specs.Marking.{with_mark, mark_all}
+use Rattle.rh_rules.specs.NodesEnd.{cleared, lost_if_ran, all_lost, ended}
+use Rattle.rh_rules.specs.Everywhere.{targets, start_all}
 use Rattle.rh_events.proofs.Scene.{p, q, job, aid, at, scene, none}
-use Rattle.rh_step.specs.Ticks.{effect, taken_off, fired, fired_by, all_fired, ticked}
-use Rattle.rh_step.specs.Outcomes.{outcome, followed, next}
+use Rattle.rh_rules.specs.Time.{effect, taken_off, fired, fired_by, all_fired, ticked}
+use Rattle.rh_rules.specs.Steps.{outcome, followed, next}
 
 abbrev quiet : List Standing
 quiet = Quiet ∷ Quiet ∷ Quiet ∷ []

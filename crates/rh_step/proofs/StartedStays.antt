@@ -7,13 +7,13 @@ use Rattle.rh_state.specs.declared.status.Kind.TheVariants.{Normal}
 use Rattle.rh_state.specs.declared.status.Standing.TheVariants.{Quiet, Wanted, Running}
 use Rattle.rh_state.specs.Numbers.{same_app}
 use Rattle.rh_state.specs.StateView.{StateView, runs_at, waits_at, is_started, standing_of}
-use Rattle.rh_place.specs.declared.choosing.Pick.{Pick}
+use Rattle.rh_rules.specs.declared.pick.Pick.{Pick}
 use Rattle.rh_base.proofs.Lists.{cases}
-use Rattle.rh_settle.specs.declared.notice.Move.{Move}
-use Rattle.rh_settle.specs.declared.notice.Move.TheVariants.{Local, Placement, Takeover}
-use Rattle.rh_settle.specs.Course.{Course}
-use Rattle.rh_settle.specs.Moves.{is_local, with_started, with_stopped, moved, moved_state}
-use Rattle.rh_settle.specs.Settling.{AreFirst, settled}
+use Rattle.rh_rules.specs.declared.notice.Move.{Move}
+use Rattle.rh_rules.specs.declared.notice.Move.TheVariants.{Local, Placement, Takeover}
+use Rattle.rh_rules.specs.Course.{Course, is_local}
+use Rattle.rh_rules.specs.Moves.{with_started, with_stopped, moved, moved_state}
+use Rattle.rh_rules.specs.Settling.{AreFirst, settled}
 use Rattle.rh_settle.specs.Validity.{IsSound}
 use Rattle.rh_settle.proofs.Entries.{same_number, other_number, is_false, both, either, taken, put, has, taken_has, taken_keeps, put_keeps, put_gives, put_other}
 use Rattle.rh_settle.proofs.Entries.{row_there, length_taken, there}

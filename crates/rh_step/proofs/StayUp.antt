@@ -9,19 +9,17 @@ use Rattle.rh_state.specs.declared.status.Timer.{Timer}
 use Rattle.rh_state.specs.declared.status.Timer.TheVariants.{Sync, Failover}
 use Rattle.rh_state.specs.Numbers.{nodes_of}
 use Rattle.rh_state.specs.StateView.{StateView, mode_of, standing_of}
-use Rattle.rh_place.specs.declared.choosing.Pick.{Pick}
-use Rattle.rh_settle.specs.declared.notice.Notice.TheVariants as notice
-use Rattle.rh_settle.specs.Course.{Course, course_of}
-use Rattle.rh_settle.specs.Settling.{settled}
-use Rattle.rh_events.specs.declared.event.Event.{Event}
-use Rattle.rh_events.specs.declared.event.Event.TheVariants.{Tick}
-use Rattle.rh_settle.specs.Readiness.{all_alive, is_ready}
-use Rattle.rh_events.specs.ComingUp.{come_up, come_up_if_ready, ready_come_up}
-use Rattle.rh_events.specs.Ending.{ended}
-use Rattle.rh_events.specs.Changes.{change}
-use Rattle.rh_events.specs.Refusals.{refused}
-use Rattle.rh_step.specs.Ticks.{wanted_if_lost, effect, taken_off, fired, all_fired, ticked}
-use Rattle.rh_step.specs.Outcomes.{followed, next}
+use Rattle.rh_rules.specs.declared.pick.Pick.{Pick}
+use Rattle.rh_rules.specs.declared.notice.Notice.TheVariants as notice
+use Rattle.rh_rules.specs.Course.{Course, course_of}
+use Rattle.rh_rules.specs.Settling.{settled}
+use Rattle.rh_rules.specs.declared.event.Event.{Event}
+use Rattle.rh_rules.specs.declared.event.Event.TheVariants.{Tick}
+use Rattle.rh_rules.specs.NodesStart.{all_alive, is_ready, come_up, come_up_if_ready, ready_come_up}
+use Rattle.rh_rules.specs.NodesEnd.{ended, wanted_if_lost}
+use Rattle.rh_rules.specs.Steps.{change, followed, next}
+use Rattle.rh_rules.specs.Refusals.{refused}
+use Rattle.rh_rules.specs.Time.{effect, taken_off, fired, all_fired, ticked}
 use Rattle.rh_step.specs.Laws.{UpUntilEnded}
 use Rattle.rh_settle.proofs.Behind.{settled_after}
 use Rattle.rh_settle.proofs.Unchanged.{settled_modes}

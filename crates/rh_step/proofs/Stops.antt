@@ -7,19 +7,16 @@ use Rattle.rh_state.specs.declared.status.Standing.TheVariants.{Quiet, Running}
 use Rattle.rh_state.specs.Numbers.{nodes_of}
 use Rattle.rh_state.specs.StateView.{StateView, runs_at, standing_of}
 use Rattle.rh_state.specs.Setters.{with_standing, unlisted}
-use Rattle.rh_place.specs.declared.choosing.Pick.{Pick}
-use Rattle.rh_settle.specs.Course.{Course, course_of}
-use Rattle.rh_settle.specs.Moves.{is_local}
-use Rattle.rh_settle.specs.Readiness.{is_ready}
-use Rattle.rh_settle.specs.Settling.{settled}
+use Rattle.rh_rules.specs.declared.pick.Pick.{Pick}
+use Rattle.rh_rules.specs.Course.{Course, course_of, is_local}
+use Rattle.rh_rules.specs.NodesStart.{is_ready, come_up, come_up_if_ready, ready_come_up}
+use Rattle.rh_rules.specs.Settling.{settled}
 use Rattle.rh_settle.specs.Validity.{IsSound, IsValid}
-use Rattle.rh_events.specs.declared.event.Event.{Event}
-use Rattle.rh_events.specs.declared.event.Event.TheVariants.{Stop}
-use Rattle.rh_events.specs.ComingUp.{come_up, come_up_if_ready, ready_come_up}
-use Rattle.rh_events.specs.ByHand.{stopped, left_waiting}
-use Rattle.rh_events.specs.Changes.{change}
-use Rattle.rh_events.specs.Refusals.{refused}
-use Rattle.rh_step.specs.Outcomes.{followed, next}
+use Rattle.rh_rules.specs.declared.event.Event.{Event}
+use Rattle.rh_rules.specs.declared.event.Event.TheVariants.{Stop}
+use Rattle.rh_rules.specs.ByHand.{stopped, left_waiting}
+use Rattle.rh_rules.specs.Steps.{change, followed, next}
+use Rattle.rh_rules.specs.Refusals.{refused}
 use Rattle.rh_step.specs.Laws.{StopLeavesQuiet}
 use Rattle.rh_settle.proofs.Entries.{is_false}
 use Rattle.rh_settle.proofs.Places.{at_set_here}

@@ -17,18 +17,17 @@ use Rattle.rh_state.specs.Shape.{IsNodeOf, IsStandingOf}
 use Rattle.rh_state.specs.Timers.{same_timer, without_timer}
 use Rattle.rh_state.specs.StateView.{StateView, mode_of, standing_of, earliest, is_waiting}
 use Rattle.rh_state.specs.Setters.{with_time, with_mode, with_standing, without_due}
-use Rattle.rh_settle.specs.declared.notice.Notice.TheVariants as notice
-use Rattle.rh_settle.specs.Course.{Course, course_of, told, now_in}
+use Rattle.rh_rules.specs.declared.notice.Notice.TheVariants as notice
+use Rattle.rh_rules.specs.Course.{Course, course_of, told, now_in}
 use Rattle.rh_settle.specs.Validity.{IsSound, TimersFit}
 use Rattle.rh_state.specs.Standings.{is_lost}
 use Rattle.rh_settle.proofs.Every.{filter_yes}
 use Rattle.rh_settle.proofs.Shapes.{shaped_timers, shaped_time, shaped_standing, stands_known}
 use Rattle.rh_settle.proofs.Places.{at_set_here, at_set_there, at_set}
-use Rattle.rh_settle.specs.Readiness.{all_alive}
-use Rattle.rh_events.specs.Marking.{mark_all}
-use Rattle.rh_events.specs.ComingUp.{come_up}
-use Rattle.rh_events.specs.Ending.{cleared, emptied, with_configured, all_lost, ended}
-use Rattle.rh_step.specs.Ticks.{wanted_if_lost, effect, taken_off}
+use Rattle.rh_rules.specs.NodesStart.{all_alive, come_up}
+use Rattle.rh_rules.specs.Marking.{mark_all}
+use Rattle.rh_rules.specs.NodesEnd.{cleared, emptied, with_configured, all_lost, ended, wanted_if_lost}
+use Rattle.rh_rules.specs.Time.{effect, taken_off}
 use Rattle.rh_events.proofs.SoundComingUp.{sound_come_up}
 use Rattle.rh_events.proofs.SoundEnding.{sound_ended}
 use Rattle.rh_events.proofs.TimersToldApart.{is_set, same_self, set-cons, unset-without, set-without_other, once-without, order-without, All-without}

@@ -8,19 +8,18 @@ use Rattle.rh_state.specs.declared.status.Timer.TheVariants.{Sync, Failover}
 use Rattle.rh_state.specs.Limits.{time_limit}
 use Rattle.rh_state.specs.StateView.{StateView, earliest}
 use Rattle.rh_state.specs.Setters.{with_time}
-use Rattle.rh_place.specs.declared.choosing.Pick.{Pick}
-use Rattle.rh_settle.specs.declared.notice.Notice.{Notice}
-use Rattle.rh_settle.specs.Course.{Course, course_of, now_in}
-use Rattle.rh_settle.specs.Settling.{settled}
+use Rattle.rh_rules.specs.declared.pick.Pick.{Pick}
+use Rattle.rh_rules.specs.declared.notice.Notice.{Notice}
+use Rattle.rh_rules.specs.Course.{Course, course_of, now_in}
+use Rattle.rh_rules.specs.Settling.{settled}
 use Rattle.rh_settle.specs.Validity.{IsSound}
-use Rattle.rh_events.specs.declared.event.Event.TheVariants.{Tick}
-use Rattle.rh_settle.specs.Readiness.{all_alive}
-use Rattle.rh_events.specs.ComingUp.{come_up, ready_come_up}
-use Rattle.rh_events.specs.Ending.{ended}
-use Rattle.rh_events.specs.declared.refusal.Refusal.TheVariants.{ZeroTick, TimeLimit}
-use Rattle.rh_events.specs.Refusals.{first_that_applies, refused}
-use Rattle.rh_step.specs.Ticks.{due_by, effect, taken_off, fired, fired_by, all_fired, ticked}
-use Rattle.rh_step.specs.Outcomes.{Outcome, outcome, outcome_of, next}
+use Rattle.rh_rules.specs.declared.event.Event.TheVariants.{Tick}
+use Rattle.rh_rules.specs.NodesStart.{all_alive, come_up, ready_come_up}
+use Rattle.rh_rules.specs.NodesEnd.{ended}
+use Rattle.rh_rules.specs.declared.refusal.Refusal.TheVariants.{ZeroTick, TimeLimit}
+use Rattle.rh_rules.specs.Refusals.{first_that_applies, refused}
+use Rattle.rh_rules.specs.Time.{due_by, effect, taken_off, fired, fired_by, all_fired, ticked}
+use Rattle.rh_rules.specs.Steps.{Outcome, outcome, outcome_of, next}
 use Rattle.rh_step.specs.Laws.{TicksAddUp}
 use Rattle.rh_events.proofs.Accepted.{accepted_tick}
 use Rattle.rh_settle.proofs.Behind.{after_notices, settled_after}

@@ -4,12 +4,12 @@ use Rattle.rh_state.specs.declared.status.Timer.{Timer}
 use Rattle.rh_state.specs.Limits.{time_limit}
 use Rattle.rh_state.specs.StateView.{StateView, earliest}
 use Rattle.rh_state.specs.Setters.{with_time}
-use Rattle.rh_place.specs.declared.choosing.Pick.{Pick}
-use Rattle.rh_settle.specs.Course.{Course, course_of, fresh_of}
-use Rattle.rh_settle.specs.Settling.{settled}
+use Rattle.rh_rules.specs.declared.pick.Pick.{Pick}
+use Rattle.rh_rules.specs.Course.{Course, course_of, fresh_of}
+use Rattle.rh_rules.specs.Settling.{settled}
 use Rattle.rh_settle.specs.Validity.{IsSound, IsValid}
-use Rattle.rh_events.specs.ComingUp.{ready_come_up}
-use Rattle.rh_step.specs.Ticks.{due_by, effect, taken_off, fired, all_fired, ticked}
+use Rattle.rh_rules.specs.NodesStart.{ready_come_up}
+use Rattle.rh_rules.specs.Time.{due_by, effect, taken_off, fired, all_fired, ticked}
 use Rattle.rh_settle.proofs.NextFirsts.{still_if_none_enabled}
 use Rattle.rh_settle.proofs.Still.{settled_sound, settled_still, still_afterwards}
 use Rattle.rh_settle.proofs.Unchanged.{settled_cluster, settled_modes}

@@ -1,14 +1,13 @@
 -- Time never runs backwards.
 use Rattle.std.proofs.Common.{◌≡◌, ◌≤◌, [], ◌∙◌, arith}
 use Rattle.rh_state.specs.StateView.{StateView}
-use Rattle.rh_place.specs.declared.choosing.Pick.{Pick}
-use Rattle.rh_settle.specs.Course.{Course, course_of}
-use Rattle.rh_events.specs.declared.event.Event.{Event}
-use Rattle.rh_events.specs.declared.event.Event.TheVariants.{Tick}
-use Rattle.rh_events.specs.ComingUp.{ready_come_up}
-use Rattle.rh_events.specs.Changes.{change}
-use Rattle.rh_step.specs.Ticks.{ticked}
-use Rattle.rh_step.specs.Outcomes.{followed, next}
+use Rattle.rh_rules.specs.declared.pick.Pick.{Pick}
+use Rattle.rh_rules.specs.Course.{Course, course_of}
+use Rattle.rh_rules.specs.declared.event.Event.{Event}
+use Rattle.rh_rules.specs.declared.event.Event.TheVariants.{Tick}
+use Rattle.rh_rules.specs.NodesStart.{ready_come_up}
+use Rattle.rh_rules.specs.Steps.{change, followed, next}
+use Rattle.rh_rules.specs.Time.{ticked}
 use Rattle.rh_step.specs.Laws.{TimeGoesOn}
 use Rattle.rh_events.proofs.EachEvent.{change_time}
 use Rattle.rh_events.proofs.SoundComingUp.{ready_come_up_time}

@@ -2,10 +2,10 @@
 use Rattle.std.specs.Prelude.{ℕ, ◌+◌, ◌-◌, ◌*◌, length}
 use Rattle.rh_state.specs.StateView.{StateView}
 use Rattle.rh_settle.specs.Counts.{weights}
-use Rattle.rh_events.specs.declared.event.Event.{Event}
-use Rattle.rh_events.specs.declared.event.Event.TheVariants.{Tick}
+use Rattle.rh_rules.specs.declared.event.Event.{Event}
+use Rattle.rh_rules.specs.declared.event.Event.TheVariants.{Tick}
 use Rattle.rh_events.specs.Counts.{own_edits}
-use Rattle.rh_step.specs.Outcomes.{Outcome}
+use Rattle.rh_rules.specs.Steps.{Outcome}
 
 -- those that a step from s to t keeps beside those for what it tells: the event's own; for a tick one for the time, and three
 -- for each timer that is set no longer, as each that fired

@@ -3,14 +3,14 @@ use Rattle.std.specs.Prelude.{◌≡◌, ◌≤◌, ◌+◌, ℕ, zero, suc, Lis
 use Rattle.std.specs.List.Sorted.{IsNonDecreasingBy}
 use Rattle.rh_state.specs.declared.status.Timer.{Timer}
 use Rattle.rh_state.specs.StateView.{StateView, earliest}
-use Rattle.rh_place.specs.declared.choosing.Pick.{Pick}
-use Rattle.rh_settle.specs.declared.notice.Notice.{Notice}
-use Rattle.rh_settle.specs.Course.{Course, course_of}
+use Rattle.rh_rules.specs.declared.pick.Pick.{Pick}
+use Rattle.rh_rules.specs.declared.notice.Notice.{Notice}
+use Rattle.rh_rules.specs.Course.{Course, course_of}
 use Rattle.rh_settle.specs.Validity.{IsValid}
-use Rattle.rh_events.specs.declared.event.Event.TheVariants.{Tick}
-use Rattle.rh_events.specs.Refusals.{refused}
-use Rattle.rh_step.specs.Ticks.{due_by, fired, fired_by}
-use Rattle.rh_step.specs.Outcomes.{next}
+use Rattle.rh_rules.specs.declared.event.Event.TheVariants.{Tick}
+use Rattle.rh_rules.specs.Refusals.{refused}
+use Rattle.rh_rules.specs.Time.{due_by, fired, fired_by}
+use Rattle.rh_rules.specs.Steps.{next}
 
 -- a timer that fired: when it was due, and what was told from there until all had settled
 pub record FiringView : Type 0 where

@@ -13,18 +13,17 @@ use Rattle.rh_state.specs.First.{first}
 use Rattle.rh_state.specs.Numbers.{same_node, same_app}
 use Rattle.rh_state.specs.Timers.{same_timer}
 use Rattle.rh_state.specs.StateView.{StateView, mode_of, is_alive, is_up, runs_at, is_started, is_allowed, restart_of, standing_of, due_of}
-use Rattle.rh_place.specs.declared.choosing.Pick.{Pick}
-use Rattle.rh_place.specs.Placing.{is_operational}
-use Rattle.rh_settle.specs.declared.notice.Notice.TheVariants as notice
-use Rattle.rh_settle.specs.Course.{Course}
-use Rattle.rh_settle.specs.Moves.{is_local, comes_before}
-use Rattle.rh_events.specs.declared.event.Event.{Event}
-use Rattle.rh_events.specs.declared.event.Event.TheVariants.{Tick, Start, Stop, Permit, StartAll, StopAll}
-use Rattle.rh_events.specs.ByHand.{pulls_back}
-use Rattle.rh_events.specs.Refusals.{refused}
-use Rattle.rh_step.specs.Allowed.{Allowed}
-use Rattle.rh_step.specs.Ticks.{fired}
-use Rattle.rh_step.specs.Outcomes.{next, outcome}
+use Rattle.rh_rules.specs.declared.pick.Pick.{Pick}
+use Rattle.rh_rules.specs.Placing.{is_operational}
+use Rattle.rh_rules.specs.declared.notice.Notice.TheVariants as notice
+use Rattle.rh_rules.specs.Course.{Course, is_local}
+use Rattle.rh_rules.specs.Moves.{comes_before}
+use Rattle.rh_rules.specs.declared.event.Event.{Event}
+use Rattle.rh_rules.specs.declared.event.Event.TheVariants.{Tick, Start, Stop, Permit, StartAll, StopAll}
+use Rattle.rh_rules.specs.ByHand.{pulls_back}
+use Rattle.rh_rules.specs.Refusals.{refused}
+use Rattle.rh_rules.specs.Steps.{Allowed, next, outcome}
+use Rattle.rh_rules.specs.Time.{fired}
 use Rattle.rh_settle.specs.Validity.{IsValid}
 
 -- the first state of a cluster is valid

@@ -1,6 +1,3 @@
-pub mod Ticks
-pub mod Outcomes
-pub mod Allowed
 pub mod Firings
 pub mod Laws
 pub mod Counts

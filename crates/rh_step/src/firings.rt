@@ -7,8 +7,8 @@ ghost use Rattle.rh_state.specs.Shape.{IsTimerOf};
 ghost use Rattle.rh_state.specs.StateView.{earliest};
 ghost use Rattle.rh_state.specs.Stored.{read};
 ghost use Rattle.rh_settle.specs.Validity.{IsSound, IsValid};
-ghost use Rattle.rh_events.specs.declared.event.Event.TheVariants.{Tick};
-ghost use Rattle.rh_events.specs.Refusals.{refused};
+ghost use Rattle.rh_rules.specs.declared.event.Event.TheVariants.{Tick};
+ghost use Rattle.rh_rules.specs.Refusals.{refused};
 ghost use Rattle.rh_step.specs.Firings.{firing, fired_in, firings_by, firings, FiringsTellTheTick, FiringsAreInTime};
 
 use crate::ticks::{due_by, fire};

@@ -16,7 +16,7 @@ pub struct Notices {
 
 impl Model for Notices {
     ghost use Rattle.std.specs.Prelude.{List};
-    ghost use Rattle.rh_settle.specs.declared.notice.Notice.{Notice};
+    ghost use Rattle.rh_rules.specs.declared.notice.Notice.{Notice};
 
     ghost Value = { List Notice };
 

@@ -5,18 +5,17 @@ ghost use Rattle.rh_base.specs.Exchanges.{back, AllBack};
 ghost use Rattle.rh_state.specs.Edits.{exchange};
 ghost use Rattle.rh_state.specs.Records.{CanGoBack, Grows};
 ghost use Rattle.rh_state.specs.Stored.{read};
-ghost use Rattle.rh_settle.specs.declared.notice.Notice.{Notice};
-ghost use Rattle.rh_settle.specs.Course.{IsPairOf, course};
-ghost use Rattle.rh_settle.specs.Settling.{settled};
+ghost use Rattle.rh_rules.specs.declared.notice.Notice.{Notice};
+ghost use Rattle.rh_settle.specs.Traces.{IsPairOf, course};
+ghost use Rattle.rh_rules.specs.Settling.{settled};
 ghost use Rattle.rh_settle.specs.Validity.{IsSound, IsValid};
 ghost use Rattle.rh_settle.specs.Counts.{FewWeighed};
 ghost use Rattle.rh_settle.specs.Ways.{Goes};
-ghost use Rattle.rh_events.specs.declared.event.Event.TheVariants.{Tick};
-ghost use Rattle.rh_events.specs.ComingUp.{ready_come_up};
+ghost use Rattle.rh_rules.specs.declared.event.Event.TheVariants.{Tick};
+ghost use Rattle.rh_rules.specs.NodesStart.{ready_come_up};
 ghost use Rattle.rh_events.specs.Counts.{own_edits};
-ghost use Rattle.rh_events.specs.Refusals.{refused};
-ghost use Rattle.rh_step.specs.Outcomes.{outcome, followed, next_from, next};
-ghost use Rattle.rh_step.specs.Allowed.{Allowed};
+ghost use Rattle.rh_rules.specs.Refusals.{refused};
+ghost use Rattle.rh_rules.specs.Steps.{outcome, followed, next_from, next, Allowed};
 ghost use Rattle.rh_step.specs.Counts.{step_edits, most_edits};
 
 use crate::ticks::pass_time;
@@ -116,7 +115,7 @@ fn make(state: &mut State, event: &Event, pick: Pick, trace: &mut Trace) -> Resu
 }
 
 // An event that is no tick, and what follows from it.
-#[tactic(auto, unfolding(crate::specs::Outcomes::followed))]
+#[tactic(auto, unfolding(rh_rules::specs::Steps::followed))]
 fn happen(
     state: &mut State,
     event: &Event,

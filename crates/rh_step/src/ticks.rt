@@ -10,11 +10,12 @@ ghost use Rattle.rh_state.specs.Shape.{IsNodeOf, IsTimerOf};
 ghost use Rattle.rh_state.specs.Stored.{read};
 ghost use Rattle.rh_state.specs.declared.status.Standing.TheVariants.{Running};
 ghost use Rattle.rh_state.specs.declared.status.Timer.TheVariants.{Sync, Failover};
-ghost use Rattle.rh_settle.specs.Course.{course};
+ghost use Rattle.rh_settle.specs.Traces.{course};
 ghost use Rattle.rh_settle.specs.Validity.{IsSound};
 ghost use Rattle.rh_settle.specs.Counts.{FewEdits, FewWeighed};
 ghost use Rattle.rh_settle.specs.Ways.{Goes};
-ghost use Rattle.rh_step.specs.Ticks.{due_by, wanted_if_lost, effect, taken_off, fired, all_fired, ticked};
+ghost use Rattle.rh_rules.specs.Time.{due_by, effect, taken_off, fired, all_fired, ticked};
+ghost use Rattle.rh_rules.specs.NodesEnd.{wanted_if_lost};
 
 use crate::step::follow;
 use rh_base::OutOfMemory;
@@ -25,7 +26,7 @@ use rh_settle::{Trace, recording};
 use rh_state::{Standing, State, Timer};
 
 /// So many milliseconds pass.
-#[tactic(auto, unfolding(crate::specs::Ticks::ticked), using(rh_settle::proofs::Ways::goes_more))]
+#[tactic(auto, unfolding(rh_rules::specs::Time::ticked), using(rh_settle::proofs::Ways::goes_more))]
 pub fn pass_time(
     state: &mut State,
     ms: u64,
@@ -86,7 +87,7 @@ fn take_off(state: &mut State, due: u64, timer: Timer, trace: &mut Trace) -> Res
 }
 
 // The timer that is set first fires, and what follows from it happens.
-#[tactic(auto, unfolding(crate::specs::Ticks::fired), using(rh_settle::proofs::Ways::goes_more))]
+#[tactic(auto, unfolding(rh_rules::specs::Time::fired), using(rh_settle::proofs::Ways::goes_more))]
 pub(crate) fn fire(
     state: &mut State,
     due: u64,

@@ -3,17 +3,17 @@ use Rattle.std.proofs.Common.{◌≡◌, ◌<◌, List, false, take, None, Some,
 use Rattle.std.proofs.lemmas.List.{length-take-le, length_push}
 use Rattle.rh_base.specs.Exchanges.{back, AllBack}
 use Rattle.rh_base.proofs.Exchanges.{back-append, AllBack-append}
-use Rattle.rh_events.specs.declared.event.Event.{Event}
-use Rattle.rh_events.specs.declared.refusal.Refusal.{Refusal}
-use Rattle.rh_events.specs.Refusals.{refused}
-use Rattle.rh_settle.specs.declared.notice.Notice.{Notice}
+use Rattle.rh_rules.specs.declared.event.Event.{Event}
+use Rattle.rh_rules.specs.declared.refusal.Refusal.{Refusal}
+use Rattle.rh_rules.specs.Refusals.{refused}
+use Rattle.rh_rules.specs.declared.notice.Notice.{Notice}
 use Rattle.rh_settle.specs.Validity.{IsValid}
 use Rattle.rh_state.specs.declared.edit.Edit.{Edit}
 use Rattle.rh_state.specs.Edits.{exchange}
 use Rattle.rh_state.specs.Records.{CanGoBack, LedBy, Grows}
 use Rattle.rh_state.specs.StateView.{StateView}
 use Rattle.rh_state.specs.Stored.{Stored, read}
-use Rattle.rh_step.specs.Outcomes.{next}
+use Rattle.rh_rules.specs.Steps.{next}
 use Rattle.rh_trail.specs.declared.call.Call.TheVariants as call
 use Rattle.rh_trail.specs.declared.call.Reply.TheVariants as reply
 use Rattle.rh_trail.specs.Chain.{IsChain}

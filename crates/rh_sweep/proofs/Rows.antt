@@ -1,19 +1,17 @@
 -- Worked rows: the definitions compute to what an operator expects.
 use Rattle.std.proofs.Common.{◌≡◌, [], ◌∷◌, Some, None, codes, refl}
 use Rattle.rh_model.specs.ClusterView.{ClusterView, numbered, app_numbered}
-use Rattle.rh_events.specs.declared.event.Event.TheVariants.{Boot, Crash}
-use Rattle.rh_events.specs.declared.refusal.Refusal.TheVariants.{AlreadyAlive, NotAlive}
-use Rattle.rh_settle.specs.declared.notice.Notice.TheVariants.{Started, Up}
+use Rattle.rh_rules.specs.declared.event.Event.TheVariants.{Boot, Crash}
+use Rattle.rh_rules.specs.declared.refusal.Refusal.TheVariants.{AlreadyAlive, NotAlive}
+use Rattle.rh_rules.specs.declared.notice.Notice.TheVariants.{Started, Up}
 use Rattle.rh_state.specs.declared.status.Kind.TheVariants.{Normal, Failover, Takeover}
 use Rattle.rh_state.specs.Numbers.{nodes_of, apps_of}
 use Rattle.rh_state.specs.First.{configured}
-use Rattle.rh_settle.specs.Settling.{moved_by, all_moved}
-use Rattle.rh_settle.specs.Readiness.{all_alive, is_ready}
-use Rattle.rh_events.specs.Marking.{mark_all}
-use Rattle.rh_events.specs.ComingUp.{come_up, come_up_if_ready, ready_come_up}
-use Rattle.rh_events.specs.Changes.{booted}
-use Rattle.rh_events.specs.Refusals.{refused}
-use Rattle.rh_step.specs.Outcomes.{followed, next}
+use Rattle.rh_rules.specs.Settling.{moved_by, all_moved}
+use Rattle.rh_rules.specs.NodesStart.{all_alive, is_ready, come_up, come_up_if_ready, ready_come_up, booted}
+use Rattle.rh_rules.specs.Marking.{mark_all}
+use Rattle.rh_rules.specs.Refusals.{refused}
+use Rattle.rh_rules.specs.Steps.{followed, next}
 use Rattle.rh_trail.specs.Runs.{step}
 use Rattle.rh_trail.specs.Lone.{opened}
 use Rattle.rh_trail.specs.declared.call.Reply.TheVariants.{Done, Refused}

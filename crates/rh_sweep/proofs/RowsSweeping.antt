@@ -5,7 +5,7 @@ use Rattle.rh_model.specs.declared.settings.Spread.{Spread}
 use Rattle.rh_state.specs.declared.status.Standing.TheVariants.{Quiet, Running, Lost}
 use Rattle.rh_state.specs.First.{first, configured}
 use Rattle.rh_state.specs.Numbers.{nodes_of, apps_of}
-use Rattle.rh_events.specs.declared.event.Event.TheVariants.{Boot, Crash}
+use Rattle.rh_rules.specs.declared.event.Event.TheVariants.{Boot, Crash}
 use Rattle.rh_trail.specs.SimView.{SimView}
 use Rattle.rh_trail.specs.Lone.{opened}
 use Rattle.rh_plans.specs.declared.fault.SweepFault.TheVariants.{WorkerCount, BaseNotAtEnd, TrailRoom, OutOfMemory}

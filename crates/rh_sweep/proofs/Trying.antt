@@ -6,9 +6,9 @@ use Rattle.std.proofs.lemmas.List.{length-take-le, length_push, take-append-le, 
 use Rattle.std.proofs.lemmas.List.Concat.{flat_map-cons}
 use Rattle.std.proofs.lemmas.List.Sums.{sum_by-append}
 use Rattle.std.proofs.Math.Seq.{drop-cons}
-use Rattle.rh_settle.specs.declared.notice.Notice.{Notice}
-use Rattle.rh_events.specs.declared.event.Event.{Event}
-use Rattle.rh_events.specs.declared.refusal.Refusal.{Refusal}
+use Rattle.rh_rules.specs.declared.notice.Notice.{Notice}
+use Rattle.rh_rules.specs.declared.event.Event.{Event}
+use Rattle.rh_rules.specs.declared.refusal.Refusal.{Refusal}
 use Rattle.rh_trail.specs.declared.call.Call.{Call}
 use Rattle.rh_trail.specs.declared.call.Call.TheVariants.{Step}
 use Rattle.rh_trail.specs.declared.call.Reply.{Reply}

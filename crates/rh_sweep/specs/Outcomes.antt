@@ -6,11 +6,11 @@ use Rattle.rh_state.specs.declared.status.Kind.TheVariants.{Takeover}
 use Rattle.rh_state.specs.declared.status.Standing.{Standing}
 use Rattle.rh_state.specs.Numbers.{apps_of}
 use Rattle.rh_state.specs.StateView.{StateView, standing_of}
-use Rattle.rh_settle.specs.declared.notice.Notice.{Notice}
-use Rattle.rh_settle.specs.declared.notice.Notice.TheVariants.{Started}
-use Rattle.rh_settle.specs.Moves.{is_local}
-use Rattle.rh_events.specs.declared.event.Event.{Event}
-use Rattle.rh_events.specs.declared.refusal.Refusal.{Refusal}
+use Rattle.rh_rules.specs.declared.notice.Notice.{Notice}
+use Rattle.rh_rules.specs.declared.notice.Notice.TheVariants.{Started}
+use Rattle.rh_rules.specs.Course.{is_local}
+use Rattle.rh_rules.specs.declared.event.Event.{Event}
+use Rattle.rh_rules.specs.declared.refusal.Refusal.{Refusal}
 use Rattle.rh_trail.specs.declared.call.Call.{Call}
 use Rattle.rh_trail.specs.declared.call.Call.TheVariants.{Step}
 use Rattle.rh_trail.specs.declared.call.Reply.{Reply}

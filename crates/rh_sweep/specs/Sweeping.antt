@@ -1,6 +1,6 @@
 -- When plans are swept, and why not (ours).
 use Rattle.std.specs.Prelude.{◌≡◌, ◌≤◌, ◌+◌, ℕ, List, length, All}
-use Rattle.rh_events.specs.declared.event.Event.{Event}
+use Rattle.rh_rules.specs.declared.event.Event.{Event}
 use Rattle.rh_trail.specs.SimView.{SimView}
 use Rattle.rh_trail.specs.Lone.{trail_limit}
 use Rattle.rh_plans.specs.declared.fault.SweepFault.{SweepFault}

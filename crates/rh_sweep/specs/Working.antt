@@ -1,7 +1,7 @@
 -- What is said within a sweep, where a plan or the work is done in part (ours).
 use Rattle.std.specs.Prelude.{◌≡◌, ◌≤◌, ◌<◌, ◌+◌, ◌*◌, ℕ, false, List, [], length, take, Option, Some, None, Result, Ok, Err, Vec, slice_get}
 use Rattle.std.specs.Option.{option_map}
-use Rattle.rh_events.specs.declared.refusal.Refusal.{Refusal}
+use Rattle.rh_rules.specs.declared.refusal.Refusal.{Refusal}
 use Rattle.rh_settle.specs.Validity.{IsValid}
 use Rattle.rh_state.specs.Records.{LedBy}
 use Rattle.rh_state.specs.StateView.{StateView}

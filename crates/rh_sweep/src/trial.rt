@@ -1,7 +1,7 @@
 //! One plan, tried and taken back.
 
 ghost use Rattle.std.specs.Prelude.{◌≡◌, ◌≤◌, take, IfOk, count_by};
-ghost use Rattle.rh_settle.specs.declared.notice.Notice.{Notice};
+ghost use Rattle.rh_rules.specs.declared.notice.Notice.{Notice};
 ghost use Rattle.rh_trail.specs.Chain.{chain};
 ghost use Rattle.rh_trail.specs.SimView.{SimView, Held, state_of};
 ghost use Rattle.rh_sweep.specs.Outcomes.{outcome_in, outcome_of, is_failover, is_takeover};

@@ -1,22 +1,21 @@
 -- A simulation stays on its cluster.
 use Rattle.std.proofs.Common.{◌≡◌, ℕ, zero, suc, ◌+◌, Bool, true, false, cond, List, [], ◌∷◌, ◌==◌, ◌-◌, fold, length, take, Option, Some, None, refl, ◌∙◌}
-use Rattle.rh_place.specs.declared.choosing.Pick.{Pick}
+use Rattle.rh_rules.specs.declared.pick.Pick.{Pick}
 use Rattle.rh_state.specs.declared.status.Timer.{Timer}
 use Rattle.rh_state.specs.StateView.{StateView, earliest}
 use Rattle.rh_state.specs.First.{first}
-use Rattle.rh_settle.specs.Course.{Course, course_of}
+use Rattle.rh_rules.specs.Course.{Course, course_of}
 use Rattle.rh_settle.proofs.Unchanged.{settled_cluster}
-use Rattle.rh_events.specs.declared.event.Event.{Event}
-use Rattle.rh_events.specs.declared.event.Event.TheVariants.{Boot, Crash, Tick, Start, Stop, Permit, Takeover, Exit, StartAll, StopAll}
-use Rattle.rh_events.specs.declared.refusal.Refusal.{Refusal}
-use Rattle.rh_events.specs.declared.refusal.Refusal.TheVariants.{TrailFull}
-use Rattle.rh_events.specs.Refusals.{refused}
-use Rattle.rh_events.specs.ComingUp.{ready_come_up}
-use Rattle.rh_events.specs.Changes.{change}
+use Rattle.rh_rules.specs.declared.event.Event.{Event}
+use Rattle.rh_rules.specs.declared.event.Event.TheVariants.{Boot, Crash, Tick, Start, Stop, Permit, Takeover, Exit, StartAll, StopAll}
+use Rattle.rh_rules.specs.declared.refusal.Refusal.{Refusal}
+use Rattle.rh_rules.specs.declared.refusal.Refusal.TheVariants.{TrailFull}
+use Rattle.rh_rules.specs.Refusals.{refused}
+use Rattle.rh_rules.specs.NodesStart.{ready_come_up}
+use Rattle.rh_rules.specs.Steps.{change, followed, next_from, next}
 use Rattle.rh_events.proofs.SoundComingUp.{ready_come_up_cluster}
 use Rattle.rh_events.proofs.EachEvent.{change_cluster}
-use Rattle.rh_step.specs.Ticks.{due_by, effect, taken_off, fired, go_on, fired_by, all_fired, ticked}
-use Rattle.rh_step.specs.Outcomes.{followed, next_from, next}
+use Rattle.rh_rules.specs.Time.{due_by, effect, taken_off, fired, go_on, fired_by, all_fired, ticked}
 use Rattle.rh_step.proofs.Firing.{effect_cluster}
 use Rattle.rh_trail.specs.declared.call.Call.{Call}
 use Rattle.rh_trail.specs.declared.call.Call.TheVariants as call

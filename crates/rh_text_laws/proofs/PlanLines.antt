@@ -5,7 +5,7 @@ use lib.Utf8.{encode}
 use Rattle.std.proofs.lemmas.List.{map-append}
 use Rattle.std.proofs.lemmas.List.Elements.{All-head, All-tail}
 use Rattle.rh_model.specs.ClusterView.{ClusterView}
-use Rattle.rh_events.specs.declared.event.Event.{Event}
+use Rattle.rh_rules.specs.declared.event.Event.{Event}
 use Rattle.rh_trail.specs.declared.call.Call.TheVariants as call
 use Rattle.rh_sweep.specs.Outcomes.{steps}
 use Rattle.rh_script.specs.declared.script.Line.{Line}

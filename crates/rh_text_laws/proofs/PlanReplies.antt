@@ -4,13 +4,13 @@ use Rattle.std.proofs.Common.{◌⊎◌, inl, inr, arith}
 use Rattle.std.specs.List.{flat_map, prefix_len}
 use Rattle.std.specs.Option.{option_map}
 use Rattle.rh_model.specs.ClusterView.{ClusterView}
-use Rattle.rh_place.specs.declared.choosing.Pick.{Pick}
-use Rattle.rh_settle.specs.declared.notice.Notice.{Notice}
-use Rattle.rh_events.specs.declared.event.Event.{Event}
-use Rattle.rh_events.specs.declared.refusal.Refusal.{Refusal}
-use Rattle.rh_events.specs.declared.refusal.Refusal.TheVariants.{TrailFull}
-use Rattle.rh_events.specs.Refusals.{refused}
-use Rattle.rh_step.specs.Outcomes.{next}
+use Rattle.rh_rules.specs.declared.pick.Pick.{Pick}
+use Rattle.rh_rules.specs.declared.notice.Notice.{Notice}
+use Rattle.rh_rules.specs.declared.event.Event.{Event}
+use Rattle.rh_rules.specs.declared.refusal.Refusal.{Refusal}
+use Rattle.rh_rules.specs.declared.refusal.Refusal.TheVariants.{TrailFull}
+use Rattle.rh_rules.specs.Refusals.{refused}
+use Rattle.rh_rules.specs.Steps.{next}
 use Rattle.rh_trail.specs.declared.call.Call.{Call}
 use Rattle.rh_trail.specs.declared.call.Call.TheVariants.{Step}
 use Rattle.rh_trail.specs.declared.call.Reply.{Reply}

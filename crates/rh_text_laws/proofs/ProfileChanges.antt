@@ -15,21 +15,19 @@ use Rattle.rh_state.specs.Numbers.{nodes_of, apps_of}
 use Rattle.rh_state.specs.Standings.{is_quiet, is_lost_at, is_running_at}
 use Rattle.rh_state.specs.StateView.{StateView, incarnation_of, runs_at, is_allowed, restart_of, standing_of}
 use Rattle.rh_state.specs.Setters.{with_mode, with_incarnation, with_allowed, with_restart, with_standing, with_timer, with_waiting, without_due, unlisted}
-use Rattle.rh_place.specs.Placing.{missing_dep}
-use Rattle.rh_settle.specs.declared.notice.Notice.TheVariants as notice
-use Rattle.rh_settle.specs.Course.{Course, told, now_in}
-use Rattle.rh_settle.specs.Moves.{is_local, with_stopped}
-use Rattle.rh_settle.specs.Readiness.{all_alive, is_ready}
-use Rattle.rh_events.specs.declared.event.Event.{Event}
-use Rattle.rh_events.specs.declared.event.Event.TheVariants.{Boot, Crash, Tick, Start, Stop, Permit, Takeover, Exit, StartAll, StopAll}
-use Rattle.rh_events.specs.Marking.{with_distributed_standing, wanted_by_mark, with_mark, pair, mark, mark_booted, mark_all}
-use Rattle.rh_events.specs.ComingUp.{come_up, come_up_if_ready, ready_come_up}
-use Rattle.rh_events.specs.Ending.{timeout_of, cleared, lost_at, lost_if_ran, all_lost, ended}
-use Rattle.rh_events.specs.ByHand.{stopped, is_started_anywhere, quiet_if_nowhere, left_waiting, forbidden, pulls_back, freed_by, permission_set, permitted}
-use Rattle.rh_events.specs.ByHand.{taken_from, taken_over, ends_node, exited}
-use Rattle.rh_events.specs.Everywhere.{targets, has_host, has_target, missing_at_targets, start_at, start_all, leave_at, left_everywhere, quietened, stop_all}
-use Rattle.rh_events.specs.Changes.{with_sync_timer, booted, change}
-use Rattle.rh_events.specs.Refusals.{refused}
+use Rattle.rh_rules.specs.Placing.{missing_dep}
+use Rattle.rh_rules.specs.declared.notice.Notice.TheVariants as notice
+use Rattle.rh_rules.specs.Course.{Course, told, now_in, is_local}
+use Rattle.rh_rules.specs.Moves.{with_stopped}
+use Rattle.rh_rules.specs.NodesStart.{all_alive, is_ready, come_up, come_up_if_ready, ready_come_up, with_sync_timer, booted}
+use Rattle.rh_rules.specs.declared.event.Event.{Event}
+use Rattle.rh_rules.specs.declared.event.Event.TheVariants.{Boot, Crash, Tick, Start, Stop, Permit, Takeover, Exit, StartAll, StopAll}
+use Rattle.rh_rules.specs.Marking.{with_distributed_standing, wanted_by_mark, with_mark, pair, mark, mark_booted, mark_all}
+use Rattle.rh_rules.specs.NodesEnd.{timeout_of, cleared, lost_at, lost_if_ran, all_lost, ended}
+use Rattle.rh_rules.specs.ByHand.{stopped, is_started_anywhere, quiet_if_nowhere, left_waiting, forbidden, pulls_back, freed_by, permission_set, permitted, taken_from, taken_over, ends_node, exited}
+use Rattle.rh_rules.specs.Everywhere.{targets, has_host, has_target, missing_at_targets, start_at, start_all, leave_at, left_everywhere, quietened, stop_all}
+use Rattle.rh_rules.specs.Steps.{change}
+use Rattle.rh_rules.specs.Refusals.{refused}
 use Rattle.rh_text_laws.specs.Profiles.{state_in, gives_back}
 use Rattle.rh_text_laws.proofs.ProfileMoves.{swap, through, course_in}
 

@@ -2,16 +2,15 @@
 use Rattle.std.proofs.Common.{◌≡◌, ℕ, zero, suc, ◌*◌, Bool, true, false, cond, List, [], ◌∷◌, fold, Option, Some, None, refl, ap, ◌∙◌}
 use Rattle.rh_state.specs.Numbers.{nodes_of, apps_of}
 use Rattle.rh_state.specs.StateView.{StateView, waits_at}
-use Rattle.rh_place.specs.declared.choosing.Pick.{Pick}
-use Rattle.rh_place.specs.Picks.{picked}
-use Rattle.rh_place.specs.Placing.{deps_run, is_operational, best, candidates}
-use Rattle.rh_settle.specs.declared.notice.Move.{Move}
-use Rattle.rh_settle.specs.declared.notice.Move.TheVariants.{Local, Placement, Takeover}
-use Rattle.rh_settle.specs.declared.notice.Notice.TheVariants as notice
-use Rattle.rh_settle.specs.declared.notice.Pair.{Pair}
-use Rattle.rh_settle.specs.Course.{Course, told, fresh_of}
-use Rattle.rh_settle.specs.Moves.{can_start, local_moves, placements, calls_away, takeovers, next_moves, moved}
-use Rattle.rh_settle.specs.Settling.{tell_waiting, waits_told, nexts, after_move, moved_by, all_moved, pair_count, settled}
+use Rattle.rh_rules.specs.declared.pick.Pick.{Pick}
+use Rattle.rh_rules.specs.Placing.{picked, deps_run, is_operational, best, candidates}
+use Rattle.rh_rules.specs.declared.notice.Move.{Move}
+use Rattle.rh_rules.specs.declared.notice.Move.TheVariants.{Local, Placement, Takeover}
+use Rattle.rh_rules.specs.declared.notice.Notice.TheVariants as notice
+use Rattle.rh_rules.specs.declared.notice.Pair.{Pair}
+use Rattle.rh_rules.specs.Course.{Course, told, fresh_of}
+use Rattle.rh_rules.specs.Moves.{can_start, local_moves, placements, calls_away, takeovers, moved}
+use Rattle.rh_rules.specs.Settling.{next_moves, tell_waiting, waits_told, nexts, after_move, moved_by, all_moved, pair_count, settled}
 use Rattle.rh_text_laws.specs.Profiles.{state_in}
 
 -- ---- what is done alike is done alike in each branch, and over a list

@@ -4,10 +4,10 @@ use Rattle.std.specs.List.{flat_map, prefix_len}
 use Rattle.std.proofs.lemmas.List.Elements.{All-head, All-tail}
 use Rattle.rh_model.specs.ClusterView.{ClusterView}
 use Rattle.rh_cluster.specs.ClusterOf.{cluster_of}
-use Rattle.rh_place.specs.declared.choosing.Pick.{Pick}
+use Rattle.rh_rules.specs.declared.pick.Pick.{Pick}
 use Rattle.rh_state.specs.Numbers.{apps_of}
 use Rattle.rh_state.specs.StateView.{StateView}
-use Rattle.rh_events.specs.declared.event.Event.{Event}
+use Rattle.rh_rules.specs.declared.event.Event.{Event}
 use Rattle.rh_trail.specs.declared.call.Call.{Call}
 use Rattle.rh_trail.specs.SimView.{SimView, state_of}
 use Rattle.rh_trail.specs.Lone.{Served, served, opened, replies, sim_after}

@@ -3,7 +3,7 @@ use Rattle.std.proofs.Common.{◌≡◌, ℕ, List, ◌++◌, map, Ok, refl, sym
 use Rattle.std.specs.List.{flat_map}
 use Rattle.rh_model.specs.ClusterView.{ClusterView}
 use Rattle.rh_cluster.specs.ClusterOf.{cluster_of}
-use Rattle.rh_place.specs.declared.choosing.Pick.{Pick}
+use Rattle.rh_rules.specs.declared.pick.Pick.{Pick}
 use Rattle.rh_trail.specs.declared.call.Reply.{Reply}
 use Rattle.rh_trail.specs.Lone.{opened}
 use Rattle.rh_script.specs.Lines.{content, cluster_text, script_lines}

@@ -8,17 +8,15 @@ use Rattle.rh_state.specs.declared.status.Timer.{Timer}
 use Rattle.rh_state.specs.declared.status.Timer.TheVariants.{Sync, Failover}
 use Rattle.rh_state.specs.StateView.{StateView, standing_of, earliest}
 use Rattle.rh_state.specs.Setters.{with_time}
-use Rattle.rh_place.specs.declared.choosing.Pick.{Pick}
-use Rattle.rh_settle.specs.Course.{Course, course_of, now_in}
-use Rattle.rh_settle.specs.Readiness.{all_alive}
-use Rattle.rh_settle.specs.Settling.{settled}
-use Rattle.rh_events.specs.declared.event.Event.{Event}
-use Rattle.rh_events.specs.declared.event.Event.TheVariants.{Boot, Crash, Tick, Start, Stop, Permit, Takeover, Exit, StartAll, StopAll}
-use Rattle.rh_events.specs.ComingUp.{come_up, ready_come_up}
-use Rattle.rh_events.specs.Ending.{ended}
-use Rattle.rh_events.specs.Changes.{change}
-use Rattle.rh_step.specs.Ticks.{due_by, wanted_if_lost, effect, taken_off, fired, go_on, fired_by, all_fired, ticked}
-use Rattle.rh_step.specs.Outcomes.{outcome_of, followed, next_from, next}
+use Rattle.rh_rules.specs.declared.pick.Pick.{Pick}
+use Rattle.rh_rules.specs.Course.{Course, course_of, now_in}
+use Rattle.rh_rules.specs.NodesStart.{all_alive, come_up, ready_come_up}
+use Rattle.rh_rules.specs.Settling.{settled}
+use Rattle.rh_rules.specs.declared.event.Event.{Event}
+use Rattle.rh_rules.specs.declared.event.Event.TheVariants.{Boot, Crash, Tick, Start, Stop, Permit, Takeover, Exit, StartAll, StopAll}
+use Rattle.rh_rules.specs.NodesEnd.{ended, wanted_if_lost}
+use Rattle.rh_rules.specs.Steps.{change, outcome_of, followed, next_from, next}
+use Rattle.rh_rules.specs.Time.{due_by, effect, taken_off, fired, go_on, fired_by, all_fired, ticked}
 use Rattle.rh_text_laws.specs.Profiles.{state_in, gives_back, SameUnderProfiles}
 use Rattle.rh_text_laws.proofs.ProfileMoves.{swap, course_in, settled_alike}
 use Rattle.rh_text_laws.proofs.ProfileChanges.{refused_alike, comes_alike, rising_alike, ended_alike, change_alike}

@@ -27,19 +27,17 @@ use Rattle.rh_terms.specs.Tokens.{text_at}
 use Rattle.rh_cluster.specs.Sections.{permission_faults, as_truth, platform_faults, is_start, are_phases}
 use Rattle.rh_model.specs.ClusterView.{ClusterView, numbered}
 use Rattle.rh_model.specs.declared.settings.SyncWait.TheVariants.{Unset}
-use Rattle.rh_place.specs.declared.choosing.Pick.TheVariants.{First}
+use Rattle.rh_rules.specs.declared.pick.Pick.TheVariants.{First}
 use Rattle.rh_state.specs.Numbers.{nodes_of, apps_of}
 use Rattle.rh_state.specs.First.{configured}
-use Rattle.rh_settle.specs.Settling.{moved_by, all_moved}
-use Rattle.rh_settle.specs.Readiness.{all_alive, is_ready}
-use Rattle.rh_settle.specs.declared.notice.Notice.TheVariants.{Ended}
-use Rattle.rh_events.specs.declared.event.Event.TheVariants.{Boot, Crash}
-use Rattle.rh_events.specs.declared.refusal.Refusal.TheVariants.{NotAlive}
-use Rattle.rh_events.specs.Marking.{mark_all}
-use Rattle.rh_events.specs.ComingUp.{come_up, come_up_if_ready, ready_come_up}
-use Rattle.rh_events.specs.Changes.{booted}
-use Rattle.rh_events.specs.Refusals.{refused}
-use Rattle.rh_step.specs.Outcomes.{followed, next}
+use Rattle.rh_rules.specs.Settling.{moved_by, all_moved}
+use Rattle.rh_rules.specs.NodesStart.{all_alive, is_ready, come_up, come_up_if_ready, ready_come_up, booted}
+use Rattle.rh_rules.specs.declared.notice.Notice.TheVariants.{Ended}
+use Rattle.rh_rules.specs.declared.event.Event.TheVariants.{Boot, Crash}
+use Rattle.rh_rules.specs.declared.refusal.Refusal.TheVariants.{NotAlive}
+use Rattle.rh_rules.specs.Marking.{mark_all}
+use Rattle.rh_rules.specs.Refusals.{refused}
+use Rattle.rh_rules.specs.Steps.{followed, next}
 use Rattle.rh_trail.specs.Runs.{step}
 use Rattle.rh_script.specs.Lines.{content, script_lines}
 use Rattle.rh_script.specs.Forms.{verb_named}

@@ -1,27 +1,25 @@
 -- Worked rows: what the laws of plans ask is met, computed from the definitions.
 use Rattle.std.proofs.Common.{◌≡◌, [], ◌∷◌, Some, codes, refl, List, None, arith}
 use Rattle.rh_model.specs.ClusterView.{ClusterView, numbered}
-use Rattle.rh_place.specs.declared.choosing.Pick.TheVariants.{First}
+use Rattle.rh_rules.specs.declared.pick.Pick.TheVariants.{First}
 use Rattle.rh_state.specs.Numbers.{nodes_of, apps_of}
 use Rattle.rh_state.specs.First.{first, configured}
-use Rattle.rh_settle.specs.Settling.{moved_by, all_moved}
-use Rattle.rh_settle.specs.Readiness.{all_alive, is_ready}
-use Rattle.rh_settle.specs.declared.notice.Notice.TheVariants.{Up, Ended}
-use Rattle.rh_events.specs.declared.event.Event.TheVariants.{Boot, Crash}
-use Rattle.rh_events.specs.declared.refusal.Refusal.TheVariants.{NotAlive, TrailFull}
-use Rattle.rh_events.specs.Marking.{mark_all}
-use Rattle.rh_events.specs.ComingUp.{come_up, come_up_if_ready, ready_come_up}
-use Rattle.rh_events.specs.Changes.{booted}
-use Rattle.rh_events.specs.Ending.{cleared, lost_if_ran, all_lost, ended}
-use Rattle.rh_events.specs.Refusals.{refused}
-use Rattle.rh_step.specs.Outcomes.{followed, next}
+use Rattle.rh_rules.specs.Settling.{moved_by, all_moved}
+use Rattle.rh_rules.specs.NodesStart.{all_alive, is_ready, come_up, come_up_if_ready, ready_come_up, booted}
+use Rattle.rh_rules.specs.declared.notice.Notice.TheVariants.{Up, Ended}
+use Rattle.rh_rules.specs.declared.event.Event.TheVariants.{Boot, Crash}
+use Rattle.rh_rules.specs.declared.refusal.Refusal.TheVariants.{NotAlive, TrailFull}
+use Rattle.rh_rules.specs.Marking.{mark_all}
+use Rattle.rh_rules.specs.NodesEnd.{cleared, lost_if_ran, all_lost, ended}
+use Rattle.rh_rules.specs.Refusals.{refused}
+use Rattle.rh_rules.specs.Steps.{followed, next}
 use Rattle.rh_trail.specs.Runs.{step}
 use Rattle.rh_trail.specs.declared.call.Call.TheVariants as call
 use Rattle.rh_trail.specs.declared.call.Reply.TheVariants.{Done}
 use Rattle.rh_trail.specs.Lone.{opened, replies, sim_after}
 use Rattle.rh_sweep.specs.Outcomes.{steps, outcome_in}
 use Rattle.rh_trail.specs.SimView.{SimView}
-use Rattle.rh_events.specs.declared.event.Event.{Event}
+use Rattle.rh_rules.specs.declared.event.Event.{Event}
 use Rattle.rh_sweep.specs.Sweeping.{HasRoomFor}
 use Rattle.rh_text_laws.specs.Plans.{AnswersView, replies_of, events_answered}
 

@@ -9,22 +9,21 @@ use Rattle.rh_terms.specs.Tokens.{digits_at, integer_at, name_at}
 use Rattle.rh_terms.specs.Grammar.{terms_of, dotted, dot_at, inside, terms_up_to, some_terms, next_at, term_by, word_at}
 use Rattle.rh_cluster.specs.Shapes.{as_atom, as_tuple, as_int, as_pair, as_entry, as_profile}
 use Rattle.rh_cluster.specs.Profile.{profile_named}
-use Rattle.rh_place.specs.declared.choosing.Pick.TheVariants.{First}
+use Rattle.rh_rules.specs.declared.pick.Pick.TheVariants.{First}
 use Rattle.rh_state.specs.declared.status.Mode.TheVariants.{Up}
 use Rattle.rh_state.specs.declared.status.Standing.TheVariants.{Quiet, Running}
 use Rattle.rh_state.specs.StateView.{StateView}
 use Rattle.rh_state.specs.Numbers.{nodes_of, apps_of}
-use Rattle.rh_place.specs.Placing.{deps_run, is_operational, best, candidates}
-use Rattle.rh_settle.specs.declared.notice.Notice.TheVariants.{Started, Stopped}
-use Rattle.rh_settle.specs.Moves.{can_start, local_moves, placements, calls_away, takeovers, next_moves}
-use Rattle.rh_settle.specs.Settling.{moved_by, all_moved}
-use Rattle.rh_settle.specs.Readiness.{is_ready}
+use Rattle.rh_rules.specs.Placing.{deps_run, is_operational, best, candidates}
+use Rattle.rh_rules.specs.declared.notice.Notice.TheVariants.{Started, Stopped}
+use Rattle.rh_rules.specs.Moves.{can_start, local_moves, placements, calls_away, takeovers}
+use Rattle.rh_rules.specs.Settling.{next_moves, moved_by, all_moved}
+use Rattle.rh_rules.specs.NodesStart.{is_ready, come_up_if_ready, ready_come_up}
 use Rattle.rh_state.specs.declared.status.Kind.TheVariants as kind
-use Rattle.rh_events.specs.declared.event.Event.TheVariants.{Boot, Crash, Permit}
-use Rattle.rh_events.specs.ComingUp.{come_up_if_ready, ready_come_up}
-use Rattle.rh_events.specs.ByHand.{permitted}
+use Rattle.rh_rules.specs.declared.event.Event.TheVariants.{Boot, Crash, Permit}
+use Rattle.rh_rules.specs.ByHand.{permitted}
 use Rattle.rh_events.proofs.Scene.{p, q, job, aid, lab, scene}
-use Rattle.rh_step.specs.Outcomes.{followed, next}
+use Rattle.rh_rules.specs.Steps.{followed, next}
 use Rattle.rh_trail.specs.Lone.{opened}
 use Rattle.rh_trail.specs.declared.call.Call.TheVariants as call
 use Rattle.rh_model.specs.declared.settings.SyncWait.TheVariants.{After}

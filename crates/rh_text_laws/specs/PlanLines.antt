@@ -2,7 +2,7 @@
 use Rattle.std.specs.Prelude.{◌≡◌, ℕ, List, [], ◌∷◌, ◌++◌, Bool, true, false, Ok, All, codes}
 use Rattle.rh_model.specs.ClusterView.{ClusterView}
 use Rattle.rh_cluster.specs.ClusterOf.{cluster_of}
-use Rattle.rh_events.specs.declared.event.Event.{Event}
+use Rattle.rh_rules.specs.declared.event.Event.{Event}
 use Rattle.rh_script.specs.declared.sweep_lines.SweepLine.{SweepLine}
 use Rattle.rh_script.specs.declared.sweep_lines.SweepLine.TheVariants.{Begins, Plain}
 use Rattle.rh_script.specs.Lines.{cluster_text, script_lines}

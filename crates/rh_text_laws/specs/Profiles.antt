@@ -2,11 +2,11 @@
 use Rattle.std.specs.Prelude.{◌≡◌, ℕ, List, [], ◌∷◌, ◌&&◌, not, Bool, false, All}
 use Rattle.rh_model.specs.ClusterView.{ClusterView}
 use Rattle.rh_state.specs.StateView.{StateView, is_started, is_allowed}
-use Rattle.rh_place.specs.declared.choosing.Pick.{Pick}
-use Rattle.rh_events.specs.declared.event.Event.{Event}
-use Rattle.rh_events.specs.declared.event.Event.TheVariants.{Permit}
-use Rattle.rh_events.specs.Refusals.{refused}
-use Rattle.rh_step.specs.Outcomes.{next, outcome}
+use Rattle.rh_rules.specs.declared.pick.Pick.{Pick}
+use Rattle.rh_rules.specs.declared.event.Event.{Event}
+use Rattle.rh_rules.specs.declared.event.Event.TheVariants.{Permit}
+use Rattle.rh_rules.specs.Refusals.{refused}
+use Rattle.rh_rules.specs.Steps.{next, outcome}
 use Rattle.rh_trail.specs.declared.call.Call.{Call}
 use Rattle.rh_trail.specs.declared.call.Call.TheVariants as call
 use Rattle.rh_trail.specs.SimView.{SimView, state_of}

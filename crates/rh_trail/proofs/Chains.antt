@@ -8,8 +8,8 @@ use Rattle.std.proofs.lemmas.Bool.Decides.{leb_tells}
 use Rattle.rh_base.specs.Exchanges.{back, forth, backed, forthed, AllBack, AllForth}
 use Rattle.rh_base.proofs.Exchanges.{back-append, forth-back, back-forth, AllBack-append, AllBack-early, AllBack-late, back_turns, forth_turns, get_or-any, length-backed, length-forthed}
 use Rattle.rh_model.specs.ClusterView.{ClusterView, IsWithin}
-use Rattle.rh_events.specs.declared.event.Event.{Event}
-use Rattle.rh_place.specs.declared.choosing.Pick.{Pick}
+use Rattle.rh_rules.specs.declared.event.Event.{Event}
+use Rattle.rh_rules.specs.declared.pick.Pick.{Pick}
 use Rattle.rh_state.specs.declared.edit.Edit.{Edit}
 use Rattle.rh_state.specs.declared.edit.Edit.TheVariants.{Links, Timer, Part}
 use Rattle.rh_state.specs.declared.edit.Change.TheVariants.{Now, Mode, Incarnation, Allowed, Restart, Kind, Standing}

@@ -3,7 +3,7 @@ use denote.Param.Send.{IsSend, IsSync, sendable}
 use Rattle.std.proofs.Crossing.{crosses}
 use Rattle.rh_model.proofs.Crossing.{cluster_send, cluster_sync}
 use Rattle.rh_state.proofs.Crossing.{state_send, state_sync}
-use Rattle.rh_events.proofs.event.Event.TheSendSync as event
+use Rattle.rh_rules.proofs.event.Event.TheSendSync as event
 use Rattle.rh_trail.specs.contracts.sim.Sim as Sim
 
 pub sim_send : IsSend Sim.the_row

@@ -4,8 +4,8 @@ use Rattle.std.proofs.lemmas.List.{length-take-le, take_all, take-append-le, tak
 use Rattle.std.proofs.lemmas.List.Sums.{fold_push}
 use Rattle.std.proofs.lemmas.Bool.{cases_lt}
 use Rattle.rh_model.specs.ClusterView.{ClusterView, IsWithin}
-use Rattle.rh_events.specs.declared.event.Event.{Event}
-use Rattle.rh_place.specs.declared.choosing.Pick.{Pick}
+use Rattle.rh_rules.specs.declared.event.Event.{Event}
+use Rattle.rh_rules.specs.declared.pick.Pick.{Pick}
 use Rattle.rh_state.specs.First.{first}
 use Rattle.rh_state.specs.StateView.{StateView}
 use Rattle.rh_settle.specs.Validity.{IsValid}

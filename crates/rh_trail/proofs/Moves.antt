@@ -3,13 +3,13 @@ use Rattle.std.proofs.Common.{◌≡◌, ◌≢◌, ℕ, ◌+◌, ◌-◌, ◌<�
 use Rattle.std.proofs.Common.{None, refl, sym, ap, subst, ◌∙◌, arith}
 use Rattle.std.proofs.lemmas.Bool.Decides.{nat_tests}
 use Rattle.rh_model.specs.ClusterView.{ClusterView}
-use Rattle.rh_events.specs.declared.event.Event.{Event}
-use Rattle.rh_events.specs.declared.refusal.Refusal.TheVariants.{TrailFull}
-use Rattle.rh_events.specs.Refusals.{refused}
-use Rattle.rh_place.specs.declared.choosing.Pick.{Pick}
-use Rattle.rh_settle.specs.declared.notice.Notice.{Notice}
+use Rattle.rh_rules.specs.declared.event.Event.{Event}
+use Rattle.rh_rules.specs.declared.refusal.Refusal.TheVariants.{TrailFull}
+use Rattle.rh_rules.specs.Refusals.{refused}
+use Rattle.rh_rules.specs.declared.pick.Pick.{Pick}
+use Rattle.rh_rules.specs.declared.notice.Notice.{Notice}
 use Rattle.rh_step.specs.Counts.{most_edits}
-use Rattle.rh_step.specs.Outcomes.{next}
+use Rattle.rh_rules.specs.Steps.{next}
 use Rattle.rh_trail.specs.declared.call.Call.TheVariants as call
 use Rattle.rh_trail.specs.declared.call.Reply.TheVariants as reply
 use Rattle.rh_state.specs.declared.edit.Edit.{Edit}

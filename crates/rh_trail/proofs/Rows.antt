@@ -3,10 +3,10 @@ use Rattle.std.proofs.Common.{◌≡◌, true, false, [], ◌∷◌, Some, None,
 use Rattle.std.specs.Fmt.{digits}
 use Rattle.rh_model.specs.ClusterView.{ClusterView, numbered, app_numbered}
 use Rattle.rh_model.specs.declared.settings.Restart.TheVariants.{Permanent, Transient, Temporary}
-use Rattle.rh_events.specs.declared.event.Event.TheVariants.{Boot, Crash}
-use Rattle.rh_settle.specs.declared.notice.Notice.TheVariants.{Up, Ended}
-use Rattle.rh_place.specs.declared.choosing.Pick.TheVariants.{First}
-use Rattle.rh_events.specs.declared.refusal.Refusal.TheVariants.{UnknownNode, AlreadyAlive, IncarnationLimit, NotAlive, TrailFull}
+use Rattle.rh_rules.specs.declared.event.Event.TheVariants.{Boot, Crash}
+use Rattle.rh_rules.specs.declared.notice.Notice.TheVariants.{Up, Ended}
+use Rattle.rh_rules.specs.declared.pick.Pick.TheVariants.{First}
+use Rattle.rh_rules.specs.declared.refusal.Refusal.TheVariants.{UnknownNode, AlreadyAlive, IncarnationLimit, NotAlive, TrailFull}
 use Rattle.rh_trail.specs.declared.call.Call.TheVariants.{Step, Undo, Redo, UndoAll, RedoAll, Look}
 use Rattle.rh_trail.specs.declared.call.Reply.TheVariants.{Done, Refused, Undone, Redone, AtStart, AtEnd, Moved, Seen}
 use Rattle.rh_state.specs.declared.status.Mode.TheVariants as mode
@@ -14,16 +14,14 @@ use Rattle.rh_state.specs.declared.status.Kind.TheVariants.{Normal, Failover}
 use Rattle.rh_state.specs.declared.status.Standing.TheVariants.{Quiet, Running, Lost}
 use Rattle.rh_state.specs.declared.status.Timer.TheVariants as timer
 use Rattle.rh_state.specs.StateView.{StateView}
-use Rattle.rh_events.specs.Refusals.{refused}
+use Rattle.rh_rules.specs.Refusals.{refused}
 use Rattle.rh_state.specs.Numbers.{nodes_of, apps_of}
 use Rattle.rh_state.specs.First.{first, configured}
-use Rattle.rh_settle.specs.Settling.{moved_by, all_moved}
-use Rattle.rh_settle.specs.Readiness.{all_alive, is_ready}
-use Rattle.rh_events.specs.Marking.{mark_all}
-use Rattle.rh_events.specs.ComingUp.{come_up, come_up_if_ready, ready_come_up}
-use Rattle.rh_events.specs.Changes.{booted}
-use Rattle.rh_events.specs.Ending.{cleared, lost_if_ran, all_lost, ended}
-use Rattle.rh_step.specs.Outcomes.{followed, next}
+use Rattle.rh_rules.specs.Settling.{moved_by, all_moved}
+use Rattle.rh_rules.specs.NodesStart.{all_alive, is_ready, come_up, come_up_if_ready, ready_come_up, booted}
+use Rattle.rh_rules.specs.Marking.{mark_all}
+use Rattle.rh_rules.specs.NodesEnd.{cleared, lost_if_ran, all_lost, ended}
+use Rattle.rh_rules.specs.Steps.{followed, next}
 use Rattle.rh_trail.specs.Runs.{step}
 use Rattle.rh_trail.specs.Report.{report_text, node_line, running_line, waiting_line, forbidden_line, line_if_forbidden}
 use Rattle.rh_trail.specs.Report.{standing_line, app_line, timer_line, node_lines}

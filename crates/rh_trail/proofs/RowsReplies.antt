@@ -1,24 +1,22 @@
 -- Worked rows: what a caller is told by calls that go back and forth, and by steps at the end of a trail's room.
 use Rattle.std.proofs.Common.{◌≡◌, ℕ, List, [], ◌∷◌, codes, map, refl}
 use Rattle.rh_model.specs.ClusterView.{ClusterView, numbered}
-use Rattle.rh_events.specs.declared.event.Event.{Event}
-use Rattle.rh_events.specs.declared.event.Event.TheVariants.{Boot, Crash, Tick}
-use Rattle.rh_settle.specs.declared.notice.Notice.TheVariants.{Up}
-use Rattle.rh_place.specs.declared.choosing.Pick.TheVariants.{First}
-use Rattle.rh_events.specs.declared.refusal.Refusal.TheVariants.{UnknownNode, NotAlive, ZeroTick, TimeLimit, TrailFull}
+use Rattle.rh_rules.specs.declared.event.Event.{Event}
+use Rattle.rh_rules.specs.declared.event.Event.TheVariants.{Boot, Crash, Tick}
+use Rattle.rh_rules.specs.declared.notice.Notice.TheVariants.{Up}
+use Rattle.rh_rules.specs.declared.pick.Pick.TheVariants.{First}
+use Rattle.rh_rules.specs.declared.refusal.Refusal.TheVariants.{UnknownNode, NotAlive, ZeroTick, TimeLimit, TrailFull}
 use Rattle.rh_trail.specs.declared.call.Call.TheVariants.{Step, Undo, Redo, UndoAll, RedoAll}
 use Rattle.rh_trail.specs.declared.call.Reply.{Reply}
 use Rattle.rh_trail.specs.declared.call.Reply.TheVariants.{Done, Refused, Undone, Redone, AtStart, AtEnd, Moved}
 use Rattle.rh_state.specs.Numbers.{nodes_of, apps_of}
 use Rattle.rh_state.specs.First.{configured}
-use Rattle.rh_settle.specs.Settling.{moved_by, all_moved}
-use Rattle.rh_settle.specs.Readiness.{all_alive, is_ready}
-use Rattle.rh_events.specs.Refusals.{refused}
-use Rattle.rh_events.specs.Marking.{mark_all}
-use Rattle.rh_events.specs.ComingUp.{come_up, come_up_if_ready, ready_come_up}
-use Rattle.rh_events.specs.Changes.{booted}
-use Rattle.rh_events.specs.Ending.{cleared, lost_if_ran, all_lost, ended}
-use Rattle.rh_step.specs.Outcomes.{followed, next}
+use Rattle.rh_rules.specs.Settling.{moved_by, all_moved}
+use Rattle.rh_rules.specs.NodesStart.{all_alive, is_ready, come_up, come_up_if_ready, ready_come_up, booted}
+use Rattle.rh_rules.specs.Refusals.{refused}
+use Rattle.rh_rules.specs.Marking.{mark_all}
+use Rattle.rh_rules.specs.NodesEnd.{cleared, lost_if_ran, all_lost, ended}
+use Rattle.rh_rules.specs.Steps.{followed, next}
 use Rattle.rh_trail.specs.Runs.{step}
 use Rattle.rh_trail.specs.SimView.{SimView}
 use Rattle.rh_trail.specs.Lone.{opened, cut, replies, served, trail_limit}

@@ -5,11 +5,11 @@ use Rattle.std.proofs.lemmas.Grind.{get_or-set_at}
 use Rattle.std.proofs.lemmas.List.{length-take-le, length_push, take-append-le, take-take, take_all, get_or-set_other, get_or_append_left, get_or-take, get_or_push}
 use Rattle.std.proofs.lemmas.Option.{slice_get_within, slice_get-get_or, get_or_from_slice_get}
 use Rattle.rh_model.specs.ClusterView.{ClusterView}
-use Rattle.rh_events.specs.declared.event.Event.{Event}
-use Rattle.rh_place.specs.declared.choosing.Pick.{Pick}
+use Rattle.rh_rules.specs.declared.event.Event.{Event}
+use Rattle.rh_rules.specs.declared.pick.Pick.{Pick}
 use Rattle.rh_state.specs.declared.edit.Edit.{Edit}
 use Rattle.rh_step.specs.Counts.{most_edits}
-use Rattle.rh_step.specs.Outcomes.{next}
+use Rattle.rh_rules.specs.Steps.{next}
 use Rattle.rh_trail.specs.Runs.{after}
 
 -- so many edits at most, for an event that comes behind these

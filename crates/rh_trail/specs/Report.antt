@@ -17,7 +17,7 @@ use Rattle.rh_state.specs.declared.status.Timer.{Timer}
 use Rattle.rh_state.specs.declared.status.Timer.TheVariants as timer
 use Rattle.rh_state.specs.Numbers.{nodes_of, apps_of}
 use Rattle.rh_state.specs.StateView.{StateView, mode_of, incarnation_of, running_at, waiting_at, restart_of, kind_of, is_allowed, standing_of}
-use Rattle.rh_settle.specs.Moves.{is_local}
+use Rattle.rh_rules.specs.Course.{is_local}
 
 -- what is shown for a name that is missing
 abbrev pub no_name : List ℕ

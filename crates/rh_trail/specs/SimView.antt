@@ -1,8 +1,8 @@
 -- What callers see of a simulation: the trail of its accepted events, and a cursor in it (ours).
 use Rattle.std.specs.Prelude.{ℕ, List, [], take, slice_index_or}
 use Rattle.rh_model.specs.ClusterView.{ClusterView}
-use Rattle.rh_events.specs.declared.event.Event.{Event}
-use Rattle.rh_place.specs.declared.choosing.Pick.{Pick}
+use Rattle.rh_rules.specs.declared.event.Event.{Event}
+use Rattle.rh_rules.specs.declared.pick.Pick.{Pick}
 use Rattle.rh_state.specs.StateView.{StateView}
 use Rattle.rh_state.specs.Stored.{Stored}
 use Rattle.rh_state.specs.declared.edit.Edit.{Edit}

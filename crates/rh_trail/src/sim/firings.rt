@@ -1,8 +1,8 @@
 //! What fires in a tick of a simulation.
 
 ghost use Rattle.std.specs.Prelude.{◌≡◌, IfOk, None};
-ghost use Rattle.rh_events.specs.declared.event.Event.TheVariants.{Tick};
-ghost use Rattle.rh_events.specs.Refusals.{refused};
+ghost use Rattle.rh_rules.specs.declared.event.Event.TheVariants.{Tick};
+ghost use Rattle.rh_rules.specs.Refusals.{refused};
 ghost use Rattle.rh_step.specs.Firings.{firings};
 ghost use Rattle.rh_trail.specs.SimView.{state_of};
 

@@ -2,13 +2,13 @@
 
 ghost use Rattle.std.specs.Prelude.{◌≡◌, ◌≢◌, ◌<◌, ◌≤◌, ◌+◌, ◌-◌, ◌++◌, ◌∷◌, [], ℕ, List, length, take, drop, slice_set, true, false, Err, IfOk, IfErr, OnOk, OnErr, None};
 ghost use Rattle.rh_base.specs.Exchanges.{back, backed, forth, forthed, AllBack};
-ghost use Rattle.rh_settle.specs.declared.notice.Notice.{Notice};
+ghost use Rattle.rh_rules.specs.declared.notice.Notice.{Notice};
 ghost use Rattle.rh_state.specs.Edits.{exchange, turned};
 ghost use Rattle.rh_state.specs.Records.{CanGoBack, LedBy};
 ghost use Rattle.rh_state.specs.Stored.{read};
-ghost use Rattle.rh_events.specs.Refusals.{refused};
+ghost use Rattle.rh_rules.specs.Refusals.{refused};
 ghost use Rattle.rh_step.specs.Counts.{most_edits};
-ghost use Rattle.rh_step.specs.Outcomes.{next};
+ghost use Rattle.rh_rules.specs.Steps.{next};
 ghost use Rattle.rh_settle.specs.Validity.{IsValid};
 ghost use Rattle.rh_trail.specs.Chain.{IsSmall, chain, kept_to};
 ghost use Rattle.rh_trail.specs.Laws.{is_refusal};

@@ -1,7 +1,7 @@
 //! What a step's notices are told as.
 
 ghost use Rattle.std.specs.Prelude.{◌≡◌, List, IfOk};
-ghost use Rattle.rh_settle.specs.declared.notice.Notice.{Notice};
+ghost use Rattle.rh_rules.specs.declared.notice.Notice.{Notice};
 ghost use Rattle.rh_trail.specs.declared.call.Reply.TheVariants as reply;
 
 use crate::call::Reply;

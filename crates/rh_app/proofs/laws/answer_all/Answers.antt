@@ -1,6 +1,6 @@
 use Rattle.std.proofs.Common.{◌≡◌, ◌≤◌, ◌+◌, ◌++◌, ◌∷◌, [], take, get_or, sym, ap, subst, ◌∙◌, arith}
 use Rattle.std.proofs.lemmas.List.{take_all, take_more}
-use Rattle.rh_events.specs.declared.event.Event.TheVariants.{Boot}
+use Rattle.rh_rules.specs.declared.event.Event.TheVariants.{Boot}
 use Rattle.rh_model.specs.ClusterView.{numbered}
 use Rattle.rh_trail.specs.declared.call.Call.{Call}
 use Rattle.rh_trail.specs.declared.call.Call.TheVariants.{Step}

@@ -1,6 +1,6 @@
 use Rattle.std.proofs.Common.{get_or, Ok, subst, ◌∙◌, arith}
 use Rattle.std.proofs.lemmas.Result.{err_from_is_err_and}
-use Rattle.rh_events.specs.declared.event.Event.TheVariants.{Boot}
+use Rattle.rh_rules.specs.declared.event.Event.TheVariants.{Boot}
 use Rattle.rh_model.specs.ClusterView.{ClusterView, numbered}
 use Rattle.rh_trail.specs.declared.call.Call.TheVariants.{Step}
 use Rattle.rh_trail.specs.Lone.{served}

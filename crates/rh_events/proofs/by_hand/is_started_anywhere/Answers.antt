@@ -3,7 +3,7 @@ use Rattle.rh_model.specs.ClusterView.{ClusterView, node_count, numbered}
 use Rattle.rh_state.specs.Numbers.{nodes_of}
 use Rattle.rh_state.specs.StateView.{is_started}
 use Rattle.rh_state.specs.Stored.{read}
-use Rattle.rh_events.specs.ByHand.{is_started_anywhere}
+use Rattle.rh_rules.specs.ByHand.{is_started_anywhere}
 use Rattle.rh_events.proofs.Anywhere.{any_at, none_more}
 use Rattle.rh_events.proofs.by_hand.is_started_anywhere.Goals as goal
 

@@ -2,10 +2,11 @@ use Rattle.std.proofs.Common.{List, length, sym, ap, ◌∙◌, arith}
 use Rattle.rh_model.specs.ClusterView.{ClusterView, boot_of}
 use Rattle.rh_model.specs.declared.node.App.{App}
 use Rattle.rh_model.specs.declared.settings.Restart.{Restart}
-use Rattle.rh_settle.specs.declared.notice.Notice.{Notice}
-use Rattle.rh_settle.specs.declared.notice.Notice.TheVariants.{Up}
+use Rattle.rh_rules.specs.declared.notice.Notice.{Notice}
+use Rattle.rh_rules.specs.declared.notice.Notice.TheVariants.{Up}
 use Rattle.rh_state.specs.Stored.{read}
-use Rattle.rh_settle.specs.Course.{Course, TraceView, course}
+use Rattle.rh_rules.specs.Course.{Course}
+use Rattle.rh_settle.specs.Traces.{TraceView, course}
 use Rattle.rh_settle.proofs.Ways.{goes_told, goes_more, goes_cluster}
 use Rattle.rh_events.proofs.Counts.{told_once, mark_all_tells, on_ok_two}
 use Rattle.rh_events.proofs.coming_up.come_up.Goals as goal

@@ -6,10 +6,10 @@ use Rattle.rh_state.specs.declared.status.Standing.TheVariants.{Running}
 use Rattle.rh_state.specs.declared.status.Timer.TheVariants.{Failover}
 use Rattle.rh_state.specs.StateView.{StateView, standing_of, due_of}
 use Rattle.rh_state.specs.Stored.{read}
-use Rattle.rh_events.specs.Ending.{cleared}
-use Rattle.rh_settle.specs.declared.notice.Notice.{Notice}
-use Rattle.rh_settle.specs.declared.notice.Notice.TheVariants.{Ended}
-use Rattle.rh_settle.specs.Course.{TraceView}
+use Rattle.rh_rules.specs.NodesEnd.{cleared}
+use Rattle.rh_rules.specs.declared.notice.Notice.{Notice}
+use Rattle.rh_rules.specs.declared.notice.Notice.TheVariants.{Ended}
+use Rattle.rh_settle.specs.Traces.{TraceView}
 use Rattle.rh_settle.proofs.Ways.{goes_cluster}
 use Rattle.rh_events.proofs.Counts.{told_once}
 use Rattle.rh_events.proofs.Losing.{unset_cleared}

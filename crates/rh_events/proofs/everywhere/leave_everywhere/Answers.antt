@@ -1,9 +1,10 @@
 use Rattle.std.proofs.Common.{ap, sym, ◌∙◌, arith}
 use Rattle.rh_model.specs.ClusterView.{ClusterView, node_count, numbered}
 use Rattle.rh_state.specs.Stored.{read}
-use Rattle.rh_settle.specs.Course.{Course, course}
+use Rattle.rh_rules.specs.Course.{Course}
+use Rattle.rh_settle.specs.Traces.{course}
 use Rattle.rh_settle.proofs.Ways.{goes_more}
-use Rattle.rh_events.specs.Everywhere.{leave_at}
+use Rattle.rh_rules.specs.Everywhere.{leave_at}
 use Rattle.rh_events.proofs.StoppingAll.{left_more, leave_cluster}
 use Rattle.rh_events.proofs.everywhere.leave_everywhere.Goals as goal
 

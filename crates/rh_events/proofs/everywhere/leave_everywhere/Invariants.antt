@@ -1,6 +1,6 @@
 use Rattle.std.proofs.Common.{◌≡◌}
 use Rattle.rh_state.specs.Stored.{read}
-use Rattle.rh_settle.specs.Course.{course}
+use Rattle.rh_settle.specs.Traces.{course}
 use Rattle.rh_settle.specs.Counts.{FewEdits}
 use Rattle.rh_settle.specs.Ways.{Goes}
 use Rattle.rh_events.proofs.StoppingAll.{left_below}

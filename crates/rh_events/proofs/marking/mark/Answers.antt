@@ -1,5 +1,5 @@
 use Rattle.std.proofs.Common.{ap}
-use Rattle.rh_settle.specs.Course.{TraceView}
+use Rattle.rh_settle.specs.Traces.{TraceView}
 use Rattle.rh_settle.proofs.Ways.{goes_marked, goes_more}
 use Rattle.rh_events.proofs.marking.mark.Goals as goal
 

@@ -1,6 +1,6 @@
 use Rattle.std.proofs.Common.{sym, ap, ◌∙◌, cond, not, Bool, Some, None, inl, inr}
 use Rattle.rh_state.specs.Stored.{read}
-use Rattle.rh_events.specs.declared.refusal.Refusal.TheVariants.{NotRunningHere}
+use Rattle.rh_rules.specs.declared.refusal.Refusal.TheVariants.{NotRunningHere}
 use Rattle.rh_events.proofs.RefusedByHand.{exit_some, exit_none, runs_there, doesnt_run}
 use Rattle.rh_events.proofs.refusing.exit_refusal.Goals as goal
 

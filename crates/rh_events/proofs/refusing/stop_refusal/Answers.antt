@@ -1,6 +1,6 @@
 use Rattle.std.proofs.Common.{sym, ap, ◌∙◌, cond, not, Bool, Some, None, inl, inr}
 use Rattle.rh_state.specs.Stored.{read}
-use Rattle.rh_events.specs.declared.refusal.Refusal.TheVariants.{NeverStarted}
+use Rattle.rh_rules.specs.declared.refusal.Refusal.TheVariants.{NeverStarted}
 use Rattle.rh_events.proofs.RefusedByHand.{stop_some, stop_none, off_unstarted, on_started}
 use Rattle.rh_events.proofs.refusing.stop_refusal.Goals as goal
 

@@ -2,7 +2,7 @@ use Rattle.std.proofs.Common.{sym, ap, ◌∙◌, arith}
 use Rattle.rh_model.specs.ClusterView.{ClusterView, node_count, numbered}
 use Rattle.rh_state.specs.Numbers.{nodes_of}
 use Rattle.rh_state.specs.Stored.{read}
-use Rattle.rh_events.specs.Everywhere.{is_host, has_host}
+use Rattle.rh_rules.specs.Everywhere.{is_host, has_host}
 use Rattle.rh_events.proofs.Anywhere.{any_at, none_more}
 use Rattle.rh_events.proofs.targets.has_host.Goals as goal
 

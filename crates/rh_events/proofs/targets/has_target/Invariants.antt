@@ -2,7 +2,7 @@ use Rattle.std.proofs.Common.{◌≡◌, false, map}
 use Rattle.std.specs.List.{list_any, range_with_len}
 use Rattle.rh_model.specs.ClusterView.{numbered}
 use Rattle.rh_state.specs.Stored.{read}
-use Rattle.rh_events.specs.Everywhere.{is_target}
+use Rattle.rh_rules.specs.Everywhere.{is_target}
 use Rattle.rh_events.proofs.targets.has_target.Given as goal
 
 abbrev pub invariant-nodes : goal.invariant-nodes

@@ -4,8 +4,7 @@ use Rattle.rh_model.specs.declared.node.Node.{Node}
 use Rattle.rh_state.specs.StateView.{running_count}
 use Rattle.rh_state.specs.Stored.{read}
 use Rattle.rh_base.specs.Lists.{lightest}
-use Rattle.rh_place.specs.Picks.{picked}
-use Rattle.rh_place.specs.Placing.{best}
+use Rattle.rh_rules.specs.Placing.{picked, best}
 use Rattle.rh_place.specs.Sets.{has}
 use Rattle.rh_place.proofs.Nowhere.{none_chosen}
 use Rattle.rh_place.proofs.choosing.best.Goals as goal

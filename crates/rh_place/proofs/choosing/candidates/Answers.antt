@@ -5,7 +5,7 @@ use Rattle.rh_model.specs.ClusterView.{is_in}
 use Rattle.rh_state.specs.StateView.{running_count}
 use Rattle.rh_state.specs.Stored.{read}
 use Rattle.rh_base.specs.Lists.{lightest}
-use Rattle.rh_place.specs.Placing.{best, candidates}
+use Rattle.rh_rules.specs.Placing.{best, candidates}
 use Rattle.rh_place.specs.Sets.{has}
 use Rattle.rh_place.proofs.choosing.candidates.Goals as goal
 

@@ -1,7 +1,6 @@
 use Rattle.std.proofs.Common.{◌≡◌, ◌∙◌}
 use Rattle.rh_state.specs.Stored.{read}
-use Rattle.rh_place.specs.Picks.{picked}
-use Rattle.rh_place.specs.Placing.{best, candidates, is_operational}
+use Rattle.rh_rules.specs.Placing.{picked, best, candidates, is_operational}
 use Rattle.rh_place.proofs.Nowhere.{none_chosen}
 use Rattle.rh_place.proofs.choosing.choose.Goals as goal
 

@@ -5,7 +5,7 @@ use Rattle.rh_model.specs.declared.settings.Spread.{Spread}
 use Rattle.rh_model.specs.ClusterView.{ClusterView}
 use Rattle.rh_place.specs.Sets.{has}
 use Rattle.rh_base.specs.Lists.{first_given}
-use Rattle.rh_place.specs.Placing.{groups_of}
+use Rattle.rh_rules.specs.Placing.{groups_of}
 use Rattle.rh_base.proofs.Lists.{first_meeting, none_meets}
 use Rattle.rh_place.proofs.choosing.first_group.Goals as goal
 

@@ -7,7 +7,7 @@ use Rattle.rh_state.specs.StateView.{running_count}
 use Rattle.rh_state.specs.Shape.{IsNodeOf}
 use Rattle.rh_state.specs.Stored.{read}
 use Rattle.rh_place.specs.Sets.{has}
-use Rattle.rh_place.specs.Picks.{picked}
+use Rattle.rh_rules.specs.Placing.{picked}
 use Rattle.rh_base.proofs.Lists.{both_more}
 use Rattle.rh_place.proofs.Picks.{picked_push, picked_All}
 use Rattle.rh_place.proofs.choosing.one_of_lightest.Goals as goal

@@ -4,7 +4,7 @@ use Rattle.rh_model.specs.declared.node.Node.{Node}
 use Rattle.rh_state.specs.StateView.{running_count}
 use Rattle.rh_state.specs.Stored.{read}
 use Rattle.rh_place.specs.Sets.{has}
-use Rattle.rh_place.specs.Picks.{picked}
+use Rattle.rh_rules.specs.Placing.{picked}
 use Rattle.rh_place.proofs.choosing.one_of_lightest.Given as goal
 
 abbrev pub invariant-nodes : goal.invariant-nodes

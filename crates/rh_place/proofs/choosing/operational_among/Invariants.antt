@@ -1,7 +1,7 @@
 use Rattle.std.proofs.Common.{◌≡◌, ◌<◌, ◌≤◌, ◌&&◌, false}
 use Rattle.rh_model.specs.declared.node.Node.{Node}
 use Rattle.rh_state.specs.Stored.{read}
-use Rattle.rh_place.specs.Placing.{is_operational}
+use Rattle.rh_rules.specs.Placing.{is_operational}
 use Rattle.rh_place.specs.Sets.{has}
 use Rattle.rh_place.proofs.choosing.operational_among.Given as goal
 

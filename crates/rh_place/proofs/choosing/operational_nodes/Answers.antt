@@ -1,7 +1,7 @@
 use Rattle.std.proofs.Common.{◌≡◌, ◌&&◌, Bool, sym, ap, ◌∙◌, arith, false, true, length, refl, nat_lt}
 use Rattle.rh_model.specs.ClusterView.{ClusterView, node_count}
 use Rattle.rh_state.specs.Stored.{read}
-use Rattle.rh_place.specs.Placing.{is_operational}
+use Rattle.rh_rules.specs.Placing.{is_operational}
 use Rattle.rh_place.specs.Sets.{has}
 use Rattle.rh_place.specs.declared.node_set.TheConstants.NodeSet.{LIMIT}
 use Rattle.rh_base.proofs.Lists.{cases}

@@ -1,7 +1,7 @@
 use Rattle.std.proofs.Common.{◌≡◌, drop, find, not}
 use Rattle.rh_model.specs.declared.settings.Dep.{Dep}
 use Rattle.rh_state.specs.Stored.{read}
-use Rattle.rh_place.specs.Placing.{dep_runs}
+use Rattle.rh_rules.specs.Placing.{dep_runs}
 use Rattle.rh_place.proofs.operating.missing_dep.Given as goal
 
 abbrev pub invariant-deps : goal.invariant-deps

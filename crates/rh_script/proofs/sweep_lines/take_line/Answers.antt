@@ -1,6 +1,6 @@
 use Rattle.std.proofs.Common.{[], ◌∷◌, ◌++◌, List, map, ap, sym, ◌∙◌}
 use Rattle.std.proofs.lemmas.List.{map_push}
-use Rattle.rh_events.specs.declared.event.Event.{Event}
+use Rattle.rh_rules.specs.declared.event.Event.{Event}
 use Rattle.rh_plans.specs.declared.plan.Plan.{Plan}
 use Rattle.rh_script.specs.declared.sweep_lines.SweepLine.TheVariants as asks
 use Rattle.rh_script.specs.SweepLines.{PlanText, plan_text}

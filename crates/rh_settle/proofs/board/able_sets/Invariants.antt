@@ -2,7 +2,7 @@ use Rattle.std.proofs.Common.{◌≡◌, ◌<◌, true}
 use Rattle.rh_model.specs.declared.node.App.{App}
 use Rattle.rh_model.specs.declared.node.Node.{Node}
 use Rattle.rh_state.specs.Stored.{read}
-use Rattle.rh_place.specs.Placing.{is_operational}
+use Rattle.rh_rules.specs.Placing.{is_operational}
 use Rattle.rh_settle.specs.Boards.{is_among, matters}
 use Rattle.rh_settle.proofs.board.able_sets.Given as goal
 

@@ -4,7 +4,7 @@ use Rattle.rh_model.specs.declared.node.App.{App}
 use Rattle.rh_model.specs.declared.node.Node.{Node}
 use Rattle.rh_place.specs.declared.node_set.TheConstants.NodeSet.{LIMIT}
 use Rattle.rh_settle.specs.Boards.{is_among}
-use Rattle.rh_settle.specs.Course.{is_fresh}
+use Rattle.rh_rules.specs.Course.{is_fresh}
 use Rattle.rh_settle.proofs.board.add_fresh.Given as goal
 
 abbrev pub invariant-pairs : goal.invariant-pairs

@@ -4,9 +4,9 @@ use Rattle.rh_model.specs.ClusterView.{ClusterView, node_count, numbered}
 use Rattle.rh_state.specs.Stored.{read}
 use Rattle.rh_base.specs.Lists.{head}
 use Rattle.rh_base.proofs.Lists.{cases}
-use Rattle.rh_place.specs.declared.choosing.Pick.TheVariants.{First}
+use Rattle.rh_rules.specs.declared.pick.Pick.TheVariants.{First}
 use Rattle.rh_place.specs.Sets.{has}
-use Rattle.rh_settle.specs.Moves.{local_moves}
+use Rattle.rh_rules.specs.Moves.{local_moves}
 use Rattle.rh_settle.proofs.Boards.{local_beyond}
 use Rattle.rh_settle.proofs.Entries.{is_below, is_above}
 use Rattle.rh_settle.proofs.board.local_nodes.Goals as goal

@@ -3,7 +3,7 @@ use Rattle.rh_model.specs.declared.node.Node.{Node}
 use Rattle.rh_state.specs.Stored.{read}
 use Rattle.rh_base.specs.Lists.{head}
 use Rattle.rh_place.specs.Sets.{has}
-use Rattle.rh_settle.specs.Moves.{local_moves}
+use Rattle.rh_rules.specs.Moves.{local_moves}
 use Rattle.rh_settle.proofs.board.local_nodes.Given as goal
 
 abbrev pub invariant-nodes : goal.invariant-nodes

@@ -1,8 +1,8 @@
 use Rattle.std.proofs.Common.{sym, ap, ◌∙◌}
 use Rattle.std.proofs.lemmas.Result.{on_ok_weaker}
 use Rattle.rh_state.specs.Stored.{read}
-use Rattle.rh_settle.specs.Course.{course}
-use Rattle.rh_settle.specs.Moves.{moved}
+use Rattle.rh_settle.specs.Traces.{course}
+use Rattle.rh_rules.specs.Moves.{moved}
 use Rattle.rh_settle.proofs.make.make_move.Goals as goal
 
 pub returns-in-Local-clause-course : goal.returns-in-Local-clause-course

@@ -1,5 +1,5 @@
 use Rattle.std.proofs.Common.{ap}
-use Rattle.rh_settle.specs.Course.{TraceView}
+use Rattle.rh_settle.specs.Traces.{TraceView}
 use Rattle.rh_settle.proofs.Ways.{goes_told, goes_more}
 use Rattle.rh_settle.proofs.make.place.Goals as goal
 

@@ -3,7 +3,7 @@ use Rattle.rh_model.specs.declared.node.Node.{Node}
 use Rattle.rh_model.specs.ClusterView.{node_count, group_of}
 use Rattle.rh_state.specs.Stored.{read}
 use Rattle.rh_place.specs.Sets.{has}
-use Rattle.rh_settle.specs.Moves.{comes_before}
+use Rattle.rh_rules.specs.Moves.{comes_before}
 use Rattle.rh_settle.proofs.Members.{members}
 use Rattle.rh_settle.proofs.search.earlier.Given as goal
 

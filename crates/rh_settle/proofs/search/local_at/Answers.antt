@@ -4,13 +4,13 @@ use Rattle.rh_model.specs.declared.node.App.{App}
 use Rattle.rh_state.specs.Lists.{has_app, next_app}
 use Rattle.rh_state.specs.StateView.{StateView, waiting_at}
 use Rattle.rh_state.specs.Stored.{read}
-use Rattle.rh_place.specs.declared.choosing.Pick.{Pick}
-use Rattle.rh_place.specs.declared.choosing.Pick.TheVariants.{First, Last}
-use Rattle.rh_place.specs.Picks.{picked}
+use Rattle.rh_rules.specs.declared.pick.Pick.{Pick}
+use Rattle.rh_rules.specs.declared.pick.Pick.TheVariants.{First, Last}
+use Rattle.rh_rules.specs.Placing.{picked}
 use Rattle.rh_base.specs.Lists.{first_given}
-use Rattle.rh_settle.specs.declared.notice.Move.{Move}
-use Rattle.rh_settle.specs.declared.notice.Move.TheVariants.{Local}
-use Rattle.rh_settle.specs.Moves.{can_start, local_move, local_moves}
+use Rattle.rh_rules.specs.declared.notice.Move.{Move}
+use Rattle.rh_rules.specs.declared.notice.Move.TheVariants.{Local}
+use Rattle.rh_rules.specs.Moves.{can_start, local_move, local_moves}
 use Rattle.rh_settle.proofs.Searches.{none_of_none}
 use Rattle.rh_settle.proofs.ListWalks.{once_of, left_of, all_left, first_is_next, next_is_next, found_on_walk, later_on_walk, end_of_walk, shorter_walk}
 use Rattle.rh_settle.proofs.ListWalks.{is_in_list, behind_waiting}

@@ -4,7 +4,7 @@ use Rattle.rh_state.specs.Shape.{IsAppOf}
 use Rattle.rh_state.specs.StateView.{waiting_at}
 use Rattle.rh_state.specs.Stored.{read}
 use Rattle.rh_base.specs.Lists.{first_given}
-use Rattle.rh_settle.specs.Moves.{local_move}
+use Rattle.rh_rules.specs.Moves.{local_move}
 use Rattle.rh_settle.proofs.ListWalks.{left_of}
 use Rattle.rh_settle.proofs.search.local_at.Given as goal
 

@@ -1,7 +1,7 @@
 use Rattle.std.proofs.Common.{ap, sym, ◌∙◌, refl}
 use Rattle.rh_state.specs.Stored.{read}
-use Rattle.rh_place.specs.Picks.{picked}
-use Rattle.rh_settle.specs.Moves.{local_moves}
+use Rattle.rh_rules.specs.Placing.{picked}
+use Rattle.rh_rules.specs.Moves.{local_moves}
 use Rattle.rh_settle.proofs.Boards.{given_node, given_nowhere, local_within, no_head}
 use Rattle.rh_settle.proofs.Searches.{none_of_none}
 use Rattle.rh_settle.proofs.search.next_local.Goals as goal

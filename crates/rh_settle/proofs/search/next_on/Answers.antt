@@ -1,8 +1,9 @@
 use Rattle.std.proofs.Common.{List, Some}
 use Rattle.rh_state.specs.Numbers.{nodes_of, apps_of}
 use Rattle.rh_base.specs.Lists.{first_given, or_else}
-use Rattle.rh_settle.specs.declared.notice.Move.{Move}
-use Rattle.rh_settle.specs.Moves.{local_moves, placements, takeovers, next_moves}
+use Rattle.rh_rules.specs.declared.notice.Move.{Move}
+use Rattle.rh_rules.specs.Moves.{local_moves, placements, takeovers}
+use Rattle.rh_rules.specs.Settling.{next_moves}
 use Rattle.rh_settle.proofs.Searches.{either_some, either_none}
 use Rattle.rh_state.specs.Stored.{read}
 use Rattle.rh_settle.proofs.search.next_on.Goals as goal

@@ -1,6 +1,6 @@
 use Rattle.std.proofs.Common.{ap, ◌∙◌, arith}
 use Rattle.rh_model.specs.ClusterView.{ClusterView, app_count}
-use Rattle.rh_settle.specs.Moves.{placements}
+use Rattle.rh_rules.specs.Moves.{placements}
 use Rattle.rh_settle.proofs.Searches.{found_app, later_app, no_app_left}
 use Rattle.rh_state.specs.Stored.{read}
 use Rattle.rh_settle.proofs.search.next_placement.Goals as goal

@@ -5,13 +5,12 @@ use Rattle.rh_model.specs.declared.node.Node.{Node}
 use Rattle.rh_state.specs.declared.status.Standing.{Standing}
 use Rattle.rh_state.specs.declared.status.Standing.TheVariants.{Quiet, Wanted, Running, Lost}
 use Rattle.rh_state.specs.StateView.{StateView, standing_of}
-use Rattle.rh_place.specs.declared.choosing.Pick.{Pick}
-use Rattle.rh_place.specs.Picks.{picked}
-use Rattle.rh_place.specs.Placing.{is_operational, best, candidates}
+use Rattle.rh_rules.specs.declared.pick.Pick.{Pick}
+use Rattle.rh_rules.specs.Placing.{picked, is_operational, best, candidates}
 use Rattle.rh_place.specs.Sets.{NodeBits, has}
 use Rattle.rh_settle.specs.Boards.{BoardView, is_among, is_wanted, IsExactAt}
-use Rattle.rh_settle.specs.declared.notice.Move.TheVariants.{Placement}
-use Rattle.rh_settle.specs.Moves.{placements, placements_from}
+use Rattle.rh_rules.specs.declared.notice.Move.TheVariants.{Placement}
+use Rattle.rh_rules.specs.Moves.{placements, placements_from}
 use Rattle.rh_settle.proofs.Searches.{picked_map, none_of_none}
 use Rattle.rh_state.specs.Shape.{IsAppOf}
 use Rattle.rh_state.specs.Stored.{read}

@@ -7,13 +7,12 @@ use Rattle.rh_state.specs.StateView.{StateView}
 use Rattle.rh_state.specs.Shape.{IsShaped}
 use Rattle.rh_state.specs.Stored.{read}
 use Rattle.rh_base.proofs.Lists.{cases}
-use Rattle.rh_place.specs.Picks.{picked}
-use Rattle.rh_place.specs.Placing.{is_operational, best}
+use Rattle.rh_rules.specs.Placing.{picked, is_operational, best}
 use Rattle.rh_place.specs.Sets.{NodeBits, has}
-use Rattle.rh_settle.specs.declared.notice.Move.TheVariants.{Takeover}
-use Rattle.rh_settle.specs.declared.notice.Pair.{Pair}
-use Rattle.rh_settle.specs.Course.{is_fresh}
-use Rattle.rh_settle.specs.Moves.{comes_before, calls_away}
+use Rattle.rh_rules.specs.declared.notice.Move.TheVariants.{Takeover}
+use Rattle.rh_rules.specs.declared.notice.Pair.{Pair}
+use Rattle.rh_rules.specs.Course.{is_fresh}
+use Rattle.rh_rules.specs.Moves.{comes_before, calls_away}
 use Rattle.rh_settle.proofs.Boards.{none_beyond, none_calls, not_taken}
 use Rattle.rh_settle.proofs.Entries.{is_below, is_above, not_same}
 use Rattle.rh_settle.proofs.Searches.{picked_map, none_of_none}

@@ -1,6 +1,6 @@
 use Rattle.std.proofs.Common.{sym, ap, ◌∙◌}
 use Rattle.rh_state.specs.Stored.{read}
-use Rattle.rh_place.specs.Picks.{picked}
+use Rattle.rh_rules.specs.Placing.{picked}
 use Rattle.rh_settle.proofs.Boards.{callers_are, no_callers}
 use Rattle.rh_settle.proofs.Searches.{none_of_none}
 use Rattle.rh_settle.proofs.search.takeover_of.Goals as goal

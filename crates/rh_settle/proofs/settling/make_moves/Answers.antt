@@ -2,9 +2,10 @@ use Rattle.std.proofs.Common.{List, sym, ap, ◌∙◌, subst, All, arith}
 use Rattle.rh_model.specs.ClusterView.{ClusterView}
 use Rattle.rh_state.specs.Shape.{IsNodeOf, IsAppOf}
 use Rattle.rh_state.specs.Stored.{read}
-use Rattle.rh_settle.specs.declared.notice.Pair.{Pair}
+use Rattle.rh_rules.specs.declared.notice.Pair.{Pair}
 use Rattle.rh_settle.specs.Boards.{nodes_changed, mover, IsBoardOf}
-use Rattle.rh_settle.specs.Course.{Course, course, fresh_of}
+use Rattle.rh_rules.specs.Course.{Course, fresh_of}
+use Rattle.rh_settle.specs.Traces.{course}
 use Rattle.rh_settle.proofs.Boards.{changed_nodes, moved_app}
 use Rattle.rh_settle.proofs.Fuel.{state_moved, fresh_moved}
 use Rattle.rh_settle.proofs.Making.{makeable, smaller, same, runs_still, none_left}

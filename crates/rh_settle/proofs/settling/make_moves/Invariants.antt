@@ -2,8 +2,9 @@ use Rattle.std.proofs.Common.{◌≡◌}
 use Rattle.rh_state.specs.Stored.{read}
 use Rattle.rh_settle.specs.Boards.{IsBoardOf}
 use Rattle.rh_settle.specs.Counts.{FewEdits}
-use Rattle.rh_settle.specs.Course.{course, fresh_of}
-use Rattle.rh_settle.specs.Settling.{all_moved}
+use Rattle.rh_settle.specs.Traces.{course}
+use Rattle.rh_rules.specs.Course.{fresh_of}
+use Rattle.rh_rules.specs.Settling.{all_moved}
 use Rattle.rh_settle.specs.Validity.{RunsWhereItStands}
 use Rattle.rh_settle.specs.Ways.{Goes}
 use Rattle.rh_settle.proofs.Points.{points}

@@ -2,9 +2,10 @@ use Rattle.std.proofs.Common.{List, All, sym, ap, ◌∙◌, subst}
 use Rattle.std.proofs.lemmas.Result.{on_ok_weaker}
 use Rattle.rh_model.specs.ClusterView.{ClusterView}
 use Rattle.rh_state.specs.Stored.{read}
-use Rattle.rh_settle.specs.declared.notice.Pair.{Pair}
-use Rattle.rh_settle.specs.Course.{Course, IsPairOf, course, fresh_of}
-use Rattle.rh_settle.specs.Settling.{NoneEnabled, Settles, waits_told}
+use Rattle.rh_rules.specs.declared.notice.Pair.{Pair}
+use Rattle.rh_rules.specs.Course.{Course, fresh_of}
+use Rattle.rh_settle.specs.Traces.{IsPairOf, course}
+use Rattle.rh_rules.specs.Settling.{NoneEnabled, Settles, waits_told}
 use Rattle.rh_settle.proofs.NextFirsts.{still_if_none_enabled}
 use Rattle.rh_settle.proofs.SettlingLaws.{settles_by_pick, few_moves}
 use Rattle.rh_settle.proofs.Unchanged.{all_moved_marked, waits_told_fresh}

@@ -1,8 +1,8 @@
 use Rattle.std.proofs.Common.{◌≡◌, take, fold}
 use Rattle.rh_state.specs.Stored.{read}
 use Rattle.rh_settle.specs.Counts.{FewEdits}
-use Rattle.rh_settle.specs.Course.{course}
-use Rattle.rh_settle.specs.Settling.{tell_waiting}
+use Rattle.rh_settle.specs.Traces.{course}
+use Rattle.rh_rules.specs.Settling.{tell_waiting}
 use Rattle.rh_settle.specs.Ways.{Goes}
 use Rattle.rh_settle.proofs.settling.tell_waiting.Given as goal
 

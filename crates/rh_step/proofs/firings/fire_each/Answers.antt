@@ -3,9 +3,9 @@ use Rattle.rh_state.proofs.Records.{grows_more}
 use Rattle.rh_state.specs.declared.status.Timer.{Timer}
 use Rattle.rh_state.specs.StateView.{StateView, earliest}
 use Rattle.rh_state.specs.Stored.{read}
-use Rattle.rh_settle.specs.Course.{course_of}
+use Rattle.rh_rules.specs.Course.{course_of}
 use Rattle.rh_settle.specs.Validity.{IsSound}
-use Rattle.rh_step.specs.Ticks.{due_by}
+use Rattle.rh_rules.specs.Time.{due_by}
 use Rattle.rh_step.specs.Firings.{firings_by}
 use Rattle.rh_step.proofs.Fuel.{fired_fewer, sound_fired}
 use Rattle.rh_step.proofs.FiringsTold.{one_and_others, none_fired}

@@ -1,8 +1,9 @@
 use Rattle.std.proofs.Common.{List, All, sym, ap, ◌∙◌, subst}
 use Rattle.rh_state.specs.Stored.{read}
 use Rattle.rh_model.specs.ClusterView.{ClusterView}
-use Rattle.rh_settle.specs.declared.notice.Pair.{Pair}
-use Rattle.rh_settle.specs.Course.{Course, IsPairOf, course}
+use Rattle.rh_rules.specs.declared.notice.Pair.{Pair}
+use Rattle.rh_rules.specs.Course.{Course}
+use Rattle.rh_settle.specs.Traces.{IsPairOf, course}
 use Rattle.rh_settle.specs.Validity.{RunsWhereItStands}
 use Rattle.rh_events.proofs.SoundComingUp.{sound_ready_come_up, ready_come_up_cluster}
 use Rattle.rh_events.proofs.Marked.{marked_ready_come_up}

@@ -1,8 +1,9 @@
 use Rattle.std.proofs.Common.{arith, List, All, sym, ap, ◌∙◌, subst}
 use Rattle.rh_model.specs.ClusterView.{ClusterView}
 use Rattle.rh_state.specs.Stored.{read}
-use Rattle.rh_settle.specs.declared.notice.Pair.{Pair}
-use Rattle.rh_settle.specs.Course.{Course, IsPairOf, course}
+use Rattle.rh_rules.specs.declared.notice.Pair.{Pair}
+use Rattle.rh_rules.specs.Course.{Course}
+use Rattle.rh_settle.specs.Traces.{IsPairOf, course}
 use Rattle.rh_settle.specs.Validity.{IsSound}
 use Rattle.rh_events.proofs.EachEvent.{change_cluster, sound_changed, marked_changed}
 use Rattle.std.proofs.lemmas.Result.{on_ok_weaker}

@@ -1,10 +1,10 @@
 use Rattle.std.proofs.Common.{◌≡◌, [], ap, arith}
 use Rattle.std.proofs.lemmas.Result.{on_ok_weaker}
-use Rattle.rh_settle.specs.Course.{trace_of}
+use Rattle.rh_settle.specs.Traces.{trace_of}
 use Rattle.rh_state.specs.Stored.{read}
 use Rattle.rh_events.proofs.Counts.{on_ok_two}
 use Rattle.rh_step.specs.Counts.{step_edits}
-use Rattle.rh_step.specs.Outcomes.{next}
+use Rattle.rh_rules.specs.Steps.{next}
 use Rattle.rh_step.proofs.Counts.{added}
 use Rattle.rh_step.proofs.Performing.{performed_state, performed_notices, performed_allowed, performed_valid}
 use Rattle.rh_step.proofs.step.perform.Goals as goal

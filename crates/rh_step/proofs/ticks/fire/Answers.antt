@@ -7,10 +7,11 @@ use Rattle.rh_state.specs.declared.status.Timer.TheVariants.{Sync, Failover}
 use Rattle.rh_state.specs.Shape.{IsTimerOf}
 use Rattle.rh_state.specs.StateView.{standing_of, due_of, running_at, waiting_at}
 use Rattle.rh_state.specs.Stored.{read}
-use Rattle.rh_settle.specs.Course.{Course, IsPairOf, course}
+use Rattle.rh_rules.specs.Course.{Course}
+use Rattle.rh_settle.specs.Traces.{IsPairOf, course}
 use Rattle.rh_settle.specs.Validity.{IsSound}
 use Rattle.std.specs.Option.{IsNone}
-use Rattle.rh_step.specs.Ticks.{effect, taken_off}
+use Rattle.rh_rules.specs.Time.{effect, taken_off}
 use Rattle.rh_step.proofs.Firing.{none_runs, none_waits, none_timed, effect_cluster, effect_marked}
 use Rattle.rh_events.proofs.Marked.{none_marked}
 use Rattle.rh_step.proofs.TakenOff.{sound_effect}

@@ -1,9 +1,10 @@
 use Rattle.std.proofs.Common.{◌≡◌, ◌<◌, length, None, ap, sym, subst, ◌∙◌, arith}
 use Rattle.rh_state.specs.StateView.{earliest}
 use Rattle.rh_state.specs.Stored.{read}
-use Rattle.rh_settle.specs.Course.{Course, course}
+use Rattle.rh_rules.specs.Course.{Course}
+use Rattle.rh_settle.specs.Traces.{course}
 use Rattle.rh_settle.specs.Validity.{IsSound}
-use Rattle.rh_step.specs.Ticks.{due_by, all_fired}
+use Rattle.rh_rules.specs.Time.{due_by, all_fired}
 use Rattle.rh_step.proofs.Fuel.{timer_count, fired_fewer, sound_fired, unrolled, all_fired_end, due_is_first}
 use Rattle.rh_model.specs.ClusterView.{ClusterView}
 use Rattle.rh_settle.specs.Counts.{FewWeighed}

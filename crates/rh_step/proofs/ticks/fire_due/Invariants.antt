@@ -1,10 +1,10 @@
 use Rattle.std.proofs.Common.{◌≡◌, ◌≤◌, ◌+◌, ◌*◌, length}
 use Rattle.rh_state.specs.Stored.{read}
-use Rattle.rh_settle.specs.Course.{course}
+use Rattle.rh_settle.specs.Traces.{course}
 use Rattle.rh_settle.specs.Validity.{IsSound}
 use Rattle.rh_settle.specs.Counts.{weights}
 use Rattle.rh_settle.specs.Ways.{Goes}
-use Rattle.rh_step.specs.Ticks.{all_fired}
+use Rattle.rh_rules.specs.Time.{all_fired}
 use Rattle.rh_step.proofs.ticks.fire_due.Given as goal
 
 abbrev pub invariant-timers : goal.invariant-timers

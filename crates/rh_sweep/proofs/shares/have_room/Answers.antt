@@ -1,7 +1,7 @@
 use Rattle.std.proofs.Common.{◌≡◌, ap, subst, length, List, arith, refl, ℕ, ◌<◌, slice_index_or}
 use Rattle.std.proofs.lemmas.List.{take_all}
 use Rattle.std.proofs.lemmas.List.Elements.{All-more}
-use Rattle.rh_events.specs.declared.event.Event.{Event}
+use Rattle.rh_rules.specs.declared.event.Event.{Event}
 use Rattle.rh_plans.specs.declared.plan.Plan.{Plan}
 use Rattle.rh_sweep.specs.Sweeping.{HasRoom}
 use Rattle.rh_sweep.proofs.shares.have_room.Goals as goal

@@ -1,8 +1,8 @@
 use Rattle.std.proofs.Common.{◌≡◌, ◌≢◌, ◌+◌, ◌<◌, ap, sym, ◌∙◌, count_by, arith, rules, subst, List, length}
-use Rattle.rh_events.specs.declared.event.Event.TheVariants.{Boot}
-use Rattle.rh_events.specs.declared.refusal.Refusal.TheVariants.{OutOfMemory}
+use Rattle.rh_rules.specs.declared.event.Event.TheVariants.{Boot}
+use Rattle.rh_rules.specs.declared.refusal.Refusal.TheVariants.{OutOfMemory}
 use Rattle.rh_model.specs.ClusterView.{numbered}
-use Rattle.rh_settle.specs.declared.notice.Notice.{Notice}
+use Rattle.rh_rules.specs.declared.notice.Notice.{Notice}
 use Rattle.rh_trail.specs.Lone.{trail_limit}
 use Rattle.rh_sweep.specs.Outcomes.{is_failover, is_takeover}
 use Rattle.rh_sweep.proofs.Trying.{Along, along-start, along-more, along-end, along-refused}

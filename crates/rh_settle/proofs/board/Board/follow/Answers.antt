@@ -1,10 +1,10 @@
 use Rattle.std.proofs.Common.{ap, ◌∙◌, subst}
 use Rattle.rh_state.specs.Shape.{IsAppOf}
 use Rattle.rh_state.specs.Stored.{read}
-use Rattle.rh_settle.specs.declared.notice.Move.{Move}
-use Rattle.rh_settle.specs.declared.notice.Move.TheVariants.{Local, Placement, Takeover}
+use Rattle.rh_rules.specs.declared.notice.Move.{Move}
+use Rattle.rh_rules.specs.declared.notice.Move.TheVariants.{Local, Placement, Takeover}
 use Rattle.rh_settle.specs.Boards.{mover}
-use Rattle.rh_settle.specs.Moves.{moved_state}
+use Rattle.rh_rules.specs.Moves.{moved_state}
 use Rattle.rh_settle.proofs.Boards.{followed, followed_twice}
 use Rattle.rh_settle.proofs.board.Board.follow.Goals as goal
 

@@ -3,9 +3,9 @@ use Rattle.std.proofs.lemmas.List.Folds.{list_any-append}
 use Rattle.rh_model.specs.ClusterView.{ClusterView, node_count, app_count}
 use Rattle.rh_model.specs.declared.limits.TheConstants.{MAX_APPS}
 use Rattle.rh_place.specs.declared.node_set.TheConstants.NodeSet.{LIMIT}
-use Rattle.rh_settle.specs.declared.notice.Pair.{Pair}
+use Rattle.rh_rules.specs.declared.notice.Pair.{Pair}
 use Rattle.rh_settle.specs.Boards.{touches_local}
-use Rattle.rh_settle.specs.Course.{is_fresh}
+use Rattle.rh_rules.specs.Course.{is_fresh}
 use Rattle.rh_settle.proofs.board.Board.of.Goals as goal
 
 pub returns : goal.returns

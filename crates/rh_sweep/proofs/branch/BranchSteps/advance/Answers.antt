@@ -1,9 +1,9 @@
 use Rattle.std.proofs.Common.{◌≡◌, ◌++◌, List, false, Result, Ok, Err, OnOk, None, refl, sym, ap, subst, ◌∙◌}
 use Rattle.std.specs.Result.{is_err}
-use Rattle.rh_events.specs.Refusals.{refused}
-use Rattle.rh_settle.specs.declared.notice.Notice.{Notice}
+use Rattle.rh_rules.specs.Refusals.{refused}
+use Rattle.rh_rules.specs.declared.notice.Notice.{Notice}
 use Rattle.rh_state.specs.Stored.{read}
-use Rattle.rh_step.specs.Outcomes.{next}
+use Rattle.rh_rules.specs.Steps.{next}
 use Rattle.rh_trail.specs.Lone.{with_event}
 use Rattle.rh_sweep.specs.declared.branch.Branch.{Branch}
 use Rattle.rh_sweep.specs.Working.{IsBranch}

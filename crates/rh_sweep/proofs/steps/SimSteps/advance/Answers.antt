@@ -1,7 +1,7 @@
 use Rattle.std.proofs.Common.{◌≡◌, ◌≤◌, ◌<◌, ℕ, Result, Ok, Err, IfOk, OnOk, Vec, Global, take}
-use Rattle.rh_settle.specs.declared.notice.Notice.{Notice}
-use Rattle.rh_events.specs.declared.event.Event.{Event}
-use Rattle.rh_events.specs.declared.refusal.Refusal.{Refusal}
+use Rattle.rh_rules.specs.declared.notice.Notice.{Notice}
+use Rattle.rh_rules.specs.declared.event.Event.{Event}
+use Rattle.rh_rules.specs.declared.refusal.Refusal.{Refusal}
 use Rattle.rh_trail.specs.Chain.{chain}
 use Rattle.rh_trail.specs.Lone.{served, answered, with_event, trail_limit}
 use Rattle.rh_trail.specs.SimView.{SimView, Held}

@@ -1,6 +1,6 @@
 use Rattle.std.proofs.Common.{◌≡◌, IfOk, sym, ap, subst, ◌∙◌}
-use Rattle.rh_events.specs.declared.event.Event.TheVariants.{Tick}
-use Rattle.rh_events.specs.Refusals.{refused}
+use Rattle.rh_rules.specs.declared.event.Event.TheVariants.{Tick}
+use Rattle.rh_rules.specs.Refusals.{refused}
 use Rattle.rh_settle.specs.Validity.{IsValid}
 use Rattle.rh_state.specs.StateView.{StateView}
 use Rattle.rh_step.specs.Firings.{firings}

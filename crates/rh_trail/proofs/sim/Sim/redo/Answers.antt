@@ -1,7 +1,7 @@
 use Rattle.std.proofs.Common.{◌≡◌, ◌≢◌, ◌<◌, ◌≤◌, ◌+◌, ℕ, List, [], length, slice_index_or, refl, arith, sym, ap, subst, ◌∙◌}
 use Rattle.rh_base.specs.Exchanges.{forthed}
 use Rattle.rh_model.specs.ClusterView.{ClusterView}
-use Rattle.rh_events.specs.declared.event.Event.{Event}
+use Rattle.rh_rules.specs.declared.event.Event.{Event}
 use Rattle.rh_state.specs.declared.edit.Edit.{Edit}
 use Rattle.rh_state.specs.Edits.{exchange, turned}
 use Rattle.rh_state.specs.Stored.{Stored}

@@ -1,22 +1,10 @@
--- When a step is refused: of the tests of its event, in their order, the first that applies counts (ours).
-use Rattle.std.specs.Prelude.{ℕ, ◌+◌, List, [], ◌∷◌, Bool, true, not, nat_lt, ◌==◌, ◌&&◌, if◌then◌else◌, Option, Some, None, codes}
-use Rattle.rh_model.specs.ClusterView.{node_count, app_count, is_listed_at}
-use Rattle.rh_model.specs.declared.node.Node.{Node}
-use Rattle.rh_model.specs.declared.node.App.{App}
-use Rattle.rh_model.specs.declared.settings.Dep.{Dep}
-use Rattle.rh_state.specs.Limits.{time_limit, incarnation_limit}
-use Rattle.rh_state.specs.Standings.{is_running, is_running_at}
-use Rattle.rh_state.specs.StateView.{StateView, mode_of, incarnation_of, is_alive, is_up, is_started, is_allowed, runs_at, standing_of}
-use Rattle.rh_place.specs.Placing.{missing_dep}
-use Rattle.rh_settle.specs.Moves.{is_local}
-use Rattle.rh_events.specs.ByHand.{is_started_anywhere}
-use Rattle.rh_events.specs.Everywhere.{has_host, has_target, missing_at_targets}
-use Rattle.rh_events.specs.declared.event.Event.{Event}
-use Rattle.rh_events.specs.declared.event.Event.TheVariants.{Boot, Crash, Tick, Start, Stop, Permit, Takeover, Exit, StartAll, StopAll}
-use Rattle.rh_events.specs.declared.refusal.Refusal.{Refusal}
-use Rattle.rh_events.specs.declared.refusal.Refusal.TheVariants.{UnknownNode, UnknownApp, AlreadyAlive, IncarnationLimit, NotAlive, ZeroTick, TimeLimit}
-use Rattle.rh_events.specs.declared.refusal.Refusal.TheVariants.{NodeNotUp, NotDistributed, NotListed, AlreadyStarted, NeverStarted, NotRunning, RunsHere}
-use Rattle.rh_events.specs.declared.refusal.Refusal.TheVariants.{NotRunningHere, NotPermitted, DependencyNotStarted, TrailFull, OutOfMemory}
+-- RULES, "Refusals": of the tests of an event, in their order, the first that applies counts (ours).
+use Rattle.std.specs.Prelude.{Bool, not, nat_lt, List, true, Option, Some, None, ℕ, codes, [], ◌∷◌, ◌+◌, ◌==◌, ◌&&◌, if◌then◌else◌}
+use Rattle.rh_rules.specs.Prelude.{node_count, app_count, is_listed_at, App, Node, Dep, time_limit, incarnation_limit, is_running, is_running_at, StateView, mode_of, is_up, incarnation_of, is_alive, is_started, is_allowed, runs_at, standing_of, Event, Boot, Crash, Tick, Start, Stop, Permit, Takeover, Exit, StartAll, StopAll, Refusal, DependencyNotStarted, UnknownNode, UnknownApp, NodeNotUp, AlreadyAlive, IncarnationLimit, NotAlive, ZeroTick, TimeLimit, NotDistributed, NotListed, AlreadyStarted, NeverStarted, NotRunning, RunsHere, NotRunningHere, NotPermitted, TrailFull, OutOfMemory}
+use Rattle.rh_rules.specs.Course.{is_local}
+use Rattle.rh_rules.specs.Placing.{missing_dep}
+use Rattle.rh_rules.specs.ByHand.{is_started_anywhere}
+use Rattle.rh_rules.specs.Everywhere.{has_host, has_target, missing_at_targets}
 
 -- there is no such node, or no such application
 abbrev pub is_unknown : StateView → Node → Bool

@@ -1,18 +1,8 @@
--- Marking: an application is started at a node, and waits there until it may run (application(3), start/2; Distributed
--- Applications; ours for standings).
-use Rattle.std.specs.Prelude.{List, [], ◌∷◌, ◌++◌, fold, Some, None, if◌then◌else◌}
-use Rattle.rh_model.specs.declared.node.Node.{Node}
-use Rattle.rh_model.specs.declared.node.App.{App}
-use Rattle.rh_model.specs.declared.settings.Restart.{Restart}
-use Rattle.rh_state.specs.declared.status.Standing.{Standing}
-use Rattle.rh_state.specs.declared.status.Standing.TheVariants.{Wanted}
-use Rattle.rh_state.specs.declared.status.Timer.TheVariants.{Failover}
-use Rattle.rh_state.specs.Standings.{is_quiet, is_lost_at}
-use Rattle.rh_state.specs.StateView.{StateView, standing_of}
-use Rattle.rh_state.specs.Setters.{with_restart, with_standing, with_waiting, without_due}
-use Rattle.rh_settle.specs.declared.notice.Pair.{Pair}
-use Rattle.rh_settle.specs.Course.{Course}
-use Rattle.rh_settle.specs.Moves.{is_local}
+-- RULES, "Applications start", Start: an application is started at a node, and waits there until it may run (application(3), start/2;
+-- Distributed Applications; ours for standings).
+use Rattle.std.specs.Prelude.{Some, None, List, fold, if◌then◌else◌, [], ◌∷◌, ◌++◌}
+use Rattle.rh_rules.specs.Prelude.{App, Node, Restart, with_standing, without_due, with_restart, with_waiting, is_quiet, is_lost_at, StateView, standing_of, Standing, Wanted, Failover, Pair}
+use Rattle.rh_rules.specs.Course.{is_local, Course}
 
 -- a distributed application stands so; a local one is always quiet
 abbrev pub with_distributed_standing : StateView → App → Standing → StateView
@@ -28,6 +18,7 @@ wanted_by_mark s n a standing =
 unfoldable pub with_mark : StateView → Node → App → Restart → StateView
 with_mark s n a r = wanted_by_mark (with_restart (with_waiting s n a) n a r) n a (standing_of s a)
 
+-- a node and an application
 abbrev pub pair : Node → App → Pair
 pair n a = record { node = n; app = a }
 
@@ -39,5 +30,6 @@ mark o n a r = record o { state = with_mark o.state n a r; marked = o.marked ++ 
 abbrev pub mark_booted : Node → Course → App × Restart → Course
 mark_booted n o booted = mark o n booted.0 booted.1
 
+-- all of it
 unfoldable pub mark_all : Course → Node → List (App × Restart) → Course
 mark_all o n boot = fold (mark_booted n) o boot

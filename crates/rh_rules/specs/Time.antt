@@ -1,30 +1,16 @@
--- Time that passes: the timers that are due fire one after the other, each followed by the ready nodes coming up and the
--- applications settling (kernel(6), sync_nodes_timeout, distributed; ours for the order of timers).
-use Rattle.std.specs.Prelude.{ℕ, ◌+◌, zero, suc, [], length, Option, Some, None, nat_le, if◌then◌else◌}
-use Rattle.rh_model.specs.ClusterView.{mandatory_of}
-use Rattle.rh_model.specs.declared.node.App.{App}
-use Rattle.rh_state.specs.declared.status.Standing.{Standing}
-use Rattle.rh_state.specs.declared.status.Standing.TheVariants.{Wanted, Lost}
-use Rattle.rh_state.specs.declared.status.Timer.{Timer}
-use Rattle.rh_state.specs.declared.status.Timer.TheVariants.{Sync, Failover}
-use Rattle.rh_state.specs.StateView.{StateView, standing_of, earliest}
-use Rattle.rh_state.specs.Setters.{with_time, with_standing, without_due}
-use Rattle.rh_place.specs.declared.choosing.Pick.{Pick}
-use Rattle.rh_settle.specs.Course.{Course, course_of, now_in}
-use Rattle.rh_settle.specs.Settling.{settled}
-use Rattle.rh_settle.specs.Readiness.{all_alive}
-use Rattle.rh_events.specs.ComingUp.{come_up, ready_come_up}
-use Rattle.rh_events.specs.Ending.{ended}
+-- RULES, "Time": the timers that are due fire one after the other, each followed by the ready nodes coming up and the applications
+-- settling (kernel(6), sync_nodes_timeout, distributed; ours for the order of timers).
+use Rattle.std.specs.Prelude.{ℕ, Option, Some, None, nat_le, zero, suc, length, if◌then◌else◌, [], ◌+◌}
+use Rattle.rh_rules.specs.Prelude.{mandatory_of, with_time, without_due, standing_of, earliest, Timer, Sync, Failover, Pick}
+use Rattle.rh_rules.specs.Course.{Course, now_in, course_of}
+use Rattle.rh_rules.specs.NodesStart.{all_alive, come_up, ready_come_up}
+use Rattle.rh_rules.specs.Settling.{settled}
+use Rattle.rh_rules.specs.NodesEnd.{ended, wanted_if_lost}
 
 -- the timer that fires next, if it is due by the limit
 abbrev pub due_by : ℕ → Option (ℕ × Timer) → Option (ℕ × Timer)
 due_by limit None = None
 due_by limit (Some entry) = if nat_le entry.0 limit then Some entry else None
-
--- a lost application that didn't come back in time is wanted
-abbrev pub wanted_if_lost : StateView → App → Standing → StateView
-wanted_if_lost s a (Lost n) = with_standing s a (Wanted (Some n))
-wanted_if_lost s a _ = s
 
 -- what a timer does: at the end of its wait a node comes up if its mandatory nodes are alive, and else it ends
 abbrev pub effect : Course → Timer → Course
@@ -44,6 +30,7 @@ abbrev pub go_on : Course → Option (ℕ × Timer) → (ℕ × Timer → Course
 go_on o None rest = o
 go_on o (Some entry) rest = rest entry
 
+-- (the bound is there since a definition has to end by itself)
 unfoldable pub fired_by : Pick → ℕ → ℕ → Course → Course
 fired_by pick zero limit o = o
 fired_by pick (suc most) limit o = go_on o (due_by limit (earliest o.state)) (λ entry. fired_by pick most limit (fired pick o entry))

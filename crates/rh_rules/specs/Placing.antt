@@ -1,15 +1,7 @@
--- Where an application can run (Distributed Applications; app(4), applications).
-use Rattle.std.specs.Prelude.{◌&&◌, not, List, [], find, Bool, Option, unwrap_or}
-use Rattle.std.specs.List.{filter, list_all}
-use Rattle.std.specs.Option.{option_map}
-use Rattle.rh_model.specs.ClusterView.{ClusterView, is_platform, deps_of, spread_of}
-use Rattle.rh_model.specs.declared.node.Node.{Node}
-use Rattle.rh_model.specs.declared.node.App.{App}
-use Rattle.rh_model.specs.declared.settings.Dep.{Dep}
-use Rattle.rh_model.specs.declared.settings.Dep.TheVariants.{Listed, Platform}
-use Rattle.rh_model.specs.declared.settings.Spread.{Spread}
-use Rattle.rh_state.specs.StateView.{StateView, mode_of, is_up, is_started, is_allowed, runs_at, running_count}
-use Rattle.rh_base.specs.Lists.{first_given, lightest}
+-- RULES, "Applications start", What it needs, Where it can run, Ties: where an application can run, which of equally good nodes is
+-- taken, and how it starts there (Distributed Applications; app(4), applications, start_phases; application(3), start/2; ours for ties).
+use Rattle.std.specs.Prelude.{Bool, not, find, Option, List, unwrap_or, None, Some, ◌&&◌, [], if◌then◌else◌}
+use Rattle.rh_rules.specs.Prelude.{list_all, filter, last_or, option_map, first_given, lightest, head, is_platform, deps_of, ClusterView, spread_of, has_phases, App, Node, Dep, Listed, Platform, Spread, same_node, StateView, runs_at, mode_of, is_up, is_started, is_allowed, running_count, Kind, Normal, Failover, Pick, First, Last}
 
 -- a dependency runs at a node that has it as a platform name, or runs it (app(4), applications)
 abbrev pub dep_runs : StateView → Node → Dep → Bool
@@ -40,3 +32,13 @@ best s a test = lightest (running_count s) (first_given (filter test) (groups_of
 -- where an application that is wanted can be placed (Distributed Applications)
 unfoldable pub candidates : StateView → App → List Node
 candidates s a = best s a (is_operational s a)
+
+-- of equally good ones, in written order, the one that the pick takes
+abbrev pub picked : {A : Type 0} → Pick → List A → Option A
+picked First xs = head xs
+picked Last xs = last_or None xs
+
+-- as a failover if its start phases are defined and it was lost with another node
+abbrev pub start_kind : StateView → App → Option Node → Node → Kind
+start_kind s a None n = Normal
+start_kind s a (Some from) n = if has_phases s.cluster a && not (same_node from n) then Failover from else Normal

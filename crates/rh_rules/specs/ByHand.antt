@@ -1,28 +1,17 @@
--- What an operator changes by hand (application(3), stop/1, permit/2, takeover/2; ours for standings).
-use Rattle.std.specs.Prelude.{ℕ, ◌&&◌, ◌==◌, not, Bool, true, false, List, [], ◌∷◌, ◌++◌, None, if◌then◌else◌}
-use Rattle.std.specs.List.{list_any}
-use Rattle.rh_model.specs.declared.node.Node.{Node}
-use Rattle.rh_model.specs.declared.node.App.{App}
-use Rattle.rh_model.specs.declared.settings.Restart.{Restart}
-use Rattle.rh_model.specs.declared.settings.Restart.TheVariants.{Permanent, Transient, Temporary}
-use Rattle.rh_state.specs.declared.status.Standing.{Standing}
-use Rattle.rh_state.specs.declared.status.Standing.TheVariants.{Quiet, Wanted, Running, Lost}
-use Rattle.rh_state.specs.declared.status.Timer.TheVariants.{Failover}
-use Rattle.rh_state.specs.Numbers.{nodes_of}
-use Rattle.rh_state.specs.StateView.{StateView, runs_at, is_started, is_allowed, restart_of, standing_of}
-use Rattle.rh_state.specs.Setters.{with_allowed, with_restart, with_standing, without_due, unlisted}
-use Rattle.rh_settle.specs.declared.notice.Move.TheVariants as move
-use Rattle.rh_settle.specs.declared.notice.Notice.TheVariants as notice
-use Rattle.rh_settle.specs.declared.notice.Pair.{Pair}
-use Rattle.rh_settle.specs.Course.{Course, told, now_in}
-use Rattle.rh_settle.specs.Moves.{with_stopped, moved}
-use Rattle.rh_events.specs.Marking.{with_distributed_standing, pair}
-use Rattle.rh_events.specs.Ending.{ended}
+-- RULES, "By hand", Stop, Permit, Takeover by call, Exit: what an operator changes at a node (application(3), stop/1, permit/2,
+-- takeover/2, restart types; ours for standings).
+use Rattle.std.specs.Prelude.{Bool, false, None, ℕ, not, List, true, if◌then◌else◌, ◌==◌, ◌&&◌, [], ◌∷◌, ◌++◌}
+use Rattle.rh_rules.specs.Prelude.{list_any, App, Node, Restart, Permanent, Transient, Temporary, nodes_of, unlisted, with_standing, without_due, with_allowed, with_restart, StateView, is_started, standing_of, is_allowed, runs_at, restart_of, Standing, Quiet, Wanted, Lost, Running, Failover, Move, Notice, Pair}
+use Rattle.rh_rules.specs.Course.{Course, told, now_in}
+use Rattle.rh_rules.specs.Marking.{with_distributed_standing, pair}
+use Rattle.rh_rules.specs.Moves.{with_stopped, moved}
+use Rattle.rh_rules.specs.NodesEnd.{ended}
 
 -- an application that runs at a node stops there, and is to run nowhere
 unfoldable pub stopped : Course → Node → App → Course
-stopped o n a = told (now_in o (with_distributed_standing (unlisted o.state n a) a Quiet)) (notice.Stopped a n)
+stopped o n a = told (now_in o (with_distributed_standing (unlisted o.state n a) a Quiet)) (Notice.Stopped a n)
 
+-- an application runs or waits at some node
 unfoldable pub is_started_anywhere : StateView → App → Bool
 is_started_anywhere s a = list_any (λ n. is_started s n a) (nodes_of s.cluster)
 
@@ -39,7 +28,7 @@ left_waiting o n a = now_in o (quiet_if_nowhere (unlisted o.state n a) a (standi
 -- one that runs at a node and no longer may waits there, and is wanted
 unfoldable pub forbidden : Course → Node → App → Course
 forbidden o n a =
-    told (now_in o (with_distributed_standing (with_stopped (with_allowed o.state n a false) n a) a (Wanted None))) (notice.Stopped a n)
+    told (now_in o (with_distributed_standing (with_stopped (with_allowed o.state n a false) n a) a (Wanted None))) (Notice.Stopped a n)
 
 -- the profiles in which a permission that is given back calls an application back (ours; a live OTP does so)
 abbrev pub pulls_back : ℕ → Bool
@@ -65,7 +54,7 @@ permitted o n a allow =
 
 -- one that runs elsewhere is taken over, and has the given restart type
 abbrev pub taken_from : Course → Node → App → Restart → Standing → Course
-taken_from o n a r (Running m) = moved (now_in o (with_restart o.state n a r)) (move.Takeover a m n)
+taken_from o n a r (Running m) = moved (now_in o (with_restart o.state n a r)) (Move.Takeover a m n)
 taken_from o n a r _ = o
 
 -- so with one that runs, wherever it stands (application(3), takeover/2)

@@ -1,7 +1,7 @@
 //! Why a step may be refused.
 
 ghost use Rattle.std.specs.Prelude.{◌≡◌, ◌↔◌, IsTrue};
-ghost use Rattle.rh_events.specs.declared.refusal.Refusal.{Refusal};
+ghost use Rattle.rh_rules.specs.declared.refusal.Refusal.{Refusal};
 
 use rh_model::Dep;
 use std::fmt;
@@ -60,7 +60,7 @@ impl Refusal {
 
 impl fmt::Display for Refusal {
     ghost use Rattle.std.specs.Prelude.{Some};
-    ghost use Rattle.rh_events.specs.Refusals.{refusal_words};
+    ghost use Rattle.rh_rules.specs.Refusals.{refusal_words};
 
     ghost output = { λ refusal. Some (refusal_words refusal) };
 

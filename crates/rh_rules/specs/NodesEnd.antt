@@ -1,21 +1,8 @@
--- How a node ends (Distributed Applications, "Failover").
-use Rattle.std.specs.Prelude.{ℕ, ◌+◌, ◌==◌, [], fold, slice_set, Some, unwrap_or, if◌then◌else◌}
-use Rattle.std.specs.Option.{option_map}
-use Rattle.rh_model.specs.ClusterView.{ClusterView, spread_of}
-use Rattle.rh_model.specs.declared.node.Node.{Node}
-use Rattle.rh_model.specs.declared.node.App.{App}
-use Rattle.rh_model.specs.declared.settings.Spread.{Spread}
-use Rattle.rh_state.specs.declared.status.Mode.TheVariants.{Down}
-use Rattle.rh_state.specs.declared.status.Standing.{Standing}
-use Rattle.rh_state.specs.declared.status.Standing.TheVariants.{Wanted, Lost}
-use Rattle.rh_state.specs.declared.status.Timer.TheVariants.{Sync, Failover}
-use Rattle.rh_state.specs.First.{configured}
-use Rattle.rh_state.specs.Numbers.{apps_of}
-use Rattle.rh_state.specs.Standings.{is_running_at}
-use Rattle.rh_state.specs.StateView.{StateView, standing_of}
-use Rattle.rh_state.specs.Setters.{with_mode, with_standing, with_timer, without_due}
-use Rattle.rh_settle.specs.declared.notice.Notice.TheVariants as notice
-use Rattle.rh_settle.specs.Course.{Course, told, now_in}
+-- RULES, "Nodes end, and what ran there": how a node ends, and what becomes of an application that was lost with it (Distributed
+-- Applications, Failover; kernel(6), distributed).
+use Rattle.std.specs.Prelude.{ℕ, unwrap_or, slice_set, Some, fold, [], ◌+◌, ◌==◌, if◌then◌else◌}
+use Rattle.rh_rules.specs.Prelude.{option_map, ClusterView, spread_of, App, Node, Spread, configured, apps_of, with_mode, without_due, with_standing, with_timer, is_running_at, StateView, standing_of, Down, Standing, Wanted, Lost, Sync, Failover, Notice}
+use Rattle.rh_rules.specs.Course.{Course, told, now_in}
 
 -- how long an application's other nodes wait for one that was lost (kernel(6), distributed)
 abbrev pub timeout_of : ClusterView → App → ℕ
@@ -39,9 +26,11 @@ lost_at s n a =
     if timeout_of s.cluster a == 0 then with_standing s a (Wanted (Some n))
     else with_timer (with_standing s a (Lost n)) (s.time + timeout_of s.cluster a) (Failover a)
 
+-- one that ran elsewhere, or nowhere, stands as it stood
 abbrev pub lost_from : StateView → Node → App → Standing → StateView
 lost_from s n a standing = if is_running_at n standing then lost_at s n a else s
 
+-- so with one, wherever it stands
 unfoldable pub lost_if_ran : Node → StateView → App → StateView
 lost_if_ran n s a = lost_from s n a (standing_of s a)
 
@@ -51,4 +40,9 @@ all_lost s n = fold (lost_if_ran n) s (apps_of s.cluster)
 
 -- a node ends: it is down and cleared, what ran there is lost or wanted, and its end is told (Distributed Applications, Failover)
 unfoldable pub ended : Course → Node → Course
-ended o n = told (now_in o (all_lost (cleared o.state n) n)) (notice.Ended n)
+ended o n = told (now_in o (all_lost (cleared o.state n) n)) (Notice.Ended n)
+
+-- a lost application that didn't come back in time is wanted
+abbrev pub wanted_if_lost : StateView → App → Standing → StateView
+wanted_if_lost s a (Lost n) = with_standing s a (Wanted (Some n))
+wanted_if_lost s a _ = s

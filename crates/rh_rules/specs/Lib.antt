@@ -1,0 +1,13 @@
+pub mod Prelude
+pub mod Course
+pub mod Steps
+pub mod NodesStart
+pub mod Marking
+pub mod Placing
+pub mod Moves
+pub mod Settling
+pub mod NodesEnd
+pub mod ByHand
+pub mod Everywhere
+pub mod Time
+pub mod Refusals
