@@ -1,5 +1,5 @@
-"""What the program prints, read: nothing else in this package knows its words. A reader of another form, JSON say, would give the
-same classes."""
+"""What the program prints, read. The other modules ask these classes, but for `live`, which compares lines as they stand. A reader of
+another form, JSON say, would give the same classes."""
 import re
 from collections.abc import Iterable, Sequence
 from dataclasses import dataclass

@@ -74,7 +74,7 @@ def lint(_):
 
 
 def sizes(_):
-    """No file, function or line is too long, and only the reader knows the words of the program's outcomes."""
+    """No file, function or line is too long."""
     for path in files_below(PACKAGE):
         if not path.endswith(".py"):
             continue
