@@ -36,8 +36,9 @@ LOST = 9
 MOST_TOLD = 10
 # So many shares for each run at once.
 SHARES = 4
-# What one run refuses too isn't tried again: it ends as if it were done, and a line on standard error tells so.
-GUARDED = "{run}; s=$?; case $s in 2|3|4|6) echo {refused} >&2; exit 0 ;; esac; exit $s"
+# What one run refuses too isn't tried again: it ends as if it were done, and a line on standard error tells so. What a run leaves unread is
+# read here, or who writes it would be ended by a signal.
+GUARDED = "{run}; s=$?; cat > /dev/null; case $s in 2|3|4|6) echo {refused} >&2; exit 0 ;; esac; exit $s"
 PIPED = ["--plain", "--pipe", "-N", "1", "--block", "16M", "--remove-rec-sep"]
 
 
