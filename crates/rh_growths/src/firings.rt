@@ -21,6 +21,9 @@ pub fn answer(alloc: Global, name: &str) -> Option<Answer> {
     if name == "firings_of" {
         return of_a_state(alloc);
     }
+    if !is_here(name) {
+        return None;
+    }
     let mut sim = sim_behind(alloc, PAIR, TWO_TIMERS.as_slice())?;
     if name == "Sim::firings" {
         of_a_sim(alloc, &mut sim)
@@ -28,6 +31,11 @@ pub fn answer(alloc: Global, name: &str) -> Option<Answer> {
         let fired = fired(alloc, &mut sim)?.ok()?;
         reading(alloc, fired.as_slice().get(1)?, name)
     }
+}
+
+// Is the call of this name, made of a simulation, here?
+fn is_here(name: &str) -> bool {
+    name == "Sim::firings" || name == "FiredTimer::due" || name == "FiredTimer::told"
 }
 
 // The timers of a tick of a simulation, where it isn't refused.
