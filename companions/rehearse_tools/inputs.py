@@ -5,6 +5,7 @@ Texts are kept as they are, also where they aren't UTF-8: bytes that aren't stan
 import sys
 from collections.abc import Iterable, Sequence
 from dataclasses import dataclass
+from typing import Optional
 
 from rehearse_tools.endings import Refused, write_bytes
 
@@ -86,6 +87,14 @@ def write_file(path: str, data: bytes) -> None:
             file.write(data)
     except OSError as fault:
         raise Refused(f"{path}: {fault.strerror}") from None
+
+
+def write_page(path: Optional[str], data: bytes) -> None:
+    """Writes a file, or to standard output where none is named."""
+    if path is None:
+        write_bytes(data)
+    else:
+        write_file(path, data)
 
 
 # ---- Lines

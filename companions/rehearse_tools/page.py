@@ -24,8 +24,8 @@ from collections.abc import Iterator, Sequence
 from typing import Any, Optional
 
 from rehearse_tools.command_line import CommandLine, workers
-from rehearse_tools.endings import Refused, write_bytes
-from rehearse_tools.inputs import called, is_command, read_text, split_input, words_of, write_file
+from rehearse_tools.endings import Refused
+from rehearse_tools.inputs import called, is_command, read_text, split_input, words_of, write_page
 from rehearse_tools.names import names_in
 from rehearse_tools.page_data import Step, data_of
 from rehearse_tools.page_names import names_of
@@ -113,8 +113,4 @@ def main(words: Sequence[str]) -> None:
     """Writes a page."""
     line = command_line()
     given = line.parse_args(words)
-    page = page_of(given, line.program(given))
-    if given.output is None:
-        write_bytes(page)
-    else:
-        write_file(given.output, page)
+    write_page(given.output, page_of(given, line.program(given)))

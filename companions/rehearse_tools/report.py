@@ -24,8 +24,8 @@ from typing import Any, Optional
 
 from rehearse_tools.command_line import CommandLine, count, thousand
 from rehearse_tools.courses import Courses, courses_of, paired
-from rehearse_tools.endings import Refused, write_bytes
-from rehearse_tools.inputs import Input, joined, write_file
+from rehearse_tools.endings import Refused
+from rehearse_tools.inputs import Input, joined, write_page
 from rehearse_tools.live_plans import Sweep, Verdict, judged
 from rehearse_tools.live_sides import Answer
 from rehearse_tools.live_text import NONE_DIFFERS, status_of
@@ -125,8 +125,4 @@ def main(words: Sequence[str]) -> None:
     """Writes a report."""
     line = command_line()
     given = line.parse_args(words)
-    page = report_of(given, line.program(given))
-    if given.output is None:
-        write_bytes(page)
-    else:
-        write_file(given.output, page)
+    write_page(given.output, report_of(given, line.program(given)))
