@@ -9,7 +9,7 @@ use Rattle.clap.specs.Values.{kind_of}
 use Rattle.clap.specs.declared.error.Error.{Error}
 use Rattle.clap.specs.declared.error.kind.ErrorKind.TheVariants as kind
 use Rattle.clap.specs.declared.parser.matches.ArgMatches.{ArgMatches}
-use Rattle.rh_app.specs.declared.status.Program.{Program}
+use Rattle.rh_programs.specs.declared.status.Program.{Program}
 use Rattle.rehearse.specs.CommandLine.{Picks, ArePicks, line}
 use Rattle.rehearse.specs.Asking.{AsksFor, IsAskedBy, IsNotUtf8, IsRefusedBy, Refuses, program_among}
 use Rattle.rehearse.specs.declared.command_line.Asked.{Asked}

@@ -1,8 +1,8 @@
 -- How the process ends, by what became of its parts.
 use Rattle.std.proofs.Common.{◌≡◌, ℕ, List, subst}
 use Rattle.rh_devices.specs.declared.watched.Watched.{Watched}
-use Rattle.rh_app.specs.declared.status.Program.{Program}
-use Rattle.rh_app.specs.Status.{IsDone, IsStaffed, StatusGives}
+use Rattle.rh_programs.specs.declared.status.Program.{Program}
+use Rattle.rh_programs.specs.Status.{IsDone, IsStaffed, StatusGives}
 use Rattle.rehearse.specs.Asking.{IsAsked}
 use Rattle.rehearse.specs.Process.{EndsOver, unused}
 use Rattle.rehearse.specs.declared.command_line.Asked.TheVariants as asked

@@ -8,8 +8,8 @@ use Rattle.clap.specs.Faults.{fault_of, is_simple_and_free}
 use Rattle.clap.specs.declared.error.kind.ErrorKind.TheVariants as kind
 use Rattle.clap.proofs.OnLiterals.{clap_on_literals}
 use Rattle.rh_rules.specs.declared.pick.Pick.TheVariants.{First, Last}
-use Rattle.rh_app.specs.declared.status.Program.{Program}
-use Rattle.rh_app.specs.declared.status.Program.TheVariants.{Check, Run, Sessions, Sweep}
+use Rattle.rh_programs.specs.declared.status.Program.{Program}
+use Rattle.rh_programs.specs.declared.status.Program.TheVariants.{Check, Run, Sessions, Sweep}
 use Rattle.rehearse.specs.CommandLine.{Picks, ArePicks, line}
 use Rattle.rehearse.specs.Asking.{program_among}
 

@@ -15,9 +15,9 @@ use Rattle.clap.specs.declared.error.kind.ErrorKind.TheVariants as kind
 use Rattle.rh_rules.specs.declared.pick.Pick.{Pick}
 use Rattle.rh_rules.specs.declared.pick.Pick.TheVariants.{First, Last}
 use Rattle.rh_sweep.specs.declared.workers.TheConstants.{MAX_WORKERS}
-use Rattle.rh_app.specs.declared.status.Program.{Program}
-use Rattle.rh_app.specs.declared.status.Program.TheVariants as program
-use Rattle.rh_app.specs.Status.{IsStaffed}
+use Rattle.rh_programs.specs.declared.status.Program.{Program}
+use Rattle.rh_programs.specs.declared.status.Program.TheVariants as program
+use Rattle.rh_programs.specs.Status.{IsStaffed}
 use Rattle.rehearse.specs.CommandLine.{Picks, ArePicks, line}
 use Rattle.rehearse.specs.declared.command_line.Asked.{Asked}
 use Rattle.rehearse.specs.declared.command_line.Asked.TheVariants as asked

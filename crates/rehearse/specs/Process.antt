@@ -3,8 +3,8 @@ use Rattle.std.specs.Prelude.{◌≡◌, ℕ, List, Result, Ok, Err, false}
 use Rattle.clap.specs.declared.error.Error.{Error}
 use Rattle.rh_devices.specs.declared.device.Failed.{Failed}
 use Rattle.rh_devices.specs.declared.watched.Watched.{Watched}
-use Rattle.rh_app.specs.declared.status.Program.{Program}
-use Rattle.rh_app.specs.Status.{StatusGives, IsDone}
+use Rattle.rh_programs.specs.declared.status.Program.{Program}
+use Rattle.rh_programs.specs.Status.{StatusGives, IsDone}
 use Rattle.rehearse.specs.Asking.{IsAsked}
 use Rattle.rehearse.specs.declared.command_line.Asked.{Asked}
 use Rattle.rehearse.specs.declared.command_line.Asked.TheVariants as asked

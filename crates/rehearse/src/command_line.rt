@@ -6,7 +6,7 @@ ghost use Rattle.std.specs.String.{string_bytes};
 ghost use Rattle.clap.specs.Words.{app_of, found_of, kind_of, rows_of, rule_of, subcommand_rows_of};
 ghost use Rattle.rh_rules.specs.declared.pick.Pick.TheVariants as pick;
 ghost use Rattle.rh_sweep.specs.Sweeping.{AreWorkers};
-ghost use Rattle.rh_app.specs.Status.{IsStaffed};
+ghost use Rattle.rh_programs.specs.Status.{IsStaffed};
 ghost use Rattle.rehearse.specs.CommandLine.{IsCommand, check_line, line, pick_option, run_line, sessions_line, sweep_line, workers_option};
 ghost use Rattle.rehearse.specs.Asking.{AsksFor, IsAsked, IsAskedBy, IsNotUtf8, IsRefusedBy, Refuses};
 ghost use Rattle.rehearse.specs.Asking.{allowed, pick_in, program_among, program_in, workers_in};
@@ -18,8 +18,8 @@ use crate::help::{
 use clap::builder::ValueParser;
 use clap::error::ErrorKind;
 use clap::{Arg, ArgAction, ArgMatches, Command, Error};
-use rh_app::Program;
 use rh_place::Pick;
+use rh_programs::Program;
 use rh_sweep::MAX_WORKERS;
 use std::alloc::Global;
 

@@ -2,11 +2,12 @@
 
 ghost use denote.Param.Send.{IsSync};
 ghost use Rattle.std.specs.Prelude.{◌≡◌, ⊤, false};
-ghost use Rattle.rh_app.specs.Status.{IsStaffed, IsDone, StatusGives, is_alone};
+ghost use Rattle.rh_programs.specs.Status.{IsStaffed, IsDone, StatusGives, is_alone};
 
 use crate::process::{Complain, Together};
 use clap::Error;
-use rh_app::{Program, Sink, Source, Watched, rehearse_together};
+use rh_app::{Sink, Source, Watched};
+use rh_programs::{Program, rehearse_together};
 use std::alloc::Global;
 use std::sync::Wait;
 use std::thread::Threads;

@@ -1,5 +1,5 @@
-use Rattle.rh_app.proofs.Statuses.{is_done}
-use Rattle.rh_app.proofs.status.rehearse_together.Goals as goal
+use Rattle.rh_programs.proofs.Statuses.{is_done}
+use Rattle.rh_programs.proofs.status.rehearse_together.Goals as goal
 
 pub returns-clause-ends : goal.returns-clause-ends
 returns-clause-ends g c = (c.ended_together-ended.result, c.ended_together-ended.new.writer, c.ended_together-ended.ensures, c.flushed.ensures)

@@ -1,5 +1,5 @@
-use Rattle.rh_app.proofs.Statuses.{is_done}
-use Rattle.rh_app.proofs.status.rehearse_alone.Goals as goal
+use Rattle.rh_programs.proofs.Statuses.{is_done}
+use Rattle.rh_programs.proofs.status.rehearse_alone.Goals as goal
 
 pub returns-clause-ends : goal.returns-clause-ends
 returns-clause-ends g c = (c.ended_alone-ended.result, c.ended_alone-ended.new.writer, c.ended_alone-ended.ensures, c.flushed.ensures)

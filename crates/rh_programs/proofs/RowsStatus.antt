@@ -10,7 +10,7 @@ use Rattle.rh_app.specs.declared.fault.HistoryFault.TheVariants as history
 use Rattle.rh_app.specs.declared.fault.SessionsFault.TheVariants as sessions
 use Rattle.rh_app.specs.Faults.{ended, reading_fault, writing_fault, history_fault, sessions_fault}
 use Rattle.rh_devices.specs.declared.watched.Watched.{Watched}
-use Rattle.rh_app.specs.Status.{status_of, Flushed}
+use Rattle.rh_programs.specs.Status.{status_of, Flushed}
 
 -- each status from 0 to 6 but 1, which is that of a command line and no program's
 statuses_row : (status_of (Ok tt) ≡ 0) × (status_of (Err (end.Cluster NoNodes)) ≡ 2) × (status_of (Err (end.BadLine 7)) ≡ 3)

@@ -2,15 +2,12 @@
 
 ghost use Rattle.std.specs.Prelude.{◌≡◌, false, true};
 ghost use Rattle.rh_app.specs.Programs.{ProgramGives};
-ghost use Rattle.rh_app.specs.Status.{Owes, MayTear, Flushed, IsStaffed, IsDone, StatusGives, is_alone, status_of};
+ghost use Rattle.rh_programs.specs.Status.{Owes, MayTear, Flushed, IsStaffed, IsDone, StatusGives, is_alone, status_of};
 
-use crate::checking::run_check;
-use crate::fault::RunFault;
-use crate::running::run;
-use crate::sessions::run_sessions;
-use crate::sweeping::{run_sweep, run_sweep_alone};
-use rh_devices::{Sink, Source, Watched};
-use rh_step::Pick;
+use rh_app::{
+    RunFault, Sink, Source, Watched, run, run_check, run_sessions, run_sweep, run_sweep_alone,
+};
+use rh_rules::Pick;
 use std::alloc::Global;
 use std::sync::Wait;
 use std::thread::Threads;

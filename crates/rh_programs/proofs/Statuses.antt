@@ -4,11 +4,11 @@ use Rattle.rh_app.specs.declared.fault.RunFault.{RunFault}
 use Rattle.rh_app.specs.declared.fault.RunFault.TheVariants as end
 use Rattle.rh_app.specs.declared.fault.Told.{Told}
 use Rattle.rh_app.specs.declared.fault.Told.TheVariants as told
-use Rattle.rh_app.specs.declared.status.Program.{Program}
+use Rattle.rh_programs.specs.declared.status.Program.{Program}
 use Rattle.rh_devices.specs.declared.watched.Watched.{Watched}
 use Rattle.rh_app.specs.Faults.{ended}
 use Rattle.rh_app.specs.Programs.{ProgramGives}
-use Rattle.rh_app.specs.Status.{Owes, MayTear, IsDone, StatusGives, status_of}
+use Rattle.rh_programs.specs.Status.{Owes, MayTear, IsDone, StatusGives, status_of}
 
 -- a program that is done was told no fault
 no_fault : (owed : Option Told) → Ok tt ≡ ended owed → owed ≡ None

@@ -4,8 +4,8 @@ use Rattle.rh_sweep.specs.Sweeping.{AreWorkers}
 use Rattle.rh_app.specs.declared.fault.RunFault.{RunFault}
 use Rattle.rh_app.specs.declared.fault.RunFault.TheVariants as end
 use Rattle.rh_app.specs.declared.fault.Told.{Told}
-use Rattle.rh_app.specs.declared.status.Program.{Program}
-use Rattle.rh_app.specs.declared.status.Program.TheVariants.{Check, Run, Sessions, Sweep}
+use Rattle.rh_programs.specs.declared.status.Program.{Program}
+use Rattle.rh_programs.specs.declared.status.Program.TheVariants.{Check, Run, Sessions, Sweep}
 use Rattle.rh_devices.specs.declared.watched.Watched.{Watched}
 use Rattle.rh_devices.specs.Devices.{Passed}
 use Rattle.rh_app.specs.Programs.{Owing, IsInput, ProgramGives, NoThreads}
