@@ -81,3 +81,7 @@ module _ {D K : Type 0} (left : D → List ℕ) (lacked : K → Bool) (items : K
       answered (Err (end.BadLine k)) gave.2.0 gave.0 gave.1 gave.2.1.1 (all_given left old.inner new.inner gave.2.0 gave.2.1.0) gave.2.2 gave.3.0 gave.4
   in_memory (Err (end.Sweep f)) other gave =
       answered (Err (end.Sweep f)) gave.2.0 gave.0 gave.1 gave.2.1.1 (all_given left old.inner new.inner gave.2.0 gave.2.1.0) gave.2.2 gave.3.0 gave.4
+  in_memory (Err end.Refused) other gave =
+      answered (Err end.Refused) gave.2.0 gave.0 gave.1 gave.2.1.1 (all_given left old.inner new.inner gave.2.0 gave.2.1.0) gave.2.2 gave.3.0 gave.4
+  in_memory (Err end.Differs) other gave =
+      answered (Err end.Differs) gave.2.0 gave.0 gave.1 gave.2.1.1 (all_given left old.inner new.inner gave.2.0 gave.2.1.0) gave.2.2 gave.3.0 gave.4

@@ -19,6 +19,8 @@ ended None = Ok tt
 ended (Some (told.Cluster f)) = Err (end.Cluster f)
 ended (Some (told.BadLine k)) = Err (end.BadLine k)
 ended (Some (told.Sweep f)) = Err (end.Sweep f)
+ended (Some told.Refused) = Err end.Refused
+ended (Some told.Differs) = Err end.Differs
 
 -- a program whose input was not read
 abbrev pub reading_fault : ReadFault → RunFault

@@ -37,6 +37,12 @@ pub enum RunFault {
     /// The sessions' threads made no one history of their commands. Nothing was written.
     #[error("the sessions made no one history")]
     Room,
+    /// A step was refused, and the program was asked to be strict. The whole text was written. No program of this crate ends so.
+    #[error("a step was refused")]
+    Refused,
+    /// What a script expects doesn't hold. The whole text was written. No program of this crate ends so.
+    #[error("what the script expects doesn't hold")]
+    Differs,
 }
 
 /// The fault that a whole text tells at its end.
@@ -48,6 +54,10 @@ pub enum Told {
     BadLine(u64),
     /// The plans can't be swept.
     Sweep(SweepFault),
+    /// A step was refused, and the program was asked to be strict. No text of this crate tells it.
+    Refused,
+    /// What a script expects doesn't hold. No text of this crate tells it.
+    Differs,
 }
 
 /// Why the sessions' threads gave no history.
@@ -77,6 +87,8 @@ pub fn ended(told: Option<Told>) -> Result<(), RunFault>
         Some(Told::Cluster(fault)) => Err(RunFault::Cluster(fault)),
         Some(Told::BadLine(number)) => Err(RunFault::BadLine(number)),
         Some(Told::Sweep(fault)) => Err(RunFault::Sweep(fault)),
+        Some(Told::Refused) => Err(RunFault::Refused),
+        Some(Told::Differs) => Err(RunFault::Differs),
     }
 }
 

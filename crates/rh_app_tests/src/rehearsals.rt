@@ -47,6 +47,8 @@ pub fn said(ended: Result<(), RunFault>) -> &'static str {
         Err(RunFault::OutOfMemory) => "memory",
         Err(RunFault::Sweep(_)) => "sweep",
         Err(RunFault::Room) => "room",
+        Err(RunFault::Refused) => "refused",
+        Err(RunFault::Differs) => "differs",
     }
 }
 
