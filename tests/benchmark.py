@@ -1,5 +1,5 @@
 #!/usr/bin/env python3
-"""Prints how long the built program takes, and its peak memory: benchmark.py PROGRAM [WORD..]
+"""Prints how long the built program takes, and its peak memory: benchmark.py PROGRAM [--against OTHER] [WORD..]
 
 The table has a row for each input: the subcommand, what the input is, its size in MiB, the exit status, the seconds, those of
 all processors together, and the peak memory in MiB. First come rehearsals of a cluster of 32 nodes and 64 applications, each of
@@ -8,7 +8,8 @@ which is distributed over eight nodes, and sweeps of 20,000 plans of 10 to 30 ev
 much memory. Where words are given, these are the rows whose text has them all.
 
 A run is ended after 20 seconds, and is refused memory behind 4 GiB; its output is thrown away. Nothing is asserted: the times
-depend on the machine.
+depend on the machine. With --against another program that takes the same command line is measured in turn with this one
+(against.py).
 """
 import os
 import random
@@ -16,6 +17,7 @@ import subprocess
 import sys
 import tempfile
 
+import against
 import hostile_texts
 from hostile_texts import MIB
 from support import chain
@@ -153,6 +155,10 @@ def main():
         sys.exit(__doc__)
     program, wanted = os.path.abspath(sys.argv[1]), sys.argv[2:]
     print(f"{os.cpu_count()} processors\n")
+    if wanted[:1] == ["--against"] and len(wanted) > 1:
+        chosen = [it for it in against.workloads(large, steps, plans) if all(word in f"{it.words} {it.name}" for word in wanted[2:])]
+        against.print_table(program, os.path.abspath(wanted[1]), chosen)
+        return
     print("| Command | Input | MiB | Status | Seconds | of all processors | Peak MiB |")
     print("|---|---|---|---|---|---|---|")
     for words, name, make in rows():
