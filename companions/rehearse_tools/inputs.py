@@ -3,14 +3,17 @@
 Texts are kept as they are, also where they aren't UTF-8: bytes that aren't stand in a str as lone surrogates.
 """
 import sys
-from collections.abc import Iterable, Sequence
+from collections.abc import Iterable, Iterator, Sequence
+from contextlib import contextmanager
 from dataclasses import dataclass
-from typing import Optional
+from typing import BinaryIO, Optional
 
 from rehearse_tools.endings import Refused, write_bytes
 
 # The line between a cluster file and its script.
 APART = "==="
+# A long file is read in pieces of so many bytes.
+CHUNK = 1 << 18
 
 
 @dataclass(frozen=True)
@@ -53,21 +56,39 @@ def called(path: str) -> str:
     return "standard input" if path == "-" else path
 
 
-def read_bytes(path: str) -> bytes:
-    """A file, which isn't empty; `-` is standard input."""
+@contextmanager
+def opened(path: str) -> Iterator[BinaryIO]:
+    """A file to read; `-` is standard input."""
     try:
         if path != "-":
             with open(path, "rb") as file:
-                data = file.read()
+                yield file
         elif sys.stdin is None:
             raise Refused("standard input: it is closed")
         else:
-            data = sys.stdin.buffer.read()
+            yield sys.stdin.buffer
     except OSError as fault:
         raise Refused(f"{called(path)}: {fault.strerror}") from None
+
+
+def read_bytes(path: str) -> bytes:
+    """A file, which isn't empty; `-` is standard input."""
+    with opened(path) as file:
+        data = file.read()
     if not data:
         raise Refused(f"{called(path)}: it is empty")
     return data
+
+
+def read_chunks(path: str) -> Iterator[bytes]:
+    """The same, piece by piece."""
+    with opened(path) as file:
+        chunk = file.read(CHUNK)
+        if not chunk:
+            raise Refused(f"{called(path)}: it is empty")
+        while chunk:
+            yield chunk
+            chunk = file.read(CHUNK)
 
 
 def read_text(path: str) -> str:

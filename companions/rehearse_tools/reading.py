@@ -223,24 +223,58 @@ class Outcome:
         return list(events[:self.accepted + (self.refused is not None)])
 
 
-def outcomes_in(lines: Iterable[str], source: str) -> list[Outcome]:
-    """The outcomes in a sweep's output, behind the answers of the base."""
-    found: list[Outcome] = []
-    for number, line in enumerate(lines, 1):
+class OutcomeReader:
+    """Reads what a sweep prints, line by line, and gives each outcome once it is whole. What stands before the first one are the
+    answers of the base."""
+
+    def __init__(self, source: str):
+        self.source = source
+        self.apps: Optional[list[str]] = None
+        self.current: Optional[Outcome] = None
+        # A line about an application comes again and again.
+        self.known: dict[str, tuple[str, Standing]] = {}
+
+    def begun(self, words: list[str]) -> Optional[Outcome]:
+        """Begins an outcome, and gives the one before it."""
+        before = self.end()
+        accepted, failovers, takeovers = map(int, words[3::2])
+        self.current = Outcome(words[1], accepted, failovers, takeovers, {})
+        return before
+
+    def read(self, number: int, line: str) -> Optional[Outcome]:
+        """Reads the line of this number, and gives the outcome before it, if it is the first line of the next one."""
+        known = self.known.get(line)
+        if known is not None and self.current is not None:
+            self.current.standing[known[0]] = known[1]
+            return None
         words = words_of(line)
         if words[:1] == ["plan"] and OUTCOME.fullmatch(line):
-            accepted, failovers, takeovers = map(int, words[3::2])
-            found.append(Outcome(words[1], accepted, failovers, takeovers, {}))
-        elif found and words[:1] == ["app"]:
-            found[-1].standing[words[1]] = Standing(*words[2:4])
-        elif found and REFUSED_EVENT.match(line):
-            found[-1].refused = RefusedEvent(int(words[1]), " ".join(words[2:]))
+            return self.begun(words)
+        if self.current is not None and words[:1] == ["app"]:
+            self.known[line] = words[1], Standing(*words[2:4])
+            self.current.standing[words[1]] = self.known[line][1]
+        elif self.current is not None and REFUSED_EVENT.match(line):
+            self.current.refused = RefusedEvent(int(words[1]), " ".join(words[2:]))
         elif REFUSED.match(line):
             counted = " (counted behind ===)" if words[0] == "bad" else ""
-            raise Refused(f"{source}: the sweep was refused: {line}{counted}")
-        elif found or words[:1] in (["cluster"], ["bad"], ["sweep"]):
-            raise Refused(f"{source}: line {number} is no outcome of a plan: {line}")
-    for outcome in found:
-        if list(outcome.standing) != list(found[0].standing):
-            raise Refused(f"{source}: plan {outcome.name} tells of other applications than the first one: is the text cut off?")
-    return found
+            raise Refused(f"{self.source}: the sweep was refused: {line}{counted}")
+        elif self.current is not None or words[:1] in (["cluster"], ["bad"], ["sweep"]):
+            raise Refused(f"{self.source}: line {number} is no outcome of a plan: {line}")
+        return None
+
+    def end(self) -> Optional[Outcome]:
+        """The last outcome, which tells of the same applications as the first one."""
+        outcome, self.current = self.current, None
+        if outcome is not None:
+            apps = list(outcome.standing)
+            self.apps = apps if self.apps is None else self.apps
+            if apps != self.apps:
+                raise Refused(f"{self.source}: plan {outcome.name} tells of other applications than the first one: is the text cut off?")
+        return outcome
+
+
+def outcomes_in(lines: Iterable[str], source: str) -> list[Outcome]:
+    """The outcomes in a sweep's output."""
+    reader = OutcomeReader(source)
+    found = [reader.read(number, line) for number, line in enumerate(lines, 1)]
+    return [outcome for outcome in [*found, reader.end()] if outcome is not None]

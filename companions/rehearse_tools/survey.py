@@ -29,9 +29,10 @@ from typing import Optional
 
 from rehearse_tools.command_line import CommandLine
 from rehearse_tools.courses import Courses, Gap, courses_of, losses_of, paired
-from rehearse_tools.endings import Refused, tell
-from rehearse_tools.inputs import called, lines_of, read_text, split_input, text_of, write_out
-from rehearse_tools.reading import Outcome, outcomes_in
+from rehearse_tools.endings import tell
+from rehearse_tools.inputs import called, lines_of, read_bytes, read_chunks, read_text, split_input, text_of, to_text, write_out
+from rehearse_tools.reading import outcomes_in
+from rehearse_tools.tallies import Tally, tally_of
 from rehearse_tools.words import plural, some
 
 FAILED = 9
@@ -40,14 +41,9 @@ MOST_NAMES, MOST_LONGEST = 10, 3
 
 @dataclass(frozen=True)
 class Swept:
-    """What is known of a sweep: its outcomes, and with --of the report behind the base and the courses of the plans."""
-    outcomes: list[Outcome]
+    """What is known of a sweep: its plans, counted, and with --of the report behind the base and the courses of the plans."""
+    tally: Tally
     courses: Optional[Courses] = None
-
-    @property
-    def apps(self) -> list[str]:
-        """The distributed applications."""
-        return list(self.outcomes[0].standing)
 
     def gaps(self, app: str) -> list[Gap]:
         """The times without an application."""
@@ -73,16 +69,13 @@ def command_line() -> CommandLine:
 
 def lines_about(app: str, swept: Swept, is_least: bool, most: Optional[int]) -> Iterator[str]:
     """What is told of an application."""
-    nowhere: dict[str, list[str]] = {}
-    ran: dict[str, list[str]] = {}
-    for outcome in swept.outcomes:
-        standing = outcome.standing[app]
-        chosen, key = (ran, standing.node) if standing.is_running else (nowhere, standing.word)
-        chosen.setdefault(key, []).append(outcome.name)
-    yield f"{app}: nowhere at the end of {sum(map(len, nowhere.values()))} of {plural(len(swept.outcomes), 'plan')}"
-    yield from (f"  {word}: {some(plans, most)}" for word, plans in nowhere.items())
+    stood = swept.tally.stood[app].values()
+    nowhere, ran = [each for each in stood if not each.standing.is_running], [each for each in stood if each.standing.is_running]
+    count = sum(each.count.number for each in nowhere)
+    yield f"{app}: nowhere at the end of {count} of {plural(swept.tally.plans, 'plan')}"
+    yield from (f"  {each.standing.word}: {each.count}" for each in nowhere)
     if ran:
-        yield "  ran at the end at " + ", ".join(f"{node} ({plural(len(plans), 'plan')})" for node, plans in ran.items())
+        yield "  ran at the end at " + ", ".join(f"{each.standing.node} ({plural(each.count.number, 'plan')})" for each in ran)
     if swept.courses is not None:
         yield from longest_of(swept.gaps(app), most)
     if is_least and swept.courses is not None:
@@ -109,11 +102,12 @@ def failures(swept: Swept, wanted: Sequence[str]) -> Iterator[str]:
     """What --fail-if names: for each of its words that applies, a line."""
     base = swept.courses.base.apps if swept.courses is not None else {}
     counts: dict[str, Counter[str]] = {"nowhere": Counter(), "moved": Counter(), "refused": Counter()}
-    for outcome in swept.outcomes:
-        counts["refused"]["an event"] += outcome.refused is not None
-        for app, standing in outcome.standing.items():
-            counts["nowhere"][app] += not standing.is_running
-            counts["moved"][app] += standing.is_running and app in base and base[app].is_running and standing != base[app]
+    counts["refused"]["an event"] = swept.tally.refused.number
+    for app, stood in swept.tally.stood.items():
+        for standing, each in stood.items():
+            counts["nowhere"][app] += each.count.number * (not standing.is_running)
+            counts["moved"][app] += each.count.number * (standing.is_running and app in base and base[app].is_running
+                                                         and standing != base[app])
     for word, counter in counts.items():
         found = [f"{name} in {plural(number, 'plan')}" for name, number in counter.items() if number]
         if found and word in wanted:
@@ -122,26 +116,25 @@ def failures(swept: Swept, wanted: Sequence[str]) -> Iterator[str]:
 
 def swept_of(line: CommandLine, given: Namespace) -> Swept:
     """What is known of the sweep that a command line names."""
-    source = called(given.output)
-    outcomes = outcomes_in(lines_of(read_text(given.output)), source)
-    if not outcomes:
-        raise Refused(f"{source}: it has no outcome of a plan, so it isn't what a sweep printed")
+    source, most = called(given.output), None if given.all else MOST_NAMES
     if given.of is None:
-        return Swept(outcomes)
+        return Swept(tally_of(read_chunks(given.output), source, most))
+    output = read_bytes(given.output)
+    tally = tally_of([output], source, most)
     program, text = line.program(given), read_text(given.of)
     program.check_script(text, called(given.of))
     parts = split_input(text)
-    tried = paired(outcomes, parts.plans, source, called(given.of))
-    return Swept(outcomes, courses_of(program, parts, tried, called(given.of)))
+    tried = paired(outcomes_in(lines_of(to_text(output)), source), parts.plans, source, called(given.of))
+    return Swept(tally, courses_of(program, parts, tried, called(given.of)))
 
 
 def summary(swept: Swept, is_least: bool, most: Optional[int]) -> Iterator[str]:
     """All that is told of a sweep."""
-    refused = [f"{outcome.name} ({outcome.refused})" for outcome in swept.outcomes if outcome.refused is not None]
-    yield f"{plural(len(swept.outcomes), 'plan')}, {plural(len(swept.apps), 'distributed application')}"
-    if refused:
-        yield f"{plural(len(refused), 'plan')} ended at an event that was refused: {some(refused, most)}"
-    for app in swept.apps:
+    tally = swept.tally
+    yield f"{plural(tally.plans, 'plan')}, {plural(len(tally.apps), 'distributed application')}"
+    if tally.refused.number:
+        yield f"{plural(tally.refused.number, 'plan')} ended at an event that was refused: {tally.refused}"
+    for app in tally.apps:
         yield ""
         yield from lines_about(app, swept, is_least, most)
 

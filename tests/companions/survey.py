@@ -74,6 +74,22 @@ def without_times(program):
     owed += ", ".join(f"q{number}" for number in range(10))
     yield "many plans", fault_of(survey(program, [], many), 0, (owed + " and 2 more\n").encode())
     yield "many plans, each named", fault_of(survey(program, ["--all"], many), 0, (owed + ", q10, q11\n").encode())
+    # A text of over 2 MiB, which is read in pieces; every third plan leaves web wanted, and two are refused.
+    long = "".join(f"plan q{number} accepted 0 failovers 0 takeovers 0\n" + "refused 1 S5 not_alive\n" * (number in (0, 30_000)) +
+                   f"app web {'wanted' if number % 3 == 0 else 'running a@x'}\n" for number in range(36_000))
+    owed = """36000 plans, 1 distributed application
+2 plans ended at an event that was refused: q0 (1 S5 not_alive), q30000 (1 S5 not_alive)
+
+web: nowhere at the end of 12000 of 36000 plans
+  wanted: q0, q3, q6, q9, q12, q15, q18, q21, q24, q27 and 11990 more
+  ran at the end at a@x (24000 plans)
+"""
+    yield "a long text", fault_of(survey(program, [], long), 0, owed.encode())
+    yield "a long text with CR LF", fault_of(survey(program, [], long.replace("\n", "\r\n")), 0, owed.encode())
+    cut = long[:long.rindex("app")]
+    wrong = b"survey: standard input: plan q35999 tells of other applications than the first one: is the text cut off?\n"
+    ended = survey(program, [], cut)
+    yield "a long text that is cut off", None if ended.returncode == 2 and ended.stderr == wrong else ended.stderr.decode()
     none = "ok\nplan p accepted 0 failovers 0 takeovers 0\n"
     yield "no application", fault_of(survey(program, [], none), 0, b"1 plan, 0 distributed applications\n")
 
