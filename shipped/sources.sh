@@ -64,10 +64,12 @@ find_value() {
 }
 
 # Was this program built from what this checkout has? Git tells it in a few milliseconds, from the commit in the text;
-# where it can't, or tells a difference (in a line of crates.txt about another crate, say), the checksum does.
+# where it can't, or tells a difference (in a line of crates.txt about another crate, say), the checksum does. Where there
+# are no sources, as in a package, it was.
 is_current() {
   local program=$1 name=$2 value paths
   [ -x "$program" ] && [ -f "$program.txt" ] || return 1
+  [ -f "$top/crates.txt" ] || return 0
   find_value "$program" commit
   if [ "$value" != none ]; then
     find_paths "$name"

@@ -1,0 +1,114 @@
+# Where files were named: which line of which of them is refused, and what was expected there. Read by ./rehearse, behind
+# front.sh and help.sh, where that is needed.
+
+# Tells why the program refused the input: the cluster file, or a line that is no command.
+tell_place() {
+  local part= line= text=
+  if ((status == 2)); then tell_cluster; else tell_line; fi
+}
+
+# Finds the line of the whole input that has this number: the file with its number in `part`, the number there in `line`, and in
+# `text` what stands there, cut at 40 bytes.
+find_place() {
+  local count
+  line=$1
+  for part in "${!parts[@]}"; do
+    count=$(wc -l < "${parts[part]}")
+    ((line > count && part + 1 < ${#parts[@]})) || break
+    line=$((line - count))
+  done
+  text=$(sed -n "$line{p;q}" "${parts[part]}" | head -c 42 | tr '\0' '?')
+  text=${text%$'\r'}
+  ((${#text} <= 40)) || cut_text
+  text=${text//$'\t'/\\t}
+  text=${text//[[:cntrl:]]/?}
+}
+
+# Cuts the text at 40 bytes, or before a character of UTF-8 that would be torn.
+cut_text() {
+  local next=${text:40:1}
+  text=${text:0:40}
+  if [[ $next == [$'\x80'-$'\xbf'] ]]; then
+    while [[ $text == *[$'\x80'-$'\xbf'] ]]; do text=${text%?}; done
+    text=${text%[$'\xc0'-$'\xff']}
+  fi
+  text+=..
+}
+
+# The number of the line `===` in the whole input.
+mark() {
+  cat -- "${parts[@]}" | grep -anxm 1 $'===\r\\?' | head -n 1 | cut -d : -f 1
+}
+
+# Tells the fault of a cluster file, with its line where the program tells one, and what causes it by the page of answers.
+tell_cluster() {
+  local fault code name cause= remedy
+  fault=$(cat -- "${parts[@]}" | "$program" check 2> /dev/null | head -n 1)
+  fault=${fault#cluster refused }
+  [[ $fault =~ ^(C[0-9]+( T[0-9]+)?)\  ]] && code=${BASH_REMATCH[1]} && find_answer "$code" && shorten_cause "${code#C1 }"
+  if [[ ! $fault =~ ^(.*)\ line\ ([0-9]+)(.*)$ ]]; then
+    printf '%s: refused: %s%s\n' "$(name_of 0)" "$fault" "${cause:+ ($cause)}" >&2
+    return
+  fi
+  fault=${BASH_REMATCH[1]}${BASH_REMATCH[3]}
+  find_place "${BASH_REMATCH[2]}"
+  cause=${cause// K / $line }
+  if ((BASH_REMATCH[2] >= $(mark))); then text='the cluster file ends here, and'; else text="\"$text\""; fi
+  printf '%s:%s: %s is refused: %s%s\n' "$(name_of "$part")" "$line" "$text" "$fault" "${cause:+ ($cause)}" >&2
+}
+
+# Cuts what causes a fault where it is long, and says what tells all of it.
+shorten_cause() {
+  ((${#cause} > 160)) || return 0
+  cause=${cause:0:160}
+  cause="${cause%; *}; ..: rehearse help $1"
+}
+
+# Tells the line that is no command, and what would be one. The program is asked once more for its number, by the subcommand that
+# tells it last and alone.
+tell_line() {
+  local plain=run told
+  [[ $words != @(sessions|sweep) ]] || plain=$words
+  told=$(cat -- "${parts[@]}" | "$program" "$plain" 2> /dev/null | tail -n 1)
+  [[ $told =~ ^bad\ line\ ([0-9]+)$ ]] || return
+  find_place $(($(mark) + BASH_REMATCH[1]))
+  printf '%s:%s: "%s" is no command (%s)\n' "$(name_of "$part")" "$line" "$text" "$(expected "$plain" "${BASH_REMATCH[1]}")" >&2
+}
+
+# What stands in a line of a script for `run`, `sessions` or `sweep`, seen from what stands there now.
+expected() {
+  local row usage example list=() word=
+  read -r -a list <<< "$text"
+  word=${list[0]-}
+  if [[ $1 == sessions && $word == [1-8] && $text != *\\t* ]]; then
+    word=${list[1]-}
+    (($2 <= 65535)) || { echo "sessions make at most 65,535 commands" && return; }
+  fi
+  if [[ $word == \#* ]]; then
+    echo "the # of a comment is the first byte of its line"
+  elif [[ $text == *\\t* ]]; then
+    echo "words stand apart by spaces, not by tabs"
+  elif [[ $1 == sessions && ${list[0]-} != [1-8] ]]; then
+    echo "the number of a session, 1 to 8, stands before each command: 1 boot a@x"
+  elif [[ $word == plan ]]; then
+    [ "$1" = sweep ] && echo "plan NAME" || echo "plans are for sweep"
+  elif [[ $1 == sweep && ${#list[@]} -eq 1 && $word == @(undo|redo|undo_all|redo_all|show) ]]; then
+    echo "a plan has events alone: $(first_words)"
+  elif find_row "${word,,}"; then
+    usage=$(field usage "$row") example=$(field example "$row")
+    [ "$usage" = "$example" ] && echo "$usage" || echo "$usage, as $example"
+  else
+    first_words
+  fi
+}
+
+# The first commands of the table.
+first_words() {
+  local row list=()
+  while read -r row; do
+    [[ $row != *'"word"'* ]] || list+=("$(field word "$row")")
+    ((${#list[@]} < 3)) || break
+  done < "$top/companions/rehearse_tools/commands.json"
+  printf '%s, ' "${list[@]}"
+  echo ..
+}
