@@ -1,6 +1,7 @@
 """The command lines of the tools, by argparse, and what their values may be."""
 import argparse
 import os
+import re
 import sys
 from typing import Any, NoReturn, Optional
 
@@ -10,6 +11,17 @@ TOP = os.path.dirname(os.path.dirname(os.path.dirname(os.path.realpath(__file__)
 COMMAND = "rehearse-tools"
 LONGEST = 10**12
 MOST_WORKERS = 16
+# A package has no sources of the program.
+IS_INSTALLED = not os.path.exists(os.path.join(TOP, "crates.txt"))
+# How the texts call the commands from the top of the repository, and how they are called where they are installed.
+CALLS = ((r"companions/rehearse-tools\b", COMMAND), (r"companions/(?=\w)", f"{COMMAND} "), (r"\./rehearse\b", "rehearse"))
+
+
+def as_installed(text: str) -> str:
+    """A text with the commands as they are called where they are installed."""
+    for pattern, name in CALLS:
+        text = re.sub(pattern, name, text)
+    return text
 
 
 class CommandLine(argparse.ArgumentParser):
@@ -21,6 +33,10 @@ class CommandLine(argparse.ArgumentParser):
                          formatter_class=argparse.RawDescriptionHelpFormatter, **options)
         self.name = name
         self.wrong = wrong
+
+    def format_help(self) -> str:
+        text = super().format_help()
+        return as_installed(text) if IS_INSTALLED else text
 
     def error(self, message: str) -> NoReturn:
         self.print_usage(sys.stderr)

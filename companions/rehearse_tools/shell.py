@@ -200,11 +200,17 @@ def opened(program: Program, path: str) -> tuple[Session, str]:
     return session, f"{counts}, profile {names.profile}{behind}; help lists the commands"
 
 
-def main(words: Sequence[str]) -> None:
-    """Answers the lines of a prompt."""
+def command_line() -> CommandLine:
+    """The command line of this tool."""
     line = CommandLine("shell", __doc__)
     line.add_argument("file", metavar="FILE", help="a cluster file, with a script or without one")
     line.add_program()
+    return line
+
+
+def main(words: Sequence[str]) -> None:
+    """Answers the lines of a prompt."""
+    line = command_line()
     given = line.parse_args(words)
     if sys.stdin is None or sys.stdout is None:
         raise Refused(f"standard {'input' if sys.stdin is None else 'output'}: it is closed")
