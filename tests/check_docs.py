@@ -1,7 +1,7 @@
 #!/usr/bin/env python3
 """Checks the documents against the repository and the built program: check_docs.py [--times] PROGRAM
 
-In README.md and docs/*.md each link leads somewhere, also within a page. Each command of a block ```console, a line that
+In README.md, CONTRIBUTING.md, CHANGELOG.md and docs/*.md each link leads somewhere, also within a page. Each command of a block ```console, a line that
 begins with `$ ` (up to the line EOF where it has a <<), is run from the top of the repository with the program in place of
 ./rehearse: it prints what stands below it, where a line `...` stands for any lines, writes nothing to standard error, and
 has the exit status 0 (a document shows another one by `; echo "status $?"`). Each block ```erlang is a cluster file that
@@ -41,7 +41,7 @@ def text_of(name):
 
 
 def documents():
-    return ["README.md"] + sorted(os.path.relpath(path, TOP) for path in glob.glob(os.path.join(TOP, "docs", "*.md")))
+    return ["README.md", "CONTRIBUTING.md", "CHANGELOG.md"] + sorted(os.path.relpath(path, TOP) for path in glob.glob(os.path.join(TOP, "docs", "*.md")))
 
 
 def blocks(text):

@@ -17,6 +17,7 @@ TOOLS = {
     "live": "tells what live nodes would do otherwise, without any",
     "report": "from a release to one page that a team can read",
     "compare": "tells what the same failures come to on two cluster files",
+    "case": "packs a rehearsal that told something else than a cluster did",
 }
 USAGE = "usage: rehearse-tools TOOL [WORD..]"
 WRONG_LINE = 1

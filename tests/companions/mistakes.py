@@ -39,9 +39,10 @@ class Call(NamedTuple):
 CALLS = {
     "plans": Call(("FILE",)), "survey": Call(("--of", "PLANS", "OUTPUT"), "OUTPUT"), "page": Call(("FILE",)), "shell": Call(("FILE",)),
     "live": Call(("FILE",), wrong=4), "compare": Call(("FILE", "FILE"), wrong=4), "spread": Call(("PLANS",), "PLANS"),
-    "replay": Call(("FILE",)), "report": Call(("FILE",)), "gather": Call(("--bare", "--config", "CONFIG", "--node", "a@x", "--node", "b@x"), "CONFIG", asks=False)}
+    "replay": Call(("FILE",)), "report": Call(("FILE",)), "case": Call(("FILE",)),
+    "gather": Call(("--bare", "--config", "CONFIG", "--node", "a@x", "--node", "b@x"), "CONFIG", asks=False)}
 # These have no path of their own.
-NEW = ("report",)
+NEW = ("report", "case")
 # Files that aren't what is to be read, with the end of what is told of them.
 FILES = {"no file": "No such file or directory", "a folder": "Is a directory", "an empty file": "it is empty"}
 
@@ -123,7 +124,7 @@ def outputs(program: str, folder: str, name: str) -> Iterator[Test]:
     done = finished(words, stdout=writer)
     os.close(writer)
     # Nodes go on as long as somebody reads what they do. Else the status is that of what was done.
-    owed = (4, 1) if name == "replay" else (finished(words).returncode, 0)
+    owed = (4, 1) if name == "replay" else (finished(words, stdout=subprocess.DEVNULL).returncode, 0)
     yield f"{name}: nobody reads", None if (done.returncode, len(done.stderr.splitlines())) == owed else f"{done}, want {owed}"
 
 
@@ -182,7 +183,7 @@ def all_companions(_: str) -> Iterator[Test]:
 
 # Its lines tell of an error in words that Erlang has for it.
 ERLANG = ("gather", "replay")
-PYTHON = ("plans", "survey", "shell", "live", "compare")
+PYTHON = ("plans", "survey", "shell", "live", "compare", "case")
 TESTS = (all_companions, own_faults, *(
     Group(in_folder(tests), items=names, needs=needs)
     for tests in (files, programs, outputs, interrupted)

@@ -11,7 +11,7 @@ NEEDS = ("python3",)
 COMPANIONS = os.path.join(TOP, "companions")
 COMMAND = os.path.join(COMPANIONS, "rehearse-tools")
 PACKAGE = os.path.join(COMPANIONS, "rehearse_tools")
-TOOLS = ("gather", "plans", "survey", "spread", "page", "shell", "replay", "live", "report", "compare")
+TOOLS = ("gather", "plans", "survey", "spread", "page", "shell", "replay", "live", "report", "compare", "case")
 PLANS = b"""{node, a@x, [{kernel, [{distributed, [{web, 5000, [a@x, b@x]}]}]}, {rehearse, [{boot, [{web, permanent}]}]}]}.
 {node, b@x, [{kernel, [{distributed, [{web, 5000, [a@x, b@x]}]}]}, {rehearse, [{boot, [{web, permanent}]}]}]}.
 {application, web, []}.
