@@ -1,0 +1,4 @@
+pub mod HasReason
+pub mod Told
+pub mod Awaiting
+mod Rows

@@ -1,0 +1,3 @@
+pub mod Reasons
+pub mod Texts
+pub mod Laws

@@ -1,0 +1,98 @@
+//! Reasons in words.
+
+ghost use Rattle.std.specs.Prelude.{◌≡◌, ◌++◌, is_some, OnOk, IfOk};
+ghost use Rattle.std.specs.List.{flat_map};
+ghost use Rattle.std.specs.String.{string_bytes};
+ghost use Rattle.rh_model.specs.ClusterView.{dep_name};
+ghost use Rattle.rh_why.specs.Texts.{dep_word, reason_text, one_word, until_text, awaited_text};
+
+use crate::reason::{Awaited, Reason};
+use rh_base::OutOfMemory;
+use rh_model::{Cluster, Dep, Node};
+use rh_trail::{NO_NAME, node_word};
+use std::alloc::Global;
+
+// Is the dependency one of the cluster's?
+fn has_dep(cluster: &Cluster, dep: Dep) -> bool
+    ensures { result ≡ is_some (dep_name cluster.now dep) }
+{
+    match dep {
+        Dep::Listed(app) => (app.0 as usize) < cluster.app_count(),
+        Dep::Platform(number) => (number as usize) < cluster.platform_count(),
+    }
+}
+
+// The name of a dependency, or a question mark for one that isn't of this cluster.
+fn dep_word<'a>(cluster: &'a Cluster, dep: Dep) -> &'a str
+    ensures { result.now ≡ dep_word cluster.now dep }
+{
+    if has_dep(cluster, dep) {
+        cluster.dep_name(dep)
+    } else {
+        NO_NAME
+    }
+}
+
+/// Why an application waits, in one line without its end: `needs db`, `forbidden`, `runs at n1@lab`, `lost with n1@lab until 6000`,
+/// `quiet`. A number that nothing of the cluster has is shown as a question mark.
+#[tactic(auto, unfolding(crate::specs::Texts::reason_text))]
+pub fn reason_text(alloc: Global, cluster: &Cluster, reason: &Reason) -> Result<String, OutOfMemory>
+    ensures { IfOk result (λ text. string_bytes text ≡ reason_text cluster.now reason.now) }
+{
+    let mut text = String::new(alloc);
+    match *reason {
+        Reason::Needs { dep } => {
+            let name = dep_word(cluster, dep);
+            write!(text, "needs {name}")?;
+        }
+        Reason::Forbidden => write!(text, "forbidden")?,
+        Reason::RunsAt { node } => {
+            let name = node_word(cluster, node);
+            write!(text, "runs at {name}")?;
+        }
+        Reason::LostWith { node, due } => {
+            let name = node_word(cluster, node);
+            write!(text, "lost with {name} until {due}")?;
+        }
+        Reason::Quiet => write!(text, "quiet")?,
+    }
+    Ok(text)
+}
+
+/// For whom a node waits, in one line without its end: `waits for n2@lab n3@lab until 5000`, or without `until ..` where the wait
+/// has no end.
+#[tactic(auto, unfolding(crate::specs::Texts::awaited_text))]
+pub fn awaited_text(
+    alloc: Global,
+    cluster: &Cluster,
+    awaited: &Awaited,
+) -> Result<String, OutOfMemory>
+    ensures { IfOk result (λ text. string_bytes text ≡ awaited_text cluster.now awaited.now.nodes.items awaited.now.until) }
+{
+    let mut text = String::new(alloc);
+    write!(text, "waits for")?;
+    push_nodes(&mut text, cluster, awaited.nodes.as_slice())?;
+    push_until(&mut text, awaited.until)?;
+    Ok(text)
+}
+
+// Adds the name of each node behind a blank.
+fn push_nodes(text: &mut String, cluster: &Cluster, nodes: &[Node]) -> Result<(), OutOfMemory>
+    ensures { OnOk result (string_bytes text.new ≡ string_bytes text.old ++ flat_map (one_word cluster.now) nodes.now) }
+{
+    for node in nodes {
+        let name = node_word(cluster, *node);
+        write!(text, " {name}")?;
+    }
+    Ok(())
+}
+
+// Adds until when the wait lasts, if it ends by itself.
+fn push_until(text: &mut String, until: Option<u64>) -> Result<(), OutOfMemory>
+    ensures { OnOk result (string_bytes text.new ≡ string_bytes text.old ++ until_text until) }
+{
+    if let Some(due) = until {
+        write!(text, " until {due}")?;
+    }
+    Ok(())
+}
