@@ -1,9 +1,9 @@
 #!/usr/bin/env python3
 """Checks the documents against the repository and the built program: check_docs.py [--times] PROGRAM
 
-In README.md, CONTRIBUTING.md, CHANGELOG.md and docs/*.md each link leads somewhere, also within a page. Each command of a block ```console, a line that
-begins with `$ ` (up to the line EOF where it has a <<), is run from the top of the repository with the program in place of
-./rehearse: it prints what stands below it, where a line `...` stands for any lines, writes nothing to standard error, and
+In README.md, CONTRIBUTING.md, CHANGELOG.md and docs/*.md each link leads somewhere, also within a page. Each command of a block
+```console, a line that begins with `$ ` (up to the line EOF where it has a <<), is run from the top of the repository, where
+./rehearse runs the program: it prints what stands below it, where a line `...` stands for any lines, writes nothing to standard error, and
 has the exit status 0 (a document shows another one by `; echo "status $?"`). Each block ```erlang is a cluster file that
 `check` accepts. Each command in a help text runs, and docs/help has these texts. Each text that the program can print
 stands in docs/ANSWERS.md. Each definition that docs/RULES.md names stands where it says. Each construct that
@@ -18,7 +18,9 @@ import os
 import re
 import shlex
 import subprocess
+import tempfile
 
+import front
 import made_pages
 import shelves
 from groups import Group, command_line, finish
@@ -127,12 +129,12 @@ def commands(lines):
 
 
 def shell(program, command):
-    """Runs a command as an operator would who stands at the top of the repository."""
-    path = os.path.abspath(program)
-    line = command.replace("./rehearse", shlex.quote(path))
-    # By REHEARSE the companions are told the program.
-    return subprocess.run(["bash", "-c", line], cwd=TOP, stdin=subprocess.DEVNULL, capture_output=True, timeout=LONGEST_RUN,
-                          env={**os.environ, "REHEARSE": path})
+    """Runs a command as an operator would who stands at the top of the repository, where ./rehearse runs this program."""
+    with tempfile.TemporaryDirectory() as folder:
+        line = command.replace("./rehearse", shlex.quote(front.install(folder, program)))
+        # By REHEARSE the companions are told the program.
+        return subprocess.run(["bash", "-c", line], cwd=TOP, stdin=subprocess.DEVNULL, capture_output=True, timeout=LONGEST_RUN,
+                              env={**os.environ, "REHEARSE": os.path.abspath(program)})
 
 
 def shown_fault(done, lines):

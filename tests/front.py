@@ -4,6 +4,7 @@ program ended without a word, and that it changes nothing else.
 It is tested as in a package, where no sources are: a folder with a blank in its name, with the program that is tested or with one
 that the test makes. What is owed is written by hand from the rules and from docs/SCRIPTS.md.
 """
+import glob
 import os
 import pty
 import re
@@ -38,7 +39,8 @@ def install(folder, program=None, script=None):
         if path.endswith(".sh"):
             shutil.copy(path, os.path.join(top, "shipped"))
     shutil.copytree(os.path.join(TOP, "docs", "help"), os.path.join(top, "docs", "help"))
-    shutil.copy(os.path.join(TOP, "docs", "ANSWERS.md"), os.path.join(top, "docs"))
+    for path in glob.glob(os.path.join(TOP, "docs", "*.md")):
+        shutil.copy(path, os.path.join(top, "docs"))
     shutil.copy(os.path.join(TOP, "companions", "rehearse_tools", "commands.json"), os.path.join(top, "companions", "rehearse_tools"))
     place = os.path.join(top, "shipped", "rehearse-x86_64-linux")
     if program or script:
@@ -165,6 +167,21 @@ def options(program, folder):
             (["check", "--never-seen", "c"], "--never-seen", b""), (["run", "--", "c", "--"], "", b"y\n")):
         line = " ".join([words[0], passed]).strip().encode() + b"\n"
         yield " ".join(words), wrong(call(folder, words), 0, line + CLUSTER + b"===\n" + texts, b"")
+
+
+@in_folder
+def known_words(program, folder):
+    """The script knows each subcommand of the help, and each of its options that take a value: what stands behind is a file."""
+    install(folder, script=b'echo "$@"; cat > /dev/null\n')
+    write(folder, "c", CLUSTER)
+    whole = read(os.path.join(TOP, "docs", "help", "rehearse.txt")).decode()
+    names = re.findall(r"(?m)^  (\w+)  +\w", whole.partition("\nCommands:\n")[2].partition("\n\n")[0])
+    yield "the help has subcommands", None if set(SUBCOMMANDS) <= set(names) else f"{names}"
+    for name in (name for name in names if name != "help"):
+        text = read(os.path.join(TOP, "docs", "help", f"{name}.txt")).decode()
+        options = re.findall(r"(?m)^ +(?:-\w, )?(--[\w-]+)( <)?", text.partition("\nOptions:\n")[2].partition("\n\n")[0])
+        words = [word for option, has_value in options if option != "--help" for word in [option] + ["c"] * bool(has_value)]
+        yield f"{name} with all its options", wrong(call(folder, [name, *words, "c"]), 0, " ".join([name, *words]).encode() + b"\n", b"")
 
 
 @in_folder
@@ -461,5 +478,5 @@ def front_cost(program, folder):
         yield f"what `{' '.join(words)}` costs", None if min(spent) < most else f"{min(spent):.3f} s of processor time, more than {most} s"
 
 
-TESTS = (helps, refused_words, options, joined_files, file_answers, bad_lines, bad_clusters, devices, statuses, unchanged_rows, terminal,
-         signals, front_cost)
+TESTS = (helps, refused_words, options, known_words, joined_files, file_answers, bad_lines, bad_clusters, devices, statuses,
+         unchanged_rows, terminal, signals, front_cost)
