@@ -112,7 +112,7 @@ end_by() {
 tell_end() {
   local why
   case $status in
-    2 | 3)
+    2 | 3 | 9)
       ((${#files[@]} == 0)) || {
         . "$top/shipped/help.sh"
         . "$top/shipped/places.sh"

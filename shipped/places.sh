@@ -1,10 +1,14 @@
 # Where files were named: which line of which of them is refused, and what was expected there. Read by ./rehearse, behind
 # front.sh and help.sh, where that is needed.
 
-# Tells why the program refused the input: the cluster file, or a line that is no command.
+# Tells what the program refused: the cluster file, a line that is no command, or what was expected.
 tell_place() {
   local part= line= text=
-  if ((status == 2)); then tell_cluster; else tell_line; fi
+  case $status in
+    2) tell_cluster ;;
+    3) tell_line ;;
+    9) [[ $words != verify ]] || tell_expectations ;;
+  esac
 }
 
 # Finds the line of the whole input that has this number: the file with its number in `part`, the number there in `line`, and in
@@ -45,6 +49,7 @@ tell_cluster() {
   local fault code name cause= remedy
   fault=$(cat -- "${parts[@]}" | "$program" check 2> /dev/null | head -n 1)
   fault=${fault#cluster refused }
+  [ "$fault" != 'C1 T3 not_utf8' ] || fault+=$(other_bytes)
   [[ $fault =~ ^(C[0-9]+( T[0-9]+)?)\  ]] && code=${BASH_REMATCH[1]} && find_answer "$code" && shorten_cause "${code#C1 }"
   if [[ ! $fault =~ ^(.*)\ line\ ([0-9]+)(.*)$ ]]; then
     printf '%s: refused: %s%s\n' "$(name_of 0)" "$fault" "${cause:+ ($cause)}" >&2
@@ -53,8 +58,16 @@ tell_cluster() {
   fault=${BASH_REMATCH[1]}${BASH_REMATCH[3]}
   find_place "${BASH_REMATCH[2]}"
   cause=${cause// K / $line }
+  [[ $line != 1 || $text != $'\xef\xbb\xbf'* ]] || cause="the file begins with a byte order mark"
   if ((BASH_REMATCH[2] >= $(mark))); then text='the cluster file ends here, and'; else text="\"$text\""; fi
   printf '%s:%s: %s is refused: %s%s\n' "$(name_of "$part")" "$line" "$text" "$fault" "${cause:+ ($cause)}" >&2
+}
+
+# The first line that isn't UTF-8, as the program tells lines; nothing where this machine can't tell it.
+other_bytes() {
+  local found
+  found=$(cat -- "${parts[@]}" | LC_ALL=C.UTF-8 grep -naxvm 1 '.*' 2> /dev/null | head -n 1)
+  [[ $found != [1-9]*:* ]] || echo " line ${found%%:*}"
 }
 
 # Cuts what causes a fault where it is long, and says what tells all of it.
@@ -75,6 +88,15 @@ tell_line() {
   printf '%s:%s: "%s" is no command (%s)\n' "$(name_of "$part")" "$line" "$text" "$(expected "$plain" "${BASH_REMATCH[1]}")" >&2
 }
 
+# Tells the places of the first expectations that don't hold: the program counts lines of the whole input.
+tell_expectations() {
+  local number
+  while read -r _ number _; do
+    find_place "${number%:}"
+    printf '%s:%s: "%s" differs from what is expected\n' "$(name_of "$part")" "$line" "$text" >&2
+  done < <(cat -- "${parts[@]}" | "$program" "${words[@]}" 2> /dev/null | grep -aE -m 10 '^line [0-9]+: ')
+}
+
 # What stands in a line of a script for `run`, `sessions` or `sweep`, seen from what stands there now.
 expected() {
   local row usage example list=() word=
@@ -86,6 +108,8 @@ expected() {
   fi
   if [[ $word == \#* ]]; then
     echo "the # of a comment is the first byte of its line"
+  elif [[ $text == *' #'* ]]; then
+    echo "a comment has a line of its own, of which # is the first byte"
   elif [[ $text == *\\t* ]]; then
     echo "words stand apart by spaces, not by tabs"
   elif [[ $1 == sessions && ${list[0]-} != [1-8] ]]; then

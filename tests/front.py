@@ -241,6 +241,7 @@ BAD_LINES = [
     ("run", b"tick 5s", b'"tick 5s" is no command (tick D, as tick 5000)'), ("run", b"show me", b'"show me" is no command (show)'),
     ("run", b"boot\ta@x", b'"boot\\ta@x" is no command (words stand apart by spaces, not by tabs)'),
     ("run", b" # x", b'" # x" is no command (the # of a comment is the first byte of its line)'),
+    ("run", b"boot a@x # now", b'"boot a@x # now" is no command (a comment has a line of its own, of which # is the first byte)'),
     ("run", b"plan p", b'"plan p" is no command (plans are for sweep)'), ("run", b"===", b'"===" is no command (%s)' % FIRST),
     ("run", b"boot\r", b'"boot" is no command (boot N, as boot a@x)'),
     ("run", b"x\0y\x1b[1m", b'"x?y?[1m" is no command (%s)' % FIRST), ("run", b"x" * 40, b'"%s" is no command (%s)' % (b"x" * 40, FIRST)),
@@ -302,13 +303,31 @@ def bad_clusters(program, folder):
              b"f.txt: refused: C5 unknown_name (a value names a node, an application or a dependency that the file hasn't)\n"),
             ("g.txt", b"{node, a@x, [{kernel, [{sync_nodes_timeout, -1}]}]}.\n", b"C10 bad_value",
              b"g.txt: refused: C10 bad_value (a term of another shape than {node, ..} or {application, ..}; a {profile, N} that isn't "
-             b"the first term, or whose N isn't 1 or 2; ..: rehearse help C10)\n")):
+             b"the first term, or whose N isn't 1 or 2; ..: rehearse help C10)\n"),
+            ("h.txt", b"\xef\xbb\xbf{node, a@x, []}.\n", b"C1 T2 unsupported line 1",
+             b'h.txt:1: "\xef\xbb\xbf{node, a@x, []}." is refused: C1 T2 unsupported (the file begins with a byte order mark)\n'),
+            ("i.txt", b"{node, a@x, []}.\n% gr\xfcn\n", b"C1 T3 not_utf8",
+             b'i.txt:2: "% gr\xfcn" is refused: C1 T3 not_utf8 (some byte isn\'t UTF-8, in a comment perhaps)\n')):
         write(folder, name, text)
         for words in (["check", name], ["run", name, "p.txt"], ["sweep", "--pick", "last", name, "p.txt"]):
             yield " ".join(words), wrong(call(folder, words), 2, b"cluster refused " + out + b"\n", owed)
         if name != "c.txt":
             done = call(folder, ["check"], input=text + b"\n===\n" * (name == "b.txt"))
             yield f"{name} over standard input", wrong(done, 2, b"cluster refused " + out + b"\n", b"")
+
+
+@in_folder
+def expectations(program, folder):
+    """Where an expectation of `verify` doesn't hold, its place in the file is told; the whole input has the lines of all files."""
+    install(folder, script=b"cat > /dev/null; echo 'line 5: crash a@x'; echo '  wanted ok'; echo 'line 7: undo'; echo 'differs 2 of 2'; exit 9\n")
+    write(folder, "c.txt", CLUSTER)
+    write(folder, "p.txt", b"boot a@x\n  crash a@x\n")
+    write(folder, "q.txt", b"\nundo\n")
+    out = b"line 5: crash a@x\n  wanted ok\nline 7: undo\ndiffers 2 of 2\n"
+    err = b'p.txt:2: "  crash a@x" differs from what is expected\nq.txt:2: "undo" differs from what is expected\n'
+    yield "verify", wrong(call(folder, ["verify", "c.txt", "p.txt", "q.txt"]), 9, out, err)
+    yield "run --strict", wrong(call(folder, ["run", "--strict", "c.txt", "p.txt"]), 9, out, b"")
+    yield "verify over standard input", wrong(call(folder, ["verify"], input=CLUSTER), 9, out, b"")
 
 
 @in_folder
@@ -478,5 +497,5 @@ def front_cost(program, folder):
         yield f"what `{' '.join(words)}` costs", None if min(spent) < most else f"{min(spent):.3f} s of processor time, more than {most} s"
 
 
-TESTS = (helps, refused_words, options, known_words, joined_files, file_answers, bad_lines, bad_clusters, devices, statuses,
-         unchanged_rows, terminal, signals, front_cost)
+TESTS = (helps, refused_words, options, known_words, joined_files, file_answers, bad_lines, bad_clusters, expectations, devices,
+         statuses, unchanged_rows, terminal, signals, front_cost)
