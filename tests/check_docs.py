@@ -34,7 +34,9 @@ UNSEEN = {"weights-for-ever"}
 PRINTED = ["rh_trail/specs/Report", "rh_script/specs/Answers", "rh_script/specs/SweepAnswers", "rh_plans/specs/FaultWords",
            "rh_app/specs/CheckText", "rh_app/specs/Histories",
            "rh_rules/specs/Refusals", "rh_cluster/specs/FaultTexts", "rh_terms/specs/FaultTexts"]
-HELPS = [["--help"], ["run", "--help"], ["check", "--help"], ["sessions", "--help"], ["sweep", "--help"]]
+# A subcommand has a page of help each.
+SUBCOMMANDS = sorted({os.path.basename(path)[:-4] for path in glob.glob(os.path.join(TOP, "docs", "help", "*.txt"))} - {"rehearse", "version"})
+HELPS = [["--help"]] + [[name, "--help"] for name in SUBCOMMANDS]
 
 
 def text_of(name):

@@ -11,6 +11,7 @@ use Rattle.rh_rules.specs.declared.pick.Pick.TheVariants.{First, Last}
 use Rattle.rh_programs.specs.declared.status.Program.{Program}
 use Rattle.rh_programs.specs.declared.status.Program.TheVariants.{Check, Run, Sessions, Sweep}
 use Rattle.rehearse.specs.CommandLine.{Picks, ArePicks, line}
+use Rattle.rehearse.specs.Table.{subcommand_named}
 use Rattle.rehearse.specs.Asking.{program_among}
 
 -- a text, somewhere in memory
@@ -36,23 +37,23 @@ simple_row : is_simple_and_free (line picks) ≡ true
 simple_row = refl
 
 check_row : (asks (codes "check" ∷ []) ≡ Some Check) × (faults (codes "check" ∷ []) ≡ [])
-unfolding clap_on_literals
+unfolding clap_on_literals subcommand_named
 check_row = (refl, refl)
 
 run_row : (asks (codes "run" ∷ []) ≡ Some (Run First)) × (faults (codes "run" ∷ []) ≡ [])
-unfolding clap_on_literals
+unfolding clap_on_literals subcommand_named
 run_row = (refl, refl)
 
 -- each way to write a choice
 pick_row : (asks (codes "run" ∷ codes "--pick" ∷ codes "last" ∷ []) ≡ Some (Run Last))
     × (asks (codes "run" ∷ codes "--pick=last" ∷ []) ≡ Some (Run Last))
     × (asks (codes "run" ∷ codes "--pick" ∷ codes "first" ∷ []) ≡ Some (Run First))
-unfolding clap_on_literals
+unfolding clap_on_literals subcommand_named
 pick_row = (refl, refl, refl)
 
 sessions_row : (asks (codes "sessions" ∷ []) ≡ Some (Sessions First))
     × (asks (codes "sessions" ∷ codes "--pick" ∷ codes "last" ∷ []) ≡ Some (Sessions Last))
-unfolding clap_on_literals
+unfolding clap_on_literals subcommand_named
 sessions_row = (refl, refl)
 
 -- one worker, where no number is given; from 1 to 16
@@ -60,14 +61,14 @@ sweep_row : (asks (codes "sweep" ∷ []) ≡ Some (Sweep First 1)) × (faults (c
     × (asks (codes "sweep" ∷ codes "--workers" ∷ codes "4" ∷ []) ≡ Some (Sweep First 4))
     × (asks (codes "sweep" ∷ codes "--pick=last" ∷ codes "--workers=16" ∷ []) ≡ Some (Sweep Last 16))
     × (faults (codes "sweep" ∷ codes "--pick=last" ∷ codes "--workers=16" ∷ []) ≡ [])
-unfolding clap_on_literals
+unfolding clap_on_literals subcommand_named
 sweep_row = (refl, refl, refl, refl, refl)
 
 -- another number, or none
 workers_row : (faults (codes "sweep" ∷ codes "--workers" ∷ codes "0" ∷ []) ≡ kind.ValueValidation ∷ [])
     × (faults (codes "sweep" ∷ codes "--workers" ∷ codes "17" ∷ []) ≡ kind.ValueValidation ∷ [])
     × (faults (codes "sweep" ∷ codes "--workers" ∷ codes "many" ∷ []) ≡ kind.ValueValidation ∷ [])
-unfolding clap_on_literals
+unfolding clap_on_literals subcommand_named
 workers_row = (refl, refl, refl)
 
 -- another choice, an option that a subcommand hasn't, one that stands twice
@@ -75,7 +76,7 @@ options_row : (faults (codes "run" ∷ codes "--pick" ∷ codes "middle" ∷ [])
     × (faults (codes "check" ∷ codes "--pick" ∷ codes "last" ∷ []) ≡ kind.UnknownArgument ∷ [])
     × (faults (codes "run" ∷ codes "--workers" ∷ codes "4" ∷ []) ≡ kind.UnknownArgument ∷ [])
     × (faults (codes "run" ∷ codes "--pick=last" ∷ codes "--pick=last" ∷ []) ≡ kind.ArgumentConflict ∷ [])
-unfolding clap_on_literals
+unfolding clap_on_literals subcommand_named
 options_row = (refl, refl, refl, refl)
 
 -- no subcommand, an unknown one, and what asks for help or the version
@@ -83,5 +84,5 @@ other_row : (faults [] ≡ kind.MissingSubcommand ∷ []) × (asks [] ≡ None)
     × (faults (codes "walk" ∷ []) ≡ kind.UnknownArgument ∷ kind.InvalidSubcommand ∷ []) × (asks (codes "walk" ∷ []) ≡ None)
     × (faults (codes "--help" ∷ []) ≡ kind.DisplayHelp ∷ []) × (faults (codes "run" ∷ codes "--help" ∷ []) ≡ kind.DisplayHelp ∷ [])
     × (faults (codes "--version" ∷ []) ≡ kind.DisplayVersion ∷ [])
-unfolding clap_on_literals
+unfolding clap_on_literals subcommand_named
 other_row = (refl, refl, refl, refl, refl, refl, refl)

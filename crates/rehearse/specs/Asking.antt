@@ -18,7 +18,10 @@ use Rattle.rh_sweep.specs.declared.workers.TheConstants.{MAX_WORKERS}
 use Rattle.rh_programs.specs.declared.status.Program.{Program}
 use Rattle.rh_programs.specs.declared.status.Program.TheVariants as program
 use Rattle.rh_programs.specs.Status.{IsStaffed}
+use Rattle.rehearse.specs.Table.{subcommand_named}
 use Rattle.rehearse.specs.CommandLine.{Picks, ArePicks, line}
+use Rattle.rehearse.specs.declared.table.Subcommand.{Subcommand}
+use Rattle.rehearse.specs.declared.table.Subcommand.TheVariants.{Run, Check, Sessions, Sweep}
 use Rattle.rehearse.specs.declared.command_line.Asked.{Asked}
 use Rattle.rehearse.specs.declared.command_line.Asked.TheVariants as asked
 use Rattle.rehearse.specs.declared.command_line.Words.{Words}
@@ -48,14 +51,16 @@ workers_of text = if is_unsigned_in 1 MAX_WORKERS text then Some (digits_value 1
 abbrev pub workers_in : List Row → Option ℕ
 workers_in rows = option_and_then workers_of (one_of (codes "workers") rows)
 
--- the program of a subcommand with these matches
+-- the program that a subcommand means with these matches
+abbrev pub program_of : Subcommand → List Row → Option Program
+program_of Check rows = Some program.Check
+program_of Run rows = Some (program.Run (pick_in rows))
+program_of Sessions rows = Some (program.Sessions (pick_in rows))
+program_of Sweep rows = option_map (program.Sweep (pick_in rows)) (workers_in rows)
+
+-- the program of the subcommand with this word and these matches
 abbrev pub program_in : Text → List Row → Option Program
-program_in name rows =
-    if bytes_eq name (codes "check") then Some program.Check
-    else (if bytes_eq name (codes "run") then Some (program.Run (pick_in rows))
-    else (if bytes_eq name (codes "sessions") then Some (program.Sessions (pick_in rows))
-    else (if bytes_eq name (codes "sweep") then option_map (program.Sweep (pick_in rows)) (workers_in rows)
-    else None)))
+program_in word rows = option_and_then (λ s. program_of s rows) (subcommand_named word)
 
 -- the program of the subcommand that the words name, with its matches
 abbrev pub program_among : Option (Text × List Row) → Option Program

@@ -1,5 +1,5 @@
 -- The command line: what its parser reads of it (ours).
-use Rattle.std.specs.Prelude.{◌≡◌, List, [], ◌∷◌, map, false, true, Some, codes}
+use Rattle.std.specs.Prelude.{◌≡◌, List, [], ◌∷◌, fold, false, true, Some, codes}
 use Rattle.std.specs.Borrow.{Bor}
 use Rattle.clap.specs.Walk.{Rule, Text, texts}
 use Rattle.clap.specs.Simple.{App, app_of, new_app, new_rule, new_shape, with_rule, with_subcommand}
@@ -8,6 +8,10 @@ use Rattle.clap.specs.declared.builder.command.Command.{Command}
 use Rattle.clap.specs.declared.builder.command.Command.TheViews.{out-Command as fields_of}
 use Rattle.clap.specs.declared.builder.value_parser.ValueParser.TheVariants as parser
 use Rattle.rh_sweep.specs.declared.workers.TheConstants.{MAX_WORKERS}
+use Rattle.rehearse.specs.declared.table.Setting.{Setting}
+use Rattle.rehearse.specs.declared.table.Setting.TheVariants as setting
+use Rattle.rehearse.specs.declared.table.Subcommand.{Subcommand}
+use Rattle.rehearse.specs.Table.{settings_of, subcommands, word_of}
 
 -- the names of the choices at a tie, where they lie in memory
 abbrev pub Picks : Type 0
@@ -34,17 +38,22 @@ workers_option = record (new_rule (codes "workers")) {
   parser = Some (parser.Unsigned 1 MAX_WORKERS);
 }
 
-abbrev pub run_line : Picks → App
-run_line picks = with_rule (new_app (codes "run")) (pick_option picks)
+-- what each option of the table is read as
+abbrev pub setting_option : Picks → Setting → Rule
+setting_option picks setting.Pick = pick_option picks
+setting_option picks setting.Workers = workers_option
 
-abbrev pub check_line : App
-check_line = new_app (codes "check")
+-- a command with more options
+abbrev pub with_settings : Picks → App → List Setting → App
+with_settings picks app settings = fold (λ a s. with_rule a (setting_option picks s)) app settings
 
-abbrev pub sessions_line : Picks → App
-sessions_line picks = with_rule (new_app (codes "sessions")) (pick_option picks)
+-- a subcommand, with its options
+abbrev pub subcommand_line : Picks → Subcommand → App
+subcommand_line picks s = with_settings picks (new_app (word_of s)) (settings_of s)
 
-abbrev pub sweep_line : Picks → App
-sweep_line picks = with_rule (with_rule (new_app (codes "sweep")) (pick_option picks)) workers_option
+-- a command with more subcommands
+abbrev pub with_subcommands : Picks → App → List Subcommand → App
+with_subcommands picks app subcommands = fold (λ a s. with_subcommand a (subcommand_line picks s).top) app subcommands
 
 -- the line before its subcommands: it has a version, and wants one of them
 abbrev pub bare_line : App
@@ -55,11 +64,7 @@ bare_line = record {
 
 -- the whole line
 abbrev pub line : Picks → App
-line picks =
-    let run = with_subcommand bare_line (run_line picks).top in
-    let check = with_subcommand run check_line.top in
-    let sessions = with_subcommand check (sessions_line picks).top in
-    with_subcommand sessions (sweep_line picks).top
+line picks = with_subcommands picks bare_line subcommands
 
 -- a command is read as this, and no argument of it is for other commands too
 abbrev pub IsCommand : App → Command → Type 0

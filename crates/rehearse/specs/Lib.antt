@@ -1,3 +1,4 @@
+pub mod Table
 pub mod CommandLine
 pub mod Asking
 pub mod Process

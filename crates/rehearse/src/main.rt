@@ -1,10 +1,13 @@
 //! The program: what the command line asks, over standard input and output.
 #![tactic(auto)]
 
+mod building;
 mod command_line;
 mod help;
 mod process;
+mod reading;
 mod standard;
+mod table;
 
 use command_line::Words;
 use process::process;

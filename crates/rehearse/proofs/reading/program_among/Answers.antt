@@ -1,7 +1,7 @@
 use Rattle.std.proofs.Common.{◌≡◌, ◌∙◌, ap, Some, None}
 use Rattle.rehearse.specs.Asking.{program_among}
 use Rattle.rehearse.proofs.Matches.{subcommand_is}
-use Rattle.rehearse.proofs.command_line.program_among.Goals as goal
+use Rattle.rehearse.proofs.reading.program_among.Goals as goal
 
 pub returns-in_err-name-clause-named : goal.returns-in_err-name-clause-named
 returns-in_err-name-clause-named c =

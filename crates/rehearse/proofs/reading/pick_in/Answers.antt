@@ -2,7 +2,7 @@ use Rattle.std.proofs.Common.{◌≡◌, ◌∙◌, sym, codes}
 use Rattle.clap.proofs.WalkLemmas.{first_value-rows}
 use Rattle.clap.specs.Words.{found_of}
 use Rattle.rehearse.proofs.Matches.{pick_is}
-use Rattle.rehearse.proofs.command_line.pick_in.Goals as goal
+use Rattle.rehearse.proofs.reading.pick_in.Goals as goal
 
 pub returns : goal.returns
 returns c =

@@ -5,7 +5,7 @@ use Rattle.clap.proofs.WalkLemmas.{one_text-rows}
 use Rattle.clap.specs.Words.{found_of}
 use Rattle.rehearse.specs.Asking.{workers_of}
 use Rattle.rehearse.proofs.Matches.{workers_read}
-use Rattle.rehearse.proofs.command_line.workers_in.Goals as goal
+use Rattle.rehearse.proofs.reading.workers_in.Goals as goal
 
 pub returns-in-Some-clause-number : goal.returns-in-Some-clause-number
 returns-in-Some-clause-number c =

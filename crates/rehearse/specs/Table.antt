@@ -1,0 +1,28 @@
+-- The table of subcommands: the word of each, and its options (ours).
+use Rattle.std.specs.Prelude.{ℕ, List, [], ◌∷◌, codes, Option, position, slice_get, option_and_then}
+use Rattle.std.specs.Str.{bytes_eq}
+use Rattle.rehearse.specs.declared.table.Setting.{Setting}
+use Rattle.rehearse.specs.declared.table.Setting.TheVariants as setting
+use Rattle.rehearse.specs.declared.table.Subcommand.{Subcommand}
+use Rattle.rehearse.specs.declared.table.Subcommand.TheVariants.{Run, Check, Sessions, Sweep}
+
+-- the word of a subcommand, and its options
+abbrev pub entry_of : Subcommand → List ℕ × List Setting
+entry_of Run = (codes "run", setting.Pick ∷ [])
+entry_of Check = (codes "check", [])
+entry_of Sessions = (codes "sessions", setting.Pick ∷ [])
+entry_of Sweep = (codes "sweep", setting.Pick ∷ setting.Workers ∷ [])
+
+abbrev pub word_of : Subcommand → List ℕ
+word_of s = (entry_of s).0
+
+abbrev pub settings_of : Subcommand → List Setting
+settings_of s = (entry_of s).1
+
+-- all subcommands
+abbrev pub subcommands : List Subcommand
+subcommands = Run ∷ Check ∷ Sessions ∷ Sweep ∷ []
+
+-- the subcommand with this word
+unfoldable pub subcommand_named : List ℕ → Option Subcommand
+subcommand_named word = option_and_then (slice_get subcommands) (position (λ s. bytes_eq word (word_of s)) subcommands)

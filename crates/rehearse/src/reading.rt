@@ -1,0 +1,87 @@
+//! What program the matches of a command line mean.
+
+ghost use Rattle.std.specs.Prelude.{◌≡◌, ◌≢◌, IfSome, Some, codes};
+ghost use Rattle.std.specs.Option.{option_map};
+ghost use Rattle.clap.specs.Words.{found_of, rows_of, subcommand_rows_of};
+ghost use Rattle.rh_rules.specs.declared.pick.Pick.TheVariants as pick;
+ghost use Rattle.rh_sweep.specs.Sweeping.{AreWorkers};
+ghost use Rattle.rh_programs.specs.Status.{IsStaffed};
+ghost use Rattle.rehearse.specs.Asking.{allowed, pick_in, program_among, program_in, program_of, workers_in};
+
+use crate::table::{Subcommand, subcommand_named};
+use clap::ArgMatches;
+use rh_programs::Program;
+use rh_rules::Pick;
+use rh_sweep::MAX_WORKERS;
+
+/// The program that the matches of the whole command line name.
+pub fn program_among(matches: &ArgMatches<'_>) -> Option<Program>
+    ensures named { result ≡ program_among (subcommand_rows_of matches.now) }
+    ensures staffed { IfSome result IsStaffed }
+{
+    let (name, matches) = matches.subcommand()?;
+    program_in(name, matches)
+}
+
+// The program of the subcommand with this word and these matches.
+fn program_in(word: &str, matches: &ArgMatches<'_>) -> Option<Program>
+    ensures named { result ≡ program_in word.now (rows_of (found_of matches.now)) }
+    ensures staffed { IfSome result IsStaffed }
+{
+    let subcommand = subcommand_named(word)?;
+    program_of(subcommand, matches)
+}
+
+// The program that a subcommand means with these matches. A number of workers that there may not be means none.
+fn program_of(subcommand: Subcommand, matches: &ArgMatches<'_>) -> Option<Program>
+    ensures named { result ≡ program_of subcommand (rows_of (found_of matches.now)) }
+    ensures staffed { IfSome result IsStaffed }
+{
+    match subcommand {
+        Subcommand::Check => Some(Program::Check),
+        Subcommand::Run => Some(Program::Run(pick_in(matches))),
+        Subcommand::Sessions => Some(Program::Sessions(pick_in(matches))),
+        Subcommand::Sweep => Some(Program::Sweep(pick_in(matches), workers_in(matches)?)),
+    }
+}
+
+// The choice at a tie.
+fn pick_in(matches: &ArgMatches<'_>) -> Pick
+    ensures { result ≡ pick_in (rows_of (found_of matches.now)) }
+{
+    pick_of(matches.get_str("pick"))
+}
+
+// The choice at a tie: the last for the word `last`, the first for any other and for none.
+fn pick_of(word: Option<&str>) -> Pick
+    ensures last { option_map (λ word. word.now) word.entry ≡ Some (codes "last") → result ≡ pick.Last }
+    ensures first { option_map (λ word. word.now) word.entry ≢ Some (codes "last") → result ≡ pick.First }
+{
+    match word {
+        Some("last") => Pick::Last,
+        _ => Pick::First,
+    }
+}
+
+// The number of workers, if there may be so many.
+fn workers_in(matches: &ArgMatches<'_>) -> Option<usize>
+    ensures number { result ≡ workers_in (rows_of (found_of matches.now)) }
+    ensures staffed { IfSome result AreWorkers }
+{
+    match matches.get_one::<usize>("workers") {
+        Some(workers) => allowed(workers),
+        None => None,
+    }
+}
+
+// This number of workers, if there may be so many.
+fn allowed(workers: usize) -> Option<usize>
+    ensures number { result ≡ allowed workers }
+    ensures staffed { IfSome result AreWorkers }
+{
+    if workers >= 1 && workers <= MAX_WORKERS {
+        Some(workers)
+    } else {
+        None
+    }
+}

@@ -1,0 +1,122 @@
+//! The table of subcommands: the word of each, its options, its texts of help, and the program that it means.
+
+ghost use Rattle.std.specs.Prelude.{◌≡◌, position};
+ghost use Rattle.std.specs.Str.{bytes_eq};
+ghost use Rattle.rehearse.specs.Table.{settings_of, subcommand_named, word_of};
+
+use crate::help::{
+    CHECK_ABOUT, CHECK_AFTER_HELP, RUN_ABOUT, RUN_AFTER_HELP, SESSIONS_ABOUT, SESSIONS_AFTER_HELP,
+    SWEEP_ABOUT, SWEEP_AFTER_HELP,
+};
+
+/// An option of a subcommand.
+#[derive(Clone, Copy)]
+pub enum Setting {
+    /// The choice at a tie.
+    Pick,
+    /// The number of workers.
+    Workers,
+}
+
+static NONE: [Setting; 0] = [];
+
+static PICK: [Setting; 1] = [Setting::Pick];
+
+static PICK_WORKERS: [Setting; 2] = [Setting::Pick, Setting::Workers];
+
+/// The subcommands.
+#[derive(Clone, Copy)]
+pub enum Subcommand {
+    Run,
+    Check,
+    Sessions,
+    Sweep,
+}
+
+/// All of them, in the order in which help lists them.
+pub static SUBCOMMANDS: [Subcommand; 4] = [
+    Subcommand::Run,
+    Subcommand::Check,
+    Subcommand::Sessions,
+    Subcommand::Sweep,
+];
+
+/// What the command line has of a subcommand: its word, its options, and its texts of help.
+#[derive(Clone, Copy)]
+pub struct Entry<'a> {
+    pub word: &'a str,
+    pub settings: &'a [Setting],
+    pub about: &'a str,
+    pub after_help: &'a str,
+}
+
+impl Subcommand {
+    /// What the command line has of it.
+    pub fn entry<'a>(self) -> Entry<'a>
+        ensures word { result.word.now ≡ word_of self }
+        ensures settings { result.settings.now ≡ settings_of self }
+    {
+        match self {
+            Subcommand::Run => entry_of("run", PICK.as_slice(), RUN_ABOUT, RUN_AFTER_HELP),
+            Subcommand::Check => {
+                entry_of("check", NONE.as_slice(), CHECK_ABOUT, CHECK_AFTER_HELP)
+            }
+            Subcommand::Sessions => entry_of(
+                "sessions",
+                PICK.as_slice(),
+                SESSIONS_ABOUT,
+                SESSIONS_AFTER_HELP,
+            ),
+            Subcommand::Sweep => entry_of(
+                "sweep",
+                PICK_WORKERS.as_slice(),
+                SWEEP_ABOUT,
+                SWEEP_AFTER_HELP,
+            ),
+        }
+    }
+}
+
+// This word with these options, and these texts of help.
+fn entry_of<'a>(
+    word: &'a str,
+    settings: &'a [Setting],
+    about: &'a str,
+    after_help: &'a str,
+) -> Entry<'a>
+    ensures word { result.word.now ≡ word.now }
+    ensures settings { result.settings.now ≡ settings.now }
+{
+    Entry {
+        word,
+        settings,
+        about,
+        after_help,
+    }
+}
+
+// Is this the word of the subcommand?
+fn is_word(word: &str, subcommand: Subcommand) -> bool
+    ensures { result ≡ bytes_eq word.now (word_of subcommand) }
+{
+    word == subcommand.entry().word
+}
+
+// The place of the first of these subcommands that has this word.
+fn place_of(word: &str, subcommands: &[Subcommand]) -> Option<usize>
+    ensures { result ≡ position (λ s. bytes_eq word.now (word_of s)) subcommands.now }
+{
+    subcommands
+        .iter()
+        .position(|subcommand| is_word(word, *subcommand))
+}
+
+/// The subcommand with this word.
+#[tactic(auto, unfolding(crate::specs::Table::subcommand_named))]
+pub fn subcommand_named(word: &str) -> Option<Subcommand>
+    ensures { result ≡ subcommand_named word.now }
+{
+    let subcommands = SUBCOMMANDS.as_slice();
+    let at = place_of(word, subcommands)?;
+    subcommands.get(at).copied()
+}
