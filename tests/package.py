@@ -28,7 +28,7 @@ OWED = ["usr/bin/rehearse", "usr/bin/rehearse-tools", "usr/lib/rehearse/rehearse
 UNWANTED = re.compile(r"__pycache__|\.pyc$|/crates/|/tests/|\.git|\.antt$|\.rt$")
 # Words at a prompt of bash, and what completes them. What is completed last is the last word.
 COMPLETED = [
-    (["rehearse", "sw"], ["sweep"]), (["rehearse", "s"], ["sessions", "sweep"]), (["rehearse", "--v"], ["--version"]),
+    (["rehearse", "sw"], ["sweep"]), (["rehearse", "se"], ["sessions"]), (["rehearse", "--v"], ["--version"]),
     (["rehearse", "run", "--p"], ["--pick"]), (["rehearse", "run", "--pick", ""], ["first", "last"]),
     (["rehearse", "run", "--pick", "l"], ["last"]), (["rehearse", "sweep", "--w"], ["--workers"]),
     (["rehearse", "help", "boo"], ["boot"]), (["rehearse", "help", "undo_"], ["undo_all"]), (["rehearse", "help", "chec"], ["check"]),
@@ -145,7 +145,13 @@ def first_commands(program, folder):
         done = call(root, line)
         is_right = done.returncode == 0 and not done.stderr and re.fullmatch(owed_lines(owed), done.stdout.decode())
         yield line, None if is_right else f"{done}"
-    told = call(root, "rehearse run < examples/repaired-node.txt")
+    for line, begin in (("rehearse --help", "Rehearses maintenance"), ("rehearse help sweep", "Reads a cluster file, a base and plans"),
+                        ("rehearse help boot", "boot N: starts node N\n"), ("rehearse help S1", "refused S1 unknown_node\n"),
+                        ("rehearse --version", f"rehearse {version()} (commit ")):
+        done = call(root, line)
+        is_right = done.returncode == 0 and done.stdout.decode().startswith(begin) and b"./rehearse" not in done.stdout and not done.stderr
+        yield line, None if is_right else f"{done}"
+    told = call(root, "rehearse run examples/repaired-node.txt")
     row = read(os.path.join(TOP, "tests", "examples", "repaired-node.row")).split(b"--- output\n", 1)[1]
     yield "an example's answers", None if (told.returncode, told.stdout, told.stderr) == (0, row, b"") else f"{told}"
     piped = "rehearse-tools plans examples/three-nodes.txt | rehearse sweep | rehearse-tools survey"

@@ -1,5 +1,5 @@
 """The command lines that people type, read where they are written: those of the program in its texts of help, which stand in
-docs/help, those of the tools in their parsers, and the commands of a script in their table."""
+docs/help with those of the script in front of it, those of the tools in their parsers, and the commands of a script in their table."""
 import argparse
 import json
 import re
@@ -82,16 +82,21 @@ def program_command(name: str) -> Command:
     if not found:
         raise BadSource(f"{shown(path)} isn't a text of help as clap prints it")
     about, usage, before, options, text = found.groups()
-    words = (PROGRAM,) if name == PROGRAM else (PROGRAM, name)
     section = Section("Options", tuple(map(program_option, options.splitlines())))
-    return Command(words, about, as_installed(usage), as_installed(f"{text}\n\n{before}"), (section,), "" if name == PROGRAM else "FILE")
+    files = read(HELP / "files.txt")
+    if name != PROGRAM:
+        return Command((PROGRAM, name), about, f"{as_installed(usage)} [FILE]..", as_installed(f"{text}\n\n{files}"), (section,), "FILE")
+    # The script in front has statuses of its own, and tells of all in place of the program.
+    text = text.partition("\n\nExit status")[0]
+    told = "\n\n".join([text, before.strip(), files, read(HELP / "statuses.txt")])
+    return Command((PROGRAM,), about, as_installed(usage), as_installed(told), (section,), "")
 
 
 @cache
 def program_commands() -> tuple[Command, ...]:
     """The program, and its subcommands in the order in which its help lists them."""
     whole = program_command(PROGRAM)
-    names = re.findall(r"(?m)^  (\w+)  +\w", whole.text.partition("\nCommands:\n")[2])
+    names = re.findall(r"(?m)^  (\w+)  +\w", whole.text.partition("\nCommands:\n")[2].partition("\n\n")[0])
     return (whole, *(program_command(name) for name in names if name != "help"))
 
 

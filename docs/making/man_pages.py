@@ -63,7 +63,7 @@ def body(text: str) -> Iterator[str]:
     statuses: list[str] = []
     for block in blocks(text):
         head = HEAD.fullmatch(block.split("\n", 1)[0])
-        before, *told = STATUS.split(block, maxsplit=1)
+        before, *told = [block] if head else STATUS.split(block, maxsplit=1)
         statuses += told
         if head:
             yield f".SH {head[1].upper()}"
