@@ -50,7 +50,7 @@ def command_line() -> CommandLine:
                       "agree with which of the two (default: rules)")
     line.add_argument("--orders", metavar="N", type=thousand, default=8, help="so many orders of messages are tried by live (default: 8)")
     line.add_argument("--json", action="store_true",
-                      help="a line of JSON for each command, and one at the end: docs/COMPANIONS.md has their members")
+                      help="a line of JSON for each command, and one at the end: docs/TOOLS.md has their members")
     line.add_argument("--factor", metavar="F", type=positive, default="1",
                       help="all times of the nodes and all ticks are multiplied by F: 0.2 for long ones (default: 1)")
     line.add_argument("--patience", metavar="MS", type=positive, default="4000",

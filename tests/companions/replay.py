@@ -132,10 +132,10 @@ def rehearsals(program, folder):
     yield "a difference", None if is_right else f"status {done.returncode}, {rows}\n{done.stdout}{done.stderr}"
     # But for the first line, which names the release of OTP.
     done = replay(program, [os.path.join(TOP, "examples", "boot-order.txt")])
-    document = read(os.path.join(TOP, "docs", "COMPANIONS.md")).decode()
+    document = read(os.path.join(TOP, "docs", "TOOLS.md")).decode()
     owed = document.split("$ companions/replay examples/boot-order.txt\n")[1].split("```")[0]
     is_right = done.returncode == 3 and sorted(owed.splitlines()[1:]) == sorted(done.stdout.splitlines()[1:])
-    yield "the boot list of docs/COMPANIONS.md", None if is_right else f"status {done.returncode}\n{done.stdout}{done.stderr}"
+    yield "the boot list of docs/TOOLS.md", None if is_right else f"status {done.returncode}\n{done.stdout}{done.stderr}"
 
 
 def at_all_nodes(program, folder):
