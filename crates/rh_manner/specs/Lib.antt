@@ -1,0 +1,3 @@
+pub mod MannerText
+pub mod Turns
+pub mod Laws
