@@ -126,8 +126,10 @@ def several_sessions(program):
 def command_lines(program):
     """What a newcomer reads: help and version go to standard error, with status 1."""
     for words, texts in [
-            (["--help"], [b"rehearse", b"run", b"Exit status", b"docs/ANSWERS.md", b"docs/LIVE_OTP.md", b"<< 'EOF'"]),
-            (["run", "--help"], [b"--pick", *(f"\n  {it['usage']} ".encode() for it in COMMANDS), b"1 to 10^12", b"milliseconds",
+            (["--help"], [b"rehearse", b"run", b"Exit status", *(b"\n  %d  " % status for status in (0, 1, 2, 3, 4, 5, 6, 9)),
+                          b"docs/ANSWERS.md", b"docs/LIVE_OTP.md", b"<< 'EOF'"]),
+            (["run", "--help"], [b"--pick", b"--echo", b"--strict", *(f"\n  {it['usage']} ".encode() for it in COMMANDS),
+                                 b"1 to 10^12", b"milliseconds",
                                  b"app A quiet", b"app A wanted", b"app A running N", b"app A lost N",
                                  b"from 1 behind `===`", b"docs/ANSWERS.md", b"docs/SCRIPTS.md"]),
             (["check", "--help"], [b"{profile, Number}", b"{node, Name, SysConfig}", b"{application, Name, Keys}",

@@ -1,5 +1,5 @@
 -- Worked rows: which program the words of a command line ask for, and what is wrong with those that ask for none.
-use Rattle.std.proofs.Common.{◌≡◌, List, [], ◌∷◌, Option, Some, None, codes, refl, true}
+use Rattle.std.proofs.Common.{◌≡◌, List, [], ◌∷◌, Option, Some, None, codes, refl, true, false}
 use Rattle.std.specs.Borrow.{Bor}
 use Rattle.clap.specs.Walk.{Text}
 use Rattle.clap.specs.Simple.{subcommand_of}
@@ -9,7 +9,7 @@ use Rattle.clap.specs.declared.error.kind.ErrorKind.TheVariants as kind
 use Rattle.clap.proofs.OnLiterals.{clap_on_literals}
 use Rattle.rh_rules.specs.declared.pick.Pick.TheVariants.{First, Last}
 use Rattle.rh_programs.specs.declared.status.Program.{Program}
-use Rattle.rh_programs.specs.declared.status.Program.TheVariants.{Check, Run, Sessions, Sweep}
+use Rattle.rh_programs.specs.declared.status.Program.TheVariants.{Check, Run, RunIn, Sessions, Sweep}
 use Rattle.rehearse.specs.CommandLine.{Picks, ArePicks, line}
 use Rattle.rehearse.specs.Table.{subcommand_named}
 use Rattle.rehearse.specs.Asking.{program_among}
@@ -50,6 +50,17 @@ pick_row : (asks (codes "run" ∷ codes "--pick" ∷ codes "last" ∷ []) ≡ So
     × (asks (codes "run" ∷ codes "--pick" ∷ codes "first" ∷ []) ≡ Some (Run First))
 unfolding clap_on_literals subcommand_named
 pick_row = (refl, refl, refl)
+
+-- each word beside the choice, and both; a word that stands twice, and one that is given a value
+flags_row : (asks (codes "run" ∷ codes "--echo" ∷ []) ≡ Some (RunIn First (record { echo = true; strict = false })))
+    × (asks (codes "run" ∷ codes "--strict" ∷ []) ≡ Some (RunIn First (record { echo = false; strict = true })))
+    × (asks (codes "run" ∷ codes "--strict" ∷ codes "--pick" ∷ codes "last" ∷ codes "--echo" ∷ []) ≡ Some (RunIn Last (record { echo = true; strict = true })))
+    × (faults (codes "run" ∷ codes "--strict" ∷ codes "--pick" ∷ codes "last" ∷ codes "--echo" ∷ []) ≡ [])
+    × (faults (codes "run" ∷ codes "--echo" ∷ codes "--echo" ∷ []) ≡ kind.ArgumentConflict ∷ [])
+    × (faults (codes "run" ∷ codes "--echo=true" ∷ []) ≡ kind.TooManyValues ∷ [])
+    × (faults (codes "check" ∷ codes "--echo" ∷ []) ≡ kind.UnknownArgument ∷ [])
+unfolding clap_on_literals subcommand_named
+flags_row = (refl, refl, refl, refl, refl, refl, refl)
 
 sessions_row : (asks (codes "sessions" ∷ []) ≡ Some (Sessions First))
     × (asks (codes "sessions" ∷ codes "--pick" ∷ codes "last" ∷ []) ≡ Some (Sessions Last))

@@ -1,6 +1,6 @@
 -- What the words of a command line ask (ours).
 use Rattle.std.specs.Prelude.{◌≡◌, ◌⊎◌, ℕ, List, [], Bool, true, false, Option, Some, None, map}
-use Rattle.std.specs.Prelude.{◌&&◌, codes, if◌then◌else◌, nat_le, option_map, option_and_then}
+use Rattle.std.specs.Prelude.{◌&&◌, ◌||◌, codes, if◌then◌else◌, nat_le, option_map, option_and_then}
 use Rattle.std.specs.String.{string_bytes}
 use Rattle.std.specs.Str.{bytes_eq}
 use Rattle.std.specs.Str.Parse.{digits_value, without_leading_plus}
@@ -18,8 +18,10 @@ use Rattle.rh_sweep.specs.declared.workers.TheConstants.{MAX_WORKERS}
 use Rattle.rh_programs.specs.declared.status.Program.{Program}
 use Rattle.rh_programs.specs.declared.status.Program.TheVariants as program
 use Rattle.rh_programs.specs.Status.{IsStaffed}
-use Rattle.rehearse.specs.Table.{subcommand_named}
+use Rattle.rehearse.specs.Table.{flag_word, subcommand_named}
 use Rattle.rehearse.specs.CommandLine.{Picks, ArePicks, line}
+use Rattle.rehearse.specs.declared.table.Flag.{Flag}
+use Rattle.rehearse.specs.declared.table.Flag.TheVariants.{Echo, Strict}
 use Rattle.rehearse.specs.declared.table.Subcommand.{Subcommand}
 use Rattle.rehearse.specs.declared.table.Subcommand.TheVariants.{Run, Check, Sessions, Sweep}
 use Rattle.rehearse.specs.declared.command_line.Asked.{Asked}
@@ -51,10 +53,22 @@ workers_of text = if is_unsigned_in 1 MAX_WORKERS text then Some (digits_value 1
 abbrev pub workers_in : List Row → Option ℕ
 workers_in rows = option_and_then workers_of (one_of (codes "workers") rows)
 
+-- whether a word without a value was given: among the matches it has the text `true` then
+abbrev pub is_given : Option Text → Bool
+is_given None = false
+is_given (Some word) = bytes_eq word (codes "true")
+
+abbrev pub flag_in : Flag → List Row → Bool
+flag_in flag rows = is_given (first_of (flag_word flag) rows)
+
+-- a run: with no word beside its choice it is the plain one
+abbrev pub run_of : Pick → Bool → Bool → Program
+run_of pick echo strict = if echo || strict then program.RunIn pick (record { echo = echo; strict = strict }) else program.Run pick
+
 -- the program that a subcommand means with these matches
 abbrev pub program_of : Subcommand → List Row → Option Program
 program_of Check rows = Some program.Check
-program_of Run rows = Some (program.Run (pick_in rows))
+program_of Run rows = Some (run_of (pick_in rows) (flag_in Echo rows) (flag_in Strict rows))
 program_of Sessions rows = Some (program.Sessions (pick_in rows))
 program_of Sweep rows = option_map (program.Sweep (pick_in rows)) (workers_in rows)
 

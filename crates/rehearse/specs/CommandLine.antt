@@ -3,7 +3,7 @@ use Rattle.std.specs.Prelude.{◌≡◌, List, [], ◌∷◌, fold, false, true,
 use Rattle.std.specs.Borrow.{Bor}
 use Rattle.clap.specs.Walk.{Rule, Text, texts}
 use Rattle.clap.specs.Simple.{App, app_of, new_app, new_rule, new_shape, with_rule, with_subcommand}
-use Rattle.clap.specs.declared.builder.action.ArgAction.TheVariants.{Set}
+use Rattle.clap.specs.declared.builder.action.ArgAction.TheVariants.{Set, SetTrue}
 use Rattle.clap.specs.declared.builder.command.Command.{Command}
 use Rattle.clap.specs.declared.builder.command.Command.TheViews.{out-Command as fields_of}
 use Rattle.clap.specs.declared.builder.value_parser.ValueParser.TheVariants as parser
@@ -11,7 +11,7 @@ use Rattle.rh_sweep.specs.declared.workers.TheConstants.{MAX_WORKERS}
 use Rattle.rehearse.specs.declared.table.Setting.{Setting}
 use Rattle.rehearse.specs.declared.table.Setting.TheVariants as setting
 use Rattle.rehearse.specs.declared.table.Subcommand.{Subcommand}
-use Rattle.rehearse.specs.Table.{settings_of, subcommands, word_of}
+use Rattle.rehearse.specs.Table.{flag_word, settings_of, subcommands, word_of}
 
 -- the names of the choices at a tie, where they lie in memory
 abbrev pub Picks : Type 0
@@ -38,10 +38,15 @@ workers_option = record (new_rule (codes "workers")) {
   parser = Some (parser.Unsigned 1 MAX_WORKERS);
 }
 
+-- `--WORD`, which takes no value
+abbrev pub flag_option : Text → Rule
+flag_option word = record (new_rule word) { long = Some word; action = Some SetTrue }
+
 -- what each option of the table is read as
 abbrev pub setting_option : Picks → Setting → Rule
 setting_option picks setting.Pick = pick_option picks
 setting_option picks setting.Workers = workers_option
+setting_option picks (setting.Flag flag) = flag_option (flag_word flag)
 
 -- a command with more options
 abbrev pub with_settings : Picks → App → List Setting → App

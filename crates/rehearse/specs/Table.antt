@@ -1,14 +1,21 @@
 -- The table of subcommands: the word of each, and its options (ours).
 use Rattle.std.specs.Prelude.{ℕ, List, [], ◌∷◌, codes, Option, position, slice_get, option_and_then}
 use Rattle.std.specs.Str.{bytes_eq}
+use Rattle.rehearse.specs.declared.table.Flag.{Flag}
+use Rattle.rehearse.specs.declared.table.Flag.TheVariants.{Echo, Strict}
 use Rattle.rehearse.specs.declared.table.Setting.{Setting}
 use Rattle.rehearse.specs.declared.table.Setting.TheVariants as setting
 use Rattle.rehearse.specs.declared.table.Subcommand.{Subcommand}
 use Rattle.rehearse.specs.declared.table.Subcommand.TheVariants.{Run, Check, Sessions, Sweep}
 
+-- the words that take no value, without their `--`
+abbrev pub flag_word : Flag → List ℕ
+flag_word Echo = codes "echo"
+flag_word Strict = codes "strict"
+
 -- the word of a subcommand, and its options
 abbrev pub entry_of : Subcommand → List ℕ × List Setting
-entry_of Run = (codes "run", setting.Pick ∷ [])
+entry_of Run = (codes "run", setting.Pick ∷ setting.Flag Echo ∷ setting.Flag Strict ∷ [])
 entry_of Check = (codes "check", [])
 entry_of Sessions = (codes "sessions", setting.Pick ∷ [])
 entry_of Sweep = (codes "sweep", setting.Pick ∷ setting.Workers ∷ [])

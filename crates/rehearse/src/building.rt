@@ -4,10 +4,11 @@ ghost use Rattle.std.specs.Prelude.{◌≡◌, false, IfOk, IfErr};
 ghost use Rattle.clap.specs.Words.{App, app_of, kind_of, rule_of};
 ghost use Rattle.clap.specs.declared.error.kind.ErrorKind.{ErrorKind};
 ghost use Rattle.clap.specs.declared.error.kind.ErrorKind.TheVariants as kind;
-ghost use Rattle.rehearse.specs.CommandLine.{IsCommand, line, pick_option, setting_option, subcommand_line, with_settings, with_subcommands, workers_option};
+ghost use Rattle.rehearse.specs.Table.{flag_word};
+ghost use Rattle.rehearse.specs.CommandLine.{IsCommand, flag_option, line, pick_option, setting_option, subcommand_line, with_settings, with_subcommands, workers_option};
 
 use crate::help::{ABOUT, AFTER_HELP};
-use crate::table::{SUBCOMMANDS, Setting, Subcommand};
+use crate::table::{Flag, SUBCOMMANDS, Setting, Subcommand};
 use clap::builder::ValueParser;
 use clap::{Arg, ArgAction, Command, Error};
 use rh_sweep::MAX_WORKERS;
@@ -88,6 +89,7 @@ fn argument<'a>(parts: Parts<'a>, setting: Setting) -> Arg<'a>
     match setting {
         Setting::Pick => pick_argument(parts),
         Setting::Workers => workers_argument(parts),
+        Setting::Flag(flag) => flag_argument(parts, flag),
     }
 }
 
@@ -115,4 +117,16 @@ fn workers_argument<'a>(parts: Parts<'a>) -> Arg<'a>
         .value_parser(ValueParser::Unsigned(1, MAX_WORKERS as u64))
         .default_value("1")
         .help("Shares the plans among so many threads, 1 to 16")
+}
+
+// A word that takes no value, as an argument.
+fn flag_argument<'a>(parts: Parts<'a>, flag: Flag) -> Arg<'a>
+    ensures rule { rule_of result ≡ flag_option (flag_word flag) }
+    ensures local { result.global ≡ false }
+{
+    let word = flag.word();
+    Arg::new(parts.alloc, word)
+        .long(word)
+        .action(ArgAction::SetTrue)
+        .help(flag.help())
 }

@@ -24,11 +24,16 @@ share one cluster, and `rehearse sweep --help` how many failures are tried from
 one state. Each line that is printed is explained in docs/ANSWERS.md; what a
 live OTP does otherwise is in docs/LIVE_OTP.md.
 
-Exit status: 0 done, 1 the command line was refused (or help was asked for),
-2 the cluster file was refused, 3 a line of the script is no command,
-4 the input can't be read or the output can't be written, 5 out of memory,
-6 the sweep was refused, or the sessions made no one history. A refused command
-leaves 0.";
+Exit status:
+
+  0  done; refused commands are among the answers
+  1  the command line was refused, or help was asked for
+  2  the cluster file was refused
+  3  a line of the script is no command
+  4  the input can't be read, or the output can't be written
+  5  out of memory
+  6  the sweep was refused, or the sessions made no one history
+  9  a step was refused, and `run` was asked to be strict";
 
 pub static RUN_ABOUT: &str = "Reads a cluster file and a script, and answers each command";
 
@@ -88,13 +93,20 @@ due, and where each distributed application stands:
 The first line that is no command ends the rehearsal with `bad line K`. K counts
 lines from 1 behind `===`, with blank lines and comments.
 
+With `--echo` each command is printed before its answer, as it stands behind
+`> `; so is a line that is no command. With `--strict` the text is the same, but
+the exit status is 9 where a step was refused and nothing else ends the
+rehearsal. An `undo` with no step to take back is no refused step.
+
 docs/ANSWERS.md explains each line, docs/SCRIPTS.md what each command needs,
 docs/RULES.md what follows from it.
 
 Examples:
 
   ./rehearse run < examples/repaired-node.txt
-  ./rehearse run --pick last < examples/failover-and-takeover.txt";
+  ./rehearse run --pick last < examples/failover-and-takeover.txt
+  ./rehearse run --echo < examples/repaired-node.txt
+  ./rehearse run --strict < examples/rolling-restart.txt";
 
 pub static CHECK_ABOUT: &str = "Reads a cluster file alone, and says whether it is one";
 

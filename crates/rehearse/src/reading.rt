@@ -6,10 +6,11 @@ ghost use Rattle.clap.specs.Words.{found_of, rows_of, subcommand_rows_of};
 ghost use Rattle.rh_rules.specs.declared.pick.Pick.TheVariants as pick;
 ghost use Rattle.rh_sweep.specs.Sweeping.{AreWorkers};
 ghost use Rattle.rh_programs.specs.Status.{IsStaffed};
-ghost use Rattle.rehearse.specs.Asking.{allowed, pick_in, program_among, program_in, program_of, workers_in};
+ghost use Rattle.rehearse.specs.Asking.{allowed, flag_in, is_given, pick_in, program_among, program_in, program_of, run_of, workers_in};
 
-use crate::table::{Subcommand, subcommand_named};
+use crate::table::{Flag, Subcommand, subcommand_named};
 use clap::ArgMatches;
+use rh_manner::Manner;
 use rh_programs::Program;
 use rh_rules::Pick;
 use rh_sweep::MAX_WORKERS;
@@ -39,9 +40,42 @@ fn program_of(subcommand: Subcommand, matches: &ArgMatches<'_>) -> Option<Progra
 {
     match subcommand {
         Subcommand::Check => Some(Program::Check),
-        Subcommand::Run => Some(Program::Run(pick_in(matches))),
+        Subcommand::Run => Some(run_of(
+            pick_in(matches),
+            flag_in(matches, Flag::Echo),
+            flag_in(matches, Flag::Strict),
+        )),
         Subcommand::Sessions => Some(Program::Sessions(pick_in(matches))),
         Subcommand::Sweep => Some(Program::Sweep(pick_in(matches), workers_in(matches)?)),
+    }
+}
+
+// A run: with no word beside its choice it is the plain one.
+fn run_of(pick: Pick, echo: bool, strict: bool) -> Program
+    ensures named { result ≡ run_of pick echo strict }
+    ensures staffed { IsStaffed result }
+{
+    if echo || strict {
+        Program::RunIn(pick, Manner { echo, strict })
+    } else {
+        Program::Run(pick)
+    }
+}
+
+// Whether a word without a value was given.
+fn flag_in(matches: &ArgMatches<'_>, flag: Flag) -> bool
+    ensures { result ≡ flag_in flag (rows_of (found_of matches.now)) }
+{
+    is_given(matches.get_str(flag.word()))
+}
+
+// Whether a word without a value was given that has this text among the matches.
+fn is_given(text: Option<&str>) -> bool
+    ensures { result ≡ is_given (option_map (λ text. text.now) text.entry) }
+{
+    match text {
+        Some(text) => text == "true",
+        None => false,
     }
 }
 

@@ -2,12 +2,41 @@
 
 ghost use Rattle.std.specs.Prelude.{◌≡◌, position};
 ghost use Rattle.std.specs.Str.{bytes_eq};
-ghost use Rattle.rehearse.specs.Table.{settings_of, subcommand_named, word_of};
+ghost use Rattle.rehearse.specs.Table.{flag_word, settings_of, subcommand_named, word_of};
 
 use crate::help::{
     CHECK_ABOUT, CHECK_AFTER_HELP, RUN_ABOUT, RUN_AFTER_HELP, SESSIONS_ABOUT, SESSIONS_AFTER_HELP,
     SWEEP_ABOUT, SWEEP_AFTER_HELP,
 };
+
+/// A word of a subcommand that takes no value: it is given, or it isn't.
+#[derive(Clone, Copy)]
+pub enum Flag {
+    /// The command is printed before its answer.
+    Echo,
+    /// A refused step is a fault.
+    Strict,
+}
+
+impl Flag {
+    /// Its word, which stands behind `--`.
+    pub fn word<'a>(self) -> &'a str
+        ensures { result.now ≡ flag_word self }
+    {
+        match self {
+            Flag::Echo => "echo",
+            Flag::Strict => "strict",
+        }
+    }
+
+    /// What help says of it.
+    pub fn help<'a>(self) -> &'a str {
+        match self {
+            Flag::Echo => "Prints each command before its answer",
+            Flag::Strict => "Ends with status 9 where a step was refused",
+        }
+    }
+}
 
 /// An option of a subcommand.
 #[derive(Clone, Copy)]
@@ -16,6 +45,8 @@ pub enum Setting {
     Pick,
     /// The number of workers.
     Workers,
+    /// A word without a value.
+    Flag(Flag),
 }
 
 static NONE: [Setting; 0] = [];
@@ -23,6 +54,12 @@ static NONE: [Setting; 0] = [];
 static PICK: [Setting; 1] = [Setting::Pick];
 
 static PICK_WORKERS: [Setting; 2] = [Setting::Pick, Setting::Workers];
+
+static PICK_ECHO_STRICT: [Setting; 3] = [
+    Setting::Pick,
+    Setting::Flag(Flag::Echo),
+    Setting::Flag(Flag::Strict),
+];
 
 /// The subcommands.
 #[derive(Clone, Copy)]
@@ -57,7 +94,12 @@ impl Subcommand {
         ensures settings { result.settings.now ≡ settings_of self }
     {
         match self {
-            Subcommand::Run => entry_of("run", PICK.as_slice(), RUN_ABOUT, RUN_AFTER_HELP),
+            Subcommand::Run => entry_of(
+                "run",
+                PICK_ECHO_STRICT.as_slice(),
+                RUN_ABOUT,
+                RUN_AFTER_HELP,
+            ),
             Subcommand::Check => {
                 entry_of("check", NONE.as_slice(), CHECK_ABOUT, CHECK_AFTER_HELP)
             }

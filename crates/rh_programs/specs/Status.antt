@@ -5,19 +5,21 @@ use Rattle.rh_app.specs.declared.fault.RunFault.{RunFault}
 use Rattle.rh_app.specs.declared.fault.RunFault.TheVariants as end
 use Rattle.rh_app.specs.declared.fault.Told.{Told}
 use Rattle.rh_programs.specs.declared.status.Program.{Program}
-use Rattle.rh_programs.specs.declared.status.Program.TheVariants.{Check, Run, Sessions, Sweep}
+use Rattle.rh_programs.specs.declared.status.Program.TheVariants.{Check, Run, RunIn, Sessions, Sweep}
 use Rattle.rh_devices.specs.declared.watched.Watched.{Watched}
 use Rattle.rh_devices.specs.Devices.{Passed}
 use Rattle.rh_app.specs.Programs.{Owing, IsInput, ProgramGives, NoThreads}
 use Rattle.rh_app.specs.CheckText.{OwesCheck}
 use Rattle.rh_app.specs.RunText.{OwesRun}
 use Rattle.rh_app.specs.Sessions.{MayGive, AskHistory}
+use Rattle.rh_manner.specs.MannerText.{OwesRunIn}
 use Rattle.rh_app.specs.SweepText.{OwesSweep}
 
 -- what a program owes
 abbrev pub Owes : Program → List ℕ → List ℕ → Option Told → Type 0
 Owes Check = OwesCheck
 Owes (Run pick) = OwesRun pick
+Owes (RunIn pick manner) = OwesRunIn manner pick
 Owes (Sessions pick) = MayGive pick
 Owes (Sweep pick workers) = OwesSweep pick
 
@@ -25,6 +27,7 @@ Owes (Sweep pick workers) = OwesSweep pick
 abbrev pub MayTear : Program → List ℕ → Type 0
 MayTear Check = NoThreads
 MayTear (Run pick) = NoThreads
+MayTear (RunIn pick manner) = NoThreads
 MayTear (Sessions pick) = AskHistory
 MayTear (Sweep pick workers) = NoThreads
 
@@ -32,6 +35,7 @@ MayTear (Sweep pick workers) = NoThreads
 abbrev pub is_alone : Program → Bool
 is_alone Check = true
 is_alone (Run pick) = true
+is_alone (RunIn pick manner) = true
 is_alone (Sessions pick) = false
 is_alone (Sweep pick workers) = workers == 1
 

@@ -7,6 +7,7 @@ ghost use Rattle.rh_programs.specs.Status.{Owes, MayTear, Flushed, IsStaffed, Is
 use rh_app::{
     RunFault, Sink, Source, Watched, run, run_check, run_sessions, run_sweep, run_sweep_alone,
 };
+use rh_manner::{Manner, run_in};
 use rh_rules::Pick;
 use std::alloc::Global;
 use std::sync::Wait;
@@ -19,6 +20,8 @@ pub enum Program {
     Check,
     /// The commands of a script are answered.
     Run(Pick),
+    /// The same, in a manner of its own.
+    RunIn(Pick, Manner),
     /// Sessions share a cluster.
     Sessions(Pick),
     /// Plans are tried, by so many workers.
@@ -32,6 +35,7 @@ impl Program {
     {
         match self {
             Program::Check | Program::Run(_) => true,
+            Program::RunIn(..) => true,
             Program::Sessions(_) => false,
             Program::Sweep(_, workers) => workers == 1,
         }
@@ -96,6 +100,7 @@ fn ended_alone<S: Source, K: Sink>(
     match program {
         Program::Check => run_check(alloc, reader, writer),
         Program::Run(pick) => run(alloc, reader, writer, pick),
+        Program::RunIn(pick, manner) => run_in(alloc, reader, writer, pick, manner),
         Program::Sweep(pick, _) => run_sweep_alone(alloc, reader, writer, pick),
         Program::Sessions(_) => unreachable!(),
     }
@@ -116,6 +121,7 @@ fn ended_together<T: Threads + Wait + Sync, S: Source, K: Sink>(
 {
     match program {
         Program::Check | Program::Run(_) => ended_alone(alloc, program, reader, writer),
+        Program::RunIn(..) => ended_alone(alloc, program, reader, writer),
         Program::Sessions(pick) => run_sessions(rt, alloc, reader, writer, pick),
         Program::Sweep(pick, workers) => run_sweep(rt, alloc, reader, writer, pick, workers),
     }
