@@ -1,0 +1,105 @@
+-- One line of a story, and those behind it.
+use Rattle.std.proofs.Common.{◌≡◌, ◌+◌, ℕ, List, [], ◌∷◌, ◌++◌, Bool, true, false, cond, eqb, map, Some, true≢false, refl, sym, ap, ◌∙◌, append_assoc}
+use Rattle.std.specs.List.{concat, onto_first}
+use Rattle.rh_devices.specs.declared.fault.WriteFault.{WriteFault}
+use Rattle.rh_devices.specs.declared.watched.Watched.{Watched}
+use Rattle.rh_devices.specs.Devices.{Passed, WroteFront}
+use Rattle.rh_devices.proofs.Passing.{passed_more, fault_behind, fault_before}
+use Rattle.rh_model.specs.ClusterView.{ClusterView}
+use Rattle.rh_trail.specs.SimView.{SimView}
+use Rattle.rh_script.specs.declared.script.Line.{Line}
+use Rattle.rh_script.specs.declared.script.Line.TheVariants.{Nothing, Asks, Bad}
+use Rattle.rh_script.specs.Lines.{raw_lines, content}
+use Rattle.rh_script.specs.Commands.{line_of}
+use Rattle.rh_app.specs.RunText.{bad_line, lines_asked}
+use Rattle.rh_app.proofs.Keeping.{served_keeps_cluster}
+use Rattle.rh_story.specs.LineText.{line_text, behind_line, is_bad}
+use Rattle.rh_story.specs.StoryText.{lines_text}
+
+-- ---- the lines of a text are the text
+concat_onto : (b : ℕ) (lines : List (List ℕ)) → concat (onto_first b lines) ≡ b ∷ concat lines
+concat_onto b [] = refl
+concat_onto b (line ∷ lines) = refl
+
+lines_join_more : (b : ℕ) (lines : List (List ℕ)) (t : Bool) → concat (cond t ((b ∷ []) ∷ lines) (onto_first b lines)) ≡ b ∷ concat lines
+lines_join_more b lines true = refl
+lines_join_more b lines false = concat_onto b lines
+
+pub lines_join : (bytes : List ℕ) → concat (raw_lines bytes) ≡ bytes
+lines_join [] = refl
+lines_join (b ∷ bytes) = lines_join_more b (raw_lines bytes) (eqb b 10) ∙ ap (λ l. b ∷ l) (lines_join bytes)
+
+-- ---- one line
+
+-- a line leaves the cluster
+pub line_keeps_cluster : (s : SimView) (asked : Line) → (behind_line s asked).cluster ≡ s.cluster
+line_keeps_cluster s Nothing = refl
+line_keeps_cluster s (Asks call) = served_keeps_cluster s call
+line_keeps_cluster s Bad = refl
+
+-- the number of the first bad line
+pub bad_here : (k : ℕ) (asked : Line) (lines : List Line) → is_bad asked ≡ true → bad_line k (asked ∷ lines) ≡ Some k
+bad_here k Nothing lines h = absurd (true≢false (sym h))
+bad_here k (Asks call) lines h = absurd (true≢false (sym h))
+bad_here k Bad lines h = refl
+
+pub bad_later : (k : ℕ) (asked : Line) (lines : List Line) → is_bad asked ≡ false → bad_line k (asked ∷ lines) ≡ bad_line (k + 1) lines
+bad_later k Nothing lines h = refl
+bad_later k (Asks call) lines h = refl
+bad_later k Bad lines h = absurd (true≢false h)
+
+-- its place among all lines: here are this line and those behind it
+module _ (c : ClusterView) (k : ℕ) (line : List ℕ) (all here tail : List (List ℕ)) (at : here ≡ line ∷ tail)
+    (bad : bad_line 1 (lines_asked c (map content all)) ≡ bad_line k (lines_asked c (map content here))) where
+  pub fault_here : is_bad (line_of c (content line)) ≡ true → bad_line 1 (lines_asked c (map content all)) ≡ Some k
+  fault_here h = bad ∙ ap (λ ls. bad_line k (lines_asked c (map content ls))) at ∙ bad_here k (line_of c (content line)) (lines_asked c (map content tail)) h
+
+  pub fault_later : is_bad (line_of c (content line)) ≡ false
+      → bad_line 1 (lines_asked c (map content all)) ≡ bad_line (k + 1) (lines_asked c (map content tail))
+  fault_later h = bad ∙ ap (λ ls. bad_line k (lines_asked c (map content ls))) at ∙ bad_later k (line_of c (content line)) (lines_asked c (map content tail)) h
+
+-- ---- a line in the midst of a story: done was written, and here are this line and those behind it
+module _ {K : Type 0} (takes : K → K → List ℕ → Type 0) (fails : K → K → Type 0)
+    (start sim : SimView) (k : ℕ) (line : List ℕ) (all here tail : List (List ℕ)) (a b d : Watched K) (done text : List ℕ)
+    (at : here ≡ line ∷ tail) (wrote : Passed takes a.inner b.inner done)
+    (so_far : lines_text start 1 all ≡ done ++ lines_text sim k here)
+    (is : text ≡ line_text sim k line (line_of sim.cluster (content line))) where
+  all_text : lines_text start 1 all ≡ done ++ lines_text sim k (line ∷ tail)
+  all_text = so_far ∙ ap (λ ls. done ++ lines_text sim k ls) at
+
+  -- what a story writes behind the line, where it is no command or is one
+  abbrev behind : Bool → List ℕ
+  behind t = cond t (concat tail) (lines_text (behind_line sim (line_of sim.cluster (content line))) (k + 1) tail)
+
+  cut_at : (t : Bool) → is_bad (line_of sim.cluster (content line)) ≡ t → lines_text start 1 all ≡ done ++ (text ++ behind t)
+  cut_at t h = all_text ∙ (λ i. done ++ (sym is i ++ behind (h i)))
+
+  -- its text was not written whole
+  pub line_breaks : (f : WriteFault) → WroteFront takes fails f text b d → WroteFront takes fails f (lines_text start 1 all) a d
+  line_breaks f p =
+      let t = is_bad (line_of sim.cluster (content line)) in
+      rw (cut_at t refl) (fault_behind takes fails f a b d done (text ++ behind t) wrote (fault_before takes fails f b d text (behind t) p))
+
+  -- it was, and the line is no command: then the rest is written as it stands, or a front of it
+  module _ (bad : is_bad (line_of sim.cluster (content line)) ≡ true) (rest : List ℕ) (left : rest ≡ concat tail)
+      (written : Passed takes b.inner d.inner text) (e : Watched K) where
+    ends_with_rest : lines_text start 1 all ≡ done ++ (text ++ rest)
+    ends_with_rest = cut_at true bad ∙ (λ i. done ++ (text ++ sym left i))
+
+    pub rest_breaks : (f : WriteFault) → WroteFront takes fails f rest d e → WroteFront takes fails f (lines_text start 1 all) a e
+    rest_breaks f p =
+        rw ends_with_rest (fault_behind takes fails f a b e done (text ++ rest) wrote (fault_behind takes fails f b d e text rest written p))
+
+    pub story_ends : Passed takes d.inner e.inner rest → Passed takes a.inner e.inner (lines_text start 1 all)
+    story_ends p =
+        rw ends_with_rest (passed_more takes a.inner b.inner e.inner done (text ++ rest) wrote (passed_more takes b.inner d.inner e.inner text rest written p))
+
+  -- it was, and the line is none that is bad: then the others are left
+  pub story_goes_on : is_bad (line_of sim.cluster (content line)) ≡ false → (next : SimView)
+      → next ≡ behind_line sim (line_of sim.cluster (content line)) → Passed takes b.inner d.inner text
+      → (more : List ℕ) × Passed takes a.inner d.inner more × (lines_text start 1 all ≡ more ++ lines_text next (k + 1) tail)
+  story_goes_on good next same written = (
+    done ++ text,
+    passed_more takes a.inner b.inner d.inner done text wrote written,
+    cut_at false good ∙ (λ i. done ++ (text ++ lines_text (sym same i) (k + 1) tail)) ∙ sym (append_assoc done text (lines_text next (k + 1) tail)),
+  )

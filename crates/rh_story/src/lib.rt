@@ -1,0 +1,11 @@
+//! A script printed again with its answers: what came of each command stands behind it, in comment lines.
+//!
+//! [`run_story`] is the program. What it writes is a rehearsal again, with the same commands.
+#![tactic(auto)]
+
+mod head;
+mod lines;
+mod story;
+mod ticks;
+
+pub use story::run_story;

@@ -1,0 +1,122 @@
+//! What is told of a line of the script.
+
+ghost use Rattle.std.specs.Prelude.{◌≡◌, ◌++◌, OnOk, IfOk};
+ghost use Rattle.rh_trail.specs.Lone.{served};
+ghost use Rattle.rh_trail.specs.declared.call.Call.TheVariants as call;
+ghost use Rattle.rh_rules.specs.declared.event.Event.TheVariants.{Tick};
+ghost use Rattle.rh_script.specs.Lines.{content};
+ghost use Rattle.rh_script.specs.Commands.{line_of};
+ghost use Rattle.rh_script.specs.Answers.{answer_text, bad_text};
+ghost use Rattle.rh_story.specs.LineText.{answer_lines, call_lines, kept, line_text, behind_line, is_bad};
+
+use crate::head::push_closed;
+use crate::ticks::{push_answer, push_firings};
+use rh_base::OutOfMemory;
+use rh_notes::is_told;
+use rh_script::{Line, answer_text, bad_text, content, line_of};
+use rh_step::{Event, refusal_of};
+use rh_trail::{Call, Sim};
+use std::alloc::Global;
+
+/// What a story writes for a line.
+#[derive(Drop)]
+pub struct LineText {
+    /// The text.
+    pub text: Vec<u8>,
+    /// Whether the line is no command.
+    pub bad: bool,
+}
+
+/// What a story writes for a line of this number, which is given to the simulation.
+pub fn tell_line(
+    alloc: Global,
+    sim: &mut Sim,
+    number: u64,
+    line: &[u8],
+) -> Result<LineText, OutOfMemory>
+    ensures text { IfOk result (λ told. told.text.items ≡ line_text sim.old.seen number line.now (line_of sim.old.seen.cluster (content line.now))) }
+    ensures bad { IfOk result (λ told. told.bad ≡ is_bad (line_of sim.old.seen.cluster (content line.now))) }
+    ensures sim { OnOk result (sim.new.seen ≡ behind_line sim.old.seen (line_of sim.old.seen.cluster (content line.now))) }
+{
+    let asked = line_of(alloc, sim.cluster(), content(line))?;
+    let mut text = Vec::new(alloc);
+    match asked {
+        Line::Nothing => push_kept(&mut text, line)?,
+        Line::Asks(call) => {
+            push_closed(&mut text, line)?;
+            push_call(alloc, &mut text, sim, call)?;
+        }
+        Line::Bad => {
+            push_closed(&mut text, line)?;
+            push_bad(alloc, &mut text, number)?;
+        }
+    }
+    let bad = matches!(asked, Line::Bad);
+    Ok(LineText { text, bad })
+}
+
+// Adds a line that asks nothing, as it stands, unless an earlier story told it.
+fn push_kept(text: &mut Vec<u8>, line: &[u8]) -> Result<(), OutOfMemory>
+    ensures { OnOk result (text.new.items ≡ text.old.items ++ kept line.now) }
+{
+    if !is_told(content(line)) {
+        text.extend_from_slice(line)?;
+    }
+    Ok(())
+}
+
+// Adds that a line is no command.
+fn push_bad(alloc: Global, text: &mut Vec<u8>, number: u64) -> Result<(), OutOfMemory>
+    ensures { OnOk result (text.new.items ≡ text.old.items ++ answer_lines (bad_text number)) }
+{
+    let answer = bad_text(alloc, number)?;
+    push_answer(text, answer.as_bytes())
+}
+
+// Gives a call to the simulation, and adds what came of it.
+fn push_call(
+    alloc: Global,
+    text: &mut Vec<u8>,
+    sim: &mut Sim,
+    call: Call,
+) -> Result<(), OutOfMemory>
+    ensures text { OnOk result (text.new.items ≡ text.old.items ++ call_lines sim.old.seen call (served sim.old.seen call).reply) }
+    ensures sim { OnOk result (sim.new.seen ≡ (served sim.old.seen call).sim) }
+{
+    match call {
+        Call::Step(Event::Tick { ms }) => push_tick(alloc, text, sim, ms),
+        _ => push_reply(alloc, text, sim, call),
+    }
+}
+
+// Gives a call to the simulation, and adds the answer.
+#[tactic(auto, using(rh_app::proofs::Keeping::served_keeps_cluster))]
+fn push_reply(
+    alloc: Global,
+    text: &mut Vec<u8>,
+    sim: &mut Sim,
+    call: Call,
+) -> Result<(), OutOfMemory>
+    ensures text { OnOk result (text.new.items ≡ text.old.items ++ answer_lines (answer_text sim.old.seen.cluster (served sim.old.seen call).reply)) }
+    ensures sim { OnOk result (sim.new.seen ≡ (served sim.old.seen call).sim) }
+{
+    let reply = sim.answer(alloc, call)?.into_one();
+    let answer = answer_text(alloc, sim.cluster(), &reply)?;
+    push_answer(text, answer.as_slice())
+}
+
+// Gives a tick to the simulation, and adds what came of it: where it is accepted, the notices by the timers that fired.
+#[tactic(auto, using(rh_app::proofs::Keeping::served_keeps_cluster))]
+fn push_tick(alloc: Global, text: &mut Vec<u8>, sim: &mut Sim, ms: u64) -> Result<(), OutOfMemory>
+    ensures text { OnOk result (text.new.items ≡ text.old.items ++ call_lines sim.old.seen (call.Step (Tick ms)) (served sim.old.seen (call.Step (Tick ms))).reply) }
+    ensures sim { OnOk result (sim.new.seen ≡ (served sim.old.seen (call.Step (Tick ms))).sim) }
+{
+    let event = Event::Tick { ms };
+    if refusal_of(sim.state(), &event).is_some() || sim.cursor() == Sim::TRAIL_LIMIT {
+        return push_reply(alloc, text, sim, Call::Step(event));
+    }
+    let fired = sim.firings(alloc, ms)?;
+    let _done = sim.answer(alloc, Call::Step(event))?;
+    push_answer(text, b"ok\n".as_slice())?;
+    push_firings(alloc, text, sim.cluster(), fired.as_slice())
+}
