@@ -1,0 +1,9 @@
+pub mod Backs
+pub mod Texts
+pub mod Stray
+pub mod Counting
+pub mod Turning
+pub mod Whole
+pub mod Differing
+pub mod Quiet
+pub mod Agreeing

@@ -1,0 +1,83 @@
+-- The commands of a script, each with what is expected of it (ours).
+use Rattle.std.specs.Prelude.{ℕ, ◌+◌, List, [], ◌∷◌, map, Bool, true, false, not, ◌&&◌, ◌||◌, ◌==◌, length, Option, Some, None, is_some}
+use Rattle.std.specs.List.{filter, filter_map}
+use Rattle.rh_model.specs.ClusterView.{ClusterView}
+use Rattle.rh_trail.specs.declared.call.Call.{Call}
+use Rattle.rh_trail.specs.SimView.{SimView}
+use Rattle.rh_trail.specs.Lone.{served}
+use Rattle.rh_notes.specs.declared.notes.Kind.{Kind}
+use Rattle.rh_notes.specs.declared.notes.Kind.TheVariants as kind
+use Rattle.rh_notes.specs.Notes.{note_of}
+use Rattle.rh_script.specs.declared.script.Line.{Line}
+use Rattle.rh_script.specs.declared.script.Line.TheVariants.{Nothing, Asks, Bad}
+use Rattle.rh_script.specs.Commands.{line_of}
+
+-- ---- what stands where
+
+-- the lines of a script, each with what it asks
+abbrev pub asked_by : ClusterView → List (List ℕ) → List (List ℕ × Line)
+asked_by c lines = map (λ line. (line, line_of c line)) lines
+
+-- the comments and blank lines that stand before the first command
+abbrev pub ahead : List (List ℕ × Line) → List (List ℕ)
+ahead [] = []
+ahead ((line, Nothing) ∷ lines) = line ∷ ahead lines
+ahead ((line, Asks call) ∷ lines) = []
+ahead ((line, Bad) ∷ lines) = []
+
+-- a command of a script
+pub record Check : Type 0 where
+  -- the number of its line, and what stands there
+  pub number : ℕ
+  pub line : List ℕ
+  -- the simulation before it, and what it asks of that
+  pub before : SimView
+  pub call : Call
+  -- the comments and blank lines behind it, up to the next command
+  pub behind : List (List ℕ)
+
+abbrev pub check_of : ℕ → List ℕ → SimView → Call → List (List ℕ) → Check
+check_of k line sim call behind = record { number = k; line = line; before = sim; call = call; behind = behind }
+
+-- the commands up to the first line that is none; the first line has number k
+abbrev pub checks : SimView → ℕ → List (List ℕ × Line) → List Check
+checks sim k [] = []
+checks sim k ((line, Nothing) ∷ lines) = checks sim (k + 1) lines
+checks sim k ((line, Asks call) ∷ lines) =
+    check_of k line sim call (ahead lines) ∷ checks (served sim call).sim (k + 1) lines
+checks sim k ((line, Bad) ∷ lines) = []
+
+-- ---- what is expected
+
+abbrev pub answer_in : Option (Kind × List ℕ) → Option (List ℕ)
+answer_in (Some (kind.Answer, text)) = Some text
+answer_in other = None
+
+abbrev pub wanted_in : Option (Kind × List ℕ) → Option (List ℕ)
+wanted_in (Some (kind.Wanted, text)) = Some text
+wanted_in other = None
+
+-- the lines `#= TEXT`: what the command is to be answered
+abbrev pub answers_in : List (List ℕ) → List (List ℕ)
+answers_in lines = filter_map (λ line. answer_in (note_of line)) lines
+
+-- the lines `#? TEXT`: what the report behind it is to have
+abbrev pub wanted_among : List (List ℕ) → List (List ℕ)
+wanted_among lines = filter_map (λ line. wanted_in (note_of line)) lines
+
+-- is something expected by this line?
+abbrev pub is_expectation : List ℕ → Bool
+is_expectation line = is_some (answer_in (note_of line)) || is_some (wanted_in (note_of line))
+
+-- is something expected of this command?
+abbrev pub is_checked : Check → Bool
+is_checked x = not (length (answers_in x.behind) == 0) || not (length (wanted_among x.behind) == 0)
+
+-- lines with their numbers, of which the first is k
+abbrev pub numbered : ℕ → List (List ℕ) → List (ℕ × List ℕ)
+numbered k [] = []
+numbered k (line ∷ lines) = (k, line) ∷ numbered (k + 1) lines
+
+-- the expectations before the first command, which belong to none
+abbrev pub stray : ℕ → List (List ℕ × Line) → List (ℕ × List ℕ)
+stray k lines = filter (λ at. is_expectation at.1) (numbered k (ahead lines))

@@ -1,0 +1,96 @@
+//! What is expected of the commands of a script.
+
+ghost use Rattle.std.specs.Prelude.{◌≡◌, ◌≤◌, ◌++◌, [], length, map, IfOk, OnOk};
+ghost use Rattle.std.specs.List.{cons_option};
+ghost use Rattle.rh_notes.specs.Notes.{note_of};
+ghost use Rattle.rh_verify.specs.Spaces.{lines_of};
+ghost use Rattle.rh_verify.specs.Expected.{asked_by, ahead, answer_in, wanted_in, answers_in, wanted_among, is_expectation};
+
+use rh_base::OutOfMemory;
+use rh_cluster::Cluster;
+use rh_notes::{Kind, note_of};
+use rh_script::{Line, content, line_of, split_line};
+use std::alloc::Global;
+
+// The comments and blank lines of a script that stand before the first command.
+pub fn lines_ahead<'a>(
+    alloc: Global,
+    cluster: &Cluster,
+    script: &'a [u8],
+) -> Result<Vec<&'a [u8]>, OutOfMemory>
+    ensures lines { IfOk result (λ lines. map (λ line. line.now) lines.items ≡ ahead (asked_by cluster.now (lines_of script.now))) }
+    ensures within { IfOk result (λ lines. length lines.items ≤ length script.now) }
+{
+    let mut lines = Vec::new(alloc);
+    let mut rest = script;
+    'lines: while !rest.is_empty() {
+        let (line, after) = split_line(rest);
+        let line = content(line);
+        match line_of(alloc, cluster, line)? {
+            Line::Nothing => lines.push(line)?,
+            _ => return Ok(lines),
+        }
+        rest = after;
+    }
+    Ok(lines)
+}
+
+// Adds the line of an answer that this line wants, if it wants one.
+fn push_answer<'a>(texts: &mut Vec<&'a [u8]>, line: &'a [u8]) -> Result<(), OutOfMemory>
+    ensures { OnOk result (map (λ text. text.now) texts.new.items
+        ≡ map (λ text. text.now) texts.old.items ++ cons_option (answer_in (note_of line.now)) []) }
+{
+    match note_of(line) {
+        Some((Kind::Answer, text)) => {
+            texts.push(text)?;
+            Ok(())
+        }
+        Some((Kind::Time | Kind::Reason | Kind::Table | Kind::Wanted, _)) | None => Ok(()),
+    }
+}
+
+// The lines of an answer that these lines want.
+pub fn answers_in<'a>(alloc: Global, lines: &[&'a [u8]]) -> Result<Vec<&'a [u8]>, OutOfMemory>
+    ensures { IfOk result (λ texts. map (λ text. text.now) texts.items ≡ answers_in (map (λ line. line.now) lines.now)) }
+{
+    let mut texts = Vec::new(alloc);
+    for line in lines {
+        push_answer(&mut texts, *line)?;
+    }
+    Ok(texts)
+}
+
+// Adds the line of a report that this line wants, if it wants one.
+fn push_wanted<'a>(texts: &mut Vec<&'a [u8]>, line: &'a [u8]) -> Result<(), OutOfMemory>
+    ensures { OnOk result (map (λ text. text.now) texts.new.items
+        ≡ map (λ text. text.now) texts.old.items ++ cons_option (wanted_in (note_of line.now)) []) }
+{
+    match note_of(line) {
+        Some((Kind::Wanted, text)) => {
+            texts.push(text)?;
+            Ok(())
+        }
+        Some((Kind::Answer | Kind::Time | Kind::Reason | Kind::Table, _)) | None => Ok(()),
+    }
+}
+
+// The lines of a report that these lines want.
+pub fn wanted_among<'a>(alloc: Global, lines: &[&'a [u8]]) -> Result<Vec<&'a [u8]>, OutOfMemory>
+    ensures { IfOk result (λ texts. map (λ text. text.now) texts.items ≡ wanted_among (map (λ line. line.now) lines.now)) }
+{
+    let mut texts = Vec::new(alloc);
+    for line in lines {
+        push_wanted(&mut texts, *line)?;
+    }
+    Ok(texts)
+}
+
+// Whether something is expected by a line.
+pub fn is_expectation(line: &[u8]) -> bool
+    ensures { result ≡ is_expectation line.now }
+{
+    match note_of(line) {
+        Some((Kind::Answer | Kind::Wanted, _)) => true,
+        Some((Kind::Time | Kind::Reason | Kind::Table, _)) | None => false,
+    }
+}

@@ -1,0 +1,182 @@
+//! What doesn't hold of a command, and the block that tells it.
+
+ghost use Rattle.std.specs.Prelude.{◌≡◌, ◌++◌, map, codes, IfOk, OnOk};
+ghost use Rattle.std.specs.List.{flat_map};
+ghost use Rattle.rh_state.specs.Stored.{read};
+ghost use Rattle.rh_trail.specs.Report.{report_text};
+ghost use Rattle.rh_verify.specs.Spaces.{lines_of, below};
+ghost use Rattle.rh_verify.specs.Expected.{answers_in, wanted_among};
+ghost use Rattle.rh_verify.specs.Judging.{verdict_of};
+ghost use Rattle.rh_verify.specs.Blocks.{is_answered, has_line, missing, head_line, block_of, stray_text};
+
+use crate::expected::{answers_in, wanted_among};
+use crate::spaces::{lines_of, push_each, without_front, without_spaces};
+use crate::tally::Verdict;
+use rh_base::OutOfMemory;
+use rh_state::State;
+use rh_trail::report;
+use std::alloc::Global;
+
+// These lines, each with its end.
+fn joined(alloc: Global, lines: &[&[u8]]) -> Result<Vec<u8>, OutOfMemory>
+    ensures { IfOk result (λ text. text.items ≡ flat_map (λ l. l ++ codes "\n") (map (λ line. line.now) lines.now)) }
+{
+    let mut text = Vec::new(alloc);
+    for line in lines {
+        text.extend_from_slice(*line)?;
+        text.push(b'\n')?;
+    }
+    Ok(text)
+}
+
+// Whether an answer is these lines and no other. Where there are none, it may be any.
+fn is_answered(alloc: Global, lines: &[&[u8]], answer: &[u8]) -> Result<bool, OutOfMemory>
+    ensures { IfOk result (λ same. same ≡ is_answered (map (λ line. line.now) lines.now) answer.now) }
+{
+    if lines.is_empty() {
+        return Ok(true);
+    }
+    let text = joined(alloc, lines)?;
+    Ok(text.as_slice() == answer)
+}
+
+// Whether a report of these lines has this line, spaces at the front aside.
+fn has_line(report: &[&[u8]], line: &[u8]) -> bool
+    ensures { result ≡ has_line (map (λ l. l.now) report.now) line.now }
+{
+    let wanted = without_front(line);
+    for line in report {
+        if without_front(*line) == wanted {
+            return true;
+        }
+    }
+    false
+}
+
+// Those of the wanted lines that a report lacks.
+fn missing<'a>(
+    alloc: Global,
+    report: &[u8],
+    wanted: &[&'a [u8]],
+) -> Result<Vec<&'a [u8]>, OutOfMemory>
+    ensures { IfOk result (λ lines. map (λ line. line.now) lines.items ≡ missing report.now (map (λ line. line.now) wanted.now)) }
+{
+    let report = lines_of(alloc, report)?;
+    let mut lines = Vec::new(alloc);
+    for line in wanted {
+        if !has_line(report.as_slice(), *line) {
+            lines.push(*line)?;
+        }
+    }
+    Ok(lines)
+}
+
+// Those of the wanted lines that the report of a state lacks. Where none is wanted, the report isn't made.
+fn lacking<'a>(
+    alloc: Global,
+    state: &State,
+    wanted: &[&'a [u8]],
+) -> Result<Vec<&'a [u8]>, OutOfMemory>
+    ensures { IfOk result (λ lines. map (λ line. line.now) lines.items ≡ missing (report_text (read state.now)) (map (λ line. line.now) wanted.now)) }
+{
+    if wanted.is_empty() {
+        return Ok(Vec::new(alloc));
+    }
+    let report = report(alloc, state)?;
+    missing(alloc, report.as_slice(), wanted)
+}
+
+// The first line of a block: the number of a line, and what stands there.
+fn head_line(alloc: Global, number: u64, line: &[u8]) -> Result<Vec<u8>, OutOfMemory>
+    ensures { IfOk result (λ text. text.items ≡ head_line number line.now) }
+{
+    let mut text = format!(in alloc; "line {number}: ")?.into_bytes();
+    text.extend_from_slice(line)?;
+    text.extend_from_slice(b"\n".as_slice())?;
+    Ok(text)
+}
+
+// Adds an answer that isn't what was wanted: all that was, and all that came.
+fn push_answer(
+    alloc: Global,
+    block: &mut Vec<u8>,
+    wanted: &[&[u8]],
+    came: &[u8],
+) -> Result<(), OutOfMemory>
+    ensures { OnOk result (block.new.items ≡ block.old.items
+        ++ (flat_map (below (codes "wanted ")) (map (λ line. line.now) wanted.now) ++ flat_map (below (codes "came ")) (lines_of came.now))) }
+{
+    let came = lines_of(alloc, came)?;
+    push_each(block, "wanted ", wanted)?;
+    push_each(block, "came ", came.as_slice())
+}
+
+// What is told of a command of which something doesn't hold, and nothing of another.
+fn block_of(
+    alloc: Global,
+    number: u64,
+    line: &[u8],
+    wanted: &[&[u8]],
+    came: &[u8],
+    lacking: &[&[u8]],
+) -> Result<Vec<u8>, OutOfMemory>
+    ensures { IfOk result (λ text. text.items
+        ≡ block_of number line.now (map (λ l. l.now) wanted.now) came.now (map (λ l. l.now) lacking.now)) }
+{
+    let is_answered = is_answered(alloc, wanted, came)?;
+    if is_answered && lacking.is_empty() {
+        return Ok(Vec::new(alloc));
+    }
+    let mut block = head_line(alloc, number, without_spaces(line))?;
+    if !is_answered {
+        push_answer(alloc, &mut block, wanted, came)?;
+    }
+    push_each(&mut block, "wanted in the report ", lacking)?;
+    Ok(block)
+}
+
+// The block of a command that was answered this, with such lines behind it, and what became of it. The state is that behind it.
+pub fn judged(
+    alloc: Global,
+    state: &State,
+    number: u64,
+    line: &[u8],
+    came: &[u8],
+    behind: &[&[u8]],
+) -> Result<(Vec<u8>, Verdict), OutOfMemory>
+    ensures block { IfOk result (λ found. let lines = map (λ l. l.now) behind.now in
+        found.0.items ≡ block_of number line.now (answers_in lines) came.now (missing (report_text (read state.now)) (wanted_among lines))) }
+    ensures verdict { IfOk result (λ found. let lines = map (λ l. l.now) behind.now in
+        found.1 ≡ verdict_of (answers_in lines) came.now (wanted_among lines) (missing (report_text (read state.now)) (wanted_among lines))) }
+{
+    let answers = answers_in(alloc, behind)?;
+    let wanted = wanted_among(alloc, behind)?;
+    let lacking = lacking(alloc, state, wanted.as_slice())?;
+    let block = block_of(
+        alloc,
+        number,
+        line,
+        answers.as_slice(),
+        came,
+        lacking.as_slice(),
+    )?;
+    let is_checked = !answers.is_empty() || !wanted.is_empty();
+    let differs = !block.is_empty();
+    Ok((
+        block,
+        Verdict {
+            is_checked,
+            differs,
+        },
+    ))
+}
+
+// The block of an expectation to which there is no command.
+#[tactic(auto, unfolding(crate::specs::Blocks::stray_text))]
+pub fn stray_text(alloc: Global, number: u64, line: &[u8]) -> Result<Vec<u8>, OutOfMemory>
+    ensures { IfOk result (λ text. text.items ≡ stray_text (number, line.now)) }
+{
+    let mut block = head_line(alloc, number, line)?;
+    block.extend_from_slice(b"  no command stands before it\n".as_slice())?;
+    Ok(block)
+}

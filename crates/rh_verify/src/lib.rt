@@ -1,0 +1,17 @@
+//! Scripts that say what their commands are to be answered.
+//!
+//! [`run_verify`] answers the commands of a script, and compares what comes with the comment lines behind each: `#= TEXT` is a line
+//! of its answer, and `#? TEXT` one of the report behind it.
+#![tactic(auto)]
+
+mod blocks;
+mod expected;
+mod judging;
+mod laws;
+mod spaces;
+mod tally;
+mod verifying;
+
+pub use laws::differences_are_told;
+pub use tally::Tally;
+pub use verifying::run_verify;
