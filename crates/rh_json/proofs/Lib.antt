@@ -1,0 +1,4 @@
+pub mod Arrays
+pub mod Turns
+pub mod Lines
+pub mod Told
