@@ -1,0 +1,237 @@
+"""What programs read: `run --json` and `check --json` tell what `run` and `check` tell.
+
+Each line is parsed by Python's json. From its fields the other output is written again, and has to be that output, byte for byte.
+What that one doesn't tell is compared with what it was asked: the number and the text of a command's line with the script, the
+cluster's names with the file, and the time of a notice with a run whose ticks are cut where a timer fired.
+"""
+import json
+import os
+
+import random_scripts
+from groups import Group
+from row_files import EXAMPLES, ROWS, row_at
+from support import example_files, files_below, read, run
+
+# The keys of each object, in their order; those that may be missing stand behind a question mark.
+KEYS = {
+    "cluster": "profile nodes applications",
+    "settings": "name distributed ?nodes",
+    "refused": "refused reason",
+    "command": "line command answer ?notices ?report",
+    "bad": "line bad",
+    "notice": "?time kind ?application node ?start ?from",
+    "report": "time steps trail nodes applications timers",
+    "node": "name mode starts running waiting forbidden",
+    "running": "application restart start ?from",
+    "waiting": "application restart",
+    "standing": "name standing ?node",
+    "timer": "timer ?node ?application due",
+}
+
+
+def has_keys(kind, value):
+    """The object, which has the keys of this kind in their order, and all that have to be there."""
+    wanted = KEYS[kind].split()
+    shown = [key for key in (key.lstrip("?") for key in wanted) if key in value]
+    assert list(value) == shown, f"the keys of {kind} are {list(value)}"
+    assert all(key in value for key in wanted if not key.startswith("?")), f"{kind} lacks a key: {list(value)}"
+    return value
+
+
+def parsed(line):
+    """A line as an object. It has no blank outside a string: written by Python it is the same text."""
+    value = json.loads(line)
+    again = json.dumps(value, ensure_ascii=False, separators=(",", ":"))
+    assert again == escaped_as_here(line), f"it isn't written as here: {line}"
+    return value
+
+
+def escaped_as_here(line):
+    """The line with Python's short escapes of some control bytes."""
+    for byte, short in ((8, "\\b"), (9, "\\t"), (10, "\\n"), (12, "\\f"), (13, "\\r")):
+        line = line.replace("\\u%04x" % byte, short)
+    return line
+
+
+# ---- The other output, written from the fields
+
+
+def words(*parts):
+    """The parts that are there, as a line."""
+    return " ".join(str(part) for part in parts if part is not None) + "\n"
+
+
+def notice_line(notice):
+    has_keys("notice", notice)
+    return words(notice["kind"], notice.get("application"), notice["node"], notice.get("start"), notice.get("from"))
+
+
+def node_lines(node):
+    has_keys("node", node)
+    lines = words("node", node["name"], node["mode"], node["starts"])
+    for it in node["running"]:
+        has_keys("running", it)
+        lines += "  " + words("running", it["application"], it["restart"], it["start"], it.get("from"))
+    for it in node["waiting"]:
+        has_keys("waiting", it)
+        lines += "  " + words("waiting", it["application"], it["restart"])
+    return lines + "".join("  " + words("forbidden", name) for name in node["forbidden"])
+
+
+def timer_line(timer):
+    has_keys("timer", timer)
+    return words("timer", timer["timer"], timer["node" if timer["timer"] == "sync" else "application"], timer["due"])
+
+
+def report_text(report):
+    has_keys("report", report)
+    apps = [has_keys("standing", it) for it in report["applications"]]
+    return (words("now", report["time"]) + "".join(map(node_lines, report["nodes"]))
+            + "".join(words("app", it["name"], it["standing"], it.get("node")) for it in apps)
+            + "".join(map(timer_line, report["timers"])))
+
+
+def answer_text(told):
+    """The answer to a command, as `run` prints it."""
+    has_keys("command", told)
+    is_step = told["command"].split()[0] not in ("undo", "redo", "undo_all", "redo_all", "show")
+    assert ("notices" in told) == (is_step and told["answer"] == "ok"), f"notices: {told}"
+    assert ("report" in told) == (told["command"].split() == ["show"]), f"report: {told}"
+    return (words(told["answer"]) + "".join(map(notice_line, told.get("notices", ())))
+            + (report_text(told["report"]) if "report" in told else ""))
+
+
+def run_text(lines):
+    """What `run` prints where `run --json` prints these lines."""
+    if "refused" in lines[0]:
+        return "cluster " + words("refused", lines[0]["refused"], lines[0]["reason"])
+    bad = lines[-1] if "bad" in lines[-1] else None
+    told = lines[1:-1] if bad else lines[1:]
+    return "".join(map(answer_text, told)) + (words("bad line", bad["line"]) if bad else "")
+
+
+def check_text(line):
+    """What `check` prints where `check --json` prints this line."""
+    if "refused" in line:
+        has_keys("refused", line)
+        return run_text([line])
+    has_keys("cluster", line)
+    return f"ok {len(line['nodes'])} nodes {len(line['applications'])} applications\n"
+
+
+# ---- What the other output doesn't tell
+
+
+def script_of(text):
+    """The lines behind the first line `===`."""
+    lines = [line.removesuffix("\r") for line in text.split("\n")]
+    return lines[lines.index("===") + 1:] if "===" in lines else []
+
+
+def is_command(line):
+    return not line.startswith("#") and line.strip(" ") != ""
+
+
+def assert_lines(text, lines):
+    """The commands are those of the script, each with its line and the number of it, up to the bad one."""
+    asked = [(number, line) for number, line in enumerate(script_of(text), 1) if is_command(line)]
+    for told, (number, line) in zip(lines, asked):
+        assert told["line"] == number, f"line {number} is told as {told['line']}"
+        assert "bad" in told or told["command"] == line, f"line {number} is {line!r}"
+    assert len(lines) == len(asked) or "bad" in lines[-1], "not all commands are told"
+
+
+def cut_tick(command, time, notices):
+    """A tick from this time on, cut where a timer fired: the commands, and the notices that each has to tell."""
+    end = time + int(command.split()[1])
+    ends = sorted({it["time"] for it in notices if time < it["time"] < end} | {end})
+    begins = [time, *ends[:-1]]
+    owed = [[notice_line(it) for it in notices if (it["time"] > begin or begin == time) and it["time"] <= until]
+            for begin, until in zip(begins, ends)]
+    return [f"tick {until - begin}" for begin, until in zip(begins, ends)], owed
+
+
+def assert_times(program, options, text, lines):
+    """The notices of a tick have the times at which a run tells them whose ticks are cut there; no other notice has a time. The script
+    takes no step back."""
+    front = text[:text.index("===")] + "===\n"
+    time, script, owed = 0, [], []
+    for told in lines:
+        notices = told.get("notices", [])
+        if told["command"].split()[0] == "tick" and told["answer"] == "ok":
+            assert all("time" in it for it in notices), f"a notice has no time: {told}"
+            ticks, parts = cut_tick(told["command"], time, notices)
+            script += ticks
+            owed += parts
+            time += int(told["command"].split()[1])
+        else:
+            assert not any("time" in it for it in notices), f"a notice has a time: {told}"
+            script.append(told["command"])
+            owed.append([answer_text(told)[len(told["answer"]) + 1:]])
+    wanted = "".join("".join(part) for part in owed)
+    shown = run(program, ["run", *options], input=(front + "\n".join(script) + "\n").encode(errors="surrogateescape")).stdout.decode()
+    kept = "".join(line for line in shown.splitlines(keepends=True) if not line.startswith(("ok", "refused ")))
+    assert kept == wanted, "the times aren't those at which timers fire"
+
+
+# ---- The tests
+
+
+def told_by(program, command, options, text):
+    """The lines of a program, as objects, and its status."""
+    ended = run(program, [command, "--json", *options], input=text)
+    assert ended.stderr == b"", ended.stderr
+    shown = ended.stdout.decode()
+    assert shown == "" or shown.endswith("\n"), "the last line has no end"
+    return [parsed(line) for line in shown.split("\n")[:-1]], ended.returncode
+
+
+def fault_in(program, options, data):
+    """What is wrong with the JSON of an input, or None."""
+    try:
+        lines, status = told_by(program, "run", options, data)
+        plain = run(program, ["run", *options], input=data)
+        assert status == plain.returncode, f"status {status}, without --json {plain.returncode}"
+        if not lines:
+            return None if plain.stdout == b"" else "nothing is told"
+        assert run_text(lines) == plain.stdout.decode(), "it isn't what `run` prints"
+        [line], status = told_by(program, "check", [], data)
+        check = run(program, ["check"], input=data)
+        assert (check_text(line), status) == (check.stdout.decode(), check.returncode), "it isn't what `check` prints"
+        assert line == lines[0], "the first line isn't that of `check`"
+        if "refused" not in line:
+            # A line of a script may be no UTF-8: it is no command.
+            text = data.decode(errors="surrogateescape")
+            assert_lines(text, lines[1:])
+            commands = [it for it in lines[1:] if "bad" not in it]
+            if not any(it["command"].split()[0] in ("undo", "redo", "undo_all", "redo_all") for it in commands) and "===\n" in text:
+                assert_times(program, options, text, commands)
+        return None
+    except (AssertionError, ValueError, KeyError, IndexError) as fault:
+        return f"{type(fault).__name__}: {fault}"
+
+
+def json_of_examples(program):
+    """The examples, the refused ones among them, told as JSON."""
+    for path in example_files():
+        yield f"json of examples/{os.path.relpath(path, EXAMPLES)}", fault_in(program, [], read(path))
+
+
+def json_of_rows(program):
+    """The inputs of the rows of `run`, told as JSON."""
+    for path in files_below(ROWS):
+        row = row_at(path)
+        if row.words[:1] == ["run"] and "--json" not in row.words and row.status in (0, 2, 3):
+            yield f"json of {os.path.relpath(path, ROWS)}", fault_in(program, row.words[1:], row.input)
+
+
+def json_of_random_scripts(program, numbers):
+    """Random scripts, told as JSON."""
+    for number in numbers:
+        given, text, _ = random_scripts.case(number)
+        if given[0] == "run":
+            yield f"json of random script {number}", fault_in(program, given[1:], text.encode())
+
+
+TESTS = (json_of_examples, json_of_rows,
+         Group(json_of_random_scripts, [range(begin, begin + 40) for begin in range(0, 160, 40)]))
