@@ -6,8 +6,8 @@ repository, examples/NAME.txt, has its row tests/examples/NAME.row, without an i
 folders that is no such row is a failed test. Then come inputs that are too large for a file, which are made here, devices
 that fail, and memory (refused_memory.py), more devices (hostile.py) and each of their calls (failing_calls.py), cut inputs
 (prefixes.py), sweeps (sweeps.py), texts that are no terms (term_faults.py), cluster files at the limits (cluster_limits.py),
-both profiles (profiles.py), random scripts beside a model (random_scripts.py), what is told as JSON (json_lines.py), the scripts that run, build and ship the
-program (shipped.py), what ./rehearse does in front of it (front.py), the packages of it (package.py) and the documents
+both profiles (profiles.py), random scripts beside a model (random_scripts.py), what is told as JSON (json_lines.py), stories of the
+examples (stories.py), the scripts that run, build and ship the program (shipped.py), what ./rehearse does in front of it (front.py), the packages of it (package.py) and the documents
 (check_docs.py). Calls that the programs `rh_growths` and `rh_part_growths` beside PROGRAM make have their growths of memory counted
 and refused, and have to leave all as it was (growths.py). All of it runs side by side on all processors (groups.py).
 The last line is 'N passed, M failed'. Where paths of rows are given, these alone are run.
@@ -32,6 +32,7 @@ import profiles  # noqa: E402
 import random_scripts  # noqa: E402
 import refused_memory  # noqa: E402
 import shipped  # noqa: E402
+import stories  # noqa: E402
 import sweeps  # noqa: E402
 from cluster_limits import cluster_limits  # noqa: E402
 from groups import Group, command_line, finish  # noqa: E402
@@ -233,10 +234,10 @@ def named_rows(program, path):
 MADE = (term_faults, large_inputs, long_chains, *sweeps.TESTS)
 # The worked rows, the examples, what fails (devices, memory, threads), what docs/make makes of the documents, and ./rehearse.
 QUICK = (*made_pages.TESTS, *refused_memory.TESTS, *failing_calls.TESTS, *hostile.TESTS, rows, examples, failing_devices,
-         Group(no_threads, needs=("cc",)), *shipped.TESTS, *front.TESTS)
+         Group(no_threads, needs=("cc",)), *shipped.TESTS, *front.TESTS, *stories.TESTS)
 # Those that take longest begin first.
-ALL = (*prefixes.TESTS, *growths.TESTS, *random_scripts.TESTS, *json_lines.TESTS, *check_docs.TESTS, *package.TESTS, *QUICK, *MADE, *map(profiles.under_profile_1, MADE),
-       *profiles.TESTS, cluster_limits, command_lines, full_inputs, several_sessions)
+ALL = (*prefixes.TESTS, *growths.TESTS, *random_scripts.TESTS, *json_lines.TESTS, *check_docs.TESTS, *package.TESTS, *QUICK, *MADE,
+       *map(profiles.under_profile_1, MADE), *profiles.TESTS, cluster_limits, command_lines, full_inputs, several_sessions)
 
 
 def main():

@@ -9,7 +9,7 @@ use Rattle.clap.specs.declared.error.kind.ErrorKind.TheVariants as kind
 use Rattle.clap.proofs.OnLiterals.{clap_on_literals}
 use Rattle.rh_rules.specs.declared.pick.Pick.TheVariants.{First, Last}
 use Rattle.rh_programs.specs.declared.status.Program.{Program}
-use Rattle.rh_programs.specs.declared.status.Program.TheVariants.{Check, Run, RunIn, Sessions, Sweep}
+use Rattle.rh_programs.specs.declared.status.Program.TheVariants.{Check, CheckJson, Run, RunIn, RunJson, Story, Verify, Sessions, Sweep}
 use Rattle.rehearse.specs.CommandLine.{Picks, ArePicks, line}
 use Rattle.rehearse.specs.Table.{subcommand_named}
 use Rattle.rehearse.specs.Asking.{program_among}
@@ -61,6 +61,23 @@ flags_row : (asks (codes "run" ∷ codes "--echo" ∷ []) ≡ Some (RunIn First 
     × (faults (codes "check" ∷ codes "--echo" ∷ []) ≡ kind.UnknownArgument ∷ [])
 unfolding clap_on_literals subcommand_named
 flags_row = (refl, refl, refl, refl, refl, refl, refl)
+
+-- answers by JSON, which have no other manner
+json_row : (asks (codes "check" ∷ codes "--json" ∷ []) ≡ Some CheckJson)
+    × (asks (codes "run" ∷ codes "--json" ∷ codes "--pick=last" ∷ []) ≡ Some (RunJson Last))
+    × (faults (codes "run" ∷ codes "--json" ∷ codes "--pick=last" ∷ []) ≡ [])
+    × (asks (codes "run" ∷ codes "--json" ∷ codes "--strict" ∷ []) ≡ None)
+    × (faults (codes "sessions" ∷ codes "--json" ∷ []) ≡ kind.UnknownArgument ∷ [])
+unfolding clap_on_literals subcommand_named
+json_row = (refl, refl, refl, refl, refl)
+
+-- a script that is printed again, whole or not, and one that is compared
+story_row : (asks (codes "story" ∷ []) ≡ Some (Story First false))
+    × (asks (codes "story" ∷ codes "--whole" ∷ codes "--pick" ∷ codes "last" ∷ []) ≡ Some (Story Last true))
+    × (asks (codes "verify" ∷ codes "--pick=last" ∷ []) ≡ Some (Verify Last))
+    × (faults (codes "verify" ∷ codes "--whole" ∷ []) ≡ kind.UnknownArgument ∷ [])
+unfolding clap_on_literals subcommand_named
+story_row = (refl, refl, refl, refl)
 
 sessions_row : (asks (codes "sessions" ∷ []) ≡ Some (Sessions First))
     × (asks (codes "sessions" ∷ codes "--pick" ∷ codes "last" ∷ []) ≡ Some (Sessions Last))

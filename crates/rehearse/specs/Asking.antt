@@ -21,9 +21,9 @@ use Rattle.rh_programs.specs.Status.{IsStaffed}
 use Rattle.rehearse.specs.Table.{flag_word, subcommand_named}
 use Rattle.rehearse.specs.CommandLine.{Picks, ArePicks, line}
 use Rattle.rehearse.specs.declared.table.Flag.{Flag}
-use Rattle.rehearse.specs.declared.table.Flag.TheVariants.{Echo, Strict}
+use Rattle.rehearse.specs.declared.table.Flag.TheVariants.{Echo, Strict, Json, Whole}
 use Rattle.rehearse.specs.declared.table.Subcommand.{Subcommand}
-use Rattle.rehearse.specs.declared.table.Subcommand.TheVariants.{Run, Check, Sessions, Sweep}
+use Rattle.rehearse.specs.declared.table.Subcommand.TheVariants.{Run, Check, Story, Verify, Sessions, Sweep}
 use Rattle.rehearse.specs.declared.command_line.Asked.{Asked}
 use Rattle.rehearse.specs.declared.command_line.Asked.TheVariants as asked
 use Rattle.rehearse.specs.declared.command_line.Words.{Words}
@@ -65,10 +65,17 @@ flag_in flag rows = is_given (first_of (flag_word flag) rows)
 abbrev pub run_of : Pick → Bool → Bool → Program
 run_of pick echo strict = if echo || strict then program.RunIn pick (record { echo = echo; strict = strict }) else program.Run pick
 
+-- one that answers by JSON has no other manner
+abbrev pub run_as : Pick → Bool → Bool → Bool → Option Program
+run_as pick echo strict json =
+    if json then (if echo || strict then None else Some (program.RunJson pick)) else Some (run_of pick echo strict)
+
 -- the program that a subcommand means with these matches
 abbrev pub program_of : Subcommand → List Row → Option Program
-program_of Check rows = Some program.Check
-program_of Run rows = Some (run_of (pick_in rows) (flag_in Echo rows) (flag_in Strict rows))
+program_of Check rows = Some (if flag_in Json rows then program.CheckJson else program.Check)
+program_of Run rows = run_as (pick_in rows) (flag_in Echo rows) (flag_in Strict rows) (flag_in Json rows)
+program_of Story rows = Some (program.Story (pick_in rows) (flag_in Whole rows))
+program_of Verify rows = Some (program.Verify (pick_in rows))
 program_of Sessions rows = Some (program.Sessions (pick_in rows))
 program_of Sweep rows = option_map (program.Sweep (pick_in rows)) (workers_in rows)
 

@@ -2,21 +2,25 @@
 use Rattle.std.specs.Prelude.{ℕ, List, [], ◌∷◌, codes, Option, position, slice_get, option_and_then}
 use Rattle.std.specs.Str.{bytes_eq}
 use Rattle.rehearse.specs.declared.table.Flag.{Flag}
-use Rattle.rehearse.specs.declared.table.Flag.TheVariants.{Echo, Strict}
+use Rattle.rehearse.specs.declared.table.Flag.TheVariants.{Echo, Strict, Json, Whole}
 use Rattle.rehearse.specs.declared.table.Setting.{Setting}
 use Rattle.rehearse.specs.declared.table.Setting.TheVariants as setting
 use Rattle.rehearse.specs.declared.table.Subcommand.{Subcommand}
-use Rattle.rehearse.specs.declared.table.Subcommand.TheVariants.{Run, Check, Sessions, Sweep}
+use Rattle.rehearse.specs.declared.table.Subcommand.TheVariants.{Run, Check, Story, Verify, Sessions, Sweep}
 
 -- the words that take no value, without their `--`
 abbrev pub flag_word : Flag → List ℕ
 flag_word Echo = codes "echo"
 flag_word Strict = codes "strict"
+flag_word Json = codes "json"
+flag_word Whole = codes "whole"
 
 -- the word of a subcommand, and its options
 abbrev pub entry_of : Subcommand → List ℕ × List Setting
-entry_of Run = (codes "run", setting.Pick ∷ setting.Flag Echo ∷ setting.Flag Strict ∷ [])
-entry_of Check = (codes "check", [])
+entry_of Run = (codes "run", setting.Pick ∷ setting.Flag Echo ∷ setting.Flag Strict ∷ setting.Flag Json ∷ [])
+entry_of Check = (codes "check", setting.Flag Json ∷ [])
+entry_of Story = (codes "story", setting.Pick ∷ setting.Flag Whole ∷ [])
+entry_of Verify = (codes "verify", setting.Pick ∷ [])
 entry_of Sessions = (codes "sessions", setting.Pick ∷ [])
 entry_of Sweep = (codes "sweep", setting.Pick ∷ setting.Workers ∷ [])
 
@@ -28,7 +32,7 @@ settings_of s = (entry_of s).1
 
 -- all subcommands
 abbrev pub subcommands : List Subcommand
-subcommands = Run ∷ Check ∷ Sessions ∷ Sweep ∷ []
+subcommands = Run ∷ Check ∷ Story ∷ Verify ∷ Sessions ∷ Sweep ∷ []
 
 -- the subcommand with this word
 unfoldable pub subcommand_named : List ℕ → Option Subcommand

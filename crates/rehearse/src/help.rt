@@ -19,10 +19,11 @@ show
 EOF
 
 `rehearse run --help` lists the commands of a script, `rehearse check --help`
-says what a cluster file holds, `rehearse sessions --help` how several operators
-share one cluster, and `rehearse sweep --help` how many failures are tried from
-one state. Each line that is printed is explained in docs/ANSWERS.md; what a
-live OTP does otherwise is in docs/LIVE_OTP.md.
+says what a cluster file holds, `rehearse story --help` how a script is printed
+with its answers, `rehearse verify --help` how it is tested, `rehearse sessions
+--help` how several operators share one cluster, and `rehearse sweep --help` how
+many failures are tried from one state. Each line that is printed is explained
+in docs/ANSWERS.md; what a live OTP does otherwise is in docs/LIVE_OTP.md.
 
 Exit status:
 
@@ -33,7 +34,8 @@ Exit status:
   4  the input can't be read, or the output can't be written
   5  out of memory
   6  the sweep was refused, or the sessions made no one history
-  9  a step was refused, and `run` was asked to be strict";
+  9  a step was refused, and `run` was asked to be strict; or `verify` found what
+     isn't as it is expected";
 
 pub static RUN_ABOUT: &str = "Reads a cluster file and a script, and answers each command";
 
@@ -98,6 +100,9 @@ With `--echo` each command is printed before its answer, as it stands behind
 the exit status is 9 where a step was refused and nothing else ends the
 rehearsal. An `undo` with no step to take back is no refused step.
 
+With `--json` each answer is a line of JSON, for programs: docs/JSON.md has its
+fields. It goes with neither of the other two.
+
 docs/ANSWERS.md explains each line, docs/SCRIPTS.md what each command needs,
 docs/RULES.md what follows from it.
 
@@ -141,11 +146,70 @@ a permission given back pulls an application back, as live, 64 and 128.
 
 The answer is `ok K nodes K applications`, or `cluster refused` and the first
 fault with its code, as `C5 unknown_name` or `C1 T1 syntax line 3`: see
-docs/ANSWERS.md. docs/CLUSTER_FILES.md has the format.
+docs/ANSWERS.md. docs/CLUSTER_FILES.md has the format. With `--json` it is a
+line of JSON, with the names of the file: docs/JSON.md has its fields.
 
 Example:
 
   ./rehearse check < examples/three-nodes.txt";
+
+pub static STORY_ABOUT: &str = "Prints a script again, with its answers as comments";
+
+pub static STORY_AFTER_HELP: &str = "\
+The input is that of `rehearse run` on standard input. Each line of the script is
+printed as it stands, and behind each command what it was answered:
+
+  #= TEXT  a line of the answer, as `rehearse run` prints it
+  #@ TIME  within a tick: the lines below it were told at this time, in
+           milliseconds, when a timer fired
+
+What is printed is a script again. Comment lines that an earlier story wrote are
+left out: those that begin with `#= `, `#@ `, `#- ` or `#| `. All other lines
+stay byte for byte, and with --whole the output can take the input's place.
+
+At the first line that is no command the answers end with `#= bad line K`, and
+the rest stands as it was. K counts lines from 1 behind `===`, with blank lines
+and comments. docs/ANSWERS.md explains each line, docs/SCRIPTS.md the script.
+
+Examples:
+
+  ./rehearse story < examples/repaired-node.txt
+  ./rehearse story --whole < examples/failover-and-takeover.txt";
+
+pub static VERIFY_ABOUT: &str = "Answers a script, and compares what comes with what it expects";
+
+pub static VERIFY_AFTER_HELP: &str = "\
+A cluster file, a line `===` and a script, as for `run`. Behind a command may
+stand what is expected of it, in comments:
+
+  #= TEXT   a line of its answer. These lines, up to the next command, are all
+            lines of the answer and no other, in order, each exactly
+  #? TEXT   a line that the report behind it has, as `show` would print it;
+            blanks at the front don't count
+
+A command without them may be answered anything. For each of which something
+doesn't hold is told:
+
+  line L: COMMAND                line L of the whole input, as an editor counts
+    wanted TEXT                  each line of the answer that was wanted,
+    came TEXT                    and each that came, where they aren't the same
+    wanted in the report TEXT    each line that the report hasn't
+
+The last line is `ok K of N commands checked`, where K commands had an
+expectation, or `differs J of K`, with status 9. An expectation before the
+first command differs by itself. A line that is no command ends it as `run`
+does, with `bad line K` and status 3.
+
+Example:
+
+./rehearse verify << 'EOF'
+{node, a@x, []}.
+===
+boot a@x
+#= ok
+#= up a@x
+#? node a@x up 1
+EOF";
 
 pub static SESSIONS_ABOUT: &str = "As run, for several sessions that share one cluster";
 

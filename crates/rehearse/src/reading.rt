@@ -1,12 +1,13 @@
 //! What program the matches of a command line mean.
 
-ghost use Rattle.std.specs.Prelude.{◌≡◌, ◌≢◌, IfSome, Some, codes};
+ghost use Rattle.std.specs.Prelude.{◌≡◌, ◌≢◌, IfSome, Some, codes, if◌then◌else◌};
 ghost use Rattle.std.specs.Option.{option_map};
 ghost use Rattle.clap.specs.Words.{found_of, rows_of, subcommand_rows_of};
 ghost use Rattle.rh_rules.specs.declared.pick.Pick.TheVariants as pick;
 ghost use Rattle.rh_sweep.specs.Sweeping.{AreWorkers};
 ghost use Rattle.rh_programs.specs.Status.{IsStaffed};
-ghost use Rattle.rehearse.specs.Asking.{allowed, flag_in, is_given, pick_in, program_among, program_in, program_of, run_of, workers_in};
+ghost use Rattle.rh_programs.specs.declared.status.Program.TheVariants as program;
+ghost use Rattle.rehearse.specs.Asking.{allowed, flag_in, is_given, pick_in, program_among, program_in, program_of, run_as, run_of, workers_in};
 
 use crate::table::{Flag, Subcommand, subcommand_named};
 use clap::ArgMatches;
@@ -39,14 +40,43 @@ fn program_of(subcommand: Subcommand, matches: &ArgMatches<'_>) -> Option<Progra
     ensures staffed { IfSome result IsStaffed }
 {
     match subcommand {
-        Subcommand::Check => Some(Program::Check),
-        Subcommand::Run => Some(run_of(
+        Subcommand::Check => Some(check_of(flag_in(matches, Flag::Json))),
+        Subcommand::Run => run_as(
             pick_in(matches),
             flag_in(matches, Flag::Echo),
             flag_in(matches, Flag::Strict),
-        )),
+            flag_in(matches, Flag::Json),
+        ),
+        Subcommand::Story => Some(Program::Story(pick_in(matches), flag_in(matches, Flag::Whole))),
+        Subcommand::Verify => Some(Program::Verify(pick_in(matches))),
         Subcommand::Sessions => Some(Program::Sessions(pick_in(matches))),
         Subcommand::Sweep => Some(Program::Sweep(pick_in(matches), workers_in(matches)?)),
+    }
+}
+
+// A check, by JSON or not.
+fn check_of(json: bool) -> Program
+    ensures named { result ≡ if json then program.CheckJson else program.Check }
+    ensures staffed { IsStaffed result }
+{
+    if json {
+        Program::CheckJson
+    } else {
+        Program::Check
+    }
+}
+
+// A run, by JSON or not: one that answers by JSON has no other manner.
+fn run_as(pick: Pick, echo: bool, strict: bool, json: bool) -> Option<Program>
+    ensures named { result ≡ run_as pick echo strict json }
+    ensures staffed { IfSome result IsStaffed }
+{
+    if !json {
+        Some(run_of(pick, echo, strict))
+    } else if echo || strict {
+        None
+    } else {
+        Some(Program::RunJson(pick))
     }
 }
 

@@ -6,7 +6,7 @@ ghost use Rattle.rehearse.specs.Table.{flag_word, settings_of, subcommand_named,
 
 use crate::help::{
     CHECK_ABOUT, CHECK_AFTER_HELP, RUN_ABOUT, RUN_AFTER_HELP, SESSIONS_ABOUT, SESSIONS_AFTER_HELP,
-    SWEEP_ABOUT, SWEEP_AFTER_HELP,
+    STORY_ABOUT, STORY_AFTER_HELP, SWEEP_ABOUT, SWEEP_AFTER_HELP, VERIFY_ABOUT, VERIFY_AFTER_HELP,
 };
 
 /// A word of a subcommand that takes no value: it is given, or it isn't.
@@ -16,6 +16,10 @@ pub enum Flag {
     Echo,
     /// A refused step is a fault.
     Strict,
+    /// The answers are lines of JSON.
+    Json,
+    /// The cluster file stands before the script.
+    Whole,
 }
 
 impl Flag {
@@ -26,6 +30,8 @@ impl Flag {
         match self {
             Flag::Echo => "echo",
             Flag::Strict => "strict",
+            Flag::Json => "json",
+            Flag::Whole => "whole",
         }
     }
 
@@ -34,6 +40,8 @@ impl Flag {
         match self {
             Flag::Echo => "Prints each command before its answer",
             Flag::Strict => "Ends with status 9 where a step was refused",
+            Flag::Json => "Answers by lines of JSON, for programs",
+            Flag::Whole => "Prints the cluster file and the line `===` before the script",
         }
     }
 }
@@ -49,16 +57,19 @@ pub enum Setting {
     Flag(Flag),
 }
 
-static NONE: [Setting; 0] = [];
+static JSON: [Setting; 1] = [Setting::Flag(Flag::Json)];
 
 static PICK: [Setting; 1] = [Setting::Pick];
 
+static PICK_WHOLE: [Setting; 2] = [Setting::Pick, Setting::Flag(Flag::Whole)];
+
 static PICK_WORKERS: [Setting; 2] = [Setting::Pick, Setting::Workers];
 
-static PICK_ECHO_STRICT: [Setting; 3] = [
+static PICK_ECHO_STRICT_JSON: [Setting; 4] = [
     Setting::Pick,
     Setting::Flag(Flag::Echo),
     Setting::Flag(Flag::Strict),
+    Setting::Flag(Flag::Json),
 ];
 
 /// The subcommands.
@@ -66,14 +77,18 @@ static PICK_ECHO_STRICT: [Setting; 3] = [
 pub enum Subcommand {
     Run,
     Check,
+    Story,
+    Verify,
     Sessions,
     Sweep,
 }
 
 /// All of them, in the order in which help lists them.
-pub static SUBCOMMANDS: [Subcommand; 4] = [
+pub static SUBCOMMANDS: [Subcommand; 6] = [
     Subcommand::Run,
     Subcommand::Check,
+    Subcommand::Story,
+    Subcommand::Verify,
     Subcommand::Sessions,
     Subcommand::Sweep,
 ];
@@ -96,13 +111,25 @@ impl Subcommand {
         match self {
             Subcommand::Run => entry_of(
                 "run",
-                PICK_ECHO_STRICT.as_slice(),
+                PICK_ECHO_STRICT_JSON.as_slice(),
                 RUN_ABOUT,
                 RUN_AFTER_HELP,
             ),
             Subcommand::Check => {
-                entry_of("check", NONE.as_slice(), CHECK_ABOUT, CHECK_AFTER_HELP)
+                entry_of("check", JSON.as_slice(), CHECK_ABOUT, CHECK_AFTER_HELP)
             }
+            Subcommand::Story => entry_of(
+                "story",
+                PICK_WHOLE.as_slice(),
+                STORY_ABOUT,
+                STORY_AFTER_HELP,
+            ),
+            Subcommand::Verify => entry_of(
+                "verify",
+                PICK.as_slice(),
+                VERIFY_ABOUT,
+                VERIFY_AFTER_HELP,
+            ),
             Subcommand::Sessions => entry_of(
                 "sessions",
                 PICK.as_slice(),

@@ -1,43 +1,46 @@
 -- The exit status, and what it says (ours).
-use Rattle.std.specs.Prelude.{◌≡◌, ◌⊎◌, ◌==◌, ℕ, List, Bool, true, false, Option, Some, None, Result, Ok, Err}
+use Rattle.std.specs.Prelude.{◌≡◌, ◌⊎◌, ◌==◌, ℕ, List, Bool, true, false, Option, None, Result, Ok, Err}
 use Rattle.rh_sweep.specs.Sweeping.{AreWorkers}
 use Rattle.rh_app.specs.declared.fault.RunFault.{RunFault}
 use Rattle.rh_app.specs.declared.fault.RunFault.TheVariants as end
 use Rattle.rh_app.specs.declared.fault.Told.{Told}
 use Rattle.rh_programs.specs.declared.status.Program.{Program}
-use Rattle.rh_programs.specs.declared.status.Program.TheVariants.{Check, Run, RunIn, Sessions, Sweep}
+use Rattle.rh_programs.specs.declared.status.Program.TheVariants.{Check, CheckJson, Run, RunIn, RunJson, Story, Verify, Sessions, Sweep}
 use Rattle.rh_devices.specs.declared.watched.Watched.{Watched}
 use Rattle.rh_devices.specs.Devices.{Passed}
-use Rattle.rh_app.specs.Programs.{Owing, IsInput, ProgramGives, NoThreads}
+use Rattle.rh_app.specs.Programs.{IsInput, ProgramGives, NoThreads}
 use Rattle.rh_app.specs.CheckText.{OwesCheck}
 use Rattle.rh_app.specs.RunText.{OwesRun}
 use Rattle.rh_app.specs.Sessions.{MayGive, AskHistory}
-use Rattle.rh_manner.specs.MannerText.{OwesRunIn}
 use Rattle.rh_app.specs.SweepText.{OwesSweep}
+use Rattle.rh_json.specs.CheckJson.{OwesCheckJson}
+use Rattle.rh_json.specs.RunJson.{OwesRunJson}
+use Rattle.rh_manner.specs.MannerText.{OwesRunIn}
+use Rattle.rh_story.specs.StoryText.{OwesStory}
+use Rattle.rh_verify.specs.VerifyText.{OwesVerify}
 
 -- what a program owes
 abbrev pub Owes : Program → List ℕ → List ℕ → Option Told → Type 0
 Owes Check = OwesCheck
+Owes CheckJson = OwesCheckJson
 Owes (Run pick) = OwesRun pick
 Owes (RunIn pick manner) = OwesRunIn manner pick
+Owes (RunJson pick) = OwesRunJson pick
+Owes (Story pick whole) = OwesStory pick whole
+Owes (Verify pick) = OwesVerify pick
 Owes (Sessions pick) = MayGive pick
 Owes (Sweep pick workers) = OwesSweep pick
 
 -- for which inputs its threads may make no one history
 abbrev pub MayTear : Program → List ℕ → Type 0
-MayTear Check = NoThreads
-MayTear (Run pick) = NoThreads
-MayTear (RunIn pick manner) = NoThreads
 MayTear (Sessions pick) = AskHistory
-MayTear (Sweep pick workers) = NoThreads
+MayTear program = NoThreads
 
 -- it starts no threads: a sweep by one worker needs none beside the caller's
 abbrev pub is_alone : Program → Bool
-is_alone Check = true
-is_alone (Run pick) = true
-is_alone (RunIn pick manner) = true
 is_alone (Sessions pick) = false
 is_alone (Sweep pick workers) = workers == 1
+is_alone program = true
 
 -- a sweep has a number of workers that there may be
 abbrev pub IsStaffed : Program → Type 0

@@ -7,8 +7,11 @@ ghost use Rattle.rh_programs.specs.Status.{Owes, MayTear, Flushed, IsStaffed, Is
 use rh_app::{
     RunFault, Sink, Source, Watched, run, run_check, run_sessions, run_sweep, run_sweep_alone,
 };
+use rh_json::{check_json, run_json};
 use rh_manner::{Manner, run_in};
 use rh_rules::Pick;
+use rh_story::run_story;
+use rh_verify::run_verify;
 use std::alloc::Global;
 use std::sync::Wait;
 use std::thread::Threads;
@@ -18,10 +21,18 @@ use std::thread::Threads;
 pub enum Program {
     /// The cluster file is read, and that is all.
     Check,
+    /// The same, as a line of JSON.
+    CheckJson,
     /// The commands of a script are answered.
     Run(Pick),
     /// The same, in a manner of its own.
     RunIn(Pick, Manner),
+    /// The same, as lines of JSON.
+    RunJson(Pick),
+    /// The script is printed again, with what came of each command; behind the cluster file, if it is to be whole.
+    Story(Pick, bool),
+    /// What came of each command is compared with what the script expects.
+    Verify(Pick),
     /// Sessions share a cluster.
     Sessions(Pick),
     /// Plans are tried, by so many workers.
@@ -34,10 +45,9 @@ impl Program {
         ensures { result ≡ is_alone self }
     {
         match self {
-            Program::Check | Program::Run(_) => true,
-            Program::RunIn(..) => true,
             Program::Sessions(_) => false,
             Program::Sweep(_, workers) => workers == 1,
+            _ => true,
         }
     }
 }
@@ -99,8 +109,12 @@ fn ended_alone<S: Source, K: Sink>(
 {
     match program {
         Program::Check => run_check(alloc, reader, writer),
+        Program::CheckJson => check_json(alloc, reader, writer),
         Program::Run(pick) => run(alloc, reader, writer, pick),
         Program::RunIn(pick, manner) => run_in(alloc, reader, writer, pick, manner),
+        Program::RunJson(pick) => run_json(alloc, reader, writer, pick),
+        Program::Story(pick, whole) => run_story(alloc, reader, writer, pick, whole),
+        Program::Verify(pick) => run_verify(alloc, reader, writer, pick),
         Program::Sweep(pick, _) => run_sweep_alone(alloc, reader, writer, pick),
         Program::Sessions(_) => unreachable!(),
     }
@@ -120,10 +134,9 @@ fn ended_together<T: Threads + Wait + Sync, S: Source, K: Sink>(
     ensures { ProgramGives S.gives S.fails K.takes K.fails (Owes program) (MayTear program) result reader.old reader.new writer.old writer.new }
 {
     match program {
-        Program::Check | Program::Run(_) => ended_alone(alloc, program, reader, writer),
-        Program::RunIn(..) => ended_alone(alloc, program, reader, writer),
         Program::Sessions(pick) => run_sessions(rt, alloc, reader, writer, pick),
         Program::Sweep(pick, workers) => run_sweep(rt, alloc, reader, writer, pick, workers),
+        _ => ended_alone(alloc, program, reader, writer),
     }
 }
 
