@@ -69,7 +69,7 @@ def call(root, line, folder=None):
 
 def version():
     """The version, from the one place where it stands."""
-    found = re.findall(r'\.version\("([^"]*)"\)', read(os.path.join(TOP, "crates", "rehearse", "src", "command_line.rt")).decode())
+    found = re.findall(r'\.version\("([^"]*)"\)', read(os.path.join(TOP, "crates", "rehearse", "src", "building.rt")).decode())
     return found[0] if len(found) == 1 else f"{found}"
 
 
