@@ -56,6 +56,9 @@ CLUSTER = b"{node, a@x, []}. {node, b@x, []}.\n===\n"
 INPUTS = {
     "check": (CLUSTER, b"ok 2 nodes 0 applications\n"),
     "run": (CLUSTER + b"boot a@x\nboot a@x\nshow\n", b"ok\nup a@x\nrefused S3 already_alive\nok\nnow 0\nnode a@x up 1\nnode b@x down 0\n"),
+    "story": (CLUSTER + b"boot a@x\n# again\nboot a@x\n",
+              b"boot a@x\n#= ok\n#= up a@x\n# again\nboot a@x\n#= refused S3 already_alive\n"),
+    "verify": (CLUSTER + b"boot a@x\n#= ok\n#= up a@x\n#? node a@x up 1\nundo\n", b"ok 1 of 2 commands checked\n"),
     "sessions": (CLUSTER + b"2 undo\n", b"entry 2 undo\nrefused at_start\nfinal\nnow 0\nnode a@x down 0\nnode b@x down 0\n"),
     "sweep": (CLUSTER + b"boot a@x\nplan p\nplan q\ncrash b@x\n", b"ok\nup a@x\nplan p accepted 0 failovers 0 takeovers 0\n"
               b"plan q accepted 0 failovers 0 takeovers 0\nrefused 1 S5 not_alive\n"),
