@@ -162,6 +162,8 @@ printed as it stands, and behind each command what it was answered:
   #= TEXT  a line of the answer, as `rehearse run` prints it
   #@ TIME  within a tick: the lines below it were told at this time, in
            milliseconds, when a timer fired
+  #- WHY   why the application above it waits, a line for each reason; or for
+           whom the node that was booted waits
 
 What is printed is a script again. Comment lines that an earlier story wrote are
 left out: those that begin with `#= `, `#@ `, `#- ` or `#| `. All other lines

@@ -2,10 +2,18 @@
 use Rattle.std.specs.Prelude.{◌==◌, ℕ, List, [], ◌++◌, length, codes, Bool, true, false, if◌then◌else◌}
 use Rattle.std.specs.List.{flat_map}
 use Rattle.std.specs.Fmt.{decimal}
-use Rattle.rh_notes.specs.declared.notes.Kind.TheVariants.{Answer, Time}
+use Rattle.rh_notes.specs.declared.notes.Kind.TheVariants.{Answer, Time, Reason}
 use Rattle.rh_notes.specs.Notes.{mark, is_told}
-use Rattle.rh_model.specs.ClusterView.{ClusterView}
-use Rattle.rh_rules.specs.declared.event.Event.TheVariants.{Tick}
+use Rattle.rh_model.specs.declared.node.Node.{Node}
+use Rattle.rh_model.specs.declared.node.App.{App}
+use Rattle.rh_state.specs.declared.status.Timer.TheVariants.{Sync}
+use Rattle.rh_state.specs.StateView.{StateView, due_of}
+use Rattle.rh_rules.specs.declared.event.Event.{Event}
+use Rattle.rh_rules.specs.declared.event.Event.TheVariants.{Tick, Boot}
+use Rattle.rh_rules.specs.declared.notice.Notice.{Notice}
+use Rattle.rh_rules.specs.declared.notice.Notice.TheVariants.{Waits}
+use Rattle.rh_why.specs.Reasons.{reasons, awaited}
+use Rattle.rh_why.specs.Texts.{reason_text, awaited_text}
 use Rattle.rh_step.specs.Firings.{FiringView, firings}
 use Rattle.rh_trail.specs.declared.call.Call.{Call}
 use Rattle.rh_trail.specs.declared.call.Call.TheVariants as call
@@ -29,16 +37,47 @@ answer_lines text = flat_map (λ line. mark Answer ++ line) (raw_lines text)
 abbrev pub time_line : ℕ → List ℕ
 time_line time = mark Time ++ decimal time ++ codes "\n"
 
+-- a reason behind its mark
+abbrev pub reason_line : List ℕ → List ℕ
+reason_line text = mark Reason ++ text ++ codes "\n"
+
+-- ---- why something waits, by a state
+
+-- why an application waits at a node: a line for each reason
+abbrev pub app_lines : StateView → App → Node → List ℕ
+app_lines s a n = flat_map (λ reason. reason_line (reason_text s.cluster reason)) (reasons s a n)
+
+-- for whom a node waits, and until when; nothing where it waits for nobody
+abbrev pub node_lines : StateView → Node → List ℕ
+node_lines s n =
+    if length (awaited s n) == 0 then [] else reason_line (awaited_text s.cluster (awaited s n) (due_of s (Sync n)))
+
 -- ---- what is told of a line
 
--- what a timer that fired told, behind the time at which it was due; nothing where it told nothing
-abbrev pub firing_lines : ClusterView → FiringView → List ℕ
-firing_lines c f = if length f.told == 0 then [] else time_line f.due ++ answer_lines (flat_map (notice_line c) f.told)
+-- why a notice is told: only that an application waits has reasons
+abbrev pub why_lines : StateView → Notice → List ℕ
+why_lines s (Waits a n) = app_lines s a n
+why_lines s notice = []
 
--- the answer to a call. The notices of an accepted tick come by the timers that fired
+-- a notice, and why it is told, by the state behind the call
+abbrev pub notice_lines : StateView → Notice → List ℕ
+notice_lines s notice = answer_lines (notice_line s.cluster notice) ++ why_lines s notice
+
+-- what a timer that fired told, behind the time at which it was due; nothing where it told nothing
+abbrev pub firing_lines : StateView → FiringView → List ℕ
+firing_lines s f = if length f.told == 0 then [] else time_line f.due ++ flat_map (notice_lines s) f.told
+
+-- what is told of an accepted event that led to the state t. The notices of a tick come by the timers that fired; behind those
+-- of a boot stands for whom its node waits
+abbrev pub event_lines : SimView → StateView → Event → List Notice → List ℕ
+event_lines s t (Tick ms) notices = flat_map (firing_lines t) (firings (state_of s) ms s.pick)
+event_lines s t (Boot n) notices = flat_map (notice_lines t) notices ++ node_lines t n
+event_lines s t event notices = flat_map (notice_lines t) notices
+
+-- the answer to a call
 abbrev pub call_lines : SimView → Call → Reply → List ℕ
-call_lines s (call.Step (Tick ms)) (reply.Done notices) =
-    answer_lines (codes "ok\n") ++ flat_map (firing_lines s.cluster) (firings (state_of s) ms s.pick)
+call_lines s (call.Step event) (reply.Done notices) =
+    answer_lines (codes "ok\n") ++ event_lines s (state_of (served s (call.Step event)).sim) event notices
 call_lines s call reply = answer_lines (answer_text s.cluster reply)
 
 -- a line that asks nothing stands as it is, and is left out where a story wrote it

@@ -5,6 +5,7 @@
 
 mod head;
 mod lines;
+mod reasons;
 mod story;
 mod ticks;
 

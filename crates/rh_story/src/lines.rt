@@ -1,17 +1,24 @@
 //! What is told of a line of the script.
 
-ghost use Rattle.std.specs.Prelude.{◌≡◌, ◌++◌, OnOk, IfOk};
-ghost use Rattle.rh_trail.specs.Lone.{served};
+ghost use Rattle.std.specs.Prelude.{◌≡◌, ◌≢◌, ◌++◌, None, OnOk, IfOk};
+ghost use Rattle.std.specs.List.{flat_map};
+ghost use Rattle.rh_step.specs.Firings.{firings};
+ghost use Rattle.rh_trail.specs.SimView.{state_of};
+ghost use Rattle.rh_trail.specs.Lone.{served, trail_limit};
 ghost use Rattle.rh_trail.specs.declared.call.Call.TheVariants as call;
-ghost use Rattle.rh_rules.specs.declared.event.Event.TheVariants.{Tick};
+ghost use Rattle.rh_rules.specs.declared.event.Event.TheVariants.{Tick, Boot};
+ghost use Rattle.rh_rules.specs.Refusals.{refused};
+ghost use Rattle.rh_rules.specs.Steps.{next};
 ghost use Rattle.rh_script.specs.Lines.{content};
 ghost use Rattle.rh_script.specs.Commands.{line_of};
 ghost use Rattle.rh_script.specs.Answers.{answer_text, bad_text};
-ghost use Rattle.rh_story.specs.LineText.{answer_lines, call_lines, kept, line_text, behind_line, is_bad};
+ghost use Rattle.rh_story.specs.LineText.{answer_lines, notice_lines, node_lines, firing_lines, call_lines, kept, line_text, behind_line, is_bad};
 
 use crate::head::push_closed;
-use crate::ticks::{push_answer, push_firings};
+use crate::reasons::push_awaited;
+use crate::ticks::{push_answer, push_firings, push_notices};
 use rh_base::OutOfMemory;
+use rh_cluster::Node;
 use rh_notes::is_told;
 use rh_script::{Line, answer_text, bad_text, content, line_of};
 use rh_step::{Event, refusal_of};
@@ -84,7 +91,7 @@ fn push_call(
     ensures sim { OnOk result (sim.new.seen ≡ (served sim.old.seen call).sim) }
 {
     match call {
-        Call::Step(Event::Tick { ms }) => push_tick(alloc, text, sim, ms),
+        Call::Step(event) => push_step(alloc, text, sim, event),
         _ => push_reply(alloc, text, sim, call),
     }
 }
@@ -105,18 +112,73 @@ fn push_reply(
     push_answer(text, answer.as_slice())
 }
 
-// Gives a tick to the simulation, and adds what came of it: where it is accepted, the notices by the timers that fired.
+// Gives an event to the simulation, and adds what came of it.
 #[tactic(auto, using(rh_app::proofs::Keeping::served_keeps_cluster))]
-fn push_tick(alloc: Global, text: &mut Vec<u8>, sim: &mut Sim, ms: u64) -> Result<(), OutOfMemory>
-    ensures text { OnOk result (text.new.items ≡ text.old.items ++ call_lines sim.old.seen (call.Step (Tick ms)) (served sim.old.seen (call.Step (Tick ms))).reply) }
-    ensures sim { OnOk result (sim.new.seen ≡ (served sim.old.seen (call.Step (Tick ms))).sim) }
+fn push_step(
+    alloc: Global,
+    text: &mut Vec<u8>,
+    sim: &mut Sim,
+    event: Event,
+) -> Result<(), OutOfMemory>
+    ensures text { OnOk result (text.new.items ≡ text.old.items ++ call_lines sim.old.seen (call.Step event) (served sim.old.seen (call.Step event)).reply) }
+    ensures sim { OnOk result (sim.new.seen ≡ (served sim.old.seen (call.Step event)).sim) }
 {
-    let event = Event::Tick { ms };
     if refusal_of(sim.state(), &event).is_some() || sim.cursor() == Sim::TRAIL_LIMIT {
         return push_reply(alloc, text, sim, Call::Step(event));
     }
-    let fired = sim.firings(alloc, ms)?;
-    let _done = sim.answer(alloc, Call::Step(event))?;
     push_answer(text, b"ok\n".as_slice())?;
-    push_firings(alloc, text, sim.cluster(), fired.as_slice())
+    match event {
+        Event::Tick { ms } => push_tick(alloc, text, sim, ms),
+        Event::Boot { node } => push_boot(alloc, text, sim, node),
+        _ => push_event(alloc, text, sim, event),
+    }
+}
+
+// Gives an event that isn't refused to the simulation, and adds its notices.
+fn push_event(
+    alloc: Global,
+    text: &mut Vec<u8>,
+    sim: &mut Sim,
+    event: Event,
+) -> Result<(), OutOfMemory>
+    requires fine { refused (state_of sim.old.seen) event ≡ None }
+    requires room { sim.old.seen.cursor ≢ trail_limit }
+    ensures text { OnOk result (text.new.items ≡ text.old.items ++ flat_map (notice_lines (state_of (served sim.old.seen (call.Step event)).sim)) (next (state_of sim.old.seen) event sim.old.seen.pick).notices) }
+    ensures sim { OnOk result (sim.new.seen ≡ (served sim.old.seen (call.Step event)).sim) }
+{
+    match sim.step(alloc, event) {
+        Ok(notices) => push_notices(alloc, text, sim.state(), notices.as_slice()),
+        Err(_) => Err(OutOfMemory),
+    }
+}
+
+// Gives a boot that isn't refused to the simulation, and adds its notices, and for whom the node waits.
+fn push_boot(
+    alloc: Global,
+    text: &mut Vec<u8>,
+    sim: &mut Sim,
+    node: Node,
+) -> Result<(), OutOfMemory>
+    requires fine { refused (state_of sim.old.seen) (Boot node) ≡ None }
+    requires room { sim.old.seen.cursor ≢ trail_limit }
+    ensures text { OnOk result (text.new.items ≡ text.old.items
+        ++ (flat_map (notice_lines (state_of (served sim.old.seen (call.Step (Boot node))).sim)) (next (state_of sim.old.seen) (Boot node) sim.old.seen.pick).notices
+        ++ node_lines (state_of (served sim.old.seen (call.Step (Boot node))).sim) node)) }
+    ensures sim { OnOk result (sim.new.seen ≡ (served sim.old.seen (call.Step (Boot node))).sim) }
+{
+    push_event(alloc, text, sim, Event::Boot { node })?;
+    push_awaited(alloc, text, sim.state(), node)
+}
+
+// Gives a tick that isn't refused to the simulation, and adds its notices by the timers that fired.
+fn push_tick(alloc: Global, text: &mut Vec<u8>, sim: &mut Sim, ms: u64) -> Result<(), OutOfMemory>
+    requires fine { refused (state_of sim.old.seen) (Tick ms) ≡ None }
+    requires room { sim.old.seen.cursor ≢ trail_limit }
+    ensures text { OnOk result (text.new.items ≡ text.old.items
+        ++ flat_map (firing_lines (state_of (served sim.old.seen (call.Step (Tick ms))).sim)) (firings (state_of sim.old.seen) ms sim.old.seen.pick)) }
+    ensures sim { OnOk result (sim.new.seen ≡ (served sim.old.seen (call.Step (Tick ms))).sim) }
+{
+    let fired = sim.firings(alloc, ms)?;
+    let _done = sim.answer(alloc, Call::Step(Event::Tick { ms }))?;
+    push_firings(alloc, text, sim.state(), fired.as_slice())
 }

@@ -1,15 +1,18 @@
-//! What is told of a tick: its notices by the timers that fired, each behind its time.
+//! What is told of an accepted event: its notices with their reasons, and in a tick by the timers that fired.
 
-ghost use Rattle.std.specs.Prelude.{◌≡◌, ◌++◌, OnOk, IfOk, None, ◌<◌};
+ghost use Rattle.std.specs.Prelude.{◌≡◌, ◌++◌, OnOk, IfOk};
 ghost use Rattle.std.specs.List.{flat_map};
-ghost use Rattle.rh_rules.specs.declared.event.Event.TheVariants.{Tick};
+ghost use Rattle.rh_state.specs.Stored.{read};
+ghost use Rattle.rh_settle.specs.Validity.{IsValid};
 ghost use Rattle.rh_script.specs.Answers.{notice_line};
-ghost use Rattle.rh_story.specs.LineText.{answer_lines, time_line, firing_lines};
+ghost use Rattle.rh_story.specs.LineText.{answer_lines, time_line, notice_lines, firing_lines};
 
+use crate::reasons::push_why;
 use rh_base::OutOfMemory;
 use rh_cluster::Cluster;
 use rh_notes::{Kind, mark};
 use rh_script::{answer_text, split_line};
+use rh_state::State;
 use rh_step::{FiredTimer, Notice, Notices};
 use rh_trail::Reply;
 use std::alloc::Global;
@@ -41,49 +44,79 @@ fn push_time(alloc: Global, text: &mut Vec<u8>, time: u64) -> Result<(), OutOfMe
     Ok(())
 }
 
-// The lines of notices: those of an answer behind its first.
+// The line of a notice: that of an answer behind its first.
 #[tactic(auto, unfolding(rh_script::specs::Answers::answer_text))]
-fn notices_text(
-    alloc: Global,
-    cluster: &Cluster,
-    notices: &[Notice],
-) -> Result<Vec<u8>, OutOfMemory>
-    ensures { IfOk result (λ text. text.items ≡ flat_map (notice_line cluster.now) notices.now) }
+fn notice_text(alloc: Global, cluster: &Cluster, notice: &Notice) -> Result<Vec<u8>, OutOfMemory>
+    ensures { IfOk result (λ text. text.items ≡ notice_line cluster.now notice.now) }
 {
-    let notices = Notices::of(alloc, Vec::from_slice(alloc, notices)?)?;
+    let mut notices = Vec::new(alloc);
+    notices.push(*notice)?;
+    let notices = Notices::of(alloc, notices)?;
     let answer = answer_text(alloc, cluster, &Reply::Done(notices))?;
-    let lines = Vec::from_slice(alloc, &answer.as_slice()[OK.len()..])?;
-    Ok(lines)
+    let line = Vec::from_slice(alloc, &answer.as_slice()[OK.len()..])?;
+    Ok(line)
+}
+
+// Adds a notice, and why it is told.
+fn push_notice(
+    alloc: Global,
+    text: &mut Vec<u8>,
+    state: &State,
+    notice: &Notice,
+) -> Result<(), OutOfMemory>
+    requires { IsValid (read state.now) }
+    ensures { OnOk result (text.new.items ≡ text.old.items ++ notice_lines (read state.now) notice.now) }
+{
+    let line = notice_text(alloc, state.cluster(), notice)?;
+    push_answer(text, line.as_slice())?;
+    push_why(alloc, text, state, notice)
+}
+
+/// Adds notices, each with why it is told by this state.
+pub fn push_notices(
+    alloc: Global,
+    text: &mut Vec<u8>,
+    state: &State,
+    notices: &[Notice],
+) -> Result<(), OutOfMemory>
+    requires { IsValid (read state.now) }
+    ensures { OnOk result (text.new.items ≡ text.old.items ++ flat_map (notice_lines (read state.now)) notices.now) }
+{
+    for notice in notices {
+        push_notice(alloc, text, state, notice)?;
+    }
+    Ok(())
 }
 
 // Adds what a timer that fired told.
 fn push_firing(
     alloc: Global,
     text: &mut Vec<u8>,
-    cluster: &Cluster,
+    state: &State,
     fired: &FiredTimer,
 ) -> Result<(), OutOfMemory>
-    ensures { OnOk result (text.new.items ≡ text.old.items ++ firing_lines cluster.now fired.now) }
+    requires { IsValid (read state.now) }
+    ensures { OnOk result (text.new.items ≡ text.old.items ++ firing_lines (read state.now) fired.now) }
 {
     if fired.told().is_empty() {
         return Ok(());
     }
-    let lines = notices_text(alloc, cluster, fired.told())?;
     push_time(alloc, text, fired.due())?;
-    push_answer(text, lines.as_slice())
+    push_notices(alloc, text, state, fired.told())
 }
 
-/// Adds what is told of an accepted tick in which these timers fired.
+/// Adds what is told of an accepted tick in which these timers fired, which led to this state.
 pub fn push_firings(
     alloc: Global,
     text: &mut Vec<u8>,
-    cluster: &Cluster,
+    state: &State,
     firings: &[FiredTimer],
 ) -> Result<(), OutOfMemory>
-    ensures { OnOk result (text.new.items ≡ text.old.items ++ flat_map (firing_lines cluster.now) firings.now) }
+    requires { IsValid (read state.now) }
+    ensures { OnOk result (text.new.items ≡ text.old.items ++ flat_map (firing_lines (read state.now)) firings.now) }
 {
     for fired in firings {
-        push_firing(alloc, text, cluster, fired)?;
+        push_firing(alloc, text, state, fired)?;
     }
     Ok(())
 }
