@@ -164,14 +164,18 @@ printed as it stands, and behind each command what it was answered:
            milliseconds, when a timer fired
   #- WHY   why the application above it waits, a line for each reason; or for
            whom the node that was booted waits
+  #| TEXT  at the end, behind a blank line: where a distributed application ran,
+           from when to when, and for how long nowhere since it first ran
 
 What is printed is a script again. Comment lines that an earlier story wrote are
-left out: those that begin with `#= `, `#@ `, `#- ` or `#| `. All other lines
-stay byte for byte, and with --whole the output can take the input's place.
+left out: those that begin with `#= `, `#@ `, `#- ` or `#| `, and a blank line
+before a `#| `. All other lines stay byte for byte, and with --whole the output
+can take the input's place.
 
 At the first line that is no command the answers end with `#= bad line K`, and
-the rest stands as it was. K counts lines from 1 behind `===`, with blank lines
-and comments. docs/ANSWERS.md explains each line, docs/SCRIPTS.md the script.
+the rest stands as it was, without a table. K counts lines from 1 behind
+`===`, with blank lines and comments. docs/ANSWERS.md explains each line,
+docs/SCRIPTS.md the script.
 
 Examples:
 

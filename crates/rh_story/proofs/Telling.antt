@@ -14,6 +14,7 @@ use Rattle.rh_script.specs.Commands.{line_of}
 use Rattle.rh_app.specs.RunText.{bad_line, lines_asked}
 use Rattle.rh_app.proofs.Keeping.{served_keeps_cluster}
 use Rattle.rh_story.specs.LineText.{line_text, behind_line, is_bad}
+use Rattle.rh_story.specs.TableText.{table_text, lack_behind, shown}
 use Rattle.rh_story.specs.StoryText.{lines_text}
 
 -- ---- the lines of a text are the text
@@ -60,22 +61,26 @@ module _ (c : ClusterView) (k : ℕ) (line : List ℕ) (all here tail : List (Li
 
 -- ---- a line in the midst of a story: done was written, and here are this line and those behind it
 module _ {K : Type 0} (takes : K → K → List ℕ → Type 0) (fails : K → K → Type 0)
-    (start sim : SimView) (k : ℕ) (line : List ℕ) (all here tail : List (List ℕ)) (a b d : Watched K) (done text : List ℕ)
+    (start sim : SimView) (k : ℕ) (first lack line : List ℕ) (all here tail : List (List ℕ)) (a b d : Watched K) (done text : List ℕ)
     (at : here ≡ line ∷ tail) (wrote : Passed takes a.inner b.inner done)
-    (so_far : lines_text start 1 all ≡ done ++ lines_text sim k here)
-    (is : text ≡ line_text sim k line (line_of sim.cluster (content line))) where
-  all_text : lines_text start 1 all ≡ done ++ lines_text sim k (line ∷ tail)
-  all_text = so_far ∙ ap (λ ls. done ++ lines_text sim k ls) at
+    (so_far : lines_text start 1 first all ≡ done ++ lines_text sim k lack here)
+    (is : text ≡ shown line tail (line_text sim k line (line_of sim.cluster (content line)))) where
+  all_text : lines_text start 1 first all ≡ done ++ lines_text sim k lack (line ∷ tail)
+  all_text = so_far ∙ ap (λ ls. done ++ lines_text sim k lack ls) at
 
   -- what a story writes behind the line, where it is no command or is one
   abbrev behind : Bool → List ℕ
-  behind t = cond t (concat tail) (lines_text (behind_line sim (line_of sim.cluster (content line))) (k + 1) tail)
+  behind t = cond t (concat tail) (lines_text (behind_line sim (line_of sim.cluster (content line))) (k + 1) (lack_behind lack text) tail)
 
-  cut_at : (t : Bool) → is_bad (line_of sim.cluster (content line)) ≡ t → lines_text start 1 all ≡ done ++ (text ++ behind t)
-  cut_at t h = all_text ∙ (λ i. done ++ (sym is i ++ behind (h i)))
+  -- the same, by the text that it is
+  abbrev behind_is : List ℕ → Bool → List ℕ
+  behind_is shows t = cond t (concat tail) (lines_text (behind_line sim (line_of sim.cluster (content line))) (k + 1) (lack_behind lack shows) tail)
+
+  cut_at : (t : Bool) → is_bad (line_of sim.cluster (content line)) ≡ t → lines_text start 1 first all ≡ done ++ (text ++ behind t)
+  cut_at t h = all_text ∙ (λ i. done ++ (sym is i ++ behind_is (sym is i) (h i)))
 
   -- its text was not written whole
-  pub line_breaks : (f : WriteFault) → WroteFront takes fails f text b d → WroteFront takes fails f (lines_text start 1 all) a d
+  pub line_breaks : (f : WriteFault) → WroteFront takes fails f text b d → WroteFront takes fails f (lines_text start 1 first all) a d
   line_breaks f p =
       let t = is_bad (line_of sim.cluster (content line)) in
       rw (cut_at t refl) (fault_behind takes fails f a b d done (text ++ behind t) wrote (fault_before takes fails f b d text (behind t) p))
@@ -83,23 +88,38 @@ module _ {K : Type 0} (takes : K → K → List ℕ → Type 0) (fails : K → K
   -- it was, and the line is no command: then the rest is written as it stands, or a front of it
   module _ (bad : is_bad (line_of sim.cluster (content line)) ≡ true) (rest : List ℕ) (left : rest ≡ concat tail)
       (written : Passed takes b.inner d.inner text) (e : Watched K) where
-    ends_with_rest : lines_text start 1 all ≡ done ++ (text ++ rest)
+    ends_with_rest : lines_text start 1 first all ≡ done ++ (text ++ rest)
     ends_with_rest = cut_at true bad ∙ (λ i. done ++ (text ++ sym left i))
 
-    pub rest_breaks : (f : WriteFault) → WroteFront takes fails f rest d e → WroteFront takes fails f (lines_text start 1 all) a e
+    pub rest_breaks : (f : WriteFault) → WroteFront takes fails f rest d e → WroteFront takes fails f (lines_text start 1 first all) a e
     rest_breaks f p =
         rw ends_with_rest (fault_behind takes fails f a b e done (text ++ rest) wrote (fault_behind takes fails f b d e text rest written p))
 
-    pub story_ends : Passed takes d.inner e.inner rest → Passed takes a.inner e.inner (lines_text start 1 all)
+    pub story_ends : Passed takes d.inner e.inner rest → Passed takes a.inner e.inner (lines_text start 1 first all)
     story_ends p =
         rw ends_with_rest (passed_more takes a.inner b.inner e.inner done (text ++ rest) wrote (passed_more takes b.inner d.inner e.inner text rest written p))
 
   -- it was, and the line is none that is bad: then the others are left
   pub story_goes_on : is_bad (line_of sim.cluster (content line)) ≡ false → (next : SimView)
-      → next ≡ behind_line sim (line_of sim.cluster (content line)) → Passed takes b.inner d.inner text
-      → (more : List ℕ) × Passed takes a.inner d.inner more × (lines_text start 1 all ≡ more ++ lines_text next (k + 1) tail)
-  story_goes_on good next same written = (
+      → next ≡ behind_line sim (line_of sim.cluster (content line)) → (after : List ℕ) → after ≡ lack_behind lack text
+      → Passed takes b.inner d.inner text
+      → (more : List ℕ) × Passed takes a.inner d.inner more × (lines_text start 1 first all ≡ more ++ lines_text next (k + 1) after tail)
+  story_goes_on good next same after lacks written = (
     done ++ text,
     passed_more takes a.inner b.inner d.inner done text wrote written,
-    cut_at false good ∙ (λ i. done ++ (text ++ lines_text (sym same i) (k + 1) tail)) ∙ sym (append_assoc done text (lines_text next (k + 1) tail)),
+    cut_at false good ∙ (λ i. done ++ (text ++ lines_text (sym same i) (k + 1) (sym lacks i) tail)) ∙ sym (append_assoc done text (lines_text next (k + 1) after tail)),
   )
+
+-- ---- behind the last line: done was written, and the table is left
+module _ {K : Type 0} (takes : K → K → List ℕ → Type 0) (fails : K → K → Type 0)
+    (start sim : SimView) (k : ℕ) (first lack : List ℕ) (all here : List (List ℕ)) (a b d : Watched K) (done : List ℕ)
+    (none : here ≡ []) (wrote : Passed takes a.inner b.inner done)
+    (so_far : lines_text start 1 first all ≡ done ++ lines_text sim k lack here) where
+  with_table : lines_text start 1 first all ≡ done ++ table_text lack sim
+  with_table = so_far ∙ ap (λ ls. done ++ lines_text sim k lack ls) none
+
+  pub table_breaks : (f : WriteFault) → WroteFront takes fails f (table_text lack sim) b d → WroteFront takes fails f (lines_text start 1 first all) a d
+  table_breaks f p = rw with_table (fault_behind takes fails f a b d done (table_text lack sim) wrote p)
+
+  pub table_ends : Passed takes b.inner d.inner (table_text lack sim) → Passed takes a.inner d.inner (lines_text start 1 first all)
+  table_ends p = rw with_table (passed_more takes a.inner b.inner d.inner done (table_text lack sim) wrote p)

@@ -1,3 +1,4 @@
 pub mod HeadText
 pub mod LineText
+pub mod TableText
 pub mod StoryText

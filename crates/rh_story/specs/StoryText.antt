@@ -14,14 +14,16 @@ use Rattle.rh_app.specs.declared.fault.Told.{Told}
 use Rattle.rh_app.specs.RunText.{run_end}
 use Rattle.rh_story.specs.HeadText.{head_text}
 use Rattle.rh_story.specs.LineText.{line_text, behind_line, is_bad}
+use Rattle.rh_story.specs.TableText.{table_text, lack_behind, shown}
 
--- the texts of lines, each over the simulation before it, where the first has number k; what is behind a bad line stands
--- as it is
-abbrev pub lines_text : SimView → ℕ → List (List ℕ) → List ℕ
-lines_text s k [] = []
-lines_text s k (line ∷ lines) =
+-- the texts of lines, each over the simulation before it, where the first has number k and the text before it lacks so much of
+-- its end. Behind the last line comes the table; what is behind a bad line stands as it is
+abbrev pub lines_text : SimView → ℕ → List ℕ → List (List ℕ) → List ℕ
+lines_text s k lack [] = table_text lack s
+lines_text s k lack (line ∷ lines) =
     let asked = line_of s.cluster (content line) in
-    line_text s k line asked ++ (if is_bad asked then concat lines else lines_text (behind_line s asked) (k + 1) lines)
+    let text = shown line lines (line_text s k line asked) in
+    text ++ (if is_bad asked then concat lines else lines_text (behind_line s asked) (k + 1) (lack_behind lack text) lines)
 
 -- the head, where the whole is asked for
 abbrev pub head_if : Bool → List (List ℕ) → List ℕ
@@ -29,7 +31,9 @@ head_if whole lines = if whole then head_text lines else []
 
 -- the text for a cluster and the lines of an input, or for the fault of a text that is no cluster
 abbrev pub story_over : Pick → Bool → List (List ℕ) → Result ClusterView ClusterFault → List ℕ
-story_over pick whole lines (Ok c) = head_if whole lines ++ lines_text (opened c pick) 1 (lines_behind lines)
+story_over pick whole lines (Ok c) =
+    let head = head_if whole lines in
+    head ++ lines_text (opened c pick) 1 (lack_behind [] head) (lines_behind lines)
 story_over pick whole lines (Err f) = fault_text f
 
 -- what is written

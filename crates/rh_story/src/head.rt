@@ -15,8 +15,8 @@ fn ends_with(byte: u8, line: &[u8]) -> bool
     !line.is_empty() && line[line.len() - 1] == byte
 }
 
-// What a line lacks of its end.
-fn missing_end(line: &[u8]) -> &'static str
+/// What a line lacks of its end.
+pub fn missing_end(line: &[u8]) -> &'static str
     ensures { result.now ≡ missing_end line.now }
 {
     if ends_with(b'\n', line) {

@@ -1,4 +1,5 @@
 use Rattle.std.proofs.Common.{◌≡◌, ◌≤◌, ◌+◌, ◌++◌, List, ℕ, length, map, false}
+use Rattle.std.specs.Prelude.{IsUtf8}
 use Rattle.rh_devices.specs.Devices.{Passed}
 use Rattle.rh_script.specs.Lines.{raw_lines, content}
 use Rattle.rh_app.specs.RunText.{bad_line, lines_asked}
@@ -8,10 +9,11 @@ use Rattle.rh_story.proofs.story.tell_lines.Given as goal
 abbrev pub invariant-lines : goal.invariant-lines
 invariant-lines g l = record {
   text : (done : List ℕ) × Passed g.K.Sink.takes l.fn.writer.inner l.writer.inner done
-      × (lines_text l.fn.sim.seen 1 (raw_lines l.script) ≡ done ++ lines_text l.sim.seen l.number (raw_lines l.rest));
+      × (lines_text l.fn.sim.seen 1 l.lack (raw_lines l.script) ≡ done ++ lines_text l.sim.seen l.number l.behind (raw_lines l.rest));
   fault : bad_line 1 (lines_asked l.fn.sim.seen.cluster (map content (raw_lines l.script))) ≡ bad_line l.number (lines_asked l.fn.sim.seen.cluster (map content (raw_lines l.rest)));
   watch : l.writer.failed ≡ false;
   same : l.sim.seen.cluster ≡ l.fn.sim.seen.cluster;
+  utf8 : IsUtf8 l.behind;
   count : l.number + length l.rest ≤ length l.script + 1;
 }
 
