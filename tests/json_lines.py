@@ -221,7 +221,7 @@ def json_of_rows(program):
     """The inputs of the rows of `run`, told as JSON."""
     for path in files_below(ROWS):
         row = row_at(path)
-        if row.words[:1] == ["run"] and "--json" not in row.words and row.status in (0, 2, 3):
+        if row.words[:1] == ["run"] and not {"--json", "--echo", "--strict"} & {*row.words} and row.status in (0, 2, 3):
             yield f"json of {os.path.relpath(path, ROWS)}", fault_in(program, row.words[1:], row.input)
 
 

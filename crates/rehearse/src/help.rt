@@ -34,8 +34,8 @@ Exit status:
   4  the input can't be read, or the output can't be written
   5  out of memory
   6  the sweep was refused, or the sessions made no one history
-  9  a step was refused, and `run` was asked to be strict; or `verify` found what
-     isn't as it is expected";
+  9  `run` was asked to be strict, and a step was refused; or `verify` found
+     what isn't as the script expects";
 
 pub static RUN_ABOUT: &str = "Reads a cluster file and a script, and answers each command";
 
@@ -156,8 +156,8 @@ Example:
 pub static STORY_ABOUT: &str = "Prints a script again, with its answers as comments";
 
 pub static STORY_AFTER_HELP: &str = "\
-The input is that of `rehearse run` on standard input. Each line of the script is
-printed as it stands, and behind each command what it was answered:
+The input is that of `rehearse run`. Each line of the script is printed as it
+stands, and behind each command what it was answered:
 
   #= TEXT  a line of the answer, as `rehearse run` prints it
   #@ TIME  within a tick: the lines below it were told at this time, in

@@ -41,7 +41,7 @@ impl Flag {
             Flag::Echo => "Prints each command before its answer",
             Flag::Strict => "Ends with status 9 where a step was refused",
             Flag::Json => "Answers by lines of JSON, for programs",
-            Flag::Whole => "Prints the cluster file and the line `===` before the script",
+            Flag::Whole => "Prints the cluster file before the script",
         }
     }
 }

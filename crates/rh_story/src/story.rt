@@ -11,10 +11,10 @@ ghost use Rattle.rh_story.specs.StoryText.{head_if, lines_text, story_text, Owes
 use crate::head::{head_text, script_of};
 use crate::lines::tell_line;
 use crate::table::{lack_behind, shown, table_text};
-use rh_base::OutOfMemory;
 use rh_app::{
     RunFault, Sink, Source, Told, Watched, WriteFault, ended, read_input, write_fault, write_text,
 };
+use rh_base::OutOfMemory;
 use rh_cluster::{Cluster, read_cluster};
 use rh_script::{cut, split_line};
 use rh_step::Pick;
@@ -90,7 +90,7 @@ fn tell_cluster<K: Sink>(
     requires { writer.old.failed ≡ false }
     ensures { Wrote K.takes K.fails result
         (head_if whole (raw_lines input.now)
-            ++ lines_text (opened cluster pick) 1 (lack_behind [] (head_if whole (raw_lines input.now))) (lines_behind (raw_lines input.now)))
+        ++ lines_text (opened cluster pick) 1 (lack_behind [] (head_if whole (raw_lines input.now))) (lines_behind (raw_lines input.now)))
         (bad_line 1 (lines_asked cluster (script_lines input.now))) writer.old writer.new }
 {
     let head = head_if(alloc, input, whole)?;
