@@ -7,6 +7,7 @@ import gzip
 import hashlib
 import os
 import re
+import shutil
 import subprocess
 import tarfile
 
@@ -256,7 +257,9 @@ def dist(program, folder):
     yield "what it made", None if is_right and sorted(os.listdir(os.path.join(clone, "target"))) == made else "not both packages"
 
 
+# Of the shells that may not be there, those that are.
+SHELLS = [(name, tests) for name, tests in (("zsh", completed_by_zsh), ("fish", completed_by_fish)) if shutil.which(name)]
 TESTS = (versions, Group(contents, needs=("dpkg-deb",)), Group(first_commands, needs=("dpkg-deb",)),
          Group(six_commands, needs=("dpkg-deb", "erl", "escript", "erlc")), Group(manual, needs=("dpkg-deb", "man")),
-         Group(completed_by_bash, needs=("dpkg-deb",)), Group(completed_by_zsh, needs=("dpkg-deb", "zsh")),
-         Group(completed_by_fish, needs=("dpkg-deb", "fish")), Group(dist, needs=("dpkg-deb",)))
+         Group(completed_by_bash, needs=("dpkg-deb",)), *(Group(tests, needs=("dpkg-deb",)) for _, tests in SHELLS),
+         Group(dist, needs=("dpkg-deb",)))
