@@ -1,0 +1,6 @@
+pub mod Entries
+pub mod Fewest
+pub mod Told
+pub mod Table
+mod Rows
+mod RowsFindings

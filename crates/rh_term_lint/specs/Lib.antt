@@ -1,0 +1,4 @@
+pub mod Near
+pub mod Meant
+pub mod Findings
+pub mod Laws
