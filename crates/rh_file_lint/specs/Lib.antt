@@ -1,0 +1,10 @@
+pub mod Cluster
+pub mod SyncLists
+pub mod Timeouts
+pub mod NodeLists
+pub mod BootLists
+pub mod Circles
+pub mod Losses
+pub mod Findings
+pub mod Working
+pub mod Laws
