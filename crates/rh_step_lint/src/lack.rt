@@ -1,0 +1,14 @@
+//! How a dependency stands at a node.
+
+/// How an application that another one needs stands at a node that boots both.
+#[derive(Clone, Copy, Debug, PartialEq, Eq)]
+pub enum Lack {
+    /// It is booted before the other one, and is forbidden there.
+    Forbidden,
+    /// It isn't booted before the other one.
+    Later,
+    /// It is distributed, and isn't to run there.
+    Elsewhere,
+    /// It doesn't run there.
+    Gone,
+}
