@@ -1,0 +1,12 @@
+pub mod Places
+pub mod KeyParts
+pub mod KeysApart
+pub mod KeyLists
+pub mod Asked
+pub mod Stepped
+pub mod Searched
+pub mod Reached
+pub mod Zips
+pub mod Begun
+pub mod GoesOn
+mod Rows

@@ -1,0 +1,131 @@
+-- Worked rows: three nodes n1, n2 and n3, and a distributed application, web, which may run at all of them.
+use Rattle.std.proofs.Common.{◌≡◌, true, false, Some, None, [], ◌∷◌, codes, refl}
+use Rattle.rh_model.specs.ClusterView.{ClusterView, NodeView, numbered, app_numbered}
+use Rattle.rh_model.specs.declared.node.Node.{Node}
+use Rattle.rh_model.specs.declared.node.App.{App}
+use Rattle.rh_model.specs.declared.settings.SyncWait.TheVariants.{Unset}
+use Rattle.rh_state.specs.Numbers.{nodes_of, apps_of}
+use Rattle.rh_state.specs.declared.status.Mode.TheVariants as mode
+use Rattle.rh_state.specs.declared.status.Kind.TheVariants as kind
+use Rattle.rh_state.specs.declared.status.Standing.TheVariants as standing
+use Rattle.rh_state.specs.declared.status.Timer.TheVariants.{Sync, Failover}
+use Rattle.rh_state.specs.First.{first}
+use Rattle.rh_state.specs.StateView.{StateView}
+use Rattle.rh_explore.specs.declared.asking.Condition.TheVariants.{RunsSomewhere, RunsNowhere, RunsAt, IsUp, IsNotUp}
+use Rattle.rh_explore.specs.declared.bounds.Covered.TheVariants as covered
+use Rattle.rh_explore.specs.Asking.{has_timer, is_so}
+use Rattle.rh_explore.specs.Exploring.{CoversAll}
+use Rattle.rh_explore.specs.Keys.{key_of, node_numbers, pair_numbers, app_numbers}
+use Rattle.rh_explore.specs.Reaching.{not_up_count}
+
+abbrev n1 : Node
+n1 = numbered 0
+
+abbrev n2 : Node
+n2 = numbered 1
+
+abbrev n3 : Node
+n3 = numbered 2
+
+abbrev n4 : Node
+n4 = numbered 3
+
+abbrev web : App
+web = app_numbered 0
+
+abbrev other : App
+other = app_numbered 1
+
+abbrev alone : NodeView
+alone = record { mandatory = []; optional = []; sync_wait = Unset; boot = []; permissions = true ∷ []; platforms = [] }
+
+abbrev cluster : ClusterView
+cluster = record {
+  profile = 1;
+  node_names = codes "n1" ∷ codes "n2" ∷ codes "n3" ∷ [];
+  app_names = codes "web" ∷ [];
+  platform_names = [];
+  nodes = alone ∷ alone ∷ alone ∷ [];
+  apps = record { deps = []; start_arg = None; phases = false; spread = Some (record { timeout = 5000; groups = (n1 ∷ []) ∷ (n2 ∷ n3 ∷ []) ∷ [] }) } ∷ [];
+}
+
+-- n1 is down and web was lost with it, n2 waits, n3 is up; web waits at n3, where it was taken over from n2 once, and may not run at n2
+abbrev lost : StateView
+lost = record (first cluster) {
+  time = 700;
+  modes = mode.Down ∷ mode.Waiting ∷ mode.Up ∷ [];
+  incarnations = 2 ∷ 1 ∷ 4 ∷ [];
+  waiting = [] ∷ [] ∷ (web ∷ []) ∷ [];
+  kinds = (kind.Normal ∷ []) ∷ (kind.Failover n1 ∷ []) ∷ (kind.Takeover n2 ∷ []) ∷ [];
+  allowed = (true ∷ []) ∷ (false ∷ []) ∷ (true ∷ []) ∷ [];
+  standings = standing.Lost n1 ∷ [];
+  timers = (1200, Sync n2) ∷ (5600, Failover web) ∷ [];
+}
+
+-- all are up, and web runs at n2
+abbrev running : StateView
+running = record (first cluster) {
+  modes = mode.Up ∷ mode.Up ∷ mode.Up ∷ [];
+  running = [] ∷ (web ∷ []) ∷ [] ∷ [];
+  standings = standing.Running n2 ∷ [];
+}
+
+-- ---- what is asked
+row_timers : has_timer lost ≡ true
+row_timers = refl
+
+row_quiet : has_timer running ≡ false
+row_quiet = refl
+
+row_nowhere : is_so lost (RunsNowhere web) ≡ true
+unfolding nodes_of
+row_nowhere = refl
+
+row_somewhere : is_so running (RunsSomewhere web) ≡ true
+unfolding nodes_of
+row_somewhere = refl
+
+row_unknown_app : is_so running (RunsSomewhere other) ≡ false
+unfolding nodes_of
+row_unknown_app = refl
+
+row_runs_at : is_so running (RunsAt web n2) ≡ true
+row_runs_at = refl
+
+row_runs_elsewhere : is_so running (RunsAt web n1) ≡ false
+row_runs_elsewhere = refl
+
+-- one that waits is not up, and neither is one that isn't there
+row_waits : is_so lost (IsNotUp n2) ≡ true
+row_waits = refl
+
+row_up : is_so lost (IsUp n3) ≡ true
+row_up = refl
+
+row_unknown : is_so running (IsNotUp n4) ≡ true
+row_unknown = refl
+
+-- ---- how many are not up
+row_two_not_up : not_up_count lost ≡ 2
+unfolding nodes_of
+row_two_not_up = refl
+
+row_none_not_up : not_up_count running ≡ 0
+unfolding nodes_of
+row_none_not_up = refl
+
+-- ---- the key: the time; of each node its mode, its starts, what runs, what waits, and of each application its restart type, whether it
+-- may run, and its start kind; of each application where it stands; and the timers
+row_key : key_of lost
+    ≡ 700
+    ∷ 0 ∷ 2 ∷ 0 ∷ 0 ∷ 2 ∷ 1 ∷ 0 ∷ 0
+    ∷ 1 ∷ 1 ∷ 0 ∷ 0 ∷ 2 ∷ 0 ∷ 1 ∷ 0
+    ∷ 2 ∷ 4 ∷ 0 ∷ 1 ∷ 0 ∷ 2 ∷ 1 ∷ 2 ∷ 1
+    ∷ 4 ∷ 0
+    ∷ 1200 ∷ 0 ∷ 1 ∷ 5600 ∷ 1 ∷ 0 ∷ []
+unfolding key_of node_numbers pair_numbers app_numbers nodes_of apps_of
+row_key = refl
+
+-- ---- what is covered
+row_all_covered : CoversAll 12 covered.All
+row_all_covered = tt

@@ -1,0 +1,303 @@
+-- What follows of what a search has found.
+use Rattle.std.proofs.Common.{◌≡◌, ◌≢◌, ◌<◌, ◌≤◌, ◌+◌, ℕ, true, false, nat_lt, List, [], ◌∷◌, ◌++◌, length, get_or, map, slice_get, Some, All, refl, sym, ap, ◌∙◌, subst, arith}
+use Rattle.std.proofs.lemmas.List.{length_push, length-map, get_or-map}
+use Rattle.std.proofs.lemmas.List.Elements.{All-push}
+use Rattle.std.proofs.lemmas.List.Quantifiers.{all_pairs_push}
+use Rattle.std.proofs.lemmas.Option.{same_Some, slice_get_within, slice_get-get_or, get_or_from_slice_get}
+use Rattle.rh_base.proofs.Lists.{cases}
+use Rattle.rh_state.specs.StateView.{StateView}
+use Rattle.rh_rules.specs.declared.event.Event.{Event}
+use Rattle.rh_settle.specs.Validity.{IsValid}
+use Rattle.rh_settle.proofs.Entries.{is_below, is_above}
+use Rattle.rh_trail.specs.Runs.{step}
+use Rattle.rh_explore.specs.declared.asking.Ask.{Ask}
+use Rattle.rh_explore.specs.declared.bounds.Covered.{Covered}
+use Rattle.rh_explore.specs.declared.bounds.Covered.TheVariants as covered
+use Rattle.rh_explore.specs.Asking.{holds_in}
+use Rattle.rh_explore.specs.Reaching.{Scope, MayCome, MayAllCome, behind}
+use Rattle.rh_explore.specs.declared.answers.Verdict.{Verdict}
+use Rattle.rh_explore.specs.declared.answers.Verdict.TheVariants.{Holds, Fails}
+use Rattle.rh_explore.specs.Exploring.{IsCovered, HoldsWithin, IsShortest, IsVerdict, AreReached}
+use Rattle.rh_explore.specs.Spaces.{Seen, IsSeen, HasWithin, IsSearched, IsNear, IsExpanded, IsEnd, FirstFails}
+use Rattle.rh_explore.proofs.Places.{at_front, at_of, pair_of}
+
+-- ---- lists of events
+-- one event more may come
+pub may_push : (w : Scope) (s : StateView) (es : List Event) (e : Event) → MayAllCome w s es → MayCome w (behind w s es) e → MayAllCome w s (es ++ e ∷ [])
+may_push w s [] e all one = (one, tt)
+may_push w s (x ∷ es) e all one = (all.0, may_push w (step w.pick s x) es e all.1 one)
+
+-- and leads one step further
+pub behind_push : (w : Scope) (s : StateView) (es : List Event) (e : Event) → behind w s (es ++ e ∷ []) ≡ step w.pick (behind w s es) e
+behind_push w s [] e = refl
+behind_push w s (x ∷ es) e = behind_push w (step w.pick s x) es e
+
+-- ---- what was found stays
+stays : (seen : List Seen) (y : Seen) (s : StateView) (n : ℕ) → HasWithin seen s n → HasWithin (seen ++ y ∷ []) s n
+stays seen y s n h = (h.0, h.1, at_front seen (y ∷ []) h.0 (slice_get_within seen h.0 h.1 h.2) ∙ h.2, h.3, h.4)
+
+-- the base alone
+pub base_searched : (w : Scope) → IsValid w.base → IsSearched w (record { path = []; state = w.base } ∷ []) 0
+base_searched w valid = record {
+  each = All-push (IsSeen w) [] (record { path = []; state = w.base }) (λ k d l. absurd (omega arith))
+      (record { may_come = tt; leads = refl; valid = valid; cluster = refl });
+  begins = refl;
+  ordered = λ i j d l m. absurd (omega (arith, l, m));
+  different = λ i j d l m. absurd (omega (arith, l, m));
+  closed = λ k x e l. absurd (omega (arith, l));
+}
+
+-- ---- the events of a state are made, one after the other
+module _ (w : Scope) (seen : List Seen) (at : ℕ) (x : Seen) where
+  pub expand_begins : IsSearched w seen at → IsNear seen at → slice_get seen at ≡ Some x → IsExpanded w seen at x 0
+  expand_begins searched near here = record {
+    searched = searched;
+    here = here;
+    near = near x here;
+    made = λ j e l. absurd (omega (arith, l));
+  }
+
+  module _ (made : ℕ) (e : Event) (x_is : slice_get w.events made ≡ Some e) (so : IsExpanded w seen at x made) where
+    -- the event of number j is this one, or was made before
+    one_more : (seen' : List Seen) → ((s : StateView) (n : ℕ) → HasWithin seen s n → HasWithin seen' s n)
+        → (MayCome w x.state e → HasWithin seen' (step w.pick x.state e) (length x.path + 1))
+        → (j : ℕ) (f : Event) → j < made + 1 → slice_get w.events j ≡ Some f → MayCome w x.state f → HasWithin seen' (step w.pick x.state f) (length x.path + 1)
+    one_more seen' keeps here j f l is may = cases (nat_lt j made)
+        (λ t. keeps _ _ (so.made j f (is_below j made t) is may))
+        (λ o. let same : j ≡ made = omega (arith, is_above j made o, l) in
+        let e_is : e ≡ f = same_Some e f (sym x_is ∙ sym (ap (slice_get w.events) same) ∙ is) in
+        subst (λ g. HasWithin seen' (step w.pick x.state g) (length x.path + 1)) e_is (here (subst (MayCome w x.state) (sym e_is) may)))
+
+    -- it can't come
+    pub one_left_out : (MayCome w x.state e → ⊥) → IsExpanded w seen at x (made + 1)
+    one_left_out not = record {
+      searched = so.searched;
+      here = so.here;
+      near = so.near;
+      made = one_more seen (λ s n h. h) (λ may. absurd (not may));
+    }
+
+    -- it leads to a state that was found
+    pub one_known : HasWithin seen (step w.pick x.state e) (length x.path + 1) → IsExpanded w seen at x (made + 1)
+    one_known known = record {
+      searched = so.searched;
+      here = so.here;
+      near = so.near;
+      made = one_more seen (λ s n h. h) (λ may. known);
+    }
+
+    -- it leads to a new one
+    module _ (t : StateView) (is : t ≡ step w.pick x.state e) (may : MayCome w x.state e) (valid : IsValid t) (cluster : t.cluster ≡ x.state.cluster)
+        (fresh : All (λ (y : Seen). y.state ≢ t) seen) where
+      abbrev new : Seen
+      new = record { path = x.path ++ e ∷ []; state = t }
+
+      within : at < length seen
+      within = slice_get_within seen at x so.here
+
+      from : IsSeen w x
+      from = at_of (IsSeen w) seen at x so.searched.each so.here
+
+      is_seen : IsSeen w new
+      is_seen = record {
+        may_come = may_push w w.base x.path e from.may_come (subst (λ s. MayCome w s e) (sym from.leads) may);
+        leads = behind_push w w.base x.path e ∙ ap (λ s. step w.pick s e) from.leads ∙ sym is;
+        valid = valid;
+        cluster = cluster ∙ from.cluster;
+      }
+
+      longer : length new.path ≡ length x.path + 1
+      longer = length_push x.path e
+
+      front : (k : ℕ) → k < length seen → slice_get (seen ++ new ∷ []) k ≡ slice_get seen k
+      front k l = at_front seen (new ∷ []) k l
+
+      has_new : HasWithin (seen ++ new ∷ []) (step w.pick x.state e) (length x.path + 1)
+      has_new = (length seen, new, last seen, is, omega (arith, longer))
+        where
+          last : (xs : List Seen) → slice_get (xs ++ new ∷ []) (length xs) ≡ Some new
+          last [] = refl
+          last (y ∷ ys) = last ys
+
+      all_near : All (λ (y : Seen). length y.path ≤ length x.path + 1) (seen ++ new ∷ [])
+      all_near = All-push (λ (y : Seen). length y.path ≤ length x.path + 1) seen new so.near (omega (arith, longer))
+
+      in_order : (k : ℕ) (d : Seen) → k < length seen → length (get_or seen k d).path ≤ length new.path
+      in_order k d l = let near = so.near k d l in omega (arith, near, longer)
+
+      searched_new : IsSearched w (seen ++ new ∷ []) at
+      searched_new = record {
+        each = All-push (IsSeen w) seen new so.searched.each is_seen;
+        begins = front 0 (omega (arith, within)) ∙ so.searched.begins;
+        ordered = all_pairs_push (λ (a b : Seen). length a.path ≤ length b.path) seen new so.searched.ordered in_order;
+        different = all_pairs_push (λ (a b : Seen). a.state ≢ b.state) seen new so.searched.different fresh;
+        closed = λ k z f l there can. stays seen new (step w.pick z.state f) (length z.path + 1)
+            (so.searched.closed k z f l (sym (front k (omega (arith, within, l))) ∙ there) can);
+      }
+
+      pub one_new : IsExpanded w (seen ++ new ∷ []) at x (made + 1)
+      one_new = record {
+        searched = searched_new;
+        here = front at within ∙ so.here;
+        near = all_near;
+        made = one_more (seen ++ new ∷ []) (stays seen new) (λ _. has_new);
+      }
+
+  -- all were made
+  pub expand_ends : IsExpanded w seen at x (length w.events) → IsSearched w seen (at + 1)
+  expand_ends so = record {
+    each = so.searched.each;
+    begins = so.searched.begins;
+    ordered = so.searched.ordered;
+    different = so.searched.different;
+    closed = λ k z e l there may. cases (nat_lt k at)
+        (λ t. so.searched.closed k z e (is_below k at t) there may)
+        (λ f. let same : k ≡ at = omega (arith, is_above k at f, l) in
+        let z_is : x ≡ z = same_Some x z (sym so.here ∙ sym (ap (slice_get seen) same) ∙ there) in
+        let may_x : MayCome w x.state e = subst (λ (y : Seen). MayCome w y.state e) (sym z_is) may in
+        subst (λ (y : Seen). HasWithin seen (step w.pick y.state e) (length y.path + 1)) z_is
+        (so.made may.listed.0 e may.listed.1
+        (slice_get-get_or w.events may.listed.0 e may.listed.1 ∙ ap Some may.listed.2) may_x));
+  }
+
+-- ---- the order of what was found
+module _ (w : Scope) (seen : List Seen) (done : ℕ) (so : IsSearched w seen done) where
+  pub ordered_at : (i j : ℕ) (x y : Seen) → i ≤ j → slice_get seen i ≡ Some x → slice_get seen j ≡ Some y → length x.path ≤ length y.path
+  ordered_at i j x y l ax ay = cases (nat_lt i j)
+      (λ t. pair_of (λ (a b : Seen). length a.path ≤ length b.path) seen i j x y so.ordered (is_below i j t) ax ay)
+      (λ f. let same : i ≡ j = omega (arith, is_above i j f, l) in
+      let x_is : x ≡ y = same_Some x y (sym ax ∙ ap (slice_get seen) same ∙ ay) in
+      let e : length x.path ≡ length y.path = ap (λ (z : Seen). length z.path) x_is in
+      omega (arith, e))
+
+  pub expand_near : (x : Seen) (made : ℕ) → IsExpanded w seen done x made → (y : Seen) → slice_get seen (done + 1) ≡ Some y
+      → All (λ (z : Seen). length z.path ≤ length y.path + 1) seen
+  expand_near x made ex y there k d l =
+      let near = ex.near k d l in
+      let order = ordered_at done (done + 1) x y (omega arith) ex.here there in
+      omega (arith, near, order)
+
+  -- ---- each list that may come, and isn't longer than those whose events weren't made, leads to a state that was found
+  module _ (n : ℕ) (beyond : (k : ℕ) (x : Seen) → done ≤ k → slice_get seen k ≡ Some x → n ≤ length x.path) where
+    from_seen : (es : List Event) (k : ℕ) (x : Seen) → slice_get seen k ≡ Some x → MayAllCome w x.state es → length x.path + length es ≤ n
+        → HasWithin seen (behind w x.state es) (length x.path + length es)
+    from_seen [] k x at may l = (k, x, at, refl, omega arith)
+    from_seen (e ∷ es) k x at may l = cases (nat_lt k done)
+        (λ t. let one = so.closed k x e (is_below k done t) at may.0 in
+        let short = one.4 in
+        let rest = from_seen es one.0 one.1 one.2 (subst (λ s. MayAllCome w s es) (sym one.3) may.1) (omega (arith, short, l)) in
+        let long = rest.4 in
+        (rest.0, rest.1, rest.2, rest.3 ∙ ap (λ s. behind w s es) one.3, omega (arith, short, long)))
+        (λ f. let far = beyond k x (is_above k done f) at in absurd (omega (arith, far, l)))
+
+    pub complete : (es : List Event) → MayAllCome w w.base es → length es ≤ n → HasWithin seen (behind w w.base es) (length es)
+    complete es may l =
+        let all = from_seen es 0 (record { path = []; state = w.base }) so.begins may (omega (arith, l)) in
+        let few = all.4 in
+        (all.0, all.1, all.2, all.3, omega (arith, few))
+
+  pub covered_found : (covered : Covered) → IsEnd seen done covered → (es : List Event) → MayAllCome w w.base es → IsCovered covered es
+      → HasWithin seen (behind w w.base es) (length es)
+  covered_found covered.All end es may within =
+      complete (length es) (λ k x l at. absurd (omega (arith, slice_get_within seen k x at, end, l))) es may (omega arith)
+  covered_found (covered.UpTo n) end es may within = complete n end es may within
+
+  -- ---- verdicts
+  pub holds_within : (ask : Ask) (covered : Covered) → IsEnd seen done covered → All (λ (x : Seen). holds_in ask x.state ≡ true) seen → HoldsWithin w covered ask
+  holds_within ask covered end all es may within =
+      let found = covered_found covered end es may within in
+      ap (holds_in ask) (sym found.3) ∙ at_of (λ (x : Seen). holds_in ask x.state ≡ true) seen found.0 found.1 all found.2
+
+  -- a shorter list than that of a state leads to one that was found before
+  module _ (near : IsNear seen done) (i : ℕ) (x : Seen) (here : slice_get seen i ≡ Some x) where
+    unexpanded_far : (n : ℕ) → n < length x.path → (k : ℕ) (y : Seen) → done ≤ k → slice_get seen k ≡ Some y → n ≤ length y.path
+    unexpanded_far n l k y past there =
+        let inside : done < length seen = omega (arith, past, slice_get_within seen k y there) in
+        let first = get_or seen done y in
+        let first_is : slice_get seen done ≡ Some first = slice_get-get_or seen done y inside in
+        let close = at_of (λ (z : Seen). length z.path ≤ length first.path + 1) seen i x (near first first_is) here in
+        let order = ordered_at done k first y past first_is there in
+        omega (arith, close, order, l)
+
+    pub shorter_found : (other : List Event) → MayAllCome w w.base other → length other < length x.path
+        → (k : ℕ) × (y : Seen) × (k < i) × (slice_get seen k ≡ Some y) × (y.state ≡ behind w w.base other)
+    shorter_found other may l =
+        let found = complete (length other) (unexpanded_far (length other) l) other may (omega arith) in
+        let short = found.4 in (
+          found.0,
+          found.1,
+          cases (nat_lt found.0 i) (is_below found.0 i)
+              (λ f. let order = ordered_at i found.0 x found.1 (is_above found.0 i f) here found.2 in absurd (omega (arith, order, short, l))),
+          found.2,
+          found.3,
+        )
+
+    pub fails_shortest : (steps : ℕ) (ask : Ask) → length x.path ≤ steps → holds_in ask x.state ≡ false
+        → ((k : ℕ) (y : Seen) → k < i → slice_get seen k ≡ Some y → holds_in ask y.state ≡ true) → IsShortest w steps ask x.path
+    fails_shortest steps ask few fails earlier =
+        let seen_x = at_of (IsSeen w) seen i x so.each here in record {
+          may_come = seen_x.may_come;
+          few = few;
+          fails = ap (holds_in ask) seen_x.leads ∙ fails;
+          shortest = λ other may l.
+              let found = shorter_found other may l in
+              ap (holds_in ask) (sym found.4) ∙ earlier found.0 found.1 found.2 found.3;
+        }
+
+  -- ---- all states
+  -- no shorter list leads to a state that was found
+  pub path_is_shortest : IsNear seen done → (i : ℕ) (x : Seen) → slice_get seen i ≡ Some x → (es : List Event) → MayAllCome w w.base es
+      → behind w w.base es ≡ x.state → length x.path ≤ length es
+  path_is_shortest near i x here es may leads = cases (nat_lt (length es) (length x.path))
+      (λ t. let earlier = shorter_found near i x here es may (is_below (length es) (length x.path) t) in
+      absurd (pair_of (λ (a b : Seen). a.state ≢ b.state) seen earlier.0 i earlier.1 x so.different earlier.2 earlier.3 here (earlier.4 ∙ leads)))
+      (λ f. is_above (length es) (length x.path) f)
+
+  module _ (near : IsNear seen done) (last : ℕ) (x : Seen) (here : slice_get seen last ≡ Some x) (is_last : last + 1 ≡ length seen) where
+    pub are_reached : (covered : Covered) → IsEnd seen done covered → AreReached w (length x.path) covered (map (λ (y : Seen). y.state) seen)
+    are_reached covered end =
+        let base : Seen = record { path = []; state = w.base } in
+        let state = λ (y : Seen). y.state in
+        let long = length-map seen state in
+        let last_in = slice_get_within seen last x here in record {
+          different = λ i j d l m.
+              let j_in : j < length seen = omega (arith, m, long) in
+              let i_in : i < length seen = omega (arith, l, j_in) in
+              let ai = get_or-map state seen i base d i_in in
+              let aj = get_or-map state seen j base d j_in in
+              λ same. so.different i j base l j_in (sym ai ∙ same ∙ aj);
+          reached = λ k d l.
+              let k_in : k < length seen = omega (arith, l, long) in
+              let y = get_or seen k base in
+              let y_there : slice_get seen k ≡ Some y = slice_get-get_or seen k base k_in in
+              let is = so.each k base k_in in
+              let at = get_or-map state seen k base d k_in in
+              record {
+                events = y.path;
+                may_come = is.may_come;
+                few = ordered_at k last y x (omega (arith, k_in, is_last)) y_there here;
+                leads = is.leads ∙ sym at;
+              };
+          farthest = (
+            last,
+            x.state,
+            omega (arith, last_in, long),
+            get_or-map state seen last x x.state last_in ∙ ap state (get_or_from_slice_get seen last x x here),
+            λ es may leads. path_is_shortest near last x here es may leads,
+          );
+          complete = λ es may within.
+              let found = covered_found covered end es may within in
+              let k_in = slice_get_within seen found.0 found.1 found.2 in (
+                found.0,
+                omega (arith, long, k_in),
+                get_or-map state seen found.0 found.1 (behind w w.base es) k_in ∙ ap state (get_or_from_slice_get seen found.0 found.1 found.1 found.2) ∙ found.3,
+              );
+        }
+
+  -- ---- the verdict on an ask
+  pub verdict_so : IsNear seen done → (steps : ℕ) → All (λ (x : Seen). length x.path ≤ steps) seen → (covered : Covered) → IsEnd seen done covered
+      → (ask : Ask) (v : Verdict) → FirstFails seen ask v → IsVerdict w steps covered ask v
+  verdict_so near steps few covered end ask Holds all = holds_within ask covered end all
+  verdict_so near steps few covered end ask (Fails es) first =
+      subst (IsShortest w steps ask) (sym first.3)
+      (fails_shortest near first.0 first.1 first.2 steps ask (at_of (λ (x : Seen). length x.path ≤ steps) seen first.0 first.1 few first.2) first.4 first.5)

@@ -1,0 +1,6 @@
+pub mod Asking
+pub mod Reaching
+pub mod Exploring
+pub mod Keys
+pub mod Spaces
+pub mod Laws

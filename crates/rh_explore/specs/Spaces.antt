@@ -1,0 +1,96 @@
+-- What is said within a search, where a part of the states is found (ours).
+use Rattle.std.specs.Prelude.{◌≡◌, ◌≢◌, ◌≤◌, ◌<◌, ◌+◌, ℕ, true, false, List, [], Option, Some, None, length, map, slice_get, All, AllPairs}
+use Rattle.rh_state.specs.StateView.{StateView}
+use Rattle.rh_state.specs.Stored.{Stored, read}
+use Rattle.rh_rules.specs.declared.event.Event.{Event}
+use Rattle.rh_rules.specs.declared.pick.Pick.{Pick}
+use Rattle.rh_rules.specs.Refusals.{refused}
+use Rattle.rh_settle.specs.Validity.{IsValid}
+use Rattle.rh_trail.specs.Runs.{step}
+use Rattle.rh_explore.specs.declared.answers.Verdict.{Verdict}
+use Rattle.rh_explore.specs.declared.answers.Verdict.TheVariants.{Holds, Fails}
+use Rattle.rh_explore.specs.declared.asking.Ask.{Ask}
+use Rattle.rh_explore.specs.Asking.{holds_in}
+use Rattle.rh_explore.specs.declared.bounds.Covered.{Covered}
+use Rattle.rh_explore.specs.declared.bounds.Covered.TheVariants as covered
+use Rattle.rh_explore.specs.declared.space.Found.{Found}
+use Rattle.rh_explore.specs.declared.space.Space.{Space}
+use Rattle.rh_explore.specs.Keys.{key_of}
+use Rattle.rh_explore.specs.Reaching.{Scope, MayCome, MayAllCome, not_up_count, behind}
+
+-- the event leads there, within the scope; or it can't be made, or too many nodes are not up behind it
+abbrev pub StepsTo : Pick → ℕ → StateView → Event → Option Stored → Type 0
+StepsTo pick down s e None = refused s e ≡ None → not_up_count (step pick s e) ≤ down → ⊥
+StepsTo pick down s e (Some t) =
+    (refused s e ≡ None) × (not_up_count (step pick s e) ≤ down) × (read t ≡ step pick s e) × IsValid (read t) × ((read t).cluster ≡ s.cluster)
+
+-- a state that was found, and a list of events that leads to it
+pub record Seen : Type 0 where
+  pub path : List Event
+  pub state : StateView
+
+-- the list may come from the base, and leads there
+pub record IsSeen (w : Scope) (x : Seen) : Type 0 where
+  pub may_come : MayAllCome w w.base x.path
+  pub leads : behind w w.base x.path ≡ x.state
+  pub valid : IsValid x.state
+  pub cluster : x.state.cluster ≡ w.base.cluster
+
+-- a state was found, by a list of at most so many events
+abbrev pub HasWithin : List Seen → StateView → ℕ → Type 0
+HasWithin seen s n = (k : ℕ) × (x : Seen) × (slice_get seen k ≡ Some x) × (x.state ≡ s) × (length x.path ≤ n)
+
+-- different states that were found, those by shorter lists first, and the base as the first; no event leads from the first `done` of
+-- them to one that wasn't found
+pub record IsSearched (w : Scope) (seen : List Seen) (done : ℕ) : Type 0 where
+  pub each : All (IsSeen w) seen
+  pub begins : slice_get seen 0 ≡ Some (record { path = []; state = w.base })
+  pub ordered : AllPairs (λ x later. length x.path ≤ length later.path) seen
+  pub different : AllPairs (λ x later. x.state ≢ later.state) seen
+  pub closed : (k : ℕ) (x : Seen) (e : Event) → k < done → slice_get seen k ≡ Some x → MayCome w x.state e
+      → HasWithin seen (step w.pick x.state e) (length x.path + 1)
+
+-- no list is longer by more than one event than that of the first state whose events weren't made
+abbrev pub IsNear : List Seen → ℕ → Type 0
+IsNear seen done = (x : Seen) → slice_get seen done ≡ Some x → All (λ (y : Seen). length y.path ≤ length x.path + 1) seen
+
+-- in the state of number `at` the first `count` events were made
+pub record IsExpanded (w : Scope) (seen : List Seen) (at : ℕ) (x : Seen) (count : ℕ) : Type 0 where
+  pub searched : IsSearched w seen at
+  pub here : slice_get seen at ≡ Some x
+  pub near : All (λ (y : Seen). length y.path ≤ length x.path + 1) seen
+  pub made : (j : ℕ) (e : Event) → j < count → slice_get w.events j ≡ Some e → MayCome w x.state e
+      → HasWithin seen (step w.pick x.state e) (length x.path + 1)
+
+-- so in whatever state has this number
+abbrev pub IsExpandedAt : Scope → List Seen → ℕ → ℕ → Type 0
+IsExpandedAt w seen at made = (x : Seen) × IsExpanded w seen at x made
+
+-- the lists of events of which all were looked at
+abbrev pub IsEnd : List Seen → ℕ → Covered → Type 0
+IsEnd seen done covered.All = length seen ≤ done
+IsEnd seen done (covered.UpTo n) = (k : ℕ) (x : Seen) → done ≤ k → slice_get seen k ≡ Some x → n ≤ length x.path
+
+-- what is asked holds in all states that were found; or it doesn't hold in one to which these events lead, and in all before it
+abbrev pub FirstFails : List Seen → Ask → Verdict → Type 0
+FirstFails seen ask Holds = All (λ (x : Seen). holds_in ask x.state ≡ true) seen
+FirstFails seen ask (Fails es) = (i : ℕ) × (x : Seen) × (slice_get seen i ≡ Some x) × (es.items ≡ x.path) × (holds_in ask x.state ≡ false)
+    × ((k : ℕ) (y : Seen) → k < i → slice_get seen k ≡ Some y → holds_in ask y.state ≡ true)
+
+-- what was found, as it is kept
+abbrev pub seen_in : Found → Seen
+seen_in f = record { path = f.path.items; state = read f.state }
+
+abbrev pub seen_of : List Found → List Seen
+seen_of found = map seen_in found
+
+-- the keys of what was found
+abbrev pub key_in : Found → List ℕ
+key_in f = key_of (read f.state)
+
+abbrev pub keys_of : List Found → List (List ℕ)
+keys_of found = map key_in found
+
+-- they are kept beside it
+abbrev pub HasKeys : Space → Type 0
+HasKeys space = map (λ key. key.items) space.keys.keys ≡ keys_of space.found.items

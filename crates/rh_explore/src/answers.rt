@@ -1,0 +1,98 @@
+//! What a search answers.
+
+ghost use Rattle.std.specs.Prelude.{◌≡◌, ◌<◌, ◌≤◌, length, List, IfOk};
+ghost use Rattle.std.specs.List.{AllZip};
+ghost use Rattle.rh_state.specs.StateView.{StateView};
+ghost use Rattle.rh_state.specs.Stored.{read};
+ghost use Rattle.rh_settle.specs.Validity.{IsValid};
+ghost use Rattle.rh_explore.specs.Exploring.{scope_of, CoversAll, IsVerdict, AreReached};
+ghost use Rattle.rh_explore.specs.Spaces.{FirstFails, seen_of};
+
+use crate::asking::Ask;
+use crate::bounds::{Bounds, Covered};
+use crate::space::{Found, search};
+use rh_base::OutOfMemory;
+use rh_state::State;
+use rh_step::{Event, Pick};
+use std::alloc::Global;
+
+/// What was found of an [`Ask`].
+#[derive(Drop)]
+pub enum Verdict {
+    /// What is asked holds in each state to which a covered list of events leads.
+    Holds,
+    /// These events lead to a state in which it doesn't, and no shorter list does.
+    Fails(Vec<Event>),
+}
+
+/// What a search found.
+#[derive(Drop)]
+pub struct Explored {
+    /// How many different states were reached, the base among them.
+    pub states: usize,
+    /// How many events lead to the last of them; to each other one no more do.
+    pub deepest: usize,
+    /// The lists of events of which all were looked at.
+    pub covered: Covered,
+    /// A verdict on each ask, in their order.
+    pub verdicts: Vec<Verdict>,
+}
+
+/// What holds in all states that these events reach from a base, each as often as one likes and in every order in which the rules
+/// accept them. The base is one that a cluster reaches, as that of each simulation.
+pub fn explore(
+    alloc: Global,
+    base: &State,
+    pick: Pick,
+    events: &[Event],
+    bounds: &Bounds,
+    asks: &[Ask],
+) -> Result<Explored, OutOfMemory>
+    requires { IsValid (read base.now) }
+    // A verdict that what is asked holds is about all covered lists of events. One that it fails has a shortest list that leads to a
+    // state in which it does, also among those that aren't covered.
+    ensures verdicts { IfOk result (λ x. AllZip (IsVerdict (scope_of base.now pick events.now bounds.now) bounds.now.steps x.covered) asks.now x.verdicts.items) }
+    // So many different states were reached, and none was left out to which a covered list leads.
+    ensures states { IfOk result (λ x. (found : List StateView) × (length found ≡ x.states)
+        × AreReached (scope_of base.now pick events.now bounds.now) x.deepest x.covered found) }
+    ensures deepest { IfOk result (λ x. x.deepest ≤ bounds.now.steps) }
+    // All lists within the bound of steps are covered, unless that of states was met.
+    ensures covers { IfOk result (λ x. x.states < bounds.now.states → CoversAll bounds.now.steps x.covered) }
+{
+    let (space, covered) = search(alloc, base, pick, events, bounds)?;
+    let found = space.found.as_slice();
+    let verdicts = verdicts_on(alloc, found, asks)?;
+    let states = found.len();
+    let deepest = found[states - 1].path.len();
+    Ok(Explored {
+        states,
+        deepest,
+        covered,
+        verdicts,
+    })
+}
+
+// The verdicts on these asks.
+fn verdicts_on(alloc: Global, found: &[Found], asks: &[Ask]) -> Result<Vec<Verdict>, OutOfMemory>
+    ensures { IfOk result (λ verdicts. AllZip (FirstFails (seen_of found.now)) asks.now verdicts.items) }
+{
+    let mut verdicts = Vec::with_capacity(alloc, asks.len())?;
+    'asks: for ask in asks {
+        let verdict = verdict_on(alloc, found, ask)?;
+        verdicts.push(verdict)?;
+    }
+    Ok(verdicts)
+}
+
+// The verdict on an ask: the first of these states in which it doesn't hold decides.
+fn verdict_on(alloc: Global, found: &[Found], ask: &Ask) -> Result<Verdict, OutOfMemory>
+    ensures { IfOk result (FirstFails (seen_of found.now) ask.now) }
+{
+    'found: for one in found {
+        if !ask.holds_in(&one.state) {
+            let path = Vec::from_slice(alloc, one.path.as_slice())?;
+            return Ok(Verdict::Fails(path));
+        }
+    }
+    Ok(Verdict::Holds)
+}

@@ -1,0 +1,157 @@
+//! The parts of a key.
+
+ghost use Rattle.std.specs.Prelude.{◌≡◌, ◌<◌, ◌∷◌, [], ◌++◌, OnOk};
+ghost use Rattle.std.specs.List.{flat_map};
+ghost use Rattle.rh_model.specs.ClusterView.{node_count, app_count};
+ghost use Rattle.rh_state.specs.Numbers.{apps_of};
+ghost use Rattle.rh_state.specs.StateView.{running_at, waiting_at};
+ghost use Rattle.rh_state.specs.Stored.{read};
+ghost use Rattle.rh_explore.specs.Keys.{mode_number, restart_number, kind_numbers, standing_numbers, timer_numbers, app_number, pair_numbers, node_numbers, app_numbers};
+
+use rh_base::OutOfMemory;
+use rh_model::{App, Node, Restart};
+use rh_state::{Kind, Mode, Standing, State, Timer};
+
+// Adds what is said of a node.
+#[tactic(auto, unfolding(crate::specs::Keys::node_numbers))]
+pub(crate) fn push_node(key: &mut Vec<u64>, state: &State, node: Node) -> Result<(), OutOfMemory>
+    requires { node.0 < node_count (read state.now).cluster }
+    ensures { OnOk result (key.new.items ≡ key.old.items ++ node_numbers (read state.now) node) }
+{
+    key.push(mode_number(state.mode(node)))?;
+    key.push(u64::from(state.incarnation(node)))?;
+    push_running(key, state, node)?;
+    key.push(0)?;
+    push_waiting(key, state, node)?;
+    key.push(0)?;
+    push_pairs(key, state, node)
+}
+
+// Adds each application that runs at a node.
+fn push_running(key: &mut Vec<u64>, state: &State, node: Node) -> Result<(), OutOfMemory>
+    requires { node.0 < node_count (read state.now).cluster }
+    ensures { OnOk result (key.new.items ≡ key.old.items ++ flat_map app_number (running_at (read state.now) node)) }
+{
+    state.formed();
+    let mut next = state.first_running(node);
+    'running: while let Some(app) = next {
+        push_app(key, app)?;
+        next = state.next_in_list(node, app);
+    }
+    Ok(())
+}
+
+// Adds each application that waits at a node.
+fn push_waiting(key: &mut Vec<u64>, state: &State, node: Node) -> Result<(), OutOfMemory>
+    requires { node.0 < node_count (read state.now).cluster }
+    ensures { OnOk result (key.new.items ≡ key.old.items ++ flat_map app_number (waiting_at (read state.now) node)) }
+{
+    state.formed();
+    let mut next = state.first_waiting(node);
+    'waiting: while let Some(app) = next {
+        push_app(key, app)?;
+        next = state.next_in_list(node, app);
+    }
+    Ok(())
+}
+
+// Adds an application of a list.
+fn push_app(key: &mut Vec<u64>, app: App) -> Result<(), OutOfMemory>
+    ensures { OnOk result (key.new.items ≡ key.old.items ++ app_number app) }
+{
+    key.push(u64::from(app.0) + 1)?;
+    Ok(())
+}
+
+// Adds what is said of each pair of a node.
+#[tactic(auto, unfolding(rh_state::specs::Numbers::apps_of))]
+fn push_pairs(key: &mut Vec<u64>, state: &State, node: Node) -> Result<(), OutOfMemory>
+    requires { node.0 < node_count (read state.now).cluster }
+    ensures { OnOk result (key.new.items ≡ key.old.items ++ flat_map (pair_numbers (read state.now) node) (apps_of (read state.now).cluster)) }
+{
+    let count = state.cluster().app_count();
+    for number in 0..count {
+        push_pair(key, state, node, App(number as u8))?;
+    }
+    Ok(())
+}
+
+// Adds what is said of a pair.
+#[tactic(auto, unfolding(crate::specs::Keys::pair_numbers))]
+fn push_pair(key: &mut Vec<u64>, state: &State, node: Node, app: App) -> Result<(), OutOfMemory>
+    requires node { node.0 < node_count (read state.now).cluster }
+    requires app { app.0 < app_count (read state.now).cluster }
+    ensures { OnOk result (key.new.items ≡ key.old.items ++ pair_numbers (read state.now) node app) }
+{
+    key.push(restart_number(state.restart_of(node, app)))?;
+    key.push(u64::from(state.allowed(node, app)))?;
+    push_kind(key, state.kind_of(node, app))
+}
+
+// Adds how an application was started.
+fn push_kind(key: &mut Vec<u64>, kind: Kind) -> Result<(), OutOfMemory>
+    ensures { OnOk result (key.new.items ≡ key.old.items ++ kind_numbers kind) }
+{
+    let (tag, node) = match kind {
+        Kind::Normal => (0, 0),
+        Kind::Failover(node) => (1, node.0),
+        Kind::Takeover(node) => (2, node.0),
+    };
+    key.push(tag)?;
+    key.push(u64::from(node))?;
+    Ok(())
+}
+
+// Adds where an application stands.
+#[tactic(auto, unfolding(crate::specs::Keys::app_numbers))]
+pub(crate) fn push_standing(key: &mut Vec<u64>, state: &State, app: App) -> Result<(), OutOfMemory>
+    requires { app.0 < app_count (read state.now).cluster }
+    ensures { OnOk result (key.new.items ≡ key.old.items ++ app_numbers (read state.now) app) }
+{
+    let (tag, node) = match state.standing(app) {
+        Standing::Quiet => (0, 0),
+        Standing::Wanted(None) => (1, 0),
+        Standing::Wanted(Some(node)) => (2, node.0),
+        Standing::Running(node) => (3, node.0),
+        Standing::Lost(node) => (4, node.0),
+    };
+    key.push(tag)?;
+    key.push(u64::from(node))?;
+    Ok(())
+}
+
+// Adds a timer.
+pub(crate) fn push_timer(key: &mut Vec<u64>, entry: (u64, Timer)) -> Result<(), OutOfMemory>
+    ensures { OnOk result (key.new.items ≡ key.old.items ++ timer_numbers entry) }
+{
+    let (tag, number) = match entry.1 {
+        Timer::Sync(node) => (0, node.0),
+        Timer::Failover(app) => (1, app.0),
+    };
+    key.push(entry.0)?;
+    key.push(tag)?;
+    key.push(u64::from(number))?;
+    Ok(())
+}
+
+// Each mode has its number.
+fn mode_number(mode: Mode) -> u64
+    ensures { result ≡ mode_number mode }
+{
+    match mode {
+        Mode::Down => 0,
+        Mode::Waiting => 1,
+        Mode::Up => 2,
+    }
+}
+
+// So has each restart type.
+fn restart_number(restart: Restart) -> u64
+    ensures { result ≡ restart_number restart }
+{
+    match restart {
+        Restart::Permanent => 0,
+        Restart::Transient => 1,
+        Restart::Temporary => 2,
+    }
+}

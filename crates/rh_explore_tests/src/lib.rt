@@ -1,0 +1,5 @@
+//! Tests of searches through all states.
+#![tactic(auto)]
+
+#[cfg(test)]
+mod searches;

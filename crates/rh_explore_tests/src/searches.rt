@@ -1,0 +1,216 @@
+//! Searches through all states of the clusters of the tests.
+
+use rh_cluster::{App, Node, read_cluster};
+use rh_explore::{Ask, Bounds, Condition, Covered, Explored, Verdict, explore};
+use rh_samples::{CAVE, ONE_NODE};
+use rh_step::{Event, Pick};
+use rh_trail::Sim;
+use std::alloc::Global;
+use std::process::Abort;
+
+// What may happen to three nodes: crashes, boots, and a second that passes.
+static FAILURES: [Event; 7] = [
+    Event::Crash { node: Node(0) },
+    Event::Crash { node: Node(1) },
+    Event::Crash { node: Node(2) },
+    Event::Boot { node: Node(0) },
+    Event::Boot { node: Node(1) },
+    Event::Boot { node: Node(2) },
+    Event::Tick { ms: 1_000 },
+];
+
+static ALL_BOOT: [Event; 3] = [
+    Event::Boot { node: Node(0) },
+    Event::Boot { node: Node(1) },
+    Event::Boot { node: Node(2) },
+];
+
+static ONE_BOOTS: [Event; 2] = [
+    Event::Boot { node: Node(0) },
+    Event::Crash { node: Node(0) },
+];
+
+// What is found on the cluster that a text describes, from the state behind the first events.
+fn explored(
+    rt: &impl Abort,
+    alloc: Global,
+    text: &str,
+    first: &[Event],
+    may: &[Event],
+    bounds: &Bounds,
+    asks: &[Ask],
+) -> Explored {
+    let cluster = read_cluster(alloc, text.as_bytes())
+        .ok()
+        .expect(rt, "a cluster");
+    let mut sim = Sim::open(alloc, cluster, Pick::First)
+        .ok()
+        .expect(rt, "memory");
+    for event in first {
+        assert!(rt; sim.step(alloc, *event).is_ok());
+    }
+    explore(alloc, sim.state(), Pick::First, may, bounds, asks)
+        .ok()
+        .expect(rt, "memory")
+}
+
+// The same on the cluster of three nodes that wait for one another, all of which are up.
+fn failures_explored(rt: &impl Abort, alloc: Global, bounds: &Bounds, asks: &[Ask]) -> Explored {
+    explored(
+        rt,
+        alloc,
+        CAVE,
+        ALL_BOOT.as_slice(),
+        FAILURES.as_slice(),
+        bounds,
+        asks,
+    )
+}
+
+// At most so many steps, with any number of nodes not up.
+fn up_to(steps: u32) -> Bounds {
+    Bounds {
+        down: 3,
+        steps,
+        states: 1_000_000,
+    }
+}
+
+// The conditions of one list.
+fn all_of(rt: &impl Abort, alloc: Global, conditions: &[Condition]) -> Vec<Condition> {
+    Vec::from_slice(alloc, conditions).ok().expect(rt, "memory")
+}
+
+// An ask with one of these lists.
+fn ask_of(rt: &impl Abort, alloc: Global, always: bool, lists: &[&[Condition]]) -> Ask {
+    let mut any_of = Vec::new(alloc);
+    for conditions in lists {
+        any_of
+            .push(all_of(rt, alloc, conditions))
+            .ok()
+            .expect(rt, "memory");
+    }
+    Ask { always, any_of }
+}
+
+// As many different states as a search by another program counts, which merges equal states too.
+#[test]
+fn counts_are_those_of_another_search(rt: HostRuntime) {
+    let eight = failures_explored(&rt, rt.alloc(), &up_to(8), [].as_slice());
+    assert!(rt; eight.states == 2_351);
+    assert!(rt; eight.deepest == 8);
+    assert!(rt; eight.covered == Covered::UpTo(8));
+    let ten = failures_explored(&rt, rt.alloc(), &up_to(10), [].as_slice());
+    assert!(rt; ten.states == 7_960);
+}
+
+// A node that is down can only boot, and one that is up only crash: each step leads to one new state.
+#[test]
+fn one_node_has_one_way(rt: HostRuntime) {
+    let found = explored(
+        &rt,
+        rt.alloc(),
+        ONE_NODE,
+        [].as_slice(),
+        ONE_BOOTS.as_slice(),
+        &up_to(3),
+        [].as_slice(),
+    );
+    assert!(rt; found.states == 4);
+    assert!(rt; found.deepest == 3);
+    assert!(rt; found.covered == Covered::UpTo(3));
+}
+
+// Where all nodes have to stay up, only time passes.
+#[test]
+fn few_nodes_may_be_down(rt: HostRuntime) {
+    let bounds = Bounds {
+        down: 0,
+        steps: 5,
+        states: 100,
+    };
+    let found = failures_explored(&rt, rt.alloc(), &bounds, [].as_slice());
+    assert!(rt; found.states == 6);
+    assert!(rt; found.deepest == 5);
+}
+
+// Where nothing may happen, all is known of lists of any length.
+#[test]
+fn nothing_may_happen(rt: HostRuntime) {
+    let down = ask_of(
+        &rt,
+        rt.alloc(),
+        true,
+        [[Condition::IsNotUp(Node(0))].as_slice()].as_slice(),
+    );
+    let found = explored(
+        &rt,
+        rt.alloc(),
+        ONE_NODE,
+        [].as_slice(),
+        [].as_slice(),
+        &up_to(9),
+        [down].as_slice(),
+    );
+    assert!(rt; found.states == 1);
+    assert!(rt; found.deepest == 0);
+    assert!(rt; found.covered == Covered::All);
+    assert_eq!(rt; found.verdicts.len(), 1);
+    assert!(rt; matches!(found.verdicts[0], Verdict::Holds));
+}
+
+// A search that has no room for all states says how far it is whole.
+#[test]
+fn room_is_wanting(rt: HostRuntime) {
+    let bounds = Bounds {
+        down: 3,
+        steps: 8,
+        states: 100,
+    };
+    let found = failures_explored(&rt, rt.alloc(), &bounds, [].as_slice());
+    assert!(rt; found.states == 100);
+    let whole = match found.covered {
+        Covered::All => 9,
+        Covered::UpTo(steps) => steps,
+    };
+    assert!(rt; whole < 8);
+}
+
+// The lists of the verdicts: the application doesn't run at the third node behind seven events, no fewer (so tells another search),
+// while it runs somewhere as long as two nodes are up and no timer is set.
+#[test]
+fn verdicts_are_told(rt: HostRuntime) {
+    let app = App(0);
+    let elsewhere = ask_of(
+        &rt,
+        rt.alloc(),
+        true,
+        [
+            [Condition::RunsNowhere(app)].as_slice(),
+            [Condition::RunsAt(app, Node(0))].as_slice(),
+            [Condition::RunsAt(app, Node(1))].as_slice(),
+        ]
+        .as_slice(),
+    );
+    let somewhere = ask_of(
+        &rt,
+        rt.alloc(),
+        false,
+        [
+            [Condition::RunsSomewhere(app)].as_slice(),
+            [Condition::IsNotUp(Node(0)), Condition::IsNotUp(Node(1))].as_slice(),
+            [Condition::IsNotUp(Node(0)), Condition::IsNotUp(Node(2))].as_slice(),
+            [Condition::IsNotUp(Node(1)), Condition::IsNotUp(Node(2))].as_slice(),
+        ]
+        .as_slice(),
+    );
+    let asks = [elsewhere, somewhere];
+    let found = failures_explored(&rt, rt.alloc(), &up_to(8), asks.as_slice());
+    assert_eq!(rt; found.verdicts.len(), 2);
+    let length = match &found.verdicts[0] {
+        Verdict::Holds => 0,
+        Verdict::Fails(events) => events.len(),
+    };
+    assert!(rt; length == 7);
+    assert!(rt; matches!(found.verdicts[1], Verdict::Holds));
+}
