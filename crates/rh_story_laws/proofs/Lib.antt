@@ -1,0 +1,16 @@
+pub mod Texts
+pub mod Rows
+pub mod Marks
+pub mod Words
+pub mod Told
+pub mod Answered
+pub mod Closing
+pub mod Telling
+pub mod Platforms
+pub mod Whole
+pub mod Ticks
+pub mod Rising
+pub mod Lengths
+pub mod Marked
+pub mod Again
+pub mod HeadAgain

@@ -1,0 +1,4 @@
+pub mod Answers
+pub mod Ticks
+pub mod Lengths
+pub mod Again

@@ -1,0 +1,9 @@
+//! Laws of what `story` and `verify` answer, beside the programs: nothing stands on them.
+#![tactic(auto)]
+
+mod laws;
+
+pub use laws::{
+    lengths_add_up_in_simulations, notices_of_a_tick_are_runs, story_answers_are_runs,
+    story_of_a_story_is_itself,
+};
