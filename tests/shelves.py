@@ -14,9 +14,9 @@ from support import TOP
 CRATES = Path(TOP, "crates")
 WRONG_BODIES = Path(TOP, "wrong-bodies")
 TESTED = WRONG_BODIES / "tests"
-PAGE = Path(TOP, "docs", "WRONG_BODIES.md")
+PAGE = Path(TOP, "docs", "GUARDS.md")
 # How many edits there may be for rt ci to try: they take about as long as all proofs together.
-MOST_IN_GATE = 160
+MOST_IN_GATE = 180
 
 # A test's name, and what is wrong, or None.
 Test = tuple[str, str | None]
