@@ -7,15 +7,17 @@ folders that is no such row is a failed test. Then come inputs that are too larg
 that fail, and memory (refused_memory.py), more devices (hostile.py) and each of their calls (failing_calls.py), cut inputs
 (prefixes.py), sweeps (sweeps.py), texts that are no terms (term_faults.py), cluster files at the limits (cluster_limits.py),
 both profiles (profiles.py), random scripts beside a model (random_scripts.py), what is told as JSON (json_lines.py), stories of the
-examples (stories.py), the scripts that run, build and ship the program (shipped.py), what ./rehearse does in front of it (front.py), the packages of it (package.py) and the documents
+examples (stories.py), rows by pytest (pytest_items.py), the scripts that run, build and ship the program (shipped.py), what ./rehearse does in front of it (front.py), the packages of it (package.py) and the documents
 (check_docs.py). Calls that the programs `rh_growths` and `rh_part_growths` beside PROGRAM make have their growths of memory counted
 and refused, and have to leave all as it was (growths.py). All of it runs side by side on all processors (groups.py).
 The last line is 'N passed, M failed'. Where paths of rows are given, these alone are run.
 """
 import os
 import re
+import subprocess
 import sys
 import tempfile
+import traceback
 
 # No file is left behind.
 sys.dont_write_bytecode = True
@@ -29,6 +31,7 @@ import made_pages  # noqa: E402
 import package  # noqa: E402
 import prefixes  # noqa: E402
 import profiles  # noqa: E402
+import pytest_items  # noqa: E402
 import random_scripts  # noqa: E402
 import refused_memory  # noqa: E402
 import shipped  # noqa: E402
@@ -48,25 +51,39 @@ INPUT_LIMIT = 16_777_216
 
 
 def row_fault(program, path):
-    """What is wrong with a row, or with what the program answers to it, or None."""
+    """What is wrong with a row, or with what the program answers to it, or None. Whatever goes wrong here is the fault of this row
+    alone."""
     try:
         row = row_at(path)
-    except (RowFault, OSError) as fault:
+        return fault_of(run(program, row.words, input=row.input), row.status, row.output)
+    except (RowFault, OSError, subprocess.SubprocessError) as fault:
         return str(fault)
-    return fault_of(run(program, row.words, input=row.input), row.status, row.output)
+    except Exception:
+        return traceback.format_exc()
 
 
-def rows(program):
+def is_row(path):
+    """Whether a file of tests/rows has the place and the name of a row."""
+    return re.fullmatch(r"[^/]+/[^/]+\.row", os.path.relpath(path, ROWS)) is not None
+
+
+def row_folders():
+    """The folders of rows."""
+    return sorted({os.path.dirname(path) for path in files_below(ROWS) if is_row(path)})
+
+
+def rows(program, folder):
+    """The rows of a folder."""
+    for path in filter(is_row, files_below(folder)):
+        yield os.path.splitext(os.path.relpath(path, ROWS))[0], row_fault(program, path)
+
+
+def strays(_program):
     """Each file of tests/rows is a row."""
-    paths = files_below(ROWS)
-    if not paths:
-        yield "tests/rows", "there is no row"
-    for path in paths:
-        name = os.path.relpath(path, ROWS)
-        if re.fullmatch(r"[^/]+/[^/]+\.row", name):
-            yield os.path.splitext(name)[0], row_fault(program, path)
-        else:
-            yield f"tests/rows/{name}", "it is no row: a row is a file tests/rows/GROUP/NAME.row"
+    yield "tests/rows", None if row_folders() else "there is no row"
+    for path in files_below(ROWS):
+        if not is_row(path):
+            yield f"tests/rows/{os.path.relpath(path, ROWS)}", "it is no row: a row is a file tests/rows/GROUP/NAME.row"
 
 
 def examples(program):
@@ -230,11 +247,13 @@ def named_rows(program, path):
     yield path, row_fault(program, path)
 
 
+# The worked rows. By pytest each of them is an item.
+WORKED = Group(rows, row_folders())
 # What makes its inputs itself, for cluster files without a profile.
 MADE = (term_faults, large_inputs, long_chains, *sweeps.TESTS)
 # The worked rows, the examples, what fails (devices, memory, threads), what docs/make makes of the documents, and ./rehearse.
-QUICK = (*made_pages.TESTS, *refused_memory.TESTS, *failing_calls.TESTS, *hostile.TESTS, rows, examples, failing_devices,
-         Group(no_threads, needs=("cc",)), *shipped.TESTS, *front.TESTS, *stories.TESTS)
+QUICK = (*made_pages.TESTS, *refused_memory.TESTS, *failing_calls.TESTS, *hostile.TESTS, WORKED, strays, examples, failing_devices,
+         Group(no_threads, needs=("cc",)), *shipped.TESTS, *front.TESTS, *stories.TESTS, *pytest_items.TESTS)
 # Those that take longest begin first.
 ALL = (*prefixes.TESTS, *growths.TESTS, *random_scripts.TESTS, *json_lines.TESTS, *check_docs.TESTS, *package.TESTS, *QUICK, *MADE,
        *map(profiles.under_profile_1, MADE), *profiles.TESTS, cluster_limits, command_lines, full_inputs, several_sessions)

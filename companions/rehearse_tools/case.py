@@ -90,7 +90,7 @@ def files_of(program: Program, path: str, outputs: Sequence[str]) -> Iterator[tu
     """What is packed, by its names."""
     data = read_bytes(path)
     words = [subcommand(to_text(data)), *([] if subcommand(to_text(data)) == "check" else ["--pick", program.pick])]
-    run, error = program.asked_plainly(words, to_text(data))
+    run, error = program.asked(words, to_text(data))
     about = [f"command rehearse {' '.join(words)} < rehearsal.txt", f"status {run.status}",
              *(f"standard error: {line}" for line in lines_of(error)), *about_program(program), *about_machine()]
     yield "about.txt", to_bytes("".join(f"{line}\n" for line in about))

@@ -27,11 +27,11 @@ Colours are for a terminal alone, and not where NO_COLOR is set.
 
 Exit status: 0 nothing differs, 1 something does, 2 what was read is refused, 4 a wrong command line.
 """
-import os
 import sys
 from collections.abc import Iterator, Sequence
 from typing import Optional
 
+from rehearse_tools.colours import BOLD, GREEN, RED, coloured, shows_colours
 from rehearse_tools.command_line import CommandLine
 from rehearse_tools.comparing import Row, Side, base_rows, groups_of, least_rows, name_rows, side_of
 from rehearse_tools.endings import Refused
@@ -42,9 +42,8 @@ from rehearse_tools.words import plural, some
 
 SAME, DIFFERENT = 0, 1
 MOST_NAMES = 10
-COLOURS = {"-": "\x1b[31m", "+": "\x1b[32m", "plan": "\x1b[1m"}
-PLAIN = "\x1b[0m"
 HEADS = ("plan ", "plans ", "behind ", "least ", "--- ", "+++ ")
+COLOURS = {**{head: BOLD for head in HEADS}, "-": RED, "+": GREEN}
 
 
 def command_line() -> CommandLine:
@@ -101,17 +100,6 @@ def told(old: Side, new: Side, is_least: bool, most: Optional[int]) -> tuple[lis
     return lines, bool(names or base or groups)
 
 
-def coloured(line: str) -> str:
-    """A line as a terminal shows it."""
-    kind = "plan" if line.startswith(HEADS) else line[:1]
-    return f"{COLOURS[kind]}{line}{PLAIN}" if kind in COLOURS else line
-
-
-def shows_colours() -> bool:
-    """Whether standard output is a terminal that may show colours."""
-    return sys.stdout is not None and sys.stdout.isatty() and not os.environ.get("NO_COLOR") and os.environ.get("TERM") != "dumb"
-
-
 def main(words: Sequence[str]) -> None:
     """Compares two cluster files."""
     line = command_line()
@@ -125,5 +113,5 @@ def main(words: Sequence[str]) -> None:
         raise Refused(f"{clusters[0][0]}: it has no node to crash")
     old, new = (side_of(program, source, cluster, base, plans) for source, cluster in clusters)
     lines, differs = told(old, new, given.least, None if given.all else MOST_NAMES)
-    write_out(text_of(map(coloured, lines) if shows_colours() else lines))
+    write_out(text_of((coloured(line, COLOURS) for line in lines) if shows_colours() else lines))
     sys.exit(DIFFERENT if differs else SAME)

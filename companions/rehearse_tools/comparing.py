@@ -4,10 +4,9 @@ from dataclasses import dataclass
 
 from rehearse_tools.courses import Course, Courses, courses_of, losses_of, paired
 from rehearse_tools.inputs import Input, Plan
-from rehearse_tools.names import Names
 from rehearse_tools.plan_making import boots_of
 from rehearse_tools.program import Program
-from rehearse_tools.reading import Answer, Report
+from rehearse_tools.reading import Answer, Names, Report
 
 # A line of one side alone: `-` of the first one, `+` of the second.
 Row = tuple[str, str]

@@ -1,7 +1,7 @@
 """The plans of a sweep once more, with their times: `survey`, `compare` and `report` have them.
 
 A sweep tells where each application stands at the end of a plan, and no times. So the program goes through each plan once more, by
-`run`, with its ticks cut at every timer: then the moment of each start and end is known exactly.
+`run --json`, which tells of each start and end in a tick at what time it was.
 """
 from collections.abc import Iterator, Sequence
 from dataclasses import dataclass
@@ -9,9 +9,10 @@ from typing import Callable
 
 from rehearse_tools.endings import Refused
 from rehearse_tools.inputs import Input, Plan, to_bytes, words_of
+from rehearse_tools.outcomes import Outcome
 from rehearse_tools.program import Program
 from rehearse_tools.progress import Bar
-from rehearse_tools.reading import Answer, Outcome, Report, Standing
+from rehearse_tools.reading import Answer, Notice, Report, Standing
 
 # So many plans go into one run of the program, and events of so many bytes: more than twice that is what it is given.
 AT_ONCE = 500
@@ -75,47 +76,10 @@ def runs_of(tried: Sequence[Tried]) -> list[list[Tried]]:
     return found
 
 
-# ---- Ticks
-
-
 def time_of(event: str) -> int:
     """How long an event lets time pass."""
     word, *rest = words_of(event)
     return int(rest[0]) if word == "tick" else 0
-
-
-def is_tick(event: str) -> bool:
-    """Whether an event lets time pass."""
-    return words_of(event)[0] == "tick"
-
-
-def pieces_of(event: str, before: Report) -> list[str]:
-    """The ticks that together last as long as this one, and end at each timer of the report before it that fires within it: none is set
-    within a tick. Another event is one piece."""
-    if not is_tick(event):
-        return [event]
-    end = before.now + time_of(event)
-    stops = [before.now, *before.dues_until(end), end]
-    return [f"tick {to - since}" for since, to in zip(stops, stops[1:])]
-
-
-def cut_ticks(program: Program, parts: Input, tried: Sequence[Tried], of: str) -> list[list[str]]:
-    """The events of each plan, with each tick cut at the timers that fire within it. Before a tick the state is shown, which
-    has each timer."""
-    script = list(parts.base)
-    for plan in tried:
-        script += [line for event in plan.events for line in (["show", event] if is_tick(event) else [event])]
-        script += ["undo"] * len(plan.events)
-    told = iter(program.answers(parts.cluster, script, of)[len(parts.base):])
-    cut: list[list[str]] = []
-    for plan in tried:
-        cut.append([])
-        for event in plan.events:
-            cut[-1] += pieces_of(event, next(told).report) if is_tick(event) else [event]
-            next(told)
-        for _ in plan.events:
-            next(told)
-    return cut
 
 
 # ---- Courses
@@ -132,21 +96,20 @@ def courses_of(program: Program, parts: Input, tried: Sequence[Tried], of: str) 
 
 def run_courses(program: Program, parts: Input, tried: Sequence[Tried], of: str) -> Courses:
     """The same of the plans that go into one run of the program."""
-    cut = cut_ticks(program, parts, tried, of)
     script = [*parts.base, "show"]
-    for events in cut:
-        script += [*events, "show", *["undo"] * len(events)]
+    for plan in tried:
+        script += [*plan.events, "show", *["undo"] * len(plan.events)]
     told = iter(program.answers(parts.cluster, script, of)[len(parts.base):])
     base = next(told).report
     found = []
-    for plan, events in zip(tried, cut):
-        steps = [(event, next(told)) for event in events]
+    for plan in tried:
+        steps = [(event, next(told)) for event in plan.events]
         report = next(told).report
         if report.apps != plan.outcome.standing or not all(answer.is_ok for _, answer in steps):
             raise Refused(f"{of}: plan {plan.outcome.name} ends otherwise than the output tells: is it another cluster, "
-                          "another --pick, or are there too many ticks for one trail?")
+                          "another --pick, or are there too many events for one trail?")
         found.append(Course(plan.outcome, plan.events, gaps_in(plan.outcome.name, base, steps), report))
-        for _ in events:
+        for _ in plan.events:
             next(told)
     return Courses(base, found)
 
@@ -172,23 +135,23 @@ class Places:
             if app in self.since:
                 self.found.append((app, Gap(now - self.since.pop(app), self.plan, True)))
 
-    def follow(self, answer: Answer, now: int) -> None:
+    def follow(self, notice: Notice, now: int) -> None:
         """Goes on by what followed from an event."""
-        for notice in answer.notices:
-            if notice.word == "ended":
-                self.end([app for app, node in self.where.items() if node == notice.node], now)
-            elif notice.word == "stopped" and self.where.get(notice.app) == notice.node:
-                self.end([notice.app], now)
-            elif notice.word == "started":
-                self.start(notice.app, notice.node, now)
+        if notice.word == "ended":
+            self.end([app for app, node in self.where.items() if node == notice.node], now)
+        elif notice.word == "stopped" and self.where.get(notice.app) == notice.node:
+            self.end([notice.app], now)
+        elif notice.word == "started":
+            self.start(notice.app, notice.node, now)
 
 
 def gaps_in(plan: str, state: Report, steps: Sequence[tuple[str, Answer]]) -> list[tuple[str, Gap]]:
     """The times without an application in one plan, from the state that it begins with and its events with their answers."""
     places, now = Places(plan, state), state.now
     for event, answer in steps:
+        for notice in answer.notices:
+            places.follow(notice, now if notice.time is None else notice.time)
         now += time_of(event)
-        places.follow(answer, now)
     return places.found + [(app, Gap(now - begin, plan, False)) for app, begin in places.since.items()]
 
 

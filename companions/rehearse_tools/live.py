@@ -67,8 +67,8 @@ def answered(program: Program, cluster: str, lines: list[str], orders: int) -> t
         bad = f"bad line {numbered[place][0]}"
         numbered = numbered[:place]
         run, ruled = rules_of(program, cluster, [line for _, line in numbered])
-    if run.tells_why:
-        return [], run.last
+    if run.why:
+        return [], run.why
     if run.status != 0:
         raise Refused(program.ended(run))
     goes_back = any(words_of(line)[0] in BACK_AND_FORTH for _, line in numbered)

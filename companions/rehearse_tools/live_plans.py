@@ -158,8 +158,8 @@ def judge_plans(program: Program, source: str, text: str, given: Namespace) -> i
     """Judges the plans of an input, tells it, and gives the exit status."""
     parts = split_input(text)
     run = program.run(parts.cluster, [])
-    if run.tells_why:
-        write_out(run.last + "\n")
+    if run.why:
+        write_out(run.why + "\n")
         return run.status
     program.check_script(text, source)
     answers, verdicts = judged(Sweep(program, parts.cluster, parts.base, given.orders), parts.plans, given.jobs)

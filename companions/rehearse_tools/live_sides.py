@@ -12,7 +12,7 @@ from rehearse_tools.otp25.rehearsal import Rehearsal
 from rehearse_tools.otp25.system import System
 from rehearse_tools.otp25.waiting import Wait, waits_in
 from rehearse_tools.program import Program
-from rehearse_tools.reading import Run
+from rehearse_tools.reading import JsonRun
 
 BACK_AND_FORTH = ("undo", "redo", "undo_all", "redo_all")
 # Of a report live nodes can't show these.
@@ -204,7 +204,7 @@ def doubled(commands: list[str]) -> Iterator[str]:
         yield "show"
 
 
-def rules_of(program: Program, cluster: str, commands: list[str]) -> tuple[Run, list[Ruled]]:
+def rules_of(program: Program, cluster: str, commands: list[str]) -> tuple[JsonRun, list[Ruled]]:
     """What the program answers to commands: its run, and each answer with the report behind it. Only a whole run has any."""
     run = program.run(cluster, list(doubled(commands)))
     if run.status != 0:

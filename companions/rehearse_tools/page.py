@@ -26,13 +26,11 @@ from typing import Any, Optional
 from rehearse_tools.command_line import CommandLine, workers
 from rehearse_tools.endings import Refused
 from rehearse_tools.inputs import called, is_command, read_text, split_input, words_of, write_page
-from rehearse_tools.names import names_in
 from rehearse_tools.page_data import Step, data_of
 from rehearse_tools.page_names import names_of
 from rehearse_tools.page_plans import Event, plans_told, timelines
 from rehearse_tools.page_tables import story, table_of, time_of
 from rehearse_tools.program import Program
-from rehearse_tools.reading import outcomes_in
 from rehearse_tools.templates import rendered
 from rehearse_tools.words import plural
 
@@ -73,7 +71,7 @@ def rehearsed(program: Program, cluster: str, base: Sequence[Event], source: str
     for (line, notes), answer, shown in zip(base, rest[::2], rest[1::2]):
         words = words_of(line)
         # The report that a script asks for is that of its moment, which is shown once.
-        steps.append(Step(" ".join(words), notes, answer.lines[:1] if words == ["show"] else answer.lines, shown.report))
+        steps.append(Step(" ".join(words), notes, [answer.first] if words == ["show"] else answer.lines, shown.report))
     return steps
 
 
@@ -91,19 +89,21 @@ def values_of(program: Program, text: str, source: str, workers_of_sweep: Option
     is_sweep = workers_of_sweep is not None
     if is_sweep and not parts.plans:
         raise Refused(f"{source}: it has no plans, which --sweep needs: companions/plans writes some")
-    words = ["sweep", "--workers", workers_of_sweep] if workers_of_sweep is not None else ["run"]
     # A run of the input as it stands would tell nothing more, but for what is wrong with it.
-    lines = program.whole(words, text, source).lines if is_sweep or parts.plans else []
+    outcomes = program.swept(text, source, workers_of_sweep) if workers_of_sweep is not None else []
     try:
         steps = rehearsed(program, parts.cluster, list(noted(parts.lines)), source)
     except Refused:
-        program.whole(words, text, source)
+        if not is_sweep:
+            program.check_run(text, source)
         raise
+    if parts.plans and not is_sweep:
+        program.check_run(text, source)
     last = steps[-1].report
     names = names_of(list(last.nodes))
-    plans = plans_told(outcomes_in(lines, source), parts.plans) if is_sweep else []
+    plans = plans_told(outcomes, parts.plans) if is_sweep else []
     courses = timelines(program, parts.cluster, parts.base, last, plans, source)
-    facts = (f"{plural(len(names.all), 'node')}, profile {names_in(parts.cluster).profile}, {plural(len(steps) - 1, 'step')}, "
+    facts = (f"{plural(len(names.all), 'node')}, profile {program.names(parts.cluster, source).profile}, {plural(len(steps) - 1, 'step')}, "
              f"{time_of(last.now)}")
     return {"facts": facts, "lacks": names.lacks, "steps": story(steps), "plans": table_of(plans, last.apps, names),
             "is_sweep": is_sweep, "data": data_of(steps, courses, names)}

@@ -6,13 +6,14 @@ timer fires within them, so that each loss and each start has its moment. That i
 from collections.abc import Iterator, Sequence
 from dataclasses import dataclass
 
-from rehearse_tools.courses import is_tick, pieces_of
+from rehearse_tools.courses import time_of
 from rehearse_tools.endings import Refused
 from rehearse_tools.inputs import Plan, to_bytes, words_of
+from rehearse_tools.outcomes import Outcome
 from rehearse_tools.page_data import Step
 from rehearse_tools.program import Program
 from rehearse_tools.progress import Bar
-from rehearse_tools.reading import Outcome, Report
+from rehearse_tools.reading import Report
 
 # What goes into one run of the program has events of so many bytes, and reports of so many lines.
 MOST_BYTES = 2_000_000
@@ -68,6 +69,21 @@ def played(program: Program, cluster: str, base: Sequence[str], lists: Sequence[
         for _ in events:
             next(told)
     return found
+
+
+def is_tick(event: str) -> bool:
+    """Whether an event lets time pass."""
+    return words_of(event)[0] == "tick"
+
+
+def pieces_of(event: str, before: Report) -> list[str]:
+    """The ticks that together last as long as this one, and end at each timer of the report before it that fires within it: none is set
+    within a tick. Another event is one piece."""
+    if not is_tick(event):
+        return [event]
+    end = before.now + time_of(event)
+    stops = [before.now, *before.dues_until(end), end]
+    return [f"tick {to - since}" for since, to in zip(stops, stops[1:])]
 
 
 def cut(step: Step, before: Report) -> list[Event]:

@@ -3,10 +3,11 @@ from collections.abc import Sequence
 from dataclasses import dataclass
 from typing import Optional
 
+from rehearse_tools.outcomes import RefusedEvent
 from rehearse_tools.page_data import Step
 from rehearse_tools.page_names import Names
 from rehearse_tools.page_plans import PlanTold
-from rehearse_tools.reading import RefusedEvent, Standing
+from rehearse_tools.reading import Standing
 from rehearse_tools.words import plural
 
 FIRST = "first state"

@@ -6,12 +6,12 @@ from dataclasses import dataclass
 
 from rehearse_tools.endings import Refused, why_of
 from rehearse_tools.inputs import APART, Plan, commands_of, joined, lines_of, to_bytes, to_text, words_of
-from rehearse_tools.names import Names, names_in
-from rehearse_tools.reading import Answer, Outcome, Run, outcomes_in
+from rehearse_tools.outcomes import Outcome, PlainRun, outcomes_in
+from rehearse_tools.reading import Answer, JsonRun, Names, Run
 
-# A cluster file of one node that no script knows, and one whose first report is known: by that the program is.
+# A cluster file of one node that no script knows, and what is told of that: by that the program is.
 NOBODY = "{node, nobody, []}.\n"
-GREETING, GREETED = joined(NOBODY, ["show"]), ["ok", "now 0", "node nobody down 0"]
+GREETED = ['{"profile":1,"nodes":["nobody"],"applications":[]}']
 MOST_OF_A_FAULT = 300
 # What the program wrote to standard error, and was handed on: nothing is told twice.
 handed_on: set[str] = set()
@@ -27,55 +27,56 @@ class Program:
     path: str
     pick: str
 
-    def asked(self, words: Sequence[str], text: str) -> tuple[Run, str]:
-        """A run of the program on a whole input, and what it writes to standard error."""
-        return self.asked_plainly([*words, "--pick", self.pick], text)
+    def asked(self, words: Sequence[str], text: str) -> tuple[PlainRun, str]:
+        """A run of the program on a whole input, whose lines are for people, and what it writes to standard error."""
+        done = self.done(words, text)
+        return PlainRun(done.returncode, lines_of(to_text(done.stdout))), to_text(done.stderr)
 
-    def asked_plainly(self, words: Sequence[str], text: str) -> tuple[Run, str]:
-        """The same without a word of how it picks."""
+    def done(self, words: Sequence[str], text: str) -> "subprocess.CompletedProcess[bytes]":
+        """A finished run of the program on a whole input, as its bytes."""
         try:
-            done = subprocess.run([self.path, *words], input=to_bytes(text), capture_output=True, check=False)
+            return subprocess.run([self.path, *words], input=to_bytes(text), capture_output=True, check=False)
         except OSError as fault:
             raise Refused(f"{self.path} can't be run: {why_of(fault)}") from None
-        return Run(done.returncode, lines_of(to_text(done.stdout))), to_text(done.stderr)
 
     def greet(self) -> None:
         """Refuses what isn't the program."""
-        run, error = self.asked(["run"], GREETING)
+        run, error = self.asked(["check", "--json"], NOBODY)
         if run.lines != GREETED or run.status != 0:
             why = " ".join(error.split()) or "it doesn't answer as that does"
             raise Refused(f"{self.path} isn't the program: {why[:MOST_OF_A_FAULT]}")
         hand_on(error)
 
-    def told(self, words: Sequence[str], text: str) -> Run:
-        """A run of the program on a whole input."""
-        run, error = self.asked(words, text)
+    def told(self, words: Sequence[str], text: str) -> JsonRun:
+        """A run of the program on a whole input, whose lines are JSON."""
+        run, error = self.asked([*words, "--json"], text)
         hand_on(error)
-        return run
+        return JsonRun(run.status, run.lines)
 
     def has(self, word: str) -> bool:
         """Whether the program has a subcommand, by its help."""
-        run, error = self.asked_plainly(["--help"], "")
+        run, error = self.asked(["--help"], "")
         return any(words_of(line)[:1] == [word] for line in [*run.lines, *lines_of(error)])
 
-    def run(self, cluster: str, script: Sequence[str]) -> Run:
+    def run(self, cluster: str, script: Sequence[str]) -> JsonRun:
         """A run of the program on a cluster file and the lines of a script."""
-        return self.told(["run"], joined(cluster, script))
+        return self.told(["run", "--pick", self.pick], joined(cluster, script))
 
     def ended(self, run: Run) -> str:
-        """Why the program didn't answer all of an input: by its last line, or else by its status."""
+        """Why the program didn't answer all of an input: by the line that tells it, or else by its status."""
         how = f"ended with status {run.status}" if run.status >= 0 else f"was ended by signal {-run.status}"
-        return run.last if run.tells_why else f"{self.path} {how}"
+        return run.why or f"{self.path} {how}"
 
-    def whole(self, words: Sequence[str], text: str, source: str) -> Run:
-        """A run on a whole input as it stands, which is refused where the program refuses it. `source` names the file for which
-        an error is told."""
-        run = self.told(words, text)
+    def check_run(self, text: str, source: str) -> None:
+        """Refuses a whole input as it stands where `run` refuses it. `source` names the file for which an error is told."""
+        self.check_ended(self.told(["run", "--pick", self.pick], text), text, source, True)
+
+    def check_ended(self, run: Run, text: str, source: str, is_run: bool) -> None:
+        """Refuses an input of which a run didn't answer all."""
         if run.bad_line is not None:
-            raise Refused(bad_line(source, lines_of(text), run.bad_line, words[0] == "run"))
+            raise Refused(bad_line(source, lines_of(text), run.bad_line, is_run))
         if run.status != 0:
             raise Refused(f"{source}: {self.ended(run)}")
-        return run
 
     def answers(self, cluster: str, script: Sequence[str], source: str) -> list[Answer]:
         """The answers to the commands among the lines of a script."""
@@ -86,16 +87,26 @@ class Program:
             raise Refused(f"{source}: {self.ended(run)}")
         return self.complete(run, len(commands_of(script)))
 
-    def complete(self, run: Run, count: int) -> list[Answer]:
+    def complete(self, run: JsonRun, count: int) -> list[Answer]:
         """The answers of a run, which are as many as there were commands."""
         answers = run.answers
         if len(answers) != count:
             raise Refused(f"{self.path} isn't the program: it doesn't answer each command")
         return answers
 
+    def story(self, cluster: str, script: Sequence[str], source: str) -> bytes:
+        """A script told as a story, behind its cluster file: an input again, with each answer as comments."""
+        done = self.done(["story", "--whole", "--pick", self.pick], joined(cluster, script))
+        if done.returncode != 0:
+            raise Refused(f"{source}: {self.ended(PlainRun(done.returncode, lines_of(to_text(done.stdout))))}")
+        return done.stdout
+
     def swept(self, text: str, source: str, workers: str = "1") -> list[Outcome]:
         """The outcomes of the plans of an input."""
-        return outcomes_in(self.whole(["sweep", "--workers", workers], text, source).lines, source)
+        run, error = self.asked(["sweep", "--workers", workers, "--pick", self.pick], text)
+        hand_on(error)
+        self.check_ended(run, text, source, False)
+        return outcomes_in(run.lines, source)
 
     def outcomes(self, cluster: str, base: Sequence[str], plans: Sequence[Plan], source: str) -> list[Outcome]:
         """The outcomes of some plans."""
@@ -103,11 +114,10 @@ class Program:
 
     def names(self, cluster: str, source: str) -> Names:
         """The names in a cluster file, which the program has to accept."""
-        nodes = list(self.answers(cluster, ["show"], source)[0].report.nodes)
-        names = names_in(cluster)
-        if names.nodes != nodes:
-            raise Refused(f"{source}: the program reads other nodes than {', '.join(names.nodes)}")
-        return names
+        run = self.told(["check"], cluster)
+        if run.status != 0:
+            raise Refused(f"{source}: {self.ended(run)}")
+        return run.names
 
     def check_script(self, text: str, source: str) -> None:
         """Refuses an input for the first line of its script that is no command, or in a plan no event. A sweep reads all lines
@@ -115,7 +125,8 @@ class Program:
         whole = lines_of(text)
         place = whole.index(APART) if APART in whole else len(whole)
         script = "\n".join(text.split("\n")[place + 1:])
-        run = self.told(["sweep"], f"{NOBODY}{APART}\n{script}")
+        run, error = self.asked(["sweep"], f"{NOBODY}{APART}\n{script}")
+        hand_on(error)
         if run.bad_line is not None:
             raise Refused(bad_line(source, whole, run.bad_line))
 

@@ -1,22 +1,31 @@
-"""What the program prints, read. The other modules ask these classes, but for `live`, which compares lines as they stand. A reader of
-another form, JSON say, would give the same classes."""
-import re
-from collections.abc import Iterable, Sequence
+"""What the program tells as lines of JSON (docs/JSON.md), read into dataclasses. The other modules ask these.
+
+A field has the words that the program prints without --json. So what it prints can be written from the fields again, for who shows
+it or compares it with other lines: `Answer.lines` and `Report.lines` are byte for byte what `run` prints.
+"""
+import json
+from collections.abc import Mapping
 from dataclasses import dataclass
 from functools import cached_property
-from typing import Optional
+from typing import Any, Optional
 
 from rehearse_tools.endings import Refused
-from rehearse_tools.inputs import words_of
 
-OUTCOME = re.compile("plan [^ ]+ accepted [0-9]+ failovers [0-9]+ takeovers [0-9]+")
-REFUSED_EVENT = re.compile("refused [0-9]")
-# The line that stands in place of all outcomes.
-REFUSED = re.compile("bad line [0-9]|cluster refused |sweep refused ")
-# Between two places of a report: the lines below a node begin with blanks.
-PLACES = re.compile("\n(?! )")
-# The statuses of the program: what it read is refused with a last line that tells why; a line of the script is no command.
+# An object of JSON, by its fields.
+Fields = Mapping[str, Any]
+# The statuses of the program: what it read is refused; a line of the script is no command.
 CLUSTER_REFUSED, BAD_LINE, SWEEP_REFUSED = 2, 3, 6
+
+
+def fields_of(line: str) -> dict[str, Any]:
+    """The object of a line."""
+    try:
+        found = json.loads(line)
+    except ValueError:
+        found = None
+    if not isinstance(found, dict):
+        raise Refused(f"the program wrote a line that is no JSON: {line[:100]}")
+    return found
 
 
 # ---- A report
@@ -43,58 +52,67 @@ class Timer:
     name: str
     due: int
 
+    def __str__(self) -> str:
+        return f"timer {self.kind} {self.name} {self.due}"
+
 
 @dataclass(frozen=True)
 class NodeState:
-    """A node: down, waiting or up; the applications that run and that wait there, and those that are forbidden there."""
+    """A node: down, waiting or up, how often it was booted, what runs there (its restart type, how it was started), what waits there
+    (its restart type), and what is forbidden there."""
     name: str
     mode: str
-    running: tuple[str, ...] = ()
-    waiting: tuple[str, ...] = ()
-    forbidden: tuple[str, ...] = ()
+    starts: int
+    runs: tuple[tuple[str, str, str], ...]
+    waits: tuple[tuple[str, str], ...]
+    forbidden: tuple[str, ...]
 
     @property
     def is_alive(self) -> bool:
         return self.mode != "down"
 
+    @property
+    def running(self) -> tuple[str, ...]:
+        """The applications that run there."""
+        return tuple(app for app, _, _ in self.runs)
 
-@dataclass
+    @property
+    def waiting(self) -> tuple[str, ...]:
+        """The applications that wait there."""
+        return tuple(app for app, _ in self.waits)
+
+    @cached_property
+    def text(self) -> str:
+        """It as the program prints it, with the lines below it."""
+        return "\n".join([f"node {self.name} {self.mode} {self.starts}", *(f"  running {' '.join(app)}" for app in self.runs),
+                          *(f"  waiting {' '.join(app)}" for app in self.waits), *(f"  forbidden {app}" for app in self.forbidden)])
+
+
+# A node stands in many reports alike, so each is kept once.
+known_nodes: dict[tuple[Any, ...], NodeState] = {}
+
+
+def start_of(fields: Fields) -> str:
+    """How an application was started, and the node that it came from where there is one."""
+    return f"{fields['start']} {fields['from']}" if "from" in fields else str(fields["start"])
+
+
+def node_state(node: Fields) -> NodeState:
+    """A node of a report."""
+    key = (node["name"], node["mode"], node["starts"],
+           tuple([(app["application"], app["restart"], start_of(app)) for app in node["running"]]),
+           tuple([(app["application"], app["restart"]) for app in node["waiting"]]), tuple(node["forbidden"]))
+    return known_nodes.get(key) or known_nodes.setdefault(key, NodeState(*key))
+
+
+@dataclass(frozen=True)
 class Report:
-    """A report, as its lines, and what they tell."""
-    lines: list[str]
-
-    @cached_property
-    def now(self) -> int:
-        """The clock."""
-        return int(words_of(self.lines[0])[1])
-
-    @cached_property
-    def nodes(self) -> dict[str, NodeState]:
-        """The nodes, in order."""
-        found: dict[str, NodeState] = {}
-        below: dict[str, list[str]] = {}
-        for line in self.lines:
-            words = words_of(line)
-            if words[0] == "node":
-                below = {"running": [], "waiting": [], "forbidden": []}
-                found[words[1]] = NodeState(words[1], words[2])
-            elif words[0] in below and line.startswith(" "):
-                below[words[0]].append(words[1])
-                name = list(found)[-1]
-                found[name] = NodeState(name, found[name].mode, **{word: tuple(apps) for word, apps in below.items()})
-        return found
-
-    @cached_property
-    def apps(self) -> dict[str, Standing]:
-        """Where each distributed application stands, in order."""
-        rows = (words_of(line) for line in self.lines if line.startswith("app "))
-        return {words[1]: Standing(*words[2:4]) for words in rows}
-
-    @cached_property
-    def timers(self) -> list[Timer]:
-        """The timers, in the order in which they will fire."""
-        return [Timer(kind, name, int(due)) for kind, name, due in
-                (words_of(line)[1:4] for line in self.lines if line.startswith("timer "))]
+    """A report: the clock, the nodes and where each distributed application stands, in order, and the timers in the order in which they
+    will fire."""
+    now: int
+    nodes: dict[str, NodeState]
+    apps: dict[str, Standing]
+    timers: tuple[Timer, ...]
 
     @property
     def alive(self) -> list[str]:
@@ -106,11 +124,24 @@ class Report:
         return sorted({timer.due for timer in self.timers if self.now < timer.due < end})
 
     def places(self) -> list[str]:
-        """What stands in each place of a report: the clock, each node with the lines below it, each distributed application, and all
-        timers together."""
-        parts = PLACES.split("\n".join(self.lines))
-        count = sum(not part.startswith("timer ") for part in parts)
-        return [*parts[:count], "\n".join(parts[count:])]
+        """What the program prints in each place of a report: the clock, each node with the lines below it, each distributed
+        application, and all timers together."""
+        return [f"now {self.now}", *(node.text for node in self.nodes.values()),
+                *(f"app {app} {standing}" for app, standing in self.apps.items()), "\n".join(map(str, self.timers))]
+
+    @property
+    def lines(self) -> list[str]:
+        """The lines that the program prints."""
+        return [line for place in self.places() if place for line in place.split("\n")]
+
+
+def report_of(fields: Fields) -> Report:
+    """A report."""
+    nodes = map(node_state, fields["nodes"])
+    timers = (Timer(timer["timer"], timer["node" if timer["timer"] == "sync" else "application"], timer["due"])
+              for timer in fields["timers"])
+    return Report(fields["time"], {node.name: node for node in nodes},
+                  {app["name"]: Standing(app["standing"], app.get("node", "")) for app in fields["applications"]}, tuple(timers))
 
 
 # ---- Answers
@@ -118,54 +149,82 @@ class Report:
 
 @dataclass(frozen=True)
 class Notice:
-    """What followed from a command: up or ended, with a node; started, stopped or waits, with an application and a node."""
+    """What followed from a command: up or ended, with a node; started (and how), stopped or waits, with an application and a node. In a
+    tick it has the time at which a timer told it."""
     word: str
     node: str
     app: str = ""
+    start: str = ""
+    time: Optional[int] = None
+
+    def __str__(self) -> str:
+        return " ".join(word for word in (self.word, self.app, self.node, self.start) if word)
 
 
-@dataclass
+def notice_of(fields: Fields) -> Notice:
+    """A notice."""
+    return Notice(fields["kind"], fields["node"], fields.get("application", ""), start_of(fields) if "start" in fields else "",
+                  fields.get("time"))
+
+
+@dataclass(frozen=True)
 class Answer:
-    """What a command was answered by, as its lines: in front `ok`, or why it was refused; below it what followed, or the report."""
-    lines: list[str]
+    """What a command was answered by: its line, which is read each time when something of it is asked. Many answers never are, and
+    objects of a whole run take much memory."""
+    line: str
+
+    @property
+    def fields(self) -> Fields:
+        return fields_of(self.line)
+
+    @property
+    def first(self) -> str:
+        """In front: `ok`, `ok K`, or why it was refused."""
+        return str(self.fields["answer"])
 
     @property
     def is_ok(self) -> bool:
-        return not self.lines[0].startswith("refused ")
+        return not self.first.startswith("refused ")
 
     @property
     def refusal(self) -> str:
         """Why it was refused, or ""."""
-        return "" if self.is_ok else self.lines[0].removeprefix("refused ")
+        first = self.first
+        return first.removeprefix("refused ") if first.startswith("refused ") else ""
 
     @property
     def steps(self) -> int:
         """How many steps were taken back or made again, by a command that tells it; else one."""
-        _, *count = words_of(self.lines[0])
-        return int(count[0]) if self.is_ok and count else 1
+        word, *count = self.first.split(" ")
+        return int(count[0]) if word == "ok" and count else 1
 
     @property
     def notices(self) -> list[Notice]:
         """What followed."""
-        rows = map(words_of, self.lines[1:])
-        return [Notice(words[0], words[1]) if words[0] in ("up", "ended") else Notice(words[0], words[2], words[1])
-                for words in rows]
+        return [notice_of(notice) for notice in self.fields.get("notices", ())]
 
-    @cached_property
+    @property
     def report(self) -> Report:
         """The report that the command asked for."""
-        return Report(self.lines[1:])
+        return report_of(self.fields["report"])
+
+    @property
+    def lines(self) -> list[str]:
+        """The lines that the program prints."""
+        fields = self.fields
+        return [fields["answer"], *(str(notice_of(notice)) for notice in fields.get("notices", ())),
+                *(report_of(fields["report"]).lines if "report" in fields else [])]
 
 
-def answers_in(lines: Iterable[str]) -> list[Answer]:
-    """The answers in the lines that `run` prints."""
-    found: list[Answer] = []
-    for line in lines:
-        if line == "ok" or line.startswith(("ok ", "refused ")):
-            found.append(Answer([line]))
-        elif found:
-            found[-1].lines.append(line)
-    return found
+# ---- Runs
+
+
+@dataclass(frozen=True)
+class Names:
+    """A cluster file's profile, its nodes and its applications, in the order in which they stand there."""
+    profile: int
+    nodes: list[str]
+    apps: list[str]
 
 
 @dataclass(frozen=True)
@@ -175,106 +234,37 @@ class Run:
     lines: list[str]
 
     @property
-    def answers(self) -> list[Answer]:
-        return answers_in(self.lines)
-
-    @property
-    def last(self) -> str:
-        """The line that tells why the program ended."""
-        return self.lines[-1] if self.lines else ""
+    def why(self) -> str:
+        """The line that the program prints where an input is refused, which tells why; or ""."""
+        raise NotImplementedError
 
     @property
     def bad_line(self) -> Optional[int]:
         """The number of the line that is no command, counted behind ===, where that is why the program ended."""
-        return int(words_of(self.last)[2]) if self.status == BAD_LINE else None
+        raise NotImplementedError
+
+
+class JsonRun(Run):
+    """A run that told lines of JSON: one of the cluster, or why it is refused, and then one of each command."""
 
     @property
-    def tells_why(self) -> bool:
-        """Whether the last line tells why an input was refused."""
-        return bool(self.lines) and self.status in (CLUSTER_REFUSED, SWEEP_REFUSED)
+    def why(self) -> str:
+        if self.status != CLUSTER_REFUSED or not self.lines:
+            return ""
+        fields = fields_of(self.lines[0])
+        return f"cluster refused {fields['refused']} {fields['reason']}"
 
+    @property
+    def bad_line(self) -> Optional[int]:
+        return int(fields_of(self.lines[-1])["line"]) if self.status == BAD_LINE else None
 
-# ---- Outcomes
+    @property
+    def names(self) -> Names:
+        """What the first line tells."""
+        fields = fields_of(self.lines[0])
+        return Names(fields["profile"], fields["nodes"], [app["name"] for app in fields["applications"]])
 
-
-@dataclass(frozen=True)
-class RefusedEvent:
-    """The event of a plan that was refused: its number, from 1 on, and why."""
-    number: int
-    why: str
-
-    def __str__(self) -> str:
-        return f"{self.number} {self.why}"
-
-
-@dataclass
-class Outcome:
-    """What a sweep tells of a plan: its name, how many events were accepted, how many failovers and takeovers there were, which
-    event was refused, and where each distributed application stands."""
-    name: str
-    accepted: int
-    failovers: int
-    takeovers: int
-    standing: dict[str, Standing]
-    refused: Optional[RefusedEvent] = None
-
-    def tried(self, events: Sequence[str]) -> list[str]:
-        """Those of the plan's events that were accepted, and the one that was refused."""
-        return list(events[:self.accepted + (self.refused is not None)])
-
-
-class OutcomeReader:
-    """Reads what a sweep prints, line by line, and gives each outcome once it is whole. What stands before the first one are the
-    answers of the base."""
-
-    def __init__(self, source: str):
-        self.source = source
-        self.apps: Optional[list[str]] = None
-        self.current: Optional[Outcome] = None
-        # A line about an application comes again and again.
-        self.known: dict[str, tuple[str, Standing]] = {}
-
-    def begun(self, words: list[str]) -> Optional[Outcome]:
-        """Begins an outcome, and gives the one before it."""
-        before = self.end()
-        accepted, failovers, takeovers = map(int, words[3::2])
-        self.current = Outcome(words[1], accepted, failovers, takeovers, {})
-        return before
-
-    def read(self, number: int, line: str) -> Optional[Outcome]:
-        """Reads the line of this number, and gives the outcome before it, if it is the first line of the next one."""
-        known = self.known.get(line)
-        if known is not None and self.current is not None:
-            self.current.standing[known[0]] = known[1]
-            return None
-        words = words_of(line)
-        if words[:1] == ["plan"] and OUTCOME.fullmatch(line):
-            return self.begun(words)
-        if self.current is not None and words[:1] == ["app"]:
-            self.known[line] = words[1], Standing(*words[2:4])
-            self.current.standing[words[1]] = self.known[line][1]
-        elif self.current is not None and REFUSED_EVENT.match(line):
-            self.current.refused = RefusedEvent(int(words[1]), " ".join(words[2:]))
-        elif REFUSED.match(line):
-            counted = " (counted behind ===)" if words[0] == "bad" else ""
-            raise Refused(f"{self.source}: the sweep was refused: {line}{counted}")
-        elif self.current is not None or words[:1] in (["cluster"], ["bad"], ["sweep"]):
-            raise Refused(f"{self.source}: line {number} is no outcome of a plan: {line}")
-        return None
-
-    def end(self) -> Optional[Outcome]:
-        """The last outcome, which tells of the same applications as the first one."""
-        outcome, self.current = self.current, None
-        if outcome is not None:
-            apps = list(outcome.standing)
-            self.apps = apps if self.apps is None else self.apps
-            if apps != self.apps:
-                raise Refused(f"{self.source}: plan {outcome.name} tells of other applications than the first one: is the text cut off?")
-        return outcome
-
-
-def outcomes_in(lines: Iterable[str], source: str) -> list[Outcome]:
-    """The outcomes in a sweep's output."""
-    reader = OutcomeReader(source)
-    found = [reader.read(number, line) for number, line in enumerate(lines, 1)]
-    return [outcome for outcome in [*found, reader.end()] if outcome is not None]
+    @property
+    def answers(self) -> list[Answer]:
+        """The answers to the commands, up to a line that is none."""
+        return [Answer(line) for line in self.lines[1:len(self.lines) - (self.status == BAD_LINE)]]

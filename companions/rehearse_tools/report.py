@@ -84,7 +84,7 @@ def tried(program: Program, parts: Input, source: str) -> Courses:
 
 def more_told(program: Program, cluster: str) -> list[Told]:
     """What further subcommands tell of a cluster file."""
-    return [Told(word, program.asked_plainly([word], cluster)[0].lines) for word in MORE if program.has(word)]
+    return [Told(word, program.asked([word], cluster)[0].lines) for word in MORE if program.has(word)]
 
 
 def repeated(release: Gathered, crashes: int) -> list[str]:

@@ -6,15 +6,21 @@ FILE is a cluster file. Where it has a script, that is made first, up to a line 
 shows the clock. The TAB key completes commands, nodes, applications and restart types, and behind `tick` the times to the
 next timers. Besides the commands of a script (`help` lists them) there are:
 
-  save PATH      writes FILE and, as its script, the story so far: the steps that stand, what followed from each, and your
-                 own lines that begin with #. What was refused, shown or taken back is left out
+  save PATH      writes FILE and, as its script, the story so far: the steps that stand, each with its answer as comments, and
+                 your own lines that begin with #. What was refused, shown or taken back is left out
   save PATH all  the same with all that you entered
+  live           what live nodes of OTP 25.2.3 do otherwise at the last command, as companions/live tells it
+  live on        that beside each answer from now on; live off ends it
   names          the nodes and the applications
-  help           the commands
+  help           the commands; help COMMAND tells of one
   quit           ends, as `exit` and Ctrl-D do
 
-What is saved is an input of `rehearse run`, and of this companion. The program is run anew for each command, on all that
-was entered so far. That takes some milliseconds; from about 10,000 commands on it takes a tenth of a second and more.
+What is saved is what `rehearse story` writes: an input of `rehearse run`, of `rehearse verify` (which tells what comes otherwise), and
+of this companion. The program is run anew for each command, on all that was entered so far. That takes some milliseconds; from about
+10,000 commands on it takes a tenth of a second and more.
+
+At a terminal answers have colours, unless NO_COLOR is set, and what you enter is kept for the next time, the last 1,000 lines of it,
+in $XDG_STATE_HOME/rehearse/shell-history (~/.local/state, if that isn't set).
 
 Exit status: 0 done, 1 a wrong command line, 2 FILE is refused.
 """
@@ -23,33 +29,38 @@ import os
 import sys
 from collections.abc import Sequence
 from dataclasses import dataclass
-from typing import Optional
+from typing import TYPE_CHECKING, Optional
 
+from rehearse_tools.colours import CYAN, GREEN, RED, YELLOW, coloured, shows_colours
 from rehearse_tools.command_line import CommandLine
 from rehearse_tools.endings import Refused
-from rehearse_tools.inputs import called, is_command, joined, read_text, split_input, to_bytes, words_of
+from rehearse_tools.inputs import called, commands_of, is_command, joined, read_text, split_input, words_of
 from rehearse_tools.program import BadLine, Program
 from rehearse_tools.reading import Answer
-from rehearse_tools.shell_words import COMMANDS, HELP, OWN
+from rehearse_tools.shell_words import COMMANDS, HELP, OWN, meant, no_command, suggestion, topic
 from rehearse_tools.words import plural
 
-# What leads an answer in a saved script.
-TOLD = "#   "
+if TYPE_CHECKING:
+    from rehearse_tools.shell_history import History
+    from rehearse_tools.shell_live import Beside
+
 # What moves in a story, and is no step of it.
 MOVES = ("undo", "redo", "undo_all", "redo_all")
+# Which lines have which colour.
+COLOURS = {"refused ": RED, "that is no command": RED, "started ": GREEN, "up ": GREEN, "stopped ": YELLOW, "ended ": YELLOW,
+           "waits ": CYAN, "< ": RED, "> ": YELLOW, "! ": YELLOW, "? ": YELLOW}
+LIVE_HEAD = "beside each answer what live nodes do otherwise: < by the rules, > live nodes, ! why"
 
 
 @dataclass(frozen=True)
-class Told:
-    """A command with the comments before it, and the lines of its answer."""
+class Step:
+    """A command with the comments before it."""
     notes: list[str]
     command: str
-    answer: list[str]
 
     @property
     def lines(self) -> list[str]:
-        """It as a saved script has it."""
-        return [*self.notes, self.command, *(TOLD + line for line in self.answer)]
+        return [*self.notes, self.command]
 
 
 class Session:
@@ -61,6 +72,9 @@ class Session:
         self.lines: list[str] = []
         self.told: list[Answer] = []
         self.saved: set[str] = set()
+        # Live nodes, once they were asked for, and whether they stand beside each answer.
+        self.live: Optional["Beside"] = None
+        self.is_live = False
         self.ask([])
 
     def ask(self, lines: list[str]) -> list[Answer]:
@@ -86,14 +100,29 @@ class Session:
         if not isinstance(kind, str):
             return list(kind)
         known: dict[str, list[str]] = {"node": self.names.nodes, "app": self.names.apps, "distributed": list(self.report.apps),
-                                       "time": self.times(), "path": []}
+                                       "time": self.times(), "path": [], "command": [*COMMANDS, *OWN]}
         return known[kind]
 
+    def meant(self, answer: Answer, words: Sequence[str]) -> list[str]:
+        """A line for the name that was meant in place of one that isn't there."""
+        names = {"unknown_node": self.names.nodes, "unknown_app": self.names.apps}.get(answer.refusal.partition(" ")[2])
+        found = next((name for name in (meant(word, names) for word in words[1:3]) if name is not None), None) if names else None
+        return [suggestion(found).strip(" ()")] if found is not None else []
 
-def story(lines: Sequence[str], told: Sequence[Answer]) -> tuple[list[Told], list[str]]:
+    def beside(self) -> list[str]:
+        """What live nodes do otherwise at the last command."""
+        if not self.told:
+            return ["there is no command yet"]
+        # The model takes some time to load.
+        from rehearse_tools.shell_live import Beside
+        self.live = self.live or Beside(self.program, self.cluster)
+        return self.live.follow(commands_of(self.lines), self.told[-1], self.report)
+
+
+def story(lines: Sequence[str], told: Sequence[Answer]) -> tuple[list[Step], list[str]]:
     """The steps that stand at the end of a script, each with the comments before it; and the comments behind the last one."""
     answers = iter(told)
-    steps: list[Told] = []
+    steps: list[Step] = []
     cursor, notes = 0, []
     for line in lines:
         if not is_command(line):
@@ -105,21 +134,16 @@ def story(lines: Sequence[str], told: Sequence[Answer]) -> tuple[list[Told], lis
         if word in MOVES:
             cursor += answer.steps if word.startswith("redo") else -answer.steps
         else:
-            steps[cursor:] = [Told(notes, line, answer.lines)]
+            steps[cursor:] = [Step(notes, line)]
             cursor, notes = cursor + 1, []
     return steps[:cursor], notes
 
 
-def saved(session: Session, is_all: bool) -> str:
-    """The input that is saved: the cluster file and its script."""
-    if is_all:
-        answers = iter(session.told)
-        lines = [part for line in session.lines
-                 for part in (Told([], line, next(answers).lines).lines if is_command(line) else [line])]
-    else:
-        steps, notes = story(session.lines, session.told)
-        lines = [line for step in steps for line in step.lines] + notes
-    return joined(session.cluster, lines)
+def saved(session: Session, is_all: bool) -> bytes:
+    """The input that is saved: the cluster file and its script, with the answers as the program tells a story."""
+    steps, notes = story(session.lines, session.told)
+    lines = session.lines if is_all else [line for step in steps for line in step.lines] + notes
+    return session.program.story(session.cluster, lines, session.source)
 
 
 def save(session: Session, words: Sequence[str]) -> str:
@@ -128,12 +152,23 @@ def save(session: Session, words: Sequence[str]) -> str:
         return "save PATH, or save PATH all"
     path = os.path.abspath(os.path.expanduser(words[1]))
     try:
+        text = saved(session, len(words) == 3)
         with open(path, "wb" if path in session.saved else "xb") as file:
-            file.write(to_bytes(saved(session, len(words) == 3)))
+            file.write(text)
     except OSError as fault:
         return f"{words[1]}: {fault.strerror}"
     session.saved.add(path)
-    return f"saved: rehearse run < {words[1]}"
+    return f"saved: rehearse verify < {words[1]}"
+
+
+def set_live(session: Session, words: Sequence[str]) -> str:
+    """Tells of live nodes, now, or from now on beside each answer."""
+    if list(words[1:]) not in ([], ["on"], ["off"]):
+        return "live, live on, or live off"
+    if len(words) == 1:
+        return "\n".join(session.beside())
+    session.is_live = words[1] == "on"
+    return LIVE_HEAD if session.is_live else "without live nodes"
 
 
 def answer_to(session: Session, line: str) -> str:
@@ -143,22 +178,17 @@ def answer_to(session: Session, line: str) -> str:
         return save(session, words)
     if words == ["names"]:
         return f"nodes: {' '.join(session.names.nodes)}\napplications: {' '.join(session.names.apps)}"
+    if words[0] == "live":
+        return set_live(session, words)
     if words[0] == "help":
-        return HELP
+        return HELP if len(words) == 1 else topic(words[1]) if len(words) == 2 else "help, or help COMMAND"
     try:
-        return "\n".join(session.ask([line])[-1].lines)
+        answer = session.ask([line])[-1]
+        return "\n".join([*answer.lines, *session.meant(answer, words), *(session.beside() if session.is_live else [])])
     except BadLine:
-        return f"that is no command: {form_of(words[0])}"
+        return no_command(words)
     except Refused as fault:
         return str(fault)
-
-
-def form_of(word: str) -> str:
-    """How a command is written."""
-    if word not in COMMANDS:
-        return "help lists them"
-    names = {"node": "N", "app": "A", "distributed": "A", "time": "MILLISECONDS"}
-    return " ".join([word, *(names[kind] if isinstance(kind, str) else "|".join(kind) for kind in COMMANDS[word])])
 
 
 def set_up_keys(session: Session) -> None:
@@ -176,13 +206,16 @@ def set_up_keys(session: Session) -> None:
     readline.parse_and_bind("tab: complete")
 
 
-def serve(session: Session) -> bool:
+def serve(session: Session, history: Optional["History"]) -> bool:
     """Answers one line of the prompt, and tells whether another one is to come."""
     text = input(f"{session.report.now} ms> " if sys.stdin.isatty() else "")
+    if history is not None:
+        history.keep()
     if words_of(text) in (["quit"], ["exit"]):
         return False
     if is_command(text):
-        print(answer_to(session, text))
+        told = answer_to(session, text)
+        print("\n".join(coloured(line, COLOURS) for line in told.split("\n")) if shows_colours() else told)
     elif text:
         session.lines.append(text)
     return True
@@ -193,7 +226,7 @@ def opened(program: Program, path: str) -> tuple[Session, str]:
     source, parts = called(path), split_input(read_text(path))
     session = Session(program, parts.cluster, source)
     program.check_script(joined(parts.cluster, parts.lines), source)
-    session.ask([line for line in parts.lines if not line.startswith(TOLD)])
+    session.ask(parts.lines)
     behind = f", behind {plural(len(parts.base), 'command')} of the script" if parts.base else ""
     names = session.names
     counts = f"{plural(len(names.nodes), 'node')}, {plural(len(names.apps), 'application')}"
@@ -221,9 +254,19 @@ def main(words: Sequence[str]) -> None:
     for stream in (sys.stdin, sys.stdout):
         if isinstance(stream, io.TextIOWrapper):
             stream.reconfigure(errors="surrogateescape")
+    history = None
+    if sys.stdin.isatty():
+        # Only a terminal needs what reads lines with keys.
+        from rehearse_tools.shell_history import History
+        history = History()
+    serve_all(session, history)
+
+
+def serve_all(session: Session, history: Optional["History"]) -> None:
+    """Answers the lines of the prompt, up to the last one."""
     while True:
         try:
-            if not serve(session):
+            if not serve(session, history):
                 return
         except EOFError:
             print(end="\n" if sys.stdin.isatty() else "")

@@ -6,7 +6,7 @@
 
 OUTPUT is what `rehearse sweep` (or companions/spread) printed; `-` or nothing is standard input. A sweep tells where each
 application stands at the end of a plan, and no times. For these name the sweep's input by --of: then the program goes
-through each plan once more, with its ticks cut at every timer, so that the moment of each start and end is known exactly.
+through each plan once more, by `run --json`, which tells the moment of each start and end.
 
 Where an application is nowhere, the word behind the plan tells why: `wanted`, no node can run it; `lost`, its failover
 time isn't over, so let the plan end by a longer tick; `quiet`, it was stopped or ended by itself, or nobody started it.
@@ -31,7 +31,7 @@ from rehearse_tools.command_line import CommandLine
 from rehearse_tools.courses import Courses, Gap, courses_of, losses_of, paired
 from rehearse_tools.endings import tell
 from rehearse_tools.inputs import called, lines_of, read_bytes, read_chunks, read_text, split_input, text_of, to_text, write_out
-from rehearse_tools.reading import outcomes_in
+from rehearse_tools.outcomes import outcomes_in
 from rehearse_tools.tallies import Tally, tally_of
 from rehearse_tools.words import plural, some
 

@@ -1,7 +1,7 @@
 """What a sweep printed, counted while it is read: no plan is kept but by its name, and of these only as many as are told.
 
 A plan's lines about its applications are much the same as those of other plans. So each such line is understood once, by
-`reading.OutcomeReader`, and then known by its bytes.
+`outcomes.OutcomeReader`, and then known by its bytes.
 """
 import re
 from collections.abc import Iterable, Iterator
@@ -10,7 +10,8 @@ from typing import Optional
 
 from rehearse_tools.endings import Refused
 from rehearse_tools.inputs import to_text
-from rehearse_tools.reading import Outcome, OutcomeReader, Standing
+from rehearse_tools.outcomes import Outcome, OutcomeReader
+from rehearse_tools.reading import Standing
 
 FIRST_LINE = re.compile(rb"plan ([^ ]+) accepted [0-9]+ failovers [0-9]+ takeovers [0-9]+")
 # Before each plan but the first of an input that begins with one.

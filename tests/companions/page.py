@@ -98,7 +98,7 @@ def one_rehearsal(program, folder, browser):
 
 
 def wanted_and_forbidden(program, folder, browser):
-    """The chart where no node can run an application: the example of the report in docs/ANSWERS.md."""
+    """The chart where no node can run an application: the example of the report in docs/SCRIPTS.md."""
     kernel = "{distributed, [{svc, 1000, [n1@lab, n2@lab]}]}"
     boot = "{rehearse, [{boot, [{log, permanent}, {svc, permanent}]}]}"
     text = f"{{node, n1@lab, [{{kernel, [{kernel}]}}, {boot}]}}.\n"
@@ -270,6 +270,8 @@ def greatest(program, folder, browser):
     frame, head, names = (browser.box(selector) for selector in ("#frame", "#head", "#names"))
     yield "64 nodes: heads and names stay in view", all_same((frame[1], head[1]), (frame[0], names[0]), (True, names[1] < frame[1] - 2000))
     browser.value("draw()")
+    # Also where it ran for one step alone the chart tells where: here the last node.
+    yield "64 nodes: a node's number fits into a column", same("64", browser.value("fitting(['n63', '64', 'R'], usualWidth(base) - 2)"))
     yield "64 nodes: what is in view is drawn", same([True, True], browser.value(
         "[isDrawn(), document.querySelectorAll('#names g').length < 200]"))
     yield "64 nodes: the end", all_same(

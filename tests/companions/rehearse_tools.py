@@ -2,10 +2,15 @@
 import ast
 import os
 import subprocess
+import sys
 import tempfile
 
 from groups import Group
-from support import LONGEST_RUN, TOP, fault_of, files_below, read
+from support import LONGEST_RUN, TOP, example_files, fault_of, files_below, read, run
+
+sys.path.insert(0, os.path.join(TOP, "companions"))
+from rehearse_tools.program import Program  # noqa: E402
+from rehearse_tools.reading import JsonRun, Names, Notice, Standing  # noqa: E402
 
 NEEDS = ("python3",)
 COMPANIONS = os.path.join(TOP, "companions")
@@ -60,6 +65,54 @@ def linked(program):
         yield "no file is left behind", None if os.listdir(folder) == ["rehearse-tools"] else f"{os.listdir(folder)}"
 
 
+def as_printed(program):
+    """The lines that it writes of the program's JSON are those that the program prints."""
+    for path in example_files():
+        name, text = os.path.relpath(path, TOP), read(path)
+        plain = run(program, ["run", "--pick", "last"], input=text)
+        told = Program(program, "last").told(["run", "--pick", "last"], text.decode())
+        lines = [line for answer in told.answers for line in answer.lines]
+        lines += [told.why] if told.why else [f"bad line {told.bad_line}"] if told.bad_line is not None else []
+        yield f"{name} as it is printed", fault_of(plain, told.status, "".join(f"{line}\n" for line in lines).encode())
+
+
+# Each value is told of the lines by hand.
+TOLD = [
+    '{"profile":2,"nodes":["a@x","b@x"],"applications":[{"name":"web","distributed":true,"nodes":[["a@x"],["b@x"]]},'
+    '{"name":"it\'s","distributed":false}]}',
+    '{"line":1,"command":"tick 9","answer":"ok","notices":[{"time":7,"kind":"started","application":"web","node":"b@x","start":"failover",'
+    '"from":"a@x"},{"time":8,"kind":"ended","node":"b@x"}]}',
+    '{"line":2,"command":"undo_all","answer":"ok 3"}', '{"line":4,"command":"boot c","answer":"refused S1 unknown_node"}',
+    '{"line":5,"command":"show","answer":"ok","report":{"time":9,"steps":1,"trail":2,"nodes":[{"name":"a@x","mode":"up","starts":2,'
+    '"running":[{"application":"web","restart":"permanent","start":"takeover","from":"b@x"}],'
+    '"waiting":[{"application":"it\'s","restart":"transient"}],"forbidden":["it\'s"]},'
+    '{"name":"b@x","mode":"down","starts":1,"running":[],"waiting":[],"forbidden":[]}],'
+    '"applications":[{"name":"web","standing":"running","node":"a@x"},{"name":"far","standing":"quiet"}],'
+    '"timers":[{"timer":"sync","node":"b@x","due":10},{"timer":"failover","application":"far","due":12}]}}', '{"line":7,"bad":true}']
+PRINTED = ["ok", "now 9", "node a@x up 2", "  running web permanent takeover b@x", "  waiting it's transient", "  forbidden it's",
+           "node b@x down 1", "app web running a@x", "app far quiet", "timer sync b@x 10", "timer failover far 12"]
+
+
+def read_into_classes(_):
+    """Each field of the lines of JSON comes where it belongs."""
+    told = JsonRun(3, TOLD)
+    tick, undone, refused, shown = told.answers
+    report = shown.report
+    for name, owed, have in [
+            ("the names", Names(2, ["a@x", "b@x"], ["web", "it's"]), told.names), ("the bad line", (7, ""), (told.bad_line, told.why)),
+            ("notices", [Notice("started", "b@x", "web", "failover a@x", 7), Notice("ended", "b@x", time=8)], tick.notices),
+            ("the steps", (True, 3, 1), (undone.is_ok, undone.steps, tick.steps)),
+            ("a refusal", (False, "S1 unknown_node", []), (refused.is_ok, refused.refusal, refused.notices)),
+            ("the lines of a report", PRINTED, shown.lines), ("the nodes that are alive", ["a@x"], report.alive),
+            ("what runs, waits and is forbidden", (("web",), ("it's",), ("it's",)),
+             (report.nodes["a@x"].running, report.nodes["a@x"].waiting, report.nodes["a@x"].forbidden)),
+            ("where applications stand", {"web": Standing("running", "a@x"), "far": Standing("quiet")}, report.apps),
+            ("the timers before a moment", [10], report.dues_until(12)), ("the clock", 9, report.now),
+            ("a file that is refused", ("cluster refused C1 T1 syntax line 1", None), (
+                (refusal := JsonRun(2, ['{"refused":"C1","reason":"T1 syntax line 1"}'])).why, refusal.bad_line))]:
+        yield f"read into classes: {name}", None if owed == have else f"want {owed}, have {have}"
+
+
 def types(_):
     """All of the package is typed."""
     done = subprocess.run(["mypy", "--strict", "--cache-dir", os.devnull, "-p", "rehearse_tools"], cwd=COMPANIONS, capture_output=True,
@@ -87,5 +140,5 @@ def sizes(_):
 
 
 TESTS = (command, Group(helps, items=tuple(tool for tool in TOOLS if tool not in ("gather", "replay"))),
-         Group(helps, items=("gather", "replay"), needs=("escript",)), linked, Group(types, needs=("mypy",)),
+         Group(helps, items=("gather", "replay"), needs=("escript",)), linked, as_printed, read_into_classes, Group(types, needs=("mypy",)),
          Group(lint, needs=("pyflakes3",)), sizes)

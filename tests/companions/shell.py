@@ -69,7 +69,7 @@ def conversations(program):
                  "  running web permanent normal\napp web running b-1@x\n"),
                 ("what is no command",
                  "boot\nboot a@x b-1@x\nreboot a@x\ntick -1\nexit a@x web badly\nstart_all web\nstop_all a@x web\n===\nplan p\nundo",
-                 "that is no command: boot N\n" * 2 + "that is no command: help lists them\n"
+                 "that is no command: boot N\n" * 2 + "that is no command (did you mean boot?): help lists them\n"
                  "that is no command: tick MILLISECONDS\nthat is no command: exit N A normal|abnormal\n"
                  "that is no command: start_all A permanent|transient|temporary\nthat is no command: stop_all A\n"
                  + "that is no command: help lists them\n" * 2 + "refused at_start\n"),
@@ -81,10 +81,45 @@ def conversations(program):
                  "refused S11 already_started\nrefused S9 not_distributed\nrefused S2 unknown_app\nok\nok\n"),
                 ("a permission that is given back", "boot a@x\nboot b-1@x\npermit a@x web false\npermit a@x web true\n",
                  BOTH + "ok\nstopped web a@x\nstarted web b-1@x normal\nok\n"),
+                ("a command that is nearly one", "crsh a@x\nhepl\nstart a@x web permament\n",
+                 "that is no command (did you mean crash?): help lists them\nthat is no command (did you mean help?): help lists them\n"
+                 "that is no command: start N A permanent|transient|temporary (did you mean permanent?)\n"),
+                ("a name that is nearly one", "boot b-2@x\nboot c@x\nstart_all spar permanent\n",
+                 "refused S1 unknown_node\ndid you mean b-1@x?\nrefused S1 unknown_node\nrefused S2 unknown_app\ndid you mean spare?\n"),
+                ("help of a command", "help stop_all\nhelp names\nhelp bot\nhelp tick now\n",
+                 "stop_all A: stops A at all its nodes\nas: stop_all web\nwhat follows from it: stopped\n"
+                 "it is refused as: S2, S9, S12 (`./rehearse help S2` tells more)\nnames lists the nodes and the applications\n"
+                 "there is no command bot (did you mean boot?): help lists them\n"
+                 "help, or help COMMAND\n"),
                 ("quit", "boot a@x\nquit\nboot b-1@x\n", "ok\n"), ("exit", "exit\nboot a@x\n", "")]:
             yield name, fault_of(talk(program, entered, file), 0, (BANNER + owed).encode())
         done = talk(program, "help\n", file)
         yield "help", fault_of(done, 0, None) or (None if b"\nstart_all A T " in done.stdout and b"\nstop_all A " in done.stdout else f"{done}")
+
+
+# Live nodes start web elsewhere before they stop it, as a takeover; and pull it back where it may run again, also in profile 1.
+AT_TWO = "".join(
+    f"{{node, {node}, [{{kernel, [{{distributed, [{{web, 700, [a@x, b@x]}}]}}, {{sync_nodes_optional, [{other}]}}, {{sync_nodes_timeout, 900}}]}},\n"
+    "  {rehearse, [{boot, [{web, permanent}]}]}]}.\n" for node, other in (("a@x", "b@x"), ("b@x", "a@x"))) + "{application, web, []}.\n"
+BY_THE_RULES = "ok\nok\nup a@x\nup b@x\nstarted web a@x normal\nwaits web b@x\n"
+FORBIDDEN = "ok\nstopped web a@x\nstarted web b@x normal\n"
+FORBIDDEN_LIVE = "> started web b@x takeover a@x\n< started web b@x normal\n! why: .*#forbid-moves\\)\n"
+GIVEN_BACK_LIVE = "> started web a@x takeover b@x\n> stopped web b@x\n! why: .*#profile-1-permission\\)\n"
+
+
+def live_nodes(program):
+    """What live nodes do otherwise: at the last command, or beside each answer."""
+    with Files() as files:
+        file = files.path("cluster", AT_TWO)
+        for name, entered, owed in [
+                ("at the last command", "live\nboot a@x\nboot b@x\nlive\npermit a@x web false\nlive\nlive\n",
+                 "there is no command yet\n" + BY_THE_RULES + "live nodes do the same\n" + FORBIDDEN + FORBIDDEN_LIVE * 2),
+                ("beside each answer", "boot a@x\nboot b@x\nlive on\npermit a@x web false\npermit a@x web true\nundo\nlive off\nundo\nlive now\n",
+                 BY_THE_RULES + "beside each answer .*\n" + FORBIDDEN + FORBIDDEN_LIVE + "ok\n" + GIVEN_BACK_LIVE
+                 + "ok\nlive nodes do the same\nwithout live nodes\nok\nlive, live on, or live off\n")]:
+            done = talk(program, entered, file)
+            told = done.stdout.decode().partition("help lists the commands\n")[2]
+            yield f"live nodes {name}", fault_of(done, 0, None) or (None if re.fullmatch(owed, told) else told)
 
 
 def second_profile(program):
@@ -96,7 +131,7 @@ def second_profile(program):
     with Files() as files:
         file, story = files.path("cluster", text), files.path("story")
         done = talk(program, f"{entered}save {story}\n", file)
-        yield "profile 2", fault_of(done, 0, (banner + told + f"saved: rehearse run < {story}\n").encode())
+        yield "profile 2", fault_of(done, 0, (banner + told + f"saved: rehearse verify < {story}\n").encode())
         yield "profile 2, a run of the story", fault_of(run(program, ["run"], input=read(story)), 0, told.encode())
         yield "profile 2, on from the story", fault_of(talk(program, "undo\n", story), 0, (banner.replace(
             "2;", "2, behind 4 commands of the script;") + "ok\n").encode())
@@ -139,38 +174,42 @@ show
 # The end.
 """
 STORY = """boot a@x
-#   ok
+#= ok
+#- waits for b-1@x until 900
 # Now the other one.
 boot b-1@x
-#   ok
-#   up a@x
-#   up b-1@x
-#   started it's a@x normal
-#   started web a@x normal
-#   waits web b-1@x
+#= ok
+#= up a@x
+#= up b-1@x
+#= started it's a@x normal
+#= started web a@x normal
+#= waits web b-1@x
+#- runs at a@x
 crash b-1@x
-#   ok
-#   ended b-1@x
+#= ok
+#= ended b-1@x
 # The end.
 """
-TAKEN_BACK = "crash a@x\n#   ok\n#   ended a@x\nundo\n#   ok\n"
+TAKEN_BACK = "crash a@x\n#= ok\n#= ended a@x\nundo\n#= ok\n"
 WHOLE = STORY.replace("crash b-1@x\n", TAKEN_BACK + "crash b-1@x\n").replace("# The end.\n", """\
 crash b-1@x
-#   refused S5 not_alive
+#= refused S5 not_alive
 undo_all
-#   ok 3
+#= ok 3
 redo_all
-#   ok 3
+#= ok 3
 show
-#   ok
-#   now 0
-#   node a@x up 1
-#     running it's temporary normal
-#     running web permanent normal
-#   node b-1@x down 1
-#   app web running a@x
+#= ok
+#= now 0
+#= node a@x up 1
+#=   running it's temporary normal
+#=   running web permanent normal
+#= node b-1@x down 1
+#= app web running a@x
 # The end.
 """)
+# Behind a story stands where each distributed application ran: by the steps that stand web never ended.
+TABLE = "\n#| web ran at a@x 0 to now\n"
 
 
 def stories(program):
@@ -179,27 +218,30 @@ def stories(program):
         file, story, whole = files.path("cluster", CLUSTER), files.path("story"), files.path("whole")
         talk(program, f"{ENTERED}save {story}\nsave {whole} all\n", file)
         for name, path, text in [("story", story, STORY), ("whole story", whole, WHOLE)]:
-            owed = (CLUSTER + "===\n" + text).encode()
+            owed = (CLUSTER + "===\n" + text + TABLE).encode()
             yield f"the {name}", difference(owed, read(path)) if read(path) != owed else None
-            told = "".join(f"{line[4:]}\n" for line in text.splitlines() if line.startswith("#   "))
+            told = "".join(f"{line[3:]}\n" for line in text.splitlines() if line.startswith("#= "))
             yield f"a run of the {name}", fault_of(run(program, ["run"], input=read(path)), 0, told.encode())
+            count = {"story": 3, "whole story": 9}[name]
+            yield f"the {name} holds", fault_of(run(program, ["verify"], input=read(path)), 0,
+                                                f"ok {count} of {count} commands checked\n".encode())
             done = talk(program, f"save {path}.again{' all' if path == whole else ''}\n", path)
             yield f"the {name} as it was", fault_of(done, 0, None) or (
                 difference(owed, read(path + ".again")) if read(path + ".again") != owed else None)
         done = talk(program, f"undo\nundo\nredo\ntick 5\nredo\nsave {story}\nsave {story}.b\nundo\nsave {story}.b\n", story)
         owed = BANNER.replace("1;", "1, behind 3 commands of the script;")
-        owed += f"ok\nok\nok\nok\nrefused at_end\n{story}: File exists\nsaved: rehearse run < {story}.b\nok\n"
-        owed += f"saved: rehearse run < {story}.b\n"
+        owed += f"ok\nok\nok\nok\nrefused at_end\n{story}: File exists\nsaved: rehearse verify < {story}.b\nok\n"
+        owed += f"saved: rehearse verify < {story}.b\n"
         yield "on from a story", fault_of(done, 0, owed.encode())
-        owed = (CLUSTER + "===\n" + STORY.split("crash ")[0]).encode()
+        owed = (CLUSTER + "===\n" + STORY.split("crash ")[0] + TABLE).encode()
         yield "the story that is left", difference(owed, read(story + ".b")) if read(story + ".b") != owed else None
         talk(program, f"boot a@x\nboot b-1@x\nundo_all\nboot b-1@x\nundo\nredo_all\nsave {story}.d\n", file)
-        owed = (CLUSTER + "===\nboot b-1@x\n#   ok\n#   up b-1@x\n#   started web b-1@x normal\n").encode()
+        owed = (CLUSTER + "===\nboot b-1@x\n#= ok\n#= up b-1@x\n#= started web b-1@x normal\n" + TABLE.replace("a@x", "b-1@x")).encode()
         yield "all is taken back", difference(owed, read(story + ".d")) if read(story + ".d") != owed else None
         # Steps at all nodes are steps: of three, the last one is taken back.
         talk(program, f"boot b-1@x\nstop_all web\nstart_all web temporary\nundo_all\nredo_all\nundo\nsave {story}.e\n", file)
-        owed = (CLUSTER + "===\nboot b-1@x\n#   ok\n#   up b-1@x\n#   started web b-1@x normal\n"
-                "stop_all web\n#   ok\n#   stopped web b-1@x\n").encode()
+        owed = (CLUSTER + "===\nboot b-1@x\n#= ok\n#= up b-1@x\n#= started web b-1@x normal\nstop_all web\n#= ok\n"
+                "#= stopped web b-1@x\n\n#| web ran at b-1@x 0 to 0; nowhere for 0 ms in 1 piece\n").encode()
         yield "a story of steps at all nodes", difference(owed, read(story + ".e")) if read(story + ".e") != owed else None
         done = talk(program, f"save\nsave /nowhere/story\nsave {story}.c some\n", file)
         owed = BANNER + "save PATH, or save PATH all\n/nowhere/story: No such file or directory\nsave PATH, or save PATH all\n"
@@ -213,12 +255,13 @@ def stories(program):
 class Terminal:
     """The companion at a terminal."""
 
-    def __init__(self, program, file):
+    def __init__(self, program, file, **more):
         self.child, self.side = pty.fork()
         if self.child == 0:
-            plain = {**os.environ, "TERM": "dumb", "INPUTRC": "/dev/null"}
+            # What is entered is kept beside the file.
+            plain = {**os.environ, "TERM": "dumb", "INPUTRC": "/dev/null", "XDG_STATE_HOME": os.path.dirname(file), **more}
             os.execve(COMPANION, [COMPANION, "--rehearse", program, file], plain)
-        self.text = ""
+        self.text = self.raw = ""
 
     def __enter__(self):
         return self
@@ -254,6 +297,7 @@ class Terminal:
                 more = b""
             if not more:
                 return False
+            self.raw += more.decode()
             # A read may end within an escape sequence, or between CR and LF.
             self.text = re.sub(r"\x1b\[[0-9;?]*[a-zA-Z]", "", (self.text + more.decode()).replace("\r\n", "\n"))
         return True
@@ -308,6 +352,34 @@ def keys(program):
         yield "at a terminal: the status", None if status == 0 else f"{status}"
 
 
+def history(program):
+    """What was entered comes back another time, and where it can't be kept nothing is said."""
+    with Files() as files:
+        file = files.path("cluster", CLUSTER)
+        with Terminal(program, file) as terminal:
+            # It is killed behind this, as where a terminal is closed.
+            yield "history: a line is entered", terminal.fault("", "0 ms> ") or terminal.fault("boot b-1@x\r", "up b-1@x\n", "0 ms> ")
+        with Terminal(program, file) as terminal:
+            yield "history: it comes back", terminal.fault("", "0 ms> ") or terminal.fault("\x10\r", "boot b-1@x\n", "up b-1@x\n", "0 ms> ")
+        kept = read(files.path("rehearse/shell-history"))
+        yield "history: the file", None if kept == b"boot b-1@x\n" else f"{kept}"
+        with Terminal(program, file, XDG_STATE_HOME="/dev/null") as terminal:
+            told = terminal.fault("", "0 ms> ") or terminal.fault("\x04", "\n")
+            yield "history: it can't be kept", told or (None if terminal.status() == 0 else "the status")
+
+
+def colours(program):
+    """Answers have colours at a terminal, and not where NO_COLOR is set."""
+    with Files() as files:
+        file = files.path("cluster", CLUSTER)
+        for name, more, has in (("a terminal", {"TERM": "xterm"}, True), ("NO_COLOR", {"TERM": "xterm", "NO_COLOR": "1"}, False),
+                                ("a dumb terminal", {}, False)):
+            with Terminal(program, file, **more) as terminal:
+                told = terminal.fault("", "0 ms> ") or terminal.fault("boot b-1@x\r", "up b-1@x\n", "0 ms> ") or terminal.fault("crash a@x\r", "S5", "0 ms> ")
+                shown = [text in terminal.raw for text in ("\x1b[32mup b-1@x\x1b[0m", "\x1b[31mrefused S5 not_alive\x1b[0m")]
+                yield f"colours: {name}", told or (None if shown == [has, has] else repr(terminal.raw))
+
+
 # Behind the crash of a@x web is lost for 700 ms, and far for 1300.
 TWO_TIMERS = "".join(
     f"{{node, {node}, [{{kernel, [{{distributed, [{{web, 700, [a@x, b@x]}}, {{far, 1300, [a@x, b@x]}}]}}]}},\n"
@@ -339,4 +411,4 @@ def faults(program):
     yield "--help", fault_of(done, 0, None) or (None if b"save PATH" in done.stdout else f"{done}")
 
 
-TESTS = (conversations, second_profile, banners, like_a_run, stories, keys, timers, faults)
+TESTS = (conversations, live_nodes, second_profile, banners, like_a_run, stories, keys, history, colours, timers, faults)

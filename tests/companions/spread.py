@@ -12,10 +12,10 @@ COMPANION = os.path.join(TOP, "companions", "spread")
 EXAMPLE = read(os.path.join(TOP, "examples", "five-nodes-sweep.txt"))
 HEAD = EXAMPLE.split(b"plan ", 1)[0]
 # The program, which writes down each process that sweeps.
-COUNTED = '#!/bin/sh\n[ "$1" = run ] || echo $$ >> "%s"\nexec "%s" "$@"\n'
+COUNTED = '#!/bin/sh\n[ "$1" != sweep ] || echo $$ >> "%s"\nexec "%s" "$@"\n'
 # The same, but the first run gets no input, and so doesn't end by itself.
 FIRST_WAITS = """#!/bin/sh
-[ "$1" = run ] && exec "%(program)s" "$@"
+[ "$1" != sweep ] && exec "%(program)s" "$@"
 echo $$ >> "%(starts)s"
 [ "$(wc -l < "%(starts)s")" -gt 1 ] || exec "%(program)s" "$@" <> "%(nothing)s"
 exec "%(program)s" "$@"
@@ -215,7 +215,7 @@ def killed(program):
             os.kill(wait_for(lambda: at_work(starts, program)), signal.SIGKILL)
             out, told = child.communicate(timeout=LONGEST_RUN)
         owed = run(program, ["sweep"], input=text)
-        wrong = difference(owed.stdout, out) if out != owed.stdout else f"status {child.returncode}, {told}"
+        wrong = f"status {child.returncode}, {told}\n{difference(owed.stdout, out)}"
         yield "a run is killed", wrong if (out, told, child.returncode) != (owed.stdout, b"", 0) else None
         tries = len(read(starts).split())
         yield "its share is done again", None if tries == 3 else f"{tries} runs, want 3"

@@ -12,10 +12,10 @@ const rowsOfPlans = [...at("plans").tBodies[0].rows];
 const view = { story: base, step: -1, width: 0, isByTime: false, hasLanes: true, layout: null, drawn: null };
 let waits = 0;
 
-// The width of a column of a story as it is opened.
+// The width of a column of a story as it is opened. The number of each node fits into it.
 function usualWidth(story) {
   const longest = story.steps.reduce((most, _, step) => Math.max(most, headText(story, step).length), 0);
-  return story.last < 20 ? 44 : story.last < 60 || longest > 26 ? 28 : 16;
+  return story.last < 20 ? 44 : story.last < 60 || longest > 26 ? 28 : nodes.size < 10 ? 16 : 18;
 }
 
 // Sizes of what is in view: of the frame, and of the chart in it beside the names.
