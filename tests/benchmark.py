@@ -107,6 +107,9 @@ def rehearsals(kind, front, node_count, app_count):
         yield ["run"], f"60,000 {name} of {kind}", lambda script=script: text + script
         yield ["run"], f"60,000 {name} of {kind}, 40 times undone and redone", lambda script=script: (
             text + script + b"undo_all\nredo_all\n" * 40)
+        # These two are wanted in at most three times the time of the first, of one processor.
+        for word in ("story", "verify"):
+            yield [word], f"60,000 {name} of {kind}", lambda script=script: text + script
     # Behind so many steps all nodes are up.
     for workers in ("1", "2", "4", "16"):
         yield ["sweep", "--workers", workers], f"20,000 plans of {kind} by {workers} workers", lambda: (
