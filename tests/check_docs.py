@@ -6,9 +6,9 @@ In README.md, CONTRIBUTING.md, CHANGELOG.md and docs/*.md each link leads somewh
 ./rehearse runs the program: it prints what stands below it, where a line `...` stands for any lines, writes nothing to standard error, and
 has the exit status 0 (a document shows another one by `; echo "status $?"`). Each block ```erlang is a cluster file that
 `check` accepts. Each command in a help text runs, and docs/help has these texts. Each text that the program can print
-stands in docs/ANSWERS.md. Each definition that docs/RULES.md names stands where it says. Each construct that
+stands in docs/SCRIPTS.md. Each definition that docs/RULES.md names stands where it says. Each construct that
 docs/CLUSTER_FILES.md calls refused is. Each script of tests/live in which live nodes differ names its places in docs/LIVE_OTP.md.
-Each wrong body can be applied, and docs/WRONG_BODIES.md names it on the shelf where it is (shelves.py). What the documents say of
+Each wrong body can be applied, and docs/GUARDS.md names it on the shelf where it is (shelves.py). What the documents say of
 the sources is as docs/make makes it, which tells where it isn't (made_pages.py).
 
 run_program.py counts these tests too. The last line is 'N passed, M failed'.
@@ -26,7 +26,7 @@ import shelves
 from groups import Group, command_line, finish
 from support import LONGEST_RUN, TOP, run
 
-ANSWERS = "docs/ANSWERS.md"
+ANSWERS = "docs/SCRIPTS.md"
 LIVE = "docs/LIVE_OTP.md"
 # Differences that no line of an answer shows.
 UNSEEN = {"weights-for-ever"}

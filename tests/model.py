@@ -1,6 +1,6 @@
 """A model of the cluster: what the program has to answer, by other means. run_text, sweep_text and session_text give whole texts.
 
-It is written from docs/RULES.md and docs/ANSWERS.md and not from the program: the state is a tree of Python's lists and sets, each
+It is written from docs/RULES.md and docs/SCRIPTS.md and not from the program: the state is a tree of Python's lists and sets, each
 step begins with a copy of it, and undo goes back to the copy. Nothing here is quick.
 """
 import copy

@@ -1,4 +1,4 @@
-"""A state as the model has it, its report, and why an event is refused in it, written from docs/RULES.md and docs/ANSWERS.md."""
+"""A state as the model has it, its report, and why an event is refused in it, written from docs/RULES.md and docs/SCRIPTS.md."""
 import copy
 
 MOST_TIME, MOST_STARTS = 10 ** 12, 9_999
