@@ -15,8 +15,11 @@ CRATES = Path(TOP, "crates")
 WRONG_BODIES = Path(TOP, "wrong-bodies")
 TESTED = WRONG_BODIES / "tests"
 PAGE = Path(TOP, "docs", "GUARDS.md")
-# How many edits there may be for rt ci to try: they take about as long as all proofs together.
-MOST_IN_GATE = 180
+# How many edits there may be for rt ci to try: with twice as many they took as long as all proofs together.
+MOST_IN_GATE = 130
+# Crates that have edits, and none that rt ci tries: the first edit of a crate costs a proof of the whole crate, and this one's is the
+# dearest of those that no other library stands on.
+NONE_IN_GATE = {"rh_json"}
 
 # A test's name, and what is wrong, or None.
 Test = tuple[str, str | None]
@@ -125,6 +128,12 @@ def gate_is_small(_program: str) -> Iterator[Test]:
     yield f"at most {MOST_IN_GATE} wrong bodies are tried by rt ci", wrong
 
 
+def crates_are_tried(_program: str) -> Iterator[Test]:
+    """Of each crate that has edits rt ci tries some."""
+    wrong = [crate for crate in crates_on_other_shelf() if not files_on(gate_shelf(crate)) and crate not in NONE_IN_GATE]
+    yield "rt ci tries wrong bodies of each crate", f"none of {', '.join(wrong)}" if wrong else None
+
+
 def name_fault(cell: str) -> str | None:
     """What is wrong with the names of edits in a cell of the page's table, or None. A name with an asterisk behind it is that
     of an edit in wrong-bodies, one with a plus sign of an edit in wrong-bodies/tests."""
@@ -135,17 +144,15 @@ def name_fault(cell: str) -> str | None:
         shelf = {"": gate_shelf, "+": test_shelf}.get(star, other_shelf)(crate)
         if not edit or not (shelf / f"{edit}.edit").is_file():
             wrong.append(f"there is no {(shelf / edit).relative_to(TOP)}.edit")
-    if named and all(star not in ("", "+") for _, star in named):
-        wrong.append(f"rt ci tries none of {cell.strip()}")
     return "; ".join(wrong) or None
 
 
 def page_names_edits(_program: str) -> Iterator[Test]:
-    """Each edit that the page of wrong bodies names is on the shelf that it says, and one of each row is tried by rt ci."""
+    """Each edit that the page of wrong bodies names is on the shelf that it says."""
     table = PAGE.read_text(encoding="utf-8").split("| Wrong body | Edit | Refused by |\n|---|---|---|\n")[1].split("\n\n")[0]
     cells = [re.split(r"(?<!\\)\|", row)[2] for row in table.splitlines()]
     wrong = [fault for cell in cells if (fault := name_fault(cell))]
     yield f"{PAGE.relative_to(TOP)} names edits where they are", "; ".join(wrong) or None
 
 
-TESTS = (edits_apply, gate_is_small, page_names_edits)
+TESTS = (edits_apply, gate_is_small, crates_are_tried, page_names_edits)
