@@ -42,6 +42,7 @@ module _ {S K : Type 0} (gives : S → S → List ℕ → Type 0) (unread : S �
   is_written (Some (told.Sweep f)) bytes text before after input is wrote = (text, Some (told.Sweep f), (bytes, input, is), wrote, refl)
   is_written (Some told.Refused) bytes text before after input is wrote = (text, Some told.Refused, (bytes, input, is), wrote, refl)
   is_written (Some told.Differs) bytes text before after input is wrote = (text, Some told.Differs, (bytes, input, is), wrote, refl)
+  is_written (Some told.Unfinished) bytes text before after input is wrote = (text, Some told.Unfinished, (bytes, input, is), wrote, refl)
 
   -- the text was one of several
   pub not_shared : (f : SessionsFault) (bytes : List ℕ) (before after : Watched K)

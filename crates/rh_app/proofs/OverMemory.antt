@@ -85,3 +85,5 @@ module _ {D K : Type 0} (left : D → List ℕ) (lacked : K → Bool) (items : K
       answered (Err end.Refused) gave.2.0 gave.0 gave.1 gave.2.1.1 (all_given left old.inner new.inner gave.2.0 gave.2.1.0) gave.2.2 gave.3.0 gave.4
   in_memory (Err end.Differs) other gave =
       answered (Err end.Differs) gave.2.0 gave.0 gave.1 gave.2.1.1 (all_given left old.inner new.inner gave.2.0 gave.2.1.0) gave.2.2 gave.3.0 gave.4
+  in_memory (Err end.Unfinished) other gave =
+      answered (Err end.Unfinished) gave.2.0 gave.0 gave.1 gave.2.1.1 (all_given left old.inner new.inner gave.2.0 gave.2.1.0) gave.2.2 gave.3.0 gave.4

@@ -21,6 +21,7 @@ ended (Some (told.BadLine k)) = Err (end.BadLine k)
 ended (Some (told.Sweep f)) = Err (end.Sweep f)
 ended (Some told.Refused) = Err end.Refused
 ended (Some told.Differs) = Err end.Differs
+ended (Some told.Unfinished) = Err end.Unfinished
 
 -- a program whose input was not read
 abbrev pub reading_fault : ReadFault → RunFault

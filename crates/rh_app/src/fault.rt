@@ -43,6 +43,9 @@ pub enum RunFault {
     /// What a script expects doesn't hold. The whole text was written. No program of this crate ends so.
     #[error("what the script expects doesn't hold")]
     Differs,
+    /// A search ended before all was looked at. The whole text was written. No program of this crate ends so.
+    #[error("the search is unfinished")]
+    Unfinished,
 }
 
 /// The fault that a whole text tells at its end.
@@ -58,6 +61,8 @@ pub enum Told {
     Refused,
     /// What a script expects doesn't hold. No text of this crate tells it.
     Differs,
+    /// A search ended before all was looked at. No text of this crate tells it.
+    Unfinished,
 }
 
 /// Why the sessions' threads gave no history.
@@ -89,6 +94,7 @@ pub fn ended(told: Option<Told>) -> Result<(), RunFault>
         Some(Told::Sweep(fault)) => Err(RunFault::Sweep(fault)),
         Some(Told::Refused) => Err(RunFault::Refused),
         Some(Told::Differs) => Err(RunFault::Differs),
+        Some(Told::Unfinished) => Err(RunFault::Unfinished),
     }
 }
 

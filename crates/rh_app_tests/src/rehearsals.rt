@@ -49,6 +49,7 @@ pub fn said(ended: Result<(), RunFault>) -> &'static str {
         Err(RunFault::Room) => "room",
         Err(RunFault::Refused) => "refused",
         Err(RunFault::Differs) => "differs",
+        Err(RunFault::Unfinished) => "unfinished",
     }
 }
 

@@ -12,17 +12,19 @@ use Rattle.rh_app.specs.Faults.{ended, reading_fault, writing_fault, history_fau
 use Rattle.rh_devices.specs.declared.watched.Watched.{Watched}
 use Rattle.rh_programs.specs.Status.{status_of, Flushed}
 
--- each status from 0 to 6, and 9, but 1, which is that of a command line and no program's
+-- each status from 0 to 6, and 9 and 10, but 1, which is that of a command line and no program's
 statuses_row : (status_of (Ok tt) ≡ 0) × (status_of (Err (end.Cluster NoNodes)) ≡ 2) × (status_of (Err (end.BadLine 7)) ≡ 3)
     × (status_of (Err end.Read) ≡ 4) × (status_of (Err end.Write) ≡ 4) × (status_of (Err end.OutOfMemory) ≡ 5)
     × (status_of (Err (end.Sweep BaseNotAtEnd)) ≡ 6) × (status_of (Err (end.Sweep TrailRoom)) ≡ 6) × (status_of (Err end.Room) ≡ 6)
     × (status_of (Err end.Refused) ≡ 9) × (status_of (Err end.Differs) ≡ 9)
-statuses_row = (refl, refl, refl, refl, refl, refl, refl, refl, refl, refl, refl)
+    × (status_of (Err end.Unfinished) ≡ 10)
+statuses_row = (refl, refl, refl, refl, refl, refl, refl, refl, refl, refl, refl, refl)
 
 -- a text that was written whole: by the fault that it tells at its end
 told_row : (status_of (ended None) ≡ 0) × (status_of (ended (Some (told.Cluster NoNodes))) ≡ 2) × (status_of (ended (Some (told.BadLine 7))) ≡ 3)
     × (status_of (ended (Some (told.Sweep TrailRoom))) ≡ 6) × (status_of (ended (Some told.Refused)) ≡ 9) × (status_of (ended (Some told.Differs)) ≡ 9)
-told_row = (refl, refl, refl, refl, refl, refl)
+    × (status_of (ended (Some told.Unfinished)) ≡ 10)
+told_row = (refl, refl, refl, refl, refl, refl, refl)
 
 -- an input that wasn't read, also one that is too long; a text that wasn't written
 devices_row : (status_of (Err (reading_fault reading.Failed)) ≡ 4) × (status_of (Err (reading_fault reading.TooLong)) ≡ 4)

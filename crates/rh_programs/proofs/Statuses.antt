@@ -18,6 +18,7 @@ no_fault (Some (told.BadLine k)) is = cc
 no_fault (Some (told.Sweep f)) is = cc
 no_fault (Some told.Refused) is = cc
 no_fault (Some told.Differs) is = cc
+no_fault (Some told.Unfinished) is = cc
 
 module _ {S K : Type 0} (gives : S → S → List ℕ → Type 0) (unread : S → S → Type 0) (takes : K → K → List ℕ → Type 0)
     (flushes : K → K → Type 0) (unwritten : K → K → Type 0) (program : Program) (old new : Watched S) (before after : Watched K) where
@@ -44,6 +45,7 @@ module _ {S K : Type 0} (gives : S → S → List ℕ → Type 0) (unread : S �
   whole (Err end.Room) written gave zero flush kept = absurd (omega arith)
   whole (Err end.Refused) written gave zero flush kept = absurd (omega arith)
   whole (Err end.Differs) written gave zero flush kept = absurd (omega arith)
+  whole (Err end.Unfinished) written gave zero flush kept = absurd (omega arith)
 
   -- status 0 says that the program is done, and that the writer was flushed
   pub is_done : (status : ℕ) → StatusGives gives unread takes flushes unwritten program status old new before after → status ≡ 0

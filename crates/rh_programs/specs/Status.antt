@@ -59,6 +59,7 @@ status_of (Err (end.Sweep f)) = 6
 status_of (Err end.Room) = 6
 status_of (Err end.Refused) = 9
 status_of (Err end.Differs) = 9
+status_of (Err end.Unfinished) = 10
 
 -- at last the writer was flushed; or that failed, which is status 4
 abbrev pub Flushed : {K : Type 0} → (K → K → Type 0) → (K → K → Type 0) → Watched K → Watched K → ℕ → Result (Unit {0}) RunFault → Type 0

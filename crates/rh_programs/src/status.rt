@@ -57,7 +57,8 @@ impl Program {
 ///
 /// 0 says that the whole text of all that was read was written and flushed, and tells no fault. 2 is a text that describes no
 /// cluster, 3 a bad line, 4 a device that failed or an input that is too long, 5 want of memory, 6 plans that can't be swept,
-/// 9 a step that was refused where the program was asked to be strict, or what a script expects and doesn't hold.
+/// 9 a step that was refused where the program was asked to be strict, or what a script expects and doesn't hold, 10 a search that
+/// ended before all was looked at.
 pub fn rehearse_alone<S: Source, K: Sink>(
     alloc: Global,
     program: Program,
@@ -162,5 +163,6 @@ fn status_of(ended: &Result<(), RunFault>) -> u8
         Err(RunFault::OutOfMemory) => 5,
         Err(RunFault::Sweep(_) | RunFault::Room) => 6,
         Err(RunFault::Refused | RunFault::Differs) => 9,
+        Err(RunFault::Unfinished) => 10,
     }
 }
