@@ -96,17 +96,19 @@ fn ask_of(rt: &impl Abort, alloc: Global, always: bool, lists: &[&[Condition]]) 
 // As many different states as a search by another program counts, which merges equal states too.
 #[test]
 fn counts_are_those_of_another_search(rt: HostRuntime) {
-    let eight = failures_explored(&rt, rt.alloc(), &up_to(8), [].as_slice());
+    let no_asks = Vec::new(rt.alloc());
+    let eight = failures_explored(&rt, rt.alloc(), &up_to(8), no_asks.as_slice());
     assert!(rt; eight.states == 2_351);
     assert!(rt; eight.deepest == 8);
     assert!(rt; eight.covered == Covered::UpTo(8));
-    let ten = failures_explored(&rt, rt.alloc(), &up_to(10), [].as_slice());
+    let ten = failures_explored(&rt, rt.alloc(), &up_to(10), no_asks.as_slice());
     assert!(rt; ten.states == 7_960);
 }
 
 // A node that is down can only boot, and one that is up only crash: each step leads to one new state.
 #[test]
 fn one_node_has_one_way(rt: HostRuntime) {
+    let no_asks = Vec::new(rt.alloc());
     let found = explored(
         &rt,
         rt.alloc(),
@@ -114,7 +116,7 @@ fn one_node_has_one_way(rt: HostRuntime) {
         [].as_slice(),
         ONE_BOOTS.as_slice(),
         &up_to(3),
-        [].as_slice(),
+        no_asks.as_slice(),
     );
     assert!(rt; found.states == 4);
     assert!(rt; found.deepest == 3);
@@ -129,7 +131,8 @@ fn few_nodes_may_be_down(rt: HostRuntime) {
         steps: 5,
         states: 100,
     };
-    let found = failures_explored(&rt, rt.alloc(), &bounds, [].as_slice());
+    let no_asks = Vec::new(rt.alloc());
+    let found = failures_explored(&rt, rt.alloc(), &bounds, no_asks.as_slice());
     assert!(rt; found.states == 6);
     assert!(rt; found.deepest == 5);
 }
@@ -167,7 +170,8 @@ fn room_is_wanting(rt: HostRuntime) {
         steps: 8,
         states: 100,
     };
-    let found = failures_explored(&rt, rt.alloc(), &bounds, [].as_slice());
+    let no_asks = Vec::new(rt.alloc());
+    let found = failures_explored(&rt, rt.alloc(), &bounds, no_asks.as_slice());
     assert!(rt; found.states == 100);
     let whole = match found.covered {
         Covered::All => 9,
