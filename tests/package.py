@@ -1,7 +1,7 @@
 """The packages that ./build --dist makes: what is in them, and what they do where nothing of this repository and no kit is there.
 
 The Debian package is unpacked into a folder, and its commands are called with an empty environment but for a PATH: the folder's bin, and
-what every Debian has. A root of its own, made by debootstrap, would need a network and minutes.
+what every Debian has. Installed in a root of its own it is in own_root.py, which needs a network and minutes.
 """
 import gzip
 import hashlib
@@ -16,6 +16,7 @@ from support import LONGEST_RUN, TOP, difference, files_below, in_folder, read
 
 SYSTEM = "/usr/bin:/bin"
 DOCS = "usr/share/doc/rehearse"
+README = f"{DOCS}/README.md"
 MAN = "usr/share/man/man1"
 BASH = "usr/share/bash-completion/completions"
 TOOLS = ("gather", "plans", "survey", "spread", "page", "shell", "replay", "live", "report", "compare", "case")
@@ -24,7 +25,7 @@ SUBCOMMANDS = ("run", "check", "story", "verify", "sessions", "sweep")
 OWED = ["usr/bin/rehearse", "usr/bin/rehearse-tools", "usr/lib/rehearse/rehearse", "usr/lib/rehearse/shipped/rehearse-x86_64-linux",
         "usr/lib/rehearse/shipped/rehearse-x86_64-linux.txt", f"{BASH}/rehearse", f"{BASH}/rehearse-tools",
         "usr/share/zsh/vendor-completions/_rehearse", "usr/share/fish/vendor_completions.d/rehearse.fish",
-        "usr/share/fish/vendor_completions.d/rehearse-tools.fish", f"{DOCS}/README.md", f"{DOCS}/CHANGELOG.md", f"{DOCS}/changelog.gz",
+        "usr/share/fish/vendor_completions.d/rehearse-tools.fish", README, f"{DOCS}/CHANGELOG.md", f"{DOCS}/changelog.gz",
         f"{DOCS}/copyright", f"{DOCS}/docs/RULES.md", f"{DOCS}/examples/repaired-node.txt"]
 UNWANTED = re.compile(r"__pycache__|\.pyc$|/crates/|/tests/|\.git|\.antt$|\.rt$")
 # Words at a prompt of bash, and what completes them. What is completed last is the last word.
@@ -132,20 +133,42 @@ def owed_lines(text):
     return "".join(r"(?:[^\n]*\n)*?" if line == "..." else re.escape(line) + "\n" for line in text.splitlines())
 
 
+def shown_commands(text):
+    """The commands that README.md shows, each with what it prints."""
+    return [block.partition("\n")[::2] for block in re.findall(r"(?ms)^```console\n\$ (.*?)^```$", text)]
+
+
+def six_lines(text):
+    """The line of README.md that builds a release, and the six commands behind it; and what each of them prints."""
+    section = text.split("\n## From your own release to a picture\n")[1].split("\n## ")[0]
+    blocks = re.findall(r"(?ms)^```(sh|text)\n(.*?)^```$", section)
+    lines = [line for language, block in blocks if language == "sh" for line in block.splitlines()]
+    survey, live = [block.encode() for language, block in blocks if language == "text"]
+    return lines, [b"", b"", b"ok 3 nodes 3 applications\n", b"", survey, b"", live]
+
+
+def installed_line(line):
+    """A line of README.md, as whoever has installed the package types it."""
+    return line.replace("./rehearse", "rehearse").replace("companions/rehearse-tools", "rehearse-tools").replace("companions/", "rehearse-tools ")
+
+
+def is_shown(done, owed):
+    """Whether a finished run printed what README.md shows."""
+    return done.returncode == 0 and not done.stderr and re.fullmatch(owed_lines(owed), done.stdout.decode()) is not None
+
+
 @in_folder
 def first_commands(program, folder):
     """The first commands of README.md, as somebody calls them who has installed the package."""
     root = unpacked(folder)
     kit = call(root, "command -v rt")
     yield "no kit is there", None if kit.returncode != 0 else f"{kit.stdout}"
-    text = read(os.path.join(root, DOCS, "README.md")).decode()
-    shown = [block.partition("\n") for block in re.findall(r"(?ms)^```console\n\$ (.*?)^```$", text)]
+    shown = shown_commands(read(os.path.join(root, README)).decode())
     yield "README.md shows commands", None if shown else "there are none"
-    for command, _, owed in shown:
-        line = command.replace("./rehearse", "rehearse").replace("companions/", "rehearse-tools ")
+    for command, owed in shown:
+        line = installed_line(command)
         done = call(root, line)
-        is_right = done.returncode == 0 and not done.stderr and re.fullmatch(owed_lines(owed), done.stdout.decode())
-        yield line, None if is_right else f"{done}"
+        yield line, None if is_shown(done, owed) else f"{done}"
     for line, begin in (("rehearse --help", "Rehearses maintenance"), ("rehearse help sweep", "Reads a cluster file, a base and plans"),
                         ("rehearse help boot", "boot N: starts node N\n"), ("rehearse help S1", "refused S1 unknown_node\n"),
                         ("rehearse --version", f"rehearse {version()} (commit ")):
@@ -172,20 +195,16 @@ def first_commands(program, folder):
 def six_commands(program, folder):
     """The six commands of README.md, on the release that examples/shop has, with the package alone."""
     root = unpacked(folder)
-    section = read(os.path.join(root, DOCS, "README.md")).decode().split("\n## From your own release to a picture\n")[1].split("\n## ")[0]
-    blocks = re.findall(r"(?ms)^```(sh|text)\n(.*?)^```$", section)
-    lines = [line for language, block in blocks if language == "sh" for line in block.splitlines()]
-    owed = [text.encode() for language, text in blocks if language == "text"]
+    lines, owed = six_lines(read(os.path.join(root, README)).decode())
     place = os.path.join(folder, "work")
     os.mkdir(place)
     os.symlink(os.path.join(root, DOCS, "examples"), os.path.join(place, "examples"))
     told = []
     for line in lines:
-        done = call(root, line.replace("./rehearse", "rehearse").replace("companions/", "rehearse-tools "), place)
+        done = call(root, installed_line(line), place)
         told.append(done.stdout)
         yield line, None if done.returncode == 0 and not done.stderr else f"{done}"
-    want = [b"", b"", b"ok 3 nodes 3 applications\n", b"", owed[0], b"", owed[1]]
-    yield "what they print", None if told == want else difference(b"".join(want), b"".join(told))
+    yield "what they print", None if told == owed else difference(b"".join(owed), b"".join(told))
 
 
 @in_folder
