@@ -110,6 +110,8 @@ def main(words: Sequence[str]) -> None:
     if given.count:
         write_out(f"{number}\n")
         return
+    if not report.apps:
+        tell("plans", "warning: no application is distributed, so none fails over: is a name in the file misspelt?")
     after = longest_wait(program, parts.cluster, base, nodes, source) if given.after is None else given.after
     drained = drained_in(report) if given.drain else None
     made = text_of_plans(rolling_plans(chosen, number, after, drained) if given.rolling else crash_plans(chosen, crashes, after))

@@ -211,6 +211,16 @@ def faults(program):
         yield f"refused: {told}", None if is_right else f"{done}"
 
 
+def none_distributed(program):
+    """Where no application is distributed the plans are written all the same, with a word of it."""
+    owed = b"plans: warning: no application is distributed, so none fails over: is a name in the file misspelt?\n"
+    right = "{node, a@x, [{kernel, [{distributed, [{web, [a@x]}]}]}]}.\n{application, web, []}.\n"
+    for text, told in (right.replace("distributed", "distribted"), owed), (right, b""):
+        done = plans(program, ["--plans-only"], text)
+        is_right = done.returncode == 0 and done.stdout == b"plan a@x\ncrash a@x\n" and done.stderr == told
+        yield f"a warning: {told}", None if is_right else f"{done}"
+
+
 def program_found(program):
     """The program is found by the environment, and beside the folder of the companions."""
     words, text = ["--count"], three_nodes().encode()
@@ -230,4 +240,4 @@ def help_text(program):
     yield "--help", fault_of(done, 0, None) or (None if b"--rolling" in done.stdout else f"{done}")
 
 
-TESTS = (whole_texts, drained, chosen, times, swept, faults, program_found, help_text)
+TESTS = (whole_texts, drained, chosen, times, swept, faults, none_distributed, program_found, help_text)
