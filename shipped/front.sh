@@ -59,7 +59,7 @@ stand_in_front() {
   if ((${#files[@]} > 0)); then
     read_files
     shut=${shut/<}
-    run < <(exec cat -- "${parts[@]}")
+    run < <(exec cat -- "${parts[@]}" 2> /dev/null)
   else
     [ ! -t 0 ] || say "reads standard input, which Ctrl-D on a line of its own ends; \`rehearse $1 FILE..\` reads files"
     run

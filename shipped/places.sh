@@ -5,9 +5,12 @@
 tell_place() {
   local part= line= text=
   case $status in
-    2) tell_cluster ;;
+    2)
+      . "$top/shipped/faults.sh"
+      tell_cluster
+      ;;
     3) tell_line ;;
-    9) [[ $words != verify ]] || tell_expectations ;;
+    9) if [ "$words" = verify ]; then tell_expectations; else tell_refused; fi ;;
   esac
 }
 
@@ -44,39 +47,6 @@ mark() {
   cat -- "${parts[@]}" | grep -anxm 1 $'===\r\\?' | head -n 1 | cut -d : -f 1
 }
 
-# Tells the fault of a cluster file, with its line where the program tells one, and what causes it by the page of answers.
-tell_cluster() {
-  local fault code name cause= remedy
-  fault=$(cat -- "${parts[@]}" | "$program" check 2> /dev/null | head -n 1)
-  fault=${fault#cluster refused }
-  [ "$fault" != 'C1 T3 not_utf8' ] || fault+=$(other_bytes)
-  [[ $fault =~ ^(C[0-9]+( T[0-9]+)?)\  ]] && code=${BASH_REMATCH[1]} && find_answer "$code" && shorten_cause "${code#C1 }"
-  if [[ ! $fault =~ ^(.*)\ line\ ([0-9]+)(.*)$ ]]; then
-    printf '%s: refused: %s%s\n' "$(name_of 0)" "$fault" "${cause:+ ($cause)}" >&2
-    return
-  fi
-  fault=${BASH_REMATCH[1]}${BASH_REMATCH[3]}
-  find_place "${BASH_REMATCH[2]}"
-  cause=${cause// K / $line }
-  [[ $line != 1 || $text != $'\xef\xbb\xbf'* ]] || cause="the file begins with a byte order mark"
-  if ((BASH_REMATCH[2] >= $(mark))); then text='the cluster file ends here, and'; else text="\"$text\""; fi
-  printf '%s:%s: %s is refused: %s%s\n' "$(name_of "$part")" "$line" "$text" "$fault" "${cause:+ ($cause)}" >&2
-}
-
-# The first line that isn't UTF-8, as the program tells lines; nothing where this machine can't tell it.
-other_bytes() {
-  local found
-  found=$(cat -- "${parts[@]}" | LC_ALL=C.UTF-8 grep -naxvm 1 '.*' 2> /dev/null | head -n 1)
-  [[ $found != [1-9]*:* ]] || echo " line ${found%%:*}"
-}
-
-# Cuts what causes a fault where it is long, and says what tells all of it.
-shorten_cause() {
-  ((${#cause} > 160)) || return 0
-  cause=${cause:0:160}
-  cause="${cause%; *}; ..: rehearse help $1"
-}
-
 # Tells the line that is no command, and what would be one. The program is asked once more for its number, by the subcommand that
 # tells it last and alone.
 tell_line() {
@@ -95,6 +65,21 @@ tell_expectations() {
     find_place "${number%:}"
     printf '%s:%s: "%s" differs from what is expected\n' "$(name_of "$part")" "$line" "$text" >&2
   done < <(cat -- "${parts[@]}" | "$program" "${words[@]}" 2> /dev/null | grep -aE -m 10 '^line [0-9]+: ')
+}
+
+# Tells the first steps that were refused, which lines of JSON have with the numbers of their lines.
+tell_refused() {
+  local option options=() number answer name cause remedy
+  for option in "${words[@]}"; do
+    [[ $option == @(--strict|--echo) ]] || options+=("$option")
+  done
+  while read -r number answer; do
+    find_place $(($(mark) + number))
+    cause=
+    find_answer "${answer%% *}"
+    printf '%s:%s: "%s" is refused: %s%s\n' "$(name_of "$part")" "$line" "$text" "$answer" "${cause:+ ($cause)}" >&2
+  done < <(cat -- "${parts[@]}" | "$program" "${options[@]}" --json 2> /dev/null |
+    sed -nE 's/^\{"line":([0-9]+),.*"answer":"refused (S[0-9]+ [^"]*)".*$/\1 \2/p' | head -n 10)
 }
 
 # What stands in a line of a script for `run`, `sessions` or `sweep`, seen from what stands there now.

@@ -22,7 +22,6 @@ LIMIT = 16_777_216
 CLUSTER = b"{node, a@x, []}.\n{application, web, []}.\n"
 SCRIPT = b"boot a@x\nstart a@x web permanent\n"
 ANSWERS = b"ok\nup a@x\nok\nstarted web a@x normal\n"
-FIRST = b"boot, crash, tick, .."
 SUBCOMMANDS = ("run", "check", "story", "verify", "sessions", "sweep")
 FULL = b"rehearse: standard output can't be written: it may be full\n"
 LONG = b"rehearse: standard input is over 16 MiB (16777216 bytes)\n"
@@ -151,6 +150,10 @@ def refused_words(program, folder):
         done = call(folder, words)
         is_right = done.returncode == 1 and not done.stdout and text in done.stderr
         yield f"refused: {' '.join(words)}", None if is_right else f"{done}"
+    write(folder, "c.txt", CLUSTER)
+    done = call(folder, ["run", "--nonsense", "c.txt"])
+    is_right = done.returncode == 1 and done.stderr.startswith(b"error: ") and b"cat: " not in done.stderr
+    yield "refused words, and a file", None if is_right else f"{done}"
 
 
 @in_folder
@@ -233,101 +236,6 @@ def file_answers(program, folder):
             (["sessions", "c.txt", "s.txt"], 0, b"entry 1 boot a@x\nok\nup a@x\n" + final),
             (["sweep", "--workers", "2", "c.txt", "plans.txt"], 0, ANSWERS + b"plan p accepted 1 failovers 0 takeovers 0\n")):
         yield " ".join(words), wrong(call(folder, words), status, out, b"")
-
-
-# A line of a script for a subcommand, and what is told of it.
-BAD_LINES = [
-    ("run", b"reboot a@x", b'"reboot a@x" is no command (%s)' % FIRST), ("run", b"CRASH a@x", b'"CRASH a@x" is no command (crash N, as crash a@x)'),
-    ("run", b"tick 5s", b'"tick 5s" is no command (tick D, as tick 5000)'), ("run", b"show me", b'"show me" is no command (show)'),
-    ("run", b"boot\ta@x", b'"boot\\ta@x" is no command (words stand apart by spaces, not by tabs)'),
-    ("run", b" # x", b'" # x" is no command (the # of a comment is the first byte of its line)'),
-    ("run", b"boot a@x # now", b'"boot a@x # now" is no command (a comment has a line of its own, of which # is the first byte)'),
-    ("run", b"plan p", b'"plan p" is no command (plans are for sweep)'), ("run", b"===", b'"===" is no command (%s)' % FIRST),
-    ("run", b"boot\r", b'"boot" is no command (boot N, as boot a@x)'),
-    ("run", b"x\0y\x1b[1m", b'"x?y?[1m" is no command (%s)' % FIRST), ("run", b"x" * 40, b'"%s" is no command (%s)' % (b"x" * 40, FIRST)),
-    ("run", b"x" * 41, b'"%s.." is no command (%s)' % (b"x" * 40, FIRST)),
-    ("run", b"x" * 38 + "ä".encode(), b'"%s" is no command (%s)' % (b"x" * 38 + "ä".encode(), FIRST)),
-    ("run", b"x" * 39 + "ä".encode(), b'"%s.." is no command (%s)' % (b"x" * 39, FIRST)),
-    ("run", b"x" * 38 + "ää".encode(), b'"%s.." is no command (%s)' % (b"x" * 38 + "ä".encode(), FIRST)),
-    ("sessions", b"boot a@x", b'"boot a@x" is no command (the number of a session, 1 to 8, stands before each command: 1 boot a@x)'),
-    ("sessions", b"1 boot", b'"1 boot" is no command (boot N, as boot a@x)'),
-    ("sweep", b"plan a b", b'"plan a b" is no command (plan NAME)'),
-    ("sweep", b"plan p\nundo", b'"undo" is no command (a plan has events alone: %s)' % FIRST),
-    ("sweep", b"plan p\nstart a@x web perm", b'"start a@x web perm" is no command (start N A T, as start a@x web permanent)')]
-
-
-@in_folder
-def bad_lines(program, folder):
-    """A line that is no command is told by its file, its number there and its text, with what one would be."""
-    install(folder, program)
-    write(folder, "c.txt", CLUSTER)
-    write(folder, "p.txt", b"# plan\n\n" + SCRIPT)
-    write(folder, "q.txt", b"# One.\n")
-    for word, text, owed in BAD_LINES:
-        write(folder, "b d.txt", b"\n" + text + b"\nboot a@x\n")
-        done = call(folder, [word, "c.txt", "q.txt", "b d.txt"])
-        line = 2 + text.count(b"\n")
-        yield f"{word}: {text[:20]!r}", wrong(done, 3, b"bad line %d\n" % (line + 1), b"b d.txt:%d: %s\n" % (line, owed))
-    # The first file has a script of its own, and the whole input is as long as its lines.
-    write(folder, "w.txt", b"% Cluster.\n" + CLUSTER + b"===\r\nboot a@x\nwat")
-    told_of = b'w.txt:6: "wat" is no command (%s)\n' % FIRST
-    yield "in the script of the first file", wrong(call(folder, ["run", "w.txt", "p.txt"]), 3, b"ok\nup a@x\nbad line 2\n", told_of)
-    done = call(folder, ["run", "c.txt", "p.txt", "-"], input=b"undo\ngo")
-    yield "in standard input", wrong(done, 3, ANSWERS + b"ok\nbad line 6\n", b'standard input:2: "go" is no command (%s)\n' % FIRST)
-    done = shell(folder, '"$R" run c.txt p.txt - <<< go 2>&-')
-    yield "where standard error is closed", wrong(done, 3, ANSWERS + b"bad line 5\n", b"")
-    done = call(folder, ["sessions", "c.txt", "-"], input=b"1 undo\n" * 65_536)
-    owed = b'standard input:65536: "1 undo" is no command (sessions make at most 65,535 commands)\n'
-    yield "a command too many", wrong(done, 3, b"bad line 65536\n", owed)
-    done = call(folder, ["run"], input=CLUSTER + b"===\ngo\n")
-    yield "over standard input nothing is told", wrong(done, 3, b"bad line 1\n", b"")
-
-
-@in_folder
-def bad_clusters(program, folder):
-    """A refused cluster file is told by its name, with the line where the program tells one, and what causes it."""
-    install(folder, program)
-    write(folder, "p.txt", SCRIPT)
-    syntax = (b"C1 T1 syntax (on line %d stands the first byte that can't go on: a missing dot, comma or bracket, a variable; "
-              b"..: rehearse help T1)\n")
-    for name, text, out, owed in (
-            ("a.txt", b"{node, a@x, []}.\n\n{node b@x, []}.\n", b"C1 T1 syntax line 3",
-             b'a.txt:3: "{node b@x, []}." is refused: ' + syntax % 3),
-            ("b.txt", b"{node, a@x, []}", b"C1 T1 syntax line 2", b"b.txt:2: the cluster file ends here, and is refused: " + syntax % 2),
-            ("c.txt", b"{node, a@x, []}.\n=== \n", b"C1 T1 syntax line 2", b'c.txt:2: "=== " is refused: ' + syntax % 2),
-            ("d.txt", b"{node, a@x, [{a, 1.5}]}.\n", b"C1 T2 unsupported line 1",
-             b'd.txt:1: "{node, a@x, [{a, 1.5}]}." is refused: C1 T2 unsupported (a construct that Erlang reads and this project doesn\'t; '
-             b"or a # of a script without a line === before it)\n"),
-            ("e.txt", b"", b"C2 no_nodes", b"e.txt: refused: C2 no_nodes (no {node, ..} term)\n"),
-            ("f.txt", b"{node, a@x, [{rehearse, [{boot, [{web, permanent}]}]}]}.\n", b"C5 unknown_name",
-             b"f.txt: refused: C5 unknown_name (a value names a node, an application or a dependency that the file hasn't)\n"),
-            ("g.txt", b"{node, a@x, [{kernel, [{sync_nodes_timeout, -1}]}]}.\n", b"C10 bad_value",
-             b"g.txt: refused: C10 bad_value (a term of another shape than {node, ..} or {application, ..}; a {profile, N} that isn't "
-             b"the first term, or whose N isn't 1 or 2; ..: rehearse help C10)\n"),
-            ("h.txt", b"\xef\xbb\xbf{node, a@x, []}.\n", b"C1 T2 unsupported line 1",
-             b'h.txt:1: "\xef\xbb\xbf{node, a@x, []}." is refused: C1 T2 unsupported (the file begins with a byte order mark)\n'),
-            ("i.txt", b"{node, a@x, []}.\n% gr\xfcn\n", b"C1 T3 not_utf8",
-             b'i.txt:2: "% gr\xfcn" is refused: C1 T3 not_utf8 (some byte isn\'t UTF-8, in a comment perhaps)\n')):
-        write(folder, name, text)
-        for words in (["check", name], ["run", name, "p.txt"], ["sweep", "--pick", "last", name, "p.txt"]):
-            yield " ".join(words), wrong(call(folder, words), 2, b"cluster refused " + out + b"\n", owed)
-        if name != "c.txt":
-            done = call(folder, ["check"], input=text + b"\n===\n" * (name == "b.txt"))
-            yield f"{name} over standard input", wrong(done, 2, b"cluster refused " + out + b"\n", b"")
-
-
-@in_folder
-def expectations(program, folder):
-    """Where an expectation of `verify` doesn't hold, its place in the file is told; the whole input has the lines of all files."""
-    install(folder, script=b"cat > /dev/null; echo 'line 5: crash a@x'; echo '  wanted ok'; echo 'line 7: undo'; echo 'differs 2 of 2'; exit 9\n")
-    write(folder, "c.txt", CLUSTER)
-    write(folder, "p.txt", b"boot a@x\n  crash a@x\n")
-    write(folder, "q.txt", b"\nundo\n")
-    out = b"line 5: crash a@x\n  wanted ok\nline 7: undo\ndiffers 2 of 2\n"
-    err = b'p.txt:2: "  crash a@x" differs from what is expected\nq.txt:2: "undo" differs from what is expected\n'
-    yield "verify", wrong(call(folder, ["verify", "c.txt", "p.txt", "q.txt"]), 9, out, err)
-    yield "run --strict", wrong(call(folder, ["run", "--strict", "c.txt", "p.txt"]), 9, out, b"")
-    yield "verify over standard input", wrong(call(folder, ["verify"], input=CLUSTER), 9, out, b"")
 
 
 @in_folder
@@ -497,5 +405,5 @@ def front_cost(program, folder):
         yield f"what `{' '.join(words)}` costs", None if min(spent) < most else f"{min(spent):.3f} s of processor time, more than {most} s"
 
 
-TESTS = (helps, refused_words, options, known_words, joined_files, file_answers, bad_lines, bad_clusters, expectations, devices,
-         statuses, unchanged_rows, terminal, signals, front_cost)
+TESTS = (helps, refused_words, options, known_words, joined_files, file_answers, devices, statuses, unchanged_rows, terminal, signals,
+         front_cost)

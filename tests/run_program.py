@@ -3,13 +3,15 @@
 
 The worked rows are the files GROUP/NAME.row in tests/rows (row_files.py says what stands in one). Each example of the
 repository, examples/NAME.txt, has its row tests/examples/NAME.row, without an input: that is the example. A file in these
-folders that is no such row is a failed test. Then come inputs that are too large for a file, which are made here, devices
-that fail, and memory (refused_memory.py), more devices (hostile.py) and each of their calls (failing_calls.py), cut inputs
-(prefixes.py), sweeps (sweeps.py), texts that are no terms (term_faults.py), cluster files at the limits (cluster_limits.py),
-both profiles (profiles.py), random scripts beside a model (random_scripts.py), what is told as JSON (json_lines.py), stories of the
-examples (stories.py), rows by pytest (pytest_items.py), the scripts that run, build and ship the program (shipped.py), what ./rehearse
-does in front of it (front.py), the packages of it (package.py), one of them installed (own_root.py), and the documents (check_docs.py). Calls that the programs `rh_growths` and `rh_part_growths` beside PROGRAM make have their growths of memory counted
-and refused, and have to leave all as it was (growths.py). All of it runs side by side on all processors (groups.py).
+folders that is no such row is a failed test. Then come inputs that are too large for a file, which are made here, devices that
+fail, and memory (refused_memory.py), more devices (hostile.py) and each of their calls (failing_calls.py), cut inputs
+(prefixes.py), sweeps (sweeps.py), texts that are no terms (term_faults.py), cluster files at the limits (cluster_limits.py), both
+profiles (profiles.py), random scripts beside a model (random_scripts.py), what is told as JSON (json_lines.py), stories of the
+examples (stories.py), rows by pytest (pytest_items.py), the scripts that run, build and ship the program (shipped.py), what
+./rehearse does in front of it (front.py) and tells of refused files (places.py), the packages of it (package.py), one of them
+installed (own_root.py), and the documents (check_docs.py). Calls that the programs `rh_growths` and `rh_part_growths` beside
+PROGRAM make have their growths of memory counted and refused, and have to leave all as it was (growths.py). All of it runs side by
+side on all processors (groups.py).
 The last line is 'N passed, M failed'. Where paths of rows are given, these alone are run.
 """
 import os
@@ -30,6 +32,7 @@ import json_lines  # noqa: E402
 import made_pages  # noqa: E402
 import own_root  # noqa: E402
 import package  # noqa: E402
+import places  # noqa: E402
 import prefixes  # noqa: E402
 import profiles  # noqa: E402
 import pytest_items  # noqa: E402
@@ -254,10 +257,10 @@ WORKED = Group(rows, row_folders())
 MADE = (term_faults, large_inputs, long_chains, *sweeps.TESTS)
 # The worked rows, the examples, what fails (devices, memory, threads), what docs/make makes of the documents, and ./rehearse.
 QUICK = (*made_pages.TESTS, *refused_memory.TESTS, *failing_calls.TESTS, *hostile.TESTS, WORKED, strays, examples, failing_devices,
-         Group(no_threads, needs=("cc",)), *shipped.TESTS, *front.TESTS, *stories.TESTS, *pytest_items.TESTS)
+         Group(no_threads, needs=("cc",)), *shipped.TESTS, *front.TESTS, *places.TESTS, *stories.TESTS, *pytest_items.TESTS)
 # Those that take longest begin first.
-ALL = (*prefixes.TESTS, *growths.TESTS, *random_scripts.TESTS, *json_lines.TESTS, *check_docs.TESTS, *package.TESTS, *own_root.TESTS, *QUICK, *MADE,
-       *map(profiles.under_profile_1, MADE), *profiles.TESTS, cluster_limits, command_lines, full_inputs, several_sessions)
+ALL = (*prefixes.TESTS, *growths.TESTS, *random_scripts.TESTS, *json_lines.TESTS, *check_docs.TESTS, *package.TESTS, *own_root.TESTS,
+       *QUICK, *MADE, *map(profiles.under_profile_1, MADE), *profiles.TESTS, cluster_limits, command_lines, full_inputs, several_sessions)
 
 
 def main():
