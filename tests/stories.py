@@ -2,14 +2,15 @@
 
 Of each example that `run` answers to its end: `verify` finds nothing to differ in it with the row's answers, `story`
 prints just these, a story of a whole story is itself, and `verify` finds nothing to differ in a story. With one line of an answer left
-out, changed or put behind another command `verify` tells it. Those of examples/stories are kept as whole stories.
+out, changed or put behind another command `verify` tells it. examples/stories keeps the whole story of each: its answers are those of
+the row, and its times, reasons and courses were read through beside the rules.
 """
 import glob
 import os
 from collections.abc import Iterator
 
 from row_files import EXAMPLES, EXAMPLE_ROWS, RowFault, row_at
-from support import TOP, fault_of, read, run
+from support import fault_of, read, run
 
 STORIES = os.path.join(EXAMPLES, "stories")
 ANSWER, OTHERS = b"#= ", (b"#@ ", b"#- ", b"#| ")
@@ -100,12 +101,19 @@ def stories_of_examples(program: str) -> Iterator[Test]:
 
 
 def kept_stories(program: str) -> Iterator[Test]:
-    """The whole stories that are kept hold, and are what `story` prints."""
-    for path in sorted(glob.glob(os.path.join(STORIES, "*.txt"))):
-        name, text = os.path.relpath(path, TOP), read(path)
-        done = run(program, ["verify"], input=text)
-        yield f"{name} holds", None if done.returncode == 0 and done.stdout.startswith(b"ok ") else f"{done.stdout[-300:]!r}"
-        yield f"{name} is a story", fault_of(run(program, ["story", "--whole"], input=text), 0, text)
+    """A whole story is kept of each example and of nothing else. It has the answers of the row, it holds, and it is what `story`
+    prints of the example and of itself."""
+    kept = {os.path.basename(path)[:-len(".txt")]: read(path) for path in glob.glob(os.path.join(STORIES, "*.txt"))}
+    found = examples()
+    other = sorted(set(kept) ^ {name for name, _, _ in found})
+    yield "each example is kept as a story", f"kept or an example alone: {', '.join(other)}" if other or not kept else None
+    for name, text, output in found:
+        story, answers = kept.get(name, b""), answers_in(output)
+        has_answers = without_others(story) == woven(text, answers)
+        yield f"the story of {name} has the answers of its row", None if has_answers else f"{story[-300:]!r}"
+        yield f"the story of {name} holds", fault_of(run(program, ["verify"], input=story), 0, verified(len(answers)))
+        yield f"the story of {name} is told", fault_of(run(program, ["story", "--whole"], input=text), 0, story)
+        yield f"the story of {name} is told of itself", fault_of(run(program, ["story", "--whole"], input=story), 0, story)
 
 
 TESTS = (stories_of_examples, kept_stories)
