@@ -84,15 +84,28 @@ find_slip() {
   [ -z "$slip" ] || cause="$slip; else: rehearse help T1"
 }
 
-# What the program tells of the first file with something more behind a line, and where a third word is given, with what it
-# names skipped in the term.
+# What the program tells of the first file with something more after a line; the lines of the term are changed before, if a third
+# word says how.
 fault_with() {
-  local renamed=
-  [ -z "${3-}" ] || renamed="$((first + 1)),${last}s/\\{[[:space:]]*$3[[:space:]]*,/{skipped_$3,/g"
-  sed -E -e "$renamed" "${parts[0]}" | sed -e "$1r /dev/fd/3" 3<<< "$2" | first_fault
+  sed -E -e "${3:+$((first + 1)),$last$3}" "${parts[0]}" | sed -e "$1r /dev/fd/3" 3<<< "$2" | first_fault
 }
 
-# Finds the term at fault: it is behind the line `first`, and ends on the line `last`. Fails where none is found.
+# How a parameter, key or section is called otherwise, so that it is skipped.
+skipping() {
+  echo "s/$(head_of "$1")/{skipped_$1,/g"
+}
+
+# How the section `rehearse` is ended before a parameter, which stays there empty; the rest goes into a section that is skipped.
+ending_at() {
+  echo "s/$(head_of "$1")/{$1, []}]}, {skipped_rehearse, [{$1,/"
+}
+
+# The pattern of what a parameter, key or section begins with.
+head_of() {
+  echo "\\{[[:space:]]*$1[[:space:]]*,"
+}
+
+# Finds the term at fault: it comes after the line `first`, and ends on the line `last`. Fails where none is found.
 find_term() {
   local pair list=() middle told line
   first=0 last=$(($(mark) - 1)) probe= own=
@@ -119,13 +132,13 @@ find_term() {
 
 # Tells the term at fault: the line of the parameter or key that is, with the name that isn't known, or else its first line.
 tell_term() {
-  local key= unknown= at
+  local key= place= unknown= at
   at=$(lines_of $'^[ \t]*[^% \t\r]' | head -n 1)
   if [[ $probe == '{application'* ]] && find_key; then
-    at=$(lines_of "\\{[[:space:]]*$key[[:space:]]*," | head -n 2 | if [[ $fault == C7* ]]; then tail -n 1; else head -n 1; fi)
+    at=$(lines_of "$(head_of "$key")" | head -n 2 | if [[ $fault == C7* ]]; then tail -n 1; else head -n 1; fi)
     case $fault in
-      C5*) cause="in $key${cause:+: $cause}" ;;
-      *) cause="in $key: rehearse help $code" ;;
+      C5*) cause="$place${cause:+: $cause}" ;;
+      *) cause="$place: rehearse help $code" ;;
     esac
   fi
   [[ $fault != C5* ]] || find_unknown "${at:-1}"
@@ -138,12 +151,12 @@ tell_term() {
 # in all nodes, it is that one.
 tell_mismatch() {
   local key=sync_nodes_timeout at first=0 last=$(($(mark) - 1)) next
-  [ "$(fault_with "$last" "" "$key")" != "$fault" ] || key=distributed
+  [ "$(fault_with "$last" "" "$(skipping "$key")")" != "$fault" ] || key=distributed
   at=$(lines_of "\\{[[:space:]]*node[[:space:]]*,[[:space:]]*'?${1//./\\.}'?[[:space:]]*," | head -n 1)
   first=$((${at:-1} - 1))
   next=$(lines_of $'^[ \t]*\\{[ \t]*(node|application)[ \t]*,' | sed -n 2p)
   [ -z "$next" ] || ((next - 1 < first + 1)) || last=$((next - 1))
-  at=$(lines_of "\\{[[:space:]]*$key[[:space:]]*," | head -n 1)
+  at=$(lines_of "$(head_of "$key")" | head -n 1)
   cause="$key isn't that of the first node that takes part"
   [ -n "$at" ] || cause="it has no $key, and the first node that takes part has"
   find_place "${at:-$((first + 1))}"
@@ -155,14 +168,23 @@ lines_of() {
   sed -n "$((first + 1)),${last}p" "${parts[0]}" | grep -anE "$1" | cut -d : -f 1 | while read -r line; do echo $((first + line)); done
 }
 
-# Finds what is at fault in the term: where it is skipped the term has no fault, and that of the probe behind it is told.
+# Finds what is at fault in the term, in `key`, and where that is, in `place`: where it is skipped the term has no fault, and that of
+# the probe after it is told. In the section `rehearse` nothing can be skipped: there the fault isn't before the last parameter at
+# which the section can end.
 find_key() {
+  local name names=()
   for key in "${read_keys[@]}"; do
-    [ -n "$(lines_of "\\{[[:space:]]*$key[[:space:]]*,")" ] || continue
-    [ "$(fault_with "$last" "$probe" "$key")" != "$own" ] || return 0
+    [ -n "$(lines_of "$(head_of "$key")")" ] || continue
+    [ "$(fault_with "$last" "$probe" "$(skipping "$key")")" != "$own" ] || break
+    key=
   done
-  key=
-  return 1
+  [ -n "$key" ] || return
+  place="in $key"
+  [ "$key" = rehearse ] || return 0
+  mapfile -t names < <(sed -n "$((first + 1)),${last}p" "${parts[0]}" | grep -aoE "$(head_of '(boot|platform)')" | tr -cd 'a-z\n')
+  for name in "${names[@]}"; do
+    [ "$(fault_with "$last" "$probe" "$(ending_at "$name")")" != "$own" ] || { key=$name && place="in $name or after it"; }
+  done
 }
 
 # Finds the name that isn't known, from this line on: where a term of that name is there too, the term has no fault.

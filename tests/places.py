@@ -3,6 +3,8 @@
 The program tells a code, and a line where the text can't be read; the rest is found by asking it again (shipped/places.sh and
 shipped/faults.sh). What is owed is written by hand from docs/SCRIPTS.md and docs/CLUSTER_FILES.md.
 """
+import re
+
 from front import ANSWERS, CLUSTER, SCRIPT, call, install, shell, write, wrong
 from support import in_folder
 
@@ -75,7 +77,7 @@ def bad_clusters(program, folder):
              b"or a # of a script without a line === before it)\n"),
             ("e.txt", b"", b"C2 no_nodes", b"e.txt: refused: C2 no_nodes (the file is empty)\n"),
             ("f.txt", b"{node, a@x, [{rehearse, [{boot, [{web, permanent}]}]}]}.\n", b"C5 unknown_name",
-             b'f.txt:1: "{node, a@x, [{rehearse, [{boot, [{web, p.." is refused: C5 unknown_name web (in rehearse: ' + UNKNOWN),
+             b'f.txt:1: "{node, a@x, [{rehearse, [{boot, [{web, p.." is refused: C5 unknown_name web (in boot or after it: ' + UNKNOWN),
             ("g.txt", b"{node, a@x, [{kernel, [{sync_nodes_timeout, -1}]}]}.\n", b"C10 bad_value",
              b'g.txt:1: "{node, a@x, [{kernel, [{sync_nodes_timeo.." is refused: C10 bad_value (in sync_nodes_timeout: rehearse help C10)\n'),
             ("h.txt", b"\xef\xbb\xbf{node, a@x, []}.\n", b"C1 T2 unsupported line 1",
@@ -112,20 +114,28 @@ WRONG_LINES = [
     (5, b"    {distributed, [{web, 50, ['a-1@x.org', c@x]}]},", 5, b"C5 unknown_name c@x (in distributed: " + UNKNOWN),
     (10, b"  {kernel, [{distributed, [{wob, 50, ['a-1@x.org', b@x]}]},", 10, b"C5 unknown_name wob (in distributed: " + UNKNOWN),
     (6, b"    {sync_nodes_optional, ['b-1@x']},", 6, b"C5 unknown_name 'b-1@x' (in sync_nodes_optional: " + UNKNOWN),
-    (8, b"  {rehearse, [{boot, [{wob, permanent}]}]}]}.", 8, b"C5 unknown_name wob (in rehearse: " + UNKNOWN),
+    (8, b"  {rehearse, [{boot, [{wob, permanent}]}]}]}.", 8, b"C5 unknown_name wob (in boot or after it: " + UNKNOWN),
     (12, b"{application, web, [{applications, [kernel, ssl]},", 12, b"C5 unknown_name ssl (in applications: " + UNKNOWN),
     # Two of them in one value: neither is told.
     (12, b"{application, web, [{applications, [sasl, ssl]},", 12, b"C5 unknown_name (in applications: " + UNKNOWN),
     # Values, and terms of another shape.
     (7, b'    {sync_nodes_timeout, "10"}]},', 7, b"C10 bad_value (in sync_nodes_timeout: rehearse help C10)\n"),
     (11, b"    {sync_nodes_timeout, infinty}]}]}.", 11, b"C10 bad_value (in sync_nodes_timeout: rehearse help C10)\n"),
-    (8, b"  {rehearse, [{boot, [{web, permament}]}]}]}.", 8, b"C10 bad_value (in rehearse: rehearse help C10)\n"),
+    (8, b"  {rehearse, [{boot, [{web, permament}]}]}]}.", 8, b"C10 bad_value (in boot or after it: rehearse help C10)\n"),
+    (8, b"  {rehearse, [\n    {platform, [sasl]},\n    {boot, [{web, permament}]}]}]}.", 10,
+     b"C10 bad_value (in boot or after it: rehearse help C10)\n"),
+    (8, b"  {rehearse, [\n    {boot, [{web, permament}]},\n    {platform, [sasl]}]}]}.", 9,
+     b"C10 bad_value (in boot or after it: rehearse help C10)\n"),
+    (8, b"  {rehearse, [{boot, [{web, permanent}]}, {platform, [1]}]}]}.", 8,
+     b"C10 bad_value (in platform or after it: rehearse help C10)\n"),
+    (8, b"  {rehearse, [{boot, [{web, permanent}]},\n    {platfrom, [sasl]}]}]}.", 8,
+     b"C10 bad_value (in boot or after it: rehearse help C10)\n"),
     (13, b"  {mod, web}]}.", 13, b"C10 bad_value (in mod: rehearse help C10)\n"),
     (9, b"{profile, 2}. {node, b@x, [", 9, b"C10 bad_value (the profile is 1 or 2, and its term is the first one)\n"),
     (1, b"{profile, 3}.", 1, b"C10 bad_value (the profile is 1 or 2, and its term is the first one)\n"),
     # What stands twice.
-    (9, b"{node, 'a-1@x.org', [", 9, b"C4 duplicate_name (two nodes or two applications of one name; an application named kernel or stdlib; "
-     b"a platform name that an application has)\n"),
+    (9, b"{node, 'a-1@x.org', [", 9,
+     b"C4 duplicate_name (two nodes or two applications of one name; an application named kernel or stdlib; a platform name that an application has)\n"),
     (6, b"    {sync_nodes_optional, [b@x, b@x]},", 6, b"C6 duplicate_in_list (in sync_nodes_optional: rehearse help C6)\n"),
     (6, b"    {sync_nodes_timeout, 10},", 7, b"C7 duplicate_parameter (in sync_nodes_timeout: rehearse help C7)\n"),
     # Nodes that don't agree.
@@ -153,7 +163,8 @@ def wrong_lines(program, folder):
             yield f"{line[:50]!r} {end!r}", wrong(done, 2, None, b'wrong.txt:%d: "%s" is refused: ' % (place, shown) + owed)
     write(folder, "utf-16.txt", b"\xff\xfe" + b"\n".join(TERMS).decode().encode("utf-16-le"))
     told_of = call(folder, ["check", "utf-16.txt"]).stderr
-    is_right = told_of.endswith(b"C1 T3 not_utf8 (the file is in UTF-16: iconv -f UTF-16 -t UTF-8 makes it UTF-8)\n") and told_of.count(b"\n") == 1
+    is_right = re.fullmatch(rb"utf-16\.txt:1: [^\n]*C1 T3 not_utf8 \(the file is in UTF-16: iconv -f UTF-16 -t UTF-8 makes it UTF-8\)\n",
+                            told_of)
     yield "UTF-16", None if is_right else f"{told_of}"
     write(folder, "large.txt", b"% " + b"x" * 1_048_576 + b"\n" + b"\n".join(TERMS).replace(b"kernel]", b"ssl]") + b"\n")
     done = call(folder, ["check", "large.txt"])
