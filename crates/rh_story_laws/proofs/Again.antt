@@ -33,7 +33,7 @@ use Rattle.rh_story_laws.proofs.Telling.{blank_asks_nothing, left_out_nothing, s
 use Rattle.rh_story_laws.proofs.Marked.{Marked, AllMarked, marked_asks_nothing, call_marked, rows_marked, row_first}
 
 -- ---- what a text lacks behind whole lines
-lack_line : (x : List ℕ) → lack_behind [] (x ++ 10 ∷ []) ≡ []
+pub lack_line : (x : List ℕ) → lack_behind [] (x ++ 10 ∷ []) ≡ []
 lack_line x = by (length (x ++ 10 ∷ []) == 0)
   where
     missing : missing_end (x ++ 10 ∷ []) ≡ []
@@ -99,7 +99,7 @@ unfolding is_left_out
 blank_left_out rest h = (λ i. (length (content_is [] i) == 0) && h i)
 
 -- ---- one line, by what it asks
-abbrev by_asked : SimView → ℕ → List ℕ → List (List ℕ) → Line → List ℕ
+abbrev pub by_asked : SimView → ℕ → List ℕ → List (List ℕ) → Line → List ℕ
 by_asked s k l rest asked =
     shown l rest (line_text s k l asked)
     ++ cond (is_bad asked) (concat rest) (lines_text (behind_line s asked) (k + 1) (lack_behind [] (shown l rest (line_text s k l asked))) rest)
@@ -155,7 +155,7 @@ kept_stands s x text u asks other behind =
     }
 
 -- the table of a simulation, by whether it has no course
-abbrev table_if : SimView → List ℕ → Bool → List ℕ
+abbrev pub table_if : SimView → List ℕ → Bool → List ℕ
 table_if s lack b = cond b [] (lack ++ codes "\n" ++ flat_map (course_line s.cluster) (courses_in s))
 
 module _ (c : ClusterView) (names : HasUnbroken c) (platforms : All IsUnbroken c.platform_names) where

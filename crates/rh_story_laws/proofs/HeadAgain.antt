@@ -18,11 +18,11 @@ use Rattle.rh_story_laws.proofs.Whole.{none_bad}
 use Rattle.rh_story_laws.proofs.Again.{lack_ended, lines_again}
 
 -- ---- the head of a story, and what is behind it
-record HeadStands (lines : List (List ℕ)) : Type 0 where
-  ended : Ended (head_text lines)
-  behind : (text : List ℕ) → lines_behind (raw_lines (head_text lines ++ text)) ≡ raw_lines text
-  head : (text : List ℕ) → head_text (raw_lines (head_text lines ++ text)) ≡ head_text lines
-  before : (text : List ℕ) → concat (lines_before (raw_lines (head_text lines ++ text))) ≡ concat (lines_before lines)
+pub record HeadStands (lines : List (List ℕ)) : Type 0 where
+  pub ended : Ended (head_text lines)
+  pub behind : (text : List ℕ) → lines_behind (raw_lines (head_text lines ++ text)) ≡ raw_lines text
+  pub head : (text : List ℕ) → head_text (raw_lines (head_text lines ++ text)) ≡ head_text lines
+  pub before : (text : List ℕ) → concat (lines_before (raw_lines (head_text lines ++ text))) ≡ concat (lines_before lines)
 
 -- it ends here
 stands_here : (x : List ℕ) (rest : List (List ℕ)) → free x ≡ true → is_separator (x ++ 10 ∷ []) ≡ true → HeadStands ((x ++ 10 ∷ []) ∷ rest)
@@ -70,7 +70,7 @@ stands_later x rest u is later =
         ∙ ap raw_lines (append_assoc x (10 ∷ []) (head_text rest ++ text))
         ∙ first_line x (head_text rest ++ text) u
 
-head_stands : (lines : List (List ℕ)) → Rows lines → (lines_behind lines ≡ [] → ⊥) → HeadStands lines
+pub head_stands : (lines : List (List ℕ)) → Rows lines → (lines_behind lines ≡ [] → ⊥) → HeadStands lines
 head_stands _ none some = absurd (some refl)
 head_stands _ (last x u more_bytes) some = absurd (some (by (is_separator x)))
   where

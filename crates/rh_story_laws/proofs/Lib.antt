@@ -14,3 +14,7 @@ pub mod Lengths
 pub mod Marked
 pub mod Again
 pub mod HeadAgain
+pub mod Clean
+pub mod Said
+pub mod Finds
+pub mod Verified

@@ -97,7 +97,7 @@ pub blank_asks_nothing : (c : ClusterView) → line_of c [] ≡ Nothing
 unfolding line_of is_utf8 chars
 blank_asks_nothing c = refl
 
-left_out_blank : (l : List ℕ) (rest : List (List ℕ)) → is_left_out l rest ≡ true → content l ≡ []
+pub left_out_blank : (l : List ℕ) (rest : List (List ℕ)) → is_left_out l rest ≡ true → content l ≡ []
 unfolding is_left_out
 left_out_blank l rest is = no_bytes (content l) (by (length (content l) == 0) is)
   where

@@ -5,5 +5,5 @@ mod laws;
 
 pub use laws::{
     lengths_add_up_in_simulations, notices_of_a_tick_are_runs, story_answers_are_runs,
-    story_of_a_story_is_itself,
+    story_of_a_story_is_itself, whole_stories_hold,
 };
