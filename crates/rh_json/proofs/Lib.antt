@@ -2,3 +2,4 @@ pub mod Arrays
 pub mod Turns
 pub mod Lines
 pub mod Told
+pub mod Rows

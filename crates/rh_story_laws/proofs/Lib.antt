@@ -18,3 +18,5 @@ pub mod Clean
 pub mod Said
 pub mod Finds
 pub mod Verified
+pub mod RowsStory
+pub mod RowsVerify
