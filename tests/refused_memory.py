@@ -9,8 +9,9 @@ from support import TOP, fault_of, library_of, read, run
 
 RUNS = ("rows/bare-nodes/two-bare-nodes", "rows/sessions/one-session-all-calls", "examples/waiting-nodes",
         "examples/local-applications", "examples/failover-and-takeover", "examples/three-nodes",
-        "rows/sweep/plans-by-1-workers", "rows/sweep/plans-by-2-workers", "rows/story/firings", "rows/verify/report", "rows/json/report",
-        "rows/json/failover")
+        "rows/sweep/plans-by-1-workers", "rows/sweep/plans-by-2-workers", "rows/story/firings", "rows/story/reasons",
+        "rows/story/waits-for", "rows/verify/report", "rows/json/report", "rows/json/failover", "rows/json/names",
+        "rows/manner/echo-and-strict")
 
 # Refuses the allocation of the number in FAIL_ALLOCATION, counted from 1, and keeps in the file COUNT_FILE how many there
 # were: a program with threads ends without running what would be run at its end.
