@@ -1,0 +1,9 @@
+//! The program `lint`: what is wrong with an input, where, and what was meant.
+//!
+//! [`run_lint`] reads a cluster file and a script, and lists all that is found in them, a line for each finding.
+#![tactic(auto)]
+
+mod finding;
+mod linting;
+
+pub use linting::run_lint;

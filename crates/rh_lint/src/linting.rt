@@ -1,0 +1,68 @@
+//! The program `lint`.
+
+ghost use Rattle.std.specs.Prelude.{◌≡◌, IfOk, false};
+ghost use Rattle.std.specs.String.{string_bytes};
+ghost use Rattle.rh_app.specs.Programs.{ProgramGives, NoThreads};
+ghost use Rattle.rh_lint.specs.LintText.{lint_end, OwesLint};
+
+use crate::finding::found_in;
+use rh_app::{RunFault, Told, ended};
+use rh_base::OutOfMemory;
+use rh_devices::{Sink, Source, Watched, read_input, write_text};
+use rh_findings::{is_clean, put_in_order, report_text};
+use rh_step::Pick;
+use std::alloc::Global;
+
+/// Reads all of the input, a cluster file, a line `===` and a script, and then lists what is wrong with it, a line for each finding
+/// in the order of lines, and one that counts them.
+///
+/// The line of a finding is its number in the whole input. Of one line errors come before warnings, and these before hints. The input
+/// has at most 16,777,216 bytes. Neither device is flushed.
+///
+/// # Errors
+/// `Differs` is the end of the text that was written: there is an error or a warning, or, if it is asked to be strict, a hint. `Read`
+/// comes where the reader has failed or the input is too long: nothing was written. `Write` comes where the writer has failed: a front
+/// of the text was written. `OutOfMemory` comes where a growth was refused: nothing was written.
+pub fn run_lint<S: Source, K: Sink>(
+    alloc: Global,
+    reader: &mut Watched<S>,
+    writer: &mut Watched<K>,
+    pick: Pick,
+    strict: bool,
+) -> Result<(), RunFault>
+    requires reader { reader.old.failed ≡ false }
+    requires writer { writer.old.failed ≡ false }
+    ensures { ProgramGives S.gives S.fails K.takes K.fails (OwesLint pick strict) NoThreads result reader.old reader.new writer.old writer.new }
+{
+    let input = read_input(alloc, reader)?;
+    match linted(alloc, input.as_slice(), pick, strict) {
+        Err(_) => Err(RunFault::OutOfMemory),
+        Ok((text, told)) => {
+            write_text(writer, text.as_bytes())?;
+            ended(told)
+        }
+    }
+}
+
+// The text that lists what is wrong with an input, and the fault that it tells.
+fn linted(
+    alloc: Global,
+    input: &[u8],
+    pick: Pick,
+    strict: bool,
+) -> Result<(String, Option<Told>), OutOfMemory>
+    ensures { IfOk result (λ linted. OwesLint pick strict input.now (string_bytes linted.0) linted.1) }
+{
+    let mut found = found_in(alloc, input, pick)?;
+    let told = lint_end(is_clean(strict, found.as_slice()));
+    put_in_order(&mut found)?;
+    let text = report_text(alloc, found.as_slice())?;
+    Ok((text, told))
+}
+
+// The fault that the text tells.
+fn lint_end(clean: bool) -> Option<Told>
+    ensures { result ≡ lint_end clean }
+{
+    if clean { None } else { Some(Told::Differs) }
+}

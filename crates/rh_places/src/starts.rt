@@ -1,0 +1,59 @@
+//! Where terms begin.
+
+ghost use Rattle.std.specs.Prelude.{◌≡◌, ◌+◌, ◌<◌, ◌^◌, ◌++◌, length, IfOk, OnOk, if◌then◌else◌};
+ghost use Rattle.rh_places.specs.Scan.{line_behind};
+ghost use Rattle.rh_places.specs.Starts.{start_here, term_starts};
+
+use crate::scan::Standing;
+use rh_base::OutOfMemory;
+use std::alloc::Global;
+
+/// Where a term begins.
+#[derive(Clone, Copy, Debug, PartialEq, Eq)]
+pub struct Start {
+    /// The number of its line, counted from 1.
+    pub line: u64,
+    /// How many bytes stand before it.
+    pub at: usize,
+}
+
+// The number of the line on which the byte behind this one stands.
+pub fn line_behind(line: u64, byte: u8) -> u64
+    requires { line + 1 < 2 ^ 64 }
+    ensures { result ≡ line_behind line byte }
+{
+    if byte == b'\n' { line + 1 } else { line }
+}
+
+// Adds a start, if a term begins here.
+fn push_start(
+    starts: &mut Vec<Start>,
+    standing: Standing,
+    line: u64,
+    at: usize,
+    byte: u8,
+) -> Result<(), OutOfMemory>
+    ensures { OnOk result (starts.new.items ≡ starts.old.items ++ start_here standing line at byte) }
+{
+    if standing.begins_term(byte) {
+        starts.push(Start { line, at })?;
+    }
+    Ok(())
+}
+
+/// Where terms begin that stand inside no other: the first byte that is no blank and in no comment, at the start of the text or behind
+/// a dot that stands outside quotes and comments.
+pub fn term_starts(alloc: Global, text: &[u8]) -> Result<Vec<Start>, OutOfMemory>
+    ensures { IfOk result (λ starts. starts.items ≡ term_starts text.now) }
+{
+    let mut starts = Vec::new(alloc);
+    let mut standing = Standing::Between;
+    let mut line: u64 = 1;
+    for at in 0..text.len() {
+        let byte = text[at];
+        push_start(&mut starts, standing, line, at, byte)?;
+        standing = standing.behind(byte);
+        line = line_behind(line, byte);
+    }
+    Ok(starts)
+}
