@@ -7,7 +7,9 @@
 mod finding;
 mod order;
 mod report;
+mod sentences;
 
 pub use finding::{Finding, Kind};
 pub use order::put_in_order;
 pub use report::{is_clean, report_text};
+pub use sentences::{Names, Words, sentence};

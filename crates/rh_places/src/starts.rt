@@ -12,7 +12,7 @@ use std::alloc::Global;
 #[derive(Clone, Copy, Debug, PartialEq, Eq)]
 pub struct Start {
     /// The number of its line, counted from 1.
-    pub line: u64,
+    pub line: u32,
     /// How many bytes stand before it.
     pub at: usize,
 }
@@ -25,11 +25,19 @@ pub fn line_behind(line: u64, byte: u8) -> u64
     if byte == b'\n' { line + 1 } else { line }
 }
 
+// The same, where lines are counted in half the bits.
+fn next_line(line: u32, byte: u8) -> u32
+    requires { line + 1 < 2 ^ 32 }
+    ensures { result ≡ line_behind line byte }
+{
+    line_behind(line as u64, byte) as u32
+}
+
 // Adds a start, if a term begins here.
 fn push_start(
     starts: &mut Vec<Start>,
     standing: Standing,
-    line: u64,
+    line: u32,
     at: usize,
     byte: u8,
 ) -> Result<(), OutOfMemory>
@@ -44,16 +52,17 @@ fn push_start(
 /// Where terms begin that stand inside no other: the first byte that is no blank and in no comment, at the start of the text or behind
 /// a dot that stands outside quotes and comments.
 pub fn term_starts(alloc: Global, text: &[u8]) -> Result<Vec<Start>, OutOfMemory>
+    requires { length text.now + 1 < 2 ^ 32 }
     ensures { IfOk result (λ starts. starts.items ≡ term_starts text.now) }
 {
     let mut starts = Vec::new(alloc);
     let mut standing = Standing::Between;
-    let mut line: u64 = 1;
+    let mut line: u32 = 1;
     for at in 0..text.len() {
         let byte = text[at];
         push_start(&mut starts, standing, line, at, byte)?;
         standing = standing.behind(byte);
-        line = line_behind(line, byte);
+        line = next_line(line, byte);
     }
     Ok(starts)
 }

@@ -22,11 +22,10 @@ fn stands_here(word: &[u8], bytes: &[u8]) -> bool
 
 /// The first line on which the word stands as a word: no letter, digit, `_` or `@` stands before it or behind it. The text begins on
 /// this line.
-pub fn line_of_word(first: u64, word: &[u8], text: &[u8]) -> Option<u64>
-    requires { first + length text.now < 2 ^ 64 }
+pub fn line_of_word(first: u32, word: &[u8], text: &[u8]) -> Option<u64>
     ensures { result ≡ line_of_word first word.now text.now }
 {
-    let mut line = first;
+    let mut line = first as u64;
     let mut goes_on = false;
     for at in 0..text.len() {
         let byte = text[at];
