@@ -1,1 +1,6 @@
 pub mod Faults
+pub mod Lines
+pub mod Terms
+pub mod FileWords
+pub mod File
+pub mod Text
