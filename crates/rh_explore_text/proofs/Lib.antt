@@ -1,0 +1,5 @@
+pub mod SearchRead
+pub mod Coming
+pub mod Answered
+pub mod Named
+pub mod Finding

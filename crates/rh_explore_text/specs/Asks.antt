@@ -1,0 +1,66 @@
+-- What is asked of states, as words (ours).
+use Rattle.std.specs.Prelude.{ℕ, List, [], ◌∷◌, ◌++◌, map, Bool, true, false, not, ◌&&◌, ◌==◌, length, if◌then◌else◌, codes, Option, Some, None, is_some, unwrap_or}
+use Rattle.std.specs.Prelude.{option_map, Vec}
+use Rattle.std.specs.declared.alloc.Global.{Global}
+use Rattle.std.specs.List.{list_all}
+use Rattle.std.specs.Str.{bytes_eq}
+use Rattle.rh_model.specs.ClusterView.{ClusterView, node_of, app_of, numbered}
+use Rattle.rh_model.specs.declared.node.App.{App}
+use Rattle.rh_explore.specs.declared.asking.Ask.{Ask}
+use Rattle.rh_explore.specs.declared.asking.Condition.{Condition}
+use Rattle.rh_explore.specs.declared.asking.Condition.TheVariants.{RunsSomewhere, IsNotUp}
+
+-- what is asked: of each state or only of those without a timer, and the lists of conditions, of one of which all are to be so
+pub record AskView : Type 0 where
+  pub always : Bool
+  pub any_of : List (List Condition)
+
+abbrev pub ways_view : Vec (Vec Condition Global) Global → List (List Condition)
+ways_view ways = map (λ way. way.items) ways.items
+
+abbrev pub ask_view : Ask → AskView
+ask_view ask = record { always = ask.always; any_of = ways_view ask.any_of }
+
+-- ---- its words
+
+-- each of these names is that of a node
+abbrev pub are_nodes : ClusterView → List (List ℕ) → Bool
+are_nodes c names = list_all (λ name. is_some (node_of c name)) names
+
+-- the condition that a node of this name isn't up
+abbrev pub down_at : ClusterView → List ℕ → Condition
+down_at c name = IsNotUp (unwrap_or (node_of c name) (numbered 255))
+
+-- `down N N ..`: none of these nodes is up
+abbrev pub all_down : ClusterView → List (List ℕ) → Option (List Condition)
+all_down c names =
+    if not (length names == 0) && are_nodes c names then Some (map (down_at c) names) else None
+
+-- `or down N N ..` behind a condition: that is another way; nothing behind it is none
+abbrev pub other_ways : ClusterView → List (List ℕ) → Option (List (List Condition))
+other_ways c [] = Some []
+other_ways c (word ∷ []) = None
+other_ways c (word ∷ next ∷ names) =
+    if bytes_eq word (codes "or") && bytes_eq next (codes "down") then option_map (λ way. way ∷ []) (all_down c names) else None
+
+-- these ways, and that the application runs somewhere
+abbrev pub ways_with : Option App → Option (List (List Condition)) → Option (List (List Condition))
+ways_with None ways = None
+ways_with (Some a) ways = option_map (λ others. others ++ (RunsSomewhere a ∷ []) ∷ []) ways
+
+-- `app A running`, and other ways behind it
+abbrev pub ways_named : ClusterView → List (List ℕ) → Option (List (List Condition))
+ways_named c [] = None
+ways_named c (word ∷ []) = None
+ways_named c (word ∷ name ∷ []) = None
+ways_named c (word ∷ name ∷ state ∷ more) =
+    if bytes_eq word (codes "app") && bytes_eq state (codes "running") then ways_with (app_of c name) (other_ways c more) else None
+
+abbrev pub asked_of : Bool → Option (List (List Condition)) → Option AskView
+asked_of always = option_map (λ ways. record { always = always; any_of = ways })
+
+-- `always` in front: it is asked of each state
+abbrev pub ask_named : ClusterView → List (List ℕ) → Option AskView
+ask_named c [] = None
+ask_named c (word ∷ words) =
+    if bytes_eq word (codes "always") then asked_of true (ways_named c words) else asked_of false (ways_named c (word ∷ words))

@@ -1,0 +1,186 @@
+//! What is asked of states, as words.
+
+ghost use Rattle.std.specs.Prelude.{◌≡◌, [], ◌∷◌, map, IfOk};
+ghost use Rattle.std.specs.Option.{option_map};
+ghost use Rattle.rh_explore_text.specs.Asks.{ask_view, ways_view, are_nodes, down_at, all_down, other_ways, ways_with, ways_named, asked_of, ask_named};
+
+use rh_base::OutOfMemory;
+use rh_cluster::{App, Cluster, Node};
+use rh_explore::{Ask, Condition};
+use std::alloc::Global;
+use std::marker::Model;
+
+/// What is asked of the states that a search reaches.
+#[derive(Drop)]
+pub struct Question {
+    ask: Ask,
+}
+
+/// Contracts see a `Question` as what it asks.
+impl Model for Question {
+    ghost use Rattle.rh_explore_text.specs.Asks.{AskView, ask_view};
+
+    ghost Value = { AskView };
+
+    ghost view = { λ q. ask_view q.ask };
+}
+
+impl Question {
+    // The question, whether it is asked of each state, and what is so in one of these ways.
+    fn of(always: bool, any_of: Vec<Vec<Condition>>) -> Question
+        ensures { result ≡ record { always = always; any_of = ways_view any_of } }
+    {
+        Question {
+            ask: Ask { always, any_of },
+        }
+    }
+
+    /// What is asked.
+    pub fn into_ask(self) -> Ask
+        ensures { ask_view result ≡ self }
+    {
+        self.ask
+    }
+}
+
+// Is each of these words the name of a node?
+fn are_nodes(cluster: &Cluster, words: &[&str]) -> bool
+    ensures { result ≡ are_nodes cluster.now (map (λ word. word.now) words.now) }
+{
+    'words: for word in words {
+        if cluster.node_of(*word).is_none() {
+            return false;
+        }
+    }
+    true
+}
+
+// The condition that the node of this name isn't up.
+fn down_at(cluster: &Cluster, name: &str) -> Condition
+    ensures { result ≡ down_at cluster.now name.now }
+{
+    Condition::IsNotUp(cluster.node_of(name).unwrap_or(Node(255)))
+}
+
+// The conditions that the nodes of these names aren't up, if there is one and each is a node.
+fn all_down(
+    alloc: Global,
+    cluster: &Cluster,
+    names: &[&str],
+) -> Result<Option<Vec<Condition>>, OutOfMemory>
+    ensures { IfOk result (λ way. option_map (λ way. way.items) way ≡ all_down cluster.now (map (λ name. name.now) names.now)) }
+{
+    if names.is_empty() || !are_nodes(cluster, names) {
+        return Ok(None);
+    }
+    let mut conditions = Vec::new(alloc);
+    'names: for name in names {
+        conditions.push(down_at(cluster, *name))?;
+    }
+    Ok(Some(conditions))
+}
+
+// The ways that these words add to the first one: none, or that nodes aren't up.
+fn other_ways(
+    alloc: Global,
+    cluster: &Cluster,
+    words: &[&str],
+) -> Result<Option<Vec<Vec<Condition>>>, OutOfMemory>
+    ensures { IfOk result (λ ways. option_map ways_view ways ≡ other_ways cluster.now (map (λ word. word.now) words.now)) }
+{
+    match words {
+        [] => Ok(Some(Vec::new(alloc))),
+        [_] => Ok(None),
+        [word, next, names @ ..] => {
+            if *word == "or" && *next == "down" {
+                return one_way(alloc, all_down(alloc, cluster, names)?);
+            }
+            Ok(None)
+        }
+    }
+}
+
+// A way alone, if there is one.
+fn one_way(
+    alloc: Global,
+    way: Option<Vec<Condition>>,
+) -> Result<Option<Vec<Vec<Condition>>>, OutOfMemory>
+    ensures { IfOk result (λ ways. option_map ways_view ways ≡ option_map (λ way. way ∷ []) (option_map (λ way. way.items) way)) }
+{
+    match way {
+        None => Ok(None),
+        Some(way) => {
+            let mut ways = Vec::new(alloc);
+            ways.push(way)?;
+            Ok(Some(ways))
+        }
+    }
+}
+
+// These ways, and that the application runs somewhere.
+fn ways_with(
+    alloc: Global,
+    app: Option<App>,
+    ways: Option<Vec<Vec<Condition>>>,
+) -> Result<Option<Vec<Vec<Condition>>>, OutOfMemory>
+    ensures { IfOk result (λ all. option_map ways_view all ≡ ways_with app (option_map ways_view ways)) }
+{
+    match (app, ways) {
+        (Some(app), Some(mut ways)) => {
+            let mut runs = Vec::new(alloc);
+            runs.push(Condition::RunsSomewhere(app))?;
+            ways.push(runs)?;
+            Ok(Some(ways))
+        }
+        _ => Ok(None),
+    }
+}
+
+// The ways that these words name: an application runs, and others behind that.
+fn ways_named(
+    alloc: Global,
+    cluster: &Cluster,
+    words: &[&str],
+) -> Result<Option<Vec<Vec<Condition>>>, OutOfMemory>
+    ensures { IfOk result (λ ways. option_map ways_view ways ≡ ways_named cluster.now (map (λ word. word.now) words.now)) }
+{
+    match words {
+        [word, name, state, more @ ..] => {
+            if *word == "app" && *state == "running" {
+                let ways = other_ways(alloc, cluster, more)?;
+                return ways_with(alloc, cluster.app_of(*name), ways);
+            }
+            Ok(None)
+        }
+        _ => Ok(None),
+    }
+}
+
+// The question of these ways, if there are any.
+fn asked_of(always: bool, ways: Option<Vec<Vec<Condition>>>) -> Option<Question>
+    ensures { result ≡ asked_of always (option_map ways_view ways) }
+{
+    match ways {
+        Some(ways) => Some(Question::of(always, ways)),
+        None => None,
+    }
+}
+
+/// What the words behind `ask` ask.
+pub fn ask_named(
+    alloc: Global,
+    cluster: &Cluster,
+    words: &[&str],
+) -> Result<Option<Question>, OutOfMemory>
+    ensures { IfOk result (λ asked. asked ≡ ask_named cluster.now (map (λ word. word.now) words.now)) }
+{
+    match words {
+        [] => Ok(None),
+        [word, rest @ ..] => {
+            if *word == "always" {
+                return Ok(asked_of(true, ways_named(alloc, cluster, rest)?));
+            }
+            Ok(asked_of(false, ways_named(alloc, cluster, words)?))
+        }
+    }
+}
