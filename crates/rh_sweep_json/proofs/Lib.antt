@@ -1,0 +1,4 @@
+pub mod Front
+pub mod Memory
+pub mod Texts
+pub mod Lines

@@ -1,0 +1,5 @@
+pub mod OutcomeLines
+pub mod Base
+pub mod Parts
+pub mod SweepJson
+pub mod Laws

@@ -1,0 +1,69 @@
+//! Who tries the plans of a sweep.
+
+ghost use denote.Param.Send.{IsSync};
+ghost use Rattle.std.specs.Prelude.{◌≡◌, ⊤, ℕ, map, IfOk, IfErr, OnOk};
+ghost use Rattle.rh_sweep.specs.Outcomes.{outcome_of};
+ghost use Rattle.rh_sweep.specs.Sweeping.{MaySweep, WhyNotSwept};
+
+use rh_sweep::{FreeGate, Outcome, Plan, SweepFault, sweep, sweep_alone};
+use rh_trail::Sim;
+use std::alloc::Global;
+use std::sync::Wait;
+use std::thread::Threads;
+
+/// Some workers, who try plans. What is said of their call holds if it returns.
+pub trait Crew {
+    // They are in a state in which they can try plans.
+    ghost ready: { Self → Type 0 };
+
+    // How many they are.
+    ghost workers: { Self → ℕ };
+
+    /// The outcomes of the plans, in their order, each tried from the base.
+    fn sweep(&self, alloc: Global, base: &Sim, plans: &[Plan]) -> Result<Vec<Outcome>, SweepFault>
+        requires { ready self.now }
+        ensures outcomes { IfOk result (λ outcomes. outcomes.items ≡ map (outcome_of base.now.seen) plans.now) }
+        ensures fine { OnOk result (MaySweep base.now.seen plans.now (workers self.now)) }
+        ensures fault { IfErr result (WhyNotSwept base.now.seen plans.now (workers self.now)) };
+}
+
+/// The caller as the only worker. It waits for nobody.
+#[derive(Clone, Copy)]
+pub struct Alone;
+
+impl Crew for Alone {
+    ghost ready = { λ crew. ⊤ };
+
+    ghost workers = { λ crew. 1 };
+
+    fn sweep(&self, alloc: Global, base: &Sim, plans: &[Plan]) -> Result<Vec<Outcome>, SweepFault> {
+        sweep_alone(alloc, base, plans)
+    }
+}
+
+/// Workers in threads of a host, for which it waits.
+#[derive(Drop)]
+pub struct Threaded<'a, T> {
+    host: &'a T,
+    workers: usize,
+}
+
+impl<'a, T> Threaded<'a, T> {
+    /// So many of this host.
+    pub fn new(host: &'a T, workers: usize) -> Threaded<'a, T>
+        ensures { result.workers ≡ workers }
+    {
+        Threaded { host, workers }
+    }
+}
+
+impl<T: Threads + Wait + Sync> Crew for Threaded<'_, T> {
+    // Threads may share the host.
+    ghost ready = { λ crew. IsSync T.row };
+
+    ghost workers = { λ crew. crew.workers };
+
+    fn sweep(&self, alloc: Global, base: &Sim, plans: &[Plan]) -> Result<Vec<Outcome>, SweepFault> {
+        sweep(self.host, alloc, base, plans, self.workers, &FreeGate)
+    }
+}

@@ -1,0 +1,155 @@
+//! The line of a plan with what came of it, and the one of a sweep that is refused.
+
+ghost use Rattle.std.specs.Prelude.{◌≡◌, ◌++◌, OnOk, IfOk};
+ghost use Rattle.rh_trail.specs.declared.call.Reply.TheVariants as reply;
+ghost use Rattle.rh_script.specs.Answers.{answer_text};
+ghost use Rattle.rh_json.specs.ClusterLines.{refused_json, refused_line};
+ghost use Rattle.rh_sweep_json.specs.OutcomeLines.{accepted_json, count_json, counts_json, event_json, refused_event_json, ends_json, outcome_line, sweep_fault_line};
+
+use crate::pieces::{push_number, push_string, push_text};
+use crate::standings::push_standings;
+use crate::words::{after_first, before_first};
+use rh_base::{OutOfMemory, Str};
+use rh_cluster::Cluster;
+use rh_script::answer_text;
+use rh_step::Refusal;
+use rh_sweep::{Outcome, SweepFault};
+use rh_trail::Reply;
+use std::alloc::Global;
+
+// Adds the name of a plan, and how many of its events were accepted.
+#[tactic(auto, unfolding(crate::specs::OutcomeLines::accepted_json))]
+fn push_accepted(
+    alloc: Global,
+    out: &mut Vec<u8>,
+    name: &Str,
+    outcome: &Outcome,
+) -> Result<(), OutOfMemory>
+    ensures { OnOk result (out.new.items ≡ out.old.items ++ accepted_json name.now outcome.now) }
+{
+    push_text(out, "{\"plan\":")?;
+    push_string(out, name.as_str().as_bytes())?;
+    push_text(out, ",\"accepted\":")?;
+    push_number(alloc, out, outcome.accepted as u128)
+}
+
+// Adds what was counted, behind its key, which begins with a comma.
+fn push_count(alloc: Global, out: &mut Vec<u8>, key: &str, count: u128) -> Result<(), OutOfMemory>
+    ensures { OnOk result (out.new.items ≡ out.old.items ++ count_json key.now count) }
+{
+    push_text(out, key)?;
+    push_number(alloc, out, count)
+}
+
+// Adds what was counted in it.
+#[tactic(auto, unfolding(crate::specs::OutcomeLines::counts_json))]
+fn push_counts(alloc: Global, out: &mut Vec<u8>, outcome: &Outcome) -> Result<(), OutOfMemory>
+    ensures { OnOk result (out.new.items ≡ out.old.items ++ counts_json outcome.now) }
+{
+    push_count(alloc, out, ",\"failovers\":", outcome.failovers)?;
+    push_count(alloc, out, ",\"takeovers\":", outcome.takeovers)
+}
+
+// What a run answers to an event that is refused.
+fn refusal_text(alloc: Global, cluster: &Cluster, refusal: Refusal) -> Result<Vec<u8>, OutOfMemory>
+    ensures { IfOk result (λ text. text.items ≡ answer_text cluster.now (reply.Refused refusal)) }
+{
+    answer_text(alloc, cluster, &Reply::Refused(refusal))
+}
+
+// Adds the event of this place, counted from 0, which was refused.
+#[tactic(auto, unfolding(crate::specs::OutcomeLines::event_json))]
+fn push_event(
+    alloc: Global,
+    out: &mut Vec<u8>,
+    cluster: &Cluster,
+    place: usize,
+    refusal: Refusal,
+) -> Result<(), OutOfMemory>
+    ensures { OnOk result (out.new.items ≡ out.old.items ++ event_json cluster.now place refusal) }
+{
+    let answer = refusal_text(alloc, cluster, refusal)?;
+    push_count(alloc, out, ",\"refused\":{\"event\":", place as u128 + 1)?;
+    push_text(out, ",\"answer\":")?;
+    push_string(out, before_first(answer.as_slice(), b'\n'))?;
+    push_text(out, "}")
+}
+
+// Adds the refused event, if one was refused.
+fn push_refused(
+    alloc: Global,
+    out: &mut Vec<u8>,
+    cluster: &Cluster,
+    refused: Option<(usize, Refusal)>,
+) -> Result<(), OutOfMemory>
+    ensures { OnOk result (out.new.items ≡ out.old.items ++ refused_event_json cluster.now refused) }
+{
+    match refused {
+        None => Ok(()),
+        Some((place, refusal)) => push_event(alloc, out, cluster, place, refusal),
+    }
+}
+
+// Adds where each distributed application stands at its end, and the end of the line.
+#[tactic(auto, unfolding(crate::specs::OutcomeLines::ends_json))]
+fn push_ends(
+    alloc: Global,
+    out: &mut Vec<u8>,
+    cluster: &Cluster,
+    outcome: &Outcome,
+) -> Result<(), OutOfMemory>
+    ensures { OnOk result (out.new.items ≡ out.old.items ++ ends_json cluster.now outcome.now) }
+{
+    push_text(out, ",\"applications\":")?;
+    push_standings(alloc, out, cluster, outcome.standings.as_slice())?;
+    push_text(out, "}\n")
+}
+
+/// The line of the plan of this name, with its outcome.
+#[tactic(auto, unfolding(crate::specs::OutcomeLines::outcome_line))]
+pub fn outcome_line(
+    alloc: Global,
+    cluster: &Cluster,
+    name: &Str,
+    outcome: &Outcome,
+) -> Result<Vec<u8>, OutOfMemory>
+    ensures { IfOk result (λ line. line.items ≡ outcome_line cluster.now name.now outcome.now) }
+{
+    let mut line = Vec::new(alloc);
+    push_accepted(alloc, &mut line, name, outcome)?;
+    push_counts(alloc, &mut line, outcome)?;
+    push_refused(alloc, &mut line, cluster, outcome.refused)?;
+    push_ends(alloc, &mut line, cluster, outcome)?;
+    Ok(line)
+}
+
+// The line of a refusal with this code, for this reason.
+#[tactic(auto, unfolding(rh_json::specs::ClusterLines::refused_json))]
+fn refused_json(alloc: Global, code: &[u8], reason: &[u8]) -> Result<Vec<u8>, OutOfMemory>
+    ensures { IfOk result (λ line. line.items ≡ refused_json code.now reason.now) }
+{
+    let mut line = Vec::new(alloc);
+    push_text(&mut line, "{\"refused\":")?;
+    push_string(&mut line, code)?;
+    push_text(&mut line, ",\"reason\":")?;
+    push_string(&mut line, reason)?;
+    push_text(&mut line, "}\n")?;
+    Ok(line)
+}
+
+// The line of a refusal that is shown by these words.
+#[tactic(auto, unfolding(rh_json::specs::ClusterLines::refused_line))]
+fn refused_line(alloc: Global, words: &str) -> Result<Vec<u8>, OutOfMemory>
+    ensures { IfOk result (λ line. line.items ≡ refused_line words.now) }
+{
+    let words = words.as_bytes();
+    refused_json(alloc, before_first(words, b' '), after_first(words, b' '))
+}
+
+/// The line of a sweep that is refused.
+pub fn sweep_fault_line(alloc: Global, fault: SweepFault) -> Result<Vec<u8>, OutOfMemory>
+    ensures { IfOk result (λ line. line.items ≡ sweep_fault_line fault) }
+{
+    let words = format!(in alloc; "{fault}")?;
+    refused_line(alloc, words.as_str())
+}

@@ -1,0 +1,90 @@
+//! The pieces of a JSON text.
+
+ghost use Rattle.std.specs.Prelude.{◌≡◌, ◌<◌, ◌++◌, OnOk};
+ghost use Rattle.std.specs.List.{flat_map};
+ghost use Rattle.std.specs.Fmt.{decimal};
+ghost use Rattle.rh_json.specs.Json.{hex_digit, escaped, json_string, bracketed};
+
+use rh_base::OutOfMemory;
+use std::alloc::Global;
+
+// Adds bytes as they are.
+fn push_bytes(out: &mut Vec<u8>, bytes: &[u8]) -> Result<(), OutOfMemory>
+    ensures { OnOk result (out.new.items ≡ out.old.items ++ bytes.now) }
+{
+    out.extend_from_slice(bytes)?;
+    Ok(())
+}
+
+// Adds a text as it is.
+pub fn push_text(out: &mut Vec<u8>, text: &str) -> Result<(), OutOfMemory>
+    ensures { OnOk result (out.new.items ≡ out.old.items ++ text.now) }
+{
+    push_bytes(out, text.as_bytes())
+}
+
+// Adds a number.
+pub fn push_number(alloc: Global, out: &mut Vec<u8>, number: u128) -> Result<(), OutOfMemory>
+    ensures { OnOk result (out.new.items ≡ out.old.items ++ decimal number) }
+{
+    let text = format!(in alloc; "{number}")?;
+    push_text(out, text.as_str())
+}
+
+// The digit of a number below 16.
+fn hex_digit(digit: u8) -> u8
+    requires { digit < 16 }
+    ensures { result ≡ hex_digit digit }
+{
+    if digit < 10 {
+        b'0' + digit
+    } else {
+        b'a' - 10 + digit
+    }
+}
+
+// Adds a byte of a string.
+#[tactic(auto, unfolding(rh_json::specs::Json::escaped))]
+fn push_escaped(out: &mut Vec<u8>, byte: u8) -> Result<(), OutOfMemory>
+    ensures { OnOk result (out.new.items ≡ out.old.items ++ escaped byte) }
+{
+    if byte < 32 {
+        push_text(out, "\\u00")?;
+        return push_bytes(out, &[hex_digit(byte / 16), hex_digit(byte % 16)]);
+    }
+    if byte == b'"' || byte == b'\\' {
+        return push_bytes(out, &[b'\\', byte]);
+    }
+    push_bytes(out, &[byte])
+}
+
+// Adds the bytes of a string.
+fn push_each_escaped(out: &mut Vec<u8>, text: &[u8]) -> Result<(), OutOfMemory>
+    ensures { OnOk result (out.new.items ≡ out.old.items ++ flat_map escaped text.now) }
+{
+    for byte in text {
+        push_escaped(out, *byte)?;
+    }
+    Ok(())
+}
+
+// Adds a string.
+#[tactic(auto, unfolding(rh_json::specs::Json::json_string))]
+pub fn push_string(out: &mut Vec<u8>, text: &[u8]) -> Result<(), OutOfMemory>
+    ensures { OnOk result (out.new.items ≡ out.old.items ++ json_string text.now) }
+{
+    push_text(out, "\"")?;
+    push_each_escaped(out, text)?;
+    push_text(out, "\"")
+}
+
+// Adds the array of values that stand each behind a comma.
+pub fn push_array(out: &mut Vec<u8>, values: &[u8]) -> Result<(), OutOfMemory>
+    ensures { OnOk result (out.new.items ≡ out.old.items ++ bracketed values.now) }
+{
+    push_text(out, "[")?;
+    if !values.is_empty() {
+        push_bytes(out, &values[1..])?;
+    }
+    push_text(out, "]")
+}
