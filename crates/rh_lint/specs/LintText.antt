@@ -1,9 +1,10 @@
 -- What lint writes for the bytes that it reads, and how it ends (ours).
-use Rattle.std.specs.Prelude.{◌≡◌, ℕ, ◌+◌, List, [], ◌∷◌, length, Bool, Option, Some, None, Result, Ok, Err, if◌then◌else◌}
+use Rattle.std.specs.Prelude.{◌≡◌, ℕ, ◌+◌, List, ◌∷◌, ◌++◌, length, Bool, Option, Some, None, Result, Ok, Err, if◌then◌else◌}
 use Rattle.rh_model.specs.ClusterView.{ClusterView}
 use Rattle.rh_cluster.specs.ClusterOf.{cluster_of}
 use Rattle.rh_cluster.specs.declared.fault.ClusterFault.{ClusterFault}
 use Rattle.rh_rules.specs.declared.pick.Pick.{Pick}
+use Rattle.rh_trail.specs.Lone.{opened}
 use Rattle.rh_script.specs.Lines.{raw_lines, cluster_text, script_lines}
 use Rattle.rh_app.specs.declared.fault.Told.{Told}
 use Rattle.rh_app.specs.declared.fault.Told.TheVariants as told
@@ -11,7 +12,9 @@ use Rattle.rh_findings.specs.declared.finding.Finding.{Finding}
 use Rattle.rh_findings.specs.Order.{IsListed}
 use Rattle.rh_findings.specs.Report.{report_text, is_clean}
 use Rattle.rh_cluster_lint.specs.Faults.{fault_finding}
+use Rattle.rh_cluster_lint.specs.Text.{text_found}
 use Rattle.rh_script_lint.specs.Lines.{of_lines}
+use Rattle.rh_script_lint.specs.Steps.{of_script_steps}
 
 -- the number of the script's first line in the whole input: it stands behind the cluster's text and the line `===`
 abbrev pub first_line : List ℕ → ℕ
@@ -19,21 +22,21 @@ first_line bytes = length (raw_lines (cluster_text bytes)) + 2
 
 -- ---- what is found
 
--- in a text that is no cluster: its fault, and the script isn't looked at
-abbrev pub of_fault : ClusterFault → List Finding
-of_fault f = fault_finding f ∷ []
+-- in a text that is no cluster: its fault, and what its terms show; the script isn't looked at
+abbrev pub of_fault : List ℕ → ClusterFault → List Finding
+of_fault text f = fault_finding f ∷ text_found text None
 
--- in a cluster with a script, of which the first line has number k
-abbrev pub of_script : ClusterView → Pick → ℕ → List (List ℕ) → List Finding
-of_script c pick k lines = of_lines c k lines
+-- in a cluster with a script, of which the first line has number k: what the text shows, each line, and each step
+abbrev pub of_script : List ℕ → ClusterView → Pick → ℕ → List (List ℕ) → List Finding
+of_script text c pick k lines = text_found text (Some c) ++ (of_lines c k lines ++ of_script_steps (opened c pick) k lines)
 
-abbrev pub found_over : Pick → ℕ → List (List ℕ) → Result ClusterView ClusterFault → List Finding
-found_over pick k lines (Ok c) = of_script c pick k lines
-found_over pick k lines (Err f) = of_fault f
+abbrev pub found_over : List ℕ → Pick → ℕ → List (List ℕ) → Result ClusterView ClusterFault → List Finding
+found_over text pick k lines (Ok c) = of_script text c pick k lines
+found_over text pick k lines (Err f) = of_fault text f
 
 -- in an input
 unfoldable pub found_in : List ℕ → Pick → List Finding
-found_in bytes pick = found_over pick (first_line bytes) (script_lines bytes) (cluster_of (cluster_text bytes))
+found_in bytes pick = found_over (cluster_text bytes) pick (first_line bytes) (script_lines bytes) (cluster_of (cluster_text bytes))
 
 -- ---- what is written
 

@@ -1,7 +1,8 @@
 //! The program `lint`.
 
-ghost use Rattle.std.specs.Prelude.{◌≡◌, IfOk, false};
+ghost use Rattle.std.specs.Prelude.{◌≡◌, ◌≤◌, length, IfOk, false};
 ghost use Rattle.std.specs.String.{string_bytes};
+ghost use Rattle.rh_devices.specs.Devices.{input_limit};
 ghost use Rattle.rh_app.specs.Programs.{ProgramGives, NoThreads};
 ghost use Rattle.rh_lint.specs.LintText.{lint_end, OwesLint};
 
@@ -51,6 +52,7 @@ fn linted(
     pick: Pick,
     strict: bool,
 ) -> Result<(String, Option<Told>), OutOfMemory>
+    requires { length input.now ≤ input_limit }
     ensures { IfOk result (λ linted. OwesLint pick strict input.now (string_bytes linted.0) linted.1) }
 {
     let mut found = found_in(alloc, input, pick)?;
