@@ -49,7 +49,11 @@ fn file_found(
 ) -> Result<Finding, OutOfMemory>
     ensures { IfOk result (λ found. found ≡ file_found (lines_seen lines.now) cluster.now finding.now) }
 {
-    let kind = if is_warning(finding) { Kind::Warning } else { Kind::Hint };
+    let kind = if is_warning(finding) {
+        Kind::Warning
+    } else {
+        Kind::Hint
+    };
     Ok(Finding {
         line: file_line(lines, finding),
         kind,

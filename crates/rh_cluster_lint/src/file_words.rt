@@ -193,21 +193,50 @@ pub fn names_of<'a>(cluster: &'a Cluster, finding: &FileFinding) -> Names<'a>
     match *finding {
         FileFinding::NoDistributedApplication => names("", "", ""),
         FileFinding::NoLists { node } => names(node_word(cluster, node), "", ""),
-        FileFinding::OneSidedLists { node, other } => names(node_word(cluster, node), node_word(cluster, other), ""),
-        FileFinding::IncompleteLists { node, other } => names(node_word(cluster, node), node_word(cluster, other), ""),
+        FileFinding::OneSidedLists { node, other } => names(
+            node_word(cluster, node),
+            node_word(cluster, other),
+            "",
+        ),
+        FileFinding::IncompleteLists { node, other } => names(
+            node_word(cluster, node),
+            node_word(cluster, other),
+            "",
+        ),
         FileFinding::ListsWithoutTimeout { node } => names(node_word(cluster, node), "", ""),
         FileFinding::SyncTimeoutZero { node } => names(node_word(cluster, node), "", ""),
         FileFinding::SyncTimeoutTooLarge { node } => names(node_word(cluster, node), "", ""),
         FileFinding::FailoverTimeoutTooLarge { app } => names(app_word(cluster, app), "", ""),
         FileFinding::TupleNotInOrder { app } => names(app_word(cluster, app), "", ""),
         FileFinding::TwoTuples { app } => names(app_word(cluster, app), "", ""),
-        FileFinding::BootBeforeDependency { node, app, dep } => names(node_word(cluster, node), app_word(cluster, app), dep_word(cluster, dep)),
-        FileFinding::CrossedBootLists { app, other, node, .. } => names(node_word(cluster, node), app_word(cluster, app), app_word(cluster, other)),
-        FileFinding::NotBootedAtListedNode { node, app } => names(node_word(cluster, node), app_word(cluster, app), ""),
+        FileFinding::BootBeforeDependency { node, app, dep } => names(
+            node_word(cluster, node),
+            app_word(cluster, app),
+            dep_word(cluster, dep),
+        ),
+        FileFinding::CrossedBootLists {
+            app,
+            other,
+            node,
+            ..
+        } => names(
+            node_word(cluster, node),
+            app_word(cluster, app),
+            app_word(cluster, other),
+        ),
+        FileFinding::NotBootedAtListedNode { node, app } => names(
+            node_word(cluster, node),
+            app_word(cluster, app),
+            "",
+        ),
         FileFinding::PermanentDistributed { app } => names(app_word(cluster, app), "", ""),
         FileFinding::LocalAtSeveralNodes { app } => names(app_word(cluster, app), "", ""),
         FileFinding::DependencyCircle { app } => names(app_word(cluster, app), "", ""),
-        FileFinding::LostTogether { app, other } => names(app_word(cluster, app), app_word(cluster, other), ""),
+        FileFinding::LostTogether { app, other } => names(
+            app_word(cluster, app),
+            app_word(cluster, other),
+            "",
+        ),
     }
 }
 

@@ -22,11 +22,7 @@ pub struct Lines<'a> {
 fn text_behind(at: usize, text: &[u8]) -> &[u8]
     ensures { result.now ≡ drop at text.now }
 {
-    if at < text.len() {
-        &text[at..]
-    } else {
-        &[]
-    }
+    if at < text.len() { &text[at..] } else { &[] }
 }
 
 impl Lines<'_> {

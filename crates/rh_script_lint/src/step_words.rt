@@ -257,33 +257,161 @@ pub fn names_of<'a>(cluster: &'a Cluster, finding: &StepFinding) -> Names<'a>
     ensures { names_seen result ≡ names_of cluster.now finding.now }
 {
     match *finding {
-        StepFinding::BetterNodeNotStarted { node, app, other } => names(app_word(cluster, app), node_word(cluster, node), node_word(cluster, other)),
-        StepFinding::TupleMemberNotStarted { node, app, other } => names(app_word(cluster, app), node_word(cluster, node), node_word(cluster, other)),
-        StepFinding::WorseNodeNotStarted { node, app, other } => names(app_word(cluster, app), node_word(cluster, node), node_word(cluster, other)),
-        StepFinding::ForbiddenStartWaits { node, app, other } => names(app_word(cluster, app), node_word(cluster, node), node_word(cluster, other)),
-        StepFinding::RunsAtAWorseNode { node, app, runner } => names(app_word(cluster, app), node_word(cluster, node), node_word(cluster, runner)),
-        StepFinding::TupleTakeover { node, app, other } => names(app_word(cluster, app), node_word(cluster, node), node_word(cluster, other)),
-        StepFinding::BetterNodeWaitsQuiet { node, app, other } => names(app_word(cluster, app), node_word(cluster, node), node_word(cluster, other)),
-        StepFinding::PermitStartsQuiet { node, app } => names(app_word(cluster, app), node_word(cluster, node), ""),
-        StepFinding::DependencyForbiddenAtStart { node, app, dependency } => names(node_word(cluster, node), app_word(cluster, app), app_word(cluster, dependency)),
-        StepFinding::BeforeDependency { node, app, dependency } => names(node_word(cluster, node), app_word(cluster, app), app_word(cluster, dependency)),
-        StepFinding::ForbidMoves { node, app, other } => names(app_word(cluster, app), node_word(cluster, node), node_word(cluster, other)),
-        StepFinding::ForbidOtherNotStarted { node, app, other } => names(app_word(cluster, app), node_word(cluster, node), node_word(cluster, other)),
-        StepFinding::StartWithinTime { node, app, lost } => names(app_word(cluster, app), node_word(cluster, node), node_word(cluster, lost)),
-        StepFinding::NobodySawTheLoss { node, app, lost } => names(app_word(cluster, app), node_word(cluster, lost), node_word(cluster, node)),
-        StepFinding::WeightsForEver { node, app, other } => names(app_word(cluster, app), node_word(cluster, node), node_word(cluster, other)),
-        StepFinding::StartWhereNotListed { node, app } => names(app_word(cluster, app), node_word(cluster, node), ""),
-        StepFinding::TakeoverWhereForbidden { node, app } => names(app_word(cluster, app), node_word(cluster, node), ""),
-        StepFinding::StartOfAWaitingLocal { node, app } => names(app_word(cluster, app), node_word(cluster, node), ""),
-        StepFinding::OwnEnd { node, app } => names(app_word(cluster, app), node_word(cluster, node), ""),
-        StepFinding::KindAfterLoss { node, app, lost } => names(app_word(cluster, app), node_word(cluster, lost), node_word(cluster, node)),
-        StepFinding::DependencyGone { node, app, dependency } => names(app_word(cluster, app), node_word(cluster, node), app_word(cluster, dependency)),
-        StepFinding::NeedsADistributedOne { node, app, dependency } => names(app_word(cluster, app), node_word(cluster, node), app_word(cluster, dependency)),
-        StepFinding::ForbidWithUnlistedNodes { node, app, other } => names(app_word(cluster, app), node_word(cluster, node), node_word(cluster, other)),
-        StepFinding::TakeoverNotStarted { node, app } => names(app_word(cluster, app), node_word(cluster, node), ""),
-        StepFinding::LocalForbiddenTwice { node, app } => names(app_word(cluster, app), node_word(cluster, node), ""),
-        StepFinding::LocalStopWhileForbidden { node, app } => names(app_word(cluster, app), node_word(cluster, node), ""),
-        StepFinding::OtherNodeWaits { node, other } => names(node_word(cluster, node), node_word(cluster, other), ""),
-        StepFinding::NotInItsLists { node, other } => names(node_word(cluster, node), node_word(cluster, other), ""),
+        StepFinding::BetterNodeNotStarted { node, app, other } => names(
+            app_word(cluster, app),
+            node_word(cluster, node),
+            node_word(cluster, other),
+        ),
+        StepFinding::TupleMemberNotStarted { node, app, other } => names(
+            app_word(cluster, app),
+            node_word(cluster, node),
+            node_word(cluster, other),
+        ),
+        StepFinding::WorseNodeNotStarted { node, app, other } => names(
+            app_word(cluster, app),
+            node_word(cluster, node),
+            node_word(cluster, other),
+        ),
+        StepFinding::ForbiddenStartWaits { node, app, other } => names(
+            app_word(cluster, app),
+            node_word(cluster, node),
+            node_word(cluster, other),
+        ),
+        StepFinding::RunsAtAWorseNode { node, app, runner } => names(
+            app_word(cluster, app),
+            node_word(cluster, node),
+            node_word(cluster, runner),
+        ),
+        StepFinding::TupleTakeover { node, app, other } => names(
+            app_word(cluster, app),
+            node_word(cluster, node),
+            node_word(cluster, other),
+        ),
+        StepFinding::BetterNodeWaitsQuiet { node, app, other } => names(
+            app_word(cluster, app),
+            node_word(cluster, node),
+            node_word(cluster, other),
+        ),
+        StepFinding::PermitStartsQuiet { node, app } => names(
+            app_word(cluster, app),
+            node_word(cluster, node),
+            "",
+        ),
+        StepFinding::DependencyForbiddenAtStart {
+            node,
+            app,
+            dependency,
+        } => names(
+            node_word(cluster, node),
+            app_word(cluster, app),
+            app_word(cluster, dependency),
+        ),
+        StepFinding::BeforeDependency {
+            node,
+            app,
+            dependency,
+        } => names(
+            node_word(cluster, node),
+            app_word(cluster, app),
+            app_word(cluster, dependency),
+        ),
+        StepFinding::ForbidMoves { node, app, other } => names(
+            app_word(cluster, app),
+            node_word(cluster, node),
+            node_word(cluster, other),
+        ),
+        StepFinding::ForbidOtherNotStarted { node, app, other } => names(
+            app_word(cluster, app),
+            node_word(cluster, node),
+            node_word(cluster, other),
+        ),
+        StepFinding::StartWithinTime { node, app, lost } => names(
+            app_word(cluster, app),
+            node_word(cluster, node),
+            node_word(cluster, lost),
+        ),
+        StepFinding::NobodySawTheLoss { node, app, lost } => names(
+            app_word(cluster, app),
+            node_word(cluster, lost),
+            node_word(cluster, node),
+        ),
+        StepFinding::WeightsForEver { node, app, other } => names(
+            app_word(cluster, app),
+            node_word(cluster, node),
+            node_word(cluster, other),
+        ),
+        StepFinding::StartWhereNotListed { node, app } => names(
+            app_word(cluster, app),
+            node_word(cluster, node),
+            "",
+        ),
+        StepFinding::TakeoverWhereForbidden { node, app } => names(
+            app_word(cluster, app),
+            node_word(cluster, node),
+            "",
+        ),
+        StepFinding::StartOfAWaitingLocal { node, app } => names(
+            app_word(cluster, app),
+            node_word(cluster, node),
+            "",
+        ),
+        StepFinding::OwnEnd { node, app } => names(
+            app_word(cluster, app),
+            node_word(cluster, node),
+            "",
+        ),
+        StepFinding::KindAfterLoss { node, app, lost } => names(
+            app_word(cluster, app),
+            node_word(cluster, lost),
+            node_word(cluster, node),
+        ),
+        StepFinding::DependencyGone {
+            node,
+            app,
+            dependency,
+        } => names(
+            app_word(cluster, app),
+            node_word(cluster, node),
+            app_word(cluster, dependency),
+        ),
+        StepFinding::NeedsADistributedOne {
+            node,
+            app,
+            dependency,
+        } => names(
+            app_word(cluster, app),
+            node_word(cluster, node),
+            app_word(cluster, dependency),
+        ),
+        StepFinding::ForbidWithUnlistedNodes { node, app, other } => names(
+            app_word(cluster, app),
+            node_word(cluster, node),
+            node_word(cluster, other),
+        ),
+        StepFinding::TakeoverNotStarted { node, app } => names(
+            app_word(cluster, app),
+            node_word(cluster, node),
+            "",
+        ),
+        StepFinding::LocalForbiddenTwice { node, app } => names(
+            app_word(cluster, app),
+            node_word(cluster, node),
+            "",
+        ),
+        StepFinding::LocalStopWhileForbidden { node, app } => names(
+            app_word(cluster, app),
+            node_word(cluster, node),
+            "",
+        ),
+        StepFinding::OtherNodeWaits { node, other } => names(
+            node_word(cluster, node),
+            node_word(cluster, other),
+            "",
+        ),
+        StepFinding::NotInItsLists { node, other } => names(
+            node_word(cluster, node),
+            node_word(cluster, other),
+            "",
+        ),
     }
 }

@@ -26,7 +26,11 @@ fn step_found(
 ) -> Result<Finding, OutOfMemory>
     ensures { IfOk result (λ found. found ≡ step_found cluster.now number finding.now) }
 {
-    let kind = if finding.is_warning() { Kind::Warning } else { Kind::Hint };
+    let kind = if finding.is_warning() {
+        Kind::Warning
+    } else {
+        Kind::Hint
+    };
     Ok(Finding {
         line: Some(number),
         kind,
