@@ -11,7 +11,7 @@ say() {
 # What takes files in place of standard input.
 is_subcommand() {
   case "${1-}" in
-    run | check | sessions | sweep | story | verify) ;;
+    run | check | sessions | sweep | explore | story | verify) ;;
     *) return 1 ;;
   esac
 }
@@ -39,7 +39,7 @@ read_words() {
         return
         ;;
       -h | --help) asks_help=yes ;;
-      --pick | --workers)
+      --pick | --workers | --states)
         words+=("${@:1:2}")
         (($# == 1)) || shift
         ;;

@@ -62,6 +62,7 @@ INPUTS = {
     "sessions": (CLUSTER + b"2 undo\n", b"entry 2 undo\nrefused at_start\nfinal\nnow 0\nnode a@x down 0\nnode b@x down 0\n"),
     "sweep": (CLUSTER + b"boot a@x\nplan p\nplan q\ncrash b@x\n", b"ok\nup a@x\nplan p accepted 0 failovers 0 takeovers 0\n"
               b"plan q accepted 0 failovers 0 takeovers 0\nrefused 1 S5 not_alive\n"),
+    "explore": (CLUSTER + b"boot a@x\nmay crash *\nmay boot *\nsteps 1\n", b"ok\nup a@x\nexplored 3 states deepest 1 up to 1 steps\n"),
 }
 
 

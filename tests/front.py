@@ -22,7 +22,7 @@ LIMIT = 16_777_216
 CLUSTER = b"{node, a@x, []}.\n{application, web, []}.\n"
 SCRIPT = b"boot a@x\nstart a@x web permanent\n"
 ANSWERS = b"ok\nup a@x\nok\nstarted web a@x normal\n"
-SUBCOMMANDS = ("run", "check", "story", "verify", "sessions", "sweep")
+SUBCOMMANDS = ("run", "check", "story", "verify", "sessions", "sweep", "explore")
 FULL = b"rehearse: standard output can't be written: it may be full\n"
 LONG = b"rehearse: standard input is over 16 MiB (16777216 bytes)\n"
 TERMINAL = b"rehearse: reads standard input, which Ctrl-D on a line of its own ends; `rehearse run FILE..` reads files\r\n"
@@ -167,6 +167,7 @@ def options(program, folder):
             (["story", "--whole", "--pick", "last", "c"], "--whole --pick last", b""), (["verify", "--pick=last", "c"], "--pick=last", b""),
             (["sweep", "--workers", "4", "c", "--pick", "first"], "--workers 4 --pick first", b""),
             (["sweep", "--workers=4", "--", "c", "-x", "--", "last"], "--workers=4", b"x\ny\nz\n"),
+            (["explore", "--states", "5", "c", "--pick=last"], "--states 5 --pick=last", b""),
             (["check", "--never-seen", "c"], "--never-seen", b""), (["run", "--", "c", "--"], "", b"y\n")):
         line = " ".join([words[0], passed]).strip().encode() + b"\n"
         yield " ".join(words), wrong(call(folder, words), 0, line + CLUSTER + b"===\n" + texts, b"")

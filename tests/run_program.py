@@ -6,10 +6,10 @@ repository, examples/NAME.txt, has its row tests/examples/NAME.row, without an i
 folders that is no such row is a failed test. Then come inputs that are too large for a file, which are made here, devices that
 fail, and memory (refused_memory.py), more devices (hostile.py) and each of their calls (failing_calls.py), cut inputs
 (prefixes.py), sweeps (sweeps.py), texts that are no terms (term_faults.py), cluster files at the limits (cluster_limits.py), both
-profiles (profiles.py), random scripts beside a model (random_scripts.py), what is told as JSON (json_lines.py), stories of the
-examples (stories.py), rows by pytest (pytest_items.py), the scripts that run, build and ship the program (shipped.py), what
-./rehearse does in front of it (front.py) and tells of refused files (places.py), the packages of it (package.py), one of them
-installed (own_root.py), and the documents (check_docs.py). Calls that the programs `rh_growths` and `rh_part_growths` beside
+profiles (profiles.py), random scripts beside a model (random_scripts.py), searches beside the model (explored.py), what is told as
+JSON (json_lines.py), stories of the examples (stories.py), rows by pytest (pytest_items.py), the scripts that run, build and ship
+the program (shipped.py), what ./rehearse does in front of it (front.py) and tells of refused files (places.py), the packages of it
+(package.py), one of them installed (own_root.py), and the documents (check_docs.py). Calls that the programs `rh_growths` and `rh_part_growths` beside
 PROGRAM make have their growths of memory counted and refused, and have to leave all as it was (growths.py). All of it runs side by
 side on all processors (groups.py).
 The last line is 'N passed, M failed'. Where paths of rows are given, these alone are run.
@@ -24,6 +24,7 @@ import traceback
 # No file is left behind.
 sys.dont_write_bytecode = True
 import check_docs  # noqa: E402
+import explored  # noqa: E402
 import failing_calls  # noqa: E402
 import front  # noqa: E402
 import growths  # noqa: E402
@@ -162,6 +163,8 @@ def command_lines(program):
             (["sessions", "--help"], [b"--pick", b"entry S COMMAND", b"final", b"1 boot a@x", b"docs/ANSWERS.md"]),
             (["sweep", "--help"], [b"--pick", b"--workers", b"plan NAME accepted K failovers K takeovers K", b"bad line K", b"V2", b"V3",
                                    b"docs/ANSWERS.md"]),
+            (["explore", "--help"], [b"--pick", b"--states", b"may EVENT", b"ask app A running", b"explored K states", b"bad line K",
+                                     b"unfinished", b"docs/ANSWERS.md"]),
             (["--version"], [b"rehearse 0.1.0"])]:
         done = run(program, words, input=b"")
         missing = [text for text in texts if text not in done.stderr]
@@ -259,7 +262,7 @@ MADE = (term_faults, large_inputs, long_chains, *sweeps.TESTS)
 QUICK = (*made_pages.TESTS, *refused_memory.TESTS, *failing_calls.TESTS, *hostile.TESTS, WORKED, strays, examples, failing_devices,
          Group(no_threads, needs=("cc",)), *shipped.TESTS, *front.TESTS, *places.TESTS, *stories.TESTS, *pytest_items.TESTS)
 # Those that take longest begin first.
-ALL = (*prefixes.TESTS, *growths.TESTS, *random_scripts.TESTS, *json_lines.TESTS, *check_docs.TESTS, *package.TESTS, *own_root.TESTS,
+ALL = (*prefixes.TESTS, *growths.TESTS, *random_scripts.TESTS, *explored.TESTS, *json_lines.TESTS, *check_docs.TESTS, *package.TESTS, *own_root.TESTS,
        *QUICK, *MADE, *map(profiles.under_profile_1, MADE), *profiles.TESTS, cluster_limits, command_lines, full_inputs, several_sessions)
 
 

@@ -12,12 +12,11 @@ use Rattle.clap.specs.Simple.{subcommand_rows_of}
 use Rattle.clap.specs.declared.parser.matches.ArgMatches.{ArgMatches}
 use Rattle.clap.specs.declared.parser.matches.ArgMatches.TheViews.{out-ArgMatches, out-SubCommand}
 use Rattle.clap.specs.ValueTests.{is_numeral, is_unsigned_in}
-use Rattle.rh_sweep.specs.declared.workers.TheConstants.{MAX_WORKERS}
 use Rattle.std.specs.Str.{bytes_eq}
 use Rattle.std.proofs.lemmas.Slice.Eq.{bytes_eq-Decides}
 use Rattle.rh_rules.specs.declared.pick.Pick.{Pick}
 use Rattle.rh_rules.specs.declared.pick.Pick.TheVariants.{First, Last}
-use Rattle.rehearse.specs.Asking.{allowed, pick_of, workers_of}
+use Rattle.rehearse.specs.Asking.{pick_of}
 
 -- a choice that is the last for `last` and else the first is the one that the word means
 pub pick_is : (word : Option (List ℕ)) (choice : Pick) → (word ≡ Some (codes "last") → choice ≡ Last) → ((word ≡ Some (codes "last") → ⊥) → choice ≡ First)
@@ -55,15 +54,22 @@ digits_from (d ∷ ds) e =
     let parts = both _ _ e in
     (ltb-true _ _ parts.0, digits_from ds parts.1)
 
-module _ {E : Type 0} (G : List ℕ → Result ℕ E → Type 0) (only : (u : List ℕ) (x : Result ℕ E) → G u x → ParsesUnsigned 64 10 u x) where
-  read_text : (text : List ℕ) (r : Option ℕ) → ReadsOne G text r → option_and_then allowed r ≡ workers_of text
+-- a number from 1 to the most that there may be, and the one that a text means
+abbrev fitting : ℕ → ℕ → Option ℕ
+fitting most n = if nat_le 1 n && nat_le n most then Some n else None
+
+abbrev meant_by : ℕ → List ℕ → Option ℕ
+meant_by most text = if is_unsigned_in 1 most text then Some (digits_value 10 (without_leading_plus text)) else None
+
+module _ {E : Type 0} (G : List ℕ → Result ℕ E → Type 0) (only : (u : List ℕ) (x : Result ℕ E) → G u x → ParsesUnsigned 64 10 u x) (most : ℕ) where
+  read_text : (text : List ℕ) (r : Option ℕ) → ReadsOne G text r → option_and_then (fitting most) r ≡ meant_by most text
   read_text text (Some n) read =
       let parsed = only text (Ok n) read in
       let ds = without_leading_plus text in
       rw (lt-ltb 0 (length ds) parsed.0.0.0, digits_pass ds parsed.0.0.1, lt-ltb (digits_value 10 ds) (2 ^ 64) parsed.0.1, parsed.1) refl
-  read_text text None read = go (is_unsigned_in 1 MAX_WORKERS text) refl
+  read_text text None read = go (is_unsigned_in 1 most text) refl
     where
-      go : (b : Bool) → is_unsigned_in 1 MAX_WORKERS text ≡ b → None ≡ workers_of text
+      go : (b : Bool) → is_unsigned_in 1 most text ≡ b → None ≡ meant_by most text
       go false t = rw t refl
       go true t =
           let ds = without_leading_plus text in
@@ -73,10 +79,10 @@ module _ {E : Type 0} (G : List ℕ → Result ℕ E → Type 0) (only : (u : Li
           absurd (only text (Err read.0) read.1 ((ltb-true _ _ digits.0, digits_from ds digits.1), ltb-true _ _ size.0))
 
   -- what a typed getter gives for the text of an option, where the number is one that there may be
-  pub workers_read : (text : Option (List ℕ)) (r : Option ℕ) → (text ≡ None → r ≡ None) → ((t : List ℕ) → text ≡ Some t → ReadsOne G t r)
-      → option_and_then allowed r ≡ option_and_then workers_of text
-  workers_read None r none value = rw (none refl) refl
-  workers_read (Some t) r none value = read_text t r (value t refl)
+  pub number_read : (text : Option (List ℕ)) (r : Option ℕ) → (text ≡ None → r ≡ None) → ((t : List ℕ) → text ≡ Some t → ReadsOne G t r)
+      → option_and_then (fitting most) r ≡ option_and_then (meant_by most) text
+  number_read None r none value = rw (none refl) refl
+  number_read (Some t) r none value = read_text t r (value t refl)
 
 -- the subcommand that a parse met, with its rows
 pub subcommand_is : (m : ArgMatches) (found : Option (Bor (List ℕ) × Bor ArgMatches)) → option_map (λ p. p.0.now) found ≡ subcommand_name_of m

@@ -9,7 +9,7 @@ use Rattle.clap.specs.declared.error.kind.ErrorKind.TheVariants as kind
 use Rattle.clap.proofs.OnLiterals.{clap_on_literals}
 use Rattle.rh_rules.specs.declared.pick.Pick.TheVariants.{First, Last}
 use Rattle.rh_programs.specs.declared.status.Program.{Program}
-use Rattle.rh_programs.specs.declared.status.Program.TheVariants.{Check, CheckJson, Run, RunIn, RunJson, Story, Verify, Sessions, Sweep}
+use Rattle.rh_programs.specs.declared.status.Program.TheVariants.{Check, CheckJson, Run, RunIn, RunJson, Story, Verify, Explore, Sessions, Sweep}
 use Rattle.rehearse.specs.CommandLine.{Picks, ArePicks, line}
 use Rattle.rehearse.specs.Table.{subcommand_named}
 use Rattle.rehearse.specs.Asking.{program_among}
@@ -98,6 +98,15 @@ workers_row : (faults (codes "sweep" ∷ codes "--workers" ∷ codes "0" ∷ [])
     × (faults (codes "sweep" ∷ codes "--workers" ∷ codes "many" ∷ []) ≡ kind.ValueValidation ∷ [])
 unfolding clap_on_literals subcommand_named
 workers_row = (refl, refl, refl)
+
+-- a million states, where no number is given; from 1 to 2^32 - 1
+explore_row : (asks (codes "explore" ∷ []) ≡ Some (Explore First 1000000)) × (faults (codes "explore" ∷ []) ≡ [])
+    × (asks (codes "explore" ∷ codes "--states=4294967295" ∷ codes "--pick=last" ∷ []) ≡ Some (Explore Last 4294967295))
+    × (faults (codes "explore" ∷ codes "--states" ∷ codes "0" ∷ []) ≡ kind.ValueValidation ∷ [])
+    × (faults (codes "explore" ∷ codes "--states" ∷ codes "4294967296" ∷ []) ≡ kind.ValueValidation ∷ [])
+    × (faults (codes "sweep" ∷ codes "--states" ∷ codes "5" ∷ []) ≡ kind.UnknownArgument ∷ [])
+unfolding clap_on_literals subcommand_named
+explore_row = (refl, refl, refl, refl, refl, refl)
 
 -- another choice, an option that a subcommand hasn't, one that stands twice
 options_row : (faults (codes "run" ∷ codes "--pick" ∷ codes "middle" ∷ []) ≡ kind.InvalidValue ∷ [])

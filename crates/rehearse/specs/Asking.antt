@@ -20,10 +20,11 @@ use Rattle.rh_programs.specs.declared.status.Program.TheVariants as program
 use Rattle.rh_programs.specs.Status.{IsStaffed}
 use Rattle.rehearse.specs.Table.{flag_word, subcommand_named}
 use Rattle.rehearse.specs.CommandLine.{Picks, ArePicks, line}
+use Rattle.rehearse.specs.declared.table.TheConstants.{MOST_STATES}
 use Rattle.rehearse.specs.declared.table.Flag.{Flag}
 use Rattle.rehearse.specs.declared.table.Flag.TheVariants.{Echo, Strict, Json, Whole}
 use Rattle.rehearse.specs.declared.table.Subcommand.{Subcommand}
-use Rattle.rehearse.specs.declared.table.Subcommand.TheVariants.{Run, Check, Story, Verify, Sessions, Sweep}
+use Rattle.rehearse.specs.declared.table.Subcommand.TheVariants.{Run, Check, Story, Verify, Sessions, Sweep, Explore}
 use Rattle.rehearse.specs.declared.command_line.Asked.{Asked}
 use Rattle.rehearse.specs.declared.command_line.Asked.TheVariants as asked
 use Rattle.rehearse.specs.declared.command_line.Words.{Words}
@@ -53,6 +54,16 @@ workers_of text = if is_unsigned_in 1 MAX_WORKERS text then Some (digits_value 1
 abbrev pub workers_in : List Row → Option ℕ
 workers_in rows = option_and_then workers_of (one_of (codes "workers") rows)
 
+-- a number of states that are kept, if it may be so many; the one that a text means, and that among the matches
+abbrev pub allowed_states : ℕ → Option ℕ
+allowed_states states = if nat_le 1 states && nat_le states MOST_STATES then Some states else None
+
+abbrev pub states_of : Text → Option ℕ
+states_of text = if is_unsigned_in 1 MOST_STATES text then Some (digits_value 10 (without_leading_plus text)) else None
+
+abbrev pub states_in : List Row → Option ℕ
+states_in rows = option_and_then states_of (one_of (codes "states") rows)
+
 -- whether a word without a value was given: among the matches it has the text `true` then
 abbrev pub is_given : Option Text → Bool
 is_given None = false
@@ -78,6 +89,7 @@ program_of Story rows = Some (program.Story (pick_in rows) (flag_in Whole rows))
 program_of Verify rows = Some (program.Verify (pick_in rows))
 program_of Sessions rows = Some (program.Sessions (pick_in rows))
 program_of Sweep rows = option_map (program.Sweep (pick_in rows)) (workers_in rows)
+program_of Explore rows = option_map (program.Explore (pick_in rows)) (states_in rows)
 
 -- the program of the subcommand with this word and these matches
 abbrev pub program_in : Text → List Row → Option Program

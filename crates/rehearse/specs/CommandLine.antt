@@ -8,6 +8,7 @@ use Rattle.clap.specs.declared.builder.command.Command.{Command}
 use Rattle.clap.specs.declared.builder.command.Command.TheViews.{out-Command as fields_of}
 use Rattle.clap.specs.declared.builder.value_parser.ValueParser.TheVariants as parser
 use Rattle.rh_sweep.specs.declared.workers.TheConstants.{MAX_WORKERS}
+use Rattle.rehearse.specs.declared.table.TheConstants.{MOST_STATES}
 use Rattle.rehearse.specs.declared.table.Setting.{Setting}
 use Rattle.rehearse.specs.declared.table.Setting.TheVariants as setting
 use Rattle.rehearse.specs.declared.table.Subcommand.{Subcommand}
@@ -38,6 +39,15 @@ workers_option = record (new_rule (codes "workers")) {
   parser = Some (parser.Unsigned 1 MAX_WORKERS);
 }
 
+-- `--states K`, a number from 1 to 2^32 - 1, and 1,000,000 where it isn't given
+abbrev pub states_option : Rule
+states_option = record (new_rule (codes "states")) {
+  long = Some (codes "states");
+  action = Some Set;
+  defaults = codes "1000000" ∷ [];
+  parser = Some (parser.Unsigned 1 MOST_STATES);
+}
+
 -- `--WORD`, which takes no value
 abbrev pub flag_option : Text → Rule
 flag_option word = record (new_rule word) { long = Some word; action = Some SetTrue }
@@ -46,6 +56,7 @@ flag_option word = record (new_rule word) { long = Some word; action = Some SetT
 abbrev pub setting_option : Picks → Setting → Rule
 setting_option picks setting.Pick = pick_option picks
 setting_option picks setting.Workers = workers_option
+setting_option picks setting.States = states_option
 setting_option picks (setting.Flag flag) = flag_option (flag_word flag)
 
 -- a command with more options

@@ -6,7 +6,7 @@ use Rattle.rehearse.specs.declared.table.Flag.TheVariants.{Echo, Strict, Json, W
 use Rattle.rehearse.specs.declared.table.Setting.{Setting}
 use Rattle.rehearse.specs.declared.table.Setting.TheVariants as setting
 use Rattle.rehearse.specs.declared.table.Subcommand.{Subcommand}
-use Rattle.rehearse.specs.declared.table.Subcommand.TheVariants.{Run, Check, Story, Verify, Sessions, Sweep}
+use Rattle.rehearse.specs.declared.table.Subcommand.TheVariants.{Run, Check, Story, Verify, Sessions, Sweep, Explore}
 
 -- the words that take no value, without their `--`
 abbrev pub flag_word : Flag → List ℕ
@@ -23,6 +23,7 @@ entry_of Story = (codes "story", setting.Pick ∷ setting.Flag Whole ∷ [])
 entry_of Verify = (codes "verify", setting.Pick ∷ [])
 entry_of Sessions = (codes "sessions", setting.Pick ∷ [])
 entry_of Sweep = (codes "sweep", setting.Pick ∷ setting.Workers ∷ [])
+entry_of Explore = (codes "explore", setting.Pick ∷ setting.States ∷ [])
 
 abbrev pub word_of : Subcommand → List ℕ
 word_of s = (entry_of s).0
@@ -32,7 +33,7 @@ settings_of s = (entry_of s).1
 
 -- all subcommands
 abbrev pub subcommands : List Subcommand
-subcommands = Run ∷ Check ∷ Story ∷ Verify ∷ Sessions ∷ Sweep ∷ []
+subcommands = Run ∷ Check ∷ Story ∷ Verify ∷ Sessions ∷ Sweep ∷ Explore ∷ []
 
 -- the subcommand with this word
 unfoldable pub subcommand_named : List ℕ → Option Subcommand

@@ -5,10 +5,10 @@ ghost use Rattle.clap.specs.Words.{App, app_of, kind_of, rule_of};
 ghost use Rattle.clap.specs.declared.error.kind.ErrorKind.{ErrorKind};
 ghost use Rattle.clap.specs.declared.error.kind.ErrorKind.TheVariants as kind;
 ghost use Rattle.rehearse.specs.Table.{flag_word};
-ghost use Rattle.rehearse.specs.CommandLine.{IsCommand, flag_option, line, pick_option, setting_option, subcommand_line, with_settings, with_subcommands, workers_option};
+ghost use Rattle.rehearse.specs.CommandLine.{IsCommand, flag_option, line, pick_option, setting_option, states_option, subcommand_line, with_settings, with_subcommands, workers_option};
 
 use crate::help::{ABOUT, AFTER_HELP};
-use crate::table::{Flag, SUBCOMMANDS, Setting, Subcommand};
+use crate::table::{Flag, MOST_STATES, SUBCOMMANDS, Setting, Subcommand};
 use clap::builder::ValueParser;
 use clap::{Arg, ArgAction, Command, Error};
 use rh_sweep::MAX_WORKERS;
@@ -89,6 +89,7 @@ fn argument<'a>(parts: Parts<'a>, setting: Setting) -> Arg<'a>
     match setting {
         Setting::Pick => pick_argument(parts),
         Setting::Workers => workers_argument(parts),
+        Setting::States => states_argument(parts),
         Setting::Flag(flag) => flag_argument(parts, flag),
     }
 }
@@ -117,6 +118,19 @@ fn workers_argument<'a>(parts: Parts<'a>) -> Arg<'a>
         .value_parser(ValueParser::Unsigned(1, MAX_WORKERS as u64))
         .default_value("1")
         .help("Shares the plans among so many threads, 1 to 16")
+}
+
+// The number of states that are kept, as an argument.
+fn states_argument<'a>(parts: Parts<'a>) -> Arg<'a>
+    ensures rule { rule_of result ≡ states_option }
+    ensures local { result.global ≡ false }
+{
+    Arg::new(parts.alloc, "states")
+        .long("states")
+        .action(ArgAction::Set)
+        .value_parser(ValueParser::Unsigned(1, MOST_STATES as u64))
+        .default_value("1000000")
+        .help("Keeps so many states at most, and ends unfinished where there are more")
 }
 
 // A word that takes no value, as an argument.

@@ -21,9 +21,10 @@ EOF
 `rehearse run --help` lists the commands of a script, `rehearse check --help`
 says what a cluster file holds, `rehearse story --help` how a script is printed
 with its answers, `rehearse verify --help` how it is tested, `rehearse sessions
---help` how several operators share one cluster, and `rehearse sweep --help` how
-many failures are tried from one state. Each line that is printed is explained
-in docs/ANSWERS.md; what a live OTP does otherwise is in docs/LIVE_OTP.md.
+--help` how several operators share one cluster, `rehearse sweep --help` how
+many failures are tried from one state, and `rehearse explore --help` how all of
+them are. Each line that is printed is explained in docs/ANSWERS.md; what a live
+OTP does otherwise is in docs/LIVE_OTP.md.
 
 Exit status:
 
@@ -35,7 +36,8 @@ Exit status:
   5  out of memory
   6  the sweep was refused, or the sessions made no one history
   9  `run` was asked to be strict, and a step was refused; or `verify` found
-     what isn't as the script expects";
+     what isn't as the script expects; or `explore` what isn't as asked
+ 10  `explore` found more states than it was to keep";
 
 pub static RUN_ABOUT: &str = "Reads a cluster file and a script, and answers each command";
 
@@ -305,3 +307,73 @@ docs/ANSWERS.md explains each line.
 Example:
 
   ./rehearse sweep --workers 4 < examples/five-nodes-sweep.txt";
+
+pub static EXPLORE_ABOUT: &str = "Says what no sequence of the events that may come can do";
+
+pub static EXPLORE_AFTER_HELP: &str = "\
+The input is that of `rehearse run` on standard input. Behind its script, which
+is the base, stands what may happen and what is asked:
+
+./rehearse explore << 'EOF'
+{node, a@x, [{kernel, [{distributed, [{web, 1000, [a@x, b@x]}]}]},
+  {rehearse, [{boot, [{web, permanent}]}]}]}.
+{node, b@x, [{kernel, [{distributed, [{web, 1000, [a@x, b@x]}]}]},
+  {rehearse, [{boot, [{web, permanent}]}]}]}.
+{application, web, []}.
+===
+boot a@x
+boot b@x
+may crash *
+may boot *
+may tick 1000
+steps 6
+ask app web running or down a@x b@x
+EOF
+
+The base is answered as in `rehearse run`. From the state that is reached then
+all lists of the events are tried that may come, and equal states are merged.
+
+  may EVENT                  this event may come, as often as one likes: a
+                             command from `boot` to `stop_all` of `rehearse run
+                             --help`; `*` in place of a name stands for each
+                             node, or each application
+  steps K                    at most K events follow one another
+  down K                     behind each event at most K nodes are not up
+  ask app A running          is A running somewhere, in each state in which no
+                             failover or sync timer is set?
+  ask app A running or down N N ..
+                             the same, but where none of these nodes is up
+  ask always ..              in each state, also where a timer is set
+
+Without `steps` any number of events may follow, without `down` all nodes may be
+down, and where several say it the last counts. It tells
+
+  explored K states deepest K up to K steps up to K down
+                             how many different states there are, and how many
+                             events lead to the last; up to K steps if longer
+                             lists were not tried, up to K down if the bound
+                             leaves out some
+
+and for each `ask`, in their order,
+
+  holds                      in all these states
+  fails in K                 not behind the K events that follow as commands:
+                             no shorter list leads to such a state, whose
+                             report stands behind them
+  unfinished                 the last line, where there are more states than
+                             `--states` says: what is told is true up to as
+                             many steps as the first line says
+
+Time passes only by `may tick D`, and each moment is a state of its own: so with
+a `tick` the states have no end, and `steps` should be given.
+
+All lines are read first. A line that is no command of the base and none of
+these, or a name that the cluster hasn't, is told alone: `bad line K`. K counts
+lines from 1 behind `===`, with blank lines and comments. The status is 9 where
+an `ask` fails, and else 10 where it is unfinished.
+
+docs/ANSWERS.md explains each line.
+
+Example:
+
+  ./rehearse explore < examples/any-failures.txt";

@@ -7,9 +7,9 @@ ghost use Rattle.rh_rules.specs.declared.pick.Pick.TheVariants as pick;
 ghost use Rattle.rh_sweep.specs.Sweeping.{AreWorkers};
 ghost use Rattle.rh_programs.specs.Status.{IsStaffed};
 ghost use Rattle.rh_programs.specs.declared.status.Program.TheVariants as program;
-ghost use Rattle.rehearse.specs.Asking.{allowed, flag_in, is_given, pick_in, program_among, program_in, program_of, run_as, run_of, workers_in};
+ghost use Rattle.rehearse.specs.Asking.{allowed, allowed_states, flag_in, is_given, pick_in, program_among, program_in, program_of, run_as, run_of, states_in, workers_in};
 
-use crate::table::{Flag, Subcommand, subcommand_named};
+use crate::table::{Flag, MOST_STATES, Subcommand, subcommand_named};
 use clap::ArgMatches;
 use rh_manner::Manner;
 use rh_programs::Program;
@@ -51,6 +51,7 @@ fn program_of(subcommand: Subcommand, matches: &ArgMatches<'_>) -> Option<Progra
         Subcommand::Verify => Some(Program::Verify(pick_in(matches))),
         Subcommand::Sessions => Some(Program::Sessions(pick_in(matches))),
         Subcommand::Sweep => Some(Program::Sweep(pick_in(matches), workers_in(matches)?)),
+        Subcommand::Explore => Some(Program::Explore(pick_in(matches), states_in(matches)?)),
     }
 }
 
@@ -145,6 +146,27 @@ fn allowed(workers: usize) -> Option<usize>
 {
     if workers >= 1 && workers <= MAX_WORKERS {
         Some(workers)
+    } else {
+        None
+    }
+}
+
+// The number of states that are kept, if it may be so many.
+fn states_in(matches: &ArgMatches<'_>) -> Option<usize>
+    ensures { result ≡ states_in (rows_of (found_of matches.now)) }
+{
+    match matches.get_one::<usize>("states") {
+        Some(states) => allowed_states(states),
+        None => None,
+    }
+}
+
+// This number of states, if it may be so many.
+fn allowed_states(states: usize) -> Option<usize>
+    ensures { result ≡ allowed_states states }
+{
+    if states >= 1 && states <= MOST_STATES {
+        Some(states)
     } else {
         None
     }

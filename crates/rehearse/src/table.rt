@@ -5,7 +5,7 @@ ghost use Rattle.std.specs.Str.{bytes_eq};
 ghost use Rattle.rehearse.specs.Table.{flag_word, settings_of, subcommand_named, word_of};
 
 use crate::help::{
-    CHECK_ABOUT, CHECK_AFTER_HELP, RUN_ABOUT, RUN_AFTER_HELP, SESSIONS_ABOUT, SESSIONS_AFTER_HELP,
+    CHECK_ABOUT, CHECK_AFTER_HELP, EXPLORE_ABOUT, EXPLORE_AFTER_HELP, RUN_ABOUT, RUN_AFTER_HELP, SESSIONS_ABOUT, SESSIONS_AFTER_HELP,
     STORY_ABOUT, STORY_AFTER_HELP, SWEEP_ABOUT, SWEEP_AFTER_HELP, VERIFY_ABOUT, VERIFY_AFTER_HELP,
 };
 
@@ -46,6 +46,9 @@ impl Flag {
     }
 }
 
+/// The most states that a search can be asked to keep.
+pub const MOST_STATES: usize = 4_294_967_295;
+
 /// An option of a subcommand.
 #[derive(Clone, Copy)]
 pub enum Setting {
@@ -53,6 +56,8 @@ pub enum Setting {
     Pick,
     /// The number of workers.
     Workers,
+    /// How many states are kept.
+    States,
     /// A word without a value.
     Flag(Flag),
 }
@@ -62,6 +67,8 @@ static JSON: [Setting; 1] = [Setting::Flag(Flag::Json)];
 static PICK: [Setting; 1] = [Setting::Pick];
 
 static PICK_WHOLE: [Setting; 2] = [Setting::Pick, Setting::Flag(Flag::Whole)];
+
+static PICK_STATES: [Setting; 2] = [Setting::Pick, Setting::States];
 
 static PICK_WORKERS: [Setting; 2] = [Setting::Pick, Setting::Workers];
 
@@ -81,16 +88,18 @@ pub enum Subcommand {
     Verify,
     Sessions,
     Sweep,
+    Explore,
 }
 
 /// All of them, in the order in which help lists them.
-pub static SUBCOMMANDS: [Subcommand; 6] = [
+pub static SUBCOMMANDS: [Subcommand; 7] = [
     Subcommand::Run,
     Subcommand::Check,
     Subcommand::Story,
     Subcommand::Verify,
     Subcommand::Sessions,
     Subcommand::Sweep,
+    Subcommand::Explore,
 ];
 
 /// What the command line has of a subcommand: its word, its options, and its texts of help.
@@ -141,6 +150,12 @@ impl Subcommand {
                 PICK_WORKERS.as_slice(),
                 SWEEP_ABOUT,
                 SWEEP_AFTER_HELP,
+            ),
+            Subcommand::Explore => entry_of(
+                "explore",
+                PICK_STATES.as_slice(),
+                EXPLORE_ABOUT,
+                EXPLORE_AFTER_HELP,
             ),
         }
     }

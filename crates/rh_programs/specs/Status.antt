@@ -5,7 +5,7 @@ use Rattle.rh_app.specs.declared.fault.RunFault.{RunFault}
 use Rattle.rh_app.specs.declared.fault.RunFault.TheVariants as end
 use Rattle.rh_app.specs.declared.fault.Told.{Told}
 use Rattle.rh_programs.specs.declared.status.Program.{Program}
-use Rattle.rh_programs.specs.declared.status.Program.TheVariants.{Check, CheckJson, Run, RunIn, RunJson, Story, Verify, Sessions, Sweep}
+use Rattle.rh_programs.specs.declared.status.Program.TheVariants.{Check, CheckJson, Run, RunIn, RunJson, Story, Verify, Explore, Sessions, Sweep}
 use Rattle.rh_devices.specs.declared.watched.Watched.{Watched}
 use Rattle.rh_devices.specs.Devices.{Passed}
 use Rattle.rh_app.specs.Programs.{IsInput, ProgramGives, NoThreads}
@@ -13,6 +13,7 @@ use Rattle.rh_app.specs.CheckText.{OwesCheck}
 use Rattle.rh_app.specs.RunText.{OwesRun}
 use Rattle.rh_app.specs.Sessions.{MayGive, AskHistory}
 use Rattle.rh_app.specs.SweepText.{OwesSweep}
+use Rattle.rh_explore_text.specs.ExploreText.{OwesExplore}
 use Rattle.rh_json.specs.CheckJson.{OwesCheckJson}
 use Rattle.rh_json.specs.RunJson.{OwesRunJson}
 use Rattle.rh_manner.specs.MannerText.{OwesRunIn}
@@ -28,6 +29,7 @@ Owes (RunIn pick manner) = OwesRunIn manner pick
 Owes (RunJson pick) = OwesRunJson pick
 Owes (Story pick whole) = OwesStory pick whole
 Owes (Verify pick) = OwesVerify pick
+Owes (Explore pick states) = OwesExplore pick states
 Owes (Sessions pick) = MayGive pick
 Owes (Sweep pick workers) = OwesSweep pick
 

@@ -7,6 +7,7 @@ ghost use Rattle.rh_programs.specs.Status.{Owes, MayTear, Flushed, IsStaffed, Is
 use rh_app::{
     RunFault, Sink, Source, Watched, run, run_check, run_sessions, run_sweep, run_sweep_alone,
 };
+use rh_explore_text::run_explore;
 use rh_json::{check_json, run_json};
 use rh_manner::{Manner, run_in};
 use rh_rules::Pick;
@@ -33,6 +34,8 @@ pub enum Program {
     Story(Pick, bool),
     /// What came of each command is compared with what the script expects.
     Verify(Pick),
+    /// All states are searched that events reach from a base, and at most so many are kept.
+    Explore(Pick, usize),
     /// Sessions share a cluster.
     Sessions(Pick),
     /// Plans are tried, by so many workers.
@@ -57,7 +60,7 @@ impl Program {
 ///
 /// 0 says that the whole text of all that was read was written and flushed, and tells no fault. 2 is a text that describes no
 /// cluster, 3 a bad line, 4 a device that failed or an input that is too long, 5 want of memory, 6 plans that can't be swept,
-/// 9 a step that was refused where the program was asked to be strict, or what a script expects and doesn't hold, 10 a search that
+/// 9 a step that was refused where the program was asked to be strict, or what a script expects or asks and doesn't hold, 10 a search that
 /// ended before all was looked at.
 pub fn rehearse_alone<S: Source, K: Sink>(
     alloc: Global,
@@ -116,6 +119,7 @@ fn ended_alone<S: Source, K: Sink>(
         Program::RunJson(pick) => run_json(alloc, reader, writer, pick),
         Program::Story(pick, whole) => run_story(alloc, reader, writer, pick, whole),
         Program::Verify(pick) => run_verify(alloc, reader, writer, pick),
+        Program::Explore(pick, states) => run_explore(alloc, reader, writer, pick, states),
         Program::Sweep(pick, _) => run_sweep_alone(alloc, reader, writer, pick),
         Program::Sessions(_) => unreachable!(),
     }

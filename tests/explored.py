@@ -1,0 +1,191 @@
+"""`explore` beside a plain search over the model (model.py): random small clusters, bases, events, bounds and questions.
+
+The search here keeps whole states, tells them apart by all that a state has, and goes through the events in the order of their
+lines. So the program has to print the same text: as many states, the same verdicts, and as short lists of events. The seed is
+fixed, so that each run makes the same searches. That these reach all that they are made for is a test too.
+"""
+import collections
+import copy
+import random
+from typing import Iterator, Optional
+
+import model
+from groups import Group
+from model_state import report
+from random_scripts import Part
+from support import fault_of, run
+
+SEARCHES, AT_ONCE = 120, 10
+MOST_STEPS = 2 ** 32 - 1
+PATTERNS = ["crash *", "crash *", "boot *", "boot *", "tick 500", "tick 1000", "permit * * false", "permit * {app} true", "stop {node} *",
+            "start * {app} permanent", "takeover * * transient", "exit * * abnormal", "start_all * temporary", "stop_all *",
+            "boot {node}", "crash {node}"]
+
+
+def key(state) -> tuple:
+    """All that a state has. A pair that was never started has the restart type and the kind that a new state has."""
+    pairs = [(node, app) for node in range(len(state.cluster.nodes)) for app in range(len(state.cluster.apps))]
+    return (state.now, tuple(state.mode), tuple(state.starts), tuple(map(tuple, state.running)), tuple(map(tuple, state.waiting)),
+            tuple(tuple(sorted(apps)) for apps in state.forbidden),
+            tuple(state.restart.get(pair, "temporary") for pair in pairs),
+            tuple(tuple(state.kind.get(pair, ("normal",))) for pair in pairs),
+            tuple(sorted(state.standing.items())),
+            tuple(sorted(state.timers, key=lambda entry: entry[0])))
+
+
+def events_of(rehearsal, pattern: str) -> list[list[str]]:
+    """The events of a line `may`: those with each name of the cluster in place of a `*`."""
+    words = pattern.split()
+    nodes, apps = ([part.name for part in parts] for parts in (rehearsal.cluster.nodes, rehearsal.cluster.apps))
+    kinds = [apps] if words[0] in ("start_all", "stop_all") else [nodes, apps]
+    found = [words]
+    for place, names in enumerate(kinds, 1):
+        if place < len(words) and words[place] == "*":
+            found = [[*line[:place], name, *line[place + 1:]] for line in found for name in names]
+    return found
+
+
+class Question:
+    """A line `ask`: whether it is asked of each state, and the application and the nodes that it names."""
+
+    def __init__(self, words: list[str]):
+        self.always = words[1] == "always"
+        rest = words[2 if self.always else 1:]
+        self.app, self.down = rest[1], rest[5:]
+
+    def holds(self, rehearsal, state) -> bool:
+        if not self.always and state.timers:
+            return True
+        app = rehearsal.number(rehearsal.cluster.apps, self.app)
+        if any(app in running for running in state.running):
+            return True
+        nodes = [rehearsal.number(rehearsal.cluster.nodes, name) for name in self.down]
+        return bool(nodes) and all(state.mode[node] != "up" for node in nodes)
+
+
+class Search:
+    """A search: `text` is what is owed, `status` how it ends, and `reached` what of it happened."""
+
+    def __init__(self, cluster: str, lines: list[str], most: int, pick: str):
+        self.rehearsal, told = model.Rehearsal(cluster, pick), []
+        self.events, self.asks = [], []
+        self.down, self.steps, self.most = len(self.rehearsal.cluster.nodes), MOST_STEPS, most
+        self.base = None
+        for line in lines:
+            words = line.split()
+            if words[0] == "may":
+                self.events += events_of(self.rehearsal, " ".join(words[1:]))
+            elif words[0] == "down":
+                self.down = int(words[1])
+            elif words[0] == "steps":
+                self.steps = int(words[1])
+            elif words[0] == "ask":
+                self.asks.append(Question(words))
+            else:
+                told += self.rehearsal.answer(words)
+        self.start = self.rehearsal.state
+        self.look()
+        self.text = model.joined([*told, *self.told()])
+        self.status = 9 if self.failed else 10 if self.unfinished else 0
+
+    def behind(self, state, words) -> Optional[object]:
+        """The state behind an event, unless that is refused, or too many nodes are not up then."""
+        step = model.Rehearsal.__new__(model.Rehearsal)
+        step.cluster, step.pick, step.states, step.cursor = self.rehearsal.cluster, self.rehearsal.pick, [copy.deepcopy(state)], 0
+        step.accepted = step.failovers = step.takeovers = 0
+        if step.refused(words) is not None:
+            return None
+        step.step(words)
+        return None if sum(mode != "up" for mode in step.state.mode) > self.down else step.state
+
+    def look(self) -> None:
+        """Goes through all states, those by fewer events first."""
+        found, keys, self.whole = [([], self.start)], {key(self.start)}, None
+        for path, state in found:
+            if len(path) >= self.steps:
+                self.whole = self.steps
+                break
+            for words in self.events:
+                after = self.behind(state, words)
+                if after is None or key(after) in keys:
+                    continue
+                if len(found) >= self.most:
+                    self.whole = len(path)
+                    break
+                keys.add(key(after))
+                found.append((path + [words], after))
+            if self.whole is not None:
+                break
+        self.found = found
+        self.unfinished = self.whole is not None and self.whole < self.steps
+        self.verdicts = [next(((path, state) for path, state in found if not ask.holds(self.rehearsal, state)), None) for ask in self.asks]
+        self.failed = any(verdict is not None for verdict in self.verdicts)
+
+    def told(self) -> Iterator[str]:
+        head = f"explored {len(self.found)} states deepest {len(self.found[-1][0])}"
+        if self.whole is not None:
+            head += f" up to {self.whole} steps"
+        if self.down < len(self.rehearsal.cluster.nodes):
+            head += f" up to {self.down} down"
+        yield head
+        for verdict in self.verdicts:
+            if verdict is None:
+                yield "holds"
+            else:
+                path, state = verdict
+                yield f"fails in {len(path)}"
+                yield from map(" ".join, path)
+                yield from report(state)
+        if self.unfinished:
+            yield "unfinished"
+
+
+def search(number: int) -> tuple[str, list[str], int, str]:
+    """The cluster file of a random search, its lines, how many states it may keep, and the choice at a tie."""
+    chance = random.Random(f"explore {number}")
+    part = Part(chance, chance.choice([0, 1, 2]))
+    while len(part.nodes) > 3 or len(part.apps) > 3:
+        part = Part(chance, chance.choice([0, 1, 2]))
+    lines = [f"boot {node}" for node in part.nodes if chance.random() < 0.7]
+    if chance.random() < 0.3:
+        lines.append(chance.choice(["tick 500", "undo", "show"]))
+    for pattern in chance.sample(PATTERNS, chance.randint(1, 5)):
+        lines.append("may " + pattern.format(node=chance.choice(part.nodes), app=chance.choice(part.apps)))
+    lines.append(f"steps {chance.randint(1, 4)}")
+    if chance.random() < 0.3:
+        lines.append(f"down {chance.randint(0, len(part.nodes))}")
+    for _ in range(chance.randint(0, 3)):
+        line = "ask always" if chance.random() < 0.4 else "ask"
+        line += f" app {chance.choice(part.apps)} running"
+        if chance.random() < 0.6:
+            line += " or down " + " ".join(chance.sample(part.nodes, chance.randint(1, len(part.nodes))))
+        lines.append(line)
+    most = chance.choice([1_000_000, 1_000_000, 1_000_000, 20, 1])
+    return part.text, lines, most, chance.choice(["first", "last"])
+
+
+def explored(program, numbers):
+    """Each search of these numbers is answered as by the model. Returns what they reach."""
+    reached = collections.Counter()
+    for number in numbers:
+        cluster, lines, most, pick = search(number)
+        owed = Search(cluster, lines, most, pick)
+        text = cluster + "===\n" + model.joined(lines)
+        done = run(program, ["explore", "--pick", pick, "--states", str(most)], input=text.encode())
+        yield f"random search {number}", fault_of(done, owed.status, owed.text.encode())
+        reached["states"] += len(owed.found)
+        reached["holds"] += sum(verdict is None for verdict in owed.verdicts)
+        reached["fails"] += sum(verdict is not None and bool(verdict[0]) for verdict in owed.verdicts)
+        reached["closed"] += owed.whole is None
+        reached["unfinished"] += owed.unfinished
+    return reached
+
+
+def reaches_all(counters):
+    """Together the searches reach all that they are made for."""
+    reached = sum(counters, collections.Counter())
+    for what, least in (("states", 1_000), ("holds", 20), ("fails", 20), ("closed", 5), ("unfinished", 5)):
+        yield f"random searches: {what}", None if reached[what] >= least else f"{reached[what]} of {least}"
+
+
+TESTS = (Group(explored, [range(begin, begin + AT_ONCE) for begin in range(0, SEARCHES, AT_ONCE)], end=reaches_all),)
