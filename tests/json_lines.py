@@ -1,4 +1,4 @@
-"""What programs read: `run --json` and `check --json` tell what `run` and `check` tell.
+"""What programs read: `run --json`, `check --json` and `sweep --json` tell what `run`, `check` and `sweep` tell.
 
 Each line is parsed by Python's json. From its fields the other output is written again, and has to be that output, byte for byte.
 What that one doesn't tell is compared with what it was asked: the number and the text of a command's line with the script, the
@@ -26,6 +26,8 @@ KEYS = {
     "waiting": "application restart",
     "standing": "name standing ?node",
     "timer": "timer ?node ?application due",
+    "outcome": "plan accepted failovers takeovers ?refused applications",
+    "event": "event answer",
 }
 
 
@@ -85,9 +87,8 @@ def timer_line(timer):
 
 def report_text(report):
     has_keys("report", report)
-    apps = [has_keys("standing", it) for it in report["applications"]]
     return (words("now", report["time"]) + "".join(map(node_lines, report["nodes"]))
-            + "".join(words("app", it["name"], it["standing"], it.get("node")) for it in apps)
+            + "".join(map(standing_line, report["applications"]))
             + "".join(map(timer_line, report["timers"])))
 
 
@@ -110,6 +111,46 @@ def run_text(lines):
     return "".join(map(answer_text, told)) + (words("bad line", bad["line"]) if bad else "")
 
 
+def standing_line(it):
+    has_keys("standing", it)
+    return words("app", it["name"], it["standing"], it.get("node"))
+
+
+def refused_line(event):
+    has_keys("event", event)
+    assert event["answer"].startswith("refused "), f"a refused event is answered by {event['answer']!r}"
+    return words("refused", event["event"], event["answer"].removeprefix("refused "))
+
+
+def outcome_text(told):
+    """What `sweep` prints of a plan."""
+    has_keys("outcome", told)
+    return (words("plan", told["plan"], "accepted", told["accepted"], "failovers", told["failovers"], "takeovers", told["takeovers"])
+            + (refused_line(told["refused"]) if "refused" in told else "") + "".join(map(standing_line, told["applications"])))
+
+
+def sweep_text(lines):
+    """What `sweep` prints where `sweep --json` prints these lines."""
+    if "bad" in lines[-1]:
+        assert len(lines) == 2, "more is told than the bad line"
+        return words("bad line", has_keys("bad", lines[-1])["line"])
+    if "refused" in lines[0]:
+        return run_text(lines)
+    base, plans = base_and_plans(lines)
+    if plans and "reason" in plans[-1]:
+        assert len(plans) == 1, "plans are told of a sweep that is refused"
+        return "".join(map(answer_text, base)) + "sweep " + words("refused", plans[0]["refused"], has_keys("refused", plans[0])["reason"])
+    return "".join(map(answer_text, base)) + "".join(map(outcome_text, plans))
+
+
+def base_and_plans(lines):
+    """The lines of the base's commands, and those behind them."""
+    count = sum("command" in it for it in lines)
+    base, plans = lines[1:1 + count], lines[1 + count:]
+    assert all("command" in it for it in base), "a command of the base isn't told before the plans"
+    return base, plans
+
+
 def check_text(line):
     """What `check` prints where `check --json` prints this line."""
     if "refused" in line:
@@ -130,6 +171,17 @@ def script_of(text):
 
 def is_command(line):
     return not line.startswith("#") and line.strip(" ") != ""
+
+
+def begins_plan(line):
+    return is_command(line) and line.split()[0] == "plan"
+
+
+def base_of(text):
+    """An input up to the first line of its script that begins a plan."""
+    front, apart, script = text.partition("===\n")
+    lines = script.split("\n")
+    return front + apart + "\n".join(lines[:next((at for at, line in enumerate(lines) if begins_plan(line)), len(lines))])
 
 
 def assert_lines(text, lines):
@@ -186,51 +238,82 @@ def told_by(program, command, options, text):
     return [parsed(line) for line in shown.split("\n")[:-1]], ended.returncode
 
 
-def fault_in(program, options, data):
+def fault_in(check, program, options, data):
     """What is wrong with the JSON of an input, or None."""
     try:
-        lines, status = told_by(program, "run", options, data)
-        plain = run(program, ["run", *options], input=data)
-        assert status == plain.returncode, f"status {status}, without --json {plain.returncode}"
-        if not lines:
-            return None if plain.stdout == b"" else "nothing is told"
-        assert run_text(lines) == plain.stdout.decode(), "it isn't what `run` prints"
-        [line], status = told_by(program, "check", [], data)
-        check = run(program, ["check"], input=data)
-        assert (check_text(line), status) == (check.stdout.decode(), check.returncode), "it isn't what `check` prints"
-        assert line == lines[0], "the first line isn't that of `check`"
-        if "refused" not in line:
-            # A line of a script may be no UTF-8: it is no command.
-            text = data.decode(errors="surrogateescape")
-            assert_lines(text, lines[1:])
-            commands = [it for it in lines[1:] if "bad" not in it]
-            if not any(it["command"].split()[0] in ("undo", "redo", "undo_all", "redo_all") for it in commands) and "===\n" in text:
-                assert_times(program, options, text, commands)
+        check(program, options, data)
         return None
     except (AssertionError, ValueError, KeyError, IndexError) as fault:
         return f"{type(fault).__name__}: {fault}"
 
 
+def check_run(program, options, data):
+    """The lines of a run tell what `run` prints, and that of a check what `check` prints."""
+    lines, status = told_by(program, "run", options, data)
+    plain = run(program, ["run", *options], input=data)
+    assert status == plain.returncode, f"status {status}, without --json {plain.returncode}"
+    if not lines:
+        assert plain.stdout == b"", "nothing is told"
+        return
+    assert run_text(lines) == plain.stdout.decode(), "it isn't what `run` prints"
+    [line], status = told_by(program, "check", [], data)
+    check = run(program, ["check"], input=data)
+    assert (check_text(line), status) == (check.stdout.decode(), check.returncode), "it isn't what `check` prints"
+    assert line == lines[0], "the first line isn't that of `check`"
+    if "refused" not in line:
+        # A line of a script may be no UTF-8: it is no command.
+        text = data.decode(errors="surrogateescape")
+        assert_lines(text, lines[1:])
+        commands = [it for it in lines[1:] if "bad" not in it]
+        if not any(it["command"].split()[0] in ("undo", "redo", "undo_all", "redo_all") for it in commands) and "===\n" in text:
+            assert_times(program, options, text, commands)
+
+
+def check_sweep(program, options, data):
+    """The lines of a sweep tell what `sweep` prints, its base what `run --json` tells of it, and workers make no difference."""
+    lines, status = told_by(program, "sweep", options, data)
+    plain = run(program, ["sweep", *options], input=data)
+    assert status == plain.returncode, f"status {status}, without --json {plain.returncode}"
+    assert sweep_text(lines) == plain.stdout.decode(), "it isn't what `sweep` prints"
+    [line], _ = told_by(program, "check", [], data)
+    assert line == lines[0], "the first line isn't that of `check`"
+    others = without(options, "--workers")
+    assert told_by(program, "sweep", [*others, "--workers", "5"], data) == (lines, status), "by five workers other lines are told"
+    if "refused" not in line and "bad" not in lines[-1]:
+        base, _ = base_and_plans(lines)
+        text = base_of(data.decode(errors="surrogateescape"))
+        assert told_by(program, "run", others, text.encode(errors="surrogateescape"))[0] == [line, *base], "the base isn't that of `run`"
+
+
+def without(options, name):
+    """The options but for the one of this name, with its value behind it or behind `=`."""
+    places = [at for at, word in enumerate(options) if word == name]
+    return [word for at, word in enumerate(options) if at not in places and at - 1 not in places and not word.startswith(f"{name}=")]
+
+
 def json_of_examples(program):
     """The examples, the refused ones among them, told as JSON."""
     for path in example_files():
-        yield f"json of examples/{os.path.relpath(path, EXAMPLES)}", fault_in(program, [], read(path))
+        yield f"json of examples/{os.path.relpath(path, EXAMPLES)}", fault_in(check_run, program, [], read(path))
+        yield f"json of a sweep of examples/{os.path.relpath(path, EXAMPLES)}", fault_in(check_sweep, program, [], read(path))
 
 
 def json_of_rows(program):
-    """The inputs of the rows of `run`, told as JSON."""
+    """The inputs of the rows of `run` and `sweep`, told as JSON."""
     for path in files_below(ROWS):
         row = row_at(path)
-        if row.words[:1] == ["run"] and not {"--json", "--echo", "--strict"} & {*row.words} and row.status in (0, 2, 3):
-            yield f"json of {os.path.relpath(path, ROWS)}", fault_in(program, row.words[1:], row.input)
+        check = {"run": check_run, "sweep": check_sweep}.get(row.words[0] if row.words else "")
+        if check and not {"--json", "--echo", "--strict"} & {*row.words} and row.status in (0, 2, 3, 6):
+            yield f"json of {os.path.relpath(path, ROWS)}", fault_in(check, program, row.words[1:], row.input)
 
 
 def json_of_random_scripts(program, numbers):
     """Random scripts, told as JSON."""
     for number in numbers:
         given, text, _ = random_scripts.case(number)
-        if given[0] == "run":
-            yield f"json of random script {number}", fault_in(program, given[1:], text.encode())
+        check = {"run": check_run, "sweep": check_sweep}.get(given[0])
+        if check:
+            yield f"json of random script {number}", fault_in(check, program, given[1:], text.encode())
 
 
 TESTS = (json_of_examples, json_of_rows,

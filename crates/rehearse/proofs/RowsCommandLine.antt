@@ -9,7 +9,7 @@ use Rattle.clap.specs.declared.error.kind.ErrorKind.TheVariants as kind
 use Rattle.clap.proofs.OnLiterals.{clap_on_literals}
 use Rattle.rh_rules.specs.declared.pick.Pick.TheVariants.{First, Last}
 use Rattle.rh_programs.specs.declared.status.Program.{Program}
-use Rattle.rh_programs.specs.declared.status.Program.TheVariants.{Check, CheckJson, Run, RunIn, RunJson, Story, Verify, Explore, Sessions, Sweep}
+use Rattle.rh_programs.specs.declared.status.Program.TheVariants.{Check, CheckJson, Run, RunIn, RunJson, Story, Verify, Explore, Sessions, Sweep, SweepJson}
 use Rattle.rehearse.specs.CommandLine.{Picks, ArePicks, line}
 use Rattle.rehearse.specs.Table.{subcommand_named}
 use Rattle.rehearse.specs.Asking.{program_among}
@@ -91,6 +91,12 @@ sweep_row : (asks (codes "sweep" ∷ []) ≡ Some (Sweep First 1)) × (faults (c
     × (faults (codes "sweep" ∷ codes "--pick=last" ∷ codes "--workers=16" ∷ []) ≡ [])
 unfolding clap_on_literals subcommand_named
 sweep_row = (refl, refl, refl, refl, refl)
+
+-- as lines of JSON, by one worker or by several
+sweep_json_row : (asks (codes "sweep" ∷ codes "--json" ∷ []) ≡ Some (SweepJson First 1)) × (faults (codes "sweep" ∷ codes "--json" ∷ []) ≡ [])
+    × (asks (codes "sweep" ∷ codes "--workers=3" ∷ codes "--json" ∷ codes "--pick" ∷ codes "last" ∷ []) ≡ Some (SweepJson Last 3))
+unfolding clap_on_literals subcommand_named
+sweep_json_row = (refl, refl, refl)
 
 -- another number, or none
 workers_row : (faults (codes "sweep" ∷ codes "--workers" ∷ codes "0" ∷ []) ≡ kind.ValueValidation ∷ [])

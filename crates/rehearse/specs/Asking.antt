@@ -81,6 +81,10 @@ abbrev pub run_as : Pick → Bool → Bool → Bool → Option Program
 run_as pick echo strict json =
     if json then (if echo || strict then None else Some (program.RunJson pick)) else Some (run_of pick echo strict)
 
+-- a sweep by so many workers, by JSON or not
+abbrev pub sweep_of : Pick → Bool → ℕ → Program
+sweep_of pick json workers = if json then program.SweepJson pick workers else program.Sweep pick workers
+
 -- the program that a subcommand means with these matches
 abbrev pub program_of : Subcommand → List Row → Option Program
 program_of Check rows = Some (if flag_in Json rows then program.CheckJson else program.Check)
@@ -88,7 +92,7 @@ program_of Run rows = run_as (pick_in rows) (flag_in Echo rows) (flag_in Strict 
 program_of Story rows = Some (program.Story (pick_in rows) (flag_in Whole rows))
 program_of Verify rows = Some (program.Verify (pick_in rows))
 program_of Sessions rows = Some (program.Sessions (pick_in rows))
-program_of Sweep rows = option_map (program.Sweep (pick_in rows)) (workers_in rows)
+program_of Sweep rows = option_map (sweep_of (pick_in rows) (flag_in Json rows)) (workers_in rows)
 program_of Explore rows = option_map (program.Explore (pick_in rows)) (states_in rows)
 
 -- the program of the subcommand with this word and these matches

@@ -22,7 +22,7 @@ entry_of Check = (codes "check", setting.Flag Json ∷ [])
 entry_of Story = (codes "story", setting.Pick ∷ setting.Flag Whole ∷ [])
 entry_of Verify = (codes "verify", setting.Pick ∷ [])
 entry_of Sessions = (codes "sessions", setting.Pick ∷ [])
-entry_of Sweep = (codes "sweep", setting.Pick ∷ setting.Workers ∷ [])
+entry_of Sweep = (codes "sweep", setting.Pick ∷ setting.Workers ∷ setting.Flag Json ∷ [])
 entry_of Explore = (codes "explore", setting.Pick ∷ setting.States ∷ [])
 
 abbrev pub word_of : Subcommand → List ℕ

@@ -302,6 +302,9 @@ blank lines and comments. The last line is `sweep refused V2 base_not_at_end`
 where the base ends with steps taken back, and `sweep refused V3 trail_room`
 where the base and a plan have more than 65535 events together.
 
+With `--json` each answer and each plan is a line of JSON, for programs:
+docs/JSON.md has its fields.
+
 docs/ANSWERS.md explains each line.
 
 Example:

@@ -7,7 +7,7 @@ ghost use Rattle.rh_rules.specs.declared.pick.Pick.TheVariants as pick;
 ghost use Rattle.rh_sweep.specs.Sweeping.{AreWorkers};
 ghost use Rattle.rh_programs.specs.Status.{IsStaffed};
 ghost use Rattle.rh_programs.specs.declared.status.Program.TheVariants as program;
-ghost use Rattle.rehearse.specs.Asking.{allowed, allowed_states, flag_in, is_given, pick_in, program_among, program_in, program_of, run_as, run_of, states_in, workers_in};
+ghost use Rattle.rehearse.specs.Asking.{allowed, allowed_states, flag_in, is_given, pick_in, program_among, program_in, program_of, run_as, run_of, states_in, sweep_of, workers_in};
 
 use crate::table::{Flag, MOST_STATES, Subcommand, subcommand_named};
 use clap::ArgMatches;
@@ -50,7 +50,11 @@ fn program_of(subcommand: Subcommand, matches: &ArgMatches<'_>) -> Option<Progra
         Subcommand::Story => Some(Program::Story(pick_in(matches), flag_in(matches, Flag::Whole))),
         Subcommand::Verify => Some(Program::Verify(pick_in(matches))),
         Subcommand::Sessions => Some(Program::Sessions(pick_in(matches))),
-        Subcommand::Sweep => Some(Program::Sweep(pick_in(matches), workers_in(matches)?)),
+        Subcommand::Sweep => Some(sweep_of(
+            pick_in(matches),
+            flag_in(matches, Flag::Json),
+            workers_in(matches)?,
+        )),
         Subcommand::Explore => Some(Program::Explore(pick_in(matches), states_in(matches)?)),
     }
 }
@@ -90,6 +94,19 @@ fn run_of(pick: Pick, echo: bool, strict: bool) -> Program
         Program::RunIn(pick, Manner { echo, strict })
     } else {
         Program::Run(pick)
+    }
+}
+
+// A sweep by so many workers, by JSON or not.
+fn sweep_of(pick: Pick, json: bool, workers: usize) -> Program
+    requires { AreWorkers workers }
+    ensures named { result ≡ sweep_of pick json workers }
+    ensures staffed { IsStaffed result }
+{
+    if json {
+        Program::SweepJson(pick, workers)
+    } else {
+        Program::Sweep(pick, workers)
     }
 }
 

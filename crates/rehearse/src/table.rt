@@ -70,7 +70,11 @@ static PICK_WHOLE: [Setting; 2] = [Setting::Pick, Setting::Flag(Flag::Whole)];
 
 static PICK_STATES: [Setting; 2] = [Setting::Pick, Setting::States];
 
-static PICK_WORKERS: [Setting; 2] = [Setting::Pick, Setting::Workers];
+static PICK_WORKERS_JSON: [Setting; 3] = [
+    Setting::Pick,
+    Setting::Workers,
+    Setting::Flag(Flag::Json),
+];
 
 static PICK_ECHO_STRICT_JSON: [Setting; 4] = [
     Setting::Pick,
@@ -147,7 +151,7 @@ impl Subcommand {
             ),
             Subcommand::Sweep => entry_of(
                 "sweep",
-                PICK_WORKERS.as_slice(),
+                PICK_WORKERS_JSON.as_slice(),
                 SWEEP_ABOUT,
                 SWEEP_AFTER_HELP,
             ),

@@ -5,7 +5,7 @@ use Rattle.rh_app.specs.declared.fault.RunFault.{RunFault}
 use Rattle.rh_app.specs.declared.fault.RunFault.TheVariants as end
 use Rattle.rh_app.specs.declared.fault.Told.{Told}
 use Rattle.rh_programs.specs.declared.status.Program.{Program}
-use Rattle.rh_programs.specs.declared.status.Program.TheVariants.{Check, CheckJson, Run, RunIn, RunJson, Story, Verify, Explore, Sessions, Sweep}
+use Rattle.rh_programs.specs.declared.status.Program.TheVariants.{Check, CheckJson, Run, RunIn, RunJson, Story, Verify, Explore, Sessions, Sweep, SweepJson}
 use Rattle.rh_devices.specs.declared.watched.Watched.{Watched}
 use Rattle.rh_devices.specs.Devices.{Passed}
 use Rattle.rh_app.specs.Programs.{IsInput, ProgramGives, NoThreads}
@@ -18,6 +18,7 @@ use Rattle.rh_json.specs.CheckJson.{OwesCheckJson}
 use Rattle.rh_json.specs.RunJson.{OwesRunJson}
 use Rattle.rh_manner.specs.MannerText.{OwesRunIn}
 use Rattle.rh_story.specs.StoryText.{OwesStory}
+use Rattle.rh_sweep_json.specs.SweepJson.{OwesSweepJson}
 use Rattle.rh_verify.specs.VerifyText.{OwesVerify}
 
 -- what a program owes
@@ -32,6 +33,7 @@ Owes (Verify pick) = OwesVerify pick
 Owes (Explore pick states) = OwesExplore pick states
 Owes (Sessions pick) = MayGive pick
 Owes (Sweep pick workers) = OwesSweep pick
+Owes (SweepJson pick workers) = OwesSweepJson pick
 
 -- for which inputs its threads may make no one history
 abbrev pub MayTear : Program → List ℕ → Type 0
@@ -42,11 +44,13 @@ MayTear program = NoThreads
 abbrev pub is_alone : Program → Bool
 is_alone (Sessions pick) = false
 is_alone (Sweep pick workers) = workers == 1
+is_alone (SweepJson pick workers) = workers == 1
 is_alone program = true
 
 -- a sweep has a number of workers that there may be
 abbrev pub IsStaffed : Program → Type 0
 IsStaffed (Sweep pick workers) = AreWorkers workers
+IsStaffed (SweepJson pick workers) = AreWorkers workers
 IsStaffed program = Unit {0}
 
 -- the exit status for how a program ended

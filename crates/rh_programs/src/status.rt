@@ -12,6 +12,7 @@ use rh_json::{check_json, run_json};
 use rh_manner::{Manner, run_in};
 use rh_rules::Pick;
 use rh_story::run_story;
+use rh_sweep_json::{sweep_json, sweep_json_alone};
 use rh_verify::run_verify;
 use std::alloc::Global;
 use std::sync::Wait;
@@ -40,6 +41,8 @@ pub enum Program {
     Sessions(Pick),
     /// Plans are tried, by so many workers.
     Sweep(Pick, usize),
+    /// The same, as lines of JSON.
+    SweepJson(Pick, usize),
 }
 
 impl Program {
@@ -49,7 +52,7 @@ impl Program {
     {
         match self {
             Program::Sessions(_) => false,
-            Program::Sweep(_, workers) => workers == 1,
+            Program::Sweep(_, workers) | Program::SweepJson(_, workers) => workers == 1,
             _ => true,
         }
     }
@@ -121,6 +124,7 @@ fn ended_alone<S: Source, K: Sink>(
         Program::Verify(pick) => run_verify(alloc, reader, writer, pick),
         Program::Explore(pick, states) => run_explore(alloc, reader, writer, pick, states),
         Program::Sweep(pick, _) => run_sweep_alone(alloc, reader, writer, pick),
+        Program::SweepJson(pick, _) => sweep_json_alone(alloc, reader, writer, pick),
         Program::Sessions(_) => unreachable!(),
     }
 }
@@ -141,6 +145,9 @@ fn ended_together<T: Threads + Wait + Sync, S: Source, K: Sink>(
     match program {
         Program::Sessions(pick) => run_sessions(rt, alloc, reader, writer, pick),
         Program::Sweep(pick, workers) => run_sweep(rt, alloc, reader, writer, pick, workers),
+        Program::SweepJson(pick, workers) => {
+            sweep_json(rt, alloc, reader, writer, pick, workers)
+        }
         _ => ended_alone(alloc, program, reader, writer),
     }
 }
