@@ -178,7 +178,7 @@ def first_commands(program, folder):
     told = call(root, "rehearse run examples/repaired-node.txt")
     row = read(os.path.join(TOP, "tests", "examples", "repaired-node.row")).split(b"--- output\n", 1)[1]
     yield "an example's answers", None if (told.returncode, told.stdout, told.stderr) == (0, row, b"") else f"{told}"
-    piped = "rehearse-tools plans examples/three-nodes.txt | rehearse sweep | rehearse-tools survey"
+    piped = "rehearse-tools plans examples/three-nodes.txt | rehearse sweep --json | rehearse-tools survey"
     done = call(root, piped)
     # Three nodes: each of them crashes, and each pair.
     yield piped, None if done.returncode == 0 and done.stdout.startswith(b"6 plans, ") and not done.stderr else f"{done}"

@@ -1,6 +1,6 @@
 """Writes plans for a sweep: which nodes crash, one by one or several, and what is done about it.
 
-  companions/plans cluster.txt | ./rehearse sweep --workers 4 | companions/survey
+  companions/plans cluster.txt | ./rehearse sweep --json --workers 4 | companions/survey
 
 FILE is a cluster file, with or without a script behind it; `-` or nothing is standard input. What is written is the whole
 input of `rehearse sweep`: FILE as it stands, then the base, then the plans. A script of FILE is the base, and plans that it

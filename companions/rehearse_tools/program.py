@@ -6,8 +6,8 @@ from dataclasses import dataclass
 
 from rehearse_tools.endings import Refused, why_of
 from rehearse_tools.inputs import APART, Plan, commands_of, joined, lines_of, to_bytes, to_text, words_of
-from rehearse_tools.outcomes import Outcome, PlainRun, outcomes_in
-from rehearse_tools.reading import Answer, JsonRun, Names, Run
+from rehearse_tools.outcomes import Outcome, outcomes_in
+from rehearse_tools.reading import Answer, JsonRun, Names, PlainRun, Run
 
 # A cluster file of one node that no script knows, and what is told of that: by that the program is.
 NOBODY = "{node, nobody, []}.\n"
@@ -71,7 +71,7 @@ class Program:
         """Refuses a whole input as it stands where `run` refuses it. `source` names the file for which an error is told."""
         self.check_ended(self.told(["run", "--pick", self.pick], text), text, source, True)
 
-    def check_ended(self, run: Run, text: str, source: str, is_run: bool) -> None:
+    def check_ended(self, run: JsonRun, text: str, source: str, is_run: bool) -> None:
         """Refuses an input of which a run didn't answer all."""
         if run.bad_line is not None:
             raise Refused(bad_line(source, lines_of(text), run.bad_line, is_run))
@@ -103,8 +103,7 @@ class Program:
 
     def swept(self, text: str, source: str, workers: str = "1") -> list[Outcome]:
         """The outcomes of the plans of an input."""
-        run, error = self.asked(["sweep", "--workers", workers, "--pick", self.pick], text)
-        hand_on(error)
+        run = self.told(["sweep", "--workers", workers, "--pick", self.pick], text)
         self.check_ended(run, text, source, False)
         return outcomes_in(run.lines, source)
 
@@ -125,8 +124,7 @@ class Program:
         whole = lines_of(text)
         place = whole.index(APART) if APART in whole else len(whole)
         script = "\n".join(text.split("\n")[place + 1:])
-        run, error = self.asked(["sweep"], f"{NOBODY}{APART}\n{script}")
-        hand_on(error)
+        run = self.told(["sweep"], f"{NOBODY}{APART}\n{script}")
         if run.bad_line is not None:
             raise Refused(bad_line(source, whole, run.bad_line))
 

@@ -28,6 +28,12 @@ def fields_of(line: str) -> dict[str, Any]:
     return found
 
 
+def refusal_in(fields: Fields) -> str:
+    """What the program prints in place of a line that tells of a refused cluster file or sweep."""
+    what = "sweep" if fields["refused"].startswith("V") else "cluster"
+    return f"{what} refused {fields['refused']} {fields['reason']}"
+
+
 # ---- A report
 
 
@@ -238,24 +244,27 @@ class Run:
         """The line that the program prints where an input is refused, which tells why; or ""."""
         raise NotImplementedError
 
-    @property
-    def bad_line(self) -> Optional[int]:
-        """The number of the line that is no command, counted behind ===, where that is why the program ended."""
-        raise NotImplementedError
 
-
-class JsonRun(Run):
-    """A run that told lines of JSON: one of the cluster, or why it is refused, and then one of each command."""
+class PlainRun(Run):
+    """A run that printed lines for people."""
 
     @property
     def why(self) -> str:
-        if self.status != CLUSTER_REFUSED or not self.lines:
-            return ""
-        fields = fields_of(self.lines[0])
-        return f"cluster refused {fields['refused']} {fields['reason']}"
+        return self.lines[-1] if self.lines and self.status == CLUSTER_REFUSED else ""
+
+
+class JsonRun(Run):
+    """A run that told lines of JSON: one of the cluster, or why it is refused, and then one of each command, and of each plan of a
+    sweep, or why that is refused."""
+
+    @property
+    def why(self) -> str:
+        is_refused = self.status in (CLUSTER_REFUSED, SWEEP_REFUSED) and self.lines
+        return refusal_in(fields_of(self.lines[-1])) if is_refused else ""
 
     @property
     def bad_line(self) -> Optional[int]:
+        """The number of the line that is no command, counted behind ===, where that is why the program ended."""
         return int(fields_of(self.lines[-1])["line"]) if self.status == BAD_LINE else None
 
     @property

@@ -91,7 +91,7 @@ def repeated(release: Gathered, crashes: int) -> list[str]:
     """The commands that tell all of it again."""
     return [*([release.command] if release.command else []), f"./rehearse check < {release.file}",
             f"companions/rehearse-tools plans {release.file} --crashes {crashes} > plans.txt",
-            "./rehearse sweep < plans.txt | companions/rehearse-tools survey --of plans.txt --least",
+            "./rehearse sweep --json < plans.txt | companions/rehearse-tools survey --of plans.txt --least",
             "companions/rehearse-tools live --plans plans.txt", "companions/rehearse-tools page --sweep plans.txt > plans.html"]
 
 

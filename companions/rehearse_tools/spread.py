@@ -1,6 +1,7 @@
 """Sweeps with several processes or machines, by GNU parallel. What is printed is what one run of `rehearse sweep` prints.
 
   companions/spread --jobs 4 plans.txt
+  companions/spread --json --jobs 4 plans.txt | companions/survey
   companions/spread --sshlogin 8/big1,8/big2,: --remote /opt/rehearse plans.txt
 
 FILE is the input of `rehearse sweep`: a cluster file, a line ===, a base, and plans; `-` or nothing is standard input. The plans are
@@ -29,6 +30,7 @@ from typing import NoReturn
 from rehearse_tools.command_line import CommandLine, count, workers
 from rehearse_tools.endings import write_bytes
 from rehearse_tools.inputs import end_of_cluster, plan_name, read_bytes, to_bytes, to_text
+from rehearse_tools.outcomes import PLAN
 from rehearse_tools.progress import Bar
 from rehearse_tools.program import hand_on
 
@@ -57,6 +59,7 @@ def command_line() -> CommandLine:
     line.add_argument("--remote", metavar="PATH",
                       help="the program on the machines, or a command that they find (default: the path of the one here)")
     line.add_argument("--workers", metavar="N", type=workers, default="1", help="as for the program: threads of each run (default: 1)")
+    line.add_argument("--json", action="store_true", help="as for the program: prints lines of JSON, which survey reads")
     line.add_program()
     return line
 
@@ -138,15 +141,20 @@ def shares_of(text: str, given: Namespace) -> Shares:
 
 def sweep_whole(path: str, given: Namespace, text: bytes) -> NoReturn:
     """One run for the whole of the input."""
-    done = subprocess.run([path, "sweep", "--pick", given.pick, "--workers", given.workers], input=text, capture_output=True, check=False)
+    done = subprocess.run([path, *words_of_sweep(given)], input=text, capture_output=True, check=False)
     hand_on(to_text(done.stderr))
     write_bytes(done.stdout)
     sys.exit(done.returncode)
 
 
+def words_of_sweep(given: Namespace) -> list[str]:
+    """The words of a run, behind the program."""
+    return ["sweep", "--pick", given.pick, "--workers", given.workers, *(["--json"] if given.json else [])]
+
+
 def words_of_parallel(given: Namespace, path: str, mark: str, folder: str) -> list[str]:
     """The command line of GNU parallel. Behind each share comes a line that is a mark, which no line of it is."""
-    run = shlex.join([given.remote or path, "sweep", "--pick", given.pick, "--workers", given.workers])
+    run = shlex.join([given.remote or path, *words_of_sweep(given)])
     words = ["parallel", *PIPED, "--recend", f"{mark}\\n", "--retries", str(given.retries)]
     words += ["--jobs", str(given.jobs)] if given.jobs else []
     for option, values in (("--sshlogin", given.sshlogin), ("--sshloginfile", given.sshloginfile)):
@@ -194,20 +202,20 @@ def feed(child: subprocess.Popen[bytes], shares: Shares, mark: str) -> None:
 # ---- What is told
 
 
-def joined_output(shares: Shares, finished: Finished) -> bytes:
-    """The outputs of all shares as that of one run: the answers to the base are told once."""
+def joined_output(shares: Shares, finished: Finished, begins: bytes) -> bytes:
+    """The outputs of all shares as that of one run: what is told before the plans is told once."""
     first, *rest = (finished.output(share) for share in range(1, len(shares.plans) + 1))
-    return first + b"".join(output[begin:] for output in rest for begin in [plans_begin(output)])
+    return first + b"".join(output[begin:] for output in rest for begin in [plans_begin(output, begins)])
 
 
-def plans_begin(output: bytes) -> int:
-    """Where the outcome of the first plan begins in an output."""
-    return 0 if output.startswith(b"plan ") else output.find(b"\nplan ") + 1 or len(output)
+def plans_begin(output: bytes, begins: bytes) -> int:
+    """Where the outcome of the first plan begins in an output. That of each begins so, and no other line does."""
+    return 0 if output.startswith(begins) else output.find(b"\n" + begins) + 1 or len(output)
 
 
-def plan_count(output: bytes) -> int:
+def plan_count(output: bytes, begins: bytes) -> int:
     """How many plans an output tells of."""
-    return output.count(b"\nplan ") + output.startswith(b"plan ")
+    return output.count(b"\n" + begins) + output.startswith(begins)
 
 
 def give_up(lines: Sequence[str]) -> NoReturn:
@@ -226,6 +234,7 @@ def lost_lines(lost: int, shares: Shares, given: Namespace, finished: Finished) 
 
 def spread(path: str, given: Namespace, text: bytes, shares: Shares) -> None:
     """Sweeps all shares, and prints what one run prints."""
+    begins = PLAN.encode() if given.json else b"plan "
     mark = f"=== {secrets.token_hex(16)}"
     with tempfile.TemporaryDirectory(ignore_cleanup_errors=True) as folder:
         finished = run_shares(shares, words_of_parallel(given, path, mark, folder), mark, folder)
@@ -234,8 +243,8 @@ def spread(path: str, given: Namespace, text: bytes, shares: Shares) -> None:
         lost = len(shares.plans) - sum(job.is_done for job in finished.jobs())
         if lost:
             give_up(list(lost_lines(lost, shares, given, finished)))
-        output = joined_output(shares, finished)
-    if plan_count(output) != shares.count:
+        output = joined_output(shares, finished, begins)
+    if plan_count(output, begins) != shares.count:
         give_up([f"spread: there aren't outcomes of {shares.count} plans: is {given.remote or path} the program?"])
     write_bytes(output)
 

@@ -1,10 +1,10 @@
 """Sums up a sweep: for each distributed application the plans that leave it nowhere, and the longest time without it.
 
-  ./rehearse sweep < plans.txt | companions/survey
-  ./rehearse sweep < plans.txt | companions/survey --of plans.txt
-  ./rehearse sweep < plans.txt | companions/survey --of plans.txt --least --fail-if nowhere --fail-if refused
+  ./rehearse sweep --json < plans.txt | companions/survey
+  ./rehearse sweep --json < plans.txt | companions/survey --of plans.txt
+  ./rehearse sweep --json < plans.txt | companions/survey --of plans.txt --least --fail-if nowhere --fail-if refused
 
-OUTPUT is what `rehearse sweep` (or companions/spread) printed; `-` or nothing is standard input. A sweep tells where each
+OUTPUT is what `rehearse sweep --json` (or companions/spread --json) printed; `-` or nothing is standard input. A sweep tells where each
 application stands at the end of a plan, and no times. For these name the sweep's input by --of: then the program goes
 through each plan once more, by `run --json`, which tells the moment of each start and end.
 

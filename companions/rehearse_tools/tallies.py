@@ -1,21 +1,21 @@
-"""What a sweep printed, counted while it is read: no plan is kept but by its name, and of these only as many as are told.
+"""What a sweep told, counted while it is read: no plan is kept but by its name, and of these only as many as are told.
 
-A plan's lines about its applications are much the same as those of other plans. So each such line is understood once, by
+What the lines of plans tell of an application is much the same. So each such part of a line is understood once, by
 `outcomes.OutcomeReader`, and then known by its bytes.
 """
-import re
-from collections.abc import Iterable, Iterator
+from collections.abc import Iterable, Iterator, Sequence
 from dataclasses import dataclass, field
 from typing import Optional
 
 from rehearse_tools.endings import Refused
 from rehearse_tools.inputs import to_text
-from rehearse_tools.outcomes import Outcome, OutcomeReader
-from rehearse_tools.reading import Standing
+from rehearse_tools.outcomes import PLAN, OutcomeReader, RefusedEvent, refused_event
+from rehearse_tools.reading import Standing, fields_of
 
-FIRST_LINE = re.compile(rb"plan ([^ ]+) accepted [0-9]+ failovers [0-9]+ takeovers [0-9]+")
-# Before each plan but the first of an input that begins with one.
-APART = b"\nplan "
+# What stands in the line of a plan before its applications, and between each two. In a name no quote stands without a backslash before
+# it, so neither does one of these.
+APPS, NEXT_APP = b',"applications":[', b'},{"name":'
+PLAN_BYTES = PLAN.encode()
 
 
 @dataclass
@@ -47,15 +47,14 @@ def as_told(standing: Standing) -> Standing:
     return standing if standing.is_running else Standing(standing.word)
 
 
-def blocks_of(chunks: Iterable[bytes]) -> Iterator[bytes]:
-    """The bytes up to each line that begins a plan, without the LF before it."""
+def lines_of(chunks: Iterable[bytes]) -> Iterator[bytes]:
+    """The lines, without their ends."""
     rest = b""
     for chunk in chunks:
-        *whole, rest = (rest + chunk).split(APART)
-        for place, block in enumerate(whole):
-            yield block if place == 0 else b"plan " + block
-        rest = b"plan " + rest if whole else rest
-    yield rest
+        *whole, rest = (rest + chunk).split(b"\n")
+        yield from (line.removesuffix(b"\r") for line in whole)
+    if rest:
+        yield rest
 
 
 class Tally:
@@ -64,9 +63,9 @@ class Tally:
 
     def __init__(self, source: str, most: Optional[int]):
         self.reader, self.most = OutcomeReader(source), most
-        self.plans, self.lines = 0, 0
+        self.plans = 0
         self.refused = Count()
-        # For each place below the first line of a plan, what each of its lines tells.
+        # For each place in the list of applications, what each of its parts tells.
         self.known: list[dict[bytes, Stood]] = []
         # For each application how it stood, in the order in which that was met.
         self.stood: dict[str, dict[Standing, Stood]] = {}
@@ -77,59 +76,46 @@ class Tally:
         return list(self.stood)
 
     def add_all(self, chunks: Iterable[bytes]) -> None:
-        """Counts what a sweep printed."""
-        for block in blocks_of(chunks):
-            self.add_lines(block.removesuffix(b"\n").split(b"\n"))
+        """Counts what a sweep told."""
+        for number, line in enumerate(lines_of(chunks), 1):
+            front, _, apps = line.partition(APPS)
+            parts = apps.split(NEXT_APP)
+            stood = [known.get(part) for known, part in zip(self.known, parts)]
+            if self.plans and len(parts) == len(self.known) and None not in stood and front.startswith(PLAN_BYTES):
+                fields = fields_of(to_text(front) + "}")
+                self.count(fields["plan"], refused_event(fields), [each for each in stood if each is not None])
+            else:
+                self.read(number, line, parts)
         if not self.plans:
-            raise Refused(f"{self.reader.source}: it has no outcome of a plan, so it isn't what a sweep printed")
+            raise Refused(f"{self.reader.source}: it has no outcome of a plan, so it isn't what `sweep --json` printed")
 
-    def add_lines(self, lines: list[bytes]) -> None:
-        """Counts the plan of these lines, or reads the answers of the base."""
-        first = FIRST_LINE.fullmatch(lines[0])
-        if first and len(lines) == len(self.known) + 1 and self.plans:
-            try:
-                self.count(to_text(first[1]), [known[line] for known, line in zip(self.known, lines[1:])])
-                self.lines += len(lines)
-                return
-            except KeyError:
-                pass
-        self.read(lines)
+    def read(self, number: int, line: bytes, parts: list[bytes]) -> None:
+        """Reads a line, and keeps what its parts tell."""
+        outcome = self.reader.read(number, to_text(line))
+        if outcome is None:
+            return
+        if not self.plans:
+            self.known = [{} for _ in parts]
+        told = ((app, as_told(standing)) for app, standing in outcome.standing.items())
+        stood = [self.stood.setdefault(app, {}).setdefault(standing, Stood(standing)) for app, standing in told]
+        for known, part, each in zip(self.known, parts, stood):
+            known[part] = each
+        self.count(outcome.name, outcome.refused, stood)
 
-    def count(self, name: str, stood: list[Stood]) -> None:
+    def count(self, name: str, refused: Optional[RefusedEvent], stood: Sequence[Stood]) -> None:
         """One more plan, at whose end the applications stood like this."""
         self.plans += 1
+        if refused is not None:
+            self.refused.add(f"{name} ({refused})", self.most)
         for each in stood:
             if each.standing.is_running:
                 each.count.number += 1
             else:
                 each.count.add(name, self.most)
 
-    def read(self, lines: list[bytes]) -> None:
-        """Reads lines one by one."""
-        found = []
-        for line in lines:
-            self.lines += 1
-            found.append(self.reader.read(self.lines, to_text(line.removesuffix(b"\r"))))
-        for outcome in [*found, self.reader.end()]:
-            if outcome is not None:
-                self.read_outcome(outcome, lines[len(lines) - len(outcome.standing):])
-
-    def read_outcome(self, outcome: Outcome, lines: list[bytes]) -> None:
-        """Counts an outcome, and keeps what the lines about its applications tell."""
-        if not self.plans:
-            self.known = [{} for _ in lines]
-            self.stood = {app: {} for app in outcome.standing}
-        if outcome.refused is not None:
-            self.refused.add(f"{outcome.name} ({outcome.refused})", self.most)
-        told = [(app, as_told(standing)) for app, standing in outcome.standing.items()]
-        stood = [self.stood[app].setdefault(standing, Stood(standing)) for app, standing in told]
-        for known, line, each in zip(self.known, lines, stood):
-            known[line] = each
-        self.count(outcome.name, stood)
-
 
 def tally_of(chunks: Iterable[bytes], source: str, most: Optional[int]) -> Tally:
-    """What a sweep printed, counted."""
+    """What a sweep told, counted."""
     tally = Tally(source, most)
     tally.add_all(chunks)
     return tally

@@ -50,7 +50,7 @@ FILES = {"no file": "No such file or directory", "a folder": "Is a directory", "
 def files_in(program: str, folder: str) -> dict[str, str]:
     """Writes the files that a good call reads, and gives their paths."""
     texts = {"FILE": CLUSTER, "PLANS": CLUSTER + PLANS, "CONFIG": CONFIG,
-             "OUTPUT": run(program, ["sweep"], input=(CLUSTER + PLANS).encode()).stdout.decode()}
+             "OUTPUT": run(program, ["sweep", "--json"], input=(CLUSTER + PLANS).encode()).stdout.decode()}
     paths = {name: os.path.join(folder, f"{name.lower()}.config" if name == "CONFIG" else f"{name.lower()}.txt") for name in texts}
     for name, text in texts.items():
         with open(paths[name], "w", encoding="utf-8") as file:

@@ -78,7 +78,7 @@ def losses(program, folder):
     commands = part(page, "commands")
     yield owed("the commands to repeat it", commands, (
         f"./rehearse check < {path} companions/rehearse-tools plans {path} --crashes 2 > plans.txt "
-        "./rehearse sweep < plans.txt | companions/rehearse-tools survey --of plans.txt --least "
+        "./rehearse sweep --json < plans.txt | companions/rehearse-tools survey --of plans.txt --least "
         "companions/rehearse-tools live --plans plans.txt companions/rehearse-tools page --sweep plans.txt > plans.html"))
     yield "the plans step by step", None if page.count("class=open data-plan=") == 3 else page[-2000:]
 

@@ -51,7 +51,7 @@ def script(path, text):
 
 def as_one_run(program, words, text, pick="first"):
     """What is wrong with what is printed for an input, where what one run prints is right."""
-    alone = run(program, ["sweep", "--pick", pick], input=text)
+    alone = run(program, ["sweep", "--pick", pick, *(["--json"] if "--json" in words else [])], input=text)
     return fault_of(spread(program, [*words, "--pick", pick], text), alone.returncode, alone.stdout)
 
 
@@ -59,6 +59,7 @@ def shares(program):
     """The example in several shares."""
     for number in ("1", "2", "7", "17", "100"):
         yield f"{number} shares", as_one_run(program, ["--shares", number, "--jobs", "2"], EXAMPLE)
+        yield f"{number} shares, as JSON", as_one_run(program, ["--json", "--shares", number, "--jobs", "2"], EXAMPLE)
     yield "one at once", as_one_run(program, ["--shares", "5", "--jobs", "1"], EXAMPLE)
     yield "as many as there are processors", as_one_run(program, [], EXAMPLE)
     yield "--pick last, 3 workers", as_one_run(program, ["--shares", "4", "--workers", "3"], EXAMPLE, "last")

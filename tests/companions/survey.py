@@ -1,4 +1,5 @@
 """Tests of companions/survey. The times that are owed are worked out by hand from docs/RULES.md."""
+import json
 import os
 import subprocess
 import tempfile
@@ -18,26 +19,23 @@ CLUSTER = NODE % ("a@x", ", {web, permanent}") + NODE % ("b@x", ", {web, permane
 CLUSTER += NODE % ("c@x", ", {web, temporary}, {ctl, permanent}")
 CLUSTER += "{application, web, []}. {application, ctl, []}. {application, log, []}.\n"
 BASE = "===\nboot a@x\nboot b@x\nboot c@x\n"
-TOLD = """ok
-up a@x
-plan p1 accepted 2 failovers 1 takeovers 0
-app web running b@x
-app ctl quiet
-plan p2 accepted 1 failovers 0 takeovers 0
-refused 2 S5 not_alive
-app web lost a@x
-app ctl quiet
-plan p3 accepted 3 failovers 0 takeovers 0
-app web wanted a@x
-app ctl running c@x
-plan p4 accepted 0 failovers 0 takeovers 0
-refused 1 S17 dependency_not_started log
-app web wanted
-app ctl running b@x
-plan p5 accepted 1 failovers 0 takeovers 0
-app web running a@x
-app ctl running c@x
+
+
+def line_of(name, accepted, standings, refused=None):
+    """The line of a plan: how many events were accepted, where each application stands in words, and the refused event, if one was."""
+    apps = [dict(zip(("name", "standing", "node"), standing.split())) for standing in standings]
+    event = {} if refused is None else {"refused": {"event": accepted + 1, "answer": f"refused {refused}"}}
+    return json.dumps({"plan": name, "accepted": accepted, "failovers": 0, "takeovers": 0, **event, "applications": apps},
+                      separators=(",", ":")) + "\n"
+
+
+FRONT = """{"profile":1,"nodes":["a@x","b@x","c@x"],"applications":[]}
+{"line":1,"command":"boot a@x","answer":"ok","notices":[{"kind":"up","node":"a@x"}]}
 """
+TOLD = (FRONT + line_of("p1", 2, ["web running b@x", "ctl quiet"]) + line_of("p2", 1, ["web lost a@x", "ctl quiet"], "S5 not_alive")
+        + line_of("p3", 3, ["web wanted a@x", "ctl running c@x"])
+        + line_of("p4", 0, ["web wanted", "ctl running b@x"], "S17 dependency_not_started log")
+        + line_of("p5", 1, ["web running a@x", "ctl running c@x"]))
 SUMMED = """5 plans, 2 distributed applications
 2 plans ended at an event that was refused: p2 (2 S5 not_alive), p4 (1 S17 dependency_not_started log)
 
@@ -62,21 +60,21 @@ def timed(program, source, words=(), options=()):
     with tempfile.NamedTemporaryFile() as file:
         file.write(source.encode())
         file.flush()
-        swept = run(program, ["sweep", *words], input=source.encode())
+        swept = run(program, ["sweep", "--json", *words], input=source.encode())
         return survey(program, ["--of", file.name, *words, *options], swept.stdout.decode())
 
 
 def without_times(program):
     """A text that is summed up as it stands."""
     yield "five plans", fault_of(survey(program, [], TOLD), 0, SUMMED.encode())
-    many = "".join(f"plan q{number} accepted 0 failovers 0 takeovers 0\napp web wanted\n" for number in range(12))
+    many = "".join(line_of(f"q{number}", 0, ["web wanted"]) for number in range(12))
     owed = "12 plans, 1 distributed application\n\nweb: nowhere at the end of 12 of 12 plans\n  wanted: "
     owed += ", ".join(f"q{number}" for number in range(10))
     yield "many plans", fault_of(survey(program, [], many), 0, (owed + " and 2 more\n").encode())
     yield "many plans, each named", fault_of(survey(program, ["--all"], many), 0, (owed + ", q10, q11\n").encode())
-    # A text of over 2 MiB, which is read in pieces; every third plan leaves web wanted, and two are refused.
-    long = "".join(f"plan q{number} accepted 0 failovers 0 takeovers 0\n" + "refused 1 S5 not_alive\n" * (number in (0, 30_000)) +
-                   f"app web {'wanted' if number % 3 == 0 else 'running a@x'}\n" for number in range(36_000))
+    # A text of over 3 MiB, which is read in pieces; every third plan leaves web wanted, and two are refused.
+    long = "".join(line_of(f"q{number}", 0, ["web wanted" if number % 3 == 0 else "web running a@x"],
+                           "S5 not_alive" if number in (0, 30_000) else None) for number in range(36_000))
     owed = """36000 plans, 1 distributed application
 2 plans ended at an event that was refused: q0 (1 S5 not_alive), q30000 (1 S5 not_alive)
 
@@ -86,12 +84,22 @@ web: nowhere at the end of 12000 of 36000 plans
 """
     yield "a long text", fault_of(survey(program, [], long), 0, owed.encode())
     yield "a long text with CR LF", fault_of(survey(program, [], long.replace("\n", "\r\n")), 0, owed.encode())
-    cut = long[:long.rindex("app")]
-    wrong = b"survey: standard input: plan q35999 tells of other applications than the first one: is the text cut off?\n"
+    cut = long[:long.rindex("}")]
+    wrong = b"survey: standard input: line 36000 is none that `sweep --json` prints: "
     ended = survey(program, [], cut)
-    yield "a long text that is cut off", None if ended.returncode == 2 and ended.stderr == wrong else ended.stderr.decode()
-    none = "ok\nplan p accepted 0 failovers 0 takeovers 0\n"
-    yield "no application", fault_of(survey(program, [], none), 0, b"1 plan, 0 distributed applications\n")
+    yield "a long text that is cut off", None if ended.returncode == 2 and ended.stderr.startswith(wrong) else ended.stderr.decode()
+    yield "no application", fault_of(survey(program, [], FRONT + line_of("p", 0, [])), 0, b"1 plan, 0 distributed applications\n")
+    # What would part a line is text within these names.
+    odd = "".join(line_of(name, 0, ['web"},{"name":"ctl running ",x":', "ctl quiet"]) for name in ('p","applications":[', '\\"}', "q\\"))
+    owed = """3 plans, 2 distributed applications
+
+web"},{"name":"ctl: nowhere at the end of 0 of 3 plans
+  ran at the end at ",x": (3 plans)
+
+ctl: nowhere at the end of 3 of 3 plans
+  quiet: p","applications":[, \\"}, q\\
+"""
+    yield "names with quotes", fault_of(survey(program, [], odd), 0, owed.encode())
 
 
 # Behind the base web runs at a@x and ctl at c@x, which is the first of its list; ctl fails over at once. Each plan, and for
@@ -197,7 +205,7 @@ def profiles(program):
         done = timed(program, front + CLUSTER + base + PLANS_AT_ALL)
         yield f"at all nodes, {name}", fault_of(done, 0, AT_ALL.encode())
     # The output of one profile, the input of the other: web doesn't end where the output tells.
-    swept = run(program, ["sweep"], input=("{profile, 2}.\n" + CLUSTER + BASE + plan).encode()).stdout.decode()
+    swept = run(program, ["sweep", "--json"], input=("{profile, 2}.\n" + CLUSTER + BASE + plan).encode()).stdout.decode()
     with tempfile.NamedTemporaryFile() as file:
         file.write((CLUSTER + BASE + plan).encode())
         file.flush()
@@ -327,25 +335,29 @@ def failing(program):
 def faults(program):
     """What isn't a sweep's output, or not that of this input."""
     good = "plan p\ncrash a@x\ntick 5000\n"
-    swept = run(program, ["sweep"], input=(CLUSTER + BASE + good).encode()).stdout.decode()
+    swept = run(program, ["sweep", "--json"], input=(CLUSTER + BASE + good).encode()).stdout.decode()
     # What the program itself prints in place of outcomes.
     for name, text, told in [("a plan's line", CLUSTER + BASE + "plan p\nundo\n", "bad line 5 (counted behind ===)"),
                              ("a base", CLUSTER + BASE + "undo\nplan p\n", "sweep refused V2 base_not_at_end"),
                              ("a cluster", "{node", "cluster refused C1 T1 syntax line 1")]:
-        done = survey(program, [], run(program, ["sweep"], input=text.encode()).stdout.decode())
+        done = survey(program, [], run(program, ["sweep", "--json"], input=text.encode()).stdout.decode())
         is_right = done.returncode == 2 and done.stderr.decode() == f"survey: standard input: the sweep was refused: {told}\n"
         yield f"refused for {name}", None if is_right else f"{done}"
     for name, text, told in [
-            ("no plans", "ok\nup a@x\n", "standard input: it has no outcome of a plan"),
+            ("no plans", FRONT, "standard input: it has no outcome of a plan, so it isn't what `sweep --json` printed"),
+            ("lines for people", "ok\nup a@x\nplan p accepted 0 failovers 0 takeovers 0\n",
+             "standard input: line 1 is none that `sweep --json` prints: ok\n"),
             ("nothing", "", "standard input: it is empty"),
-            ("a refused sweep", "ok\nsweep refused V3 trail_room\n",
+            ("a refused sweep", FRONT + '{"refused":"V3","reason":"trail_room"}\n',
              "standard input: the sweep was refused: sweep refused V3 trail_room\n"),
-            ("a bad line", "bad line 5\n", "standard input: the sweep was refused: bad line 5 (counted behind ===)\n"),
-            ("a refused cluster", "cluster refused C2 no_nodes\n",
+            ("a bad line", FRONT.split("\n")[0] + '\n{"line":5,"bad":true}\n', "standard input: the sweep was refused: bad line 5 (counted behind ===)\n"),
+            ("a refused cluster", '{"refused":"C2","reason":"no_nodes"}\n',
              "standard input: the sweep was refused: cluster refused C2 no_nodes\n"),
-            ("what begins like one", "bad\n", "standard input: line 1 is no outcome of a plan: bad\n"),
-            ("other text", TOLD + "hello\n", "line 20 is no outcome of a plan: hello"),
-            ("a text that is cut off", TOLD.replace("app ctl running b@x\n", ""), "plan p4 tells of other applications")]:
+            ("another object", '{"line":1}\n', 'standard input: line 1 is no outcome of a plan: {"line":1}\n'),
+            ("other text", TOLD + "hello\n", "line 8 is none that `sweep --json` prints: hello"),
+            ("a command behind a plan", TOLD + FRONT, "line 8 is no outcome of a plan: "),
+            ("a plan of other applications", TOLD + line_of("p6", 0, ["web quiet"]),
+             "line 8: plan p6 tells of other applications than the first one\n")]:
         done = survey(program, [], text)
         is_right = done.returncode == 2 and done.stdout == b"" and told in done.stderr.decode()
         yield f"refused: {name}", None if is_right else f"{done}"
