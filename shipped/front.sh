@@ -11,7 +11,7 @@ say() {
 # What takes files in place of standard input.
 is_subcommand() {
   case "${1-}" in
-    run | check | sessions | sweep | explore | story | verify) ;;
+    run | check | lint | sessions | sweep | explore | story | verify) ;;
     *) return 1 ;;
   esac
 }
@@ -59,7 +59,13 @@ stand_in_front() {
   if ((${#files[@]} > 0)); then
     read_files
     shut=${shut/<}
-    run < <(exec cat -- "${parts[@]}" 2> /dev/null)
+    if [ "$words" = lint ]; then
+      run < <(exec cat -- "${parts[@]}" 2> /dev/null) > "$room/found"
+      . "$top/shipped/places.sh"
+      tell_findings < "$room/found" 2> /dev/null || status=4
+    else
+      run < <(exec cat -- "${parts[@]}" 2> /dev/null)
+    fi
   else
     [ ! -t 0 ] || say "reads standard input, which Ctrl-D on a line of its own ends; \`rehearse $1 FILE..\` reads files"
     run

@@ -10,7 +10,12 @@ tell_place() {
       tell_cluster
       ;;
     3) tell_line ;;
-    9) if [ "$words" = verify ]; then tell_expectations; else tell_refused; fi ;;
+    9)
+      case $words in
+        verify) tell_expectations ;;
+        run) tell_refused ;;
+      esac
+      ;;
   esac
 }
 
@@ -65,6 +70,29 @@ tell_expectations() {
     find_place "${number%:}"
     printf '%s:%s: "%s" differs from what is expected\n' "$(name_of "$part")" "$line" "$text" >&2
   done < <(cat -- "${parts[@]}" | "$program" "${words[@]}" 2> /dev/null | grep -aE -m 10 '^line [0-9]+: ')
+}
+
+# Prints what `lint` found: the file and its own line stand in place of a line of the whole input, and the first file before what has no
+# line.
+tell_findings() {
+  local found number rest part counts=() names=()
+  for part in "${!parts[@]}"; do
+    counts+=("$(wc -l < "${parts[part]}")")
+    names+=("$(name_of "$part")")
+  done
+  while IFS= read -r found; do
+    if [[ $found =~ ^([0-9]+):\ (.*)$ ]]; then
+      number=${BASH_REMATCH[1]} rest=${BASH_REMATCH[2]}
+      for part in "${!counts[@]}"; do
+        ((number > counts[part] && part + 1 < ${#counts[@]})) || break
+        number=$((number - counts[part]))
+      done
+      found="${names[part]}:$number: $rest"
+    elif [[ $found == @(error|warning|hint)\ * ]]; then
+      found="${names[0]}: $found"
+    fi
+    printf '%s\n' "$found" || return
+  done
 }
 
 # Tells the first steps that were refused, which lines of JSON have with the numbers of their lines.

@@ -20,7 +20,7 @@ README = f"{DOCS}/README.md"
 MAN = "usr/share/man/man1"
 BASH = "usr/share/bash-completion/completions"
 TOOLS = ("gather", "plans", "survey", "spread", "page", "shell", "replay", "live", "report", "compare", "case")
-SUBCOMMANDS = ("run", "check", "story", "verify", "sessions", "sweep", "explore")
+SUBCOMMANDS = ("run", "check", "lint", "story", "verify", "sessions", "sweep", "explore")
 # What has to be there, beside all pages, docs and examples, and what may not be.
 OWED = ["usr/bin/rehearse", "usr/bin/rehearse-tools", "usr/lib/rehearse/rehearse", "usr/lib/rehearse/shipped/rehearse-x86_64-linux",
         "usr/lib/rehearse/shipped/rehearse-x86_64-linux.txt", f"{BASH}/rehearse", f"{BASH}/rehearse-tools",

@@ -59,6 +59,22 @@ def bad_lines(program, folder):
 
 
 @in_folder
+def findings(program, folder):
+    """What lint finds is told by the file and its line there."""
+    install(folder, program)
+    write(folder, "c.txt", b"{profile, 2}.\n" + CLUSTER)
+    write(folder, "p.txt", b"# plan\nboot a@x\n")
+    write(folder, "b d.txt", b"\ncrsh a@x\n")
+    done = call(folder, ["lint", "c.txt", "p.txt", "b d.txt"])
+    out = b"c.txt: warning no_distributed_application: no application is distributed, so none fails over\n"
+    out += b"b d.txt:2: error unknown_command: crsh is no command; crash is near\n1 errors, 1 warnings, 0 hints\n"
+    yield "lint", wrong(done, 9, out, b"")
+    write(folder, "r.txt", b"{profile, 2}.\n{node, a@x, [}.\n")
+    out = b"r.txt:2: error T1: syntax: what stands here can't go on: a dot, a comma or a bracket may be missing, or quotes round a name\n"
+    yield "lint of a file that is refused", wrong(call(folder, ["lint", "r.txt"]), 9, out + b"1 errors, 0 warnings, 0 hints\n", b"")
+
+
+@in_folder
 def bad_clusters(program, folder):
     """A refused cluster file is told by its name, with the line where the program tells one, and what causes it."""
     install(folder, program)

@@ -9,7 +9,7 @@ use Rattle.clap.specs.declared.error.kind.ErrorKind.TheVariants as kind
 use Rattle.clap.proofs.OnLiterals.{clap_on_literals}
 use Rattle.rh_rules.specs.declared.pick.Pick.TheVariants.{First, Last}
 use Rattle.rh_programs.specs.declared.status.Program.{Program}
-use Rattle.rh_programs.specs.declared.status.Program.TheVariants.{Check, CheckJson, Run, RunIn, RunJson, Story, Verify, Explore, Sessions, Sweep, SweepJson}
+use Rattle.rh_programs.specs.declared.status.Program.TheVariants.{Check, CheckJson, Run, RunIn, RunJson, Story, Verify, Lint, Explore, Sessions, Sweep, SweepJson}
 use Rattle.rehearse.specs.CommandLine.{Picks, ArePicks, line}
 use Rattle.rehearse.specs.Table.{subcommand_named}
 use Rattle.rehearse.specs.Asking.{program_among}
@@ -78,6 +78,13 @@ story_row : (asks (codes "story" ∷ []) ≡ Some (Story First false))
     × (faults (codes "verify" ∷ codes "--whole" ∷ []) ≡ kind.UnknownArgument ∷ [])
 unfolding clap_on_literals subcommand_named
 story_row = (refl, refl, refl, refl)
+
+-- what is listed, and whether hints count
+lint_row : (asks (codes "lint" ∷ []) ≡ Some (Lint First false))
+    × (asks (codes "lint" ∷ codes "--strict" ∷ codes "--pick" ∷ codes "last" ∷ []) ≡ Some (Lint Last true))
+    × (faults (codes "lint" ∷ codes "--json" ∷ []) ≡ kind.UnknownArgument ∷ [])
+unfolding clap_on_literals subcommand_named
+lint_row = (refl, refl, refl)
 
 sessions_row : (asks (codes "sessions" ∷ []) ≡ Some (Sessions First))
     × (asks (codes "sessions" ∷ codes "--pick" ∷ codes "last" ∷ []) ≡ Some (Sessions Last))

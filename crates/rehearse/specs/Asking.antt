@@ -22,9 +22,9 @@ use Rattle.rehearse.specs.Table.{flag_word, subcommand_named}
 use Rattle.rehearse.specs.CommandLine.{Picks, ArePicks, line}
 use Rattle.rehearse.specs.declared.table.TheConstants.{MOST_STATES}
 use Rattle.rehearse.specs.declared.table.Flag.{Flag}
-use Rattle.rehearse.specs.declared.table.Flag.TheVariants.{Echo, Strict, Json, Whole}
+use Rattle.rehearse.specs.declared.table.Flag.TheVariants.{Echo, Strict, Json, Whole, Hints}
 use Rattle.rehearse.specs.declared.table.Subcommand.{Subcommand}
-use Rattle.rehearse.specs.declared.table.Subcommand.TheVariants.{Run, Check, Story, Verify, Sessions, Sweep, Explore}
+use Rattle.rehearse.specs.declared.table.Subcommand.TheVariants.{Run, Check, Lint, Story, Verify, Sessions, Sweep, Explore}
 use Rattle.rehearse.specs.declared.command_line.Asked.{Asked}
 use Rattle.rehearse.specs.declared.command_line.Asked.TheVariants as asked
 use Rattle.rehearse.specs.declared.command_line.Words.{Words}
@@ -90,6 +90,7 @@ abbrev pub program_of : Subcommand → List Row → Option Program
 program_of Check rows = Some (if flag_in Json rows then program.CheckJson else program.Check)
 program_of Run rows = run_as (pick_in rows) (flag_in Echo rows) (flag_in Strict rows) (flag_in Json rows)
 program_of Story rows = Some (program.Story (pick_in rows) (flag_in Whole rows))
+program_of Lint rows = Some (program.Lint (pick_in rows) (flag_in Hints rows))
 program_of Verify rows = Some (program.Verify (pick_in rows))
 program_of Sessions rows = Some (program.Sessions (pick_in rows))
 program_of Sweep rows = option_map (sweep_of (pick_in rows) (flag_in Json rows)) (workers_in rows)

@@ -2,11 +2,11 @@
 use Rattle.std.specs.Prelude.{ℕ, List, [], ◌∷◌, codes, Option, position, slice_get, option_and_then}
 use Rattle.std.specs.Str.{bytes_eq}
 use Rattle.rehearse.specs.declared.table.Flag.{Flag}
-use Rattle.rehearse.specs.declared.table.Flag.TheVariants.{Echo, Strict, Json, Whole}
+use Rattle.rehearse.specs.declared.table.Flag.TheVariants.{Echo, Strict, Json, Whole, Hints}
 use Rattle.rehearse.specs.declared.table.Setting.{Setting}
 use Rattle.rehearse.specs.declared.table.Setting.TheVariants as setting
 use Rattle.rehearse.specs.declared.table.Subcommand.{Subcommand}
-use Rattle.rehearse.specs.declared.table.Subcommand.TheVariants.{Run, Check, Story, Verify, Sessions, Sweep, Explore}
+use Rattle.rehearse.specs.declared.table.Subcommand.TheVariants.{Run, Check, Lint, Story, Verify, Sessions, Sweep, Explore}
 
 -- the words that take no value, without their `--`
 abbrev pub flag_word : Flag → List ℕ
@@ -14,11 +14,13 @@ flag_word Echo = codes "echo"
 flag_word Strict = codes "strict"
 flag_word Json = codes "json"
 flag_word Whole = codes "whole"
+flag_word Hints = codes "strict"
 
 -- the word of a subcommand, and its options
 abbrev pub entry_of : Subcommand → List ℕ × List Setting
 entry_of Run = (codes "run", setting.Pick ∷ setting.Flag Echo ∷ setting.Flag Strict ∷ setting.Flag Json ∷ [])
 entry_of Check = (codes "check", setting.Flag Json ∷ [])
+entry_of Lint = (codes "lint", setting.Pick ∷ setting.Flag Hints ∷ [])
 entry_of Story = (codes "story", setting.Pick ∷ setting.Flag Whole ∷ [])
 entry_of Verify = (codes "verify", setting.Pick ∷ [])
 entry_of Sessions = (codes "sessions", setting.Pick ∷ [])
@@ -33,7 +35,7 @@ settings_of s = (entry_of s).1
 
 -- all subcommands
 abbrev pub subcommands : List Subcommand
-subcommands = Run ∷ Check ∷ Story ∷ Verify ∷ Sessions ∷ Sweep ∷ Explore ∷ []
+subcommands = Run ∷ Check ∷ Lint ∷ Story ∷ Verify ∷ Sessions ∷ Sweep ∷ Explore ∷ []
 
 -- the subcommand with this word
 unfoldable pub subcommand_named : List ℕ → Option Subcommand

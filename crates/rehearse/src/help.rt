@@ -19,12 +19,13 @@ show
 EOF
 
 `rehearse run --help` lists the commands of a script, `rehearse check --help`
-says what a cluster file holds, `rehearse story --help` how a script is printed
-with its answers, `rehearse verify --help` how it is tested, `rehearse sessions
---help` how several operators share one cluster, `rehearse sweep --help` how
-many failures are tried from one state, and `rehearse explore --help` how all of
-them are. Each line that is printed is explained in docs/ANSWERS.md; what a live
-OTP does otherwise is in docs/LIVE_OTP.md.
+says what a cluster file holds, `rehearse lint --help` what may be wrong with
+it, `rehearse story --help` how a script is printed with its answers, `rehearse
+verify --help` how it is tested, `rehearse sessions --help` how several
+operators share one cluster, `rehearse sweep --help` how many failures are tried
+from one state, and `rehearse explore --help` how all of them are. Each line
+that is printed is explained in docs/SCRIPTS.md; what a live OTP does otherwise
+is in docs/LIVE_OTP.md.
 
 Exit status:
 
@@ -35,8 +36,9 @@ Exit status:
   4  the input can't be read, or the output can't be written
   5  out of memory
   6  the sweep was refused, or the sessions made no one history
-  9  `run` was asked to be strict, and a step was refused; or `verify` found
-     what isn't as the script expects; or `explore` what isn't as asked
+  9  `run` was asked to be strict, and a step was refused; `verify` found what
+     isn't as the script expects, or `explore` what isn't as asked; or `lint`
+     found an error or a warning
  10  `explore` found more states than it was to keep";
 
 pub static RUN_ABOUT: &str = "Reads a cluster file and a script, and answers each command";
@@ -217,6 +219,32 @@ boot a@x
 #= ok
 #= up a@x
 #? node a@x up 1
+EOF";
+
+pub static LINT_ABOUT: &str = "Lists what is wrong with a cluster file and a script, and where";
+
+pub static LINT_AFTER_HELP: &str = "\
+A cluster file, a line `===` and a script, as for `run`; the script may be left
+out. Each finding is a line, in the order of the lines:
+
+  L: KIND CODE: WORDS   line L of the whole input, as an editor counts; where
+                        no line is known, `L: ` is left out
+
+KIND is `error` for what can't be read or isn't there: the fault that `check`
+tells, by its code, a line that is no command, a name that the cluster hasn't.
+A `warning` can't be what was meant, or a live OTP takes it otherwise and an
+operator has to act; a `hint` is what a live OTP may take otherwise. Of one
+line errors come first, and hints last. The last line is `N errors, N warnings,
+N hints`, with status 9 where there is an error or a warning. docs/LINT.md has
+all codes.
+
+Example:
+
+./rehearse lint << 'EOF'
+{profile, 2}.
+{node, a@x, []}.
+===
+boot a@y
 EOF";
 
 pub static SESSIONS_ABOUT: &str = "As run, for several sessions that share one cluster";

@@ -48,6 +48,7 @@ fn program_of(subcommand: Subcommand, matches: &ArgMatches<'_>) -> Option<Progra
             flag_in(matches, Flag::Json),
         ),
         Subcommand::Story => Some(Program::Story(pick_in(matches), flag_in(matches, Flag::Whole))),
+        Subcommand::Lint => Some(Program::Lint(pick_in(matches), flag_in(matches, Flag::Hints))),
         Subcommand::Verify => Some(Program::Verify(pick_in(matches))),
         Subcommand::Sessions => Some(Program::Sessions(pick_in(matches))),
         Subcommand::Sweep => Some(sweep_of(

@@ -5,8 +5,9 @@ ghost use Rattle.std.specs.Str.{bytes_eq};
 ghost use Rattle.rehearse.specs.Table.{flag_word, settings_of, subcommand_named, word_of};
 
 use crate::help::{
-    CHECK_ABOUT, CHECK_AFTER_HELP, EXPLORE_ABOUT, EXPLORE_AFTER_HELP, RUN_ABOUT, RUN_AFTER_HELP, SESSIONS_ABOUT, SESSIONS_AFTER_HELP,
-    STORY_ABOUT, STORY_AFTER_HELP, SWEEP_ABOUT, SWEEP_AFTER_HELP, VERIFY_ABOUT, VERIFY_AFTER_HELP,
+    CHECK_ABOUT, CHECK_AFTER_HELP, EXPLORE_ABOUT, EXPLORE_AFTER_HELP, LINT_ABOUT, LINT_AFTER_HELP,
+    RUN_ABOUT, RUN_AFTER_HELP, SESSIONS_ABOUT, SESSIONS_AFTER_HELP, STORY_ABOUT, STORY_AFTER_HELP,
+    SWEEP_ABOUT, SWEEP_AFTER_HELP, VERIFY_ABOUT, VERIFY_AFTER_HELP,
 };
 
 /// A word of a subcommand that takes no value: it is given, or it isn't.
@@ -20,6 +21,8 @@ pub enum Flag {
     Json,
     /// The cluster file stands before the script.
     Whole,
+    /// Hints count as warnings do.
+    Hints,
 }
 
 impl Flag {
@@ -32,6 +35,7 @@ impl Flag {
             Flag::Strict => "strict",
             Flag::Json => "json",
             Flag::Whole => "whole",
+            Flag::Hints => "strict",
         }
     }
 
@@ -42,6 +46,7 @@ impl Flag {
             Flag::Strict => "Ends with status 9 where a step was refused",
             Flag::Json => "Answers by lines of JSON, for programs",
             Flag::Whole => "Prints the cluster file before the script",
+            Flag::Hints => "Ends with status 9 where there is a hint, too",
         }
     }
 }
@@ -68,6 +73,8 @@ static PICK: [Setting; 1] = [Setting::Pick];
 
 static PICK_WHOLE: [Setting; 2] = [Setting::Pick, Setting::Flag(Flag::Whole)];
 
+static PICK_HINTS: [Setting; 2] = [Setting::Pick, Setting::Flag(Flag::Hints)];
+
 static PICK_STATES: [Setting; 2] = [Setting::Pick, Setting::States];
 
 static PICK_WORKERS_JSON: [Setting; 3] = [
@@ -88,6 +95,7 @@ static PICK_ECHO_STRICT_JSON: [Setting; 4] = [
 pub enum Subcommand {
     Run,
     Check,
+    Lint,
     Story,
     Verify,
     Sessions,
@@ -96,9 +104,10 @@ pub enum Subcommand {
 }
 
 /// All of them, in the order in which help lists them.
-pub static SUBCOMMANDS: [Subcommand; 7] = [
+pub static SUBCOMMANDS: [Subcommand; 8] = [
     Subcommand::Run,
     Subcommand::Check,
+    Subcommand::Lint,
     Subcommand::Story,
     Subcommand::Verify,
     Subcommand::Sessions,
@@ -130,6 +139,9 @@ impl Subcommand {
             ),
             Subcommand::Check => {
                 entry_of("check", JSON.as_slice(), CHECK_ABOUT, CHECK_AFTER_HELP)
+            }
+            Subcommand::Lint => {
+                entry_of("lint", PICK_HINTS.as_slice(), LINT_ABOUT, LINT_AFTER_HELP)
             }
             Subcommand::Story => entry_of(
                 "story",

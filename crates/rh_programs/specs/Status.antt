@@ -5,7 +5,7 @@ use Rattle.rh_app.specs.declared.fault.RunFault.{RunFault}
 use Rattle.rh_app.specs.declared.fault.RunFault.TheVariants as end
 use Rattle.rh_app.specs.declared.fault.Told.{Told}
 use Rattle.rh_programs.specs.declared.status.Program.{Program}
-use Rattle.rh_programs.specs.declared.status.Program.TheVariants.{Check, CheckJson, Run, RunIn, RunJson, Story, Verify, Explore, Sessions, Sweep, SweepJson}
+use Rattle.rh_programs.specs.declared.status.Program.TheVariants.{Check, CheckJson, Run, RunIn, RunJson, Story, Verify, Lint, Explore, Sessions, Sweep, SweepJson}
 use Rattle.rh_devices.specs.declared.watched.Watched.{Watched}
 use Rattle.rh_devices.specs.Devices.{Passed}
 use Rattle.rh_app.specs.Programs.{IsInput, ProgramGives, NoThreads}
@@ -20,6 +20,7 @@ use Rattle.rh_manner.specs.MannerText.{OwesRunIn}
 use Rattle.rh_story.specs.StoryText.{OwesStory}
 use Rattle.rh_sweep_json.specs.SweepJson.{OwesSweepJson}
 use Rattle.rh_verify.specs.VerifyText.{OwesVerify}
+use Rattle.rh_lint.specs.LintText.{OwesLint}
 
 -- what a program owes
 abbrev pub Owes : Program → List ℕ → List ℕ → Option Told → Type 0
@@ -30,6 +31,7 @@ Owes (RunIn pick manner) = OwesRunIn manner pick
 Owes (RunJson pick) = OwesRunJson pick
 Owes (Story pick whole) = OwesStory pick whole
 Owes (Verify pick) = OwesVerify pick
+Owes (Lint pick strict) = OwesLint pick strict
 Owes (Explore pick states) = OwesExplore pick states
 Owes (Sessions pick) = MayGive pick
 Owes (Sweep pick workers) = OwesSweep pick

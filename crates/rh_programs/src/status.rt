@@ -9,6 +9,7 @@ use rh_app::{
 };
 use rh_explore_text::run_explore;
 use rh_json::{check_json, run_json};
+use rh_lint::run_lint;
 use rh_manner::{Manner, run_in};
 use rh_rules::Pick;
 use rh_story::run_story;
@@ -35,6 +36,8 @@ pub enum Program {
     Story(Pick, bool),
     /// What came of each command is compared with what the script expects.
     Verify(Pick),
+    /// What is wrong with the input is listed; and hints count, if it is to be strict.
+    Lint(Pick, bool),
     /// All states are searched that events reach from a base, and at most so many are kept.
     Explore(Pick, usize),
     /// Sessions share a cluster.
@@ -63,8 +66,8 @@ impl Program {
 ///
 /// 0 says that the whole text of all that was read was written and flushed, and tells no fault. 2 is a text that describes no
 /// cluster, 3 a bad line, 4 a device that failed or an input that is too long, 5 want of memory, 6 plans that can't be swept,
-/// 9 a step that was refused where the program was asked to be strict, or what a script expects or asks and doesn't hold, 10 a search that
-/// ended before all was looked at.
+/// 9 a step that was refused where the program was asked to be strict, or what a script expects or asks and doesn't hold, or an
+/// input in which lint finds what counts, 10 a search that ended before all was looked at.
 pub fn rehearse_alone<S: Source, K: Sink>(
     alloc: Global,
     program: Program,
@@ -122,6 +125,7 @@ fn ended_alone<S: Source, K: Sink>(
         Program::RunJson(pick) => run_json(alloc, reader, writer, pick),
         Program::Story(pick, whole) => run_story(alloc, reader, writer, pick, whole),
         Program::Verify(pick) => run_verify(alloc, reader, writer, pick),
+        Program::Lint(pick, strict) => run_lint(alloc, reader, writer, pick, strict),
         Program::Explore(pick, states) => run_explore(alloc, reader, writer, pick, states),
         Program::Sweep(pick, _) => run_sweep_alone(alloc, reader, writer, pick),
         Program::SweepJson(pick, _) => sweep_json_alone(alloc, reader, writer, pick),
