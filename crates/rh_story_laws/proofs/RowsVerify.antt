@@ -17,12 +17,15 @@ use Rattle.rh_rules.specs.Marking.{with_mark, mark_all}
 use Rattle.rh_rules.specs.Refusals.{refused}
 use Rattle.rh_rules.specs.Steps.{followed, next}
 use Rattle.rh_trail.specs.Runs.{step}
+use Rattle.rh_trail.specs.Lone.{opened}
 use Rattle.rh_trail.specs.Report.{node_line, running_line, waiting_line, forbidden_line, line_if_forbidden, standing_line, app_line, timer_line, node_lines}
-use Rattle.rh_script.specs.Lines.{content}
+use Rattle.rh_script.specs.Lines.{raw_lines, content}
 use Rattle.rh_script.specs.Forms.{verb_named}
 use Rattle.rh_script.specs.Commands.{line_of}
 use Rattle.rh_script.specs.Answers.{notice_line, answer_text, bad_text}
 use Rattle.rh_app.specs.declared.fault.Told.TheVariants as told
+use Rattle.rh_story.specs.TableText.{table_text, is_left_out}
+use Rattle.rh_story.specs.StoryText.{lines_text}
 use Rattle.rh_verify.specs.Spaces.{lines_of, without_front, without_spaces}
 use Rattle.rh_verify.specs.Blocks.{is_answered, has_line, block_text, stray_text}
 use Rattle.rh_verify.specs.Counts.{tally_text}
@@ -100,3 +103,24 @@ unfolding content line_of verb_named answer_text notice_line block_text tally_te
     ready_come_up booted missing_dep deps_run is_operational best candidates can_start local_moves placements calls_away takeovers next_moves followed refused
     next step digits is_utf8 chars encode
 reports_row = refl
+
+-- ---- stories: without the conditions of the law something differs in them
+abbrev told_of_story : List ℕ → List ℕ
+told_of_story script = told_of (lines_text (opened alone First) 1 [] (raw_lines script))
+
+-- an answer of an earlier story is no such condition: it is told anew
+whole_story_row : told_of_story (codes "undo\n#= no\nundo\n") ≡ codes "ok 2 of 2 commands checked\n"
+unfolding content line_of verb_named answer_text block_text tally_text table_text is_left_out nodes_of apps_of configured step digits is_utf8 chars encode
+whole_story_row = refl
+
+-- a line `#? ` is kept, behind a command and before the first
+wanted_row : (told_of_story (codes "undo\n#? no\n") ≡ codes "line 4: undo\n  wanted in the report no\ndiffers 1 of 1\n")
+    × (told_of_story (codes "#? now 0\nundo\n") ≡ codes "line 4: #? now 0\n  no command stands before it\ndiffers 1 of 2\n")
+unfolding content line_of verb_named answer_text block_text stray_text tally_text table_text is_left_out node_line running_line waiting_line forbidden_line
+    line_if_forbidden standing_line app_line timer_line node_lines nodes_of apps_of configured step digits is_utf8 chars encode
+wanted_row = (refl, refl)
+
+-- a line that is no command ends both
+bad_story_row : told_of_story (codes "undo\nflip\nundo\n") ≡ codes "bad line 3\n"
+unfolding content line_of verb_named answer_text bad_text block_text tally_text table_text is_left_out nodes_of apps_of configured step digits is_utf8 chars encode
+bad_story_row = refl
