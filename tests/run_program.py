@@ -151,20 +151,20 @@ def command_lines(program):
     """What a newcomer reads: help and version go to standard error, with status 1."""
     for words, texts in [
             (["--help"], [b"rehearse", b"run", b"Exit status", *(b"\n  %d  " % status for status in (0, 1, 2, 3, 4, 5, 6, 9)),
-                          b"docs/ANSWERS.md", b"docs/LIVE_OTP.md", b"<< 'EOF'"]),
+                          b"docs/SCRIPTS.md", b"docs/LIVE_OTP.md", b"<< 'EOF'"]),
             (["run", "--help"], [b"--pick", b"--echo", b"--strict", *(f"\n  {it['usage']} ".encode() for it in COMMANDS),
                                  b"1 to 10^12", b"milliseconds",
                                  b"app A quiet", b"app A wanted", b"app A running N", b"app A lost N",
-                                 b"from 1 behind `===`", b"docs/ANSWERS.md", b"docs/SCRIPTS.md"]),
+                                 b"from 1 behind `===`", b"docs/SCRIPTS.md"]),
             (["check", "--help"], [b"{profile, Number}", b"{node, Name, SysConfig}", b"{application, Name, Keys}",
                                    b"cluster refused", b"distributed", b"sync_nodes_timeout", b"permissions", b"boot",
                                    b"platform", b"0 to 10^12 milliseconds", b"32 nodes and 64 applications", b"profile 2",
                                    b"64 and 128", b"docs/CLUSTER_FILES.md"]),
-            (["sessions", "--help"], [b"--pick", b"entry S COMMAND", b"final", b"1 boot a@x", b"docs/ANSWERS.md"]),
+            (["sessions", "--help"], [b"--pick", b"entry S COMMAND", b"final", b"1 boot a@x", b"docs/SCRIPTS.md"]),
             (["sweep", "--help"], [b"--pick", b"--workers", b"plan NAME accepted K failovers K takeovers K", b"bad line K", b"V2", b"V3",
-                                   b"docs/ANSWERS.md"]),
+                                   b"docs/SCRIPTS.md"]),
             (["explore", "--help"], [b"--pick", b"--states", b"may EVENT", b"ask app A running", b"explored K states", b"bad line K",
-                                     b"unfinished", b"docs/ANSWERS.md"]),
+                                     b"unfinished", b"docs/SCRIPTS.md"]),
             (["--version"], [b"rehearse 0.1.0"])]:
         done = run(program, words, input=b"")
         missing = [text for text in texts if text not in done.stderr]

@@ -1,4 +1,4 @@
-"""What the program tells as lines of JSON (docs/JSON.md), read into dataclasses. The other modules ask these.
+"""What the program tells as lines of JSON (docs/SCRIPTS.md), read into dataclasses. The other modules ask these.
 
 A field has the words that the program prints without --json. So what it prints can be written from the fields again, for who shows
 it or compares it with other lines: `Answer.lines` and `Report.lines` are byte for byte what `run` prints.

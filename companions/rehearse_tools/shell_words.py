@@ -52,7 +52,7 @@ COMMANDS: dict[str, Sequence[Kind]] = {command["word"]: kinds_of(command) for co
 OWN: dict[str, Sequence[Kind]] = {
     "save": ("path", ("all",)), "live": (("on", "off"),), "names": (), "help": ("command",), "quit": ()}
 HELP = "\n".join([*map(help_of, TABLE), "T is permanent, transient, temporary",
-                  "save PATH [all], live [on|off], names, help [COMMAND], quit", "docs/SCRIPTS.md and docs/ANSWERS.md tell more."])
+                  "save PATH [all], live [on|off], names, help [COMMAND], quit", "docs/SCRIPTS.md tells more."])
 OWN_HELP = {
     "save": "save PATH writes the steps that stand as a story, which `rehearse verify` holds to; save PATH all all that you entered",
     "live": "live tells what live nodes do otherwise at the last command; live on tells it beside each answer, live off no longer",

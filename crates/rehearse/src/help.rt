@@ -104,11 +104,11 @@ With `--echo` each command is printed before its answer, as it stands behind
 the exit status is 9 where a step was refused and nothing else ends the
 rehearsal. An `undo` with no step to take back is no refused step.
 
-With `--json` each answer is a line of JSON, for programs: docs/JSON.md has its
-fields. It goes with neither of the other two.
+With `--json` each answer is a line of JSON, for programs, and it goes with
+neither of the other two.
 
-docs/ANSWERS.md explains each line, docs/SCRIPTS.md what each command needs,
-docs/RULES.md what follows from it.
+docs/SCRIPTS.md explains each line, the fields of JSON, and what each command
+needs; docs/RULES.md what follows from it.
 
 Examples:
 
@@ -150,8 +150,8 @@ a permission given back pulls an application back, as live, 64 and 128.
 
 The answer is `ok K nodes K applications`, or `cluster refused` and the first
 fault with its code, as `C5 unknown_name` or `C1 T1 syntax line 3`: see
-docs/ANSWERS.md. docs/CLUSTER_FILES.md has the format. With `--json` it is a
-line of JSON, with the names of the file: docs/JSON.md has its fields.
+docs/SCRIPTS.md. docs/CLUSTER_FILES.md has the format. With `--json` it is a
+line of JSON, with the names of the file.
 
 Example:
 
@@ -178,8 +178,7 @@ can take the input's place.
 
 At the first line that is no command the answers end with `#= bad line K`, and
 the rest stands as it was, without a table. K counts lines from 1 behind
-`===`, with blank lines and comments. docs/ANSWERS.md explains each line,
-docs/SCRIPTS.md the script.
+`===`, with blank lines and comments. docs/SCRIPTS.md explains each line.
 
 Examples:
 
@@ -277,7 +276,7 @@ it, and ends with status 6 where they differ.
 
 All lines are read first. A line that is no command, or the 65,536th command,
 is told alone: `bad line K`. K counts lines from 1 behind `===`, with blank
-lines and comments. docs/ANSWERS.md explains each line.
+lines and comments. docs/SCRIPTS.md explains each line.
 
 Examples:
 
@@ -330,10 +329,9 @@ blank lines and comments. The last line is `sweep refused V2 base_not_at_end`
 where the base ends with steps taken back, and `sweep refused V3 trail_room`
 where the base and a plan have more than 65535 events together.
 
-With `--json` each answer and each plan is a line of JSON, for programs:
-docs/JSON.md has its fields.
+With `--json` each answer and each plan is a line of JSON, for programs.
 
-docs/ANSWERS.md explains each line.
+docs/SCRIPTS.md explains each line, and the fields of JSON.
 
 Example:
 
@@ -403,7 +401,7 @@ these, or a name that the cluster hasn't, is told alone: `bad line K`. K counts
 lines from 1 behind `===`, with blank lines and comments. The status is 9 where
 an `ask` fails, and else 10 where it is unfinished.
 
-docs/ANSWERS.md explains each line.
+docs/SCRIPTS.md explains each line.
 
 Example:
 
