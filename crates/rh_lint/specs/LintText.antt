@@ -11,7 +11,7 @@ use Rattle.rh_app.specs.declared.fault.Told.TheVariants as told
 use Rattle.rh_findings.specs.declared.finding.Finding.{Finding}
 use Rattle.rh_findings.specs.Order.{IsListed}
 use Rattle.rh_findings.specs.Report.{report_text, is_clean}
-use Rattle.rh_cluster_lint.specs.Faults.{fault_finding}
+use Rattle.rh_blame.specs.Telling.{fault_in}
 use Rattle.rh_cluster_lint.specs.Text.{text_found}
 use Rattle.rh_script_lint.specs.Lines.{of_lines}
 use Rattle.rh_script_lint.specs.Steps.{of_script_steps}
@@ -24,7 +24,7 @@ first_line bytes = length (raw_lines (cluster_text bytes)) + 2
 
 -- in a text that is no cluster: its fault, and what its terms show; the script isn't looked at
 abbrev pub of_fault : List ℕ → ClusterFault → List Finding
-of_fault text f = fault_finding f ∷ text_found text None
+of_fault text f = fault_in text f ∷ text_found text None
 
 -- in a cluster with a script, of which the first line has number k: what the text shows, each line, and each step
 abbrev pub of_script : List ℕ → ClusterView → Pick → ℕ → List (List ℕ) → List Finding

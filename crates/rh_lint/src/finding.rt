@@ -9,8 +9,9 @@ ghost use Rattle.rh_script_lint.specs.Steps.{of_script_steps};
 ghost use Rattle.rh_lint.specs.LintText.{of_fault, of_script, found_in};
 
 use rh_base::OutOfMemory;
+use rh_blame::fault_in;
 use rh_cluster::{Cluster, ClusterFault, read_cluster};
-use rh_cluster_lint::{fault_finding, text_findings};
+use rh_cluster_lint::text_findings;
 use rh_findings::Finding;
 use rh_script::{cut, split_line};
 use rh_script_lint::{line_findings, step_lines};
@@ -43,7 +44,7 @@ fn of_fault(alloc: Global, text: &[u8], fault: &ClusterFault) -> Result<Vec<Find
         return Err(OutOfMemory);
     }
     let mut found = Vec::new(alloc);
-    found.push(fault_finding(alloc, fault)?)?;
+    found.push(fault_in(alloc, text, fault)?)?;
     let mut others = text_findings(alloc, text, None)?;
     found.append(&mut others)?;
     Ok(found)

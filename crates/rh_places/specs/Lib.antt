@@ -1,3 +1,4 @@
 pub mod Scan
 pub mod Starts
+pub mod Tuples
 pub mod Words

@@ -2,6 +2,7 @@
 
 ghost use Rattle.std.specs.Prelude.{◌≡◌};
 ghost use Rattle.rh_places.specs.Scan.{is_white, is_atom_byte, behind_inside, behind, begins_term};
+ghost use Rattle.rh_places.specs.Tuples.{is_bare};
 
 /// What a byte of a text stands in.
 #[derive(Clone, Copy, Debug, PartialEq, Eq)]
@@ -93,6 +94,13 @@ impl Standing {
             }
             Standing::Escaped(quote) => Standing::Quoted(quote),
         }
+    }
+
+    /// Does a byte stand outside comments and quotes here?
+    pub fn is_bare(self) -> bool
+        ensures { result ≡ is_bare self }
+    {
+        matches!(self, Standing::Between | Standing::Inside)
     }
 
     /// Is this byte the first of a term?

@@ -1,0 +1,2 @@
+pub mod Blame
+pub mod Telling
