@@ -8,5 +8,5 @@ put_row : put (codes "[{boot, x}, y]") (record { line = 1; from = 1; to = 10 }) 
 unfolding put
 put_row = refl
 
-came_row : (came 10 (Err BadValue) ≡ AsBefore) × (came 10 (Err UnknownName) ≡ Otherwise)
-came_row = (refl, refl)
+came_row : (came 10 (Err BadValue) ≡ AsBefore) × (came 10 (Err UnknownName) ≡ Otherwise) × (came 5 (Err BadValue) ≡ AsBefore)
+came_row = (refl, refl, refl)

@@ -1,5 +1,5 @@
 -- Which part of a refused cluster file is at fault (ours).
-use Rattle.std.specs.Prelude.{ℕ, ◌+◌, ◌/◌, List, [], ◌∷◌, ◌++◌, codes, length, take, drop, min, Bool, true, false, ◌==◌, Option, Some, None, Result, Ok, Err, if◌then◌else◌}
+use Rattle.std.specs.Prelude.{ℕ, ◌+◌, ◌/◌, List, [], ◌∷◌, ◌++◌, codes, length, take, drop, min, Bool, true, false, ◌||◌, ◌==◌, Option, Some, None, Result, Ok, Err, if◌then◌else◌}
 use Rattle.std.specs.List.{find}
 use Rattle.std.specs.Option.{option_or}
 use Rattle.rh_model.specs.ClusterView.{ClusterView}
@@ -31,10 +31,11 @@ number fault.OutOfMemory = 12
 unfoldable pub put : List ℕ → Tuple → List ℕ
 put text t = take t.from text ++ (codes "{x, []}" ++ drop t.to text)
 
--- what comes of a file that was refused with a code of this number before
+-- what comes of a file that was refused with a code of this number before; C10 is no other reason, since it is the fault of the tuple
+-- that was put there, where a section takes none but its own
 abbrev pub came : ℕ → Result ClusterView ClusterFault → Tried
 came before (Ok c) = Accepted
-came before (Err f) = if number f == before then AsBefore else Otherwise
+came before (Err f) = if (number f == before) || (number f == number fault.BadValue) then AsBefore else Otherwise
 
 unfoldable pub come_without : List ℕ → ℕ → Tuple → Tried
 come_without text before t = came before (cluster_of (put text t))

@@ -20,9 +20,9 @@ pub const MOST_READ: usize = 33_554_432;
 pub enum Tried {
     /// It is accepted.
     Accepted,
-    /// It is refused for another reason.
+    /// It is refused for another reason, and not for the tuple that was put there.
     Otherwise,
-    /// It is refused for the same reason.
+    /// It is refused for the same reason, or for that tuple.
     AsBefore,
 }
 
@@ -81,7 +81,7 @@ fn came(alloc: Global, text: &[u8], before: u8) -> Result<Tried, OutOfMemory>
         Err(fault) => {
             if fault.is_memory() {
                 Err(OutOfMemory)
-            } else if number(&fault) == before {
+            } else if number(&fault) == before || number(&fault) == 10 {
                 Ok(Tried::AsBefore)
             } else {
                 Ok(Tried::Otherwise)
