@@ -19,7 +19,7 @@ PAGE = Path(TOP, "docs", "GUARDS.md")
 MOST_IN_GATE = 130
 # Crates that have edits, and none that rt ci tries: the first edit of a crate costs a proof of the whole crate, and of those that
 # write texts alone these are the dearest.
-NONE_IN_GATE = {"rh_json", "rh_sweep_json"}
+NONE_IN_GATE = {"rh_json", "rh_sweep_json", "rh_explore_text"}
 
 # A test's name, and what is wrong, or None.
 Test = tuple[str, str | None]
