@@ -28,6 +28,8 @@ from support import LONGEST_RUN, TOP, run
 
 ANSWERS = "docs/SCRIPTS.md"
 LIVE = "docs/LIVE_OTP.md"
+# These subcommands end with status 9 where they find what they look for.
+FINDERS, STATUSES = ("explore", "lint"), (0, 9)
 # Differences that no line of an answer shows.
 UNSEEN = {"weights-for-ever"}
 # The definitions of what the program prints.
@@ -175,7 +177,7 @@ def help_examples(program):
         yield f"{' '.join(words)}: examples", None if pasted else "there is none"
         for command in pasted:
             done = shell(program, command)
-            is_done = done.returncode == 0 and done.stdout and not done.stderr
+            is_done = done.returncode in (STATUSES if words[0] in FINDERS else (0,)) and done.stdout and not done.stderr
             yield f"{' '.join(words)}: {command.splitlines()[0]}", None if is_done else f"{done}"
 
 
