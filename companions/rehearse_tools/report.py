@@ -7,7 +7,7 @@
 RELEASE is an unpacked release, or NAME.tar.gz, as for gather; or a cluster file in place of all releases. Behind a colon stand the nodes
 that run it. One release alone runs at all nodes that its configuration names, if none are told.
 
-It does what these do one after the other: gather, the program's check (and its lint and explore, if it has them), plans for every
+It does what these do one after the other: gather, the program's check (and its lint, if it has that), plans for every
 loss of one node and of two behind the boot of all, the sweep of them with the times of each, live, survey and page. The page has for
 each distributed application whether it is safe; which least losses leave it nowhere, with the shortest sequence of commands that
 does; how long it is away; what live nodes do otherwise, and why; each plan step by step; and the commands that tell all of it again.
@@ -37,7 +37,7 @@ from rehearse_tools.report_facts import UNSAFE, app_facts, headline, live_facts
 from rehearse_tools.templates import rendered
 
 # Subcommands of the program that a report shows as they stand, where the program has them.
-MORE = ("lint", "explore")
+MORE = ("lint",)
 MOST_PLANS = 10_000
 
 
