@@ -102,7 +102,7 @@ def helps(program, folder):
     files = b"\nFiles in place of standard input: `rehearse run cluster.txt plan.txt` reads\n"
     yield "--help", told(whole, b"Usage: rehearse <COMMAND>\n", files)
     statuses = re.findall(r"(?m)^ +(\d+)  \S", whole.stdout.decode().partition("\nExit status:\n")[2])
-    yield "--help has each status once", None if statuses == [str(number) for number in range(10)] else f"{statuses}"
+    yield "--help has each status once", None if statuses == [str(number) for number in range(11)] else f"{statuses}"
     yield "--help has one list of them", None if whole.stdout.count(b"Exit status") == 1 else "another one"
     for words in (["-h"], ["help"], ["help", "help"]):
         yield " ".join(words), wrong(call(folder, words), 0, whole.stdout, b"")

@@ -97,7 +97,7 @@ def readme(root):
     text = read(os.path.join(root, README)).decode()
     call(root, "mkdir /root/work && ln -s /usr/share/doc/rehearse/examples /root/work/examples")
     for command, owed in shown_commands(text):
-        done = call(root, installed_line(command), "/root/work")
+        done = call(root, f"set +o pipefail; {installed_line(command)}", "/root/work")
         yield f"{command}, installed", None if is_shown(done, owed) else f"{done}"
     lines, owed = six_lines(text)
     told = []

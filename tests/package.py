@@ -167,7 +167,8 @@ def first_commands(program, folder):
     yield "README.md shows commands", None if shown else "there are none"
     for command, owed in shown:
         line = installed_line(command)
-        done = call(root, line)
+        # At a prompt the status of a pipe is that of its last command.
+        done = call(root, f"set +o pipefail; {line}")
         yield line, None if is_shown(done, owed) else f"{done}"
     for line, begin in (("rehearse --help", "Rehearses maintenance"), ("rehearse help sweep", "Reads a cluster file, a base and plans"),
                         ("rehearse help boot", "boot N: starts node N\n"), ("rehearse help S1", "refused S1 unknown_node\n"),

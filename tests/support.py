@@ -27,8 +27,10 @@ def files_below(folder):
 
 
 def example_files():
-    """The paths of all examples: the files examples/**/NAME.txt. In examples/shop are the sources of a release."""
-    return [path for path in files_below(os.path.join(TOP, "examples")) if path.endswith(".txt")]
+    """The paths of all examples: the files examples/**/NAME.txt. In examples/shop are the sources of a release, and in examples/stories the
+    stories of other examples, which stories.py looks at."""
+    top = os.path.join(TOP, "examples")
+    return [path for path in files_below(top) if path.endswith(".txt") and not path.startswith(os.path.join(top, "stories", ""))]
 
 
 def library_of(code, folder):
