@@ -12,17 +12,14 @@ ghost use Rattle.rh_app.specs.Programs.{ProgramGives, NoThreads};
 ghost use Rattle.rh_app.specs.RunText.{answers_text, Wrote, Broke};
 ghost use Rattle.rh_app.specs.SweepText.{why_not_swept, plan_outcome, plans_text, plans_end, lines_text, lines_end, sweep_text, sweep_end, OwesSweep};
 
-mod crews;
-
 use crate::fault::{RunFault, Told, ended};
 use crate::running::{answer_bad, answer_call, write_fault};
-use crews::{Alone, Crew, Threaded};
 use rh_base::Str;
 use rh_cluster::{Cluster, read_cluster};
 use rh_devices::{Sink, Source, Watched, WriteFault, read_input, write_text};
 use rh_script::{SweepScript, cut, outcome_text, sweep_fault_text, sweep_in};
 use rh_step::Pick;
-use rh_sweep::{Outcome, Plan, SweepFault};
+use rh_sweep::{Alone, Crew, Outcome, Plan, SweepFault, Threaded};
 use rh_trail::{Call, Sim};
 use std::alloc::Global;
 use std::sync::Wait;

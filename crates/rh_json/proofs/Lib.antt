@@ -1,4 +1,3 @@
-pub mod Arrays
 pub mod Turns
 pub mod Lines
 pub mod Told

@@ -1,4 +1,4 @@
--- Worked rows: the pieces of JSON, and the lines of a cluster, of commands and of a report, computed from the definitions.
+-- Worked rows: the lines of a cluster, of commands and of a report, computed from the definitions.
 use Rattle.std.proofs.Common.{◌≡◌, ◌++◌, [], ◌∷◌, codes, true, false, Some, None, refl}
 use Rattle.std.specs.Fmt.{digits, decimal}
 use Rattle.rh_model.specs.ClusterView.{ClusterView, numbered, app_numbered}
@@ -16,24 +16,12 @@ use Rattle.rh_rules.specs.declared.refusal.Refusal.TheVariants.{NotAlive}
 use Rattle.rh_step.specs.Firings.{firing}
 use Rattle.rh_trail.specs.declared.call.Reply.TheVariants as reply
 use Rattle.rh_script.specs.Answers.{notice_line, answer_text}
-use Rattle.rh_json.specs.Json.{escaped, json_string, json_array}
+use Rattle.rh_json_text.specs.Json.{escaped, json_string, json_array}
 use Rattle.rh_json.specs.ClusterLines.{node_json, app_json, group_json, settings_json, cluster_line, refused_json, refused_line}
 use Rattle.rh_json.specs.Starts.{start_json}
 use Rattle.rh_json.specs.Notices.{pair_json, notice_json}
 use Rattle.rh_json.specs.Reports.{started_json, running_json, waiting_json, mode_json, running_list, waiting_list, forbidden_list, lists_json, state_json, standing_json, timer_json, place_json, parts_json, report_json}
 use Rattle.rh_json.specs.AnswerLines.{head_json, reply_line, bad_json}
-
--- ---- pieces
--- a quote and a backslash stand behind a backslash, bytes below 32 are numbers of four digits, and all others stand as they are
-string_row : (json_string (codes "a b") ≡ codes "\"a b\"") × (json_string [] ≡ codes "\"\"") × (json_string (34 ∷ 92 ∷ 47 ∷ []) ≡ 34 ∷ 92 ∷ 34 ∷ 92 ∷ 92 ∷ 47 ∷ 34 ∷ [])
-    × (json_string (0 ∷ 10 ∷ 31 ∷ 32 ∷ 127 ∷ 255 ∷ []) ≡ codes "\"\\u0000\\u000a\\u001f " ++ 127 ∷ 255 ∷ 34 ∷ [])
-unfolding json_string escaped
-string_row = (refl, refl, refl, refl)
-
--- a comma stands between each two values
-array_row : (json_array decimal [] ≡ codes "[]") × (json_array decimal (7 ∷ []) ≡ codes "[7]") × (json_array decimal (7 ∷ 10 ∷ 0 ∷ []) ≡ codes "[7,10,0]")
-unfolding json_array digits
-array_row = (refl, refl, refl)
 
 -- ---- a cluster: web runs at n1, else at n2 or n3, which rank alike; db is local
 abbrev db : App

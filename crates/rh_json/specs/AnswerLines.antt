@@ -11,7 +11,7 @@ use Rattle.rh_state.specs.StateView.{StateView}
 use Rattle.rh_trail.specs.SimView.{SimView, state_of}
 use Rattle.rh_trail.specs.Lone.{Served, served}
 use Rattle.rh_script.specs.Answers.{answer_text}
-use Rattle.rh_json.specs.Json.{json_string, json_array}
+use Rattle.rh_json_text.specs.Json.{json_string, json_array}
 use Rattle.rh_json.specs.Notices.{notice_json, fired_by, timed_notices}
 use Rattle.rh_json.specs.Reports.{report_json}
 

@@ -1,4 +1,3 @@
-pub mod Json
 pub mod ClusterLines
 pub mod Starts
 pub mod Notices

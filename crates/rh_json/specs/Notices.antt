@@ -14,7 +14,7 @@ use Rattle.rh_trail.specs.declared.call.Call.{Call}
 use Rattle.rh_trail.specs.declared.call.Call.TheVariants as call
 use Rattle.rh_trail.specs.SimView.{SimView, state_of}
 use Rattle.rh_script.specs.Answers.{notice_line}
-use Rattle.rh_json.specs.Json.{json_string}
+use Rattle.rh_json_text.specs.Json.{json_string}
 use Rattle.rh_json.specs.ClusterLines.{node_json, app_json}
 use Rattle.rh_json.specs.Starts.{first_word, start_json}
 

@@ -5,7 +5,7 @@ use Rattle.rh_model.specs.ClusterView.{ClusterView}
 use Rattle.rh_state.specs.declared.status.Kind.{Kind}
 use Rattle.rh_state.specs.declared.status.Kind.TheVariants as kind
 use Rattle.rh_trail.specs.Report.{kind_words}
-use Rattle.rh_json.specs.Json.{json_string}
+use Rattle.rh_json_text.specs.Json.{json_string}
 use Rattle.rh_json.specs.ClusterLines.{node_json}
 
 -- the first word of a text

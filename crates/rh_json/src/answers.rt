@@ -3,17 +3,16 @@
 ghost use Rattle.std.specs.Prelude.{◌≡◌, ◌++◌, OnOk, IfOk, codes};
 ghost use Rattle.std.specs.Option.{option_map};
 ghost use Rattle.rh_state.specs.Stored.{read};
-ghost use Rattle.rh_json.specs.Json.{json_array};
+ghost use Rattle.rh_json_text.specs.Json.{json_array};
 ghost use Rattle.rh_json.specs.Notices.{notice_json, timed_notices};
 ghost use Rattle.rh_json.specs.Reports.{report_json};
 ghost use Rattle.rh_json.specs.AnswerLines.{more_json, head_json, reply_line, bad_json};
 
 use crate::notices::push_notices;
-use crate::pieces::{push_number, push_string, push_text};
 use crate::reports::push_report;
-use crate::words::before_first;
 use rh_base::OutOfMemory;
 use rh_cluster::Cluster;
+use rh_json_text::{before_first, push_number, push_string, push_text};
 use rh_script::answer_text;
 use rh_state::State;
 use rh_step::{FiredTimer, Notice};

@@ -5,13 +5,12 @@ ghost use Rattle.std.specs.List.{flat_map};
 ghost use Rattle.std.specs.Option.{option_map};
 ghost use Rattle.rh_model.specs.ClusterView.{app_count};
 ghost use Rattle.rh_state.specs.Numbers.{nodes_of, apps_of};
-ghost use Rattle.rh_json.specs.Json.{json_array, behind_comma};
+ghost use Rattle.rh_json_text.specs.Json.{json_array, behind_comma};
 ghost use Rattle.rh_json.specs.ClusterLines.{node_json, app_json, group_json, spread_json, settings_json, cluster_line, refused_json, refused_line, fault_line};
 
-use crate::pieces::{push_array, push_number, push_string, push_text};
-use crate::words::{after_first, before_first};
 use rh_base::OutOfMemory;
 use rh_cluster::{App, Cluster, ClusterFault, Group, Node, Spread};
+use rh_json_text::{after_first, before_first, push_array, push_number, push_string, push_text};
 use rh_trail::{app_word, node_word};
 use std::alloc::Global;
 

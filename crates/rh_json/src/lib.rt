@@ -10,12 +10,10 @@ mod checking;
 mod clusters;
 mod laws;
 mod notices;
-mod pieces;
 mod reports;
 mod running;
 mod starts;
 mod states;
-mod words;
 
 pub use checking::check_json;
 pub use laws::{commands_are_answered, notices_are_replied};

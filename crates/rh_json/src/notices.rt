@@ -6,14 +6,14 @@ ghost use Rattle.std.specs.Option.{option_map};
 ghost use Rattle.rh_model.specs.ClusterView.{ClusterView};
 ghost use Rattle.rh_step.specs.Firings.{FiringView};
 ghost use Rattle.rh_script.specs.Answers.{notice_line};
-ghost use Rattle.rh_json.specs.Json.{json_array, behind_comma};
+ghost use Rattle.rh_json_text.specs.Json.{json_array, behind_comma};
 ghost use Rattle.rh_json.specs.Starts.{first_word};
 ghost use Rattle.rh_json.specs.Notices.{pair_json, named_json, time_json, notice_json, timed, timed_notices, fired_by};
 
-use crate::pieces::{push_array, push_number, push_string, push_text};
 use crate::starts::{push_app_at, push_node_at, push_start};
 use rh_base::OutOfMemory;
 use rh_cluster::{App, Cluster, Node};
+use rh_json_text::{push_array, push_number, push_string, push_text};
 use rh_step::{Event, FiredTimer, Notice, refusal_of};
 use rh_trail::{Call, Sim};
 use std::alloc::Global;

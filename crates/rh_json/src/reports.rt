@@ -8,16 +8,16 @@ ghost use Rattle.rh_state.specs.Numbers.{nodes_of};
 ghost use Rattle.rh_state.specs.Stored.{read};
 ghost use Rattle.rh_state.specs.StateView.{standing_of};
 ghost use Rattle.rh_trail.specs.Report.{standing_words, timer_words};
-ghost use Rattle.rh_json.specs.Json.{json_array, behind_comma};
+ghost use Rattle.rh_json_text.specs.Json.{json_array, behind_comma};
 ghost use Rattle.rh_json.specs.Starts.{first_word};
 ghost use Rattle.rh_json.specs.Reports.{state_json, at_json, standing_json, distributed_in, timed_json, timer_json, place_json, parts_json, report_json};
 
 use crate::clusters::push_app;
-use crate::pieces::{push_array, push_number, push_string, push_text};
 use crate::starts::{push_app_at, push_node_at};
 use crate::states::push_state;
 use rh_base::OutOfMemory;
 use rh_cluster::{App, Cluster, Node};
+use rh_json_text::{push_array, push_number, push_string, push_text};
 use rh_state::{Standing, State, Timer};
 use std::alloc::Global;
 

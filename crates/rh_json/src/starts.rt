@@ -7,9 +7,9 @@ ghost use Rattle.rh_json.specs.ClusterLines.{app_json, node_json};
 ghost use Rattle.rh_json.specs.Starts.{first_word, from_json, start_json};
 
 use crate::clusters::{push_app, push_node};
-use crate::pieces::{push_string, push_text};
 use rh_base::OutOfMemory;
 use rh_cluster::{App, Cluster, Node};
+use rh_json_text::{push_string, push_text};
 use rh_state::Kind;
 
 // The word of a start kind.

@@ -6,15 +6,15 @@ ghost use Rattle.rh_model.specs.ClusterView.{node_count, app_count};
 ghost use Rattle.rh_state.specs.StateView.{running_at, waiting_at, is_allowed};
 ghost use Rattle.rh_state.specs.Stored.{read};
 ghost use Rattle.rh_trail.specs.Report.{mode_words};
-ghost use Rattle.rh_json.specs.Json.{json_array, behind_comma};
+ghost use Rattle.rh_json_text.specs.Json.{json_array, behind_comma};
 ghost use Rattle.rh_json.specs.ClusterLines.{app_json};
 ghost use Rattle.rh_json.specs.Reports.{started_json, running_json, waiting_json, forbidden_at, mode_json, running_list, waiting_list, forbidden_list, lists_json, state_json};
 
 use crate::clusters::{push_app, push_node};
-use crate::pieces::{push_array, push_number, push_string, push_text};
 use crate::starts::push_start;
 use rh_base::OutOfMemory;
 use rh_cluster::{App, Node};
+use rh_json_text::{push_array, push_number, push_string, push_text};
 use rh_state::{Mode, State};
 use rh_trail::restart_word;
 use std::alloc::Global;

@@ -10,7 +10,7 @@ use Rattle.rh_plans.specs.declared.fault.SweepFault.{SweepFault}
 use Rattle.rh_plans.specs.declared.plan.Outcome.{Outcome}
 use Rattle.rh_plans.specs.FaultWords.{fault_words}
 use Rattle.rh_script.specs.Answers.{answer_text}
-use Rattle.rh_json.specs.Json.{json_string, json_array}
+use Rattle.rh_json_text.specs.Json.{json_string, json_array}
 use Rattle.rh_json.specs.ClusterLines.{refused_line}
 use Rattle.rh_json.specs.AnswerLines.{first_line}
 use Rattle.rh_json.specs.Reports.{standing_json}

@@ -6,14 +6,11 @@
 #![tactic(auto)]
 
 mod base;
-mod crews;
 mod laws;
 mod outcomes;
 mod parts;
-mod pieces;
 mod standings;
 mod sweeping;
-mod words;
 
 pub use laws::base_is_answered;
 pub use sweeping::{sweep_json, sweep_json_alone};

@@ -6,11 +6,10 @@ ghost use Rattle.rh_script.specs.Answers.{answer_text};
 ghost use Rattle.rh_json.specs.ClusterLines.{refused_json, refused_line};
 ghost use Rattle.rh_sweep_json.specs.OutcomeLines.{accepted_json, count_json, counts_json, event_json, refused_event_json, ends_json, outcome_line, sweep_fault_line};
 
-use crate::pieces::{push_number, push_string, push_text};
 use crate::standings::push_standings;
-use crate::words::{after_first, before_first};
 use rh_base::{OutOfMemory, Str};
 use rh_cluster::Cluster;
+use rh_json_text::{after_first, before_first, push_number, push_string, push_text};
 use rh_script::answer_text;
 use rh_step::Refusal;
 use rh_sweep::{Outcome, SweepFault};

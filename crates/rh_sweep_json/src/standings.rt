@@ -5,14 +5,14 @@ ghost use Rattle.std.specs.List.{flat_map};
 ghost use Rattle.rh_model.specs.ClusterView.{ClusterView};
 ghost use Rattle.rh_trail.specs.Report.{standing_words};
 ghost use Rattle.rh_json.specs.ClusterLines.{node_json, app_json};
-ghost use Rattle.rh_json.specs.Json.{json_array, behind_comma};
+ghost use Rattle.rh_json_text.specs.Json.{json_array, behind_comma};
 ghost use Rattle.rh_json.specs.Reports.{at_json, standing_json};
 ghost use Rattle.rh_json.specs.Starts.{first_word};
 ghost use Rattle.rh_sweep_json.specs.OutcomeLines.{stands_json};
 
-use crate::pieces::{push_array, push_string, push_text};
 use rh_base::OutOfMemory;
 use rh_cluster::{App, Cluster, Node};
+use rh_json_text::{push_array, push_string, push_text};
 use rh_state::Standing;
 use rh_trail::{app_word, node_word};
 use std::alloc::Global;

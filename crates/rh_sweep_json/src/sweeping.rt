@@ -17,17 +17,16 @@ ghost use Rattle.rh_sweep_json.specs.OutcomeLines.{outcome_line, sweep_fault_lin
 ghost use Rattle.rh_sweep_json.specs.SweepJson.{plan_line, plans_json, base_json, lines_json, sweep_json, OwesSweepJson};
 
 use crate::base::base_text;
-use crate::crews::{Alone, Crew, Threaded};
 use crate::outcomes::{outcome_line, sweep_fault_line};
 use crate::parts::{write_check, write_run};
-use crate::pieces::{push_number, push_text};
 use rh_app::{RunFault, Told, ended};
 use rh_base::{OutOfMemory, Str};
 use rh_cluster::{Cluster, read_cluster};
 use rh_devices::{Sink, Source, Watched, WriteFault, read_input, write_text};
+use rh_json_text::{push_number, push_text};
 use rh_script::{SweepScript, cut, sweep_in};
 use rh_step::Pick;
-use rh_sweep::{Outcome, Plan, SweepFault};
+use rh_sweep::{Alone, Crew, Outcome, Plan, SweepFault, Threaded};
 use rh_trail::{Call, Sim};
 use std::alloc::Global;
 use std::sync::Wait;

@@ -2,7 +2,7 @@ use Rattle.std.proofs.Common.{◌≡◌, ◌++◌, map}
 use Rattle.std.specs.List.{flat_map, range_with_len}
 use Rattle.rh_model.specs.ClusterView.{app_numbered}
 use Rattle.rh_json.specs.ClusterLines.{settings_json}
-use Rattle.rh_json.specs.Json.{behind_comma}
+use Rattle.rh_json_text.specs.Json.{behind_comma}
 use Rattle.rh_json.proofs.clusters.push_each_app.Given as goal
 
 abbrev pub invariant-loop-number : goal.invariant-loop-number

@@ -2,8 +2,8 @@ use Rattle.std.proofs.Common.{append_assoc, ◌∙◌}
 use Rattle.std.specs.Prelude.{codes}
 use Rattle.rh_model.specs.ClusterView.{numbered}
 use Rattle.rh_json.specs.ClusterLines.{node_json}
-use Rattle.rh_json.specs.Json.{behind_comma}
-use Rattle.rh_json.proofs.Arrays.{numbers_more, one_behind}
+use Rattle.rh_json_text.specs.Json.{behind_comma}
+use Rattle.rh_json_text.proofs.Arrays.{numbers_more, one_behind}
 use Rattle.rh_json.proofs.clusters.push_each_node.Goals as goal
 
 pub loop-number-preserved : goal.loop-number-preserved

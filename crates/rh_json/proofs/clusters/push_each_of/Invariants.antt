@@ -1,7 +1,7 @@
 use Rattle.std.proofs.Common.{◌≡◌, ◌++◌, take}
 use Rattle.std.specs.List.{flat_map}
 use Rattle.rh_json.specs.ClusterLines.{node_json}
-use Rattle.rh_json.specs.Json.{behind_comma}
+use Rattle.rh_json_text.specs.Json.{behind_comma}
 use Rattle.rh_json.proofs.clusters.push_each_of.Given as goal
 
 abbrev pub invariant-loop-node : goal.invariant-loop-node

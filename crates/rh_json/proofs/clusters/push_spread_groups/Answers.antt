@@ -1,7 +1,7 @@
 use Rattle.std.proofs.Common.{codes}
-use Rattle.rh_json.specs.Json.{json_array}
+use Rattle.rh_json_text.specs.Json.{json_array}
 use Rattle.rh_json.specs.ClusterLines.{group_json}
-use Rattle.rh_json.proofs.Arrays.{rest_behind_front}
+use Rattle.rh_json_text.proofs.Arrays.{rest_behind_front}
 use Rattle.rh_json.proofs.clusters.push_spread_groups.Goals as goal
 
 pub returns : goal.returns

@@ -1,7 +1,7 @@
 use Rattle.std.proofs.Common.{◌≡◌, ◌++◌, take}
 use Rattle.std.specs.List.{flat_map}
 use Rattle.rh_step.specs.Firings.{FiringView}
-use Rattle.rh_json.specs.Json.{behind_comma}
+use Rattle.rh_json_text.specs.Json.{behind_comma}
 use Rattle.rh_json.specs.Notices.{notice_json, timed}
 use Rattle.rh_json.proofs.notices.push_each_fired.Given as goal
 

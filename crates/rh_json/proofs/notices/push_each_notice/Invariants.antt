@@ -2,7 +2,7 @@ use Rattle.std.proofs.Common.{◌≡◌, ◌++◌, take, map}
 use Rattle.std.specs.List.{flat_map}
 use Rattle.rh_rules.specs.declared.notice.Notice.{Notice}
 use Rattle.rh_json.specs.Notices.{notice_json}
-use Rattle.rh_json.specs.Json.{behind_comma}
+use Rattle.rh_json_text.specs.Json.{behind_comma}
 use Rattle.rh_json.proofs.notices.push_each_notice.Given as goal
 
 abbrev pub invariant-loop-notice : goal.invariant-loop-notice

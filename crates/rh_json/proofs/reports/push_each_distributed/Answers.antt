@@ -4,8 +4,8 @@ use Rattle.rh_state.specs.Stored.{read}
 use Rattle.rh_state.specs.StateView.{standing_of}
 use Rattle.rh_rules.specs.Course.{is_local}
 use Rattle.rh_json.specs.Reports.{standing_json}
-use Rattle.rh_json.specs.Json.{behind_comma}
-use Rattle.rh_json.proofs.Arrays.{passed_more}
+use Rattle.rh_json_text.specs.Json.{behind_comma}
+use Rattle.rh_json_text.proofs.Arrays.{passed_more}
 use Rattle.rh_json.proofs.reports.push_each_distributed.Goals as goal
 
 pub loop-number-preserved : goal.loop-number-preserved

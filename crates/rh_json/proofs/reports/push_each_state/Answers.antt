@@ -3,8 +3,8 @@ use Rattle.std.specs.Prelude.{codes}
 use Rattle.rh_model.specs.ClusterView.{numbered}
 use Rattle.rh_state.specs.Stored.{read}
 use Rattle.rh_json.specs.Reports.{state_json}
-use Rattle.rh_json.specs.Json.{behind_comma}
-use Rattle.rh_json.proofs.Arrays.{numbers_more, one_behind}
+use Rattle.rh_json_text.specs.Json.{behind_comma}
+use Rattle.rh_json_text.proofs.Arrays.{numbers_more, one_behind}
 use Rattle.rh_json.proofs.reports.push_each_state.Goals as goal
 
 pub loop-number-preserved : goal.loop-number-preserved

@@ -3,7 +3,7 @@ use Rattle.std.specs.List.{flat_map, range_with_len}
 use Rattle.rh_model.specs.ClusterView.{numbered}
 use Rattle.rh_state.specs.Stored.{read}
 use Rattle.rh_json.specs.Reports.{state_json}
-use Rattle.rh_json.specs.Json.{behind_comma}
+use Rattle.rh_json_text.specs.Json.{behind_comma}
 use Rattle.rh_json.proofs.reports.push_each_state.Given as goal
 
 abbrev pub invariant-loop-number : goal.invariant-loop-number

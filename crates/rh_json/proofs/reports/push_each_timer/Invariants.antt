@@ -1,7 +1,7 @@
 use Rattle.std.proofs.Common.{◌≡◌, ◌++◌, take}
 use Rattle.std.specs.List.{flat_map}
 use Rattle.rh_json.specs.Reports.{timer_json}
-use Rattle.rh_json.specs.Json.{behind_comma}
+use Rattle.rh_json_text.specs.Json.{behind_comma}
 use Rattle.rh_json.proofs.reports.push_each_timer.Given as goal
 
 abbrev pub invariant-loop-entry : goal.invariant-loop-entry

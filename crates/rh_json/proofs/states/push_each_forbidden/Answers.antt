@@ -3,8 +3,8 @@ use Rattle.rh_model.specs.ClusterView.{app_numbered}
 use Rattle.rh_state.specs.Stored.{read}
 use Rattle.rh_state.specs.StateView.{is_allowed}
 use Rattle.rh_json.specs.ClusterLines.{app_json}
-use Rattle.rh_json.specs.Json.{behind_comma}
-use Rattle.rh_json.proofs.Arrays.{passed_more}
+use Rattle.rh_json_text.specs.Json.{behind_comma}
+use Rattle.rh_json_text.proofs.Arrays.{passed_more}
 use Rattle.rh_json.proofs.states.push_each_forbidden.Goals as goal
 
 pub loop-number-preserved : goal.loop-number-preserved

@@ -4,7 +4,7 @@ use Rattle.rh_model.specs.ClusterView.{app_numbered}
 use Rattle.rh_state.specs.Stored.{read}
 use Rattle.rh_state.specs.StateView.{is_allowed}
 use Rattle.rh_json.specs.ClusterLines.{app_json}
-use Rattle.rh_json.specs.Json.{behind_comma}
+use Rattle.rh_json_text.specs.Json.{behind_comma}
 use Rattle.rh_json.proofs.states.push_each_forbidden.Given as goal
 
 abbrev pub invariant-loop-number : goal.invariant-loop-number

@@ -2,7 +2,7 @@ use Rattle.std.proofs.Common.{length}
 use Rattle.rh_state.specs.StateView.{waiting_at}
 use Rattle.rh_state.specs.Stored.{read}
 use Rattle.rh_settle.proofs.ListWalks.{left_of}
-use Rattle.rh_json.specs.Json.{behind_comma}
+use Rattle.rh_json_text.specs.Json.{behind_comma}
 use Rattle.rh_json.specs.Reports.{waiting_json}
 use Rattle.rh_trail.proofs.Walks.{IsWalked}
 use Rattle.rh_json.proofs.states.push_each_waiting.Given as goal

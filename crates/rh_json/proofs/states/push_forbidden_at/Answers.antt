@@ -1,9 +1,9 @@
 use Rattle.std.proofs.Common.{codes}
 use Rattle.rh_state.specs.Stored.{read}
-use Rattle.rh_json.specs.Json.{json_array}
+use Rattle.rh_json_text.specs.Json.{json_array}
 use Rattle.rh_json.specs.ClusterLines.{app_json}
 use Rattle.rh_json.specs.Reports.{forbidden_at, forbidden_list}
-use Rattle.rh_json.proofs.Arrays.{rest_behind_front}
+use Rattle.rh_json_text.proofs.Arrays.{rest_behind_front}
 use Rattle.rh_json.proofs.states.push_forbidden_at.Goals as goal
 
 pub returns : goal.returns

@@ -1,5 +1,5 @@
 use Rattle.std.proofs.Common.{codes}
-use Rattle.rh_json.proofs.Arrays.{rest_behind_front}
+use Rattle.rh_json_text.proofs.Arrays.{rest_behind_front}
 use Rattle.rh_sweep_json.specs.OutcomeLines.{count_json, counts_json}
 use Rattle.rh_sweep_json.proofs.outcomes.push_counts.Goals as goal
 

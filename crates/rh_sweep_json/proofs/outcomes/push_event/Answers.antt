@@ -1,9 +1,9 @@
 use Rattle.std.proofs.Common.{◌+◌, ◌++◌, ◌∙◌, List, ℕ, ap, codes, append_assoc}
 use Rattle.rh_trail.specs.declared.call.Reply.TheVariants as reply
 use Rattle.rh_script.specs.Answers.{answer_text}
-use Rattle.rh_json.specs.Json.{json_string}
+use Rattle.rh_json_text.specs.Json.{json_string}
 use Rattle.rh_json.specs.AnswerLines.{first_line}
-use Rattle.rh_json.proofs.Arrays.{rest_behind_front}
+use Rattle.rh_json_text.proofs.Arrays.{rest_behind_front}
 use Rattle.rh_sweep_json.specs.OutcomeLines.{count_json, event_json}
 use Rattle.rh_sweep_json.proofs.outcomes.push_event.Goals as goal
 

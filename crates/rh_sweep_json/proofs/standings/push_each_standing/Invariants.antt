@@ -1,6 +1,6 @@
 use Rattle.std.proofs.Common.{◌≡◌, ◌++◌, take}
 use Rattle.std.specs.List.{flat_map}
-use Rattle.rh_json.specs.Json.{behind_comma}
+use Rattle.rh_json_text.specs.Json.{behind_comma}
 use Rattle.rh_sweep_json.specs.OutcomeLines.{stands_json}
 use Rattle.rh_sweep_json.proofs.standings.push_each_standing.Given as goal
 

@@ -1,5 +1,5 @@
 use Rattle.std.proofs.Common.{◌≡◌, ◌<◌, ◌≤◌, ◌==◌, ◌-◌, ℕ, length, get_or, false}
-use Rattle.rh_json.proofs.words.place_of.Given as goal
+use Rattle.rh_json_text.proofs.words.place_of.Given as goal
 
 abbrev pub invariant-bytes : goal.invariant-bytes
 invariant-bytes l = record {

@@ -1,14 +1,14 @@
-//! The pieces of a JSON text.
+//! The pieces of a JSON text, each pushed behind a text. Where memory is refused, a front of the piece may stand there already.
 
 ghost use Rattle.std.specs.Prelude.{◌≡◌, ◌<◌, ◌++◌, OnOk};
 ghost use Rattle.std.specs.List.{flat_map};
 ghost use Rattle.std.specs.Fmt.{decimal};
-ghost use Rattle.rh_json.specs.Json.{hex_digit, escaped, json_string, bracketed};
+ghost use Rattle.rh_json_text.specs.Json.{hex_digit, escaped, json_string, bracketed};
 
 use rh_base::OutOfMemory;
 use std::alloc::Global;
 
-// Adds bytes as they are.
+/// Adds bytes as they are.
 pub fn push_bytes(out: &mut Vec<u8>, bytes: &[u8]) -> Result<(), OutOfMemory>
     ensures { OnOk result (out.new.items ≡ out.old.items ++ bytes.now) }
 {
@@ -16,14 +16,14 @@ pub fn push_bytes(out: &mut Vec<u8>, bytes: &[u8]) -> Result<(), OutOfMemory>
     Ok(())
 }
 
-// Adds a text as it is.
+/// Adds a text as it is.
 pub fn push_text(out: &mut Vec<u8>, text: &str) -> Result<(), OutOfMemory>
     ensures { OnOk result (out.new.items ≡ out.old.items ++ text.now) }
 {
     push_bytes(out, text.as_bytes())
 }
 
-// Adds a number.
+/// Adds a number, in decimal.
 pub fn push_number(alloc: Global, out: &mut Vec<u8>, number: u128) -> Result<(), OutOfMemory>
     ensures { OnOk result (out.new.items ≡ out.old.items ++ decimal number) }
 {
@@ -68,7 +68,8 @@ fn push_each_escaped(out: &mut Vec<u8>, text: &[u8]) -> Result<(), OutOfMemory>
     Ok(())
 }
 
-// Adds a string.
+/// Adds a string: between quotes, with what JSON asks to be escaped (RFC 8259, section 7). All other bytes stay as they are, so the
+/// string is JSON where the text is UTF-8.
 #[tactic(auto, unfolding(crate::specs::Json::json_string))]
 pub fn push_string(out: &mut Vec<u8>, text: &[u8]) -> Result<(), OutOfMemory>
     ensures { OnOk result (out.new.items ≡ out.old.items ++ json_string text.now) }
@@ -78,7 +79,7 @@ pub fn push_string(out: &mut Vec<u8>, text: &[u8]) -> Result<(), OutOfMemory>
     push_text(out, "\"")
 }
 
-// Adds the array of values that stand each behind a comma.
+/// Adds an array of values, each of which stands behind a comma, as a loop writes them.
 pub fn push_array(out: &mut Vec<u8>, values: &[u8]) -> Result<(), OutOfMemory>
     ensures { OnOk result (out.new.items ≡ out.old.items ++ bracketed values.now) }
 {

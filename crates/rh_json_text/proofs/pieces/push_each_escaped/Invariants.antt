@@ -1,7 +1,7 @@
 use Rattle.std.proofs.Common.{◌≡◌, ◌++◌, take}
 use Rattle.std.specs.List.{flat_map}
-use Rattle.rh_json.specs.Json.{escaped}
-use Rattle.rh_json.proofs.pieces.push_each_escaped.Given as goal
+use Rattle.rh_json_text.specs.Json.{escaped}
+use Rattle.rh_json_text.proofs.pieces.push_each_escaped.Given as goal
 
 abbrev pub invariant-loop-byte : goal.invariant-loop-byte
 invariant-loop-byte l = l.out.items ≡ l.fn.out.items ++ flat_map escaped (take l.byte-index l.text)

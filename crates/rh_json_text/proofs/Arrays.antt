@@ -5,7 +5,7 @@ use Rattle.std.proofs.lemmas.List.{append-nil, flat_map_more}
 use Rattle.std.proofs.lemmas.List.FromFn.{map-range_with_len_more}
 use Rattle.std.proofs.lemmas.List.Elements.{filter-append}
 use Rattle.std.proofs.lemmas.Grind.{flat_map-append}
-use Rattle.rh_json.specs.Json.{json_array, behind_comma, bracketed}
+use Rattle.rh_json_text.specs.Json.{json_array, behind_comma, bracketed}
 
 pub array_is_bracketed : {X : Type 0} (value : X → List ℕ) (xs : List X) → bracketed (flat_map (behind_comma value) xs) ≡ json_array value xs
 unfolding json_array

@@ -5,7 +5,9 @@ ghost use Rattle.std.specs.Prelude.{◌≡◌, ⊤, ℕ, map, IfOk, IfErr, OnOk}
 ghost use Rattle.rh_sweep.specs.Outcomes.{outcome_of};
 ghost use Rattle.rh_sweep.specs.Sweeping.{MaySweep, WhyNotSwept};
 
-use rh_sweep::{FreeGate, Outcome, Plan, SweepFault, sweep, sweep_alone};
+use crate::branch::sweep_alone;
+use crate::workers::{FreeGate, sweep};
+use rh_plans::{Outcome, Plan, SweepFault};
 use rh_trail::Sim;
 use std::alloc::Global;
 use std::sync::Wait;

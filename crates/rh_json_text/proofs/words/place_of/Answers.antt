@@ -1,6 +1,6 @@
 use Rattle.std.proofs.Common.{◌<◌, ◌==◌, ℕ, length, sym, arith, eq-eqb}
 use Rattle.std.proofs.lemmas.List.Sums.{position_or_len_is}
-use Rattle.rh_sweep_json.proofs.words.place_of.Goals as goal
+use Rattle.rh_json_text.proofs.words.place_of.Goals as goal
 
 pub returns-then-text-place-clause-place : goal.returns-then-text-place-clause-place
 returns-then-text-place-clause-place c =

@@ -18,7 +18,7 @@ fn place_of(text: &[u8], byte: u8) -> usize
     place
 }
 
-// What stands before the first such byte: all, where there is none.
+/// What stands before the first such byte: all, where there is none.
 pub fn before_first(text: &[u8], byte: u8) -> &[u8]
     ensures { result.now ≡ before_first (λ b. b == byte) text.now }
 {
@@ -26,7 +26,7 @@ pub fn before_first(text: &[u8], byte: u8) -> &[u8]
     &text[..place]
 }
 
-// What stands behind the first such byte: nothing, where there is none.
+/// What stands behind the first such byte: nothing, where there is none.
 pub fn after_first(text: &[u8], byte: u8) -> &[u8]
     ensures { result.now ≡ after_first (λ b. b == byte) text.now }
 {
