@@ -51,10 +51,6 @@ module _ (s : SimView) (plans : List Plan) (k first : ℕ) where
   pub stride-more : (m n : ℕ) → n ≡ first + m * k → n + k ≡ first + (m + 1) * k
   stride-more m n at = omega (arith, at)
 
--- a worker without plans
-pub no-outcomes : (s : SimView) (plans : List Plan) (k first : ℕ) → length plans ≤ first → AreOutcomes s plans k first []
-no-outcomes s plans k first end = first-all s plans k first [] first (omega arith) end (λ j bound. absurd (omega (arith, bound)))
-
 -- ---- what holds of the plans of a worker
 module _ (P : ℕ → Type 0) (k first : ℕ) where
   -- of the first ones

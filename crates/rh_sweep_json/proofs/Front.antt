@@ -146,13 +146,6 @@ pub left_goes_on : (c : ClusterView) (line : List ℕ) (lines : List (List ℕ))
     → front_left c true (line ∷ lines) ≡ line ∷ front_left c true lines
 left_goes_on c line lines fine = ap (λ b. cond b [] (line ∷ commands_front c lines)) fine
 
-pub left_ends : (c : ClusterView) (line : List ℕ) (lines : List (List ℕ)) → is_bad (line_of c (content line)) ≡ true → front_left c true (line ∷ lines) ≡ []
-left_ends c line lines bad = ap (λ b. cond b [] (line ∷ commands_front c lines)) bad
-
-pub none_left : (c : ClusterView) (begun : Bool) → front_left c begun [] ≡ []
-none_left c true = refl
-none_left c false = refl
-
 module _ (c : ClusterView) (begun next : Bool) (bytes rest line after all : List ℕ) (within : length rest ≤ length bytes)
     (place : rest ≡ drop (length bytes - length rest) bytes) (whole : rest ≡ line ++ after) (split : raw_lines rest ≡ line ∷ raw_lines after)
     (so_far : all ≡ take (length bytes - length rest) bytes ++ concat (front_left c begun (raw_lines rest))) where
@@ -164,10 +157,3 @@ module _ (c : ClusterView) (begun next : Bool) (bytes rest line after all : List
       ∙ ap (λ ls. take (length bytes - length rest) bytes ++ concat ls) step
       ∙ sym (append_assoc (take (length bytes - length rest) bytes) line (concat (front_left c next (raw_lines after))))
       ∙ ap (λ t. t ++ concat (front_left c next (raw_lines after))) (sym (front_farther bytes rest line after within place whole))
-
-  pub text_ends : front_left c begun (line ∷ raw_lines after) ≡ [] → all ≡ take (length bytes - length rest) bytes
-  text_ends ends =
-      so_far
-      ∙ ap (λ ls. take (length bytes - length rest) bytes ++ concat (front_left c begun ls)) split
-      ∙ ap (λ ls. take (length bytes - length rest) bytes ++ concat ls) ends
-      ∙ append-nil (take (length bytes - length rest) bytes)
