@@ -1,3 +1,4 @@
 pub mod Order
 pub mod Report
 pub mod Sentences
+pub mod Laws
