@@ -24,7 +24,7 @@ ghost use Rattle.rh_app.specs.Laws.{KeepsTo, RehearsalsAreReversible, SessionsAr
 
 use rh_base::OutOfMemory;
 use rh_room::{Pass, Receipt, Room, RoomFault};
-use rh_step::{Event, Notice, Refusal};
+use rh_rules::{Event, Notice, Refusal};
 use rh_trail::{Call, Reply, Sim};
 use std::alloc::Global;
 

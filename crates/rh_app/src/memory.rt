@@ -9,7 +9,7 @@ use crate::fault::RunFault;
 use crate::running::run;
 use rh_base::OutOfMemory;
 use rh_devices::{Bytes, Text, Watched};
-use rh_step::Pick;
+use rh_rules::Pick;
 use std::alloc::Global;
 
 /// What a run over memory wrote, and how it ended.

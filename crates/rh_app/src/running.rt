@@ -12,8 +12,8 @@ ghost use Rattle.rh_app.specs.Programs.{ProgramGives, NoThreads};
 use crate::fault::{RunFault, Told, ended};
 use rh_cluster::{Cluster, ClusterFault, read_cluster};
 use rh_devices::{Sink, Source, Watched, WriteFault, read_input, write_text};
+use rh_rules::Pick;
 use rh_script::{Line, answer_text, bad_text, content, cut, fault_text, line_of, split_line};
-use rh_step::Pick;
 use rh_trail::{Call, Reply, Sim};
 use std::alloc::Global;
 

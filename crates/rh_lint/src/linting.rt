@@ -11,7 +11,7 @@ use rh_app::{RunFault, Told, ended};
 use rh_base::OutOfMemory;
 use rh_devices::{Sink, Source, Watched, read_input, write_text};
 use rh_findings::{is_clean, put_in_order, report_text};
-use rh_step::Pick;
+use rh_rules::Pick;
 use std::alloc::Global;
 
 /// Reads all of the input, a cluster file, a line `===` and a script, and then lists what is wrong with it, a line for each finding

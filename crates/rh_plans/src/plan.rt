@@ -3,8 +3,8 @@
 ghost use Rattle.std.specs.Prelude.{◌≡◌, ◌↔◌, IsTrue, IfOk};
 
 use rh_base::{OutOfMemory, Str};
-use rh_events::{Event, Refusal};
 use rh_model::App;
+use rh_rules::{Event, Refusal};
 use rh_state::Standing;
 use std::alloc::Global;
 use std::marker::Model;

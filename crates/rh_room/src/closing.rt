@@ -9,7 +9,7 @@ ghost use Rattle.rh_room.specs.Closing.{AreAll, Agrees, IsOn, IsFirstDifference,
 use crate::pass::{Entry, Pass, Receipt};
 use crate::room::Room;
 use rh_model::Cluster;
-use rh_step::Pick;
+use rh_rules::Pick;
 use rh_trail::Sim;
 
 /// A closed room.

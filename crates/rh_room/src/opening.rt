@@ -10,7 +10,7 @@ use crate::pass::{Pass, RoomFault};
 use crate::room::Room;
 use rh_base::OutOfMemory;
 use rh_model::Cluster;
-use rh_step::Pick;
+use rh_rules::Pick;
 use rh_trail::Sim;
 use std::alloc::Global;
 

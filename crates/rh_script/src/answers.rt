@@ -8,7 +8,7 @@ ghost use Rattle.rh_script.specs.Answers.{dep_words, pair_words, reason_words, r
 
 use rh_base::OutOfMemory;
 use rh_cluster::{App, Cluster, ClusterFault, Dep, Node};
-use rh_step::{Notice, Refusal};
+use rh_rules::{Notice, Refusal};
 use rh_trail::{NO_NAME, Reply, app_word, node_word, push_kind};
 use std::alloc::Global;
 

@@ -6,7 +6,7 @@ ghost use Rattle.rh_script.specs.Forms.{word_of, arguments_of, verb_named, event
 ghost use Rattle.rh_script.specs.Forms.{with_node, with_app, with_restart, with_truth, with_ending, with_ms};
 
 use rh_cluster::{App, Node, Restart};
-use rh_step::Event;
+use rh_rules::Event;
 use rh_trail::Call;
 
 /// What stands behind the word of a command.

@@ -10,8 +10,8 @@ use crate::answers::push_reason;
 use rh_base::{OutOfMemory, Str};
 use rh_cluster::{App, Cluster};
 use rh_plans::{Outcome, SweepFault};
+use rh_rules::Refusal;
 use rh_state::Standing;
-use rh_step::Refusal;
 use rh_trail::push_standing_line;
 use std::alloc::Global;
 

@@ -13,7 +13,7 @@ use crate::script::{Line, begins_with, command_of, text_of, words_of};
 use rh_base::{OutOfMemory, Str, text_of_bytes};
 use rh_cluster::Cluster;
 use rh_plans::Plan;
-use rh_step::Event;
+use rh_rules::Event;
 use rh_trail::Call;
 use std::alloc::Global;
 

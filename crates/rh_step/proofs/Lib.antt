@@ -1,3 +1,4 @@
+pub mod Reasons
 pub mod Comes
 pub mod TakenOff
 pub mod Fuel

@@ -13,7 +13,7 @@ ghost use Rattle.rh_step.specs.Firings.{firing, fired_in, firings_by, firings, F
 
 use crate::ticks::{due_by, fire};
 use rh_base::OutOfMemory;
-use rh_place::Pick;
+use rh_rules::Pick;
 use rh_settle::{Notice, Trace};
 use rh_state::{Edit, State, Timer, go_back};
 use std::alloc::Global;

@@ -18,6 +18,6 @@ pub use laws::{
 };
 pub use notices::Notices;
 pub use rh_events::{Event, Refusal, refusal_of};
-pub use rh_place::Pick;
+pub use rh_rules::Pick;
 pub use rh_settle::Notice;
 pub use step::perform;

@@ -21,7 +21,7 @@ ghost use Rattle.rh_step.specs.Counts.{step_edits, most_edits};
 use crate::ticks::pass_time;
 use rh_base::OutOfMemory;
 use rh_events::{Event, change, let_ready_come_up};
-use rh_place::Pick;
+use rh_rules::Pick;
 use rh_settle::{Notice, Trace, settle};
 use rh_state::{Edit, State, go_back};
 use std::alloc::Global;

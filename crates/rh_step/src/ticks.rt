@@ -21,7 +21,7 @@ use crate::step::follow;
 use rh_base::OutOfMemory;
 use rh_events::{all_alive, cancel_if_set, come_up, end};
 use rh_model::{App, Node};
-use rh_place::Pick;
+use rh_rules::Pick;
 use rh_settle::{Trace, recording};
 use rh_state::{Standing, State, Timer};
 

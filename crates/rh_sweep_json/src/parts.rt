@@ -10,7 +10,7 @@ ghost use Rattle.rh_sweep_json.specs.Parts.{part_ended};
 use rh_app::RunFault;
 use rh_devices::{Bytes, Sink, Watched, WriteFault};
 use rh_json::{check_json, run_json};
-use rh_step::Pick;
+use rh_rules::Pick;
 use std::alloc::Global;
 
 // Whether the text of a program was written whole, by how the program ended.

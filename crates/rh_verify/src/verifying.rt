@@ -13,8 +13,8 @@ use crate::tally::{Tally, tally_text, with_stray};
 use rh_app::{RunFault, Told, answer_bad, ended, write_fault};
 use rh_cluster::{Cluster, read_cluster};
 use rh_devices::{Sink, Source, Watched, WriteFault, read_input, write_text};
+use rh_rules::Pick;
 use rh_script::cut;
-use rh_step::Pick;
 use rh_trail::Sim;
 use std::alloc::Global;
 

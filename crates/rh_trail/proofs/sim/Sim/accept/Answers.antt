@@ -1,6 +1,6 @@
 use Rattle.std.proofs.Common.{◌≡◌, true, false, sym, ap, ◌∙◌}
 use Rattle.rh_state.specs.Stored.{read}
-use Rattle.rh_events.proofs.Reasons.{is_memory, never_memory}
+use Rattle.rh_step.proofs.Reasons.{is_memory, never_memory}
 use Rattle.rh_trail.proofs.sim.Sim.accept.Goals as goal
 
 pub returns-in-Some-clause-reason : goal.returns-in-Some-clause-reason
