@@ -8,8 +8,8 @@ has the exit status 0 (a document shows another one by `; echo "status $?"`). Ea
 `check` accepts. Each command in a help text runs, and docs/help has these texts. Each text that the program can print
 stands in docs/SCRIPTS.md. Each definition that docs/RULES.md names stands where it says. Each construct that
 docs/CLUSTER_FILES.md calls refused is. Each script of tests/live in which live nodes differ names its places in docs/LIVE_OTP.md.
-Each wrong body can be applied, and docs/GUARDS.md names it on the shelf where it is (shelves.py). What the documents say of
-the sources is as docs/make makes it, which tells where it isn't (made_pages.py).
+Each wrong body can be applied (shelves.py). What the documents say of the sources is as docs/make makes it, which tells where it
+isn't (made_pages.py).
 
 run_program.py counts these tests too. The last line is 'N passed, M failed'.
 """

@@ -24,6 +24,8 @@ CHANGES = [
     ("docs/DEFINITIONS.md", "\n- `", "\n- by hand `", "docs/DEFINITIONS.md line"),
     ("docs/parts/contracts.md", "`", "`no_such_name` `", "docs/parts/contracts.md names what no source has: no_such_name"),
     ("docs/parts/notes.md", "\n- `", "\n- `served`: nothing\n- `", "tells of definitions that aren't there"),
+    ("crates/rh_settle/must-fail/same_group_calls_away.edit", "# A takeover", "# Another takeover", "docs/GUARDS.md line"),
+    ("crates/rh_settle/must-fail/same_group_calls_away.edit", "# Refused by", "# Told by", "same_group_calls_away.edit doesn't begin with"),
 ]
 
 
@@ -62,7 +64,7 @@ def copy_to(folder):
     for crate in os.listdir(os.path.join(TOP, "crates")):
         for part in ("src", "specs", "proofs", "must-fail"):
             source, copy = os.path.join(TOP, "crates", crate, part), os.path.join(folder, "crates", crate, part)
-            if os.path.isdir(source) and part in ("src", "specs"):
+            if os.path.isdir(source) and part != "proofs":
                 shutil.copytree(source, copy)
             elif os.path.isdir(source):
                 os.symlink(source, copy)
@@ -91,7 +93,7 @@ def stale_pages(program, folder):
     copy_to(folder)
     for change in CHANGES:
         yield f"docs/make: {change[0]}, {change[1].strip()} is {change[2].strip()}", change_fault(folder, change)
-    pages = [os.path.join(folder, "docs", name) for name in ("CONTRACTS.md", "DEFINITIONS.md")]
+    pages = [os.path.join(folder, "docs", name) for name in ("CONTRACTS.md", "DEFINITIONS.md", "GUARDS.md")]
     for page in pages:
         os.remove(page)
     before = files_below(os.path.join(folder, "docs"))

@@ -1,12 +1,15 @@
 """The shelves of wrong bodies, and what has to be so of them.
 
 An edit is a file NAME.edit of the folder crates/CRATE/must-fail, whose edits `rt ci` tries, or of wrong-bodies/CRATE, whose
-edits wrong_bodies.py tries. Those of wrong-bodies/tests/CRATE the prover lets through, and a test fails. Its lines are `file: PATH`, for the changes behind it, and pairs of `old: TEXT` and `new: TEXT`:
-a text that stands in that file once, when the changes before are made, and the one that takes its place.
+edits wrong_bodies.py tries. Those of wrong-bodies/tests/CRATE the prover lets through, and a test fails. First may come lines that
+begin with `#` and tell of it (docs/making/guards.py). Then its lines are `file: PATH`, for the changes behind it, and pairs of
+`old: TEXT` and `new: TEXT`: a text that stands in that file once, when the changes before are made, and the one that takes its
+place.
 """
 import re
 from collections.abc import Iterator
 from dataclasses import dataclass
+from itertools import dropwhile
 from pathlib import Path
 
 from support import TOP
@@ -14,7 +17,6 @@ from support import TOP
 CRATES = Path(TOP, "crates")
 WRONG_BODIES = Path(TOP, "wrong-bodies")
 TESTED = WRONG_BODIES / "tests"
-PAGE = Path(TOP, "docs", "GUARDS.md")
 # How many edits there may be for rt ci to try: with twice as many they took as long as all proofs together.
 MOST_IN_GATE = 130
 # Crates that have edits, and none that rt ci tries: the first edit of a crate costs a proof of the whole crate, and of those that
@@ -67,7 +69,7 @@ def changes_of(text: str) -> list[Change]:
     """The changes that the text of an edit asks for, in their order."""
     changes: list[Change] = []
     file = old = None
-    for line in text.removesuffix("\n").split("\n"):
+    for line in dropwhile(lambda line: line.startswith("#"), text.removesuffix("\n").split("\n")):
         if line.startswith("file: ") and old is None:
             file = line.removeprefix("file: ")
         elif line.startswith("old: ") and file and old is None:
@@ -134,25 +136,4 @@ def crates_are_tried(_program: str) -> Iterator[Test]:
     yield "rt ci tries wrong bodies of each crate", f"none of {', '.join(wrong)}" if wrong else None
 
 
-def name_fault(cell: str) -> str | None:
-    """What is wrong with the names of edits in a cell of the page's table, or None. A name with an asterisk behind it is that
-    of an edit in wrong-bodies, one with a plus sign of an edit in wrong-bodies/tests."""
-    named = re.findall(r"`([^`]*)`(\\\*|\+)?", cell)
-    wrong = []
-    for name, star in named:
-        crate, _, edit = name.partition("/")
-        shelf = {"": gate_shelf, "+": test_shelf}.get(star, other_shelf)(crate)
-        if not edit or not (shelf / f"{edit}.edit").is_file():
-            wrong.append(f"there is no {(shelf / edit).relative_to(TOP)}.edit")
-    return "; ".join(wrong) or None
-
-
-def page_names_edits(_program: str) -> Iterator[Test]:
-    """Each edit that the page of wrong bodies names is on the shelf that it says."""
-    table = PAGE.read_text(encoding="utf-8").split("| Wrong body | Edit | Refused by |\n|---|---|---|\n")[1].split("\n\n")[0]
-    cells = [re.split(r"(?<!\\)\|", row)[2] for row in table.splitlines()]
-    wrong = [fault for cell in cells if (fault := name_fault(cell))]
-    yield f"{PAGE.relative_to(TOP)} names edits where they are", "; ".join(wrong) or None
-
-
-TESTS = (edits_apply, gate_is_small, crates_are_tried, page_names_edits)
+TESTS = (edits_apply, gate_is_small, crates_are_tried)

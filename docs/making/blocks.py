@@ -10,7 +10,7 @@ from tree import TOP, BadSource, Crate, crates, head_of, proved_crates, read, sh
 BLOCK = re.compile(r"(?ms)^(<!-- made: (\w+)(?: ([^\n]+?))? -->\n).*?^(<!-- end -->)$")
 # Pages whose blocks are made: in one of these a word tells nothing of what is to be changed.
 PAGES = ("ARCHITECTURE.md", "CHANGING.md", "SCRIPTS.md")
-MADE_PAGES = ("CONTRACTS.md", "DEFINITIONS.md", "CHANGING.md")
+MADE_PAGES = ("CONTRACTS.md", "DEFINITIONS.md", "GUARDS.md", "CHANGING.md")
 SOURCE_FOLDERS = ("src", "specs", "proofs", "must-fail")
 
 
@@ -56,14 +56,16 @@ def searched() -> tuple[Path, ...]:
     folders += [TOP / "companions", TOP / "wrong-bodies", TOP / "tests" / "companions", TOP / "docs" / "help"]
     found = [path for folder in folders if folder.is_dir() for path in folder.rglob("*") if path.is_file()]
     found += list((TOP / "tests").glob("*.py")) + [page for page in (TOP / "docs").glob("*.md") if page.name not in MADE_PAGES]
+    found += (TOP / "docs" / "parts").glob("*.md")
     found += [TOP / name for name in ("README.md", "rehearse", "build", "test", "crates.txt")]
     return tuple(path for path in sorted(found) if "__pycache__" not in path.parts)
 
 
 @cache
 def text_of(path: Path) -> str:
-    """The text of a file that is searched."""
-    return read(path)
+    """The text of a file that is searched: of a wrong body without what is told of it."""
+    text = read(path)
+    return re.sub(r"(?m)^#.*\n", "", text) if path.suffix == ".edit" else text
 
 
 def folder_of(path: Path) -> str:

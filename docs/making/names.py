@@ -1,19 +1,31 @@
-"""The names in parts that are written by hand: each has to stand in the sources, and each crate has to be named."""
+"""The names in parts that are written by hand: each has to stand in the sources, those of guards.md there or in proofs, wrong
+bodies and tests; and each crate has to be named."""
 import re
 from pathlib import Path
 
-from tree import CRATES, BadSource, crates, proved_crates, read, shown
+from tree import CRATES, TOP, BadSource, crates, proved_crates, read, shown
 
+# The part that names rows, tests and wrong bodies, too.
+OF_ALL = "guards.md"
 NAME = re.compile(r"`([A-Za-z_]\w*(?:(?:::|/)\w+)*)`")
+
+
+def words_in(top: Path, *patterns: str) -> set[str]:
+    """All words of some files, and their names."""
+    paths = [path for pattern in patterns for path in top.glob(pattern)]
+    return {path.stem for path in paths}.union(*(re.findall(r"\w+", read(path)) for path in paths))
 
 
 def words_of_sources() -> set[str]:
     """All words of the sources and the definitions, and the names of crates."""
     words = {crate.name for crate in crates()} | {"specs", "proofs"}
-    for pattern in ("*/src/**/*.rt", "*/specs/**/*.antt"):
-        for path in CRATES.glob(pattern):
-            words |= set(re.findall(r"\w+", read(path)))
-    return words
+    return words | words_in(CRATES, "*/src/**/*.rt", "*/specs/**/*.antt")
+
+
+def words_of_all() -> set[str]:
+    """The words of proofs, of wrong bodies and of tests besides."""
+    words = words_of_sources() | words_in(CRATES, "*/proofs/**/*.antt", "*/must-fail/*.edit")
+    return words | words_in(TOP, "wrong-bodies/**/*.edit", "tests/*.py")
 
 
 def check_crates(path: Path) -> None:
@@ -25,8 +37,8 @@ def check_crates(path: Path) -> None:
 
 def check_names(paths: list[Path]) -> None:
     """Sees to it that each name in backquotes in these files stands in the sources."""
-    known = words_of_sources()
     for path in paths:
+        known = words_of_all() if path.name == OF_ALL else words_of_sources()
         named = {name for name in NAME.findall(read(path)) if not set(re.split("::|/", name)) <= known}
         if named:
             raise BadSource(f"{shown(path)} names what no source has: {', '.join(sorted(named))}")
