@@ -26,6 +26,8 @@ CHANGES = [
     ("docs/parts/notes.md", "\n- `", "\n- `served`: nothing\n- `", "tells of definitions that aren't there"),
     ("crates/rh_settle/must-fail/same_group_calls_away.edit", "# A takeover", "# Another takeover", "docs/GUARDS.md line"),
     ("crates/rh_settle/must-fail/same_group_calls_away.edit", "# Refused by", "# Told by", "same_group_calls_away.edit doesn't begin with"),
+    ("crates/rh_step_lint/specs/Levels.antt", "is_warning (OwnEnd n a) = false\n", "", "docs/LINT.md line"),
+    ("docs/parts/lint.md", "| `own_end` ", "| `kind_after_loss` ", "docs/parts/lint.md hasn't one row for own_end, kind_after_loss"),
 ]
 
 
@@ -93,7 +95,7 @@ def stale_pages(program, folder):
     copy_to(folder)
     for change in CHANGES:
         yield f"docs/make: {change[0]}, {change[1].strip()} is {change[2].strip()}", change_fault(folder, change)
-    pages = [os.path.join(folder, "docs", name) for name in ("CONTRACTS.md", "DEFINITIONS.md", "GUARDS.md")]
+    pages = [os.path.join(folder, "docs", name) for name in ("CONTRACTS.md", "DEFINITIONS.md", "GUARDS.md", "LINT.md")]
     for page in pages:
         os.remove(page)
     before = files_below(os.path.join(folder, "docs"))

@@ -10,7 +10,7 @@ from tree import TOP, BadSource, Crate, crates, head_of, proved_crates, read, sh
 BLOCK = re.compile(r"(?ms)^(<!-- made: (\w+)(?: ([^\n]+?))? -->\n).*?^(<!-- end -->)$")
 # Pages whose blocks are made: in one of these a word tells nothing of what is to be changed.
 PAGES = ("ARCHITECTURE.md", "CHANGING.md", "SCRIPTS.md")
-MADE_PAGES = ("CONTRACTS.md", "DEFINITIONS.md", "GUARDS.md", "CHANGING.md")
+MADE_PAGES = ("CONTRACTS.md", "DEFINITIONS.md", "GUARDS.md", "LINT.md", "CHANGING.md")
 SOURCE_FOLDERS = ("src", "specs", "proofs", "must-fail")
 
 
