@@ -16,15 +16,37 @@ is_subcommand() {
   esac
 }
 
-# Tells what the words ask of help or version, and ends. Else it does nothing.
+# Tells what the words ask of help, version or a code of `lint`, and ends. Else it does nothing.
 tell_asked() {
-  local text
-  [[ " $* " == *\ @(-h|--help|-V|--version|help)\ * ]] || return 0
+  local text code
+  [[ " $* " == *\ @(-h|--help|-V|--version|help|--explain|--explain=*)\ * ]] || return 0
   . "$top/shipped/help.sh"
-  text=$(asked "$@") || return 0
+  if ! text=$(asked "$@"); then
+    asks_code "$@" || return 0
+    . "$top/shipped/codes.sh"
+    text=$(tell_finding "$code") || exit 1
+  fi
   printf '%s\n' "$text" 2> /dev/null && exit 0
   say "standard output can't be written"
   exit 4
+}
+
+# Do the words ask what a code of `lint` says? Then it is in `code`; nothing is there where they have no code, or other words too.
+asks_code() {
+  local word
+  code=
+  [ "$1" = lint ] || return
+  case "${2-}" in
+    --explain) (($# != 3)) || code=$3 ;;
+    --explain=*) (($# != 2)) || code=${2#*=} ;;
+  esac
+  for word; do
+    case $word in
+      --) return 1 ;;
+      --explain | --explain=*) return ;;
+    esac
+  done
+  return 1
 }
 
 # The words of a command line: `words` for the program, `files` in place of standard input, and in `asks_help` whether help is asked.

@@ -18,11 +18,14 @@ asked() {
   esac
 }
 
-# Tells of one word: a subcommand, a command of scripts, a code of an answer. Of any other it says nothing.
+# Tells of one word: a subcommand, a command of scripts, a code of an answer or of `lint`. Of any other it says nothing.
 tell_topic() {
   case "$1" in
     '' | help) tell_whole ;;
-    *) { is_subcommand "$1" && tell_subcommand "$1"; } || tell_command "$1" || tell_code "$1" ;;
+    *) { is_subcommand "$1" && tell_subcommand "$1"; } || tell_command "$1" || tell_code "$1" || {
+      . "$top/shipped/codes.sh"
+      tell_finding "$1" 2> /dev/null
+    } ;;
   esac
 }
 
@@ -42,6 +45,7 @@ tell_subcommand() {
     [[ $line != Usage:* ]] || line+=' [FILE]..'
     text+=$line$'\n'
   done < "$helps/$1.txt"
+  [ "$1" != lint ] || text+=$'\n'$(< "$helps/explain.txt")$'\n'
   printf '%s\n%s\n' "$text" "$(< "$helps/files.txt")"
 }
 

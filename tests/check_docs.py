@@ -37,7 +37,7 @@ PRINTED = ["rh_trail/specs/Report", "rh_script/specs/Answers", "rh_script/specs/
            "rh_app/specs/CheckText", "rh_app/specs/Histories",
            "rh_rules/specs/Refusals", "rh_cluster/specs/FaultTexts", "rh_terms/specs/FaultTexts"]
 # A subcommand has a page of help each.
-SUBCOMMANDS = sorted({os.path.basename(path)[:-4] for path in glob.glob(os.path.join(TOP, "docs", "help", "*.txt"))} - {"rehearse", "version", "files", "statuses"})
+SUBCOMMANDS = sorted({os.path.basename(path)[:-4] for path in glob.glob(os.path.join(TOP, "docs", "help", "*.txt"))} - {"rehearse", "version", "files", "statuses", "explain"})
 HELPS = [["--help"]] + [[name, "--help"] for name in SUBCOMMANDS]
 
 

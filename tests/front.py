@@ -109,7 +109,8 @@ def helps(program, folder):
     for name in SUBCOMMANDS:
         own = read(os.path.join(TOP, "docs", "help", f"{name}.txt"))
         usage = re.search(rb"Usage: [^\n]*", own)[0]
-        owed = own.replace(usage, usage + b" [FILE]..") + b"\n" + read(os.path.join(TOP, "docs", "help", "files.txt"))
+        more = [read(os.path.join(TOP, "docs", "help", text)) for text in ("explain.txt", "files.txt")[name != "lint":]]
+        owed = b"\n".join([own.replace(usage, usage + b" [FILE].."), *more])
         for words in (["help", name], [name, "--help"], [name, "-h"], [name, "--pick", "last", "x.txt", "-h"]):
             yield " ".join(words), wrong(call(folder, words), 0, owed, b"")
     boot = call(folder, ["help", "boot"])
@@ -135,6 +136,40 @@ def helps(program, folder):
     done = call(folder, ["run"])
     is_right = done.returncode == 7 and not done.stdout and b"there is no program" in done.stderr
     yield "nothing else without a program", None if is_right else f"{done}"
+
+
+@in_folder
+def explained_codes(program, folder):
+    """What a code of lint says, for each code of its page, and with what live nodes do there; for any other word those that are near."""
+    install(folder)
+    page = read(os.path.join(TOP, "docs", "LINT.md")).decode()
+    codes = [code for cell in re.findall(r"(?m)^\| (`[a-z][^|]*) \|", page) for code in re.findall(r"`(\w+)`", cell)]
+    yield "the page has codes", None if len(codes) > 50 and len(set(codes)) == len(codes) else f"{codes}"
+    for code in codes:
+        done = call(folder, ["lint", "--explain", code])
+        is_right = re.match(rf"{code}: (error|warning|hint)\n\n[A-Z`]", done.stdout.decode()) and not re.search(rb"\]\(|\*\*|\|", done.stdout)
+        yield f"lint --explain {code}", wrong(done, 0, None, b"") or (None if is_right else f"{done.stdout}")
+    name = call(folder, ["lint", "--explain", "near_name"]).stdout
+    owed = b"near_name: warning\n\nA section of a node, a parameter of `kernel` or a key of an application is skipped, and nearly one that is read.\n"
+    yield "a code without an entry of live nodes", None if name == owed else f"{name}"
+    for words in (["lint", "--explain=near_name"], ["lint", "--explain", "NEAR_NAME"], ["help", "near_name"]):
+        yield " ".join(words), wrong(call(folder, words), 0, owed, b"")
+    zero = (b"sync_timeout_zero: warning\n\nThe timeout of the node's lists is 0, which ends a live node.\n\n"
+            b"Live nodes (docs/LIVE_OTP.md): `{sync_nodes_timeout, 0}`\n\n- Rules: it fires at the next tick.")
+    yield "a code with one", told(call(folder, ["lint", "--explain", "sync_timeout_zero"]), zero, b"\n- Do: write 1 or more, or leave it out.\n")
+    hang = call(folder, ["lint", "--explain", "tuple_takeover"])
+    yield "a code that hangs", told(hang, b"tuple_takeover: warning\n\nIt is started at a node of a tuple while ", b".\nLive nodes hang there: ")
+    yield "a code of check", wrong(call(folder, ["lint", "--explain", "c5"]), 0, call(folder, ["help", "C5"]).stdout, b"")
+    for words, owed in (
+            (["--explain", "near_nmae"], b"lint has no code near_nmae; near: near_name; "),
+            (["--explain", "sync_timeout"], b"lint has no code sync_timeout; near: sync_timeout_zero, sync_timeout_too_large; "),
+            (["--explain=wat"], b"lint has no code wat; "), (["--explain", "a`.*"], b"lint has no code a`.*; "),
+            (["--explain"], b"lint --explain takes a code and nothing else; "), (["--explain="], b"lint --explain takes a code and nothing else; "),
+            (["--explain", "own_end", "c.txt"], b"lint --explain takes a code and nothing else; "),
+            (["--strict", "--explain", "own_end"], b"lint --explain takes a code and nothing else; ")):
+        yield f"lint {' '.join(words)}", wrong(call(folder, ["lint", *words]), 1, b"", b"rehearse: " + owed + b"docs/LINT.md has all codes\n")
+    os.remove(os.path.join(folder, "in stalled", "docs", "LINT.md"))
+    yield "without its page", wrong(call(folder, ["lint", "--explain", "own_end"]), 1, b"", b"rehearse: docs/LINT.md isn't here\n")
 
 
 @in_folder
@@ -406,5 +441,5 @@ def front_cost(program, folder):
         yield f"what `{' '.join(words)}` costs", None if min(spent) < most else f"{min(spent):.3f} s of processor time, more than {most} s"
 
 
-TESTS = (helps, refused_words, options, known_words, joined_files, file_answers, devices, statuses, unchanged_rows, terminal, signals,
+TESTS = (helps, explained_codes, refused_words, options, known_words, joined_files, file_answers, devices, statuses, unchanged_rows, terminal, signals,
          front_cost)

@@ -20,6 +20,8 @@ HELP = TOP / "docs" / "help"
 PROGRAM, TOOLS = "rehearse", "rehearse-tools"
 # A line of clap's about an option: its names, what stands for its value, what it is for.
 OPTION = re.compile(r" +((?:-\w, )?--[\w-]+)(?: <([^>]+)>|=<([^>]+)>)?(?:\.\.\.)? +(\S.*)")
+# What the script in front takes itself, by the subcommand behind which it stands: the text of its help, and the option.
+OWN = {"lint": ("explain.txt", "      --explain <code>  Prints what a code says, and what live nodes do there, and reads no input")}
 VALUES = re.compile(r" ?\[possible values: ([^]]*)\]")
 
 
@@ -82,8 +84,11 @@ def program_command(name: str) -> Command:
     if not found:
         raise BadSource(f"{shown(path)} isn't a text of help as clap prints it")
     about, usage, before, options, text = found.groups()
-    section = Section("Options", tuple(map(program_option, options.splitlines())))
-    files = read(HELP / "files.txt")
+    files, lines = read(HELP / "files.txt"), options.splitlines()
+    if name in OWN:
+        own, line = OWN[name]
+        text, lines = f"{text}\n\n{read(HELP / own)}", [*lines, line]
+    section = Section("Options", tuple(map(program_option, lines)))
     if name != PROGRAM:
         return Command((PROGRAM, name), about, f"{as_installed(usage)} [FILE]..", as_installed(f"{text}\n\n{files}"), (section,), "FILE")
     # The script in front has statuses of its own, and tells of all in place of the program.
