@@ -38,7 +38,7 @@ tell_row() {
   done
   says=${says%|*} says=${says# } says=${says% }
   printf '%s: %s\n\n%s.\n' "$1" "${level//[^a-z]/}" "${says^}"
-  [ -z "${place-}" ] || printf '%s\n' "Live nodes hang there: they have another past from there on, and lint tells no more of the steps."
+  [ -z "${place-}" ] || printf '%s\n' "Live nodes hang there, and have another past from there on: lint tells no more of the steps, unless --all is given."
   ((${#linked[@]} == 0)) || { find_page LIVE_OTP.md && for place in "${linked[@]}"; do tell_entry "$place"; done; }
 }
 

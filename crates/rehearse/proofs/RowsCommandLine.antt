@@ -79,12 +79,14 @@ story_row : (asks (codes "story" ∷ []) ≡ Some (Story First false))
 unfolding clap_on_literals subcommand_named
 story_row = (refl, refl, refl, refl)
 
--- what is listed, and whether hints count
-lint_row : (asks (codes "lint" ∷ []) ≡ Some (Lint First false))
-    × (asks (codes "lint" ∷ codes "--strict" ∷ codes "--pick" ∷ codes "last" ∷ []) ≡ Some (Lint Last true))
+-- what is listed: also behind a step that hangs, and whether hints count
+lint_row : (asks (codes "lint" ∷ []) ≡ Some (Lint First (record { all = false; strict = false })))
+    × (asks (codes "lint" ∷ codes "--strict" ∷ codes "--pick" ∷ codes "last" ∷ []) ≡ Some (Lint Last (record { all = false; strict = true })))
+    × (asks (codes "lint" ∷ codes "--all" ∷ []) ≡ Some (Lint First (record { all = true; strict = false })))
     × (faults (codes "lint" ∷ codes "--json" ∷ []) ≡ kind.UnknownArgument ∷ [])
+    × (faults (codes "run" ∷ codes "--all" ∷ []) ≡ kind.UnknownArgument ∷ [])
 unfolding clap_on_literals subcommand_named
-lint_row = (refl, refl, refl)
+lint_row = (refl, refl, refl, refl, refl)
 
 sessions_row : (asks (codes "sessions" ∷ []) ≡ Some (Sessions First))
     × (asks (codes "sessions" ∷ codes "--pick" ∷ codes "last" ∷ []) ≡ Some (Sessions Last))

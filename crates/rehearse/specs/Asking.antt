@@ -22,7 +22,7 @@ use Rattle.rehearse.specs.Table.{flag_word, subcommand_named}
 use Rattle.rehearse.specs.CommandLine.{Picks, ArePicks, line}
 use Rattle.rehearse.specs.declared.table.TheConstants.{MOST_STATES}
 use Rattle.rehearse.specs.declared.table.Flag.{Flag}
-use Rattle.rehearse.specs.declared.table.Flag.TheVariants.{Echo, Strict, Json, Whole, Hints}
+use Rattle.rehearse.specs.declared.table.Flag.TheVariants.{Echo, Strict, Json, Whole, Hints, All}
 use Rattle.rehearse.specs.declared.table.Subcommand.{Subcommand}
 use Rattle.rehearse.specs.declared.table.Subcommand.TheVariants.{Run, Check, Lint, Story, Verify, Sessions, Sweep, Explore}
 use Rattle.rehearse.specs.declared.command_line.Asked.{Asked}
@@ -81,6 +81,10 @@ abbrev pub run_as : Pick → Bool → Bool → Bool → Option Program
 run_as pick echo strict json =
     if json then (if echo || strict then None else Some (program.RunJson pick)) else Some (run_of pick echo strict)
 
+-- a list of what is wrong, in this manner
+abbrev pub lint_of : Pick → Bool → Bool → Program
+lint_of pick all strict = program.Lint pick (record { all = all; strict = strict })
+
 -- a sweep by so many workers, by JSON or not
 abbrev pub sweep_of : Pick → Bool → ℕ → Program
 sweep_of pick json workers = if json then program.SweepJson pick workers else program.Sweep pick workers
@@ -90,7 +94,7 @@ abbrev pub program_of : Subcommand → List Row → Option Program
 program_of Check rows = Some (if flag_in Json rows then program.CheckJson else program.Check)
 program_of Run rows = run_as (pick_in rows) (flag_in Echo rows) (flag_in Strict rows) (flag_in Json rows)
 program_of Story rows = Some (program.Story (pick_in rows) (flag_in Whole rows))
-program_of Lint rows = Some (program.Lint (pick_in rows) (flag_in Hints rows))
+program_of Lint rows = Some (lint_of (pick_in rows) (flag_in All rows) (flag_in Hints rows))
 program_of Verify rows = Some (program.Verify (pick_in rows))
 program_of Sessions rows = Some (program.Sessions (pick_in rows))
 program_of Sweep rows = option_map (sweep_of (pick_in rows) (flag_in Json rows)) (workers_in rows)

@@ -2,7 +2,7 @@
 use Rattle.std.specs.Prelude.{ℕ, List, [], ◌∷◌, codes, Option, position, slice_get, option_and_then}
 use Rattle.std.specs.Str.{bytes_eq}
 use Rattle.rehearse.specs.declared.table.Flag.{Flag}
-use Rattle.rehearse.specs.declared.table.Flag.TheVariants.{Echo, Strict, Json, Whole, Hints}
+use Rattle.rehearse.specs.declared.table.Flag.TheVariants.{Echo, Strict, Json, Whole, Hints, All}
 use Rattle.rehearse.specs.declared.table.Setting.{Setting}
 use Rattle.rehearse.specs.declared.table.Setting.TheVariants as setting
 use Rattle.rehearse.specs.declared.table.Subcommand.{Subcommand}
@@ -15,12 +15,13 @@ flag_word Strict = codes "strict"
 flag_word Json = codes "json"
 flag_word Whole = codes "whole"
 flag_word Hints = codes "strict"
+flag_word All = codes "all"
 
 -- the word of a subcommand, and its options
 abbrev pub entry_of : Subcommand → List ℕ × List Setting
 entry_of Run = (codes "run", setting.Pick ∷ setting.Flag Echo ∷ setting.Flag Strict ∷ setting.Flag Json ∷ [])
 entry_of Check = (codes "check", setting.Flag Json ∷ [])
-entry_of Lint = (codes "lint", setting.Pick ∷ setting.Flag Hints ∷ [])
+entry_of Lint = (codes "lint", setting.Pick ∷ setting.Flag All ∷ setting.Flag Hints ∷ [])
 entry_of Story = (codes "story", setting.Pick ∷ setting.Flag Whole ∷ [])
 entry_of Verify = (codes "verify", setting.Pick ∷ [])
 entry_of Sessions = (codes "sessions", setting.Pick ∷ [])

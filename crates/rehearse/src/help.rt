@@ -237,6 +237,9 @@ line errors come first, and hints last. The last line is `N errors, N warnings,
 N hints`, with status 9 where there is an error or a warning. docs/LINT.md has
 all codes.
 
+Behind the first warning of a step that hangs on live nodes no more is told of
+the steps, since these have another past there. `--all` tells it nevertheless.
+
 Example:
 
 ./rehearse lint << 'EOF'

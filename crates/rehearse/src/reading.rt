@@ -7,10 +7,11 @@ ghost use Rattle.rh_rules.specs.declared.pick.Pick.TheVariants as pick;
 ghost use Rattle.rh_sweep.specs.Sweeping.{AreWorkers};
 ghost use Rattle.rh_programs.specs.Status.{IsStaffed};
 ghost use Rattle.rh_programs.specs.declared.status.Program.TheVariants as program;
-ghost use Rattle.rehearse.specs.Asking.{allowed, allowed_states, flag_in, is_given, pick_in, program_among, program_in, program_of, run_as, run_of, states_in, sweep_of, workers_in};
+ghost use Rattle.rehearse.specs.Asking.{allowed, allowed_states, flag_in, is_given, lint_of, pick_in, program_among, program_in, program_of, run_as, run_of, states_in, sweep_of, workers_in};
 
 use crate::table::{Flag, MOST_STATES, Subcommand, subcommand_named};
 use clap::ArgMatches;
+use rh_lint::LintManner;
 use rh_manner::Manner;
 use rh_programs::Program;
 use rh_rules::Pick;
@@ -48,7 +49,11 @@ fn program_of(subcommand: Subcommand, matches: &ArgMatches<'_>) -> Option<Progra
             flag_in(matches, Flag::Json),
         ),
         Subcommand::Story => Some(Program::Story(pick_in(matches), flag_in(matches, Flag::Whole))),
-        Subcommand::Lint => Some(Program::Lint(pick_in(matches), flag_in(matches, Flag::Hints))),
+        Subcommand::Lint => Some(lint_of(
+            pick_in(matches),
+            flag_in(matches, Flag::All),
+            flag_in(matches, Flag::Hints),
+        )),
         Subcommand::Verify => Some(Program::Verify(pick_in(matches))),
         Subcommand::Sessions => Some(Program::Sessions(pick_in(matches))),
         Subcommand::Sweep => Some(sweep_of(
@@ -96,6 +101,14 @@ fn run_of(pick: Pick, echo: bool, strict: bool) -> Program
     } else {
         Program::Run(pick)
     }
+}
+
+// A list of what is wrong, in this manner.
+fn lint_of(pick: Pick, all: bool, strict: bool) -> Program
+    ensures named { result ≡ lint_of pick all strict }
+    ensures staffed { IsStaffed result }
+{
+    Program::Lint(pick, LintManner { all, strict })
 }
 
 // A sweep by so many workers, by JSON or not.

@@ -23,6 +23,8 @@ pub enum Flag {
     Whole,
     /// Hints count as warnings do.
     Hints,
+    /// The steps behind one that hangs are told of.
+    All,
 }
 
 impl Flag {
@@ -36,6 +38,7 @@ impl Flag {
             Flag::Json => "json",
             Flag::Whole => "whole",
             Flag::Hints => "strict",
+            Flag::All => "all",
         }
     }
 
@@ -47,6 +50,7 @@ impl Flag {
             Flag::Json => "Answers by lines of JSON, for programs",
             Flag::Whole => "Prints the cluster file before the script",
             Flag::Hints => "Ends with status 9 where there is a hint, too",
+            Flag::All => "Tells of steps behind one that hangs on live nodes, too",
         }
     }
 }
@@ -73,7 +77,11 @@ static PICK: [Setting; 1] = [Setting::Pick];
 
 static PICK_WHOLE: [Setting; 2] = [Setting::Pick, Setting::Flag(Flag::Whole)];
 
-static PICK_HINTS: [Setting; 2] = [Setting::Pick, Setting::Flag(Flag::Hints)];
+static PICK_ALL_HINTS: [Setting; 3] = [
+    Setting::Pick,
+    Setting::Flag(Flag::All),
+    Setting::Flag(Flag::Hints),
+];
 
 static PICK_STATES: [Setting; 2] = [Setting::Pick, Setting::States];
 
@@ -141,7 +149,7 @@ impl Subcommand {
                 entry_of("check", JSON.as_slice(), CHECK_ABOUT, CHECK_AFTER_HELP)
             }
             Subcommand::Lint => {
-                entry_of("lint", PICK_HINTS.as_slice(), LINT_ABOUT, LINT_AFTER_HELP)
+                entry_of("lint", PICK_ALL_HINTS.as_slice(), LINT_ABOUT, LINT_AFTER_HELP)
             }
             Subcommand::Story => entry_of(
                 "story",

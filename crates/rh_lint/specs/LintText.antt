@@ -15,6 +15,7 @@ use Rattle.rh_blame.specs.Telling.{fault_in}
 use Rattle.rh_cluster_lint.specs.Text.{text_found}
 use Rattle.rh_script_lint.specs.Lines.{of_lines}
 use Rattle.rh_script_lint.specs.Steps.{of_script_steps}
+use Rattle.rh_lint.specs.declared.manner.LintManner.{LintManner}
 
 -- the number of the script's first line in the whole input: it stands behind the cluster's text and the line `===`
 abbrev pub first_line : List ℕ → ℕ
@@ -27,16 +28,17 @@ abbrev pub of_fault : List ℕ → ClusterFault → List Finding
 of_fault text f = fault_in text f ∷ text_found text None
 
 -- in a cluster with a script, of which the first line has number k: what the text shows, each line, and each step
-abbrev pub of_script : List ℕ → ClusterView → Pick → ℕ → List (List ℕ) → List Finding
-of_script text c pick k lines = text_found text (Some c) ++ (of_lines c k lines ++ of_script_steps (opened c pick) k lines)
+abbrev pub of_script : List ℕ → ClusterView → Pick → Bool → ℕ → List (List ℕ) → List Finding
+of_script text c pick all k lines = text_found text (Some c) ++ (of_lines c k lines ++ of_script_steps all (opened c pick) k lines)
 
-abbrev pub found_over : List ℕ → Pick → ℕ → List (List ℕ) → Result ClusterView ClusterFault → List Finding
-found_over text pick k lines (Ok c) = of_script text c pick k lines
-found_over text pick k lines (Err f) = of_fault text f
+abbrev pub found_over : List ℕ → Pick → Bool → ℕ → List (List ℕ) → Result ClusterView ClusterFault → List Finding
+found_over text pick all k lines (Ok c) = of_script text c pick all k lines
+found_over text pick all k lines (Err f) = of_fault text f
 
--- in an input
-unfoldable pub found_in : List ℕ → Pick → List Finding
-found_in bytes pick = found_over (cluster_text bytes) pick (first_line bytes) (script_lines bytes) (cluster_of (cluster_text bytes))
+-- in an input; of the steps up to one that hangs, or of all of them
+unfoldable pub found_in : List ℕ → Pick → Bool → List Finding
+found_in bytes pick all =
+    found_over (cluster_text bytes) pick all (first_line bytes) (script_lines bytes) (cluster_of (cluster_text bytes))
 
 -- ---- what is written
 
@@ -45,6 +47,7 @@ abbrev pub lint_end : Bool → Option Told
 lint_end clean = if clean then None else Some told.Differs
 
 -- what lint owes: all that is found, and nothing else, in its order
-abbrev pub OwesLint : Pick → Bool → List ℕ → List ℕ → Option Told → Type 0
-OwesLint pick strict bytes text owed =
-    (listed : List Finding) × IsListed (found_in bytes pick) listed × (text ≡ report_text listed) × (owed ≡ lint_end (is_clean strict (found_in bytes pick)))
+abbrev pub OwesLint : LintManner → Pick → List ℕ → List ℕ → Option Told → Type 0
+OwesLint manner pick bytes text owed =
+    (listed : List Finding) × IsListed (found_in bytes pick manner.all) listed × (text ≡ report_text listed)
+    × (owed ≡ lint_end (is_clean manner.strict (found_in bytes pick manner.all)))

@@ -57,12 +57,13 @@ fn of_steps(
     first: u64,
     script: &[u8],
     pick: Pick,
+    all: bool,
 ) -> Result<Vec<Finding>, OutOfMemory>
     requires numbers { first + length script.now ≤ 2 ^ 64 }
-    ensures { IfOk result (λ found. found.items ≡ of_script_steps (opened cluster pick) first (map content (raw_lines script.now))) }
+    ensures { IfOk result (λ found. found.items ≡ of_script_steps all (opened cluster pick) first (map content (raw_lines script.now))) }
 {
     let mut sim = Sim::open(alloc, cluster, pick)?;
-    step_lines(alloc, &mut sim, first, script)
+    step_lines(alloc, &mut sim, all, first, script)
 }
 
 // What is found in a cluster with a script, of which the first line has this number.
@@ -73,29 +74,36 @@ fn of_script(
     first: u64,
     script: &[u8],
     pick: Pick,
+    all: bool,
 ) -> Result<Vec<Finding>, OutOfMemory>
     requires text { length text.now + 1 < 2 ^ 32 }
     requires numbers { first + length script.now ≤ 2 ^ 64 }
-    ensures { IfOk result (λ found. found.items ≡ of_script text.now cluster pick first (map content (raw_lines script.now))) }
+    ensures { IfOk result (λ found. found.items ≡ of_script text.now cluster pick all first (map content (raw_lines script.now))) }
 {
     let mut found = text_findings(alloc, text, Some(&cluster))?;
     let mut lines = line_findings(alloc, &cluster, first, script)?;
-    let mut steps = of_steps(alloc, cluster, first, script, pick)?;
+    let mut steps = of_steps(alloc, cluster, first, script, pick, all)?;
     lines.append(&mut steps)?;
     found.append(&mut lines)?;
     Ok(found)
 }
 
-/// All that is found in an input, in the order in which it is looked for.
+/// All that is found in an input, in the order in which it is looked for. Of the steps behind one that hangs on live nodes nothing is
+/// told, unless all is asked for.
 #[tactic(auto, unfolding(crate::specs::LintText::found_in))]
-pub fn found_in(alloc: Global, input: &[u8], pick: Pick) -> Result<Vec<Finding>, OutOfMemory>
+pub fn found_in(
+    alloc: Global,
+    input: &[u8],
+    pick: Pick,
+    all: bool,
+) -> Result<Vec<Finding>, OutOfMemory>
     requires { length input.now ≤ input_limit }
-    ensures { IfOk result (λ found. found.items ≡ found_in input.now pick) }
+    ensures { IfOk result (λ found. found.items ≡ found_in input.now pick all) }
 {
     let (text, script) = cut(input);
     let first = line_count(text) + 2;
     match read_cluster(alloc, text) {
         Err(fault) => of_fault(alloc, text, &fault),
-        Ok(cluster) => of_script(alloc, text, cluster, first, script, pick),
+        Ok(cluster) => of_script(alloc, text, cluster, first, script, pick, all),
     }
 }

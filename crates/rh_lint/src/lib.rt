@@ -5,5 +5,7 @@
 
 mod finding;
 mod linting;
+mod manner;
 
 pub use linting::run_lint;
+pub use manner::LintManner;

@@ -7,6 +7,7 @@ ghost use Rattle.rh_app.specs.Programs.{ProgramGives, NoThreads};
 ghost use Rattle.rh_lint.specs.LintText.{lint_end, OwesLint};
 
 use crate::finding::found_in;
+use crate::manner::LintManner;
 use rh_app::{RunFault, Told, ended};
 use rh_base::OutOfMemory;
 use rh_devices::{Sink, Source, Watched, read_input, write_text};
@@ -17,8 +18,9 @@ use std::alloc::Global;
 /// Reads all of the input, a cluster file, a line `===` and a script, and then lists what is wrong with it, a line for each finding
 /// in the order of lines, and one that counts them.
 ///
-/// The line of a finding is its number in the whole input. Of one line errors come before warnings, and these before hints. The input
-/// has at most 16,777,216 bytes. Neither device is flushed.
+/// The line of a finding is its number in the whole input. Of one line errors come before warnings, and these before hints. Of the
+/// steps behind one that hangs on live nodes nothing is told, unless the manner asks for all. The input has at most 16,777,216 bytes.
+/// Neither device is flushed.
 ///
 /// # Errors
 /// `Differs` is the end of the text that was written: there is an error or a warning, or, if it is asked to be strict, a hint. `Read`
@@ -29,14 +31,14 @@ pub fn run_lint<S: Source, K: Sink>(
     reader: &mut Watched<S>,
     writer: &mut Watched<K>,
     pick: Pick,
-    strict: bool,
+    manner: LintManner,
 ) -> Result<(), RunFault>
     requires reader { reader.old.failed ≡ false }
     requires writer { writer.old.failed ≡ false }
-    ensures { ProgramGives S.gives S.fails K.takes K.fails (OwesLint pick strict) NoThreads result reader.old reader.new writer.old writer.new }
+    ensures { ProgramGives S.gives S.fails K.takes K.fails (OwesLint manner pick) NoThreads result reader.old reader.new writer.old writer.new }
 {
     let input = read_input(alloc, reader)?;
-    match linted(alloc, input.as_slice(), pick, strict) {
+    match linted(alloc, input.as_slice(), pick, manner) {
         Err(_) => Err(RunFault::OutOfMemory),
         Ok((text, told)) => {
             write_text(writer, text.as_bytes())?;
@@ -50,13 +52,13 @@ fn linted(
     alloc: Global,
     input: &[u8],
     pick: Pick,
-    strict: bool,
+    manner: LintManner,
 ) -> Result<(String, Option<Told>), OutOfMemory>
     requires { length input.now ≤ input_limit }
-    ensures { IfOk result (λ linted. OwesLint pick strict input.now (string_bytes linted.0) linted.1) }
+    ensures { IfOk result (λ linted. OwesLint manner pick input.now (string_bytes linted.0) linted.1) }
 {
-    let mut found = found_in(alloc, input, pick)?;
-    let told = lint_end(is_clean(strict, found.as_slice()));
+    let mut found = found_in(alloc, input, pick, manner.all)?;
+    let told = lint_end(is_clean(manner.strict, found.as_slice()));
     put_in_order(&mut found)?;
     let text = report_text(alloc, found.as_slice())?;
     Ok((text, told))

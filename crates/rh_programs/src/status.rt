@@ -9,7 +9,7 @@ use rh_app::{
 };
 use rh_explore_text::run_explore;
 use rh_json::{check_json, run_json};
-use rh_lint::run_lint;
+use rh_lint::{LintManner, run_lint};
 use rh_manner::{Manner, run_in};
 use rh_rules::Pick;
 use rh_story::run_story;
@@ -36,8 +36,8 @@ pub enum Program {
     Story(Pick, bool),
     /// What came of each command is compared with what the script expects.
     Verify(Pick),
-    /// What is wrong with the input is listed; and hints count, if it is to be strict.
-    Lint(Pick, bool),
+    /// What is wrong with the input is listed, in a manner.
+    Lint(Pick, LintManner),
     /// All states are searched that events reach from a base, and at most so many are kept.
     Explore(Pick, usize),
     /// Sessions share a cluster.
@@ -125,7 +125,7 @@ fn ended_alone<S: Source, K: Sink>(
         Program::RunJson(pick) => run_json(alloc, reader, writer, pick),
         Program::Story(pick, whole) => run_story(alloc, reader, writer, pick, whole),
         Program::Verify(pick) => run_verify(alloc, reader, writer, pick),
-        Program::Lint(pick, strict) => run_lint(alloc, reader, writer, pick, strict),
+        Program::Lint(pick, manner) => run_lint(alloc, reader, writer, pick, manner),
         Program::Explore(pick, states) => run_explore(alloc, reader, writer, pick, states),
         Program::Sweep(pick, _) => run_sweep_alone(alloc, reader, writer, pick),
         Program::SweepJson(pick, _) => sweep_json_alone(alloc, reader, writer, pick),

@@ -1,5 +1,5 @@
 -- What a live OTP does otherwise at the steps of a script (ours).
-use Rattle.std.specs.Prelude.{ℕ, ◌+◌, List, [], ◌∷◌, ◌++◌, codes, Bool, true, false, ◌&&◌, Some, if◌then◌else◌}
+use Rattle.std.specs.Prelude.{ℕ, ◌+◌, List, [], ◌∷◌, ◌++◌, codes, Bool, true, false, not, ◌&&◌, Some, if◌then◌else◌}
 use Rattle.std.specs.List.{flat_map, list_any}
 use Rattle.rh_model.specs.ClusterView.{ClusterView}
 use Rattle.rh_trail.specs.declared.call.Call.{Call}
@@ -55,11 +55,11 @@ abbrev pub of_line : SimView → ℕ → Line → List Finding
 of_line sim k (line.Asks x) = of_call sim k x
 of_line sim k _ = []
 
--- nothing is told behind a line that is no command, nor where a live cluster has another past
-abbrev pub ends_behind : SimView → Line → Bool
-ends_behind sim line.Nothing = false
-ends_behind sim line.Bad = true
-ends_behind sim (line.Asks x) = ends_at sim x
+-- nothing is told behind a line that is no command, nor where a live cluster has another past, unless all is asked for
+abbrev pub ends_behind : Bool → SimView → Line → Bool
+ends_behind all sim line.Nothing = false
+ends_behind all sim line.Bad = true
+ends_behind all sim (line.Asks x) = not all && ends_at sim x
 
 -- the simulation behind a line
 abbrev pub sim_behind : SimView → Line → SimView
@@ -67,12 +67,12 @@ sim_behind sim (line.Asks x) = (served sim x).sim
 sim_behind sim _ = sim
 
 -- the lines of a script, of which the first has number k
-abbrev pub of_script_steps : SimView → ℕ → List (List ℕ) → List Finding
-of_script_steps sim k [] = []
-of_script_steps sim k (l ∷ lines) =
+abbrev pub of_script_steps : Bool → SimView → ℕ → List (List ℕ) → List Finding
+of_script_steps all sim k [] = []
+of_script_steps all sim k (l ∷ lines) =
     of_line sim k (line_of sim.cluster l)
-    ++ (if ends_behind sim (line_of sim.cluster l) then [] else of_script_steps (sim_behind sim (line_of sim.cluster l)) (k + 1) lines)
+    ++ (if ends_behind all sim (line_of sim.cluster l) then [] else of_script_steps all (sim_behind sim (line_of sim.cluster l)) (k + 1) lines)
 
 -- what is left of them, if it is told
-abbrev pub of_rest : Bool → SimView → ℕ → List (List ℕ) → List Finding
-of_rest ends sim k lines = if ends then [] else of_script_steps sim k lines
+abbrev pub of_rest : Bool → Bool → SimView → ℕ → List (List ℕ) → List Finding
+of_rest ends all sim k lines = if ends then [] else of_script_steps all sim k lines

@@ -139,37 +139,43 @@ fn take_line(
     alloc: Global,
     found: &mut Vec<Finding>,
     sim: &mut Sim,
+    all: bool,
     number: u64,
     line: &[u8],
 ) -> Result<bool, OutOfMemory>
-    ensures { IfOk result (λ ends. (lines : List _) → found.new.items ++ of_rest ends sim.new.seen (number + 1) lines
-        ≡ found.old.items ++ of_script_steps sim.old.seen number (line.now ∷ lines)) }
+    ensures { IfOk result (λ ends. (lines : List _) → found.new.items ++ of_rest ends all sim.new.seen (number + 1) lines
+        ≡ found.old.items ++ of_script_steps all sim.old.seen number (line.now ∷ lines)) }
 {
     match line_of(alloc, sim.cluster(), line)? {
         Line::Nothing => Ok(false),
         Line::Bad => Ok(true),
-        Line::Asks(call) => take_call(alloc, found, sim, number, call),
+        Line::Asks(call) => {
+            let ends = take_call(alloc, found, sim, number, call)?;
+            Ok(!all && ends)
+        }
     }
 }
 
 /// What a live OTP does otherwise at the steps of a script, of which the first line has this number: each finding of a step as
-/// `rh_step_lint` has it, from the state before the step and the event. Nothing is told behind a line that is no command, nor behind the
-/// first warning of a step that hangs: there it is told that a live cluster has another past.
+/// `rh_step_lint` has it, from the state before the step and the event. Behind a warning of a step that hangs it is told that a live
+/// cluster has another past. Nothing is told behind a line that is no command, nor behind the first such warning unless all is asked
+/// for.
 pub fn step_lines(
     alloc: Global,
     sim: &mut Sim,
+    all: bool,
     first: u64,
     script: &[u8],
 ) -> Result<Vec<Finding>, OutOfMemory>
     requires numbers { first + length script.now ≤ 2 ^ 64 }
-    ensures { IfOk result (λ found. found.items ≡ of_script_steps sim.old.seen first (map content (raw_lines script.now))) }
+    ensures { IfOk result (λ found. found.items ≡ of_script_steps all sim.old.seen first (map content (raw_lines script.now))) }
 {
     let mut found = Vec::new(alloc);
     let mut rest = script;
     let mut passed: u64 = 0;
     'lines: while !rest.is_empty() {
         let (line, after) = split_line(rest);
-        if take_line(alloc, &mut found, sim, first + passed, content(line))? {
+        if take_line(alloc, &mut found, sim, all, first + passed, content(line))? {
             return Ok(found);
         }
         rest = after;

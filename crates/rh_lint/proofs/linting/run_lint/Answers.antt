@@ -11,7 +11,7 @@ pub returns-in_err-input : goal.returns-in_err-input
 returns-in_err-input g c =
     let p = err_from_is_err_and c.from_residual.result c.from_residual.ensures.1 in
     rw (p.1, p.2)
-    (not_read g.S.Source.gives g.S.Source.fails g.K.Sink.takes g.K.Sink.fails (OwesLint c.args.pick c.args.strict) NoThreads c.args.reader.now c.read_input.new.reader
+    (not_read g.S.Source.gives g.S.Source.fails g.K.Sink.takes g.K.Sink.fails (OwesLint c.args.manner c.args.pick) NoThreads c.args.reader.now c.read_input.new.reader
     c.in_err-input.field-0.0 c.args.writer.now c.requires.writer c.in_err-input.ensures.why)
 
 pub returns-in_err-write_text-in-Ok : goal.returns-in_err-write_text-in-Ok
@@ -23,10 +23,10 @@ returns-in_err-write_text-in-Ok g c =
     let input : IsInput g.S.Source.gives c.args.reader.now c.read_input.new.reader bytes =
     subst (λ bs. IsInput g.S.Source.gives c.args.reader.now c.read_input.new.reader bs) (sym c.as_slice.ensures.value)
     (c.in_ok-input.ensures.bytes, c.in_ok-input.ensures.limit, c.in_ok-input.ensures.ok) in
-    let owes = subst (λ (t : List ℕ). OwesLint c.args.pick c.args.strict bytes t c.in-Ok.told) (sym c.as_bytes.ensures.value) c.in-Ok.ensures in
+    let owes = subst (λ (t : List ℕ). OwesLint c.args.manner c.args.pick bytes t c.in-Ok.told) (sym c.as_bytes.ensures.value) c.in-Ok.ensures in
     let broke = c.in_err-write_text-in-Ok.ensures in
     let p = err_from_is_err_and c.from_residual-in_err-write_text-in-Ok.result c.from_residual-in_err-write_text-in-Ok.ensures.1 in
     rw (p.1, p.2)
-    (not_written g.S.Source.gives g.S.Source.fails takes fails (OwesLint c.args.pick c.args.strict) NoThreads c.args.reader.now c.read_input.new.reader
+    (not_written g.S.Source.gives g.S.Source.fails takes fails (OwesLint c.args.manner c.args.pick) NoThreads c.args.reader.now c.read_input.new.reader
     c.in_err-write_text-in-Ok.field-0.0 bytes text c.in-Ok.told c.args.writer.now c.write_text.new.writer input owes
     (subst (λ (f : WriteFault). WroteFront takes fails f text c.args.writer.now c.write_text.new.writer) (sym broke.only) (broke.front, broke.err)))

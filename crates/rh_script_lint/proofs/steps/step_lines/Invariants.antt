@@ -5,8 +5,8 @@ use Rattle.rh_script_lint.proofs.steps.step_lines.Given as goal
 
 abbrev pub invariant-lines : goal.invariant-lines
 invariant-lines l = record {
-  found : of_script_steps l.fn.sim.seen l.first (map content (raw_lines l.script))
-      ≡ l.found.items ++ of_script_steps l.sim.seen (l.first + l.passed) (map content (raw_lines l.rest));
+  found : of_script_steps l.all l.fn.sim.seen l.first (map content (raw_lines l.script))
+      ≡ l.found.items ++ of_script_steps l.all l.sim.seen (l.first + l.passed) (map content (raw_lines l.rest));
   count : l.passed + length l.rest ≤ length l.script;
 }
 
