@@ -76,8 +76,14 @@ MADE = {
         "Course::time", "Course::stay", "Course::away", "Course::pieces", "mark", "note_of", "is_told"),
     "rows/story/waits-for": ("why_node_waits", "awaited_text"),
     "rows/verify/report": ("run_verify",),
-    "rows/json/report": ("run_json",),
-    "rows/json/names": ("check_json",),
+    "rows/json/report": ("run_json", "reply_line", "push_string", "push_number", "push_array", "push_text", "push_bytes",
+                         "before_first", "after_first"),
+    "rows/json/failover": ("fired_by",),
+    "rows/json/refused-and-bad": ("bad_line",),
+    "rows/json/names": ("check_json", "cluster_line"),
+    "rows/json/fault-value": ("fault_line",),
+    "rows/json/sweep": ("outcome_line",),
+    "rows/json/sweep-not-at-end": ("sweep_fault_line",),
     "rows/manner/echo-and-strict": ("run_in",),
 }
 # Those that are made five thousand times, of a cluster of the second profile with 128 applications: none wants memory.
@@ -264,7 +270,8 @@ SURFACE = {
     "rh_step": ("step", "firings", "notices"),
     "rh_trail": ("sim", "sim/moves", "sim/firings", "text", "call", "replies"), "rh_room": ("room", "opening", "closing", "pass"),
     "rh_sweep": ("trial", "workers"), "rh_notes": ("notes",), "rh_why": ("apps", "nodes", "text"),
-    "rh_courses": ("course", "walk", "text"), "rh_story": ("story",), "rh_verify": ("verifying",), "rh_json": ("running", "checking"),
+    "rh_courses": ("course", "walk", "text"), "rh_story": ("story",), "rh_verify": ("verifying",), "rh_json_text": ("pieces", "words"),
+    "rh_json_lines": ("answers", "clusters", "notices", "outcomes"), "rh_json": ("running", "checking"),
     "rh_manner": ("running",),
 }
 # Calls that do nothing: their contracts are what they are for.

@@ -21,7 +21,7 @@ TESTED = WRONG_BODIES / "tests"
 MOST_IN_GATE = 130
 # Crates that have edits, and none that rt ci tries: the first edit of a crate costs a proof of the whole crate, and of those that
 # write texts alone these are the dearest.
-NONE_IN_GATE = {"rh_json", "rh_sweep_json", "rh_explore_text"}
+NONE_IN_GATE = {"rh_json_lines", "rh_sweep_json", "rh_explore_text"}
 
 # A test's name, and what is wrong, or None.
 Test = tuple[str, str | None]

@@ -1,4 +1,3 @@
 pub mod Turns
 pub mod Lines
 pub mod Told
-pub mod Rows

@@ -16,7 +16,7 @@ use Rattle.rh_trail.specs.declared.call.Reply.TheVariants as reply
 use Rattle.rh_trail.specs.SimView.{SimView, state_of}
 use Rattle.rh_trail.specs.Lone.{served}
 use Rattle.rh_trail.proofs.Reversals.{accepted}
-use Rattle.rh_json.specs.Notices.{timed, timed_notices, fired_by}
+use Rattle.rh_json_lines.specs.Notices.{timed, timed_notices, fired_by}
 use Rattle.rh_json.specs.Laws.{NoticesAreReplied}
 
 untimed : (time : Option ℕ) (notices : List Notice)

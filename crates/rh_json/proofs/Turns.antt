@@ -13,7 +13,7 @@ use Rattle.rh_devices.specs.Devices.{Passed, WroteFront}
 use Rattle.rh_devices.proofs.Passing.{passed_more, fault_before}
 use Rattle.rh_app.specs.RunText.{bad_line, lines_asked, Wrote, Broke}
 use Rattle.rh_app.proofs.Turns.{wrote_behind}
-use Rattle.rh_json.specs.AnswerLines.{answer_line, bad_json}
+use Rattle.rh_json_lines.specs.AnswerLines.{answer_line, bad_json}
 use Rattle.rh_json.specs.RunJson.{asked_in, before, answer_lines, end_json, script_json, Turns}
 
 -- one line, of which the cluster says what it asks

@@ -8,7 +8,7 @@ use Rattle.rh_trail.specs.SimView.{SimView}
 use Rattle.rh_trail.specs.Lone.{served}
 use Rattle.rh_script.specs.Commands.{calls_of}
 use Rattle.rh_app.specs.RunText.{lines_asked}
-use Rattle.rh_json.specs.Notices.{fired_by, timed_notices}
+use Rattle.rh_json_lines.specs.Notices.{fired_by, timed_notices}
 use Rattle.rh_json.specs.RunJson.{Asked, asked_in}
 
 -- the commands that have lines are those that are answered: so the answers that the lines tell are the first lines of those that a run

@@ -1,8 +1,3 @@
-pub mod ClusterLines
-pub mod Starts
-pub mod Notices
-pub mod Reports
-pub mod AnswerLines
 pub mod RunJson
 pub mod CheckJson
 pub mod Laws

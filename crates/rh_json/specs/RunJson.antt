@@ -16,8 +16,8 @@ use Rattle.rh_devices.specs.declared.watched.Watched.{Watched}
 use Rattle.rh_devices.specs.Devices.{Passed}
 use Rattle.rh_app.specs.declared.fault.Told.{Told}
 use Rattle.rh_app.specs.RunText.{bad_line, lines_asked, run_end, Wrote}
-use Rattle.rh_json.specs.ClusterLines.{cluster_line, fault_line}
-use Rattle.rh_json.specs.AnswerLines.{answer_line, bad_json}
+use Rattle.rh_json_lines.specs.ClusterLines.{cluster_line, fault_line}
+use Rattle.rh_json_lines.specs.AnswerLines.{answer_line, bad_json}
 
 -- ---- the commands of a script
 

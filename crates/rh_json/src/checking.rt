@@ -4,13 +4,13 @@ ghost use Rattle.std.specs.Prelude.{◌≡◌, false};
 ghost use Rattle.rh_app.specs.CheckText.{check_end};
 ghost use Rattle.rh_app.specs.Programs.{ProgramGives, NoThreads};
 ghost use Rattle.rh_app.specs.RunText.{Wrote, Broke};
-ghost use Rattle.rh_json.specs.ClusterLines.{cluster_line, fault_line};
+ghost use Rattle.rh_json_lines.specs.ClusterLines.{cluster_line, fault_line};
 ghost use Rattle.rh_json.specs.CheckJson.{check_json, OwesCheckJson};
 
-use crate::clusters::{cluster_line, fault_line};
 use rh_app::{RunFault, Told, ended};
 use rh_cluster::{Cluster, ClusterFault, read_cluster};
 use rh_devices::{Sink, Source, Watched, WriteFault, read_input, write_text};
+use rh_json_lines::{cluster_line, fault_line};
 use rh_script::cut;
 use std::alloc::Global;
 

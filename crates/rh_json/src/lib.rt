@@ -5,15 +5,9 @@
 //! that the lines are those of the same commands ([`commands_are_answered`]), and tell the same notices ([`notices_are_replied`]).
 #![tactic(auto)]
 
-mod answers;
 mod checking;
-mod clusters;
 mod laws;
-mod notices;
-mod reports;
 mod running;
-mod starts;
-mod states;
 
 pub use checking::check_json;
 pub use laws::{commands_are_answered, notices_are_replied};

@@ -5,17 +5,16 @@ ghost use Rattle.rh_trail.specs.Lone.{opened, served};
 ghost use Rattle.rh_script.specs.Lines.{raw_lines, content};
 ghost use Rattle.rh_app.specs.RunText.{bad_line, lines_asked, run_end, Wrote, Broke};
 ghost use Rattle.rh_app.specs.Programs.{ProgramGives, NoThreads};
-ghost use Rattle.rh_json.specs.ClusterLines.{cluster_line};
-ghost use Rattle.rh_json.specs.AnswerLines.{answer_line, bad_json};
+ghost use Rattle.rh_json_lines.specs.ClusterLines.{cluster_line};
+ghost use Rattle.rh_json_lines.specs.AnswerLines.{answer_line, bad_json};
 ghost use Rattle.rh_json.specs.RunJson.{script_json, run_json, OwesRunJson, Turns};
 
-use crate::answers::{bad_line, reply_line};
 use crate::checking::{write_cluster, write_fault};
-use crate::notices::fired_by;
 use rh_app::{RunFault, Told, ended};
 use rh_base::OutOfMemory;
 use rh_cluster::{Cluster, read_cluster};
 use rh_devices::{Sink, Source, Watched, WriteFault, read_input, write_text};
+use rh_json_lines::{bad_line, fired_by, reply_line};
 use rh_script::{Line, content, cut, line_of, split_line};
 use rh_step::Pick;
 use rh_trail::{Call, Sim};
@@ -189,7 +188,7 @@ pub fn answer_call<K: Sink>(
 }
 
 // Gives the call of a line to the simulation, and makes the line with the answer.
-#[tactic(auto, unfolding(crate::specs::AnswerLines::answer_line), using(rh_app::proofs::Keeping::served_keeps_cluster))]
+#[tactic(auto, unfolding(rh_json_lines::specs::AnswerLines::answer_line), using(rh_app::proofs::Keeping::served_keeps_cluster))]
 fn line_of_call(
     alloc: Global,
     sim: &mut Sim,

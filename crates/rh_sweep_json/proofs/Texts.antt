@@ -16,8 +16,8 @@ use Rattle.rh_app.specs.declared.fault.Told.TheVariants as told
 use Rattle.rh_app.specs.RunText.{Wrote, Broke}
 use Rattle.rh_app.specs.SweepText.{why_not_swept, base_sim, plans_end, lines_end}
 use Rattle.rh_app.proofs.Turns.{wrote_behind}
-use Rattle.rh_json.specs.ClusterLines.{cluster_line}
-use Rattle.rh_json.specs.AnswerLines.{bad_json}
+use Rattle.rh_json_lines.specs.ClusterLines.{cluster_line}
+use Rattle.rh_json_lines.specs.AnswerLines.{bad_json}
 use Rattle.rh_json.specs.CheckJson.{check_json, checked_json}
 use Rattle.rh_sweep_json.specs.SweepJson.{plans_json, base_json, lines_json}
 

@@ -1,4 +1,3 @@
-pub mod OutcomeLines
 pub mod Base
 pub mod Parts
 pub mod SweepJson

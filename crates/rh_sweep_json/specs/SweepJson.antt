@@ -13,10 +13,10 @@ use Rattle.rh_script.specs.Lines.{cluster_text, script_lines}
 use Rattle.rh_script.specs.SweepLines.{PlanText, sweep_lines_asked, bad_sweep_line, plans_of}
 use Rattle.rh_app.specs.declared.fault.Told.{Told}
 use Rattle.rh_app.specs.SweepText.{why_not_swept, base_sim, sweep_end}
-use Rattle.rh_json.specs.ClusterLines.{cluster_line, fault_line}
-use Rattle.rh_json.specs.AnswerLines.{bad_json}
+use Rattle.rh_json_lines.specs.ClusterLines.{cluster_line, fault_line}
+use Rattle.rh_json_lines.specs.AnswerLines.{bad_json}
 use Rattle.rh_json.specs.RunJson.{asked_in, answer_lines}
-use Rattle.rh_sweep_json.specs.OutcomeLines.{outcome_line, sweep_fault_line}
+use Rattle.rh_json_lines.specs.OutcomeLines.{outcome_line, sweep_fault_line}
 
 -- the line of a plan, tried from a base
 abbrev pub plan_line : ClusterView → SimView → PlanText → List ℕ

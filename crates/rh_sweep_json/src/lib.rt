@@ -7,9 +7,7 @@
 
 mod base;
 mod laws;
-mod outcomes;
 mod parts;
-mod standings;
 mod sweeping;
 
 pub use laws::base_is_answered;

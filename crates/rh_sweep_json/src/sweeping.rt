@@ -12,17 +12,17 @@ ghost use Rattle.rh_script.specs.SweepLines.{sweep_lines_asked, bad_sweep_line, 
 ghost use Rattle.rh_app.specs.Programs.{ProgramGives, NoThreads};
 ghost use Rattle.rh_app.specs.RunText.{Wrote, Broke};
 ghost use Rattle.rh_app.specs.SweepText.{why_not_swept, plans_end, lines_end, sweep_end};
-ghost use Rattle.rh_json.specs.AnswerLines.{bad_json};
-ghost use Rattle.rh_sweep_json.specs.OutcomeLines.{outcome_line, sweep_fault_line};
+ghost use Rattle.rh_json_lines.specs.AnswerLines.{bad_json};
+ghost use Rattle.rh_json_lines.specs.OutcomeLines.{outcome_line, sweep_fault_line};
 ghost use Rattle.rh_sweep_json.specs.SweepJson.{plan_line, plans_json, base_json, lines_json, sweep_json, OwesSweepJson};
 
 use crate::base::base_text;
-use crate::outcomes::{outcome_line, sweep_fault_line};
 use crate::parts::{write_check, write_run};
 use rh_app::{RunFault, Told, ended};
 use rh_base::{OutOfMemory, Str};
 use rh_cluster::{Cluster, read_cluster};
 use rh_devices::{Sink, Source, Watched, WriteFault, read_input, write_text};
+use rh_json_lines::{outcome_line, sweep_fault_line};
 use rh_json_text::{push_number, push_text};
 use rh_rules::Pick;
 use rh_script::{SweepScript, cut, sweep_in};
@@ -166,7 +166,7 @@ fn write_bad<K: Sink>(alloc: Global, number: u64, writer: &mut Watched<K>) -> Re
 }
 
 // The line of one that is no command, or in a plan no event.
-#[tactic(auto, unfolding(rh_json::specs::AnswerLines::bad_json))]
+#[tactic(auto, unfolding(rh_json_lines::specs::AnswerLines::bad_json))]
 fn bad_line(alloc: Global, number: u64) -> Result<Vec<u8>, OutOfMemory>
     ensures { IfOk result (λ line. line.items ≡ bad_json number) }
 {

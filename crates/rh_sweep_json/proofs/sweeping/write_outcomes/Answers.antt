@@ -3,7 +3,7 @@ use Rattle.std.specs.List.{flat_map}
 use Rattle.std.proofs.lemmas.List.{get_or-map, length-map, take-map}
 use Rattle.std.proofs.lemmas.Result.{err_from_is_err_and}
 use Rattle.rh_plans.specs.declared.plan.Outcome.{Outcome}
-use Rattle.rh_sweep_json.specs.OutcomeLines.{outcome_line}
+use Rattle.rh_json_lines.specs.OutcomeLines.{outcome_line}
 use Rattle.rh_script.specs.SweepLines.{PlanText, plan_text}
 use Rattle.rh_devices.specs.Devices.{Passed, WroteFront}
 use Rattle.rh_sweep_json.specs.SweepJson.{plan_line}

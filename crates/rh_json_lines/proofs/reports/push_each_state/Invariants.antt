@@ -1,0 +1,11 @@
+use Rattle.std.proofs.Common.{◌≡◌, ◌++◌, map}
+use Rattle.std.specs.List.{flat_map, range_with_len}
+use Rattle.rh_model.specs.ClusterView.{numbered}
+use Rattle.rh_state.specs.Stored.{read}
+use Rattle.rh_json_lines.specs.Reports.{state_json}
+use Rattle.rh_json_text.specs.Json.{behind_comma}
+use Rattle.rh_json_lines.proofs.reports.push_each_state.Given as goal
+
+abbrev pub invariant-loop-number : goal.invariant-loop-number
+invariant-loop-number l =
+    l.out.items ≡ l.fn.out.items ++ flat_map (behind_comma (state_json (read l.fn.state))) (map numbered (range_with_len 0 l.number))

@@ -1,0 +1,6 @@
+pub mod ClusterLines
+pub mod Starts
+pub mod Notices
+pub mod Reports
+pub mod AnswerLines
+pub mod OutcomeLines

@@ -1,0 +1,121 @@
+//! The line of a command with its answer.
+
+ghost use Rattle.std.specs.Prelude.{◌≡◌, ◌++◌, OnOk, IfOk, codes};
+ghost use Rattle.std.specs.Option.{option_map};
+ghost use Rattle.rh_state.specs.Stored.{read};
+ghost use Rattle.rh_json_text.specs.Json.{json_array};
+ghost use Rattle.rh_json_lines.specs.Notices.{notice_json, timed_notices};
+ghost use Rattle.rh_json_lines.specs.Reports.{report_json};
+ghost use Rattle.rh_json_lines.specs.AnswerLines.{more_json, head_json, reply_line, bad_json};
+
+use crate::notices::push_notices;
+use crate::reports::push_report;
+use rh_base::OutOfMemory;
+use rh_cluster::Cluster;
+use rh_json_text::{before_first, push_number, push_string, push_text};
+use rh_script::answer_text;
+use rh_state::State;
+use rh_step::{FiredTimer, Notice};
+use rh_trail::Reply;
+use std::alloc::Global;
+
+// Adds the notices of a step.
+fn push_told(
+    alloc: Global,
+    out: &mut Vec<u8>,
+    cluster: &Cluster,
+    notices: &[Notice],
+    fired: &Option<Vec<FiredTimer>>,
+) -> Result<(), OutOfMemory>
+    ensures { OnOk result (out.new.items ≡ out.old.items
+        ++ (codes ",\"notices\":" ++ json_array (notice_json cluster.now) (timed_notices notices.now (option_map (λ f. f.items) fired.now)))) }
+{
+    push_text(out, ",\"notices\":")?;
+    push_notices(alloc, out, cluster, notices, fired)
+}
+
+// Adds a report behind so many steps, of so many.
+fn push_seen(
+    alloc: Global,
+    out: &mut Vec<u8>,
+    cursor: usize,
+    trail: usize,
+    state: &State,
+) -> Result<(), OutOfMemory>
+    ensures { OnOk result (out.new.items ≡ out.old.items ++ (codes ",\"report\":" ++ report_json cursor trail (read state.now))) }
+{
+    push_text(out, ",\"report\":")?;
+    push_report(alloc, out, cursor, trail, state)
+}
+
+// Adds what follows the answer.
+fn push_more(
+    alloc: Global,
+    out: &mut Vec<u8>,
+    cluster: &Cluster,
+    state: &State,
+    fired: &Option<Vec<FiredTimer>>,
+    reply: &Reply,
+) -> Result<(), OutOfMemory>
+    ensures { OnOk result (out.new.items ≡ out.old.items
+        ++ more_json cluster.now (option_map (λ f. f.items) fired.now) reply.now (read state.now)) }
+{
+    match reply {
+        Reply::Done(notices) => push_told(alloc, out, cluster, notices.as_slice(), fired),
+        Reply::Seen { cursor, trail, .. } => push_seen(alloc, out, *cursor, *trail, state),
+        _ => Ok(()),
+    }
+}
+
+// Adds the number of a command's line, the line, and the first line of its answer.
+#[tactic(auto, unfolding(crate::specs::AnswerLines::head_json))]
+fn push_head(
+    alloc: Global,
+    out: &mut Vec<u8>,
+    number: u64,
+    command: &[u8],
+    answer: &[u8],
+) -> Result<(), OutOfMemory>
+    ensures { OnOk result (out.new.items ≡ out.old.items ++ head_json number command.now answer.now) }
+{
+    push_text(out, "{\"line\":")?;
+    push_number(alloc, out, number as u128)?;
+    push_text(out, ",\"command\":")?;
+    push_string(out, command)?;
+    push_text(out, ",\"answer\":")?;
+    push_string(out, before_first(answer, b'\n'))
+}
+
+// The line of a command of this number, with its answer, in the state behind it.
+#[tactic(auto, unfolding(crate::specs::AnswerLines::reply_line))]
+pub fn reply_line(
+    alloc: Global,
+    number: u64,
+    command: &[u8],
+    cluster: &Cluster,
+    state: &State,
+    fired: &Option<Vec<FiredTimer>>,
+    reply: &Reply,
+) -> Result<Vec<u8>, OutOfMemory>
+    ensures { IfOk result (λ line. line.items
+        ≡ reply_line cluster.now number command.now (option_map (λ f. f.items) fired.now) reply.now (read state.now)) }
+{
+    let answer = answer_text(alloc, cluster, reply)?;
+    let mut line = Vec::new(alloc);
+    push_head(alloc, &mut line, number, command, answer.as_slice())?;
+    push_more(alloc, &mut line, cluster, state, fired, reply)?;
+    push_text(&mut line, "}\n")?;
+    Ok(line)
+}
+
+// The line of one that is no command.
+#[tactic(auto, unfolding(crate::specs::AnswerLines::bad_json))]
+pub fn bad_line(alloc: Global, number: u64) -> Result<Vec<u8>, OutOfMemory>
+    ensures { IfOk result (λ line. line.items ≡ bad_json number) }
+{
+    let mut line = Vec::new(alloc);
+    push_text(&mut line, "{\"line\":")?;
+    push_number(alloc, &mut line, number as u128)?;
+    push_text(&mut line, ",\"bad\":true}\n")?;
+    Ok(line)
+}
