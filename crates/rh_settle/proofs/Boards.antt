@@ -31,7 +31,7 @@ use Rattle.rh_rules.specs.declared.notice.Pair.{Pair}
 use Rattle.rh_settle.specs.Boards.{AppSets, AppMarks, BoardView, is_among, is_marked, is_wanted, is_touched, touches_local, matters, nodes_changed, mover}
 use Rattle.rh_settle.specs.Boards.{IsExactAt, IsBoardOf}
 use Rattle.rh_rules.specs.Course.{is_fresh, is_local}
-use Rattle.rh_rules.specs.Moves.{can_start, local_move, local_moves, comes_before, calls_away, takeovers, takeovers_from, moved_state}
+use Rattle.rh_rules.specs.Moves.{can_start, local_move, local_moves, comes_before, calls_away, placements, placements_from, takeovers, takeovers_from, moved_state}
 use Rattle.rh_settle.specs.Making.{CanBeMade}
 use Rattle.rh_settle.proofs.Entries.{taken, put, has as entry, taken_apart, put_apart, is_below, is_above, is_false, both, same_number, other_number}
 use Rattle.rh_settle.proofs.NextMoves.{operational_within}
@@ -143,6 +143,7 @@ module _ (s : StateView) (r w : List (List App)) (ks : List (List Kind)) (st : L
       → IsExactAt s b n → IsExactAt (relisted s r w ks st) b n
   exact_same b wanted h = record {
     locals = h.locals ∙ ap (λ xs. is_some (head xs)) (sym locals_same);
+    moving = λ a of m. h.moving a of (mattered (is_wanted (standing_of (relisted s r w ks st) a)) (is_wanted (standing_of s a)) (is_among b.fresh a n) (wanted a) m);
     able = λ a of m. h.able a of (mattered (is_wanted (standing_of (relisted s r w ks st) a)) (is_wanted (standing_of s a)) (is_among b.fresh a n) (wanted a) m)
         ∙ sym (operational_same a);
   }
@@ -185,6 +186,10 @@ exact_moved s (Takeover a m n) b k other h =
     (put_taken (taken s.waiting n.0 a) m.0 k.0 a other.1 ∙ taken_there s.waiting n.0 k.0 a other.0)
     b (λ c w. still_wanted s a n c w) h
 
+neither : (p q : Bool) → p || q ≡ false → (p ≡ false) × (q ≡ false)
+neither true q h = both true refl h
+neither false q h = (refl, h)
+
 -- one that it doesn't touch is another, and so is each that this one needs
 untouched : (c : ClusterView) (x a : App) → is_touched c x a ≡ false
     → (same_app a x ≡ false) × ((b : App) → has_app (needed_apps c a) b ≡ true → same_app b x ≡ false)
@@ -195,10 +200,6 @@ untouched c x a h =
       λ b needed. is_false (same_app b x)
           (λ e. both (has_app (needed_apps c a) x) (sym (ap (λ (i : ℕ). has_app (needed_apps c a) (app_numbered i)) (same_number b.0 x.0 e)) ∙ needed) none.1),
     )
-  where
-    neither : (p q : Bool) → p || q ≡ false → (p ≡ false) × (q ≡ false)
-    neither true q h = both true refl h
-    neither false q h = (refl, h)
 
 -- what that one needs runs as before, at the nodes that the move changes too
 needs_moved : (s : StateView) (m : Move) (a : App) (k : Node) → is_touched s.cluster (mover m) a ≡ false → deps_run (moved_state s m) k a ≡ deps_run s k a
@@ -260,6 +261,14 @@ none_of_mover s x k none of = ap (λ b. cond (b && (is_allowed s k x && deps_run
     (is_false (is_local s.cluster x) (λ y. both (is_touched s.cluster x x)
     (or_left (same_app x x) (has_app (needed_apps s.cluster x) x) (same_refl x.0)) (none_touched s.cluster x x none of y)))
 
+-- where no move touches one there are none
+pub no_locals : (s : StateView) (n : Node) → IsShaped s → ((a : App) → touches_local s.cluster a ≡ false) → local_moves s n ≡ []
+unfolding local_moves
+no_locals s n shape none =
+    given_alike (local_move s n) (λ a. []) (IsAppOf s.cluster) (λ a of. none_of_mover s a n (none a) of) (row s.waiting n.0)
+    (listed_all (IsAppOf s.cluster) s.waiting n.0 shape.waiting_apps)
+    ∙ given_none (λ a. []) (row s.waiting n.0) (λ a. refl)
+
 -- so the local moves are those of before, at the nodes that the move changes too
 locals_moved : (s : StateView) (m : Move) (k : Node) → IsShaped (moved_state s m) → IsAppOf s.cluster (mover m) → touches_local s.cluster (mover m) ≡ false
     → local_moves (moved_state s m) k ≡ local_moves s k
@@ -285,21 +294,25 @@ locals_moved s (Takeover x m n) k shape of none =
 -- so it stays exact for what the move doesn't touch
 record IsKeptAt (t : StateView) (x : App) (b : BoardView) (k : Node) : Type 0 where
   pub locals : touches_local t.cluster x ≡ false → has b.locals k ≡ is_some (head (local_moves t k))
+  pub moving : (a : App) → IsAppOf t.cluster a → matters t b.fresh a k ≡ true → is_marked b.moving a ≡ true
   pub able : (a : App) → IsAppOf t.cluster a → is_touched t.cluster x a ≡ false → matters t b.fresh a k ≡ true → is_among b.able a k ≡ is_operational t a k
 
 kept_moved : (s : StateView) (m : Move) (b : BoardView) (k : Node) → IsShaped (moved_state s m) → IsAppOf (moved_state s m).cluster (mover m) → IsExactAt s b k
     → IsKeptAt (moved_state s m) (mover m) b k
 kept_moved s (Local n x) b k shape of h = record {
   locals = λ u. h.locals ∙ ap (λ xs. is_some (head xs)) (sym (locals_moved s (Local n x) k shape of u));
+  moving = λ a of_a m. h.moving a of_a m;
   able = λ a of_a u m. h.able a of_a m ∙ sym (operational_moved s (Local n x) a k u);
 }
 kept_moved s (Placement x from n) b k shape of h = record {
   locals = λ u. h.locals ∙ ap (λ xs. is_some (head xs)) (sym (locals_moved s (Placement x from n) k shape of u));
+  moving = λ a of_a m. h.moving a of_a (mattered _ (is_wanted (standing_of s a)) (is_among b.fresh a k) (still_wanted s x n a) m);
   able = λ a of_a u m. h.able a of_a (mattered _ (is_wanted (standing_of s a)) (is_among b.fresh a k) (still_wanted s x n a) m)
       ∙ sym (operational_moved s (Placement x from n) a k u);
 }
 kept_moved s (Takeover x l n) b k shape of h = record {
   locals = λ u. h.locals ∙ ap (λ xs. is_some (head xs)) (sym (locals_moved s (Takeover x l n) k shape of u));
+  moving = λ a of_a m. h.moving a of_a (mattered _ (is_wanted (standing_of s a)) (is_among b.fresh a k) (still_wanted s x n a) m);
   able = λ a of_a u m. h.able a of_a (mattered _ (is_wanted (standing_of s a)) (is_among b.fresh a k) (still_wanted s x n a) m)
       ∙ sym (operational_moved s (Takeover x l n) a k u);
 }
@@ -308,20 +321,25 @@ kept_moved s (Takeover x l n) b k shape of h = record {
 -- what a look at a node behind a move of an application leaves, and what it finds
 pub record Looked (t : StateView) (x : App) (b c : BoardView) (n : Node) : Type 0 where
   pub touching : c.touching ≡ b.touching
+  pub moving : c.moving ≡ b.moving
   pub fresh : c.fresh ≡ b.fresh
   pub local : is_marked b.touching x ≡ true → has c.locals n ≡ is_some (head (local_moves t n))
   pub apart : is_marked b.touching x ≡ false → c.locals ≡ b.locals
   pub locals : (k : Node) → same_node k n ≡ false → has c.locals k ≡ has b.locals k
-  pub here : (a : App) → IsAppOf t.cluster a → is_touched t.cluster x a ≡ true → matters t c.fresh a n ≡ true → is_among c.able a n ≡ is_operational t a n
+  pub here : (a : App) → IsAppOf t.cluster a → is_marked c.moving a ≡ true → is_touched t.cluster x a ≡ true → matters t c.fresh a n ≡ true → is_among c.able a n ≡ is_operational t a n
   pub able : (a : App) (k : Node) → is_touched t.cluster x a && same_node k n ≡ false → is_among c.able a k ≡ is_among b.able a k
 
 module _ (t : StateView) (x : App) (b c : BoardView) (n k : Node) (look : Looked t x b c n) (mark : is_marked b.touching x ≡ touches_local t.cluster x) where
   mattered_too : (a : App) → matters t c.fresh a k ≡ true → matters t b.fresh a k ≡ true
   mattered_too a m = sym (ap (λ (fresh : AppSets). matters t fresh a k) look.fresh) ∙ m
 
+  marked_too : (a : App) → is_marked b.moving a ≡ true → is_marked c.moving a ≡ true
+  marked_too a m = ap (λ (marks : AppMarks). is_marked marks a) look.moving ∙ m
+
   look_kept : IsKeptAt t x b k → IsKeptAt t x c k
   look_kept kept = record {
     locals = λ u. ap (λ (nodes : NodeBits). has nodes k) (look.apart (mark ∙ u)) ∙ kept.locals u;
+    moving = λ a of m. marked_too a (kept.moving a of (mattered_too a m));
     able = λ a of u m. look.able a k (ap (λ p. p && same_node k n) u) ∙ kept.able a of u (mattered_too a m);
   }
 
@@ -330,13 +348,15 @@ module _ (t : StateView) (x : App) (b c : BoardView) (n k : Node) (look : Looked
       (λ y. subst (λ (i : ℕ). IsKeptAt t x c (numbered i) → IsExactAt t c (numbered i)) (sym (same_number k.0 n.0 y)) here (look_kept kept))
       (λ f. let h = apart (other_number k.0 n.0 f) in record {
         locals = look.locals k f ∙ h.locals;
+        moving = λ a of m. marked_too a (h.moving a of (mattered_too a m));
         able = λ a of m. look.able a k (ap (λ p. is_touched t.cluster x a && p) f ∙ and_false (is_touched t.cluster x a)) ∙ h.able a of (mattered_too a m);
       })
     where
       here : IsKeptAt t x c n → IsExactAt t c n
       here kept = record {
         locals = cases (touches_local t.cluster x) (λ y. look.local (mark ∙ y)) (λ u. kept.locals u);
-        able = λ a of m. cases (is_touched t.cluster x a) (λ y. look.here a of y m) (λ u. kept.able a of u m);
+        moving = kept.moving;
+        able = λ a of m. cases (is_touched t.cluster x a) (λ y. look.here a of (kept.moving a of m) y m) (λ u. kept.able a of u m);
       }
 
       and_false : (p : Bool) → p && false ≡ false
@@ -453,3 +473,27 @@ no_callers s pairs a shape none = by (standing_of s a)
     by (Wanted _) = refl
     by (Lost _) = refl
     by (Running m) = not_taken s pairs a m (none_calls s pairs a m shape (λ n d of_n. none n of_n))
+
+-- ---- what isn't marked doesn't move
+-- where it matters for no node, an application isn't to run and has no fresh pair
+unmarked : (s : StateView) (b : BoardView) (a : App) (n : Node) → IsAppOf s.cluster a → IsExactAt s b n → is_marked b.moving a ≡ false
+    → matters s b.fresh a n ≡ false
+unmarked s b a n of exact off = is_false (matters s b.fresh a n) (λ m. both (is_marked b.moving a) (exact.moving a of m) off)
+
+-- so it isn't placed
+pub unmarked_stays : (s : StateView) (b : BoardView) (a : App) → IsAppOf s.cluster a → ((n : Node) → IsExactAt s b n) → is_marked b.moving a ≡ false
+    → placements s a ≡ []
+unfolding placements
+unmarked_stays s b a of exact off = by (standing_of s a) (neither _ _ (unmarked s b a (numbered 0) of (exact (numbered 0)) off)).0
+  where
+    by : (st : Standing) → is_wanted st ≡ false → placements_from s a st ≡ []
+    by Quiet h = refl
+    by (Wanted from) h = both (is_wanted (Wanted from)) refl h
+    by (Lost _) h = refl
+    by (Running _) h = refl
+
+-- and isn't taken over
+pub unmarked_kept : (s : StateView) (pairs : List Pair) (b : BoardView) (a : App) → IsShaped s → IsAppOf s.cluster a → IsBoardOf s pairs b
+    → is_marked b.moving a ≡ false → takeovers s pairs a ≡ []
+unmarked_kept s pairs b a shape of h off = no_callers s pairs a shape
+    (λ n of_n. ap (λ p. p && is_operational s a n) (sym (h.fresh a n of of_n) ∙ (neither _ _ (unmarked s b a n of (h.exact n) off)).1))

@@ -1,6 +1,7 @@
 -- A search for the first that is given.
 use Rattle.std.proofs.Common.{◌≡◌, ℕ, ◌+◌, ◌<◌, ◌≤◌, List, [], ◌∷◌, map, Option, Some, None, refl, sym, ap, ◌∙◌, drop, get_or, length, arith, zero, suc}
-use Rattle.std.proofs.Common.{is_some}
+use Rattle.std.proofs.Common.{is_some, inl, inr}
+use Rattle.std.proofs.lemmas.Bool.{cases_lt}
 use Rattle.std.specs.List.{Contains, range_with_len, last_or}
 use Rattle.std.specs.Option.{option_map}
 use Rattle.std.proofs.lemmas.List.{length-map}
@@ -124,6 +125,46 @@ module _ {B : Type 0} (pick : Pick) (c : ClusterView) (f : App → List B) (i : 
 
   pub no_app_left : app_count c ≤ i → None ≡ picked pick (first_given f (apps_of c))
   no_app_left ge = let l = length_apps c in none pick f (apps_of c) (apps_of c) i so_far (omega arith)
+
+-- ---- a walk over some of the applications
+-- nothing is given below a place
+given_past : {A B : Type 0} (f : A → List B) (xs : List A) (i : ℕ) (d : A) → i ≤ length xs → ((j : ℕ) → j < i → f (get_or xs j d) ≡ [])
+    → first_given f (drop i xs) ≡ first_given f xs
+given_past f xs zero d le none = refl
+given_past f [] (suc i) d le none = absurd (omega arith)
+given_past f (x ∷ xs) (suc i) d le none =
+    given_past f xs i d (omega arith) (λ j lt. none (suc j) (omega arith))
+    ∙ sym (ap (λ ys. or_else ys (first_given f xs)) (none 0 (omega arith)))
+
+module _ {B : Type 0} (pick : Pick) (c : ClusterView) (f : App → List B) where
+  past : (i : ℕ) → i ≤ app_count c → ((a : App) → a.0 < app_count c → a.0 < i → f a ≡ []) → first_given f (drop i (apps_of c)) ≡ first_given f (apps_of c)
+  past i le none =
+      let d : App = app_numbered 0 in
+      given_past f (apps_of c) i d (let l = length_apps c in omega arith)
+      (λ j lt. ap f (app_there c j d (omega arith)) ∙ none (app_numbered j) (omega arith) lt)
+
+  pub found_behind : (a : App) (o : B) → a.0 < app_count c → ((b : App) → b.0 < app_count c → b.0 < a.0 → f b ≡ []) → Some o ≡ picked pick (f a)
+      → Some o ≡ picked pick (first_given f (apps_of c))
+  found_behind a o lt none h = found_app pick c f a.0 (past a.0 (omega arith) none) o lt h
+
+  pub none_behind : ((a : App) → a.0 < app_count c → f a ≡ []) → None ≡ picked pick (first_given f (apps_of c))
+  none_behind none = no_app_left pick c f (app_count c) (past (app_count c) (omega arith) (λ a of lt. none a of)) (omega arith)
+
+-- a number is below another, or isn't
+pub up_to : {P : Type 0} (i j : ℕ) → (j < i → P) → (i ≤ j → P) → P
+up_to i j below from = elim (cases_lt j i) [
+  | inl lt ↦ below lt
+  | inr ge ↦ from ge
+]
+
+-- nothing is given up to an application, where nothing is given below a place, from there on below it, and by itself
+pub none_to : {B : Type 0} (f : App → List B) (i : ℕ) (x a : App) → a.0 < x.0 + 1 → (a.0 < i → f a ≡ []) → (i ≤ a.0 → a.0 < x.0 → f a ≡ []) → f x ≡ []
+    → f a ≡ []
+none_to f i x a lt below between here = up_to i a.0 below (λ from. up_to x.0 a.0 (between from)
+    (λ ge. ap (λ (j : ℕ). f (app_numbered j)) (same a.0 x.0 lt ge) ∙ here))
+  where
+    same : (i j : ℕ) → i < j + 1 → j ≤ i → i ≡ j
+    same i j lt ge = omega arith
 
 pub either_some : {A : Type 0} (pick : Pick) (xs ys : List A) (o : A) → Some o ≡ picked pick xs → Some o ≡ picked pick (or_else xs ys)
 either_some pick xs ys o h = h ∙ ap (picked pick) (sym (some_picked pick xs ys o (sym h)))

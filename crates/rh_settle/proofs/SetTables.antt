@@ -1,9 +1,16 @@
--- A table with a set of nodes, or with a mark, for each application.
-use Rattle.std.proofs.Common.{◌≡◌, ℕ, ◌<◌, ◌||◌, Bool, true, false, cond, List, length, get_or, unwrap_or, slice_get, slice_set, nat_lt, refl, sym, ap, ◌∙◌, inl, inr, arith, Option}
+-- A table with a set of nodes for each application, and one with a mark for each.
+use Rattle.std.proofs.Common.{◌≡◌, ◌≢◌, ℕ, ◌+◌, ◌-◌, ◌*◌, ◌/◌, ◌%◌, ◌^◌, ◌==◌, ◌<◌, ◌≤◌, ◌||◌, Bool, true, false, cond, List, length, get_or, unwrap_or, slice_get, slice_set, nat_lt, refl, sym, ap, ◌∙◌, inl, inr, arith, Option, bit_and}
+use Rattle.std.specs.Int.{bit_at, trailing_zeros}
+use Rattle.std.specs.Int.RustNames.{bit_or}
+use Rattle.std.specs.Int.{w128}
 use Rattle.std.proofs.Math.ListN.{replicate}
+use Rattle.std.proofs.lemmas.Bool.{cases_lt}
+use Rattle.std.proofs.Math.Nat.{div-le_self}
+use Rattle.std.proofs.lemmas.Nat.{div-add-mod', mod_below, pow_pos, or_lt}
+use Rattle.std.proofs.lemmas.Nat.Bits.{shr_and_one, bit_at-lt, bit_at-zero, bit_at_above, bit_at_set_same, bit_at_set_other, bit_at_cat_high, bit_at-trailing_zeros, same_from_bits}
 use Rattle.std.proofs.lemmas.List.{get_or-replicate, length-replicate}
 use Rattle.std.proofs.lemmas.Option.{slice_get_past, slice_get-get_or, unwrap_or-slice_get}
-use Rattle.std.proofs.lemmas.Bool.Decides.{eqb_tells}
+use Rattle.std.proofs.lemmas.Bool.Decides.{eqb_tells, nat_tests}
 use Rattle.rh_model.specs.declared.node.Node.{Node}
 use Rattle.rh_model.specs.declared.node.App.{App}
 use Rattle.rh_state.specs.Numbers.{same_app}
@@ -39,24 +46,21 @@ among_set xs app set lt a n = elim (eqb_tells a.0 app.0) [
 ]
 
 -- ---- a mark for each application
-pub marked_none : (k : ℕ) (a : App) → is_marked (record { marks = replicate k false }) a ≡ false
+pub marked_none : (a : App) → is_marked (record { marks = 0 }) a ≡ false
 unfolding is_marked
-marked_none k a = cases (nat_lt a.0 k)
-    (λ t. unwrap_or-slice_get (replicate k false) a.0 false ∙ get_or-replicate k a.0 false false (is_below a.0 k t))
-    (λ f. ap (λ (o : Option Bool). unwrap_or o false)
-    (slice_get_past (replicate k false) a.0 (let l = length-replicate k false in let g = is_above a.0 k f in omega (arith, l, g))))
+marked_none a = ap (λ b. b == 1) (bit_at-zero a.0)
 
-pub marked_get : (xs : List Bool) (a : App) (d : Bool) → a.0 < length xs → get_or xs a.0 d ≡ is_marked (record { marks = xs }) a
+pub marked_get : (marks : ℕ) (a : App) → (bit_and (marks / 2 ^ a.0) 1 == 1) ≡ is_marked (record { marks = marks }) a
 unfolding is_marked
-marked_get xs a d lt = sym (ap (λ (o : Option Bool). unwrap_or o false) (slice_get-get_or xs a.0 d lt))
+marked_get marks a = ap (λ b. b == 1) (shr_and_one marks a.0)
 
-pub marked_set : (xs : List Bool) (app : App) → app.0 < length xs → (a : App)
-    → is_marked (record { marks = slice_set xs app.0 true }) a ≡ (is_marked (record { marks = xs }) a || same_app a app)
+pub marked_set : (marks : ℕ) (app : App) → app.0 < 128 → (a : App)
+    → is_marked (record { marks = bit_or marks (1 * 2 ^ app.0 % 2 ^ 128) }) a ≡ (is_marked (record { marks = marks }) a || same_app a app)
 unfolding is_marked
-marked_set xs app lt a = elim (eqb_tells a.0 app.0) [
-  | inl same ↦ rw same.0 (ap (λ i. unwrap_or (slice_get (slice_set xs app.0 true) i) false) same.1
-      ∙ at_set_here xs app.0 true false lt ∙ sym (or_true (unwrap_or (slice_get xs a.0) false)))
-  | inr other ↦ rw other.0 (at_set_there xs app.0 a.0 true false other.1 ∙ sym (or_false (unwrap_or (slice_get xs a.0) false)))
+marked_set marks app small a = elim (eqb_tells a.0 app.0) [
+  | inl same ↦ rw same.0 (ap (λ b. b == 1) (ap (bit_at (bit_or marks (1 * 2 ^ app.0 % 2 ^ 128))) same.1 ∙ bit_at_set_same w128 marks app.0 small)
+      ∙ sym (or_true (bit_at marks a.0 == 1)))
+  | inr other ↦ rw other.0 (ap (λ b. b == 1) (bit_at_set_other w128 marks app.0 small a.0 other.1) ∙ sym (or_false (bit_at marks a.0 == 1)))
 ]
   where
     or_true : (p : Bool) → p || true ≡ true
@@ -66,3 +70,76 @@ marked_set xs app lt a = elim (eqb_tells a.0 app.0) [
     or_false : (p : Bool) → p || false ≡ p
     or_false true = refl
     or_false false = refl
+
+pub marks_few : (marks : ℕ) (app : App) → marks < 2 ^ 128 → bit_or marks (1 * 2 ^ app.0 % 2 ^ 128) < 2 ^ 128
+marks_few marks app small = or_lt 128 marks (1 * 2 ^ app.0 % 2 ^ 128) small (below (1 * 2 ^ app.0))
+  where
+    below : (m : ℕ) → m % 2 ^ 128 < 2 ^ 128
+    below m = omega arith
+
+not_one : (b : ℕ) → b < 2 → b == 1 ≡ false → b ≡ 0
+not_one b small h = grind (arith, nat_tests)
+
+-- no application is marked where the word is 0
+pub marks_zero : (marks : ℕ) → ((a : App) → is_marked (record { marks = marks }) a ≡ false) → marks ≡ 0
+unfolding is_marked
+marks_zero marks none = same_from_bits marks 0 (λ i. not_one (bit_at marks i) (bit_at-lt marks i) (none (record { 0 = i })) ∙ sym (bit_at-zero i))
+
+pub zero_marks : (marks : ℕ) → marks ≡ 0 → (a : App) → is_marked (record { marks = marks }) a ≡ false
+zero_marks marks zero a = ap (λ m. is_marked (record { marks = m }) a) zero ∙ marked_none a
+
+-- the marks from a number on
+shifted : (n k i : ℕ) → bit_at (n / 2 ^ k) i ≡ bit_at n (k + i)
+shifted n k i = sym (
+    ap (λ m. bit_at m (k + i)) (sym (div-add-mod' n (2 ^ k)))
+    ∙ bit_at_cat_high (n / 2 ^ k) k (n % 2 ^ k) (k + i) (mod_below n (2 ^ k) (pow_pos k)) (omega arith)
+    ∙ ap (bit_at (n / 2 ^ k)) (back k i))
+  where
+    back : (k i : ℕ) → (k + i) - k ≡ i
+    back k i = omega arith
+
+-- a number from k on is so far behind it
+marked_from : (marks k : ℕ) (b : App) → k ≤ b.0 → is_marked (record { marks = marks }) b ≡ (bit_at (marks / 2 ^ k) (b.0 - k) == 1)
+unfolding is_marked
+marked_from marks k b le = ap (λ v. v == 1) (ap (bit_at marks) (there k b.0 le) ∙ sym (shifted marks k (b.0 - k)))
+  where
+    there : (k i : ℕ) → k ≤ i → i ≡ k + (i - k)
+    there k i le = omega arith
+
+-- no application has a mark behind the word
+pub none_above : (marks from : ℕ) (b : App) → marks < 2 ^ 128 → 128 ≤ from → from ≤ b.0 → is_marked (record { marks = marks }) b ≡ false
+unfolding is_marked
+none_above marks from b small above le = ap (λ v. v == 1) (bit_at_above marks 128 b.0 small (omega (arith, above, le)))
+
+pub none_from : (marks k : ℕ) → marks / 2 ^ k ≡ 0 → (b : App) → k ≤ b.0 → is_marked (record { marks = marks }) b ≡ false
+none_from marks k zero b le = marked_from marks k b le ∙ ap (λ m. bit_at m (b.0 - k) == 1) zero ∙ ap (λ v. v == 1) (bit_at-zero (b.0 - k))
+
+module _ (marks k : ℕ) (small : marks < 2 ^ 128) (some : marks / 2 ^ k ≢ 0) where
+  abbrev rest : ℕ
+  rest = marks / 2 ^ k
+
+  lowest : (trailing_zeros w128 rest < 128) × (bit_at rest (trailing_zeros w128 rest) ≡ 1) × ((i : ℕ) → i < trailing_zeros w128 rest → bit_at rest i ≡ 0)
+  lowest = bit_at-trailing_zeros w128 rest (omega (arith, some)) (less marks (2 ^ k) small)
+    where
+      less : (m d : ℕ) → m < 2 ^ 128 → m / d < 2 ^ 128
+      less m d h = let l = div-le_self m d in omega arith
+
+  pub first_below : trailing_zeros w128 rest < 128
+  first_below = lowest.0
+
+  pub first_marked : is_marked (record { marks = marks }) (record { 0 = k + trailing_zeros w128 rest }) ≡ true
+  unfolding is_marked
+  first_marked = ap (λ v. v == 1) (sym (shifted marks k (trailing_zeros w128 rest)) ∙ lowest.1)
+
+  pub first_few : k + trailing_zeros w128 rest < 128
+  first_few = elim (cases_lt (k + trailing_zeros w128 rest) 128) [
+    | inl lt ↦ lt
+    | inr ge ↦ clash (bit_at marks (k + trailing_zeros w128 rest)) (bit_at_above marks 128 (k + trailing_zeros w128 rest) small ge)
+        (sym (shifted marks k (trailing_zeros w128 rest)) ∙ lowest.1)
+  ]
+    where
+      clash : {P : Type 0} (b : ℕ) → b ≡ 0 → b ≡ 1 → P
+      clash b zero one = absurd (omega (arith, zero, one))
+
+  pub none_before : (b : App) → k ≤ b.0 → b.0 < k + trailing_zeros w128 rest → is_marked (record { marks = marks }) b ≡ false
+  none_before b le lt = marked_from marks k b le ∙ ap (λ v. v == 1) (lowest.2 (b.0 - k) (omega (arith, le, lt)))

@@ -1,5 +1,6 @@
 -- What settling keeps between its moves, so that no move is searched for from the beginning (ours).
-use Rattle.std.specs.Prelude.{◌≡◌, ◌&&◌, ◌||◌, List, [], ◌∷◌, Bool, true, false, slice_get, unwrap_or, is_some}
+use Rattle.std.specs.Prelude.{◌≡◌, ◌==◌, ◌&&◌, ◌||◌, ℕ, List, [], ◌∷◌, Bool, true, false, slice_get, unwrap_or, is_some}
+use Rattle.std.specs.Int.{bit_at}
 use Rattle.std.specs.List.{list_any}
 use Rattle.rh_model.specs.declared.node.Node.{Node}
 use Rattle.rh_model.specs.declared.node.App.{App}
@@ -32,18 +33,19 @@ set_of t a = unwrap_or (slice_get t.sets a.0) (record { bits = 0 })
 unfoldable pub is_among : AppSets → App → Node → Bool
 is_among t a n = has (set_of t a) n
 
--- for each application, by its number, a mark
+-- for each application, by its number, a mark: bit a is 1 where application a is marked
 pub record AppMarks : Type 0 where
-  pub marks : List Bool
+  pub marks : ℕ
 
--- an application without a mark isn't marked
+-- is an application marked?
 unfoldable pub is_marked : AppMarks → App → Bool
-is_marked t a = unwrap_or (slice_get t.marks a.0) false
+is_marked t a = bit_at t.marks a.0 == 1
 
--- a set of nodes, marks, and two sets of nodes for each application
+-- a set of nodes, and for each application two marks and two sets of nodes
 pub record BoardView : Type 0 where
   pub locals : NodeBits
   pub touching : AppMarks
+  pub moving : AppMarks
   pub fresh : AppSets
   pub able : AppSets
 
@@ -64,9 +66,11 @@ is_touched c moved a = same_app a moved || has_app (needed_apps c a) moved
 unfoldable pub touches_local : ClusterView → App → Bool
 touches_local c moved = list_any (λ a. is_local c a && is_touched c moved a) (apps_of c)
 
--- at a node: a local application can start there, and an application can run there, wherever that matters
+-- at a node: a local application can start there, and an application can run there, wherever that matters; and where it
+-- matters the application is marked
 pub record IsExactAt (s : StateView) (b : BoardView) (n : Node) : Type 0 where
   pub locals : has b.locals n ≡ is_some (head (local_moves s n))
+  pub moving : (a : App) → IsAppOf s.cluster a → matters s b.fresh a n ≡ true → is_marked b.moving a ≡ true
   pub able : (a : App) → IsAppOf s.cluster a → matters s b.fresh a n ≡ true → is_among b.able a n ≡ is_operational s a n
 
 -- the same of each node, the fresh pairs are these, and those are marked whose moves touch a local application

@@ -1,6 +1,6 @@
 //! A mark for each application.
 
-ghost use Rattle.std.specs.Prelude.{◌≡◌, ◌<◌, ◌||◌, false};
+ghost use Rattle.std.specs.Prelude.{◌≡◌, ◌<◌, ◌≤◌, ◌||◌, ◌↔◌, false, true, IsTrue, IsNone, IfSome};
 ghost use Rattle.rh_model.specs.declared.limits.TheConstants.{MAX_APPS};
 ghost use Rattle.rh_model.specs.declared.node.App.{App};
 ghost use Rattle.rh_state.specs.Numbers.{same_app};
@@ -9,32 +9,34 @@ ghost use Rattle.rh_settle.specs.Boards.{is_marked};
 use rh_model::{App, MAX_APPS};
 use std::marker::Model;
 
-/// For each application, by its number, whether it is marked.
+/// For each application, by its number, whether it is marked: bit a is 1 where application a is.
 #[derive(Drop)]
 pub(crate) struct AppMarks {
-    marks: [bool; MAX_APPS],
+    marks: u128,
 }
 
 impl Model for AppMarks {
-    ghost use Rattle.std.specs.Prelude.{◌≡◌, length};
-    ghost use Rattle.rh_model.specs.declared.limits.TheConstants.{MAX_APPS};
+    ghost use Rattle.std.specs.Prelude.{◌<◌, ◌^◌};
     ghost use Rattle.rh_settle.specs.Boards.{AppMarks};
 
     ghost Value = { AppMarks };
 
     ghost view = { λ t. record { marks = t.marks } };
 
-    ghost invariant = { λ t. length t.marks ≡ MAX_APPS };
+    ghost inverse = { λ t. record { marks = t.marks } };
+
+    ghost invariant = { λ t. t.marks < 2 ^ 128 };
 }
+
+// A mark has its bit.
+const _: () = prove!(MAX_APPS == 128);
 
 impl AppMarks {
     // No application is marked.
     pub fn empty() -> AppMarks
         ensures { (a : App) → is_marked result a ≡ false }
     {
-        AppMarks {
-            marks: [false; MAX_APPS],
-        }
+        AppMarks { marks: 0 }
     }
 
     // Is an application marked?
@@ -42,7 +44,14 @@ impl AppMarks {
         requires { app.0 < MAX_APPS }
         ensures { result ≡ is_marked self.now app }
     {
-        self.marks[app.0 as usize]
+        self.marks >> app.0 & 1 == 1
+    }
+
+    // Is no application marked?
+    pub fn is_empty(&self) -> bool
+        ensures { IsTrue result ↔ ((a : App) → is_marked self.now a ≡ false) }
+    {
+        self.marks == 0
     }
 
     // Marks an application.
@@ -50,6 +59,40 @@ impl AppMarks {
         requires { app.0 < MAX_APPS }
         ensures { (a : App) → is_marked self.new a ≡ (is_marked self.old a || same_app a app) }
     {
-        self.marks[app.0 as usize] = true;
+        self.marks |= 1 << app.0;
+    }
+
+    // The first marked application from this number on.
+    fn next_from(&self, from: u8) -> Option<App>
+        ensures marked { IfSome result (λ a. is_marked self.now a ≡ true) }
+        ensures from { IfSome result (λ a. from ≤ a.0) }
+        ensures first { IfSome result (λ a. (b : App) → from ≤ b.0 → b.0 < a.0 → is_marked self.now b ≡ false) }
+        ensures few { IfSome result (λ a. a.0 < MAX_APPS) }
+        ensures none { IsNone result → (b : App) → from ≤ b.0 → is_marked self.now b ≡ false }
+    {
+        let marks = self.marks;
+        if from as usize >= MAX_APPS {
+            return None;
+        }
+        let rest = marks >> from;
+        if rest == 0 {
+            return None;
+        }
+        Some(App(from + rest.trailing_zeros() as u8))
+    }
+
+    // The first one below the count.
+    pub fn next_below(&self, from: u8, count: usize) -> Option<App>
+        ensures marked { IfSome result (λ a. is_marked self.now a ≡ true) }
+        ensures from { IfSome result (λ a. from ≤ a.0) }
+        ensures first { IfSome result (λ a. (b : App) → from ≤ b.0 → b.0 < a.0 → is_marked self.now b ≡ false) }
+        ensures few { IfSome result (λ a. a.0 < MAX_APPS) }
+        ensures below { IfSome result (λ a. a.0 < count) }
+        ensures none { IsNone result → (b : App) → from ≤ b.0 → b.0 < count → is_marked self.now b ≡ false }
+    {
+        match self.next_from(from) {
+            Some(app) if (app.0 as usize) < count => Some(app),
+            _ => None,
+        }
     }
 }

@@ -1,6 +1,6 @@
 //! What settling keeps between its moves, so that no move is searched for from the beginning.
 
-ghost use Rattle.std.specs.Prelude.{◌≡◌, ◌≢◌, ◌<◌, ◌&&◌, ◌||◌, ◌++◌, List, All, true, false, is_some};
+ghost use Rattle.std.specs.Prelude.{◌≡◌, ◌≢◌, ◌<◌, ◌≤◌, ◌&&◌, ◌||◌, ◌++◌, List, All, true, false, is_some, IsNone, IfSome};
 ghost use Rattle.rh_model.specs.declared.limits.TheConstants.{MAX_APPS};
 ghost use Rattle.rh_model.specs.declared.node.App.{App};
 ghost use Rattle.rh_model.specs.declared.node.Node.{Node};
@@ -36,6 +36,8 @@ pub(crate) struct Board {
     locals: NodeSet,
     // The applications of which a move can change that: the local ones, and those that a local one needs.
     touching: AppMarks,
+    // The applications that can be placed or taken over: those that are to run, and those that have a fresh pair.
+    moving: AppMarks,
     // For each application the nodes of its fresh pairs.
     fresh: AppSets,
     // For each application the nodes at which it can run: all of them where it is to run, else those of its fresh pairs.
@@ -47,7 +49,7 @@ impl Model for Board {
 
     ghost Value = { BoardView };
 
-    ghost view = { λ b. record { locals = b.locals; touching = b.touching; fresh = b.fresh; able = b.able } };
+    ghost view = { λ b. record { locals = b.locals; touching = b.touching; moving = b.moving; fresh = b.fresh; able = b.able } };
 }
 
 impl Board {
@@ -60,10 +62,13 @@ impl Board {
         let mut fresh = AppSets::empty();
         add_fresh(&mut fresh, freed);
         add_fresh(&mut fresh, marked);
-        let able = able_sets(state, &fresh);
+        let moving = moving_apps(state, &fresh);
+        let able = able_sets(state, &fresh, &moving);
+        let touching = touching_apps(state.cluster());
         Board {
-            locals: local_nodes(state),
-            touching: touching_apps(state.cluster()),
+            locals: local_nodes(state, &touching),
+            touching,
+            moving,
             fresh,
             able,
         }
@@ -74,6 +79,17 @@ impl Board {
         ensures { (n : Node) → has result n ≡ has self.now.locals n }
     {
         self.locals
+    }
+
+    /// The first application, from this number on and below the count, that can be placed or taken over.
+    pub fn next_moving(&self, from: u8, count: usize) -> Option<App>
+        ensures from { IfSome result (λ a. from ≤ a.0) }
+        ensures first { IfSome result (λ a. (b : App) → from ≤ b.0 → b.0 < a.0 → is_marked self.now.moving b ≡ false) }
+        ensures few { IfSome result (λ a. a.0 < MAX_APPS) }
+        ensures below { IfSome result (λ a. a.0 < count) }
+        ensures none { IsNone result → (b : App) → from ≤ b.0 → b.0 < count → is_marked self.now.moving b ≡ false }
+    {
+        self.moving.next_below(from, count)
     }
 
     /// The nodes at which an application can run, if it is to run.
@@ -97,11 +113,12 @@ impl Board {
         requires app { IsAppOf (read state.now).cluster moved }
         requires node { IsNodeOf (read state.now).cluster node }
         ensures touching { self.new.touching ≡ self.old.touching }
+        ensures moving { self.new.moving ≡ self.old.moving }
         ensures fresh { self.new.fresh ≡ self.old.fresh }
         ensures local { is_marked self.old.touching moved ≡ true → has self.new.locals node ≡ is_some (head (local_moves (read state.now) node)) }
         ensures apart { is_marked self.old.touching moved ≡ false → self.new.locals ≡ self.old.locals }
         ensures locals { (n : Node) → same_node n node ≡ false → has self.new.locals n ≡ has self.old.locals n }
-        ensures here { (a : App) → IsAppOf (read state.now).cluster a → is_touched (read state.now).cluster moved a ≡ true → matters (read state.now) self.new.fresh a node ≡ true → is_among self.new.able a node ≡ is_operational (read state.now) a node }
+        ensures here { (a : App) → IsAppOf (read state.now).cluster a → is_marked self.new.moving a ≡ true → is_touched (read state.now).cluster moved a ≡ true → matters (read state.now) self.new.fresh a node ≡ true → is_among self.new.able a node ≡ is_operational (read state.now) a node }
         ensures able { (a : App) (n : Node) → is_touched (read state.now).cluster moved a && same_node n node ≡ false → is_among self.new.able a n ≡ is_among self.old.able a n }
     {
         let _few_apps = state.cluster().app_count();
@@ -109,7 +126,14 @@ impl Board {
         if self.touching.has(moved) {
             self.locals = self.locals.put(node, local_at(state, node).is_some());
         }
-        look_again_at(state, &self.fresh, moved, node, &mut self.able);
+        look_again_at(
+            state,
+            &self.moving,
+            &self.fresh,
+            moved,
+            node,
+            &mut self.able,
+        );
     }
 
     /// Follows a move that was made.
@@ -187,25 +211,53 @@ fn able_nodes(state: &State, app: App, fresh: NodeSet) -> NodeSet
     }
 }
 
-// The same for each application.
-fn able_sets(state: &State, fresh: &AppSets) -> AppSets
-    ensures { (n : Node) (a : App) → IsAppOf (read state.now).cluster a → matters (read state.now) fresh.now a n ≡ true → is_among result a n ≡ is_operational (read state.now) a n }
+// Is an application to run, or has it a fresh pair?
+fn is_moving(state: &State, app: App, fresh: NodeSet) -> bool
+    requires { IsAppOf (read state.now).cluster app }
+    ensures { (n : Node) → is_wanted (standing_of (read state.now) app) || has fresh n ≡ true → result ≡ true }
 {
-    let mut sets = AppSets::empty();
+    matches!(state.standing(app), Standing::Wanted(_)) || !fresh.is_empty()
+}
+
+// The applications of which it matters where they can run.
+fn moving_apps(state: &State, fresh: &AppSets) -> AppMarks
+    ensures { (n : Node) (a : App) → IsAppOf (read state.now).cluster a → matters (read state.now) fresh.now a n ≡ true → is_marked result a ≡ true }
+{
+    let mut marks = AppMarks::empty();
     let count = state.cluster().app_count();
     'apps: for number in 0..count {
         let app = App(number as u8);
+        if is_moving(state, app, fresh.of(app)) {
+            marks.mark(app);
+        }
+    }
+    marks
+}
+
+// For each of these applications where it can run, as far as that matters.
+fn able_sets(state: &State, fresh: &AppSets, moving: &AppMarks) -> AppSets
+    ensures { (n : Node) (a : App) → IsAppOf (read state.now).cluster a → is_marked moving.now a ≡ true → matters (read state.now) fresh.now a n ≡ true → is_among result a n ≡ is_operational (read state.now) a n }
+{
+    let mut sets = AppSets::empty();
+    let count = state.cluster().app_count();
+    let mut from = 0;
+    'apps: while let Some(app) = moving.next_below(from, count) {
         sets.set(app, able_nodes(state, app, fresh.of(app)));
+        from = app.0 + 1;
     }
     sets
 }
 
-// The nodes at which a local application can start.
-fn local_nodes(state: &State) -> NodeSet
+// The nodes at which a local application can start. There are none where no move of an application touches a local one.
+fn local_nodes(state: &State, touching: &AppMarks) -> NodeSet
+    requires { (a : App) → is_marked touching.now a ≡ touches_local (read state.now).cluster a }
     ensures { (n : Node) → has result n ≡ is_some (head (local_moves (read state.now) n)) }
 {
     state.formed();
     let mut nodes = NodeSet::empty();
+    if touching.is_empty() {
+        return nodes;
+    }
     let count = state.cluster().node_count();
     'nodes: for number in 0..count {
         let node = Node(number as u8);
@@ -245,17 +297,25 @@ fn look_again_for(state: &State, fresh: &AppSets, app: App, node: Node, able: &m
     }
 }
 
-// The same for each application that a move of this one touches.
-fn look_again_at(state: &State, fresh: &AppSets, moved: App, node: Node, able: &mut AppSets)
+// The same for each of these applications that a move of this one touches.
+fn look_again_at(
+    state: &State,
+    moving: &AppMarks,
+    fresh: &AppSets,
+    moved: App,
+    node: Node,
+    able: &mut AppSets,
+)
     requires { IsNodeOf (read state.now).cluster node }
-    ensures here { (a : App) → IsAppOf (read state.now).cluster a → is_touched (read state.now).cluster moved a ≡ true → matters (read state.now) fresh.now a node ≡ true → is_among able.new a node ≡ is_operational (read state.now) a node }
+    ensures here { (a : App) → IsAppOf (read state.now).cluster a → is_marked moving.now a ≡ true → is_touched (read state.now).cluster moved a ≡ true → matters (read state.now) fresh.now a node ≡ true → is_among able.new a node ≡ is_operational (read state.now) a node }
     ensures others { (a : App) (n : Node) → is_touched (read state.now).cluster moved a && same_node n node ≡ false → is_among able.new a n ≡ is_among able.old a n }
 {
     let count = state.cluster().app_count();
-    'apps: for number in 0..count {
-        let app = App(number as u8);
+    let mut from = 0;
+    'apps: while let Some(app) = moving.next_below(from, count) {
         if is_touched(state.cluster(), moved, app) {
             look_again_for(state, fresh, app, node, able);
         }
+        from = app.0 + 1;
     }
 }

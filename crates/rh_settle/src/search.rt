@@ -91,10 +91,12 @@ fn next_placement(state: &State, board: &Board, pick: Pick) -> Option<Move>
     ensures { result ≡ picked pick (first_given (placements (read state.now)) (apps_of (read state.now).cluster)) }
 {
     let count = state.cluster().app_count();
-    'apps: for number in 0..count {
-        if let Some(next) = placement_of(state, board, App(number as u8), pick) {
+    let mut from = 0;
+    'apps: while let Some(app) = board.next_moving(from, count) {
+        if let Some(next) = placement_of(state, board, app, pick) {
             return Some(next);
         }
+        from = app.0 + 1;
     }
     None
 }
@@ -193,11 +195,14 @@ fn takeover_of(state: &State, board: &Board, app: App, pick: Pick) -> Option<Mov
 fn next_takeover(state: &State, board: &Board, pick: Pick) -> Option<Move>
     ensures { (fresh : List Pair) → IsBoardOf (read state.now) fresh board.now → result ≡ picked pick (first_given (takeovers (read state.now) fresh) (apps_of (read state.now).cluster)) }
 {
+    state.formed();
     let count = state.cluster().app_count();
-    'apps: for number in 0..count {
-        if let Some(next) = takeover_of(state, board, App(number as u8), pick) {
+    let mut from = 0;
+    'apps: while let Some(app) = board.next_moving(from, count) {
+        if let Some(next) = takeover_of(state, board, app, pick) {
             return Some(next);
         }
+        from = app.0 + 1;
     }
     None
 }

@@ -7,7 +7,7 @@ use Rattle.rh_base.proofs.Lists.{cases}
 use Rattle.rh_rules.specs.declared.pick.Pick.TheVariants.{First}
 use Rattle.rh_place.specs.Sets.{has}
 use Rattle.rh_rules.specs.Moves.{local_moves}
-use Rattle.rh_settle.proofs.Boards.{local_beyond}
+use Rattle.rh_settle.proofs.Boards.{local_beyond, no_locals}
 use Rattle.rh_settle.proofs.Entries.{is_below, is_above}
 use Rattle.rh_settle.proofs.board.local_nodes.Goals as goal
 
@@ -39,3 +39,9 @@ returns c = λ n.
     let counted = c.node_count-count.ensures.count ∙ ap (λ (v : ClusterView). node_count v) c.cluster.ensures in
     c.nodes.invariant.above n above
     ∙ sym (ap (λ ms. is_some (head ms)) (local_beyond s n c.formed.ensures.shape (omega (arith, c.nodes-test.false, counted, above)))))
+
+pub returns-then-is_empty : goal.returns-then-is_empty
+returns-then-is_empty c = λ n.
+    let s = read c.args.state.now in
+    c.empty-nodes.ensures n
+    ∙ sym (ap (λ ms. is_some (head ms)) (no_locals s n c.formed.ensures.shape (λ a. sym (c.requires a) ∙ c.is_empty.ensures.0 c.if-is_empty.true a)))

@@ -1,6 +1,5 @@
-use Rattle.rh_model.specs.declared.limits.TheConstants.{MAX_APPS}
 use Rattle.rh_settle.proofs.SetTables.{marked_none}
 use Rattle.rh_settle.proofs.app_marks.AppMarks.empty.Goals as goal
 
 pub returns : goal.returns
-returns c = λ a. marked_none MAX_APPS a
+returns c = λ a. marked_none a
