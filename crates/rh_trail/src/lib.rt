@@ -1,8 +1,8 @@
 //! A simulation of a cluster: a trail of events with a cursor in it, undo and redo.
 //!
 //! [`Sim`] keeps the trail of the events that were accepted, with what each changed, and one state. [`report`] is a state as
-//! text; [`node_word`], [`app_word`], [`restart_word`], [`push_kind`] and [`push_standing_line`] are parts of it that other
-//! texts have too.
+//! text; [`node_word`], [`app_word`], [`restart_word`], [`push_decimal`], [`push_kind`] and [`push_standing_line`] are parts of
+//! it that other texts have too.
 #![tactic(auto)]
 
 mod call;
@@ -16,4 +16,6 @@ pub use call::{Bytes, Call, Reply};
 pub use laws::calls_are_reversible;
 pub use replies::Replies;
 pub use sim::{AtEnd, AtStart, Sim};
-pub use text::{NO_NAME, app_word, node_word, push_kind, push_standing_line, report, restart_word};
+pub use text::{
+    NO_NAME, app_word, node_word, push_decimal, push_kind, push_standing_line, report, restart_word,
+};

@@ -7,7 +7,7 @@ ghost use Rattle.rh_state.specs.Numbers.{nodes_of};
 ghost use Rattle.rh_state.specs.Shape.{IsTimerOf};
 ghost use Rattle.rh_state.specs.Stored.{read};
 ghost use Rattle.rh_state.specs.declared.status.Timer.{Timer};
-ghost use Rattle.rh_trail.specs.Report.{node_lines, timer_line, report_text};
+ghost use Rattle.rh_trail.specs.Report.{time_line, node_lines, timer_line, report_text};
 
 mod apps;
 mod nodes;
@@ -16,7 +16,7 @@ mod words;
 use crate::text::apps::push_apps;
 pub use crate::text::apps::push_standing_line;
 use crate::text::nodes::push_node_lines;
-pub use crate::text::words::{NO_NAME, app_word, node_word, push_kind, restart_word};
+pub use crate::text::words::{NO_NAME, app_word, node_word, push_decimal, push_kind, restart_word};
 use rh_base::OutOfMemory;
 use rh_model::{Cluster, Node};
 use rh_state::{State, Timer};
@@ -28,14 +28,24 @@ use std::alloc::Global;
 pub fn report(alloc: Global, state: &State) -> Result<Vec<u8>, OutOfMemory>
     ensures { IfOk result (λ bytes. bytes.items ≡ report_text (read state.now)) }
 {
-    let mut text = String::new(alloc);
-    let now = state.now();
-    writeln!(text, "now {now}")?;
+    // As much as the report of a small cluster takes: others grow.
+    let mut text = String::with_capacity(alloc, 4_096)?;
+    push_time(&mut text, state)?;
     push_nodes(&mut text, state)?;
     push_apps(&mut text, state)?;
     let timers = state.timers(alloc)?;
     push_timers(&mut text, state.cluster(), timers.as_slice())?;
     Ok(text.into_bytes())
+}
+
+// Adds the line of the time.
+fn push_time(text: &mut String, state: &State) -> Result<(), OutOfMemory>
+    ensures { OnOk result (string_bytes text.new ≡ string_bytes text.old ++ time_line (read state.now)) }
+{
+    text.push_str("now ")?;
+    push_decimal(text, state.now())?;
+    text.push_str("\n")?;
+    Ok(())
 }
 
 // Adds the lines of each node.
@@ -75,16 +85,18 @@ fn push_timer_line(
     requires { IsTimerOf cluster.now entry.now.1 }
     ensures { OnOk result (string_bytes text.new ≡ string_bytes text.old ++ timer_line cluster.now entry.now) }
 {
-    let due = entry.0;
     match entry.1 {
         Timer::Sync(node) => {
-            let name = cluster.node_name(node);
-            writeln!(text, "timer sync {name} {due}")?;
+            text.push_str("timer sync ")?;
+            text.push_str(cluster.node_name(node))?;
         }
         Timer::Failover(app) => {
-            let name = cluster.app_name(app);
-            writeln!(text, "timer failover {name} {due}")?;
+            text.push_str("timer failover ")?;
+            text.push_str(cluster.app_name(app))?;
         }
     }
+    text.push_str(" ")?;
+    push_decimal(text, entry.0)?;
+    text.push_str("\n")?;
     Ok(())
 }

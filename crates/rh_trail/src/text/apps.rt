@@ -48,9 +48,10 @@ pub fn push_standing_line(
 ) -> Result<(), OutOfMemory>
     ensures { OnOk result (string_bytes text.new ≡ string_bytes text.old ++ standing_line cluster.now app standing) }
 {
-    let name = app_word(cluster, app);
-    write!(text, "app {name} ")?;
+    text.push_str("app ")?;
+    text.push_str(app_word(cluster, app))?;
+    text.push_str(" ")?;
     push_standing(text, cluster, standing)?;
-    writeln!(text)?;
+    text.push_str("\n")?;
     Ok(())
 }

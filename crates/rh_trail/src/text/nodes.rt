@@ -9,7 +9,7 @@ ghost use Rattle.rh_state.specs.StateView.{running_at, waiting_at};
 ghost use Rattle.rh_state.specs.Stored.{read};
 ghost use Rattle.rh_trail.specs.Report.{node_line, running_line, waiting_line, forbidden_line, line_if_forbidden, node_lines};
 
-use crate::text::words::{mode_word, push_kind, restart_word};
+use crate::text::words::{app_word, mode_word, push_decimal, push_kind, restart_word};
 use rh_base::OutOfMemory;
 use rh_model::{App, Cluster, Node};
 use rh_state::State;
@@ -36,10 +36,13 @@ fn push_node_line(text: &mut String, state: &State, node: Node) -> Result<(), Ou
     requires { node.0 < node_count (read state.now).cluster }
     ensures { OnOk result (string_bytes text.new ≡ string_bytes text.old ++ node_line (read state.now) node) }
 {
-    let name = state.cluster().node_name(node);
-    let mode = mode_word(state.mode(node));
-    let incarnation = state.incarnation(node);
-    writeln!(text, "node {name} {mode} {incarnation}")?;
+    text.push_str("node ")?;
+    text.push_str(state.cluster().node_name(node))?;
+    text.push_str(" ")?;
+    text.push_str(mode_word(state.mode(node)))?;
+    text.push_str(" ")?;
+    push_decimal(text, state.incarnation(node) as u64)?;
+    text.push_str("\n")?;
     Ok(())
 }
 
@@ -69,11 +72,13 @@ fn push_running_line(
     requires app { app.0 < app_count (read state.now).cluster }
     ensures { OnOk result (string_bytes text.new ≡ string_bytes text.old ++ running_line (read state.now) node app) }
 {
-    let name = state.cluster().app_name(app);
-    let restart = restart_word(state.restart_of(node, app));
-    write!(text, "  running {name} {restart} ")?;
+    text.push_str("  running ")?;
+    text.push_str(state.cluster().app_name(app))?;
+    text.push_str(" ")?;
+    text.push_str(restart_word(state.restart_of(node, app)))?;
+    text.push_str(" ")?;
     push_kind(text, state.cluster(), state.kind_of(node, app))?;
-    writeln!(text)?;
+    text.push_str("\n")?;
     Ok(())
 }
 
@@ -103,9 +108,11 @@ fn push_waiting_line(
     requires app { app.0 < app_count (read state.now).cluster }
     ensures { OnOk result (string_bytes text.new ≡ string_bytes text.old ++ waiting_line (read state.now) node app) }
 {
-    let name = state.cluster().app_name(app);
-    let restart = restart_word(state.restart_of(node, app));
-    writeln!(text, "  waiting {name} {restart}")?;
+    text.push_str("  waiting ")?;
+    text.push_str(state.cluster().app_name(app))?;
+    text.push_str(" ")?;
+    text.push_str(restart_word(state.restart_of(node, app)))?;
+    text.push_str("\n")?;
     Ok(())
 }
 
@@ -143,10 +150,10 @@ fn push_line_if_forbidden(
 // Adds the line of an application that may not run.
 #[tactic(auto, unfolding(crate::specs::Report::forbidden_line))]
 fn push_forbidden_line(text: &mut String, cluster: &Cluster, app: App) -> Result<(), OutOfMemory>
-    requires { app.0 < app_count cluster.now }
     ensures { OnOk result (string_bytes text.new ≡ string_bytes text.old ++ forbidden_line cluster.now app) }
 {
-    let name = cluster.app_name(app);
-    writeln!(text, "  forbidden {name}")?;
+    text.push_str("  forbidden ")?;
+    text.push_str(app_word(cluster, app))?;
+    text.push_str("\n")?;
     Ok(())
 }

@@ -1,9 +1,11 @@
 //! The parts of a state in words.
 
 ghost use Rattle.std.specs.Prelude.{◌≡◌, ◌++◌, OnOk};
+ghost use Rattle.std.specs.Fmt.{decimal};
 ghost use Rattle.std.specs.String.{string_bytes};
 ghost use Rattle.rh_trail.specs.Report.{node_word, app_word, mode_words, restart_words, kind_words, standing_words};
 
+use itoa::Buffer;
 use rh_base::OutOfMemory;
 use rh_model::{App, Cluster, Node, Restart};
 use rh_state::{Kind, Mode, Standing};
@@ -55,19 +57,28 @@ pub fn restart_word(restart: Restart) -> &'static str
     }
 }
 
+/// Adds a number in decimal digits.
+pub fn push_decimal(text: &mut String, number: u64) -> Result<(), OutOfMemory>
+    ensures { OnOk result (string_bytes text.new ≡ string_bytes text.old ++ decimal number) }
+{
+    let mut buffer = Buffer::new();
+    text.push_str(buffer.format(number))?;
+    Ok(())
+}
+
 /// Adds how an application was started, with the node that it came from.
 pub fn push_kind(text: &mut String, cluster: &Cluster, kind: Kind) -> Result<(), OutOfMemory>
     ensures { OnOk result (string_bytes text.new ≡ string_bytes text.old ++ kind_words cluster.now kind) }
 {
     match kind {
-        Kind::Normal => write!(text, "normal")?,
+        Kind::Normal => text.push_str("normal")?,
         Kind::Failover(node) => {
-            let name = node_word(cluster, node);
-            write!(text, "failover {name}")?;
+            text.push_str("failover ")?;
+            text.push_str(node_word(cluster, node))?;
         }
         Kind::Takeover(node) => {
-            let name = node_word(cluster, node);
-            write!(text, "takeover {name}")?;
+            text.push_str("takeover ")?;
+            text.push_str(node_word(cluster, node))?;
         }
     }
     Ok(())
@@ -82,19 +93,19 @@ pub(crate) fn push_standing(
     ensures { OnOk result (string_bytes text.new ≡ string_bytes text.old ++ standing_words cluster.now standing) }
 {
     match standing {
-        Standing::Quiet => write!(text, "quiet")?,
-        Standing::Wanted(None) => write!(text, "wanted")?,
+        Standing::Quiet => text.push_str("quiet")?,
+        Standing::Wanted(None) => text.push_str("wanted")?,
         Standing::Wanted(Some(node)) => {
-            let name = node_word(cluster, node);
-            write!(text, "wanted {name}")?;
+            text.push_str("wanted ")?;
+            text.push_str(node_word(cluster, node))?;
         }
         Standing::Running(node) => {
-            let name = node_word(cluster, node);
-            write!(text, "running {name}")?;
+            text.push_str("running ")?;
+            text.push_str(node_word(cluster, node))?;
         }
         Standing::Lost(node) => {
-            let name = node_word(cluster, node);
-            write!(text, "lost {name}")?;
+            text.push_str("lost ")?;
+            text.push_str(node_word(cluster, node))?;
         }
     }
     Ok(())

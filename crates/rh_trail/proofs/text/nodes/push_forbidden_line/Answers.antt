@@ -1,11 +1,17 @@
-use Rattle.std.proofs.Common.{◌++◌, ℕ, List, Option, codes, unwrap_or, sym, ap, ◌∙◌}
+use Rattle.std.proofs.Common.{◌++◌, ℕ, List, codes, ap, ◌∙◌, append_assoc}
 use Rattle.std.specs.String.{string_bytes}
-use Rattle.rh_trail.specs.Report.{no_name, forbidden_line}
+use Rattle.rh_trail.specs.Report.{forbidden_line}
 use Rattle.rh_trail.proofs.text.nodes.push_forbidden_line.Goals as goal
 
 pub returns : goal.returns
 unfolding forbidden_line
 returns c =
-    c.in_ok-writeln.ensures.bytes
-    ∙ ap (λ (name : Option (List ℕ)). string_bytes c.args.text.now ++ (codes "  forbidden " ++ unwrap_or name no_name ++ codes "\n"))
-    (sym c.app_name-name.ensures)
+    let text = string_bytes c.args.text.now in
+    let front = codes "  forbidden " in
+    let name = c.app_word.result.now in
+    let end = codes "\n" in
+    c.in_ok-push_str-3.ensures.bytes
+    ∙ ap (λ (t : List ℕ). t ++ end) (c.in_ok-push_str-2.ensures.bytes ∙ ap (λ (t : List ℕ). t ++ name) c.in_ok-push_str.ensures.bytes)
+    ∙ append_assoc (text ++ front) name end
+    ∙ append_assoc text front (name ++ end)
+    ∙ ap (λ (word : List ℕ). text ++ (front ++ (word ++ end))) c.app_word.ensures
