@@ -9,7 +9,7 @@ ghost use Rattle.rh_script.specs.Answers.{dep_words, pair_words, reason_words, r
 use rh_base::OutOfMemory;
 use rh_cluster::{App, Cluster, ClusterFault, Dep, Node};
 use rh_rules::{Notice, Refusal};
-use rh_trail::{NO_NAME, Reply, app_word, node_word, push_kind};
+use rh_trail::{NO_NAME, Reply, app_word, node_word, push_decimal, push_kind};
 use std::alloc::Global;
 
 // Is the dependency one of the cluster's?
@@ -37,9 +37,9 @@ fn dep_words<'a>(cluster: &'a Cluster, dep: Dep) -> &'a str
 fn push_pair(text: &mut String, cluster: &Cluster, app: App, node: Node) -> Result<(), OutOfMemory>
     ensures { OnOk result (string_bytes text.new ≡ string_bytes text.old ++ pair_words cluster.now app node) }
 {
-    let app = app_word(cluster, app);
-    let node = node_word(cluster, node);
-    write!(text, "{app} {node}")?;
+    text.push_str(app_word(cluster, app))?;
+    text.push_str(" ")?;
+    text.push_str(node_word(cluster, node))?;
     Ok(())
 }
 
@@ -50,12 +50,14 @@ fn push_notice(text: &mut String, cluster: &Cluster, notice: &Notice) -> Result<
 {
     match *notice {
         Notice::Up { node } => {
-            let name = node_word(cluster, node);
-            writeln!(text, "up {name}")?;
+            text.push_str("up ")?;
+            text.push_str(node_word(cluster, node))?;
+            text.push_str("\n")?;
         }
         Notice::Ended { node } => {
-            let name = node_word(cluster, node);
-            writeln!(text, "ended {name}")?;
+            text.push_str("ended ")?;
+            text.push_str(node_word(cluster, node))?;
+            text.push_str("\n")?;
         }
         Notice::Started {
             app,
@@ -102,8 +104,8 @@ pub fn push_reason(
     ensures { OnOk result (string_bytes text.new ≡ string_bytes text.old ++ reason_words cluster.now refusal) }
 {
     if let Refusal::DependencyNotStarted { dep } = refusal {
-        let name = dep_words(cluster, dep);
-        write!(text, " {name}")?;
+        text.push_str(" ")?;
+        text.push_str(dep_words(cluster, dep))?;
     }
     Ok(())
 }
@@ -136,8 +138,9 @@ pub fn answer_text(alloc: Global, cluster: &Cluster, reply: &Reply) -> Result<Ve
         Reply::AtStart => text.push_str("refused at_start\n")?,
         Reply::AtEnd => text.push_str("refused at_end\n")?,
         Reply::Moved(count) => {
-            let count = *count;
-            writeln!(text, "ok {count}")?;
+            text.push_str("ok ")?;
+            push_decimal(&mut text, *count as u64)?;
+            text.push_str("\n")?;
         }
         Reply::Seen { text: report, .. } => {
             let mut bytes = Vec::from_slice(alloc, b"ok\n".as_slice())?;

@@ -9,7 +9,7 @@ ghost use Rattle.rh_script.specs.CommandWords.{truth_word, reason_word, spaced, 
 use crate::forms::{Argument, Given, said};
 use rh_base::OutOfMemory;
 use rh_cluster::Cluster;
-use rh_trail::{Call, app_word, node_word, restart_word};
+use rh_trail::{Call, app_word, node_word, push_decimal, restart_word};
 use std::alloc::Global;
 
 // The word of a permission.
@@ -31,7 +31,8 @@ fn push_word(text: &mut String, word: Option<&str>) -> Result<(), OutOfMemory>
     ensures { OnOk result (string_bytes text.new ≡ string_bytes text.old ++ spaced (λ word. word.now) word.entry) }
 {
     if let Some(word) = word {
-        write!(text, " {word}")?;
+        text.push_str(" ")?;
+        text.push_str(word)?;
     }
     Ok(())
 }
@@ -41,7 +42,8 @@ fn push_number(text: &mut String, number: Option<u64>) -> Result<(), OutOfMemory
     ensures { OnOk result (string_bytes text.new ≡ string_bytes text.old ++ spaced decimal number) }
 {
     if let Some(number) = number {
-        write!(text, " {number}")?;
+        text.push_str(" ")?;
+        push_decimal(text, number)?;
     }
     Ok(())
 }

@@ -7,6 +7,7 @@ ghost use Rattle.rh_trail.specs.Report.{standing_line};
 ghost use Rattle.rh_script.specs.SweepAnswers.{counted, plan_line, refused_line, outcome_text, sweep_fault_text};
 
 use crate::answers::push_reason;
+use itoa::Buffer;
 use rh_base::{OutOfMemory, Str};
 use rh_cluster::{App, Cluster};
 use rh_plans::{Outcome, SweepFault};
@@ -19,7 +20,11 @@ use std::alloc::Global;
 fn push_count(text: &mut String, word: &str, count: u128) -> Result<(), OutOfMemory>
     ensures { OnOk result (string_bytes text.new ≡ string_bytes text.old ++ counted word.now count) }
 {
-    write!(text, " {word} {count}")?;
+    text.push_str(" ")?;
+    text.push_str(word)?;
+    text.push_str(" ")?;
+    let mut buffer = Buffer::new();
+    text.push_str(buffer.format(count))?;
     Ok(())
 }
 
@@ -28,8 +33,8 @@ fn push_count(text: &mut String, word: &str, count: u128) -> Result<(), OutOfMem
 fn push_plan_line(text: &mut String, name: &Str, outcome: &Outcome) -> Result<(), OutOfMemory>
     ensures { OnOk result (string_bytes text.new ≡ string_bytes text.old ++ plan_line name.now outcome.now) }
 {
-    let name = name.as_str();
-    write!(text, "plan {name}")?;
+    text.push_str("plan ")?;
+    text.push_str(name.as_str())?;
     push_count(text, "accepted", outcome.accepted as u128)?;
     push_count(text, "failovers", outcome.failovers)?;
     push_count(text, "takeovers", outcome.takeovers)?;
