@@ -7,12 +7,16 @@ from releases import application, compiled, erl, release, write
 from support import LONGEST_RUN, TOP, difference, run
 
 COMPANION = os.path.join(TOP, "companions", "gather")
+# What lint finds in what was written.
+FOUND = re.compile(r"gather: ((?:error|warning): (?:line [0-9]+: )?[a-z_]+: .*)\n")
 
 
 def gather(folder, *words, **environment):
-    """A finished run of the companion."""
-    return subprocess.run([COMPANION, *words], cwd=folder, capture_output=True, text=True, timeout=LONGEST_RUN,
+    """A finished run of the companion. What lint finds is kept apart from the rest of its standard error."""
+    done = subprocess.run([COMPANION, *words], cwd=folder, capture_output=True, text=True, timeout=LONGEST_RUN,
                           env={**os.environ, **environment})
+    done.found, done.stderr = FOUND.findall(done.stderr), FOUND.sub("", done.stderr)
+    return done
 
 
 def bare(text):

@@ -2,6 +2,7 @@
 import difflib
 import json
 import os
+import re
 import subprocess
 import tempfile
 
@@ -59,6 +60,18 @@ def run(program, words, **options):
         options.setdefault("stdin", subprocess.DEVNULL)
     options.setdefault("stdout", subprocess.PIPE)
     return subprocess.run([program] + words, stderr=subprocess.PIPE, timeout=LONGEST_RUN, **options)
+
+
+# That lint has something for an input, as plans and survey tell it.
+NOTICE = re.compile(rb"^(?:plans: )?lint has [^\n]* tells them(?: of the same input)?\n")
+
+
+def without_notice(done):
+    """A finished run, with the line that lint has something, or b"", kept apart from its outputs."""
+    told = [NOTICE.match(text) for text in (done.stdout, done.stderr)]
+    done.notice = b"".join(found[0] for found in told if found)
+    done.stdout, done.stderr = NOTICE.sub(b"", done.stdout), NOTICE.sub(b"", done.stderr)
+    return done
 
 
 def difference(want, have):

@@ -5,6 +5,7 @@ import re
 import sys
 from typing import Any, NoReturn, Optional
 
+from rehearse_tools.endings import Refused
 from rehearse_tools.program import Program
 
 TOP = os.path.dirname(os.path.dirname(os.path.dirname(os.path.realpath(__file__))))
@@ -24,8 +25,15 @@ def as_installed(text: str) -> str:
     return text
 
 
+def as_called(text: str) -> str:
+    """A text with the commands as they are called here."""
+    return as_installed(text) if IS_INSTALLED else text
+
+
 class CommandLine(argparse.ArgumentParser):
     """A command line: one that is wrong ends the tool, of itself with status 1."""
+    # The option that names the program.
+    program_option = "--rehearse"
 
     def __init__(self, name: str, told: Optional[str], wrong: int = 1, **options: Any):
         is_whole = os.path.basename(sys.argv[0]) == COMMAND
@@ -35,8 +43,7 @@ class CommandLine(argparse.ArgumentParser):
         self.wrong = wrong
 
     def format_help(self) -> str:
-        text = super().format_help()
-        return as_installed(text) if IS_INSTALLED else text
+        return as_called(super().format_help())
 
     def error(self, message: str) -> NoReturn:
         self.print_usage(sys.stderr)
@@ -49,16 +56,27 @@ class CommandLine(argparse.ArgumentParser):
 
     def add_program(self) -> None:
         """The options with which each tool that asks the program is told about it."""
-        self.add_argument("--rehearse", metavar="PATH", help="the program (else the environment's REHEARSE, else rehearse "
-                          "beside the folder companions)")
+        self.add_path()
         self.add_pick()
 
-    def path(self, given: argparse.Namespace) -> str:
-        """The path of the program that the options tell."""
-        path = given.rehearse or os.environ.get("REHEARSE") or os.path.join(TOP, "rehearse")
+    def add_path(self) -> None:
+        """The option with its path."""
+        self.add_argument(self.program_option, dest="path_of_program", metavar="PATH",
+                          help="the program (else the environment's REHEARSE, else rehearse beside the folder companions)")
+
+    def found_path(self, given: argparse.Namespace) -> str:
+        """The path of the program that the options tell, if it is there."""
+        path = given.path_of_program or os.environ.get("REHEARSE") or os.path.join(TOP, "rehearse")
         if not os.access(path, os.X_OK) or os.path.isdir(path):
-            self.error(f"there is no program {path}: tell it by --rehearse PATH")
+            raise Refused(f"there is no program {path}: tell it by {self.program_option} PATH")
         return os.path.abspath(path)
+
+    def path(self, given: argparse.Namespace) -> str:
+        """The same, where a tool can't do without it: else the command line is wrong."""
+        try:
+            return self.found_path(given)
+        except Refused as fault:
+            self.error(str(fault))
 
     def program(self, given: argparse.Namespace) -> Program:
         """The program that the options tell, which has shown that it is the program."""

@@ -9,19 +9,25 @@ Options in front of the first --node hold for all nodes, those behind a --node f
 --platform, --rehearse) holds for all nodes, wherever it stands.
 
 Only what a rehearsal reads is written; comments say what was left out or replaced. A name that may be misspelt, a kernel parameter
-distribted say, is warned of on standard error. Then: rehearse check < cluster.txt
+distribted say, is warned of on standard error. So is what `rehearse lint` warns of in what was written, with its lines. Then:
+rehearse check < cluster.txt
 
 Exit status: 0 done; 1 a wrong command line; 2 something that was read is refused, or standard output can't be written: standard error
-names it.
+names it; 9 with --strict, where lint warns of something.
 """
 import argparse
 import difflib
 import re
+import sys
 from collections.abc import Sequence
 from typing import Any, NoReturn, Optional, Union
 
 from rehearse_tools.command_line import CommandLine
-from rehearse_tools.erlang import become
+from rehearse_tools.endings import REFUSED, Refused, tell, write_bytes
+from rehearse_tools.erlang import output_of
+from rehearse_tools.findings import FOUND, Findings
+from rehearse_tools.inputs import to_text
+from rehearse_tools.program import Program
 
 LACKS_VALUE = re.compile("argument ([^:]*): expected one argument")
 # Each option with what stands for its value (None: it has none) and what it is for, under these heads.
@@ -52,6 +58,8 @@ OPTIONS: dict[str, dict[str, tuple[Optional[str], str]]] = {
 
 class Line(CommandLine):
     """A command line, whose faults are told as those that Erlang finds."""
+    # Its --rehearse names an application.
+    program_option = "--program"
 
     def error(self, message: str) -> NoReturn:
         told = LACKS_VALUE.sub(r"\1 needs a value", message)
@@ -75,21 +83,44 @@ def command_line() -> Line:
         for option, (value, does) in options.items():
             kept: dict[str, Any] = {"nargs": 0} if value is None else {"metavar": value}
             group.add_argument(option, action=InOrder, help=does, **kept)
+    line.add_argument("--strict", action="store_true", help="ends with status 9 where lint warns of something in what was written")
+    line.add_path()
     return line
 
 
 def meant(word: str) -> str:
     """A question for the option that is nearly called so."""
-    every = [option for options in OPTIONS.values() for option in options]
+    every = [*(option for options in OPTIONS.values() for option in options), "--strict", Line.program_option]
     near = difflib.get_close_matches(word, every, 1)
     return f": is {near[0]} meant?" if near else ""
 
 
+def status_of(found: Findings, is_strict: bool) -> int:
+    """Tells what lint warns of, and gives the status."""
+    for finding in found.counting:
+        tell("gather", str(finding))
+    return FOUND if is_strict and found.counting else 0
+
+
+def linted(line: Line, given: argparse.Namespace, written: str) -> int:
+    """Asks lint about what was written, and gives the status. Where it can't be asked nothing else is lost."""
+    try:
+        found = Program(line.found_path(given), "first").linted(written, "what was written")
+    except Refused as fault:
+        tell("gather", f"lint tells nothing: {fault}")
+        return REFUSED if given.strict else 0
+    return status_of(found, given.strict)
+
+
 def main(words: Sequence[str]) -> None:
-    """Becomes the script in Erlang, on words that are options and values."""
+    """Runs the script in Erlang on words that are options and values, and lint on what it wrote."""
     line = command_line()
     given, others = line.parse_known_args(words)
     for word in others:
         option = word.partition("=")[0]
         line.error(f"there is no option {option}{meant(option)}")
-    become("gather", given.words)
+    status, written = output_of("gather", given.words)
+    if status == 0:
+        write_bytes(written)
+        status = linted(line, given, to_text(written))
+    sys.exit(status)

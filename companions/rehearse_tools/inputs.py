@@ -159,6 +159,14 @@ def end_of_cluster(lines: Sequence[str]) -> int:
                  if line == APART or line == f"{APART}\r" and place + 1 < len(lines)), -1)
 
 
+def before_plans(text: str) -> str:
+    """What stands before the first plan of an input, as it stands there; all of it where there is none."""
+    lines = text.split("\n")
+    end = end_of_cluster(lines)
+    place = next((place for place in range(end + 1, len(lines)) if plan_name(lines[place].removesuffix("\r"))), -1) if end >= 0 else -1
+    return text if place < 0 else text_of(lines[:place])
+
+
 def split_input(text: str) -> Input:
     """The parts of an input."""
     lines = text.split("\n")

@@ -25,7 +25,8 @@ from typing import Any, Optional
 
 from rehearse_tools.command_line import CommandLine, workers
 from rehearse_tools.endings import Refused
-from rehearse_tools.inputs import called, is_command, read_text, split_input, words_of, write_page
+from rehearse_tools.findings import KINDS
+from rehearse_tools.inputs import before_plans, called, is_command, read_text, split_input, words_of, write_page
 from rehearse_tools.page_data import Step, data_of
 from rehearse_tools.page_names import names_of
 from rehearse_tools.page_plans import Event, plans_told, timelines
@@ -83,8 +84,9 @@ def page_of(given: Namespace, program: Program) -> bytes:
                     **values_of(program, text, source, given.workers if given.sweep else None))
 
 
-def values_of(program: Program, text: str, source: str, workers_of_sweep: Optional[str]) -> dict[str, Any]:
-    """What the template of a page shows of an input, with the plans where there are workers to sweep them."""
+def values_of(program: Program, text: str, source: str, workers_of_sweep: Optional[str], linted: Optional[str] = None) -> dict[str, Any]:
+    """What the template of a page shows of an input, with the plans where there are workers to sweep them. Where another text is to be
+    linted than what stands before the plans, it is given."""
     parts = split_input(text)
     is_sweep = workers_of_sweep is not None
     if is_sweep and not parts.plans:
@@ -103,10 +105,13 @@ def values_of(program: Program, text: str, source: str, workers_of_sweep: Option
     names = names_of(list(last.nodes))
     plans = plans_told(outcomes, parts.plans) if is_sweep else []
     courses = timelines(program, parts.cluster, parts.base, last, plans, source)
+    front = before_plans(text) if linted is None else linted
+    findings = program.linted(front, source)
     facts = (f"{plural(len(names.all), 'node')}, profile {program.names(parts.cluster, source).profile}, {plural(len(steps) - 1, 'step')}, "
              f"{time_of(last.now)}")
     return {"facts": facts, "lacks": names.lacks, "steps": story(steps), "plans": table_of(plans, last.apps, names),
-            "is_sweep": is_sweep, "data": data_of(steps, courses, names)}
+            "is_sweep": is_sweep, "data": data_of(steps, courses, names),
+            "found": findings.rows(front), "found_headline": findings.headline(KINDS)}
 
 
 def main(words: Sequence[str]) -> None:

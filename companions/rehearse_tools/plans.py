@@ -17,19 +17,22 @@ longest failover is over, and the longest wait of a booting node, as the program
   companions/plans cluster.txt --rolling --drain             and before that its applications are sent away by permit
 
 A plan's name tells what is in it: a+b crash at once, a+2000ms+b with time between them, `back:` leads the nodes that boot
-again, `rolling:` those that are restarted, `drained:` those that are restarted when their applications are away. Exit
-status: 0 done, 1 a wrong command line, 2 FILE is refused.
+again, `rolling:` those that are restarted, `drained:` those that are restarted when their applications are away. A line on standard
+error says first how many errors and warnings `rehearse lint` has for FILE, if any. Exit status: 0 done, 1 a wrong command line, 2 FILE
+is refused.
 """
 import fnmatch
 import math
 from argparse import Namespace
 from collections.abc import Sequence
 
-from rehearse_tools.command_line import CommandLine, count, milliseconds, several_milliseconds
+from rehearse_tools.command_line import CommandLine, as_called, count, milliseconds, several_milliseconds
 from rehearse_tools.endings import tell
-from rehearse_tools.inputs import called, read_text, split_input, text_of, to_bytes, write_out
+from rehearse_tools.findings import notice_of
+from rehearse_tools.inputs import before_plans, called, read_text, split_input, text_of, to_bytes, write_out
 from rehearse_tools.plan_making import (BACK, INPUT_LIMIT, Crashes, boots_of, crash_count, crash_plans, drained_in, longest_wait,
                                         report_behind, rolling_plans, text_of_plans)
+from rehearse_tools.program import Program
 
 
 def command_line() -> CommandLine:
@@ -93,6 +96,14 @@ def parsed(line: CommandLine, words: Sequence[str]) -> Namespace:
     return given
 
 
+def tell_findings(program: Program, text: str, path: str) -> None:
+    """Tells on standard error that lint has errors or warnings for what stands before the plans of an input."""
+    front = before_plans(text)
+    notice = notice_of(program.linted(front, called(path)), path, front != text)
+    if notice:
+        tell("plans", as_called(notice))
+
+
 def main(words: Sequence[str]) -> None:
     """Writes plans."""
     line = command_line()
@@ -101,6 +112,7 @@ def main(words: Sequence[str]) -> None:
     parts = split_input(text)
     nodes = program.names(parts.cluster, source).nodes
     program.check_script(text, source)
+    tell_findings(program, text, given.file)
     boots = [] if parts.base or parts.plans else boots_of(nodes)
     base = parts.base + boots
     report = report_behind(program, parts.cluster, base, source)

@@ -5,6 +5,7 @@ from collections.abc import Sequence
 from dataclasses import dataclass
 
 from rehearse_tools.endings import Refused, why_of
+from rehearse_tools.findings import FOUND, NOTHING, Findings, findings_in
 from rehearse_tools.inputs import APART, Plan, commands_of, joined, lines_of, to_bytes, to_text, words_of
 from rehearse_tools.outcomes import Outcome, outcomes_in
 from rehearse_tools.reading import Answer, JsonRun, Names, PlainRun, Run
@@ -13,6 +14,8 @@ from rehearse_tools.reading import Answer, JsonRun, Names, PlainRun, Run
 NOBODY = "{node, nobody, []}.\n"
 GREETED = ['{"profile":1,"nodes":["nobody"],"applications":[]}']
 MOST_OF_A_FAULT = 300
+# How the program ends where it hasn't a subcommand.
+NO_SUBCOMMAND = 1
 # What the program wrote to standard error, and was handed on: nothing is told twice.
 handed_on: set[str] = set()
 
@@ -53,10 +56,15 @@ class Program:
         hand_on(error)
         return JsonRun(run.status, run.lines)
 
-    def has(self, word: str) -> bool:
-        """Whether the program has a subcommand, by its help."""
-        run, error = self.asked(["--help"], "")
-        return any(words_of(line)[:1] == [word] for line in [*run.lines, *lines_of(error)])
+    def linted(self, text: str, source: str) -> Findings:
+        """What lint finds in a cluster file, with or without a script behind it; nothing where the program is older and hasn't lint."""
+        run, error = self.asked(["lint", "--pick", self.pick], text)
+        if run.status == NO_SUBCOMMAND:
+            return Findings()
+        hand_on(error)
+        if run.status not in (NOTHING, FOUND):
+            raise Refused(f"{source}: lint: {self.ended(run)}")
+        return findings_in(run.lines)
 
     def run(self, cluster: str, script: Sequence[str]) -> JsonRun:
         """A run of the program on a cluster file and the lines of a script."""

@@ -7,7 +7,7 @@
 RELEASE is an unpacked release, or NAME.tar.gz, as for gather; or a cluster file in place of all releases. Behind a colon stand the nodes
 that run it. One release alone runs at all nodes that its configuration names, if none are told.
 
-It does what these do one after the other: gather, the program's check (and its lint, if it has that), plans for every
+It does what these do one after the other: gather, the program's check and lint, plans for every
 loss of one node and of two behind the boot of all, the sweep of them with the times of each, live, survey and page. The page has for
 each distributed application whether it is safe; which least losses leave it nowhere, with the shortest sequence of commands that
 does; how long it is away; what live nodes do otherwise, and why; each plan step by step; and the commands that tell all of it again.
@@ -19,7 +19,6 @@ Exit status: 0 done, 1 a wrong command line, 2 what was read is refused, or PAGE
 """
 from argparse import Namespace
 from collections.abc import Sequence
-from dataclasses import dataclass
 from typing import Any, Optional
 
 from rehearse_tools.command_line import CommandLine, count, thousand
@@ -36,16 +35,7 @@ from rehearse_tools.releases import Gathered, gathered
 from rehearse_tools.report_facts import UNSAFE, app_facts, headline, live_facts
 from rehearse_tools.templates import rendered
 
-# Subcommands of the program that a report shows as they stand, where the program has them.
-MORE = ("lint",)
 MOST_PLANS = 10_000
-
-
-@dataclass(frozen=True)
-class Told:
-    """What the program tells by one more subcommand, as its lines."""
-    word: str
-    lines: list[str]
 
 
 def command_line() -> CommandLine:
@@ -82,14 +72,9 @@ def tried(program: Program, parts: Input, source: str) -> Courses:
     return courses_of(program, parts, paired(outcomes, parts.plans, source, "the plans"), source)
 
 
-def more_told(program: Program, cluster: str) -> list[Told]:
-    """What further subcommands tell of a cluster file."""
-    return [Told(word, program.asked([word], cluster)[0].lines) for word in MORE if program.has(word)]
-
-
 def repeated(release: Gathered, crashes: int) -> list[str]:
     """The commands that tell all of it again."""
-    return [*([release.command] if release.command else []), f"./rehearse check < {release.file}",
+    return [*([release.command] if release.command else []), f"./rehearse check < {release.file}", f"./rehearse lint {release.file}",
             f"companions/rehearse-tools plans {release.file} --crashes {crashes} > plans.txt",
             "./rehearse sweep --json < plans.txt | companions/rehearse-tools survey --of plans.txt --least",
             "companions/rehearse-tools live --plans plans.txt", "companions/rehearse-tools page --sweep plans.txt > plans.html"]
@@ -116,9 +101,9 @@ def report_of(given: Namespace, program: Program) -> bytes:
         answers, verdicts = judged(Sweep(program, parts.cluster, parts.base, given.orders), parts.plans, given.jobs)
     text = joined(parts.cluster, [*parts.base, *(line for plan in parts.plans for line in plan.lines)])
     return rendered("report.html.j2", title=given.title or f"What {release.source} survives", maker="rehearse-tools report",
-                    warnings=release.warnings, more=more_told(program, parts.cluster), commands=repeated(release, given.crashes),
+                    warnings=release.warnings, commands=repeated(release, given.crashes),
                     cluster=parts.cluster, base=parts.base, **facts_of(parts, courses, answers, verdicts, given.crashes),
-                    **values_of(program, text, release.source, "1"))
+                    **values_of(program, text, release.source, "1", parts.cluster))
 
 
 def main(words: Sequence[str]) -> None:

@@ -11,6 +11,8 @@ through each plan once more, by `run --json`, which tells the moment of each sta
 Where an application is nowhere, the word behind the plan tells why: `wanted`, no node can run it; `lost`, its failover
 time isn't over, so let the plan end by a longer tick; `quiet`, it was stopped or ended by itself, or nobody started it.
 
+With --of the first line says how many errors and warnings `rehearse lint` has for INPUT, if any.
+
 The time without an application is the one from its end to its next start, within a plan. Where the plan ends first, the
 application is counted as nowhere, and the time up to there is told as `at least`.
 
@@ -27,10 +29,12 @@ from collections.abc import Iterator, Sequence
 from dataclasses import dataclass
 from typing import Optional
 
-from rehearse_tools.command_line import CommandLine
+from rehearse_tools.command_line import CommandLine, as_called
 from rehearse_tools.courses import Courses, Gap, courses_of, losses_of, paired
 from rehearse_tools.endings import tell
-from rehearse_tools.inputs import called, lines_of, read_bytes, read_chunks, read_text, split_input, text_of, to_text, write_out
+from rehearse_tools.findings import notice_of
+from rehearse_tools.inputs import (before_plans, called, lines_of, read_bytes, read_chunks, read_text, split_input, text_of, to_text,
+                                   write_out)
 from rehearse_tools.outcomes import outcomes_in
 from rehearse_tools.tallies import Tally, tally_of
 from rehearse_tools.words import plural, some
@@ -41,9 +45,11 @@ MOST_NAMES, MOST_LONGEST = 10, 3
 
 @dataclass(frozen=True)
 class Swept:
-    """What is known of a sweep: its plans, counted, and with --of the report behind the base and the courses of the plans."""
+    """What is known of a sweep: its plans, counted, and with --of the report behind the base, the courses of the plans, and that lint
+    has something, or ""."""
     tally: Tally
     courses: Optional[Courses] = None
+    notice: str = ""
 
     def gaps(self, app: str) -> list[Gap]:
         """The times without an application."""
@@ -125,12 +131,15 @@ def swept_of(line: CommandLine, given: Namespace) -> Swept:
     program.check_script(text, called(given.of))
     parts = split_input(text)
     tried = paired(outcomes_in(lines_of(to_text(output)), source), parts.plans, source, called(given.of))
-    return Swept(tally, courses_of(program, parts, tried, called(given.of)))
+    findings = program.linted(before_plans(text), called(given.of))
+    return Swept(tally, courses_of(program, parts, tried, called(given.of)), notice_of(findings, given.of, bool(parts.plans)))
 
 
 def summary(swept: Swept, is_least: bool, most: Optional[int]) -> Iterator[str]:
     """All that is told of a sweep."""
     tally = swept.tally
+    if swept.notice:
+        yield as_called(swept.notice)
     yield f"{plural(tally.plans, 'plan')}, {plural(len(tally.apps), 'distributed application')}"
     if tally.refused.number:
         yield f"{plural(tally.refused.number, 'plan')} ended at an event that was refused: {tally.refused}"

@@ -13,15 +13,17 @@ from support import LONGEST_RUN, TOP, in_folder, run
 
 NEEDS = ("python3",)
 COMPANIONS = os.path.join(TOP, "companions")
-CLUSTER = """{node, a@x, [{kernel, [{distributed, [{web, 5000, [a@x, b@x]}]}]}, {rehearse, [{boot, [{web, permanent}]}]}]}.
-{node, b@x, [{kernel, [{distributed, [{web, 5000, [a@x, b@x]}]}]}, {rehearse, [{boot, [{web, permanent}]}]}]}.
-{application, web, []}.
+# Lint has nothing against these.
+KERNEL = "{kernel, [{distributed, [{web, 5000, [a@x, b@x]}]}, {sync_nodes_optional, [a@x, b@x]}, {sync_nodes_timeout, 1000}]}"
+CLUSTER = f"""{{node, a@x, [{KERNEL}, {{rehearse, [{{boot, [{{web, permanent}}]}}]}}]}}.
+{{node, b@x, [{KERNEL}, {{rehearse, [{{boot, [{{web, permanent}}]}}]}}]}}.
+{{application, web, []}}.
 ===
 boot a@x
 boot b@x
 """
 PLANS = "plan p\ncrash a@x\ntick 5000\n"
-CONFIG = "[{kernel, [{distributed, [{web, 5000, [a@x, b@x]}]}]}]."
+CONFIG = f"[{KERNEL}]."
 FULL = "/dev/full"
 # It says that it runs, and waits.
 WAITS = "#!/bin/sh\nexec 2> /dev/null\n: > %s\nexec sleep 20\n"

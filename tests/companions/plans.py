@@ -4,7 +4,7 @@ import shutil
 import subprocess
 import tempfile
 
-from support import LONGEST_RUN, TOP, difference, fault_of, read, run
+from support import LONGEST_RUN, TOP, difference, fault_of, read, run, without_notice
 
 NEEDS = ("python3",)
 COMPANION = os.path.join(TOP, "companions", "plans")
@@ -52,8 +52,9 @@ tick 900
 
 
 def plans(program, words, text):
-    """A finished run of the companion, with an input."""
-    return subprocess.run([COMPANION, "--rehearse", program, *words], input=text.encode(), capture_output=True, timeout=LONGEST_RUN)
+    """A finished run of the companion, with an input. That lint has something is kept apart."""
+    done = subprocess.run([COMPANION, "--rehearse", program, *words], input=text.encode(), capture_output=True, timeout=LONGEST_RUN)
+    return without_notice(done)
 
 
 def names(done):

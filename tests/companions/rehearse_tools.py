@@ -17,10 +17,9 @@ COMPANIONS = os.path.join(TOP, "companions")
 COMMAND = os.path.join(COMPANIONS, "rehearse-tools")
 PACKAGE = os.path.join(COMPANIONS, "rehearse_tools")
 TOOLS = ("gather", "plans", "survey", "spread", "page", "shell", "replay", "live", "report", "compare", "case")
-PLANS = b"""{node, a@x, [{kernel, [{distributed, [{web, 5000, [a@x, b@x]}]}]}, {rehearse, [{boot, [{web, permanent}]}]}]}.
-{node, b@x, [{kernel, [{distributed, [{web, 5000, [a@x, b@x]}]}]}, {rehearse, [{boot, [{web, permanent}]}]}]}.
-{application, web, []}.
-"""
+KERNEL = b"{kernel, [{distributed, [{web, 5000, [a@x, b@x]}]}, {sync_nodes_optional, [a@x, b@x]}, {sync_nodes_timeout, 1000}]}"
+PLANS = b"".join(b"{node, %s, [%s, {rehearse, [{boot, [{web, permanent}]}]}]}.\n" % (node, KERNEL) for node in (b"a@x", b"b@x"))
+PLANS += b"{application, web, []}.\n"
 # How long a file and a function may be, and a line.
 MOST_LINES, MOST_OF_A_FUNCTION, MOST_COLUMNS = 500, 40, 140
 

@@ -77,7 +77,7 @@ def losses(program, folder):
     yield owed("the links to its steps", re.findall(r'href="#plan=([^"]*)"', page), ["a%40x%2Bb%40x"])
     commands = part(page, "commands")
     yield owed("the commands to repeat it", commands, (
-        f"./rehearse check < {path} companions/rehearse-tools plans {path} --crashes 2 > plans.txt "
+        f"./rehearse check < {path} ./rehearse lint {path} companions/rehearse-tools plans {path} --crashes 2 > plans.txt "
         "./rehearse sweep --json < plans.txt | companions/rehearse-tools survey --of plans.txt --least "
         "companions/rehearse-tools live --plans plans.txt companions/rehearse-tools page --sweep plans.txt > plans.html"))
     yield "the plans step by step", None if page.count("class=open data-plan=") == 3 else page[-2000:]
@@ -131,29 +131,6 @@ def unstarted(program, folder):
     page = report(program, "--crashes", "1", written(folder, cluster(PAIR, WEB).replace("{distributed,", "{distribted,"))).stdout
     yield owed("nothing is distributed", part(page, "headline"),
                "No application is distributed, so none fails over. Is a name in the configuration misspelt?")
-
-
-def more(program, folder):
-    """What the program tells by further subcommands is shown, where it has them."""
-    path = written(folder, cluster(PAIR, WEB))
-    script = written(folder, f"""#!/bin/sh
-case $1 in
-  --help) echo "  lint  Warns"; exec "{program}" "$@" ;;
-  lint) echo "warning: a & b" ;;
-  *) exec "{program}" "$@" ;;
-esac
-""", "program")
-    os.chmod(script, 0o700)
-    page = report(script, "--crashes", "1", path).stdout
-    yield "lint", None if "<h2>What lint tells</h2>" in page and "<pre>warning: a &amp; b</pre>" in page else page[:200]
-    page = report(program, "--crashes", "1", path).stdout
-    yield "the program's own lint", None if "<h2>What lint tells</h2>" in page and "errors, " in page else page[:200]
-    older = written(folder, f"""#!/bin/sh
-[ "$1" = --help ] && echo "  run  Answers" && exit 1
-exec "{program}" "$@"
-""", "older")
-    os.chmod(older, 0o700)
-    yield "no lint", None if "What lint tells" not in report(older, "--crashes", "1", path).stdout else "it is there"
 
 
 def faults(program, folder):
@@ -214,5 +191,5 @@ def in_browser(program, folder):
         browser.close()
 
 
-TESTS = (*(Group(in_folder(tests)) for tests in (losses, safe, otherwise, otherwise_booted, unstarted, more, faults)),
+TESTS = (*(Group(in_folder(tests)) for tests in (losses, safe, otherwise, otherwise_booted, unstarted, faults)),
          Group(in_folder(in_browser), needs=("chromium",)), Group(in_folder(from_release), needs=("erl", "escript", "erlc")))

@@ -5,7 +5,7 @@ import subprocess
 import tempfile
 
 from groups import Group
-from support import LONGEST_RUN, TOP, fault_of, run
+from support import LONGEST_RUN, TOP, fault_of, run, without_notice
 
 NEEDS = ("python3",)
 COMPANION = os.path.join(TOP, "companions", "survey")
@@ -51,8 +51,9 @@ ctl: nowhere at the end of 2 of 5 plans
 
 
 def survey(program, words, text):
-    """A finished run of the companion, with an input."""
-    return subprocess.run([COMPANION, "--rehearse", program, *words], input=text.encode(), capture_output=True, timeout=LONGEST_RUN)
+    """A finished run of the companion, with an input. That lint has something is kept apart."""
+    done = subprocess.run([COMPANION, "--rehearse", program, *words], input=text.encode(), capture_output=True, timeout=LONGEST_RUN)
+    return without_notice(done)
 
 
 def timed(program, source, words=(), options=()):

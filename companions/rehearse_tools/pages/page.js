@@ -288,6 +288,7 @@ function filter() {
 function showPaper(isPrinted) {
   const layout = isPrinted && layoutOf(view.story, { ...view, width: usualWidth(view.story), isByTime: false, room: 230 });
   at("paper").innerHTML = isPrinted ? sheetsOf(layout) : "";
+  for (const closed of isPrinted ? document.querySelectorAll("#lint") : []) { closed.open = true; }
 }
 
 // The step over which the mouse is.
