@@ -214,6 +214,31 @@ def burning(program):
     yield "a stop ends it", None if not have["commands"][-1]["burns"] else f"{have['commands'][-1]}"
 
 
+# svc is booted nowhere. n2@lab waits for n3@lab, which never comes, and n1@lab introduces itself to it in two lives.
+INTRODUCED = """{profile, 2}.
+{node, n1@lab, [{kernel, [{distributed, [{svc, [n1@lab]}]}, {sync_nodes_optional, [n2@lab]}, {sync_nodes_timeout, 6000}]}%s]}.
+{node, n2@lab, [{kernel, [{distributed, [{svc, [n1@lab]}]}, {sync_nodes_optional, [n1@lab, n3@lab]}, {sync_nodes_timeout, 6000}]}]}.
+{node, n3@lab, []}.
+{application, svc, []}.
+===
+boot n2@lab
+boot n1@lab
+crash n1@lab
+boot n1@lab
+tick 6000
+"""
+
+
+def introductions(program):
+    """Two introductions of one node are still to be read as the other's wait ends: it answers the second one as a new one, and so is the
+    answer, as long as neither node runs anything."""
+    have = told(program, INTRODUCED % "")
+    last = have["commands"][-1]
+    yield "introductions without end", None if last["burns"] == [["n1@lab", "n2@lab"]] and last["agrees"] and have["status"] == 3 else f"{have}"
+    have = told(program, INTRODUCED % ", {rehearse, [{boot, [{svc, permanent}]}]}")
+    yield "what runs ends them", None if not have["commands"][-1]["burns"] else f"{have['commands'][-1]}"
+
+
 def back_and_forth(program):
     """Undo takes the model back to the state before the step, and redo makes it again."""
     hang = "takeover n2@lab svc permanent\ncrash n3@lab\nboot n3@lab\n"
@@ -357,4 +382,4 @@ def best_of_three(made):
 
 
 TESTS = (Group(script, items=sorted(map(os.path.basename, glob.glob(os.path.join(SCRIPTS, "*.txt"))))), anchors, texts, orders, burning,
-         back_and_forth, plans, faults, Group(random_ones, items=range(16, 32)), Group(sources, needs=("escript",)), Group(speed, is_alone=True))
+         introductions, back_and_forth, plans, faults, Group(random_ones, items=range(16, 32)), Group(sources, needs=("escript",)), Group(speed, is_alone=True))

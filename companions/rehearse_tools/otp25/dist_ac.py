@@ -6,8 +6,8 @@ dist_ac_state.py, and all else stays in its mailbox. That is why one start that 
 from functools import partial
 from typing import Any, Callable, Optional
 
-from rehearse_tools.otp25.dist_ac_state import (LOCAL, RUN_WAITING, TAKEOVER, UNDEFINED, ForAnyStart, ForGo, ForIntroduction,
-                                                ForLock, ForStart, ForWeight, PermitCall)
+from rehearse_tools.otp25.dist_ac_state import (INTRODUCTIONS, LOCAL, RUN_WAITING, TAKEOVER, UNDEFINED, ForAnyStart, ForGo,
+                                                ForIntroduction, ForLock, ForStart, ForWeight, PermitCall)
 from rehearse_tools.otp25.messages import (Address, AppStarted, AppStopped, Change, GetNodes, Go, NewNode, NewPermission,
                                            NodeDown, NotRun, PermitDistributed, Restart, Run, StartRequest, TakeOver, Weight)
 from rehearse_tools.otp25.placing import Placing
@@ -112,11 +112,13 @@ class DistAc(Placing):
                 app.run[told.node] = told.permissions[name]
 
     def new_node(self, told: NewNode) -> None:
-        """handle_info({dist_ac_new_node, ..}); an answer to what nobody waits for any more is dropped."""
+        """handle_info({dist_ac_new_node, ..}); an answer to what nobody waits for any more is dropped. But one of a node that runs nothing
+        is taken for an introduction, and answered again: so two nodes of which neither runs anything never end."""
         if told.started:
             return
         mine = tuple((self.node.name, name) for name, app in self.apps.items() if app.standing == LOCAL)
-        self.send(told.node, NewNode(self.node.name, self.permissions(), mine))
+        if mine or not self.node.system.burns(self.node.name, told.node, INTRODUCTIONS):
+            self.send(told.node, NewNode(self.node.name, self.permissions(), mine))
         self.merge(told)
         self.known.insert(0, told.node)
 
@@ -166,15 +168,17 @@ class DistAc(Placing):
             self.apps[told.app].standing = UNDEFINED
         self.forget_remote(told.app)
 
-    def answers_weights(self, app: str) -> bool:
-        """Whether it answers a weight that it doesn't wait for."""
+    def goes_on(self, app: str) -> bool:
+        """Whether it answers a weight of an application that it doesn't wait for; or introductions without end."""
+        if app == INTRODUCTIONS:
+            return all(one.standing != LOCAL for one in self.apps.values())
         standing = self.apps[app].standing if app in self.apps else UNDEFINED
         return standing != UNDEFINED and standing[0] != "failover"
 
     def weight(self, told: Weight) -> None:
         """handle_info({dist_ac_weight, ..}): one that is left over is answered again, and so is the answer."""
         standing = self.apps[told.app].standing if told.app in self.apps else UNDEFINED
-        if not self.answers_weights(told.app):
+        if not self.goes_on(told.app):
             self.tmp_locals.insert(0, told)
         elif self.node.system.burns(self.node.name, told.node, told.app):
             return

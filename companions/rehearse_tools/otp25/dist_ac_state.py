@@ -15,6 +15,8 @@ UNDEFINED: Standing = ("undefined", None)
 LOCAL: Standing = ("local", None)
 RUN_WAITING: Standing = ("run_waiting", None)
 TAKEOVER: Standing = ("takeover", None)
+# In place of an application: two nodes introduce themselves to one another.
+INTRODUCTIONS = ""
 
 
 @dataclass(slots=True)

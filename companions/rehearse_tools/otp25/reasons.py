@@ -153,7 +153,7 @@ def by_notes(step: Step, _: Memory) -> Optional[str]:
             return "dependency-forbidden-at-boot" if waits else "boot-list-before-dependency"
         if note.what == "lacks":
             return without_dependency(step.words)
-        if note.what == "burns":
+        if note.what == "burns" and note.app:
             return "weights-for-ever"
         if note.what == "old-timer" and step.live:
             return "old-timer"

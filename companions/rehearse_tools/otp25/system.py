@@ -109,7 +109,7 @@ class System:
     links: dict[frozenset[str], None] = field(default_factory=dict)
     locks: Locks = field(default_factory=Locks)
     calls: list[Call] = field(default_factory=list)
-    # Pairs of nodes whose dist_ac send weights to one another for ever, with the application whose weights these are.
+    # Pairs of nodes whose dist_ac send one another messages for ever, with the application whose weights these are, or INTRODUCTIONS.
     burning: set[tuple[str, str, str]] = field(default_factory=set)
     # How often they have answered one another since all was quiet.
     replies: Counter[tuple[str, ...]] = field(default_factory=Counter)
@@ -232,8 +232,8 @@ class System:
             node.process(to.kind).receive(message)
 
     def burns(self, name: str, other: str, app: str) -> bool:
-        """Counts that a node answers another one's weight. Where that has no end it is noted, and the answer isn't sent, so that
-        the rest goes on."""
+        """Counts that a node answers another one's weight of an application, or introduction. Where that has no end it is noted, and the
+        answer isn't sent, so that the rest goes on."""
         one, two = sorted((name, other))
         self.replies[one, two, app] += 1
         if self.replies[one, two, app] <= MOST_REPLIES:
@@ -263,17 +263,17 @@ class System:
             self.order.shuffle(ways)
         return any(way() for way in ways)
 
-    def answers_weights(self, name: str, app: str) -> bool:
-        """Whether a node that is asked for its weight of an application answers."""
+    def goes_on(self, name: str, app: str) -> bool:
+        """Whether a node answers a weight of an application that it doesn't wait for, or introductions."""
         dist_ac = self.nodes[name].dist_ac
-        return dist_ac is not None and dist_ac.answers_weights(app)
+        return dist_ac is not None and dist_ac.goes_on(app)
 
     def rest(self) -> None:
         """A command is over: who waits for a lock that isn't free sleeps on when it becomes free, up to the next command. How long is
         random (global:random_sleep/1), so by another order of messages it may be shorter or longer. And two nodes send one another
-        weights no longer where one of them doesn't answer any more."""
+        messages no longer where one of them doesn't answer any more."""
         self.burning = {(one, two, app) for one, two, app in self.burning
-                        if self.answers_weights(one, app) and self.answers_weights(two, app)}
+                        if self.goes_on(one, app) and self.goes_on(two, app)}
         waiting = [(node.dist_ac.address, "sync_dacs", node.dist_ac.stand.nodes) for node in self.nodes.values()
                    if node.dist_ac is not None and isinstance(node.dist_ac.stand, ForLock)]
         waiting += [(call.address, call.requester, call.nodes) for call in self.calls if call.stage == "lock"]
