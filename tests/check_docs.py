@@ -1,6 +1,7 @@
 #!/usr/bin/env python3
 """Checks the documents against the repository and the built program: check_docs.py [--times] PROGRAM
 
+Few pages are written by hand, and README.md and docs/PROVED.md are short.
 In README.md, CONTRIBUTING.md, CHANGELOG.md and docs/*.md each link leads somewhere, also within a page. Each command of a block
 ```console, a line that begins with `$ ` (up to the line EOF where it has a <<), is run from the top of the repository, where
 ./rehearse runs the program: it prints what stands below it, where a line `...` stands for any lines, writes nothing to standard error, and
@@ -36,6 +37,10 @@ UNSEEN = {"weights-for-ever"}
 PRINTED = ["rh_trail/specs/Report", "rh_script/specs/Answers", "rh_script/specs/SweepAnswers", "rh_plans/specs/FaultWords",
            "rh_app/specs/CheckText", "rh_app/specs/Histories",
            "rh_rules/specs/Refusals", "rh_cluster/specs/FaultTexts", "rh_terms/specs/FaultTexts"]
+# The pages that are written by hand. All others say in their first line that docs/make writes them.
+BY_HAND = {"ARCHITECTURE", "CHANGING", "CLUSTER_FILES", "EVENING", "LIVE_OTP", "MEASURED", "PROVED", "RULES", "SCRIPTS", "TOOLS"}
+# A reader is to come to the end of these: as many lines each may have.
+MOST_LINES = {"README.md": 120, "docs/PROVED.md": 250}
 # A subcommand has a page of help each.
 SUBCOMMANDS = sorted({os.path.basename(path)[:-4] for path in glob.glob(os.path.join(TOP, "docs", "help", "*.txt"))} - {"rehearse", "version", "files", "statuses", "explain"})
 HELPS = [["--help"]] + [[name, "--help"] for name in SUBCOMMANDS]
@@ -103,6 +108,16 @@ def link_fault(document, target):
     if anchor and anchor not in anchors(text_of(name)):
         return f"{target}: {name} has no such heading"
     return None
+
+
+def pages_are_few(program):
+    """A page that isn't known is made of the sources, and no page that has to be short is long."""
+    pages = {os.path.basename(name)[:-3]: text_of(name) for name in documents() if name.startswith("docs/")}
+    by_hand = {name for name, text in pages.items() if not text.startswith("<!-- `docs/make` writes this page")}
+    yield "pages that are written by hand", None if by_hand == BY_HAND else f"they are {sorted(by_hand)}"
+    for name, most in MOST_LINES.items():
+        count = len(text_of(name).splitlines())
+        yield f"{name}: at most {most} lines", None if count <= most else f"it has {count}"
 
 
 def links(program):
@@ -270,8 +285,8 @@ def help_files(program):
 
 
 # Whether the pages are made isn't among them: run_program.py has that among the tests of ./test --quick.
-TESTS = (links, answers_told, definitions_named, constructs_refused, Group(shown_examples, documents()), help_examples, help_links,
-         live_scripts, help_files, *shelves.TESTS)
+TESTS = (pages_are_few, links, answers_told, definitions_named, constructs_refused, Group(shown_examples, documents()), help_examples,
+         help_links, live_scripts, help_files, *shelves.TESTS)
 
 
 def main():
