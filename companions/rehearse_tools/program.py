@@ -3,6 +3,7 @@ import subprocess
 import sys
 from collections.abc import Sequence
 from dataclasses import dataclass
+from typing import Optional
 
 from rehearse_tools.endings import Refused, why_of
 from rehearse_tools.findings import FOUND, NOTHING, Findings, findings_in
@@ -14,8 +15,9 @@ from rehearse_tools.reading import Answer, JsonRun, Names, PlainRun, Run
 NOBODY = "{node, nobody, []}.\n"
 GREETED = ['{"profile":1,"nodes":["nobody"],"applications":[]}']
 MOST_OF_A_FAULT = 300
-# How the program ends where it hasn't a subcommand.
+# How the program ends where it hasn't a subcommand, and how explore does: all is so, something isn't, or it couldn't look at all.
 NO_SUBCOMMAND = 1
+EXPLORED = (0, 9, 10)
 # What the program wrote to standard error, and was handed on: nothing is told twice.
 handed_on: set[str] = set()
 
@@ -65,6 +67,16 @@ class Program:
         if run.status not in (NOTHING, FOUND):
             raise Refused(f"{source}: lint: {self.ended(run)}")
         return findings_in(run.lines)
+
+    def explored(self, text: str, states: str, source: str) -> Optional[list[str]]:
+        """The lines of explore for an input, with so many states at most; None where the program is older and hasn't explore."""
+        run, error = self.asked(["explore", "--pick", self.pick, "--states", states], text)
+        if run.status == NO_SUBCOMMAND:
+            return None
+        hand_on(error)
+        if run.status not in EXPLORED:
+            raise Refused(f"{source}: explore: {self.ended(run)}")
+        return run.lines
 
     def run(self, cluster: str, script: Sequence[str]) -> JsonRun:
         """A run of the program on a cluster file and the lines of a script."""

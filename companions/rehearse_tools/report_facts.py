@@ -5,11 +5,14 @@ from dataclasses import dataclass
 from typing import Optional
 
 from rehearse_tools.courses import Course, Courses, Gap, is_nowhere, losses_of
+from rehearse_tools.exploring import Explored
 from rehearse_tools.inputs import Plan
 from rehearse_tools.live_plans import AGREES, Verdict
 from rehearse_tools.live_sides import Answer
 from rehearse_tools.live_text import PAGE, first_of
 from rehearse_tools.otp25.reasons import SENTENCES
+from rehearse_tools.page_names import Names
+from rehearse_tools.page_tables import shorter
 from rehearse_tools.reading import Standing
 from rehearse_tools.words import plural, some
 
@@ -29,11 +32,13 @@ class Loss:
 
 @dataclass(frozen=True)
 class AppFacts:
-    """What a report tells of an application: where it runs, whether it is safe, what it isn't safe from, and how long it was away."""
+    """What a report tells of an application: where it runs, whether it is safe, what it isn't safe from, where no loss of the plans is
+    the shortest list of events that explore tells, and how long it was away."""
     name: str
     home: Standing
     verdict: str
     losses: list[Loss]
+    events: list[str]
     away: str
     stays_away: str
     # How many plans come out otherwise on live nodes where the rules say that it runs.
@@ -68,12 +73,13 @@ class LiveFacts:
     base: str
 
 
-def longest(gaps: Sequence[Gap]) -> str:
+def longest(gaps: Sequence[Gap], names: Names) -> str:
     """The longest of some times, with its plans; or ""."""
     if not gaps:
         return ""
     length = max(gap.length for gap in gaps)
-    return f"{length} ms ({some(list(dict.fromkeys(gap.plan for gap in gaps if gap.length == length)), MOST_NAMES)})"
+    plans = [shorter(gap.plan, "+", names).shown for gap in gaps if gap.length == length]
+    return f"{length} ms ({some(list(dict.fromkeys(plans)), MOST_NAMES)})"
 
 
 def loss_of(app: str, nodes: list[str], course: Course) -> Loss:
@@ -81,18 +87,31 @@ def loss_of(app: str, nodes: list[str], course: Course) -> Loss:
     return Loss(nodes, course.outcome.standing[app], course.outcome.name, course.events)
 
 
-def app_facts(app: str, courses: Courses, verdicts: Optional[dict[str, Verdict]], is_as_booted: bool) -> AppFacts:
+@dataclass(frozen=True)
+class Tries:
+    """What a report knows: the courses of all plans, what explore and live nodes tell, where these were asked, whether live nodes boot as
+    the rules say, and the names of the nodes."""
+    courses: Courses
+    explored: Optional[Explored]
+    verdicts: Optional[dict[str, Verdict]]
+    is_as_booted: bool
+    names: Names
+
+
+def app_facts(app: str, tries: Tries) -> AppFacts:
     """What is told of an application. One that doesn't run behind the base isn't safe, and needs no loss for it. Without verdicts of
     live nodes nothing is safe but by the rules, nor where live nodes differ at the base already."""
+    courses, verdicts = tries.courses, tries.verdicts
     home = courses.base.apps[app]
     losses = [loss_of(app, nodes, course) for nodes, course in losses_of(app, courses, is_nowhere)] if home.is_running else []
+    events = (tries.explored.lists[app] or []) if tries.explored and not losses else []
     runs = [course.outcome.name for course in courses.plans if course.outcome.standing[app].is_running]
     doubts = sum(verdicts[plan].word != AGREES for plan in runs) if verdicts is not None else 0
-    is_certain = verdicts is not None and is_as_booted and not doubts
+    is_certain = verdicts is not None and tries.is_as_booted and not doubts
     gaps = [gap for course in courses.plans for name, gap in course.gaps if name == app]
-    verdict = UNSAFE if losses or not home.is_running else SAFE if is_certain else DOUBTFUL
-    return AppFacts(app, home, verdict, losses, longest([gap for gap in gaps if gap.is_over]),
-                    longest([gap for gap in gaps if not gap.is_over]), doubts)
+    verdict = UNSAFE if losses or events or not home.is_running else SAFE if is_certain else DOUBTFUL
+    return AppFacts(app, home, verdict, losses, events, longest([gap for gap in gaps if gap.is_over], tries.names),
+                    longest([gap for gap in gaps if not gap.is_over], tries.names), doubts)
 
 
 def live_facts(answers: list[Answer], verdicts: Sequence[Verdict]) -> LiveFacts:

@@ -15,6 +15,8 @@ ENTRY = "{node, %s, [{kernel, [{distributed, [%s]}, {sync_nodes_optional, [%s]},
 # web runs at a@x, else at b@x; one and two run at a@x, else at the same two standbys after the same time.
 PAIR, TRIPLE = ("a@x", "b@x"), ("a@x", "b@x", "c@x")
 WEB = ("{web, 5000, [a@x, b@x]}", ("web",))
+# As many states are reached there by up to six crashes, boots and waits of 5000 ms, as the search of tests/explored.py counts them.
+STATES = 185
 TOGETHER = ("{one, 2000, [a@x, {b@x, c@x}]}, {two, 2000, [a@x, {b@x, c@x}]}", ("one", "two"))
 
 
@@ -65,20 +67,25 @@ def owed(name, have, want):
 def losses(program, folder):
     """An application of two nodes survives the loss of each, and not of both."""
     path = written(folder, cluster(PAIR, WEB))
+    asked = ["boot a@x", "boot b@x", "may crash *", "may boot *", "may tick 5000", "steps 6", "down 2", "ask app web running"]
     done = report(program, path)
     yield "a cluster file of two nodes", None if done.returncode == 0 and not done.stderr else f"{done}"[:2000]
     page = done.stdout
     yield owed("in one sentence", part(page, "headline"),
                "Of 1 distributed application, over every loss of up to 2 nodes (3 plans): 1 application is not safe.")
-    yield owed("its row", row(page, "web"), ["web", "a@x", "not safe", "a@x + b@x", "5000 ms (a@x)", "5000 ms (a@x+b@x)", "0"])
+    yield owed("every order of events", part(page, "explored"),
+               f"Explored: every list of up to 6 crashes, boots and waits of 5000 ms, with at most 2 nodes not up ({STATES} states). "
+               "Behind some of them this one runs nowhere: web.")
+    yield owed("its row", row(page, "web"), ["web", "a", "not safe", "a + b", "5000 ms (a)", "5000 ms (a+b)", "0"])
     told = part(page, "loss-web-1")
-    is_right = told.startswith("Behind the loss of a@x and b@x it is wanted a@x.") and told.endswith("crash a@x crash b@x tick 5000")
+    is_right = told.startswith("Behind the loss of a and b it is wanted a.") and told.endswith("crash a@x crash b@x tick 5000")
     yield "the shortest sequence", None if is_right else told
     yield owed("the links to its steps", re.findall(r'href="#plan=([^"]*)"', page), ["a%40x%2Bb%40x"])
     commands = part(page, "commands")
     yield owed("the commands to repeat it", commands, (
         f"./rehearse check < {path} ./rehearse lint {path} companions/rehearse-tools plans {path} --crashes 2 > plans.txt "
         "./rehearse sweep --json < plans.txt | companions/rehearse-tools survey --of plans.txt --least "
+        f"./rehearse explore --states 20000 {path} - << 'EOF' {' '.join(asked)} EOF "
         "companions/rehearse-tools live --plans plans.txt companions/rehearse-tools page --sweep plans.txt > plans.html"))
     yield "the plans step by step", None if page.count("class=open data-plan=") == 3 else page[-2000:]
 
@@ -88,7 +95,7 @@ def safe(program, folder):
     path = written(folder, cluster(PAIR, WEB))
     for words, verdict, doubts in (((), "safe", "0"), (("--no-live",), "safe by the rules alone", "")):
         page = report(program, "--crashes", "1", *words, path).stdout
-        yield owed(f"{verdict}", row(page, "web"), ["web", "a@x", verdict, "none", "5000 ms (a@x)", "", doubts])
+        yield owed(f"{verdict}", row(page, "web"), ["web", "a", verdict, "none", "5000 ms (a)", "", doubts])
         yield owed(f"{verdict}, in one sentence", part(page, "headline"),
                    f"Of 1 distributed application, over every loss of one node (2 plans): 1 application is {verdict}.")
     page = report(program, "--crashes", "1", "--title", "<Mine> & yours", path).stdout
@@ -105,11 +112,11 @@ def otherwise(program, folder):
     page = done.stdout
     yield owed("in one sentence", part(page, "headline"),
                "Of 2 distributed applications, over every loss of one node (3 plans): 2 applications are safe by the rules alone.")
-    yield owed("the row of one", row(page, "one"), ["one", "a@x", "safe by the rules alone", "none", "2000 ms (a@x)", "", "1"])
+    yield owed("the row of one", row(page, "one"), ["one", "a", "safe by the rules alone", "none", "2000 ms (a)", "", "1"])
     live = part(page, "live")
-    is_right = "applications lost together wait for one another at the standbys | 1 | a@x hangs at tick 2000" in live
+    is_right = "applications lost together wait for one another at the standbys | 1 | a hangs at tick 2000" in live
     yield "why", None if is_right and "docs/LIVE_OTP.md#lost-together" in live else live
-    yield owed("what hangs", part(page, "stuck"), "They hang, or burn, for good in: a@x.")
+    yield owed("what hangs", part(page, "stuck"), "They hang, or burn, for good in: a.")
 
 
 def otherwise_booted(program, folder):
@@ -117,8 +124,45 @@ def otherwise_booted(program, folder):
     text = re.sub(r", {sync_nodes_optional, [^]]*]}, {sync_nodes_timeout, 1000}", "", cluster(PAIR, WEB))
     page = report(program, "--crashes", "1", written(folder, text)).stdout
     told = text_of(page.split('<section id="summary"')[1].split("<table")[0])
-    yield owed("web", (row(page, "web") or [])[:4], ["web", "a@x", "safe by the rules alone", "none"])
+    yield owed("web", (row(page, "web") or [])[:4], ["web", "a", "safe by the rules alone", "none"])
     yield "what differs", None if "They differ at the boot of all nodes already: boot b@x: without sync_nodes_* the nodes don't connect" in told else told
+
+
+def lists(program, folder):
+    """Where explore finds a list behind which an application runs nowhere, which survives each loss, it isn't safe, and the list is
+    shown. No cluster is known for which it does: so a program stands in that says so."""
+    path = written(folder, cluster(PAIR, WEB))
+    lines = "explored 7 states deepest 3 up to 3 steps up to 1 down\nfails in 2\ncrash a@x\nboot a@x\nnow 0\nnode a@x up 2\nunfinished\n"
+    script = written(folder, f"""#!/bin/sh
+[ "$1" = explore ] || exec "{program}" "$@"
+printf '{lines}'
+exit 9
+""", "program")
+    os.chmod(script, 0o700)
+    page = report(script, "--crashes", "1", "--no-live", path).stdout
+    yield owed("its row", row(page, "web"), ["web", "a", "not safe", "none", "5000 ms (a)", "", ""])
+    told = part(page, "list-web")
+    yield "its list", None if told.startswith("It survives each loss") and told.endswith("crash a@x boot a@x") else told
+    yield owed("how far it looked", part(page, "explored"),
+               "Explored: every list of up to 3 crashes, boots and waits of 5000 ms, with at most 1 node not up (7 states). "
+               "Behind some of them this one runs nowhere: web.")
+
+
+def no_lists(program, folder):
+    """Without explore nothing is said of lists; one that answers nothing is refused."""
+    path = written(folder, cluster(PAIR, WEB))
+    others = {status: written(folder, f"""#!/bin/sh
+[ "$1" = explore ] && exit {status}
+exec "{program}" "$@"
+""", f"program-{status}") for status in (0, 1)}
+    for other in others.values():
+        os.chmod(other, 0o700)
+    for words, other in ((["--no-explore"], program), ([], others[1])):
+        page = report(other, "--crashes", "1", "--no-live", *words, path).stdout
+        is_right = "Explored:" not in page and "rehearse explore" not in page and "safe by the rules alone" in page
+        yield f"no explore: {words}", None if is_right else page[:500]
+    done = report(others[0], path)
+    yield "explore answers nothing", None if done.returncode == 2 and "explore doesn't answer each question" in done.stderr else f"{done}"
 
 
 def unstarted(program, folder):
@@ -126,7 +170,7 @@ def unstarted(program, folder):
     idle = cluster(PAIR, WEB).replace("{boot, [{web, permanent}]}", "{boot, []}")
     page = report(program, "--crashes", "1", written(folder, idle)).stdout
     # Nothing fails over, so the longest wait is that of a booting node.
-    owed_row = ["web", "quiet", "not safe", "none is needed: it doesn't run behind the boot of all nodes", "", "1000 ms (a@x, b@x)", "0"]
+    owed_row = ["web", "quiet", "not safe", "none is needed: it doesn't run behind the boot of all nodes", "", "1000 ms (a, b)", "0"]
     yield owed("an application that nobody starts", row(page, "web"), owed_row)
     page = report(program, "--crashes", "1", written(folder, cluster(PAIR, WEB).replace("{distributed,", "{distribted,"))).stdout
     yield owed("nothing is distributed", part(page, "headline"),
@@ -191,5 +235,5 @@ def in_browser(program, folder):
         browser.close()
 
 
-TESTS = (*(Group(in_folder(tests)) for tests in (losses, safe, otherwise, otherwise_booted, unstarted, faults)),
+TESTS = (*(Group(in_folder(tests)) for tests in (losses, safe, otherwise, otherwise_booted, lists, no_lists, unstarted, faults)),
          Group(in_folder(in_browser), needs=("chromium",)), Group(in_folder(from_release), needs=("erl", "escript", "erlc")))
