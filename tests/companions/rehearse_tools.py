@@ -113,9 +113,9 @@ def read_into_classes(_):
 
 
 def types(_):
-    """All of the package is typed."""
-    done = subprocess.run(["mypy", "--strict", "--cache-dir", os.devnull, "-p", "rehearse_tools"], cwd=COMPANIONS, capture_output=True,
-                          timeout=LONGEST_RUN)
+    """All of the package is typed. mypy looks for jinja2 where this Python has it."""
+    words = ["mypy", "--strict", "--python-executable", sys.executable, "--cache-dir", os.devnull, "-p", "rehearse_tools"]
+    done = subprocess.run(words, cwd=COMPANIONS, capture_output=True, timeout=LONGEST_RUN)
     yield "mypy --strict", None if done.returncode == 0 else done.stdout.decode()[-2000:]
 
 
