@@ -20,7 +20,7 @@ Exit status: 0 done, 1 a wrong command line, 2 FILE is refused, or PAGE can't be
 """
 import os
 from argparse import Namespace
-from collections.abc import Iterator, Sequence
+from collections.abc import Iterator, Mapping, Sequence
 from typing import Any, Optional
 
 from rehearse_tools.command_line import CommandLine, workers
@@ -84,9 +84,10 @@ def page_of(given: Namespace, program: Program) -> bytes:
                     **values_of(program, text, source, given.workers if given.sweep else None))
 
 
-def values_of(program: Program, text: str, source: str, workers_of_sweep: Optional[str], linted: Optional[str] = None) -> dict[str, Any]:
+def values_of(program: Program, text: str, source: str, workers_of_sweep: Optional[str], linted: Optional[str] = None,
+              live: Optional[Mapping[str, str]] = None) -> dict[str, Any]:
     """What the template of a page shows of an input, with the plans where there are workers to sweep them. Where another text is to be
-    linted than what stands before the plans, it is given."""
+    linted than what stands before the plans, it is given; and so is what live nodes do in each plan, where they were asked."""
     parts = split_input(text)
     is_sweep = workers_of_sweep is not None
     if is_sweep and not parts.plans:
@@ -109,7 +110,7 @@ def values_of(program: Program, text: str, source: str, workers_of_sweep: Option
     findings = program.linted(front, source)
     facts = (f"{plural(len(names.all), 'node')}, profile {program.names(parts.cluster, source).profile}, {plural(len(steps) - 1, 'step')}, "
              f"{time_of(last.now)}")
-    return {"facts": facts, "lacks": names.lacks, "steps": story(steps), "plans": table_of(plans, last.apps, names),
+    return {"facts": facts, "lacks": names.lacks, "steps": story(steps), "plans": table_of(plans, last.apps, names, live or {}),
             "is_sweep": is_sweep, "data": data_of(steps, courses, names),
             "found": findings.rows(front), "found_headline": findings.headline(KINDS)}
 

@@ -1,5 +1,5 @@
 """The tables of a page, as their rows: all steps, and all plans with what became of each distributed application."""
-from collections.abc import Sequence
+from collections.abc import Mapping, Sequence
 from dataclasses import dataclass
 from typing import Optional
 
@@ -14,8 +14,11 @@ FIRST = "first state"
 # From so many milliseconds on a time is told in hours, minutes and seconds.
 LONG = 60_000
 WORDS = {"lost": "\u2026 lost", "wanted": "\u2717 wanted", "quiet": "\u2013 quiet"}
-# What plans are looked for by, in the order of their boxes.
-KINDS = ("nowhere", "moved", "refused")
+# What plans are looked for by, in the order of their boxes, and what these are called. Of live nodes there is a box where they were
+# asked.
+KINDS = {"nowhere": "nowhere", "moved": "moved", "refused": "refused", "live": "differs live"}
+# What is told of live nodes where they come to what the rules say.
+AGREES = "agrees"
 
 
 @dataclass(frozen=True)
@@ -69,8 +72,9 @@ class PlanRow:
 
 @dataclass(frozen=True)
 class Box:
-    """A box that leaves only the plans of a kind, of which there are so many."""
+    """A box that leaves only the plans of a kind, what it is called, and how many of them there are."""
     kind: str
+    label: str
     count: int
 
 
@@ -106,10 +110,10 @@ def became(standing: Standing, base: Standing) -> Became:
     return Became(standing.word, WORDS[standing.word] + (", was at " if standing.node else ""), standing.node)
 
 
-def kinds_of(refused: object, shown: Sequence[Became]) -> list[str]:
+def kinds_of(refused: object, shown: Sequence[Became], live: str) -> list[str]:
     """What a plan may be looked for by."""
     looks = {each.look for each in shown}
-    found = {"nowhere": looks & set(WORDS), "moved": "moved" in looks, "refused": refused is not None}
+    found = {"nowhere": looks & set(WORDS), "moved": "moved" in looks, "refused": refused is not None, "live": live not in ("", AGREES)}
     return [kind for kind in KINDS if found[kind]]
 
 
@@ -123,25 +127,26 @@ def refused_text(refused: Optional[RefusedEvent]) -> str:
     return "" if refused is None else f"\u2717 refused: {refused}"
 
 
-def plan_row(plan: PlanTold, base: dict[str, Standing], names: Names) -> PlanRow:
-    """The row of a plan."""
+def plan_row(plan: PlanTold, base: dict[str, Standing], names: Names, live: str) -> PlanRow:
+    """The row of a plan. `live` is what live nodes do, or "" where they weren't asked."""
     outcome = plan.outcome
+    nodes = [Cell("stays" if live == AGREES else "lost", live, Text("", ""))] if live else []
     shown = [became(standing, base[app]) for app, standing in outcome.standing.items()]
     events = Text("; ".join(shorter(event, " ", names).shown for event in plan.events), "; ".join(plan.events))
     return PlanRow(
-        shorter(plan.name, "+", names), kinds_of(outcome.refused, shown),
+        shorter(plan.name, "+", names), kinds_of(outcome.refused, shown, live),
         outcome.refused is not None or any(each.look in ("lost", "wanted") for each in shown),
-        [Cell(each.look, each.words, Text(names.shown(each.node), each.node)) for each in shown], events,
+        [Cell(each.look, each.words, Text(names.shown(each.node), each.node)) for each in shown] + nodes, events,
         refused_text(outcome.refused),
         [f"{outcome.accepted} of {len(plan.events)}", str(outcome.failovers), str(outcome.takeovers)])
 
 
-def table_of(plans: Sequence[PlanTold], base: dict[str, Standing], names: Names) -> Plans:
-    """The table of plans behind a base."""
-    rows = [plan_row(plan, base, names) for plan in plans]
-    boxes = [Box(kind, sum(kind in row.kinds for row in rows)) for kind in KINDS]
+def table_of(plans: Sequence[PlanTold], base: dict[str, Standing], names: Names, live: Mapping[str, str]) -> Plans:
+    """The table of plans behind a base. `live` has a word for each plan that tells what live nodes do, or nothing."""
+    rows = [plan_row(plan, base, names, live.get(plan.name, "")) for plan in plans]
+    boxes = [Box(kind, label, sum(kind in row.kinds for row in rows)) for kind, label in KINDS.items() if live or kind != "live"]
     bad = sum(row.is_bad for row in rows)
     return Plans(
-        ["Plan", *base, "Its events", "accepted", "failovers", "takeovers"], rows, boxes,
+        ["Plan", *base, *(["live nodes"] if live else []), "Its events", "accepted", "failovers", "takeovers"], rows, boxes,
         f"{plural(len(plans), 'plan')}; {bad} of them {'leaves' if bad == 1 else 'leave'} an application lost or wanted, or "
         f"{'was' if bad == 1 else 'were'} refused")

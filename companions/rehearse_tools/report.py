@@ -95,6 +95,11 @@ def names_shown(names: Names) -> dict[str, Any]:
     return {"shown": names.shown, "shown_plan": lambda plan: shorter(plan, "+", names).shown}
 
 
+def words_of_plans(verdicts: Optional[dict[str, Verdict]]) -> dict[str, str]:
+    """What live nodes do in each plan, in a word."""
+    return {name: verdict.word for name, verdict in (verdicts or {}).items()}
+
+
 def facts_of(tries: Tries, answers: list[Answer], plans: Sequence[Plan], crashes: int) -> dict[str, Any]:
     """What is told of the applications and of live nodes."""
     apps = sorted((app_facts(app, tries) for app in tries.courses.base.apps), key=lambda app: app.verdict != UNSAFE)
@@ -123,7 +128,7 @@ def report_of(given: Namespace, program: Program) -> bytes:
                     warnings=release.warnings, commands=repeated(release, given.crashes, asked), cluster=parts.cluster, base=parts.base,
                     explored=found.told(scope) if found else "", **names_shown(names),
                     **facts_of(tries, answers, parts.plans, given.crashes),
-                    **values_of(program, text, release.source, "1", parts.cluster))
+                    **values_of(program, text, release.source, "1", parts.cluster, words_of_plans(verdicts)))
 
 
 def main(words: Sequence[str]) -> None:

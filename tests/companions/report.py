@@ -117,6 +117,11 @@ def otherwise(program, folder):
     is_right = "applications lost together wait for one another at the standbys | 1 | a hangs at tick 2000" in live
     yield "why", None if is_right and "docs/LIVE_OTP.md#lost-together" in live else live
     yield owed("what hangs", part(page, "stuck"), "They hang, or burn, for good in: a.")
+    heads, rows = re.findall(r"<button type=button class=sort>([^<]*)", page), re.findall(r'(?s)<tr[^>]*data-kinds="([^"]*)">(.*?)</tr>', page)
+    yield owed("a column for live nodes", heads[:5], ["Plan", "one", "two", "live nodes", "Its events"])
+    yield owed("what live nodes do in each plan", [(kinds, re.findall(r"<td class=\w+>(agrees|hangs)</td>", cells)) for kinds, cells in rows],
+               [("moved live", ["hangs"]), ("", ["agrees"]), ("", ["agrees"])])
+    yield "a box for these plans", None if "value=live autocomplete=off>differs live (1)</label>" in page else part(page, "filters")
 
 
 def otherwise_booted(program, folder):
@@ -161,6 +166,7 @@ exec "{program}" "$@"
         page = report(other, "--crashes", "1", "--no-live", *words, path).stdout
         is_right = "Explored:" not in page and "rehearse explore" not in page and "safe by the rules alone" in page
         yield f"no explore: {words}", None if is_right else page[:500]
+        yield f"no live: {words}", None if "live nodes</button>" not in page and "differs live" not in page else "they are there"
     done = report(others[0], path)
     yield "explore answers nothing", None if done.returncode == 2 and "explore doesn't answer each question" in done.stderr else f"{done}"
 
