@@ -32,7 +32,7 @@ LIVE = "docs/LIVE_OTP.md"
 # These subcommands end with status 9 where they find what they look for.
 FINDERS, STATUSES = ("explore", "lint"), (0, 9)
 # Differences that no line of an answer shows.
-UNSEEN = {"weights-for-ever"}
+UNSEEN = {"weights-for-ever", "introductions-for-ever"}
 # The definitions of what the program prints.
 PRINTED = ["rh_trail/specs/Report", "rh_script/specs/Answers", "rh_script/specs/SweepAnswers", "rh_plans/specs/FaultWords",
            "rh_app/specs/CheckText", "rh_app/specs/Histories",

@@ -234,7 +234,8 @@ def introductions(program):
     answer, as long as neither node runs anything."""
     have = told(program, INTRODUCED % "")
     last = have["commands"][-1]
-    yield "introductions without end", None if last["burns"] == [["n1@lab", "n2@lab"]] and last["agrees"] and have["status"] == 3 else f"{have}"
+    yield "introductions without end", None if last["burns"] == [["n1@lab", "n2@lab"]] and last["anchor"] == "introductions-for-ever" \
+        and have["status"] == 3 else f"{have}"
     have = told(program, INTRODUCED % ", {rehearse, [{boot, [{svc, permanent}]}]}")
     yield "what runs ends them", None if not have["commands"][-1]["burns"] else f"{have['commands'][-1]}"
 

@@ -6,7 +6,7 @@ one command; the first one that is found is told.
 from dataclasses import dataclass, field
 from typing import Iterator, Optional
 
-from rehearse_tools.otp25.dist_ac_state import ForAnyStart, ForIntroduction, ForLock, ForStart, ForWeight
+from rehearse_tools.otp25.dist_ac_state import INTRODUCTIONS, ForAnyStart, ForIntroduction, ForLock, ForStart, ForWeight
 from rehearse_tools.otp25.system import LONGEST_TIMER, Node, System
 from rehearse_tools.otp25.waiting import Wait, holds, runners, stands
 
@@ -42,6 +42,7 @@ SENTENCES = {
     "crossed-lists": "applications lost together wait for one another at the standbys, since their lists are in crossed order",
     "boot-lists-crossed": "boot lists of different order: the boot scripts wait for one another",
     "weights-for-ever": "two dist_ac send dist_ac_weight to one another for ever, which keeps both nodes busy",
+    "introductions-for-ever": "two dist_ac that run nothing introduce themselves to one another for ever, which keeps both nodes busy",
     "blocked-start": "a start that waits holds its node's dist_ac and the lock {dist_ac,..}: no failover to that node, no boot "
                      "script goes on, no permit at any node returns",
     "starts-within-the-time": "a start within the failover time at a node that didn't see the loss begins at once, as normal",
@@ -153,8 +154,8 @@ def by_notes(step: Step, _: Memory) -> Optional[str]:
             return "dependency-forbidden-at-boot" if waits else "boot-list-before-dependency"
         if note.what == "lacks":
             return without_dependency(step.words)
-        if note.what == "burns" and note.app:
-            return "weights-for-ever"
+        if note.what == "burns":
+            return "introductions-for-ever" if note.app == INTRODUCTIONS else "weights-for-ever"
         if note.what == "old-timer" and step.live:
             return "old-timer"
     return None
