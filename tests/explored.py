@@ -1,19 +1,22 @@
 """`explore` beside a plain search over the model (model.py): random small clusters, bases, events, bounds and questions.
 
-The search here keeps whole states, tells them apart by all that a state has, and goes through the events in the order of their
-lines. So the program has to print the same text: as many states, the same verdicts, and as short lists of events. The seed is
-fixed, so that each run makes the same searches. That these reach all that they are made for is a test too.
+The search here keeps whole states, tells them apart by all that a state has but the clock, the numbers of starts and the start
+kinds, with timers counted from now, and goes through the events in the order of their lines. So the program has to print the same
+text: as many states, the same verdicts, and as short lists of events. That nothing hangs on what is left out is a test of its own:
+a search that tells states apart by all that they have finds the same verdicts, and lists as short. The seed is fixed, so that each
+run makes the same searches. That these reach all that they are made for is a test too.
 """
 import collections
 import copy
 import random
+from pathlib import Path
 from typing import Iterator, Optional
 
 import model
 from groups import Group
 from model_state import report
 from random_scripts import Part
-from support import fault_of, run
+from support import TOP, fault_of, run
 
 SEARCHES, AT_ONCE = 120, 10
 MOST_STEPS = 2 ** 32 - 1
@@ -23,14 +26,19 @@ PATTERNS = ["crash *", "crash *", "boot *", "boot *", "tick 500", "tick 1000", "
 
 
 def key(state) -> tuple:
-    """All that a state has. A pair that was never started has the restart type and the kind that a new state has."""
+    """What states are told apart by. A pair that was never started has the restart type that a new state has."""
     pairs = [(node, app) for node in range(len(state.cluster.nodes)) for app in range(len(state.cluster.apps))]
-    return (state.now, tuple(state.mode), tuple(state.starts), tuple(map(tuple, state.running)), tuple(map(tuple, state.waiting)),
+    return (tuple(state.mode), tuple(map(tuple, state.running)), tuple(map(tuple, state.waiting)),
             tuple(tuple(sorted(apps)) for apps in state.forbidden),
             tuple(state.restart.get(pair, "temporary") for pair in pairs),
-            tuple(tuple(state.kind.get(pair, ("normal",))) for pair in pairs),
             tuple(sorted(state.standing.items())),
-            tuple(sorted(state.timers, key=lambda entry: entry[0])))
+            tuple((entry[0] - state.now, *entry[1:]) for entry in sorted(state.timers, key=lambda entry: entry[0])))
+
+
+def whole_key(state) -> tuple:
+    """All that a state has."""
+    pairs = [(node, app) for node in range(len(state.cluster.nodes)) for app in range(len(state.cluster.apps))]
+    return key(state), state.now, tuple(state.starts), tuple(tuple(state.kind.get(pair, ("normal",))) for pair in pairs)
 
 
 def events_of(rehearsal, pattern: str) -> list[list[str]]:
@@ -63,11 +71,15 @@ class Question:
         return bool(nodes) and all(state.mode[node] != "up" for node in nodes)
 
 
-class Search:
-    """A search: `text` is what is owed, `status` how it ends, and `reached` what of it happened."""
+class LimitMet(Exception):
+    """A limit of starts or of time refuses an event, which another state might accept that is alike."""
 
-    def __init__(self, cluster: str, lines: list[str], most: int, pick: str):
-        self.rehearsal, told = model.Rehearsal(cluster, pick), []
+
+class Search:
+    """A search: `text` is what is owed, `status` how it ends, and `reached` what of it happened. States are told apart by `key`."""
+
+    def __init__(self, cluster: str, lines: list[str], most: int, pick: str, tell_apart=key):
+        self.rehearsal, told, self.key = model.Rehearsal(cluster, pick), [], tell_apart
         self.events, self.asks = [], []
         self.down, self.steps, self.most = len(self.rehearsal.cluster.nodes), MOST_STEPS, most
         self.base = None
@@ -93,33 +105,43 @@ class Search:
         step = model.Rehearsal.__new__(model.Rehearsal)
         step.cluster, step.pick, step.states, step.cursor = self.rehearsal.cluster, self.rehearsal.pick, [copy.deepcopy(state)], 0
         step.accepted = step.failovers = step.takeovers = 0
-        if step.refused(words) is not None:
+        why = step.refused(words)
+        if why is not None and why.split()[0] in ("S4", "S7"):
+            raise LimitMet
+        if why is not None:
             return None
         step.step(words)
         return None if sum(mode != "up" for mode in step.state.mode) > self.down else step.state
 
     def look(self) -> None:
         """Goes through all states, those by fewer events first."""
-        found, keys, self.whole = [([], self.start)], {key(self.start)}, None
-        for path, state in found:
+        self.found, self.keys, self.whole = [([], self.start)], {self.key(self.start)}, None
+        for path, state in self.found:
             if len(path) >= self.steps:
                 self.whole = self.steps
-                break
-            for words in self.events:
-                after = self.behind(state, words)
-                if after is None or key(after) in keys:
-                    continue
-                if len(found) >= self.most:
-                    self.whole = len(path)
-                    break
-                keys.add(key(after))
-                found.append((path + [words], after))
+            elif not self.expand(path, state):
+                self.whole = len(path)
             if self.whole is not None:
                 break
-        self.found = found
+        found = self.found
         self.unfinished = self.whole is not None and self.whole < self.steps
         self.verdicts = [next(((path, state) for path, state in found if not ask.holds(self.rehearsal, state)), None) for ask in self.asks]
         self.failed = any(verdict is not None for verdict in self.verdicts)
+
+    def expand(self, path, state) -> bool:
+        """Makes each event in a state. It is false if there was one state too many, or a limit was met."""
+        try:
+            for words in self.events:
+                after = self.behind(state, words)
+                if after is None or self.key(after) in self.keys:
+                    continue
+                if len(self.found) >= self.most:
+                    return False
+                self.keys.add(self.key(after))
+                self.found.append((path + [words], after))
+        except LimitMet:
+            return False
+        return True
 
     def told(self) -> Iterator[str]:
         head = f"explored {len(self.found)} states deepest {len(self.found[-1][0])}"
@@ -151,7 +173,9 @@ def search(number: int) -> tuple[str, list[str], int, str]:
         lines.append(chance.choice(["tick 500", "undo", "show"]))
     for pattern in chance.sample(PATTERNS, chance.randint(1, 5)):
         lines.append("may " + pattern.format(node=chance.choice(part.nodes), app=chance.choice(part.apps)))
-    lines.append(f"steps {chance.randint(1, 4)}")
+    closes = chance.random() < 0.4
+    if not closes:
+        lines.append(f"steps {chance.randint(1, 4)}")
     if chance.random() < 0.3:
         lines.append(f"down {chance.randint(0, len(part.nodes))}")
     for _ in range(chance.randint(0, 3)):
@@ -160,7 +184,7 @@ def search(number: int) -> tuple[str, list[str], int, str]:
         if chance.random() < 0.6:
             line += " or down " + " ".join(chance.sample(part.nodes, chance.randint(1, len(part.nodes))))
         lines.append(line)
-    most = chance.choice([1_000_000, 1_000_000, 1_000_000, 20, 1])
+    most = 300 if closes else chance.choice([1_000_000, 1_000_000, 1_000_000, 20, 1])
     return part.text, lines, most, chance.choice(["first", "last"])
 
 
@@ -178,14 +202,44 @@ def explored(program, numbers):
         reached["fails"] += sum(verdict is not None and bool(verdict[0]) for verdict in owed.verdicts)
         reached["closed"] += owed.whole is None
         reached["unfinished"] += owed.unfinished
+        if owed.steps < MOST_STEPS and not owed.unfinished:
+            yield f"random search {number}: merging hides nothing", same_verdicts(owed, Search(cluster, lines, 10_000_000, pick, whole_key))
+            reached["compared"] += 1
+            reached["merged"] += owed.whole is None
     return reached
+
+
+def same_verdicts(merged, whole) -> Optional[str]:
+    """A search that merges less finds the same of each question, and lists that are as long."""
+    lengths = [[None if verdict is None else len(verdict[0]) for verdict in search.verdicts] for search in (merged, whole)]
+    if lengths[0] != lengths[1]:
+        return f"verdicts {lengths[0]}, and without merging {lengths[1]}"
+    alike = {key(state) for _, state in whole.found}
+    return None if alike == merged.keys else f"{len(merged.keys)} states, and without merging {len(alike)}"
 
 
 def reaches_all(counters):
     """Together the searches reach all that they are made for."""
     reached = sum(counters, collections.Counter())
-    for what, least in (("states", 1_000), ("holds", 20), ("fails", 20), ("closed", 5), ("unfinished", 5)):
+    for what, least in (("states", 1_000), ("holds", 20), ("fails", 20), ("closed", 20), ("unfinished", 5),
+                        ("compared", 40), ("merged", 5)):
         yield f"random searches: {what}", None if reached[what] >= least else f"{reached[what]} of {least}"
 
 
-TESTS = (Group(explored, [range(begin, begin + AT_ONCE) for begin in range(0, SEARCHES, AT_ONCE)], end=reaches_all),)
+# Clusters all of whose nodes are up, crash and boot, while time passes in steps of a second: how many states there are, as another
+# program and a model checker count them, and how many events lead to the last.
+CLOSED = (("any-failures.txt", 1_755, 15), ("five-nodes-sweep.txt", 752, 14))
+
+
+def closed(program, space):
+    """A search without a bound of steps comes to an end, with as many states as are known."""
+    name, states, deepest = space
+    cluster = Path(TOP, "examples", name).read_text(encoding="utf-8").split("===\n")[0]
+    nodes = [part.name for part in model.Rehearsal(cluster, "first").cluster.nodes]
+    script = [*(f"boot {node}" for node in nodes), "may crash *", "may boot *", "may tick 1000"]
+    done = run(program, ["explore"], input=(cluster + "===\n" + model.joined(script)).encode())
+    owed = f"explored {states} states deepest {deepest}\n".encode()
+    yield f"all states: {name}", None if done.returncode == 0 and done.stdout.endswith(owed) else f"{done.stdout[-200:]!r}"
+
+
+TESTS = (Group(closed, CLOSED), Group(explored, [range(begin, begin + AT_ONCE) for begin in range(0, SEARCHES, AT_ONCE)], end=reaches_all),)

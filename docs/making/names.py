@@ -1,12 +1,12 @@
-"""The names in parts that are written by hand: each has to stand in the sources, those of guards.md there or in proofs, wrong
-bodies and tests; and each crate has to be named."""
+"""The names in parts that are written by hand: each has to stand in the sources, those of guards.md and lint.md there or in
+proofs, wrong bodies, tests and tools; and each crate has to be named."""
 import re
 from pathlib import Path
 
 from tree import CRATES, TOP, BadSource, crates, proved_crates, read, shown
 
-# The part that names rows, tests and wrong bodies, too.
-OF_ALL = "guards.md"
+# The parts that name rows, tests, wrong bodies and tools, too.
+OF_ALL = ("guards.md", "lint.md")
 NAME = re.compile(r"`([A-Za-z_]\w*(?:(?:::|/)\w+)*)`")
 
 
@@ -23,9 +23,9 @@ def words_of_sources() -> set[str]:
 
 
 def words_of_all() -> set[str]:
-    """The words of proofs, of wrong bodies and of tests besides."""
+    """The words of proofs, wrong bodies, tests and tools besides."""
     words = words_of_sources() | words_in(CRATES, "*/proofs/**/*.antt", "*/must-fail/*.edit")
-    return words | words_in(TOP, "wrong-bodies/**/*.edit", "tests/*.py")
+    return words | words_in(TOP, "wrong-bodies/**/*.edit", "tests/*.py", "companions/rehearse_tools/*.py")
 
 
 def check_crates(path: Path) -> None:
@@ -38,7 +38,7 @@ def check_crates(path: Path) -> None:
 def check_names(paths: list[Path]) -> None:
     """Sees to it that each name in backquotes in these files stands in the sources."""
     for path in paths:
-        known = words_of_all() if path.name == OF_ALL else words_of_sources()
+        known = words_of_all() if path.name in OF_ALL else words_of_sources()
         named = {name for name in NAME.findall(read(path)) if not set(re.split("::|/", name)) <= known}
         if named:
             raise BadSource(f"{shown(path)} names what no source has: {', '.join(sorted(named))}")

@@ -358,12 +358,13 @@ boot b@x
 may crash *
 may boot *
 may tick 1000
-steps 6
 ask app web running or down a@x b@x
 EOF
 
 The base is answered as in `rehearse run`. From the state that is reached then
-all lists of the events are tried that may come, and equal states are merged.
+all lists of the events are tried that may come. States are merged that are
+equal but for the clock, the incarnations and the start types, with timers
+counted from now: they go on alike.
 
   may EVENT                  this event may come, as often as one likes: a
                              command from `boot` to `stop_all` of `rehearse run
@@ -381,10 +382,10 @@ Without `steps` any number of events may follow, without `down` all nodes may be
 down, and where several say it the last counts. It tells
 
   explored K states deepest K up to K steps up to K down
-                             how many different states there are, and how many
-                             events lead to the last; up to K steps if longer
-                             lists were not tried, up to K down if the bound
-                             leaves out some
+                             how many states there are, of which no two are
+                             alike, and how many events lead to the last; up to
+                             K steps if longer lists were not tried, up to K
+                             down if the bound leaves out some
 
 and for each `ask`, in their order,
 
@@ -393,11 +394,11 @@ and for each `ask`, in their order,
                              no shorter list leads to such a state, whose
                              report stands behind them
   unfinished                 the last line, where there are more states than
-                             `--states` says: what is told is true up to as
+                             `--states` says, or where a limit (S4 or S7)
+                             refuses an event: what is told is true up to as
                              many steps as the first line says
 
-Time passes only by `may tick D`, and each moment is a state of its own: so with
-a `tick` the states have no end, and `steps` should be given.
+Time passes only by `may tick D`.
 
 All lines are read first. A line that is no command of the base and none of
 these, or a name that the cluster hasn't, is told alone: `bad line K`. K counts

@@ -1,5 +1,5 @@
 -- The parts of a key, each of which tells what it is of.
-use Rattle.std.proofs.Common.{◌≡◌, ◌+◌, ◌++◌, ℕ, Bool, true, false, cond, nat_eq, List, [], ◌∷◌, flat_map, Some, None, All, refl, sym, ap, ◌∙◌, append_assoc, arith}
+use Rattle.std.proofs.Common.{◌≡◌, ◌+◌, ◌-◌, ◌++◌, ℕ, Bool, true, false, cond, nat_eq, List, [], ◌∷◌, map, flat_map, Some, None, All, refl, sym, ap, ◌∙◌, append_assoc, arith}
 use Rattle.std.proofs.lemmas.List.Elements.{All-nil, All-cons}
 use Rattle.rh_model.specs.ClusterView.{ClusterView, numbered, app_numbered}
 use Rattle.rh_model.specs.declared.node.Node.{Node}
@@ -8,15 +8,14 @@ use Rattle.rh_model.specs.declared.settings.Restart.{Restart}
 use Rattle.rh_model.specs.declared.settings.Restart.TheVariants.{Permanent, Transient, Temporary}
 use Rattle.rh_state.specs.declared.status.Mode.{Mode}
 use Rattle.rh_state.specs.declared.status.Mode.TheVariants.{Down, Waiting, Up}
-use Rattle.rh_state.specs.declared.status.Kind.{Kind}
-use Rattle.rh_state.specs.declared.status.Kind.TheVariants as kind
 use Rattle.rh_state.specs.declared.status.Standing.{Standing}
 use Rattle.rh_state.specs.declared.status.Standing.TheVariants as standing
 use Rattle.rh_state.specs.declared.status.Timer.{Timer}
 use Rattle.rh_state.specs.declared.status.Timer.TheVariants as timer
 use Rattle.rh_state.specs.Numbers.{apps_of}
-use Rattle.rh_state.specs.StateView.{StateView, mode_of, incarnation_of, running_at, waiting_at, restart_of, kind_of, is_allowed, standing_of}
-use Rattle.rh_explore.specs.Keys.{mode_number, restart_number, permission_number, kind_numbers, standing_numbers, timer_numbers, app_number, pair_numbers, node_numbers, app_numbers}
+use Rattle.rh_state.specs.StateView.{StateView, mode_of, running_at, waiting_at, restart_of, is_allowed, standing_of}
+use Rattle.rh_shifts.specs.Shifts.{seen_from}
+use Rattle.rh_explore.specs.Keys.{mode_number, restart_number, permission_number, standing_numbers, timer_numbers, app_number, pair_numbers, node_numbers, app_numbers}
 
 -- ---- the first numbers of a list
 pub first_one : (a b : ℕ) (r t : List ℕ) → a ∷ r ≡ b ∷ t → (a ≡ b) × (r ≡ t)
@@ -61,39 +60,7 @@ permission_back false = refl
 pub permission_same : (p q : Bool) → permission_number p ≡ permission_number q → p ≡ q
 permission_same p q e = sym (permission_back p) ∙ ap permission_from e ∙ permission_back q
 
--- ---- a kind, as two numbers
-kind_tag : Kind → ℕ
-kind_tag kind.Normal = 0
-kind_tag (kind.Failover m) = 1
-kind_tag (kind.Takeover m) = 2
-
-kind_node : Kind → ℕ
-kind_node kind.Normal = 0
-kind_node (kind.Failover m) = m.0
-kind_node (kind.Takeover m) = m.0
-
-kind_from : ℕ → ℕ → Kind
-kind_from tag m = cond (nat_eq tag 0) kind.Normal (cond (nat_eq tag 1) (kind.Failover (numbered m)) (kind.Takeover (numbered m)))
-
-kind_back : (k : Kind) → kind_from (kind_tag k) (kind_node k) ≡ k
-unfolding kind_from kind_tag kind_node
-kind_back kind.Normal = refl
-kind_back (kind.Failover m) = refl
-kind_back (kind.Takeover m) = refl
-
-kind_list : (k : Kind) → kind_numbers k ≡ kind_tag k ∷ kind_node k ∷ []
-unfolding kind_tag kind_node
-kind_list kind.Normal = refl
-kind_list (kind.Failover m) = refl
-kind_list (kind.Takeover m) = refl
-
-pub kind_split : (k l : Kind) (r t : List ℕ) → kind_numbers k ++ r ≡ kind_numbers l ++ t → (k ≡ l) × (r ≡ t)
-kind_split k l r t e =
-    let parts = first_two (kind_tag k) (kind_node k) (kind_tag l) (kind_node l) r t
-    (sym (ap (λ (xs : List ℕ). xs ++ r) (kind_list k)) ∙ e ∙ ap (λ (xs : List ℕ). xs ++ t) (kind_list l)) in
-    (sym (kind_back k) ∙ (λ i. kind_from (parts.0 i) (parts.1 i)) ∙ kind_back l, parts.2)
-
--- ---- a standing, likewise
+-- ---- a standing, as two numbers
 standing_tag : Standing → ℕ
 standing_tag standing.Quiet = 0
 standing_tag (standing.Wanted None) = 1
@@ -154,15 +121,16 @@ unfolding timer_from timer_tag timer_number
 timer_back (timer.Sync n) = refl
 timer_back (timer.Failover a) = refl
 
-timer_list : (x : ℕ × Timer) → timer_numbers x ≡ x.0 ∷ timer_tag x.1 ∷ timer_number x.1 ∷ []
+timer_list : (now : ℕ) (x : ℕ × Timer) → timer_numbers now x ≡ (x.0 - now) ∷ timer_tag x.1 ∷ timer_number x.1 ∷ []
 unfolding timer_tag timer_number
-timer_list (due, timer.Sync n) = refl
-timer_list (due, timer.Failover a) = refl
+timer_list now (due, timer.Sync n) = refl
+timer_list now (due, timer.Failover a) = refl
 
-timer_split : (x y : ℕ × Timer) (r t : List ℕ) → timer_numbers x ++ r ≡ timer_numbers y ++ t → (x ≡ y) × (r ≡ t)
-timer_split x y r t e =
-    let whole = sym (ap (λ (xs : List ℕ). xs ++ r) (timer_list x)) ∙ e ∙ ap (λ (xs : List ℕ). xs ++ t) (timer_list y) in
-    let due = first_one x.0 y.0 (timer_tag x.1 ∷ timer_number x.1 ∷ r) (timer_tag y.1 ∷ timer_number y.1 ∷ t) whole in
+timer_split : (now when : ℕ) (x y : ℕ × Timer) (r t : List ℕ) → timer_numbers now x ++ r ≡ timer_numbers when y ++ t
+    → (seen_from now x ≡ seen_from when y) × (r ≡ t)
+timer_split now when x y r t e =
+    let whole = sym (ap (λ (xs : List ℕ). xs ++ r) (timer_list now x)) ∙ e ∙ ap (λ (xs : List ℕ). xs ++ t) (timer_list when y) in
+    let due = first_one (x.0 - now) (y.0 - when) (timer_tag x.1 ∷ timer_number x.1 ∷ r) (timer_tag y.1 ∷ timer_number y.1 ∷ t) whole in
     let parts = first_two (timer_tag x.1) (timer_number x.1) (timer_tag y.1) (timer_number y.1) r t due.1 in
     let same : x.1 ≡ y.1 = sym (timer_back x.1) ∙ (λ i. timer_from (parts.0 i) (parts.1 i)) ∙ timer_back y.1 in
     ((λ i. (due.0 i, same i)), parts.2)
@@ -170,16 +138,29 @@ timer_split x y r t e =
 none_is_some : (a : ℕ) (r : List ℕ) → [] ≡ a ∷ r → ⊥
 none_is_some a r e = cc
 
-pub timers_same : (xs ys : List (ℕ × Timer)) → flat_map timer_numbers xs ≡ flat_map timer_numbers ys → xs ≡ ys
-timers_same [] [] e = refl
-timers_same [] (y ∷ ys) e =
-    absurd (none_is_some y.0 (timer_tag y.1 ∷ timer_number y.1 ∷ flat_map timer_numbers ys) (e ∙ ap (λ (l : List ℕ). l ++ flat_map timer_numbers ys) (timer_list y)))
-timers_same (x ∷ xs) [] e =
-    absurd (none_is_some x.0 (timer_tag x.1 ∷ timer_number x.1 ∷ flat_map timer_numbers xs) (sym e ∙ ap (λ (l : List ℕ). l ++ flat_map timer_numbers xs) (timer_list x)))
-timers_same (x ∷ xs) (y ∷ ys) e =
-    let parts = timer_split x y (flat_map timer_numbers xs) (flat_map timer_numbers ys) e in
-    let rest = timers_same xs ys parts.1 in
+-- timers with the same numbers have as long to go
+pub timers_same : (now when : ℕ) (xs ys : List (ℕ × Timer)) → flat_map (timer_numbers now) xs ≡ flat_map (timer_numbers when) ys
+    → map (seen_from now) xs ≡ map (seen_from when) ys
+timers_same now when [] [] e = refl
+timers_same now when [] (y ∷ ys) e =
+    absurd (none_is_some (y.0 - when) (timer_tag y.1 ∷ timer_number y.1 ∷ flat_map (timer_numbers when) ys)
+    (e ∙ ap (λ (l : List ℕ). l ++ flat_map (timer_numbers when) ys) (timer_list when y)))
+timers_same now when (x ∷ xs) [] e =
+    absurd (none_is_some (x.0 - now) (timer_tag x.1 ∷ timer_number x.1 ∷ flat_map (timer_numbers now) xs)
+    (sym e ∙ ap (λ (l : List ℕ). l ++ flat_map (timer_numbers now) xs) (timer_list now x)))
+timers_same now when (x ∷ xs) (y ∷ ys) e =
+    let parts = timer_split now when x y (flat_map (timer_numbers now) xs) (flat_map (timer_numbers when) ys) e in
+    let rest = timers_same now when xs ys parts.1 in
     λ i. parts.0 i ∷ rest i
+
+-- and timers that are counted from now have the same numbers
+one_seen : (now : ℕ) (x : ℕ × Timer) → timer_numbers 0 (seen_from now x) ≡ timer_numbers now x
+one_seen now (due, timer.Sync n) = ap (λ k. k ∷ 0 ∷ n.0 ∷ []) (omega arith)
+one_seen now (due, timer.Failover a) = ap (λ k. k ∷ 1 ∷ a.0 ∷ []) (omega arith)
+
+pub timers_seen : (now : ℕ) (xs : List (ℕ × Timer)) → flat_map (timer_numbers 0) (map (seen_from now) xs) ≡ flat_map (timer_numbers now) xs
+timers_seen now [] = refl
+timers_seen now (x ∷ xs) = λ i. one_seen now x i ++ timers_seen now xs i
 
 -- ---- a list of applications, which ends with 0
 pub apps_split : (xs ys : List App) (r t : List ℕ) → flat_map app_number xs ++ 0 ∷ r ≡ flat_map app_number ys ++ 0 ∷ t → (xs ≡ ys) × (r ≡ t)
@@ -208,25 +189,21 @@ each_split f g P (x ∷ xs) one r t e =
 pub record SamePair (s t : StateView) (n : Node) (a : App) : Type 0 where
   pub restart : restart_of s n a ≡ restart_of t n a
   pub permission : is_allowed s n a ≡ is_allowed t n a
-  pub kind : kind_of s n a ≡ kind_of t n a
 
 pair_split : (s t : StateView) (n : Node) (a : App) (r q : List ℕ) → pair_numbers s n a ++ r ≡ pair_numbers t n a ++ q → SamePair s t n a × (r ≡ q)
 unfolding pair_numbers
 pair_split s t n a r q e =
     let parts = first_two (restart_number (restart_of s n a)) (permission_number (is_allowed s n a)) (restart_number (restart_of t n a)) (permission_number (is_allowed t n a))
-    (kind_numbers (kind_of s n a) ++ r) (kind_numbers (kind_of t n a) ++ q) e in
-    let kinds = kind_split (kind_of s n a) (kind_of t n a) r q parts.2 in (
+    r q e in (
       record {
         restart = restart_same (restart_of s n a) (restart_of t n a) parts.0;
         permission = permission_same (is_allowed s n a) (is_allowed t n a) parts.1;
-        kind = kinds.0;
       },
-      kinds.1,
+      parts.2,
     )
 
 pub record SameNode (s t : StateView) (n : Node) : Type 0 where
   pub mode : mode_of s n ≡ mode_of t n
-  pub incarnation : incarnation_of s n ≡ incarnation_of t n
   pub running : running_at s n ≡ running_at t n
   pub waiting : waiting_at s n ≡ waiting_at t n
   pub pairs : All (SamePair s t n) (apps_of s.cluster)
@@ -243,16 +220,15 @@ node_split s t c n r q e =
     let wait_t = flat_map app_number (waiting_at t n) in
     let pairs_s = flat_map (pair_numbers s n) (apps_of s.cluster) in
     let pairs_t = flat_map (pair_numbers t n) (apps_of t.cluster) in
-    let parts = first_two (mode_number (mode_of s n)) (incarnation_of s n) (mode_number (mode_of t n)) (incarnation_of t n)
+    let parts = first_one (mode_number (mode_of s n)) (mode_number (mode_of t n))
     (((run_s ++ 0 ∷ wait_s) ++ 0 ∷ pairs_s) ++ r) (((run_t ++ 0 ∷ wait_t) ++ 0 ∷ pairs_t) ++ q) e in
     let runs = apps_split (running_at s n) (running_at t n) (wait_s ++ 0 ∷ (pairs_s ++ r)) (wait_t ++ 0 ∷ (pairs_t ++ q))
-    (sym (regrouped run_s wait_s pairs_s r) ∙ parts.2 ∙ regrouped run_t wait_t pairs_t q) in
+    (sym (regrouped run_s wait_s pairs_s r) ∙ parts.1 ∙ regrouped run_t wait_t pairs_t q) in
     let waits = apps_split (waiting_at s n) (waiting_at t n) (pairs_s ++ r) (pairs_t ++ q) runs.1 in
     let pairs = each_split (pair_numbers s n) (pair_numbers t n) (SamePair s t n) (apps_of s.cluster) (pair_split s t n) r q
     (waits.1 ∙ ap (λ (d : ClusterView). flat_map (pair_numbers t n) (apps_of d) ++ q) c) in (
       record {
         mode = mode_same (mode_of s n) (mode_of t n) parts.0;
-        incarnation = parts.1;
         running = runs.0;
         waiting = waits.0;
         pairs = pairs.0;

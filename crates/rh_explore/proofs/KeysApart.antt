@@ -1,5 +1,5 @@
--- Two states of one cluster are equal where their keys are.
-use Rattle.std.proofs.Common.{◌≡◌, ◌<◌, ◌++◌, ℕ, List, [], length, slice_get, unwrap_or, flat_map, All, sym, ap, ◌∙◌, subst, append_assoc, arith}
+-- Two states of one cluster are alike exactly if their keys are equal.
+use Rattle.std.proofs.Common.{◌≡◌, ◌<◌, ◌++◌, ℕ, List, [], length, slice_get, unwrap_or, map, flat_map, All, sym, ap, ◌∙◌, subst, append_assoc, arith}
 use Rattle.std.proofs.lemmas.List.{ext_get_or}
 use Rattle.std.proofs.lemmas.Option.{unwrap_or-slice_get}
 use Rattle.rh_model.specs.ClusterView.{ClusterView, node_count, app_count, numbered, app_numbered}
@@ -7,7 +7,6 @@ use Rattle.rh_model.specs.declared.node.Node.{Node}
 use Rattle.rh_model.specs.declared.node.App.{App}
 use Rattle.rh_model.specs.declared.settings.Restart.TheVariants.{Temporary}
 use Rattle.rh_state.specs.declared.status.Mode.TheVariants.{Down}
-use Rattle.rh_state.specs.declared.status.Kind.TheVariants.{Normal}
 use Rattle.rh_state.specs.declared.status.Standing.TheVariants.{Quiet}
 use Rattle.std.proofs.Common.{false}
 use Rattle.rh_state.specs.Numbers.{nodes_of, apps_of}
@@ -15,8 +14,9 @@ use Rattle.rh_state.specs.Shape.{IsShaped}
 use Rattle.rh_state.specs.StateView.{StateView, standing_of}
 use Rattle.rh_state.specs.Tables.{row, cell}
 use Rattle.rh_settle.proofs.Searches.{length_nodes, length_apps, node_there, app_there}
-use Rattle.rh_explore.specs.Keys.{timer_numbers, node_numbers, app_numbers, key_of}
-use Rattle.rh_explore.proofs.KeyParts.{first_one, each_split, node_split, app_split, timers_same, SameNode, SamePair}
+use Rattle.rh_explore.specs.Keys.{timer_numbers, pair_numbers, node_numbers, app_numbers, key_of}
+use Rattle.rh_explore.proofs.KeyParts.{each_split, node_split, app_split, timers_same, timers_seen, SameNode, SamePair}
+use Rattle.rh_shifts.specs.Shifts.{seen_from, timeless, Alike}
 
 -- ---- lists and tables with equal elements
 column : {A : Type 0} (d : A) (xs ys : List A) → length xs ≡ length ys
@@ -52,58 +52,60 @@ module _ (s t : StateView) (shaped_s : IsShaped s) (shaped_t : IsShaped t) (c : 
   rows_t : {A : Type 0} (xs : List (List A)) → All (λ cells. length cells ≡ app_count t.cluster) xs → All (λ cells. length cells ≡ app_count s.cluster) xs
   rows_t xs all = λ k d l. all k d l ∙ apps_same
 
-  same_parts : s.time ≡ t.time → All (SameNode s t) (nodes_of s.cluster) → All (λ a. standing_of s a ≡ standing_of t a) (apps_of s.cluster)
-      → s.timers ≡ t.timers → s ≡ t
-  same_parts time nodes apps timers =
+  same_parts : All (SameNode s t) (nodes_of s.cluster) → All (λ a. standing_of s a ≡ standing_of t a) (apps_of s.cluster)
+      → map (seen_from s.time) s.timers ≡ map (seen_from t.time) t.timers → Alike s t
+  same_parts nodes apps timers =
       let node = node_of_all s.cluster (SameNode s t) nodes in
       let app = app_of_all s.cluster (λ a. standing_of s a ≡ standing_of t a) apps in
       let pair = λ (k j : ℕ) (l : k < node_count s.cluster) (m : j < app_count s.cluster).
       app_of_all s.cluster (SamePair s t (numbered k)) (node k l).pairs j m in
       let long_modes = shaped_s.modes in
-      let long_incarnations = shaped_s.incarnations in
       let long_running = shaped_s.running in
       let long_waiting = shaped_s.waiting in
       let long_standings = shaped_s.standings in
       let modes = column Down s.modes t.modes (long_modes ∙ sym nodes_same ∙ sym shaped_t.modes) (λ k l. (node k (omega (arith, l, long_modes))).mode) in
-      let incarnations = ext_get_or 0 s.incarnations t.incarnations (long_incarnations ∙ sym nodes_same ∙ sym shaped_t.incarnations)
-      (λ k l. (node k (omega (arith, l, long_incarnations))).incarnation) in
       let running = column [] s.running t.running (long_running ∙ sym nodes_same ∙ sym shaped_t.running) (λ k l. (node k (omega (arith, l, long_running))).running) in
       let waiting = column [] s.waiting t.waiting (long_waiting ∙ sym nodes_same ∙ sym shaped_t.waiting) (λ k l. (node k (omega (arith, l, long_waiting))).waiting) in
       let restarts = table Temporary s.restarts t.restarts (node_count s.cluster) (app_count s.cluster) shaped_s.restarts (shaped_t.restarts ∙ nodes_same)
       shaped_s.restart_rows (rows_t t.restarts shaped_t.restart_rows) (λ k j l m. (pair k j l m).restart) in
-      let kinds = table Normal s.kinds t.kinds (node_count s.cluster) (app_count s.cluster) shaped_s.kinds (shaped_t.kinds ∙ nodes_same)
-      shaped_s.kind_rows (rows_t t.kinds shaped_t.kind_rows) (λ k j l m. (pair k j l m).kind) in
       let allowed = table false s.allowed t.allowed (node_count s.cluster) (app_count s.cluster) shaped_s.allowed (shaped_t.allowed ∙ nodes_same)
       shaped_s.allowed_rows (rows_t t.allowed shaped_t.allowed_rows) (λ k j l m. (pair k j l m).permission) in
       let standings = column Quiet s.standings t.standings (long_standings ∙ sym apps_same ∙ sym shaped_t.standings) (λ k l. app k (omega (arith, l, long_standings))) in
       let cluster : s.cluster ≡ t.cluster = sym c in
       λ i. record {
         cluster = cluster i;
-        time = time i;
+        time = 0;
         modes = modes i;
-        incarnations = incarnations i;
+        incarnations = [];
         running = running i;
         waiting = waiting i;
         restarts = restarts i;
-        kinds = kinds i;
+        kinds = [];
         allowed = allowed i;
         standings = standings i;
         timers = timers i;
       }
 
-  pub keys_apart : key_of s ≡ key_of t → s ≡ t
+  pub keys_apart : key_of s ≡ key_of t → Alike s t
   unfolding key_of
   keys_apart e =
       let apps_s = flat_map (app_numbers s) (apps_of s.cluster) in
       let apps_t = flat_map (app_numbers t) (apps_of t.cluster) in
-      let timers_s = flat_map timer_numbers s.timers in
-      let timers_t = flat_map timer_numbers t.timers in
+      let timers_s = flat_map (timer_numbers s.time) s.timers in
+      let timers_t = flat_map (timer_numbers t.time) t.timers in
       let nodes_s = flat_map (node_numbers s) (nodes_of s.cluster) in
       let nodes_t = flat_map (node_numbers t) (nodes_of t.cluster) in
-      let head = first_one s.time t.time ((nodes_s ++ apps_s) ++ timers_s) ((nodes_t ++ apps_t) ++ timers_t) e in
-      let rest = sym (append_assoc nodes_s apps_s timers_s) ∙ head.1 ∙ append_assoc nodes_t apps_t timers_t in
+      let rest = sym (append_assoc nodes_s apps_s timers_s) ∙ e ∙ append_assoc nodes_t apps_t timers_t in
       let nodes = each_split (node_numbers s) (node_numbers t) (SameNode s t) (nodes_of s.cluster) (node_split s t c) (apps_s ++ timers_s) (apps_t ++ timers_t)
       (rest ∙ ap (λ (d : ClusterView). flat_map (node_numbers t) (nodes_of d) ++ (apps_t ++ timers_t)) c) in
       let apps = each_split (app_numbers s) (app_numbers t) (λ a. standing_of s a ≡ standing_of t a) (apps_of s.cluster) (app_split s t) timers_s timers_t
       (nodes.1 ∙ ap (λ (d : ClusterView). flat_map (app_numbers t) (apps_of d) ++ timers_t) c) in
-      same_parts head.0 nodes.0 apps.0 (timers_same s.timers t.timers apps.1)
+      same_parts nodes.0 apps.0 (timers_same s.time t.time s.timers t.timers apps.1)
+
+-- ---- and states that are alike have one key
+key_timeless : (s : StateView) → key_of (timeless s) ≡ key_of s
+unfolding key_of node_numbers pair_numbers app_numbers
+key_timeless s = ap (λ (l : List ℕ). flat_map (node_numbers s) (nodes_of s.cluster) ++ flat_map (app_numbers s) (apps_of s.cluster) ++ l) (timers_seen s.time s.timers)
+
+pub keys_alike : (s t : StateView) → Alike s t → key_of s ≡ key_of t
+keys_alike s t alike = sym (key_timeless s) ∙ ap key_of alike ∙ key_timeless t

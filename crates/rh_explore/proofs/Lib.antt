@@ -4,6 +4,7 @@ pub mod KeysApart
 pub mod KeyLists
 pub mod Asked
 pub mod Stepped
+pub mod Alikes
 pub mod Searched
 pub mod Reached
 pub mod Zips

@@ -1,18 +1,26 @@
 -- What one event adds to what was found.
-use Rattle.std.proofs.Common.{◌≡◌, ◌≢◌, ◌<◌, ◌≤◌, ◌+◌, ℕ, List, [], ◌∷◌, ◌++◌, length, get_or, slice_get, Some, None, All, sym, ap, ◌∙◌, subst, arith}
+use Rattle.std.proofs.Common.{◌≡◌, true, false, inl, inr, ◌<◌, ◌≤◌, ◌+◌, ℕ, List, [], ◌∷◌, ◌++◌, length, get_or, slice_get, Some, All, sym, ap, ◌∙◌, subst, arith}
 use Rattle.std.specs.Prelude.{Contains}
 use Rattle.std.specs.Option.{option_map}
 use Rattle.std.proofs.lemmas.List.{length-map, get_or-map, map_push}
 use Rattle.std.proofs.lemmas.Option.{same_Some, slice_get-map, slice_get_within, slice_get-get_or, get_or_from_slice_get}
+use Rattle.rh_state.specs.StateView.{StateView}
 use Rattle.rh_state.specs.Stored.{Stored, read}
+use Rattle.rh_shifts.specs.Shifts.{timeless, Alike}
+use Rattle.rh_shifts.specs.Laws.{meets_limit}
+use Rattle.rh_settle.proofs.Entries.{both}
+use Rattle.rh_explore.specs.Exploring.{StaysBelowLimits}
+use Rattle.rh_settle.specs.Validity.{IsValid}
 use Rattle.rh_rules.specs.declared.event.Event.{Event}
+use Rattle.rh_explore.specs.declared.reaching.Way.TheVariants.{To, Nowhere, AtLimit}
 use Rattle.rh_explore.specs.declared.space.Found.{Found}
 use Rattle.rh_explore.specs.declared.bounds.Covered.TheVariants as covered
 use Rattle.rh_explore.specs.Keys.{key_of}
 use Rattle.rh_explore.specs.Reaching.{Scope, MayCome}
-use Rattle.rh_explore.specs.Spaces.{Seen, StepsTo, IsSeen, IsSearched, IsNear, IsExpanded, IsExpandedAt, IsEnd, seen_in, seen_of, key_in, keys_of}
+use Rattle.rh_explore.specs.Spaces.{Seen, StepsTo, IsSeen, IsSearched, IsNear, IsExpanded, IsExpandedAt, IsAtLimit, IsCut, IsEnd, seen_in, seen_of, key_in, keys_of}
 use Rattle.rh_explore.proofs.Places.{at_of}
-use Rattle.rh_explore.proofs.KeysApart.{keys_apart}
+use Rattle.rh_explore.proofs.Alikes.{accepted_alike, few_alike}
+use Rattle.rh_explore.proofs.KeysApart.{keys_apart, keys_alike}
 use Rattle.rh_explore.proofs.Searched.{one_left_out, one_known, one_new, expand_begins, expand_ends, expand_near, ordered_at}
 
 -- a found state, among those that were
@@ -27,13 +35,27 @@ module _ (w : Scope) (found : List Found) (at : ℕ) (f : Found) (here : slice_g
       (same_Some so.0 (seen_in f) (sym so.1.here ∙ seen_there found at f here)) so.1
 
   module _ (e : Event) (made : ℕ) (is : slice_get w.events made ≡ Some e) (so : IsExpandedAt w (seen_of found) at made) where
-    pub not_there : StepsTo w.pick w.down (read f.state) e None → IsExpandedAt w (seen_of found) at (made + 1)
-    not_there not = (seen_in f, one_left_out w (seen_of found) at (seen_in f) made e is (it_is made so) (λ may. not may.accepted may.few))
+    listed : Contains w.events e
+    listed = (made, slice_get_within w.events made e is, get_or_from_slice_get w.events made e e is)
 
-    module _ (t : Stored) (steps : StepsTo w.pick w.down (read f.state) e (Some t)) where
+    is_here : IsSeen w (seen_in f)
+    is_here = at_of (IsSeen w) (seen_of found) at (seen_in f) (it_is made so).searched.each (seen_there found at f here)
+
+    pub not_there : StepsTo w.pick w.down (read f.state) e Nowhere → IsExpandedAt w (seen_of found) at (made + 1)
+    not_there not = (
+      seen_in f,
+      one_left_out w (seen_of found) at (seen_in f) made e is (it_is made so)
+          (λ (s : StateView) (alike : Alike s (read f.state)) (valid : IsValid s) (may : MayCome w s e).
+          not.1 (accepted_alike w s (read f.state) e alike may not.0) (few_alike w s (read f.state) e valid is_here.valid alike may)),
+    )
+
+    pub at_limit : StepsTo w.pick w.down (read f.state) e AtLimit → IsAtLimit w (seen_of found) at
+    at_limit met = (seen_in f, e, seen_there found at f here, listed, met)
+
+    module _ (t : Stored) (steps : StepsTo w.pick w.down (read f.state) e (To t)) where
       may : MayCome w (read f.state) e
       may = record {
-        listed = (made, slice_get_within w.events made e is, get_or_from_slice_get w.events made e e is);
+        listed = listed;
         accepted = steps.0;
         few = steps.1;
       }
@@ -41,8 +63,8 @@ module _ (w : Scope) (found : List Found) (at : ℕ) (f : Found) (here : slice_g
       is_seen : (k : ℕ) (g : Found) → slice_get found k ≡ Some g → IsSeen w (seen_in g)
       is_seen k g there = at_of (IsSeen w) (seen_of found) k (seen_in g) (it_is made so).searched.each (seen_there found k g there)
 
-      -- a state with its key is it
-      same_key : (k : ℕ) (g : Found) → slice_get found k ≡ Some g → key_of (read g.state) ≡ key_of (read t) → read g.state ≡ read t
+      -- a state with its key is alike
+      same_key : (k : ℕ) (g : Found) → slice_get found k ≡ Some g → key_of (read g.state) ≡ key_of (read t) → Alike (read g.state) (read t)
       same_key k g there keys =
           let that = is_seen k g there in
           let this = is_seen at f here in
@@ -59,11 +81,11 @@ module _ (w : Scope) (found : List Found) (at : ℕ) (f : Found) (here : slice_g
           let near = at_of (λ (y : Seen). length y.path ≤ length f.path.items + 1) (seen_of found) k (seen_in g) (it_is made so).near (seen_there found k g there) in (
             seen_in f,
             one_known w (seen_of found) at (seen_in f) made e is (it_is made so)
-                (k, seen_in g, seen_there found k g there, same_key k g there keys ∙ steps.2, near),
+                (k, seen_in g, seen_there found k g there, sym (same_key k g there keys ∙ ap timeless steps.2), near),
           )
 
       module _ (new : Contains (keys_of found) (key_of (read t)) → ⊥) where
-        fresh : All (λ (y : Seen). y.state ≢ read t) (seen_of found)
+        fresh : All (λ (y : Seen). Alike y.state (read t) → ⊥) (seen_of found)
         fresh = λ k d l same.
             let k_in : k < length found = omega (arith, l, length-map found seen_in) in
             let g = get_or found k f in
@@ -71,7 +93,8 @@ module _ (w : Scope) (found : List Found) (at : ℕ) (f : Found) (here : slice_g
             new (
               k,
               omega (arith, k_in, length-map found key_in),
-              get_or-map key_in found k f (key_of (read t)) k_in ∙ ap key_of (sym (ap (λ (y : Seen). y.state) seen_is) ∙ same),
+              get_or-map key_in found k f (key_of (read t)) k_in ∙ ap key_of (sym (ap (λ (y : Seen). y.state) seen_is))
+                  ∙ keys_alike (get_or (seen_of found) k d).state (read t) same,
             )
 
         pub added : (g : Found) → g.path.items ≡ f.path.items ++ e ∷ [] → g.state ≡ t → IsExpandedAt w (seen_of (found ++ g ∷ [])) at (made + 1)
@@ -98,6 +121,18 @@ module _ (w : Scope) (found : List Found) (at : ℕ) (f : Found) (here : slice_g
   few_more count steps so short = λ k d l. let near = (it_is count so).near k d l in omega (arith, near, short)
 
   -- ---- the end
+  -- below the limits, and while there is room, no event ends the search
+  pub never_cut : (count steps states : ℕ) → IsExpandedAt w (seen_of found) at count → IsCut w states (seen_of found) at → length found < states
+      → length f.path.items < steps → StaysBelowLimits w steps → ⊥
+  never_cut count steps states so (inl full) few short below = absurd (omega (arith, full, few, length-map found seen_in))
+  never_cut count steps states so (inr met) few short below =
+      let e = met.1 in
+      let x_is : met.0 ≡ seen_in f = same_Some met.0 (seen_in f) (sym met.2 ∙ seen_there found at f here) in
+      let is = at_of (IsSeen w) (seen_of found) at (seen_in f) (it_is count so).searched.each (seen_there found at f here) in
+      both (meets_limit (read f.state) e)
+      (subst (λ (y : Seen). meets_limit y.state e ≡ true) x_is met.4)
+      (subst (λ (s : StateView). meets_limit s e ≡ false) is.leads (below f.path.items e is.may_come short met.3))
+
   pub searched_still : (count : ℕ) → IsExpandedAt w (seen_of found) at count → IsSearched w (seen_of found) at
   searched_still count so = (it_is count so).searched
 

@@ -114,15 +114,14 @@ row_none_not_up : not_up_count running ≡ 0
 unfolding nodes_of
 row_none_not_up = refl
 
--- ---- the key: the time; of each node its mode, its starts, what runs, what waits, and of each application its restart type, whether it
--- may run, and its start kind; of each application where it stands; and the timers
+-- ---- the key: of each node its mode, what runs, what waits, and of each application its restart type, and whether it may run; of each
+-- application where it stands; and the timers, counted from 700
 row_key : key_of lost
-    ≡ 700
-    ∷ 0 ∷ 2 ∷ 0 ∷ 0 ∷ 2 ∷ 1 ∷ 0 ∷ 0
-    ∷ 1 ∷ 1 ∷ 0 ∷ 0 ∷ 2 ∷ 0 ∷ 1 ∷ 0
-    ∷ 2 ∷ 4 ∷ 0 ∷ 1 ∷ 0 ∷ 2 ∷ 1 ∷ 2 ∷ 1
+    ≡ 0 ∷ 0 ∷ 0 ∷ 2 ∷ 1
+    ∷ 1 ∷ 0 ∷ 0 ∷ 2 ∷ 0
+    ∷ 2 ∷ 0 ∷ 1 ∷ 0 ∷ 2 ∷ 1
     ∷ 4 ∷ 0
-    ∷ 1200 ∷ 0 ∷ 1 ∷ 5600 ∷ 1 ∷ 0 ∷ []
+    ∷ 500 ∷ 0 ∷ 1 ∷ 4900 ∷ 1 ∷ 0 ∷ []
 unfolding key_of node_numbers pair_numbers app_numbers nodes_of apps_of
 row_key = refl
 

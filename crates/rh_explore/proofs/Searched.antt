@@ -1,5 +1,5 @@
 -- What follows of what a search has found.
-use Rattle.std.proofs.Common.{◌≡◌, ◌≢◌, ◌<◌, ◌≤◌, ◌+◌, ℕ, true, false, nat_lt, List, [], ◌∷◌, ◌++◌, length, get_or, map, slice_get, Some, All, refl, sym, ap, ◌∙◌, subst, arith}
+use Rattle.std.proofs.Common.{◌≡◌, ◌<◌, ◌≤◌, ◌+◌, ℕ, true, false, nat_lt, List, [], ◌∷◌, ◌++◌, length, get_or, map, slice_get, Some, All, refl, sym, ap, ◌∙◌, subst, arith}
 use Rattle.std.proofs.lemmas.List.{length_push, length-map, get_or-map}
 use Rattle.std.proofs.lemmas.List.Elements.{All-push}
 use Rattle.std.proofs.lemmas.List.Quantifiers.{all_pairs_push}
@@ -7,6 +7,7 @@ use Rattle.std.proofs.lemmas.Option.{same_Some, slice_get_within, slice_get-get_
 use Rattle.rh_base.proofs.Lists.{cases}
 use Rattle.rh_state.specs.StateView.{StateView}
 use Rattle.rh_rules.specs.declared.event.Event.{Event}
+use Rattle.rh_shifts.specs.Shifts.{timeless, Alike}
 use Rattle.rh_settle.specs.Validity.{IsValid}
 use Rattle.rh_settle.proofs.Entries.{is_below, is_above}
 use Rattle.rh_trail.specs.Runs.{step}
@@ -18,7 +19,8 @@ use Rattle.rh_explore.specs.Reaching.{Scope, MayCome, MayAllCome, behind}
 use Rattle.rh_explore.specs.declared.answers.Verdict.{Verdict}
 use Rattle.rh_explore.specs.declared.answers.Verdict.TheVariants.{Holds, Fails}
 use Rattle.rh_explore.specs.Exploring.{IsCovered, HoldsWithin, IsShortest, IsVerdict, AreReached}
-use Rattle.rh_explore.specs.Spaces.{Seen, IsSeen, HasWithin, IsSearched, IsNear, IsExpanded, IsEnd, FirstFails}
+use Rattle.rh_explore.specs.Spaces.{Seen, IsSeen, HasWithin, LeadsOn, IsSearched, IsNear, IsExpanded, IsEnd, FirstFails}
+use Rattle.rh_explore.proofs.Alikes.{step_valid, step_alike, asked_alike}
 use Rattle.rh_explore.proofs.Places.{at_front, at_of, pair_of}
 
 -- ---- lists of events
@@ -35,6 +37,10 @@ behind_push w s (x ∷ es) e = behind_push w (step w.pick s x) es e
 -- ---- what was found stays
 stays : (seen : List Seen) (y : Seen) (s : StateView) (n : ℕ) → HasWithin seen s n → HasWithin (seen ++ y ∷ []) s n
 stays seen y s n h = (h.0, h.1, at_front seen (y ∷ []) h.0 (slice_get_within seen h.0 h.1 h.2) ∙ h.2, h.3, h.4)
+
+-- what is found for a state is found for one that is alike
+within_alike : (seen : List Seen) (s t : StateView) (n : ℕ) → Alike s t → HasWithin seen t n → HasWithin seen s n
+within_alike seen s t n alike h = (h.0, h.1, h.2, alike ∙ h.3, h.4)
 
 -- the base alone
 pub base_searched : (w : Scope) → IsValid w.base → IsSearched w (record { path = []; state = w.base } ∷ []) 0
@@ -60,22 +66,28 @@ module _ (w : Scope) (seen : List Seen) (at : ℕ) (x : Seen) where
   module _ (made : ℕ) (e : Event) (x_is : slice_get w.events made ≡ Some e) (so : IsExpanded w seen at x made) where
     -- the event of number j is this one, or was made before
     one_more : (seen' : List Seen) → ((s : StateView) (n : ℕ) → HasWithin seen s n → HasWithin seen' s n)
-        → (MayCome w x.state e → HasWithin seen' (step w.pick x.state e) (length x.path + 1))
-        → (j : ℕ) (f : Event) → j < made + 1 → slice_get w.events j ≡ Some f → MayCome w x.state f → HasWithin seen' (step w.pick x.state f) (length x.path + 1)
-    one_more seen' keeps here j f l is may = cases (nat_lt j made)
-        (λ t. keeps _ _ (so.made j f (is_below j made t) is may))
+        → LeadsOn w seen' x e → (j : ℕ) (f : Event) → j < made + 1 → slice_get w.events j ≡ Some f → LeadsOn w seen' x f
+    one_more seen' keeps here j f l is = cases (nat_lt j made)
+        (λ t s alike valid may. keeps (step w.pick s f) (length x.path + 1) (so.made j f (is_below j made t) is s alike valid may))
         (λ o. let same : j ≡ made = omega (arith, is_above j made o, l) in
         let e_is : e ≡ f = same_Some e f (sym x_is ∙ sym (ap (slice_get w.events) same) ∙ is) in
-        subst (λ g. HasWithin seen' (step w.pick x.state g) (length x.path + 1)) e_is (here (subst (MayCome w x.state) (sym e_is) may)))
+        subst (LeadsOn w seen' x) e_is here)
 
     -- it can't come
-    pub one_left_out : (MayCome w x.state e → ⊥) → IsExpanded w seen at x (made + 1)
+    pub one_left_out : ((s : StateView) → Alike s x.state → IsValid s → MayCome w s e → ⊥) → IsExpanded w seen at x (made + 1)
     one_left_out not = record {
       searched = so.searched;
       here = so.here;
       near = so.near;
-      made = one_more seen (λ s n h. h) (λ may. absurd (not may));
+      made = one_more seen (λ s n h. h) (λ s alike valid may. absurd (not s alike valid may));
     }
+
+    -- where it leads from this state, it leads from one that is alike
+    leads_alike : (seen' : List Seen) → HasWithin seen' (step w.pick x.state e) (length x.path + 1) → LeadsOn w seen' x e
+    leads_alike seen' has s alike valid may =
+        let here = at_of (IsSeen w) seen at x so.searched.each so.here in
+        within_alike seen' (step w.pick s e) (step w.pick x.state e) (length x.path + 1)
+        (step_alike w.pick s x.state e valid here.valid alike) has
 
     -- it leads to a state that was found
     pub one_known : HasWithin seen (step w.pick x.state e) (length x.path + 1) → IsExpanded w seen at x (made + 1)
@@ -83,12 +95,12 @@ module _ (w : Scope) (seen : List Seen) (at : ℕ) (x : Seen) where
       searched = so.searched;
       here = so.here;
       near = so.near;
-      made = one_more seen (λ s n h. h) (λ may. known);
+      made = one_more seen (λ s n h. h) (leads_alike seen known);
     }
 
     -- it leads to a new one
     module _ (t : StateView) (is : t ≡ step w.pick x.state e) (may : MayCome w x.state e) (valid : IsValid t) (cluster : t.cluster ≡ x.state.cluster)
-        (fresh : All (λ (y : Seen). y.state ≢ t) seen) where
+        (fresh : All (λ (y : Seen). Alike y.state t → ⊥) seen) where
       abbrev new : Seen
       new = record { path = x.path ++ e ∷ []; state = t }
 
@@ -113,7 +125,7 @@ module _ (w : Scope) (seen : List Seen) (at : ℕ) (x : Seen) where
       front k l = at_front seen (new ∷ []) k l
 
       has_new : HasWithin (seen ++ new ∷ []) (step w.pick x.state e) (length x.path + 1)
-      has_new = (length seen, new, last seen, is, omega (arith, longer))
+      has_new = (length seen, new, last seen, ap timeless (sym is), omega (arith, longer))
         where
           last : (xs : List Seen) → slice_get (xs ++ new ∷ []) (length xs) ≡ Some new
           last [] = refl
@@ -130,9 +142,9 @@ module _ (w : Scope) (seen : List Seen) (at : ℕ) (x : Seen) where
         each = All-push (IsSeen w) seen new so.searched.each is_seen;
         begins = front 0 (omega (arith, within)) ∙ so.searched.begins;
         ordered = all_pairs_push (λ (a b : Seen). length a.path ≤ length b.path) seen new so.searched.ordered in_order;
-        different = all_pairs_push (λ (a b : Seen). a.state ≢ b.state) seen new so.searched.different fresh;
-        closed = λ k z f l there can. stays seen new (step w.pick z.state f) (length z.path + 1)
-            (so.searched.closed k z f l (sym (front k (omega (arith, within, l))) ∙ there) can);
+        different = all_pairs_push (λ (a b : Seen). Alike a.state b.state → ⊥) seen new so.searched.different fresh;
+        closed = λ k z f l there s alike ok can. stays seen new (step w.pick s f) (length z.path + 1)
+            (so.searched.closed k z f l (sym (front k (omega (arith, within, l))) ∙ there) s alike ok can);
       }
 
       pub one_new : IsExpanded w (seen ++ new ∷ []) at x (made + 1)
@@ -140,7 +152,7 @@ module _ (w : Scope) (seen : List Seen) (at : ℕ) (x : Seen) where
         searched = searched_new;
         here = front at within ∙ so.here;
         near = all_near;
-        made = one_more (seen ++ new ∷ []) (stays seen new) (λ _. has_new);
+        made = one_more (seen ++ new ∷ []) (stays seen new) (leads_alike (seen ++ new ∷ []) has_new);
       }
 
   -- all were made
@@ -150,14 +162,13 @@ module _ (w : Scope) (seen : List Seen) (at : ℕ) (x : Seen) where
     begins = so.searched.begins;
     ordered = so.searched.ordered;
     different = so.searched.different;
-    closed = λ k z e l there may. cases (nat_lt k at)
-        (λ t. so.searched.closed k z e (is_below k at t) there may)
+    closed = λ k z e l there s alike valid may. cases (nat_lt k at)
+        (λ t. so.searched.closed k z e (is_below k at t) there s alike valid may)
         (λ f. let same : k ≡ at = omega (arith, is_above k at f, l) in
         let z_is : x ≡ z = same_Some x z (sym so.here ∙ sym (ap (slice_get seen) same) ∙ there) in
-        let may_x : MayCome w x.state e = subst (λ (y : Seen). MayCome w y.state e) (sym z_is) may in
-        subst (λ (y : Seen). HasWithin seen (step w.pick y.state e) (length y.path + 1)) z_is
-        (so.made may.listed.0 e may.listed.1
-        (slice_get-get_or w.events may.listed.0 e may.listed.1 ∙ ap Some may.listed.2) may_x));
+        subst (λ (y : Seen). LeadsOn w seen y e) z_is
+        (so.made may.listed.0 e may.listed.1 (slice_get-get_or w.events may.listed.0 e may.listed.1 ∙ ap Some may.listed.2))
+        s alike valid may);
   }
 
 -- ---- the order of what was found
@@ -179,20 +190,21 @@ module _ (w : Scope) (seen : List Seen) (done : ℕ) (so : IsSearched w seen don
 
   -- ---- each list that may come, and isn't longer than those whose events weren't made, leads to a state that was found
   module _ (n : ℕ) (beyond : (k : ℕ) (x : Seen) → done ≤ k → slice_get seen k ≡ Some x → n ≤ length x.path) where
-    from_seen : (es : List Event) (k : ℕ) (x : Seen) → slice_get seen k ≡ Some x → MayAllCome w x.state es → length x.path + length es ≤ n
-        → HasWithin seen (behind w x.state es) (length x.path + length es)
-    from_seen [] k x at may l = (k, x, at, refl, omega arith)
-    from_seen (e ∷ es) k x at may l = cases (nat_lt k done)
-        (λ t. let one = so.closed k x e (is_below k done t) at may.0 in
+    from_seen : (es : List Event) (k : ℕ) (x : Seen) (s : StateView) → slice_get seen k ≡ Some x → Alike s x.state → IsValid s → MayAllCome w s es
+        → length x.path + length es ≤ n → HasWithin seen (behind w s es) (length x.path + length es)
+    from_seen [] k x s at alike valid may l = (k, x, at, alike, omega arith)
+    from_seen (e ∷ es) k x s at alike valid may l = cases (nat_lt k done)
+        (λ t. let one = so.closed k x e (is_below k done t) at s alike valid may.0 in
         let short = one.4 in
-        let rest = from_seen es one.0 one.1 one.2 (subst (λ s. MayAllCome w s es) (sym one.3) may.1) (omega (arith, short, l)) in
+        let rest = from_seen es one.0 one.1 (step w.pick s e) one.2 one.3 (step_valid w s e valid may.0) may.1 (omega (arith, short, l)) in
         let long = rest.4 in
-        (rest.0, rest.1, rest.2, rest.3 ∙ ap (λ s. behind w s es) one.3, omega (arith, short, long)))
+        (rest.0, rest.1, rest.2, rest.3, omega (arith, short, long)))
         (λ f. let far = beyond k x (is_above k done f) at in absurd (omega (arith, far, l)))
 
     pub complete : (es : List Event) → MayAllCome w w.base es → length es ≤ n → HasWithin seen (behind w w.base es) (length es)
     complete es may l =
-        let all = from_seen es 0 (record { path = []; state = w.base }) so.begins may (omega (arith, l)) in
+        let base : Seen = record { path = []; state = w.base } in
+        let all = from_seen es 0 base w.base so.begins refl (at_of (IsSeen w) seen 0 base so.each so.begins).valid may (omega (arith, l)) in
         let few = all.4 in
         (all.0, all.1, all.2, all.3, omega (arith, few))
 
@@ -206,7 +218,7 @@ module _ (w : Scope) (seen : List Seen) (done : ℕ) (so : IsSearched w seen don
   pub holds_within : (ask : Ask) (covered : Covered) → IsEnd seen done covered → All (λ (x : Seen). holds_in ask x.state ≡ true) seen → HoldsWithin w covered ask
   holds_within ask covered end all es may within =
       let found = covered_found covered end es may within in
-      ap (holds_in ask) (sym found.3) ∙ at_of (λ (x : Seen). holds_in ask x.state ≡ true) seen found.0 found.1 all found.2
+      asked_alike ask (behind w w.base es) found.1.state found.3 ∙ at_of (λ (x : Seen). holds_in ask x.state ≡ true) seen found.0 found.1 all found.2
 
   -- a shorter list than that of a state leads to one that was found before
   module _ (near : IsNear seen done) (i : ℕ) (x : Seen) (here : slice_get seen i ≡ Some x) where
@@ -220,7 +232,7 @@ module _ (w : Scope) (seen : List Seen) (done : ℕ) (so : IsSearched w seen don
         omega (arith, close, order, l)
 
     pub shorter_found : (other : List Event) → MayAllCome w w.base other → length other < length x.path
-        → (k : ℕ) × (y : Seen) × (k < i) × (slice_get seen k ≡ Some y) × (y.state ≡ behind w w.base other)
+        → (k : ℕ) × (y : Seen) × (k < i) × (slice_get seen k ≡ Some y) × Alike (behind w w.base other) y.state
     shorter_found other may l =
         let found = complete (length other) (unexpanded_far (length other) l) other may (omega arith) in
         let short = found.4 in (
@@ -241,16 +253,16 @@ module _ (w : Scope) (seen : List Seen) (done : ℕ) (so : IsSearched w seen don
           fails = ap (holds_in ask) seen_x.leads ∙ fails;
           shortest = λ other may l.
               let found = shorter_found other may l in
-              ap (holds_in ask) (sym found.4) ∙ earlier found.0 found.1 found.2 found.3;
+              asked_alike ask (behind w w.base other) found.1.state found.4 ∙ earlier found.0 found.1 found.2 found.3;
         }
 
   -- ---- all states
   -- no shorter list leads to a state that was found
   pub path_is_shortest : IsNear seen done → (i : ℕ) (x : Seen) → slice_get seen i ≡ Some x → (es : List Event) → MayAllCome w w.base es
-      → behind w w.base es ≡ x.state → length x.path ≤ length es
+      → Alike (behind w w.base es) x.state → length x.path ≤ length es
   path_is_shortest near i x here es may leads = cases (nat_lt (length es) (length x.path))
       (λ t. let earlier = shorter_found near i x here es may (is_below (length es) (length x.path) t) in
-      absurd (pair_of (λ (a b : Seen). a.state ≢ b.state) seen earlier.0 i earlier.1 x so.different earlier.2 earlier.3 here (earlier.4 ∙ leads)))
+      absurd (pair_of (λ (a b : Seen). Alike a.state b.state → ⊥) seen earlier.0 i earlier.1 x so.different earlier.2 earlier.3 here (sym earlier.4 ∙ leads)))
       (λ f. is_above (length es) (length x.path) f)
 
   module _ (near : IsNear seen done) (last : ℕ) (x : Seen) (here : slice_get seen last ≡ Some x) (is_last : last + 1 ≡ length seen) where
@@ -265,7 +277,7 @@ module _ (w : Scope) (seen : List Seen) (done : ℕ) (so : IsSearched w seen don
               let i_in : i < length seen = omega (arith, l, j_in) in
               let ai = get_or-map state seen i base d i_in in
               let aj = get_or-map state seen j base d j_in in
-              λ same. so.different i j base l j_in (sym ai ∙ same ∙ aj);
+              λ same. so.different i j base l j_in (ap timeless (sym ai) ∙ same ∙ ap timeless aj);
           reached = λ k d l.
               let k_in : k < length seen = omega (arith, l, long) in
               let y = get_or seen k base in
@@ -289,8 +301,10 @@ module _ (w : Scope) (seen : List Seen) (done : ℕ) (so : IsSearched w seen don
               let found = covered_found covered end es may within in
               let k_in = slice_get_within seen found.0 found.1 found.2 in (
                 found.0,
+                found.1.state,
                 omega (arith, long, k_in),
-                get_or-map state seen found.0 found.1 (behind w w.base es) k_in ∙ ap state (get_or_from_slice_get seen found.0 found.1 found.1 found.2) ∙ found.3,
+                get_or-map state seen found.0 found.1 found.1.state k_in ∙ ap state (get_or_from_slice_get seen found.0 found.1 found.1 found.2),
+                found.3,
               );
         }
 

@@ -1,9 +1,11 @@
 -- What a search answers (ours).
-use Rattle.std.specs.Prelude.{◌≡◌, ◌≢◌, ◌≤◌, ◌<◌, ℕ, true, false, List, length, All, Any, AllPairs, Contains}
+use Rattle.std.specs.Prelude.{◌≡◌, ◌≤◌, ◌<◌, ℕ, true, false, List, length, All, Any, AllPairs, Contains}
 use Rattle.rh_state.specs.StateView.{StateView}
 use Rattle.rh_state.specs.Stored.{Stored, read}
 use Rattle.rh_rules.specs.declared.event.Event.{Event}
 use Rattle.rh_rules.specs.declared.pick.Pick.{Pick}
+use Rattle.rh_shifts.specs.Shifts.{Alike}
+use Rattle.rh_shifts.specs.Laws.{meets_limit}
 use Rattle.rh_explore.specs.declared.answers.Verdict.{Verdict}
 use Rattle.rh_explore.specs.declared.answers.Verdict.TheVariants.{Holds, Fails}
 use Rattle.rh_explore.specs.declared.asking.Ask.{Ask}
@@ -27,6 +29,12 @@ abbrev pub CoversAll : ℕ → Covered → Type 0
 CoversAll steps covered.All = Unit {0}
 CoversAll steps (covered.UpTo n) = steps ≤ n
 
+-- no limit of starts or of time refuses an event behind fewer events than these
+abbrev pub StaysBelowLimits : Scope → ℕ → Type 0
+StaysBelowLimits w steps =
+    (es : List Event) (e : Event) → MayAllCome w w.base es → length es < steps → Contains w.events e
+    → meets_limit (behind w w.base es) e ≡ false
+
 -- what is asked holds in each state to which one of the covered lists leads
 abbrev pub HoldsWithin : Scope → Covered → Ask → Type 0
 HoldsWithin w covered ask = (es : List Event) → MayAllCome w w.base es → IsCovered covered es → holds_in ask (behind w w.base es) ≡ true
@@ -43,10 +51,10 @@ abbrev pub IsVerdict : Scope → ℕ → Covered → Ask → Verdict → Type 0
 IsVerdict w steps covered ask Holds = HoldsWithin w covered ask
 IsVerdict w steps covered ask (Fails es) = IsShortest w steps ask es.items
 
--- these states are different; at most so many events lead to each, and no fewer to some of them; and each state to which a covered list
--- leads is one of them
+-- of these states no two are alike; at most so many events lead to each, and no fewer to some of them, or to one that is alike; and each
+-- state to which a covered list leads is alike to one of them
 pub record AreReached (w : Scope) (deepest : ℕ) (covered : Covered) (found : List StateView) : Type 0 where
-  pub different : AllPairs (λ s later. s ≢ later) found
+  pub different : AllPairs (λ s later. Alike s later → ⊥) found
   pub reached : All (Reaches w deepest) found
-  pub farthest : Any (λ s. (es : List Event) → MayAllCome w w.base es → behind w w.base es ≡ s → deepest ≤ length es) found
-  pub complete : (es : List Event) → MayAllCome w w.base es → IsCovered covered es → Contains found (behind w w.base es)
+  pub farthest : Any (λ s. (es : List Event) → MayAllCome w w.base es → Alike (behind w w.base es) s → deepest ≤ length es) found
+  pub complete : (es : List Event) → MayAllCome w w.base es → IsCovered covered es → Any (Alike (behind w w.base es)) found

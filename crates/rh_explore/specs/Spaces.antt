@@ -1,10 +1,12 @@
 -- What is said within a search, where a part of the states is found (ours).
-use Rattle.std.specs.Prelude.{◌≡◌, ◌≢◌, ◌≤◌, ◌<◌, ◌+◌, ℕ, true, false, List, [], Option, Some, None, length, map, slice_get, All, AllPairs}
+use Rattle.std.specs.Prelude.{◌≡◌, ◌⊎◌, ◌≤◌, ◌<◌, ◌+◌, ℕ, true, false, List, [], Some, None, length, map, slice_get, All, AllPairs, Contains}
 use Rattle.rh_state.specs.StateView.{StateView}
-use Rattle.rh_state.specs.Stored.{Stored, read}
+use Rattle.rh_state.specs.Stored.{read}
 use Rattle.rh_rules.specs.declared.event.Event.{Event}
 use Rattle.rh_rules.specs.declared.pick.Pick.{Pick}
 use Rattle.rh_rules.specs.Refusals.{refused}
+use Rattle.rh_shifts.specs.Shifts.{Alike}
+use Rattle.rh_shifts.specs.Laws.{meets_limit}
 use Rattle.rh_settle.specs.Validity.{IsValid}
 use Rattle.rh_trail.specs.Runs.{step}
 use Rattle.rh_explore.specs.declared.answers.Verdict.{Verdict}
@@ -13,15 +15,18 @@ use Rattle.rh_explore.specs.declared.asking.Ask.{Ask}
 use Rattle.rh_explore.specs.Asking.{holds_in}
 use Rattle.rh_explore.specs.declared.bounds.Covered.{Covered}
 use Rattle.rh_explore.specs.declared.bounds.Covered.TheVariants as covered
+use Rattle.rh_explore.specs.declared.reaching.Way.{Way}
+use Rattle.rh_explore.specs.declared.reaching.Way.TheVariants.{To, Nowhere, AtLimit}
 use Rattle.rh_explore.specs.declared.space.Found.{Found}
 use Rattle.rh_explore.specs.declared.space.Space.{Space}
 use Rattle.rh_explore.specs.Keys.{key_of}
 use Rattle.rh_explore.specs.Reaching.{Scope, MayCome, MayAllCome, not_up_count, behind}
 
--- the event leads there, within the scope; or it can't be made, or too many nodes are not up behind it
-abbrev pub StepsTo : Pick → ℕ → StateView → Event → Option Stored → Type 0
-StepsTo pick down s e None = refused s e ≡ None → not_up_count (step pick s e) ≤ down → ⊥
-StepsTo pick down s e (Some t) =
+-- the event leads there, within the scope; or it can't be made, or too many nodes are not up behind it; or a limit refuses it
+abbrev pub StepsTo : Pick → ℕ → StateView → Event → Way → Type 0
+StepsTo pick down s e Nowhere = (meets_limit s e ≡ false) × (refused s e ≡ None → not_up_count (step pick s e) ≤ down → ⊥)
+StepsTo pick down s e AtLimit = meets_limit s e ≡ true
+StepsTo pick down s e (To t) =
     (refused s e ≡ None) × (not_up_count (step pick s e) ≤ down) × (read t ≡ step pick s e) × IsValid (read t) × ((read t).cluster ≡ s.cluster)
 
 -- a state that was found, and a list of events that leads to it
@@ -36,19 +41,23 @@ pub record IsSeen (w : Scope) (x : Seen) : Type 0 where
   pub valid : IsValid x.state
   pub cluster : x.state.cluster ≡ w.base.cluster
 
--- a state was found, by a list of at most so many events
+-- a state that is alike was found, by a list of at most so many events
 abbrev pub HasWithin : List Seen → StateView → ℕ → Type 0
-HasWithin seen s n = (k : ℕ) × (x : Seen) × (slice_get seen k ≡ Some x) × (x.state ≡ s) × (length x.path ≤ n)
+HasWithin seen s n = (k : ℕ) × (x : Seen) × (slice_get seen k ≡ Some x) × Alike s x.state × (length x.path ≤ n)
 
--- different states that were found, those by shorter lists first, and the base as the first; no event leads from the first `done` of
--- them to one that wasn't found
+-- where the event may come, from this state or from one that is alike, it leads to one that was found, by one event more
+abbrev pub LeadsOn : Scope → List Seen → Seen → Event → Type 0
+LeadsOn w seen x e =
+    (s : StateView) → Alike s x.state → IsValid s → MayCome w s e → HasWithin seen (step w.pick s e) (length x.path + 1)
+
+-- states that were found, no two of them alike, those by shorter lists first, and the base as the first; no event leads from the first
+-- `done` of them to one that wasn't found
 pub record IsSearched (w : Scope) (seen : List Seen) (done : ℕ) : Type 0 where
   pub each : All (IsSeen w) seen
   pub begins : slice_get seen 0 ≡ Some (record { path = []; state = w.base })
   pub ordered : AllPairs (λ x later. length x.path ≤ length later.path) seen
-  pub different : AllPairs (λ x later. x.state ≢ later.state) seen
-  pub closed : (k : ℕ) (x : Seen) (e : Event) → k < done → slice_get seen k ≡ Some x → MayCome w x.state e
-      → HasWithin seen (step w.pick x.state e) (length x.path + 1)
+  pub different : AllPairs (λ x later. Alike x.state later.state → ⊥) seen
+  pub closed : (k : ℕ) (x : Seen) (e : Event) → k < done → slice_get seen k ≡ Some x → LeadsOn w seen x e
 
 -- no list is longer by more than one event than that of the first state whose events weren't made
 abbrev pub IsNear : List Seen → ℕ → Type 0
@@ -59,12 +68,19 @@ pub record IsExpanded (w : Scope) (seen : List Seen) (at : ℕ) (x : Seen) (coun
   pub searched : IsSearched w seen at
   pub here : slice_get seen at ≡ Some x
   pub near : All (λ (y : Seen). length y.path ≤ length x.path + 1) seen
-  pub made : (j : ℕ) (e : Event) → j < count → slice_get w.events j ≡ Some e → MayCome w x.state e
-      → HasWithin seen (step w.pick x.state e) (length x.path + 1)
+  pub made : (j : ℕ) (e : Event) → j < count → slice_get w.events j ≡ Some e → LeadsOn w seen x e
 
 -- so in whatever state has this number
 abbrev pub IsExpandedAt : Scope → List Seen → ℕ → ℕ → Type 0
 IsExpandedAt w seen at made = (x : Seen) × IsExpanded w seen at x made
+
+-- a limit of starts or of time refuses one of the events in the state of this number
+abbrev pub IsAtLimit : Scope → List Seen → ℕ → Type 0
+IsAtLimit w seen at = (x : Seen) × (e : Event) × (slice_get seen at ≡ Some x) × Contains w.events e × (meets_limit x.state e ≡ true)
+
+-- the search ends there: as many states were found as may be kept, or a limit refuses an event
+abbrev pub IsCut : Scope → ℕ → List Seen → ℕ → Type 0
+IsCut w states seen at = (states ≤ length seen) ⊎ IsAtLimit w seen at
 
 -- the lists of events of which all were looked at
 abbrev pub IsEnd : List Seen → ℕ → Covered → Type 0

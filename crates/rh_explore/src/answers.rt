@@ -5,7 +5,7 @@ ghost use Rattle.std.specs.List.{AllZip};
 ghost use Rattle.rh_state.specs.StateView.{StateView};
 ghost use Rattle.rh_state.specs.Stored.{read};
 ghost use Rattle.rh_settle.specs.Validity.{IsValid};
-ghost use Rattle.rh_explore.specs.Exploring.{scope_of, CoversAll, IsVerdict, AreReached};
+ghost use Rattle.rh_explore.specs.Exploring.{scope_of, StaysBelowLimits, CoversAll, IsVerdict, AreReached};
 ghost use Rattle.rh_explore.specs.Spaces.{FirstFails, seen_of};
 
 use crate::asking::Ask;
@@ -28,7 +28,8 @@ pub enum Verdict {
 /// What a search found.
 #[derive(Drop)]
 pub struct Explored {
-    /// How many different states were reached, the base among them.
+    /// How many states were reached, the base among them. Those that are alike count once: they are equal but for the clock, the
+    /// starts of nodes and the start kinds, with timers counted from now, and go on alike.
     pub states: usize,
     /// How many events lead to the last of them; to each other one no more do.
     pub deepest: usize,
@@ -52,12 +53,13 @@ pub fn explore(
     // A verdict that what is asked holds is about all covered lists of events. One that it fails has a shortest list that leads to a
     // state in which it does, also among those that aren't covered.
     ensures verdicts { IfOk result (λ x. AllZip (IsVerdict (scope_of base.now pick events.now bounds.now) bounds.now.steps x.covered) asks.now x.verdicts.items) }
-    // So many different states were reached, and none was left out to which a covered list leads.
+    // So many states were reached, no two of them alike, and each to which a covered list leads is alike to one of them.
     ensures states { IfOk result (λ x. (found : List StateView) × (length found ≡ x.states)
         × AreReached (scope_of base.now pick events.now bounds.now) x.deepest x.covered found) }
     ensures deepest { IfOk result (λ x. x.deepest ≤ bounds.now.steps) }
-    // All lists within the bound of steps are covered, unless that of states was met.
-    ensures covers { IfOk result (λ x. x.states < bounds.now.states → CoversAll bounds.now.steps x.covered) }
+    // All lists within the bound of steps are covered, unless that of states was met, or a limit of starts or of time.
+    ensures covers { IfOk result (λ x. x.states < bounds.now.states → StaysBelowLimits (scope_of base.now pick events.now bounds.now) bounds.now.steps
+        → CoversAll bounds.now.steps x.covered) }
 {
     let (space, covered) = search(alloc, base, pick, events, bounds)?;
     let found = space.found.as_slice();

@@ -14,7 +14,7 @@ pub struct Bounds {
 /// The lists of events of which all were looked at.
 #[derive(Clone, Copy, Debug, PartialEq, Eq)]
 pub enum Covered {
-    /// Those of any length: no state was left from which an event could lead to a new one.
+    /// Those of any length: no state was left from which an event could lead to one that is alike to none.
     All,
     /// Those of at most so many events.
     UpTo(u32),

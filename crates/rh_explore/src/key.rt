@@ -1,4 +1,4 @@
-//! The key of a state: a list of numbers by which equal states are found.
+//! The key of a state: a list of numbers by which states that are alike are found.
 
 ghost use Rattle.std.specs.Prelude.{◌≡◌, ◌++◌, IfOk, OnOk};
 ghost use Rattle.std.specs.List.{flat_map};
@@ -14,17 +14,17 @@ use rh_model::{App, Node};
 use rh_state::{State, Timer};
 use std::alloc::Global;
 
-/// The key of a state. Two states of a cluster are equal, as they are read, exactly if their keys are.
+/// The key of a state. Two states of a cluster are alike, as they are read, exactly if their keys are equal: the clock, the starts of
+/// nodes and the start kinds have no part in it, and timers are counted from now.
 #[tactic(auto, unfolding(crate::specs::Keys::key_of))]
 pub(crate) fn key_of(alloc: Global, state: &State) -> Result<Vec<u64>, OutOfMemory>
     ensures { IfOk result (λ key. key.items ≡ key_of (read state.now)) }
 {
     let mut key = Vec::new(alloc);
-    key.push(state.now())?;
     push_nodes(&mut key, state)?;
     push_apps(&mut key, state)?;
     let timers = state.timers(alloc)?;
-    push_timers(&mut key, timers.as_slice())?;
+    push_timers(&mut key, state.now(), timers.as_slice())?;
     Ok(key)
 }
 
@@ -52,12 +52,12 @@ fn push_apps(key: &mut Vec<u64>, state: &State) -> Result<(), OutOfMemory>
     Ok(())
 }
 
-// Adds each timer.
-fn push_timers(key: &mut Vec<u64>, timers: &[(u64, Timer)]) -> Result<(), OutOfMemory>
-    ensures { OnOk result (key.new.items ≡ key.old.items ++ flat_map timer_numbers timers.now) }
+// Adds each timer, with how long it has to go.
+fn push_timers(key: &mut Vec<u64>, now: u64, timers: &[(u64, Timer)]) -> Result<(), OutOfMemory>
+    ensures { OnOk result (key.new.items ≡ key.old.items ++ flat_map (timer_numbers now) timers.now) }
 {
     for entry in timers {
-        push_timer(key, *entry)?;
+        push_timer(key, now, *entry)?;
     }
     Ok(())
 }

@@ -2,7 +2,7 @@
 
 ghost use Rattle.rh_explore.specs.Laws.{KeysTellApart, ReachesGoOn};
 
-/// Two states of one cluster are equal, as they are read, where their keys are.
+/// Two states of one cluster are alike, as they are read, exactly if their keys are equal.
 pub fn keys_tell_apart()
     ensures { KeysTellApart }
 {}

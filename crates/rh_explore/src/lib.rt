@@ -1,8 +1,8 @@
 //! All states that a set of events can reach from a base, and what holds in each of them.
 //!
-//! [`explore`] makes the events one after the other, in every order in which the rules accept them, and merges equal states. For
-//! each [`Ask`] it tells that what is asked holds in all states that were reached, or a shortest list of events that leads to
-//! one in which it doesn't. A sweep tells what comes of the plans that it is given; here no plan is given.
+//! [`explore`] makes the events one after the other, in every order in which the rules accept them, and merges states that are
+//! alike. For each [`Ask`] it tells that what is asked holds in all states that were reached, or a shortest list of events that
+//! leads to one in which it doesn't. A sweep tells what comes of the plans that it is given; here no plan is given.
 #![tactic(auto)]
 
 mod answers;

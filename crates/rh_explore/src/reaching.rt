@@ -1,10 +1,11 @@
 //! One step from a state that was reached.
 
-ghost use Rattle.std.specs.Prelude.{◌≡◌, ◌≤◌, ◌<◌, not, if◌then◌else◌, None, IfOk};
+ghost use Rattle.std.specs.Prelude.{◌≡◌, ◌≤◌, ◌<◌, not, if◌then◌else◌, None, Some, IfOk};
 ghost use Rattle.rh_model.specs.ClusterView.{node_count};
 ghost use Rattle.rh_state.specs.StateView.{is_up, mode_of};
 ghost use Rattle.rh_state.specs.Stored.{read};
 ghost use Rattle.rh_rules.specs.Refusals.{refused};
+ghost use Rattle.rh_shifts.specs.Laws.{is_limit};
 ghost use Rattle.rh_settle.specs.Validity.{IsValid};
 ghost use Rattle.rh_trail.specs.Runs.{step};
 ghost use Rattle.rh_explore.specs.Reaching.{not_up_count};
@@ -13,28 +14,49 @@ ghost use Rattle.rh_explore.specs.Spaces.{StepsTo};
 use rh_base::OutOfMemory;
 use rh_model::Node;
 use rh_state::{Mode, State};
-use rh_step::{Event, Pick, perform, refusal_of};
+use rh_step::{Event, Pick, Refusal, perform, refusal_of};
 use std::alloc::Global;
 
-/// The state behind an event, unless the rules refuse it or more nodes are not up behind it than these.
+/// Where an event leads.
+#[derive(Drop)]
+pub(crate) enum Way {
+    /// To this state.
+    To(State),
+    /// Nowhere: the rules refuse it, or too many nodes are not up behind it.
+    Nowhere,
+    /// A limit of starts or of time refuses it.
+    AtLimit,
+}
+
+/// Where an event leads, if no more nodes may not be up behind it than these.
 pub(crate) fn state_behind(
     alloc: Global,
     state: &State,
     event: &Event,
     pick: Pick,
     down: usize,
-) -> Result<Option<State>, OutOfMemory>
+) -> Result<Way, OutOfMemory>
     requires { IsValid (read state.now) }
     ensures { IfOk result (StepsTo pick down (read state.now) event.now) }
 {
-    if refusal_of(state, event).is_some() {
-        return Ok(None);
+    if let Some(refusal) = refusal_of(state, event) {
+        if is_limit(refusal) {
+            return Ok(Way::AtLimit);
+        }
+        return Ok(Way::Nowhere);
     }
     let next = state_after(alloc, state, event, pick)?;
     if not_up_count(&next) > down {
-        return Ok(None);
+        return Ok(Way::Nowhere);
     }
-    Ok(Some(next))
+    Ok(Way::To(next))
+}
+
+// Is it a limit of starts or of time that refuses?
+fn is_limit(refusal: Refusal) -> bool
+    ensures { result ≡ is_limit (Some refusal) }
+{
+    matches!(refusal, Refusal::IncarnationLimit | Refusal::TimeLimit)
 }
 
 // The state behind an event that isn't refused.

@@ -4,12 +4,12 @@ ghost use Rattle.std.specs.Prelude.{◌≡◌, ◌<◌, ◌≤◌, ◌+◌, ◌�
 ghost use Rattle.rh_state.specs.Stored.{read};
 ghost use Rattle.rh_settle.specs.Validity.{IsValid};
 ghost use Rattle.rh_explore.specs.Keys.{key_of};
-ghost use Rattle.rh_explore.specs.Exploring.{scope_of, CoversAll};
-ghost use Rattle.rh_explore.specs.Spaces.{Seen, IsSearched, IsNear, IsEnd, HasKeys, keys_of, seen_of, IsExpandedAt};
+ghost use Rattle.rh_explore.specs.Exploring.{scope_of, StaysBelowLimits, CoversAll};
+ghost use Rattle.rh_explore.specs.Spaces.{Seen, IsSearched, IsNear, IsEnd, IsCut, HasKeys, keys_of, seen_of, IsExpandedAt};
 
 use crate::bounds::{Bounds, Covered};
 use crate::key::key_of;
-use crate::reaching::state_behind;
+use crate::reaching::{Way, state_behind};
 use indexmap::IndexSet;
 use rh_base::OutOfMemory;
 use rh_state::State;
@@ -71,7 +71,7 @@ impl Space {
     }
 
     // Makes each event that may come in the state of this number, and keeps the states behind. It is false if there was one too
-    // many.
+    // many, or if a limit of starts or of time refused one: a state that is alike might accept it.
     fn expand(
         &mut self,
         alloc: Global,
@@ -88,7 +88,7 @@ impl Space {
         ensures made { IfOk result (λ all. MatchBool all
             (IsExpandedAt (scope_of base.now pick events.now bounds.now) (seen_of self.new.found.items) at (length events.now))
             ((made : ℕ) × IsExpandedAt (scope_of base.now pick events.now bounds.now) (seen_of self.new.found.items) at made
-            × (bounds.now.states ≤ length self.new.found.items))) }
+            × IsCut (scope_of base.now pick events.now bounds.now) bounds.now.states (seen_of self.new.found.items) at)) }
         ensures kept { OnOk result (slice_get self.new.found.items at ≡ slice_get self.old.found.items at) }
         ensures room { OnOk result (length self.new.found.items ≤ max (length self.old.found.items) bounds.now.states) }
     {
@@ -101,7 +101,7 @@ impl Space {
     }
 
     // Makes an event in the state of this number, if it may come there, and keeps the state behind. It is false if it is one too
-    // many.
+    // many, or if a limit refused the event.
     fn reach(
         &mut self,
         alloc: Global,
@@ -122,7 +122,7 @@ impl Space {
             → MatchBool went
             (IsExpandedAt (scope_of base.now pick events.now bounds.now) (seen_of self.new.found.items) at (made + 1))
             (IsExpandedAt (scope_of base.now pick events.now bounds.now) (seen_of self.new.found.items) at made
-            × (bounds.now.states ≤ length self.new.found.items))) }
+            × IsCut (scope_of base.now pick events.now bounds.now) bounds.now.states (seen_of self.new.found.items) at)) }
         ensures kept { OnOk result (slice_get self.new.found.items at ≡ slice_get self.old.found.items at) }
         ensures room { OnOk result (length self.new.found.items ≤ max (length self.old.found.items) bounds.now.states) }
     {
@@ -131,8 +131,10 @@ impl Space {
         let _ = events;
         let from = &self.found[at];
         let next = state_behind(alloc, &from.state, event, pick, bounds.down)?;
-        let Some(state) = next else {
-            return Ok(true);
+        let state = match next {
+            Way::To(state) => state,
+            Way::Nowhere => return Ok(true),
+            Way::AtLimit => return Ok(false),
         };
         let key = key_of(alloc, &state)?;
         if self.has(&key) {
@@ -160,7 +162,8 @@ pub(crate) fn search(
     ensures searched { IfOk result (λ found. (done : ℕ) × IsSearched (scope_of base.now pick events.now bounds.now) (seen_of found.0.found.items) done
         × IsNear (seen_of found.0.found.items) done × IsEnd (seen_of found.0.found.items) done found.1) }
     ensures few { IfOk result (λ found. All (λ (x : Seen). length x.path ≤ bounds.now.steps) (seen_of found.0.found.items)) }
-    ensures covers { IfOk result (λ found. length found.0.found.items < bounds.now.states → CoversAll bounds.now.steps found.1) }
+    ensures covers { IfOk result (λ found. length found.0.found.items < bounds.now.states
+        → StaysBelowLimits (scope_of base.now pick events.now bounds.now) bounds.now.steps → CoversAll bounds.now.steps found.1) }
 {
     let mut space = Space::of(alloc, base)?;
     let mut next = 0;

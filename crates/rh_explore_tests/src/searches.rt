@@ -93,21 +93,24 @@ fn ask_of(rt: &impl Abort, alloc: Global, always: bool, lists: &[&[Condition]]) 
     Ask { always, any_of }
 }
 
-// As many different states as a search by another program counts, which merges equal states too.
+// As many states as a search by another program counts, which merges states that are alike, too; and a model checker.
 #[test]
 fn counts_are_those_of_another_search(rt: HostRuntime) {
     let no_asks = Vec::new(rt.alloc());
     let eight = failures_explored(&rt, rt.alloc(), &up_to(8), no_asks.as_slice());
-    assert!(rt; eight.states == 2_351);
+    assert!(rt; eight.states == 399);
     assert!(rt; eight.deepest == 8);
     assert!(rt; eight.covered == Covered::UpTo(8));
     let ten = failures_explored(&rt, rt.alloc(), &up_to(10), no_asks.as_slice());
-    assert!(rt; ten.states == 7_960);
+    assert!(rt; ten.states == 776);
+    let all = failures_explored(&rt, rt.alloc(), &up_to(100), no_asks.as_slice());
+    assert!(rt; all.states == 1_755);
+    assert!(rt; all.covered == Covered::All);
 }
 
-// A node that is down can only boot, and one that is up only crash: each step leads to one new state.
+// A node that is down can only boot, and one that is up only crash: there are two states, whatever the number of starts.
 #[test]
-fn one_node_has_one_way(rt: HostRuntime) {
+fn one_node_is_up_or_down(rt: HostRuntime) {
     let no_asks = Vec::new(rt.alloc());
     let found = explored(
         &rt,
@@ -118,9 +121,9 @@ fn one_node_has_one_way(rt: HostRuntime) {
         &up_to(3),
         no_asks.as_slice(),
     );
-    assert!(rt; found.states == 4);
-    assert!(rt; found.deepest == 3);
-    assert!(rt; found.covered == Covered::UpTo(3));
+    assert!(rt; found.states == 2);
+    assert!(rt; found.deepest == 1);
+    assert!(rt; found.covered == Covered::All);
 }
 
 // Where all nodes have to stay up, only time passes.
@@ -133,8 +136,39 @@ fn few_nodes_may_be_down(rt: HostRuntime) {
     };
     let no_asks = Vec::new(rt.alloc());
     let found = failures_explored(&rt, rt.alloc(), &bounds, no_asks.as_slice());
-    assert!(rt; found.states == 6);
-    assert!(rt; found.deepest == 5);
+    assert!(rt; found.states == 1);
+    assert!(rt; found.deepest == 0);
+    assert!(rt; found.covered == Covered::All);
+}
+
+// An event that a limit of time refuses might be accepted in a state that is alike: so longer lists aren't covered.
+#[test]
+fn limit_of_time_ends_a_search(rt: HostRuntime) {
+    let a_while = [Event::Tick { ms: 1 }];
+    let for_ever = [Event::Tick {
+        ms: 1_000_000_000_000,
+    }];
+    let no_asks = Vec::new(rt.alloc());
+    let at_first = explored(
+        &rt,
+        rt.alloc(),
+        ONE_NODE,
+        [].as_slice(),
+        for_ever.as_slice(),
+        &up_to(9),
+        no_asks.as_slice(),
+    );
+    assert!(rt; at_first.covered == Covered::All);
+    let later = explored(
+        &rt,
+        rt.alloc(),
+        ONE_NODE,
+        a_while.as_slice(),
+        for_ever.as_slice(),
+        &up_to(9),
+        no_asks.as_slice(),
+    );
+    assert!(rt; later.covered == Covered::UpTo(0));
 }
 
 // Where nothing may happen, all is known of lists of any length.

@@ -8,7 +8,7 @@ use Rattle.rh_rules.specs.declared.pick.Pick.{Pick}
 use Rattle.rh_explore.specs.declared.answers.Explored.{Explored}
 use Rattle.rh_explore.specs.declared.asking.Ask.{Ask}
 use Rattle.rh_explore.specs.Reaching.{Scope}
-use Rattle.rh_explore.specs.Exploring.{IsVerdict, AreReached, CoversAll}
+use Rattle.rh_explore.specs.Exploring.{IsVerdict, AreReached, StaysBelowLimits, CoversAll}
 use Rattle.rh_explore_text.specs.declared.exploring.Answer.{Answer}
 use Rattle.rh_explore_text.specs.declared.lines.SearchLine.{SearchLine}
 use Rattle.rh_explore_text.specs.SearchLines.{SearchView, search_of}
@@ -17,7 +17,7 @@ use Rattle.rh_explore_text.specs.ExploreText.{IsFound, MayFind, MayTellLines}
 pub is_found : (w v : Scope) (steps states : ℕ) (given asks : List Ask) (x : Explored) → w ≡ v → given ≡ asks
     → AllZip (IsVerdict w steps x.covered) given x.verdicts.items
     → ((found : List StateView) × (length found ≡ x.states) × AreReached w x.deepest x.covered found)
-    → x.deepest ≤ steps → (x.states < states → CoversAll steps x.covered) → IsFound v steps states asks x
+    → x.deepest ≤ steps → (x.states < states → StaysBelowLimits w steps → CoversAll steps x.covered) → IsFound v steps states asks x
 is_found w v steps states given asks x same alike verdicts reached deepest covers =
     let here : IsFound w steps states given x = record { verdicts = verdicts; reached = reached; deepest = deepest; covers = covers } in
     let there : IsFound v steps states given x = subst (λ s. IsFound s steps states given x) same here in

@@ -16,7 +16,7 @@ use Rattle.rh_app.specs.RunText.{answers_text}
 use Rattle.rh_explore.specs.declared.answers.Explored.{Explored}
 use Rattle.rh_explore.specs.declared.asking.Ask.{Ask}
 use Rattle.rh_explore.specs.Reaching.{Scope}
-use Rattle.rh_explore.specs.Exploring.{IsVerdict, AreReached, CoversAll}
+use Rattle.rh_explore.specs.Exploring.{IsVerdict, AreReached, StaysBelowLimits, CoversAll}
 use Rattle.rh_explore_text.specs.declared.lines.SearchLine.{SearchLine}
 use Rattle.rh_explore_text.specs.Asks.{ask_view}
 use Rattle.rh_explore_text.specs.SearchLines.{SearchView, search_lines_asked, bad_search_line, search_of}
@@ -24,13 +24,14 @@ use Rattle.rh_explore_text.specs.FoundText.{found_text, found_end}
 
 -- ---- what a search finds
 
--- what is told of each ask is so; so many states were reached, and none was left out to which a covered list of events leads; and all
--- lists within the bound of steps are covered, unless so many states were reached as may be kept
+-- what is told of each ask is so; so many states were reached, no two of them alike, and each to which a covered list of events leads is
+-- alike to one of them; and all lists within the bound of steps are covered, unless so many states were reached as may be kept, or a
+-- limit of starts or of time was
 pub record IsFound (w : Scope) (steps states : ℕ) (asks : List Ask) (x : Explored) : Type 0 where
   pub verdicts : AllZip (IsVerdict w steps x.covered) asks x.verdicts.items
   pub reached : (found : List StateView) × (length found ≡ x.states) × AreReached w x.deepest x.covered found
   pub deepest : x.deepest ≤ steps
-  pub covers : x.states < states → CoversAll steps x.covered
+  pub covers : x.states < states → StaysBelowLimits w steps → CoversAll steps x.covered
 
 -- the simulation behind the commands of the base, and the scope of the search from there
 abbrev pub base_of : ClusterView → Pick → SearchView → SimView

@@ -30,9 +30,9 @@ use std::alloc::Global;
 ///
 /// # Errors
 /// `Cluster` and `BadLine` (a line that is no command of the base and none of a search) are told alone. `Differs` is the end of the
-/// text that was written, where what is asked fails, and `Unfinished`, where none does and more states than these were reached.
-/// `Read` comes where the reader has failed or the input is too long, and `OutOfMemory` where a growth was refused: nothing was
-/// written. `Write` comes where the writer has failed: a front of the text was written.
+/// text that was written, where what is asked fails, and `Unfinished`, where none does and more states than these were reached, or
+/// a limit of starts or of time was. `Read` comes where the reader has failed or the input is too long, and `OutOfMemory` where a growth was
+/// refused: nothing was written. `Write` comes where the writer has failed: a front of the text was written.
 pub fn run_explore<S: Source, K: Sink>(
     alloc: Global,
     reader: &mut Watched<S>,

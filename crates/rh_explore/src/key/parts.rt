@@ -6,11 +6,11 @@ ghost use Rattle.rh_model.specs.ClusterView.{node_count, app_count};
 ghost use Rattle.rh_state.specs.Numbers.{apps_of};
 ghost use Rattle.rh_state.specs.StateView.{running_at, waiting_at};
 ghost use Rattle.rh_state.specs.Stored.{read};
-ghost use Rattle.rh_explore.specs.Keys.{mode_number, restart_number, kind_numbers, standing_numbers, timer_numbers, app_number, pair_numbers, node_numbers, app_numbers};
+ghost use Rattle.rh_explore.specs.Keys.{mode_number, restart_number, standing_numbers, timer_numbers, app_number, pair_numbers, node_numbers, app_numbers};
 
 use rh_base::OutOfMemory;
 use rh_model::{App, Node, Restart};
-use rh_state::{Kind, Mode, Standing, State, Timer};
+use rh_state::{Mode, Standing, State, Timer};
 
 // Adds what is said of a node.
 #[tactic(auto, unfolding(crate::specs::Keys::node_numbers))]
@@ -19,7 +19,6 @@ pub(crate) fn push_node(key: &mut Vec<u64>, state: &State, node: Node) -> Result
     ensures { OnOk result (key.new.items ≡ key.old.items ++ node_numbers (read state.now) node) }
 {
     key.push(mode_number(state.mode(node)))?;
-    key.push(u64::from(state.incarnation(node)))?;
     push_running(key, state, node)?;
     key.push(0)?;
     push_waiting(key, state, node)?;
@@ -85,20 +84,6 @@ fn push_pair(key: &mut Vec<u64>, state: &State, node: Node, app: App) -> Result<
 {
     key.push(restart_number(state.restart_of(node, app)))?;
     key.push(u64::from(state.allowed(node, app)))?;
-    push_kind(key, state.kind_of(node, app))
-}
-
-// Adds how an application was started.
-fn push_kind(key: &mut Vec<u64>, kind: Kind) -> Result<(), OutOfMemory>
-    ensures { OnOk result (key.new.items ≡ key.old.items ++ kind_numbers kind) }
-{
-    let (tag, node) = match kind {
-        Kind::Normal => (0, 0),
-        Kind::Failover(node) => (1, node.0),
-        Kind::Takeover(node) => (2, node.0),
-    };
-    key.push(tag)?;
-    key.push(u64::from(node))?;
     Ok(())
 }
 
@@ -120,15 +105,19 @@ pub(crate) fn push_standing(key: &mut Vec<u64>, state: &State, app: App) -> Resu
     Ok(())
 }
 
-// Adds a timer.
-pub(crate) fn push_timer(key: &mut Vec<u64>, entry: (u64, Timer)) -> Result<(), OutOfMemory>
-    ensures { OnOk result (key.new.items ≡ key.old.items ++ timer_numbers entry) }
+// Adds a timer, with how long it has to go.
+pub(crate) fn push_timer(
+    key: &mut Vec<u64>,
+    now: u64,
+    entry: (u64, Timer),
+) -> Result<(), OutOfMemory>
+    ensures { OnOk result (key.new.items ≡ key.old.items ++ timer_numbers now entry) }
 {
     let (tag, number) = match entry.1 {
         Timer::Sync(node) => (0, node.0),
         Timer::Failover(app) => (1, app.0),
     };
-    key.push(entry.0)?;
+    key.push(entry.0.saturating_sub(now))?;
     key.push(tag)?;
     key.push(u64::from(number))?;
     Ok(())

@@ -6,7 +6,7 @@ use Rattle.rh_explore.specs.Exploring.{scope_of}
 use Rattle.rh_explore.specs.Spaces.{Seen, IsSearched, IsNear, seen_in, seen_of}
 use Rattle.rh_explore.proofs.Begun.{base_near, base_few, at_true, at_false}
 use Rattle.rh_explore.proofs.Places.{there_of}
-use Rattle.rh_explore.proofs.Reached.{begun, done_next, near_next, few_more, searched_still, near_still, up_to}
+use Rattle.rh_explore.proofs.Reached.{begun, done_next, near_next, few_more, searched_still, near_still, never_cut, up_to}
 use Rattle.rh_explore.proofs.Searched.{base_searched}
 use Rattle.rh_explore.proofs.space.search.Goals as goal
 
@@ -78,6 +78,19 @@ returns-then-not-all-clause-few c =
     let cut = at_false c.in_ok-all.all _ _ c.if-not-all.true c.in_ok-all.ensures.made in
     let short : length f.path.items < c.args.bounds.now.steps = omega (arith, c.if-depth-bounds.false, c.len-depth.ensures) in
     few_more w new next f there cut.0 c.args.bounds.now.steps cut.1 short
+
+pub returns-then-not-all-clause-covers : goal.returns-then-not-all-clause-covers
+returns-then-not-all-clause-covers c = λ few below.
+    let w = scope_of c.args.base.now c.args.pick c.args.events.now c.args.bounds.now in
+    let found : List Found = c.states.space.found.items in
+    let next = c.states.next in
+    let f : Found = c.index-here.result.now in
+    let within : next < length found = omega (arith, c.states-test.true, c.len.ensures) in
+    let new : List Found = c.expand.new.self.found.items in
+    let there : slice_get new next ≡ Some f = c.in_ok-all.ensures.kept ∙ there_of found next f within c.index-here.ensures in
+    let cut = at_false c.in_ok-all.all _ _ c.if-not-all.true c.in_ok-all.ensures.made in
+    let short : length f.path.items < c.args.bounds.now.steps = omega (arith, c.if-depth-bounds.false, c.len-depth.ensures) in
+    absurd (never_cut w new next f there cut.0 c.args.bounds.now.steps c.args.bounds.now.states cut.1 cut.2 few short below)
 
 pub states-preserved : goal.states-preserved
 states-preserved c =
