@@ -1,3 +1,4 @@
+pub mod FirstWords
 pub mod LineLemmas
 pub mod Numerals
 pub mod Rows

@@ -125,7 +125,8 @@ fn push_refusal(text: &mut String, cluster: &Cluster, refusal: Refusal) -> Resul
 pub fn answer_text(alloc: Global, cluster: &Cluster, reply: &Reply) -> Result<Vec<u8>, OutOfMemory>
     ensures { IfOk result (λ text. text.items ≡ answer_text cluster.now reply.now) }
 {
-    let mut text = String::new(alloc);
+    // As much as most answers take.
+    let mut text = String::with_capacity(alloc, 512)?;
     match reply {
         Reply::Done(notices) => {
             text.push_str("ok\n")?;

@@ -3,20 +3,18 @@
 ghost use Rattle.std.specs.Prelude.{take, drop, ◌≡◌, ◌<◌, ◌≤◌, ◌++◌, ◌∷◌, [], length, map, IfSome, None, Some};
 ghost use Rattle.rh_script.specs.Lines.{raw_lines, ends_with, without_last, content, is_separator, cluster_text, script_lines};
 
+use memchr::memchr;
+
 // How many bytes the first line has, with its LF.
 fn line_len(bytes: &[u8]) -> usize
     ensures line { 0 < length bytes.now → raw_lines bytes.now ≡ take result bytes.now ∷ raw_lines (drop result bytes.now) }
     ensures within { result ≤ length bytes.now }
     ensures filled { 0 < length bytes.now → 0 < result }
 {
-    let mut at = 0;
-    while at < bytes.len() {
-        at += 1;
-        if bytes[at - 1] == b'\n' {
-            return at;
-        }
+    match memchr(b'\n', bytes) {
+        Some(at) => at + 1,
+        None => bytes.len(),
     }
-    at
 }
 
 /// The first line, and what stands behind it.

@@ -1,17 +1,17 @@
 //! What the lines of a script ask.
 
-ghost use Rattle.std.specs.Prelude.{not, ◌==◌, ◌≡◌, if◌then◌else◌, Some, None, IfOk, map, length};
-ghost use Rattle.std.specs.List.{slice_split};
+ghost use Rattle.std.specs.Prelude.{◌≡◌, if◌then◌else◌, Some, None, IfOk, map, take};
 ghost use Rattle.std.specs.Option.{option_map};
 ghost use Rattle.std.specs.Str.{is_utf8};
 ghost use Rattle.rh_script.specs.Commands.{words_of, named, named_app, begins_with, milliseconds, restart_named, first_of, with_argument, given_in, call_asked, asking, command_of, line_of};
 
 use crate::command_words::{reason_word, truth_word};
 use crate::forms::{Argument, Given, NOTHING, call_of, verb_named};
+use arrayvec::ArrayVec;
 use rh_base::OutOfMemory;
 use rh_cluster::{App, Cluster, Node, Restart};
 use rh_trail::{Call, restart_word};
-use std::alloc::{AllocError, Global};
+use std::alloc::Global;
 
 /// What a line of a script asks.
 #[derive(Clone, Copy, Debug, PartialEq, Eq)]
@@ -30,25 +30,17 @@ const NO_NODE: Node = Node(255);
 // Stands for an application whose name the cluster hasn't. No cluster has so many applications.
 const NO_APP: App = App(255);
 
-// The parts round each space.
-fn parts_of(alloc: Global, line: &str) -> Result<Vec<&str>, AllocError>
-    ensures { IfOk result (λ parts. map (λ part. part.now) parts.items ≡ slice_split (λ b. b == 32) line.now) }
+// The words between runs of spaces, without those behind the sixth. Only a line that is no command has so many.
+pub fn first_words(line: &str) -> ArrayVec<&str, 6>
+    ensures { map (λ word. word.now) result.items ≡ take 6 (words_of line.now) }
 {
-    line.split(' ').collect(alloc)
-}
-
-// The words between runs of spaces.
-pub fn words_of(alloc: Global, line: &str) -> Result<Vec<&str>, OutOfMemory>
-    ensures { IfOk result (λ words. map (λ word. word.now) words.items ≡ words_of line.now) }
-{
-    let parts = parts_of(alloc, line)?;
-    let mut words = Vec::new(alloc);
-    for part in parts.as_slice() {
-        if !part.is_empty() {
-            words.push(*part)?;
+    let mut words = ArrayVec::new();
+    for part in line.split(' ') {
+        if !part.is_empty() && !words.is_full() {
+            words.push(part);
         }
     }
-    Ok(words)
+    words
 }
 
 // The node of this name, or what stands for none.
@@ -180,6 +172,13 @@ pub fn command_of(cluster: &Cluster, words: &[&str]) -> Line
     }
 }
 
+// The command that a line's words make.
+fn command_in(cluster: &Cluster, line: &str) -> Line
+    ensures { result ≡ command_of cluster.now (words_of line.now) }
+{
+    command_of(cluster, first_words(line).as_slice())
+}
+
 // The line as a text, if it is one.
 pub fn text_of(line: &[u8]) -> Option<&str>
     ensures { option_map (λ text. text.now) result ≡ (if is_utf8 line.now then Some line.now else None) }
@@ -187,9 +186,9 @@ pub fn text_of(line: &[u8]) -> Option<&str>
     str::from_utf8(line).ok()
 }
 
-/// What a line asks.
+/// What a line asks. It takes no memory.
 #[tactic(auto, unfolding(crate::specs::Commands::line_of))]
-pub fn line_of(alloc: Global, cluster: &Cluster, line: &[u8]) -> Result<Line, OutOfMemory>
+pub fn line_of(_alloc: Global, cluster: &Cluster, line: &[u8]) -> Result<Line, OutOfMemory>
     ensures { IfOk result (λ asked. asked ≡ line_of cluster.now line.now) }
 {
     // A comment.
@@ -199,6 +198,5 @@ pub fn line_of(alloc: Global, cluster: &Cluster, line: &[u8]) -> Result<Line, Ou
     let Some(text) = text_of(line) else {
         return Ok(Line::Bad);
     };
-    let words = words_of(alloc, text)?;
-    Ok(command_of(cluster, words.as_slice()))
+    Ok(command_in(cluster, text))
 }

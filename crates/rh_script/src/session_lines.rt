@@ -1,9 +1,10 @@
 //! What the lines of a script ask that name their sessions.
 
 ghost use Rattle.std.specs.Prelude.{◌≡◌, IfOk, map};
+ghost use Rattle.rh_script.specs.Commands.{words_of};
 ghost use Rattle.rh_script.specs.SessionLines.{session_named, asked_by, session_command, session_line_of};
 
-use crate::script::{Line, begins_with, command_of, text_of, words_of};
+use crate::script::{Line, begins_with, command_of, first_words, text_of};
 use rh_base::{OutOfMemory, Same};
 use rh_cluster::Cluster;
 use rh_trail::Call;
@@ -72,10 +73,18 @@ fn session_command(cluster: &Cluster, words: &[&str]) -> SessionLine
     }
 }
 
-/// What a line asks: its first word is the session, one digit 1 to [`LAST_SESSION`], and behind it stands a command.
+// The command that a line's words make.
+fn session_command_in(cluster: &Cluster, line: &str) -> SessionLine
+    ensures { result ≡ session_command cluster.now (words_of line.now) }
+{
+    session_command(cluster, first_words(line).as_slice())
+}
+
+/// What a line asks: its first word is the session, one digit 1 to [`LAST_SESSION`], and behind it stands a command. It
+/// takes no memory.
 #[tactic(auto, unfolding(crate::specs::SessionLines::session_line_of))]
 pub fn session_line_of(
-    alloc: Global,
+    _alloc: Global,
     cluster: &Cluster,
     line: &[u8],
 ) -> Result<SessionLine, OutOfMemory>
@@ -88,6 +97,5 @@ pub fn session_line_of(
     let Some(text) = text_of(line) else {
         return Ok(SessionLine::Bad);
     };
-    let words = words_of(alloc, text)?;
-    Ok(session_command(cluster, words.as_slice()))
+    Ok(session_command_in(cluster, text))
 }

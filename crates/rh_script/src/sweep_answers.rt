@@ -85,7 +85,8 @@ pub fn outcome_text(
 ) -> Result<String, OutOfMemory>
     ensures { IfOk result (λ text. string_bytes text ≡ outcome_text cluster.now name.now outcome.now) }
 {
-    let mut text = String::new(alloc);
+    // As much as the outcome of a plan in a small cluster takes.
+    let mut text = String::with_capacity(alloc, 1_024)?;
     push_plan_line(&mut text, name, outcome)?;
     push_refused_line(&mut text, cluster, outcome.refused)?;
     push_standings(&mut text, cluster, outcome.standings.as_slice())?;

@@ -3,13 +3,13 @@
 ghost use Rattle.std.specs.Prelude.{List, [], ◌∷◌, ◌≡◌, ◌++◌, IfOk, IsTrue, OnOk, map};
 ghost use Rattle.std.specs.Option.{option_map};
 ghost use Rattle.rh_script.specs.Lines.{raw_lines, content};
-ghost use Rattle.rh_script.specs.Commands.{calls_of};
+ghost use Rattle.rh_script.specs.Commands.{calls_of, words_of};
 ghost use Rattle.rh_script.specs.SweepLines.{plan_named, sweep_command, sweep_line_of, sweep_lines_asked, fits_sweep, fits_plan, fits_base};
 ghost use Rattle.rh_script.specs.SweepLines.{begun_by, event_in, IsSweepOf, plan_text};
 ghost use Rattle.rh_script.specs.SweepReading.{read_on, is_begun};
 
 use crate::lines::{content, split_line};
-use crate::script::{Line, begins_with, command_of, text_of, words_of};
+use crate::script::{Line, begins_with, command_of, first_words, text_of};
 use rh_base::{OutOfMemory, Str, text_of_bytes};
 use rh_cluster::Cluster;
 use rh_plans::Plan;
@@ -55,6 +55,13 @@ fn sweep_command(alloc: Global, cluster: &Cluster, words: &[&str]) -> Result<Swe
     }
 }
 
+// What the words of a line ask.
+fn sweep_command_in(alloc: Global, cluster: &Cluster, line: &str) -> Result<SweepLine, OutOfMemory>
+    ensures { IfOk result (λ asked. asked ≡ sweep_command cluster.now (words_of line.now)) }
+{
+    sweep_command(alloc, cluster, first_words(line).as_slice())
+}
+
 // What a line asks: `plan NAME` begins a plan, and any other line is read as a line of any script.
 #[tactic(auto, unfolding(crate::specs::SweepLines::sweep_line_of))]
 fn sweep_line_of(alloc: Global, cluster: &Cluster, line: &[u8]) -> Result<SweepLine, OutOfMemory>
@@ -67,8 +74,7 @@ fn sweep_line_of(alloc: Global, cluster: &Cluster, line: &[u8]) -> Result<SweepL
     let Some(text) = text_of(line) else {
         return Ok(SweepLine::Plain(Line::Bad));
     };
-    let words = words_of(alloc, text)?;
-    sweep_command(alloc, cluster, words.as_slice())
+    sweep_command_in(alloc, cluster, text)
 }
 
 /// The base and the plans of a script, or the number of its first bad line.
