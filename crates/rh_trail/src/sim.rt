@@ -7,6 +7,7 @@ mod firings;
 mod moves;
 mod told;
 
+use crate::call::Bytes;
 use crate::records::Records;
 use rh_base::OutOfMemory;
 use rh_model::Cluster;
@@ -36,18 +37,22 @@ pub struct Sim {
     cursor: usize,
     // The edits of a step that is being made: empty between calls.
     spare: Vec<Edit>,
+    // The report of the state, where it was asked for and the state hasn't changed since.
+    shown: Option<Bytes>,
 }
 
 impl Model for Sim {
-    ghost use Rattle.std.specs.Prelude.{◌≡◌, []};
+    ghost use Rattle.std.specs.Prelude.{◌≡◌, [], IfSome};
+    ghost use Rattle.rh_state.specs.Stored.{read};
     ghost use Rattle.rh_trail.specs.SimView.{Held};
     ghost use Rattle.rh_trail.specs.Chain.{IsChain};
+    ghost use Rattle.rh_trail.specs.Report.{report_text};
 
     ghost Value = { Held };
 
     ghost view = { λ s. record { seen = record { cluster = s.state.cluster; pick = s.pick; trail = s.trail.items; cursor = s.cursor }; words = s.state; records = s.records } };
 
-    ghost invariant = { λ s. record { chain : IsChain (record { seen = record { cluster = s.state.cluster; pick = s.pick; trail = s.trail.items; cursor = s.cursor }; words = s.state; records = s.records }); spare : s.spare.items ≡ [] } };
+    ghost invariant = { λ s. record { chain : IsChain (record { seen = record { cluster = s.state.cluster; pick = s.pick; trail = s.trail.items; cursor = s.cursor }; words = s.state; records = s.records }); spare : s.spare.items ≡ []; shown : IfSome s.shown (λ text. text ≡ report_text (read s.state)) } };
 }
 
 impl Sim {
@@ -77,6 +82,7 @@ impl Sim {
             records: Records::new(alloc),
             cursor: 0,
             spare: Vec::new(alloc),
+            shown: None,
         })
     }
 
@@ -94,6 +100,7 @@ impl Sim {
             records,
             cursor: self.cursor,
             spare: Vec::new(alloc),
+            shown: None,
         })
     }
 

@@ -1,6 +1,6 @@
 //! The calls that move a simulation: steps, undo and redo.
 
-ghost use Rattle.std.specs.Prelude.{◌≡◌, ◌≢◌, ◌<◌, ◌≤◌, ◌+◌, ◌-◌, ◌++◌, ◌∷◌, [], ℕ, List, length, take, drop, slice_set, true, false, Err, IfOk, IfErr, OnOk, OnErr, None};
+ghost use Rattle.std.specs.Prelude.{◌≡◌, ◌≢◌, ◌<◌, ◌≤◌, ◌+◌, ◌-◌, ◌++◌, ◌∷◌, [], ℕ, List, length, take, drop, slice_set, true, false, Err, IfOk, IfErr, IfSome, OnOk, OnErr, None};
 ghost use Rattle.rh_base.specs.Exchanges.{back, backed, forth, forthed, AllBack};
 ghost use Rattle.rh_rules.specs.declared.notice.Notice.{Notice};
 ghost use Rattle.rh_state.specs.Edits.{exchange, turned};
@@ -14,6 +14,7 @@ ghost use Rattle.rh_trail.specs.Chain.{IsSmall, chain, kept_to};
 ghost use Rattle.rh_trail.specs.Laws.{is_refusal};
 ghost use Rattle.rh_trail.specs.SimView.{state_of, record_at};
 ghost use Rattle.rh_trail.specs.Lone.{served, answered, undo_reply, redo_reply, trail_limit, cut, TakesMemory};
+ghost use Rattle.rh_trail.specs.Report.{report_text};
 ghost use Rattle.rh_trail.specs.Words.{LeavesWords, LeavesRecords};
 ghost use Rattle.rh_trail.specs.declared.call.Call.TheVariants as call;
 ghost use Rattle.rh_trail.specs.declared.call.Reply.TheVariants as reply;
@@ -92,6 +93,7 @@ impl Sim {
             &mut self.records,
         )?;
         self.cursor += 1;
+        self.shown = None;
         Ok(told)
     }
 
@@ -110,6 +112,7 @@ impl Sim {
         }
         let count = self.records.go_back(self.cursor - 1, &mut self.state);
         self.cursor -= 1;
+        self.shown = None;
         Ok(count)
     }
 
@@ -128,6 +131,7 @@ impl Sim {
         }
         let count = self.records.go_forth(self.cursor, &mut self.state);
         self.cursor += 1;
+        self.shown = None;
         Ok(count)
     }
 
@@ -205,7 +209,10 @@ impl Sim {
             },
             Call::UndoAll => Replies::of(Reply::Moved(self.undo_all())),
             Call::RedoAll => Replies::of(Reply::Moved(self.redo_all())),
-            Call::Look => Replies::of(self.look(alloc)?),
+            Call::Look => {
+                self.remember(alloc)?;
+                Replies::of(self.look(alloc)?)
+            }
         }
     }
 
@@ -214,12 +221,36 @@ impl Sim {
     pub fn look(&self, alloc: Global) -> Result<Reply, OutOfMemory>
         ensures { IfOk result (λ reply. served self.now.seen call.Look ≡ answered reply self.now.seen) }
     {
-        let text = report(alloc, self.state())?;
+        let text = match self.shown() {
+            Some(text) => text.share()?,
+            None => Bytes::of(alloc, report(alloc, self.state())?)?,
+        };
         Ok(Reply::Seen {
             cursor: self.cursor(),
             trail: self.trail().len(),
-            text: Bytes::of(alloc, text)?,
+            text,
         })
+    }
+
+    // The report of the state, where it is kept.
+    fn shown(&self) -> Option<&Bytes>
+        ensures { IfSome result (λ text. text.now ≡ report_text (state_of self.now.seen)) }
+    {
+        match &self.shown {
+            Some(text) => Some(text),
+            None => None,
+        }
+    }
+
+    // Keeps the report of the state until this changes.
+    fn remember(&mut self, alloc: Global) -> Result<(), OutOfMemory>
+        ensures { self.new ≡ self.old }
+    {
+        if self.shown.is_none() {
+            let text = report(alloc, &self.state)?;
+            self.shown = Some(Bytes::of(alloc, text)?);
+        }
+        Ok(())
     }
 }
 

@@ -11,6 +11,7 @@ invariant_of-self c =
     rw (c.truncate.ensures.items, c.truncate-2.ensures) (record {
       chain = cut_keeps s.state s.records s.cursor s.state.cluster s.pick s.trail.items c.self.invariant.chain;
       spare = c.self.invariant.spare;
+      shown = c.self.invariant.shown;
     })
 
 pub returns-clause-chain : goal.returns-clause-chain

@@ -30,20 +30,20 @@ perform_told-requires-clause-valid g c =
     (c.self.invariant.chain.valid s.cursor c.self.invariant.chain.within)
 
 -- the words and the edits of the step
-led : (g : Over) (c : goal.After-self-1 g) → LedBy c.self.inside.state c.perform_told.new.edits.items c.keep.new.state
+led : (g : Over) (c : goal.Joined-self g) → LedBy c.self.inside.state c.perform_told.new.edits.items c.keep.new.state
 led g c = subst (λ (w : Stored). LedBy c.self.inside.state c.perform_told.new.edits.items w) (sym c.in_ok-keep.ensures.state)
     (c.in_ok-told.ensures.led)
 
-room : (g : Over) (c : goal.After-self-1 g) → c.self.inside.cursor < trail_limit
+room : (g : Over) (c : goal.Joined-self g) → c.self.inside.cursor < trail_limit
 room g c = subst (λ (v : Held). v.seen.cursor < trail_limit) (sym c.self.view_is) c.requires.room
 
-reads : (g : Over) (c : goal.After-self-1 g) → read c.keep.new.state ≡ (next (read c.self.inside.state) c.args.event c.self.inside.pick).state
+reads : (g : Over) (c : goal.Joined-self g) → read c.keep.new.state ≡ (next (read c.self.inside.state) c.args.event c.self.inside.pick).state
 reads g c = ap read c.in_ok-keep.ensures.state ∙ c.in_ok-told.ensures.state
 
-valid : (g : Over) (c : goal.After-self-1 g) → IsValid (read c.keep.new.state)
+valid : (g : Over) (c : goal.Joined-self g) → IsValid (read c.keep.new.state)
 valid g c = subst (λ (w : Stored). IsValid (read w)) (sym c.in_ok-keep.ensures.state) c.in_ok-told.ensures.valid
 
-few : (g : Over) (c : goal.After-self-1 g)
+few : (g : Over) (c : goal.Joined-self g)
     → length c.perform_told.new.edits.items ≤ most_edits (read c.self.inside.state) c.args.event (next (read c.self.inside.state) c.args.event c.self.inside.pick)
 few g c = c.in_ok-told.ensures.few
 
@@ -54,6 +54,7 @@ invariant_of-self-2 g c =
       chain = made_keeps s.pick s.trail.items c.keep.new.trail.items s.state c.keep.new.state s.records c.keep.new.records s.cursor c.args.event
           c.perform_told.new.edits.items c.self.invariant.chain (room g c) (led g c) (reads g c) (valid g c) (few g c) c.in_ok-keep.ensures.trail c.in_ok-keep.ensures.records;
       spare = c.keep.ensures.edits;
+      shown = tt;
     }
 
 pub returns-clause-done : goal.returns-clause-done

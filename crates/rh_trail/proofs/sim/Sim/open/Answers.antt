@@ -13,4 +13,4 @@ invariant_of-result c =
     let same : w.cluster ≡ c.args.cluster = ap (λ (x : Stored). x.cluster) words in
     let start : Chained w.cluster c.args.pick [] w [] 0 = subst (λ (v : ClusterView). Chained v c.args.pick [] w [] 0) (sym same)
     (empty_chain c.args.cluster c.args.pick w c.is_within.ensures words reads) in
-    rw (c.new-2.ensures.items, c.new-3.ensures) (record { chain = start; spare = c.new-4.ensures.items })
+    rw (c.new-2.ensures.items, c.new-3.ensures) (record { chain = start; spare = c.new-4.ensures.items; shown = tt })

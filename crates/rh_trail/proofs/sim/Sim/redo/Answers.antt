@@ -15,7 +15,7 @@ use Rattle.rh_trail.proofs.sim.Sim.redo.Goals as goal
 some : (rs : List (List Edit)) (trail : List Event) (n m : ℕ) → length rs ≡ length trail → n ≤ length trail → m ≡ length trail → n ≢ m → n < length rs
 some rs trail n m count within is other = omega (arith, count, within, is, other)
 
-still : (c : goal.After-self-1) → c.go_forth-count.new.state.cluster ≡ c.self.inside.state.cluster
+still : (c : goal.Joined-self) → c.go_forth-count.new.state.cluster ≡ c.self.inside.state.cluster
 still c = ap (λ (w : Stored). w.cluster) c.go_forth-count.ensures.words
     ∙ forth_cluster c.self.inside.state (slice_index_or c.self.inside.records c.self.inside.cursor [])
 
@@ -31,6 +31,7 @@ invariant_of-self c =
           (subst (λ (rs : List (List Edit)). Chained s.state.cluster s.pick s.trail.items c.go_forth-count.new.state rs (s.cursor + 1))
           (sym c.go_forth-count.ensures.records) kept);
       spare = c.self.invariant.spare;
+      shown = tt;
     }
 
 pub returns-clause-answer : goal.returns-clause-answer

@@ -20,7 +20,7 @@ go_back-count-requires-clause-all c =
     undo_goes s.state.cluster s.pick s.trail.items s.state s.records s.cursor (slice_index_or s.records (s.cursor - 1) []) [] _ _
     (some s.cursor c.if-self-eq0.false) c.self.invariant.chain refl refl refl
 
-still : (c : goal.After-self-1) → c.go_back-count.new.state.cluster ≡ c.self.inside.state.cluster
+still : (c : goal.Joined-self) → c.go_back-count.new.state.cluster ≡ c.self.inside.state.cluster
 still c = ap (λ (w : Stored). w.cluster) c.go_back-count.ensures.words ∙ back_cluster c.self.inside.state _
 
 pub invariant_of-self : goal.invariant_of-self
@@ -35,6 +35,7 @@ invariant_of-self c =
           (subst (λ (rs : List (List Edit)). Chained s.state.cluster s.pick s.trail.items c.go_back-count.new.state rs (s.cursor - 1))
           (sym c.go_back-count.ensures.records) kept);
       spare = c.self.invariant.spare;
+      shown = tt;
     }
 
 pub returns-clause-answer : goal.returns-clause-answer
