@@ -8,6 +8,7 @@ import multiprocessing
 import os
 import shutil
 import signal
+import subprocess
 import sys
 import time
 import traceback
@@ -20,8 +21,10 @@ from multiprocessing.process import BaseProcess
 from typing import Any, Optional
 
 Test = tuple[str, Optional[str]]
-# What may be needed and is no program: a package of Python.
+# What may be needed and is no program: a package of this Python, and one of the system's, which what is installed runs on.
 MODULES = ("jinja2",)
+SYSTEM_MODULES = {"python3-jinja2": "jinja2"}
+SYSTEM_PYTHON = "/usr/bin/python3"
 SLOWEST = 10
 LAST_SECONDS = 2
 LONGEST_NAME = 80
@@ -32,6 +35,14 @@ FORKED = multiprocessing.get_context("fork")
 def nothing_more(_told: list) -> Iterable[Test]:
     """No tests behind the parts."""
     return ()
+
+
+def is_there(need: str) -> bool:
+    """Whether a program or a package of Python is there."""
+    if need in SYSTEM_MODULES:
+        words = [SYSTEM_PYTHON, "-c", f"import {SYSTEM_MODULES[need]}"]
+        return os.path.exists(SYSTEM_PYTHON) and subprocess.run(words, capture_output=True, check=False).returncode == 0
+    return shutil.which(need) is not None or need in MODULES and find_spec(need) is not None
 
 
 @dataclass(frozen=True)
@@ -55,7 +66,7 @@ class Group:
 
     def missing(self) -> list[str]:
         """The programs that it needs and that aren't there."""
-        return [need for need in self.needs if shutil.which(need) is None and (need not in MODULES or find_spec(need) is None)]
+        return [need for need in self.needs if not is_there(need)]
 
     def parts(self) -> list["Part"]:
         """Its parts, one for each item."""

@@ -280,7 +280,7 @@ def dist(program, folder):
 
 # Of the shells that may not be there, those that are.
 SHELLS = [(name, tests) for name, tests in (("zsh", completed_by_zsh), ("fish", completed_by_fish)) if shutil.which(name)]
-TESTS = (versions, Group(contents, needs=("dpkg-deb",)), Group(first_commands, needs=("dpkg-deb",)),
-         Group(six_commands, needs=("dpkg-deb", "erl", "escript", "erlc")), Group(manual, needs=("dpkg-deb", "man")),
+TESTS = (versions, Group(contents, needs=("dpkg-deb",)), Group(first_commands, needs=("dpkg-deb", "python3-jinja2")),
+         Group(six_commands, needs=("dpkg-deb", "python3-jinja2", "erl", "escript", "erlc")), Group(manual, needs=("dpkg-deb", "man")),
          Group(completed_by_bash, needs=("dpkg-deb",)), *(Group(tests, needs=("dpkg-deb",)) for _, tests in SHELLS),
          Group(dist, needs=("dpkg-deb",)))
