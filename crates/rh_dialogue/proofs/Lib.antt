@@ -1,0 +1,10 @@
+pub mod Closings
+pub mod Ending
+pub mod Going
+pub mod Lines
+pub mod Openings
+pub mod Parting
+pub mod Rows
+pub mod Standing
+pub mod Turning
+pub mod WholeLines

@@ -1,0 +1,132 @@
+//! Dialogues over one device.
+
+use crate::partner::Partner;
+use rh_app::{RunFault, Watched};
+use rh_dialogue::run_dialogue;
+use rh_rules::Pick;
+use std::alloc::Global;
+use std::process::Abort;
+
+// Two bare nodes: each line is given by a call of its own.
+static TWO_NODES: &str = "\
+{node, a@x, []}. {node, b@x, []}.
+===
+boot a@x
+# a comment
+crash a@x
+undo
+tick
+boot b@x
+";
+
+static TWO_NODES_TEXT: &str = "\
+ok
+up a@x
+ok
+ended a@x
+ok
+bad line 5
+";
+
+// How much of the text is due at each call that asks: for the file, the line `===`, and each line of the script up to the bad one.
+static TWO_NODES_DUE: [usize; 7] = [0, 0, 0, 10, 10, 23, 26];
+
+/// How a dialogue ended, in a word.
+fn said(ended: Result<(), RunFault>) -> &'static str {
+    match ended {
+        Ok(()) => "done",
+        Err(RunFault::Cluster(_)) => "cluster",
+        Err(RunFault::BadLine(_)) => "bad line",
+        Err(RunFault::Read) => "read",
+        Err(RunFault::Write) => "write",
+        Err(RunFault::OutOfMemory) => "memory",
+        Err(_) => "other",
+    }
+}
+
+// How a dialogue with this partner ends.
+fn end_of<'a>(alloc: Global, partner: Partner<'a>) -> (&'static str, Partner<'a>) {
+    let mut device = Watched::new(partner);
+    let ended = said(run_dialogue(alloc, &mut device, Pick::First));
+    (ended, device.into_inner())
+}
+
+// A line at a time: each answer is there when the next line is asked for, and nothing is asked behind the bad line.
+#[test]
+fn answers_each_line_before_the_next(rt: HostRuntime) {
+    let partner = Partner::new(rt.alloc(), TWO_NODES.as_bytes(), 4096);
+    let (ended, partner) = end_of(rt.alloc(), partner);
+    assert!(rt; ended == "bad line");
+    assert!(rt; partner.taken.as_slice() == TWO_NODES_TEXT.as_bytes());
+    assert!(rt; partner.due.as_slice() == TWO_NODES_DUE.as_slice());
+}
+
+// What a dialogue with one byte a call answers, and how often it asked once the input had ended.
+fn is_answered(rt: &impl Abort, alloc: Global, input: &str, end: &str, text: &str) {
+    let (ended, partner) = end_of(alloc, Partner::new(alloc, input.as_bytes(), 1));
+    assert!(rt; ended == end, "{input}");
+    assert!(rt; partner.taken.as_slice() == text.as_bytes(), "{input}");
+    assert!(rt; partner.late == 0, "{input}");
+}
+
+// At the end of the input the last line needs no LF.
+#[test]
+fn ends_as_a_run_does(rt: HostRuntime) {
+    is_answered(&rt, rt.alloc(), "{node, a@x, []}.", "done", "");
+    is_answered(&rt, rt.alloc(), "{node, a@x, []}.\n===", "done", "");
+    is_answered(
+        &rt,
+        rt.alloc(),
+        "{node, a@x, []}.\n===\nboot a@x",
+        "done",
+        "ok\nup a@x\n",
+    );
+    is_answered(
+        &rt,
+        rt.alloc(),
+        "",
+        "cluster",
+        "cluster refused C2 no_nodes\n",
+    );
+    is_answered(
+        &rt,
+        rt.alloc(),
+        "\n===\nboot a@x\n",
+        "cluster",
+        "cluster refused C2 no_nodes\n",
+    );
+    is_answered(
+        &rt,
+        rt.alloc(),
+        "{node, a@x, []}.\n===\nboot",
+        "bad line",
+        "bad line 1\n",
+    );
+}
+
+// Does a dialogue whose device fails at this call leave a front of the text, and end as a device's failure does?
+fn leaves_a_front(rt: &impl Abort, alloc: Global, call: u32) -> bool {
+    let partner = Partner::failing(alloc, TWO_NODES.as_bytes(), 7, call);
+    let (ended, partner) = end_of(alloc, partner);
+    assert!(rt;
+        TWO_NODES_TEXT
+            .as_bytes()
+            .starts_with(partner.taken.as_slice()),
+        "call {call}"
+    );
+    assert!(rt;
+        ended == "read" || ended == "write" || ended == "bad line",
+        "call {call}"
+    );
+    ended != "bad line"
+}
+
+// Up to the call behind the last one, of which there are at most 70.
+#[test]
+fn leaves_a_front_where_a_call_fails(rt: HostRuntime) {
+    let mut call = 0;
+    while call < 70 && leaves_a_front(&rt, rt.alloc(), call) {
+        call += 1;
+    }
+    assert!(rt; call > 30 && call < 70);
+}
