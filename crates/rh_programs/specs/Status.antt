@@ -1,11 +1,12 @@
 -- The exit status, and what it says (ours).
 use Rattle.std.specs.Prelude.{◌≡◌, ◌⊎◌, ◌==◌, ℕ, List, Bool, true, false, Option, None, Result, Ok, Err}
+use Rattle.rh_rules.specs.declared.pick.Pick.{Pick}
 use Rattle.rh_sweep.specs.Sweeping.{AreWorkers}
 use Rattle.rh_app.specs.declared.fault.RunFault.{RunFault}
 use Rattle.rh_app.specs.declared.fault.RunFault.TheVariants as end
 use Rattle.rh_app.specs.declared.fault.Told.{Told}
 use Rattle.rh_programs.specs.declared.status.Program.{Program}
-use Rattle.rh_programs.specs.declared.status.Program.TheVariants.{Check, CheckJson, Run, RunIn, RunJson, Story, Verify, Lint, Explore, Sessions, Sweep, SweepJson}
+use Rattle.rh_programs.specs.declared.status.Program.TheVariants.{Check, CheckJson, Run, RunIn, RunJson, Dialogue, Story, Verify, Lint, Explore, Sessions, Sweep, SweepJson}
 use Rattle.rh_devices.specs.declared.watched.Watched.{Watched}
 use Rattle.rh_devices.specs.Devices.{Passed}
 use Rattle.rh_app.specs.Programs.{IsInput, ProgramGives, NoThreads}
@@ -13,6 +14,7 @@ use Rattle.rh_app.specs.CheckText.{OwesCheck}
 use Rattle.rh_app.specs.RunText.{OwesRun}
 use Rattle.rh_app.specs.Sessions.{MayGive, AskHistory}
 use Rattle.rh_app.specs.SweepText.{OwesSweep}
+use Rattle.rh_dialogue.specs.DialogueText.{DialogueGives}
 use Rattle.rh_explore_text.specs.ExploreText.{OwesExplore}
 use Rattle.rh_json.specs.CheckJson.{OwesCheckJson}
 use Rattle.rh_json.specs.RunJson.{OwesRunJson}
@@ -29,6 +31,7 @@ Owes CheckJson = OwesCheckJson
 Owes (Run pick) = OwesRun pick
 Owes (RunIn pick manner) = OwesRunIn manner pick
 Owes (RunJson pick) = OwesRunJson pick
+Owes (Dialogue pick) = OwesRun pick
 Owes (Story pick whole) = OwesStory pick whole
 Owes (Verify pick) = OwesVerify pick
 Owes (Lint pick manner) = OwesLint manner pick
@@ -82,6 +85,14 @@ StatusGives {S = S} {K = K} gives unread takes flushes unwritten program status 
     (ended : Result (Unit {0}) RunFault) × (written : Watched K)
     × ProgramGives gives unread takes unwritten (Owes program) (MayTear program) ended old new before written
     × Flushed flushes unwritten written after status ended
+
+-- a dialogue ended, and then its device was flushed
+abbrev pub DialogueStatus : {D : Type 0} → (D → D → List ℕ → Type 0) → (D → D → Type 0) → (D → D → List ℕ → Type 0) → (D → D → Type 0) → (D → D → Type 0)
+    → Pick → ℕ → Watched D → Watched D → Type 0
+DialogueStatus {D = D} gives unread takes flushes unwritten pick status old new =
+    (ended : Result (Unit {0}) RunFault) × (written : Watched D)
+    × DialogueGives gives unread takes flushes unwritten pick ended old written
+    × Flushed flushes unwritten written new status ended
 
 -- what status 0 says: the writer took the whole text of all that the reader gave, which tells no fault, and was flushed behind it
 abbrev pub IsDone : {S K : Type 0} → (S → S → List ℕ → Type 0) → (K → K → List ℕ → Type 0) → (K → K → Type 0)

@@ -1,10 +1,11 @@
 //! Each program from its devices to the exit status.
 //!
 //! The programs themselves stand in the crates below: [`Program`] has a variant for each, and the definitions beside it say what
-//! each owes. [`rehearse_alone`] is those that start no threads, and [`rehearse_together`] each, with threads. A program more is
-//! a variant, and a line of each function and definition that goes by variants; nothing else knows which programs there are.
+//! each owes. [`rehearse_alone`] is those that start no threads, and [`rehearse_together`] each, with threads;
+//! [`rehearse_dialogue`] is the one that answers as it reads. A program more is a variant, and a line of each function and
+//! definition that goes by variants; nothing else knows which programs there are.
 #![tactic(auto)]
 
 mod status;
 
-pub use status::{Program, rehearse_alone, rehearse_together};
+pub use status::{Program, rehearse_alone, rehearse_dialogue, rehearse_together};

@@ -2,11 +2,12 @@
 
 ghost use Rattle.std.specs.Prelude.{◌≡◌, false, true};
 ghost use Rattle.rh_app.specs.Programs.{ProgramGives};
-ghost use Rattle.rh_programs.specs.Status.{Owes, MayTear, Flushed, IsStaffed, IsDone, StatusGives, is_alone, status_of};
+ghost use Rattle.rh_programs.specs.Status.{DialogueStatus, Owes, MayTear, Flushed, IsStaffed, IsDone, StatusGives, is_alone, status_of};
 
 use rh_app::{
     RunFault, Sink, Source, Watched, run, run_check, run_sessions, run_sweep, run_sweep_alone,
 };
+use rh_dialogue::run_dialogue;
 use rh_explore_text::run_explore;
 use rh_json::{check_json, run_json};
 use rh_lint::{LintManner, run_lint};
@@ -32,6 +33,8 @@ pub enum Program {
     RunIn(Pick, Manner),
     /// The same, as lines of JSON.
     RunJson(Pick),
+    /// The same, each command before more is read, by [`rehearse_dialogue`]. A reader and a writer apart are run over as by `Run`.
+    Dialogue(Pick),
     /// The script is printed again, with what came of each command; behind the cluster file, if it is to be whole.
     Story(Pick, bool),
     /// What came of each command is compared with what the script expects.
@@ -105,6 +108,20 @@ pub fn rehearse_together<T: Threads + Wait + Sync, S: Source, K: Sink>(
     flushed(ended, writer)
 }
 
+/// Answers each command of a script before more is read, over one device with both directions, flushes it, however that ended, and
+/// answers the exit status, which is that of [`rehearse_alone`].
+pub fn rehearse_dialogue<D: Source + Sink>(
+    alloc: Global,
+    pick: Pick,
+    device: &mut Watched<D>,
+) -> u8
+    requires { device.old.failed ≡ false }
+    ensures { DialogueStatus D.Source.gives D.Source.fails D.Sink.takes D.Sink.flushes D.Sink.fails pick result device.old device.new }
+{
+    let ended = run_dialogue(alloc, device, pick);
+    flushed(ended, device)
+}
+
 // Runs a program that starts no threads over its devices.
 fn ended_alone<S: Source, K: Sink>(
     alloc: Global,
@@ -120,7 +137,7 @@ fn ended_alone<S: Source, K: Sink>(
     match program {
         Program::Check => run_check(alloc, reader, writer),
         Program::CheckJson => check_json(alloc, reader, writer),
-        Program::Run(pick) => run(alloc, reader, writer, pick),
+        Program::Run(pick) | Program::Dialogue(pick) => run(alloc, reader, writer, pick),
         Program::RunIn(pick, manner) => run_in(alloc, reader, writer, pick, manner),
         Program::RunJson(pick) => run_json(alloc, reader, writer, pick),
         Program::Story(pick, whole) => run_story(alloc, reader, writer, pick, whole),
