@@ -8,7 +8,8 @@ pub mod Read
 pub mod Found
 pub mod FoundText
 pub mod Enough
-pub mod Nesting
+pub mod Ahead
+pub mod Kept
 pub mod Stops
 pub mod Again
 pub mod StopsInside

@@ -11,7 +11,7 @@ use Rattle.rh_terms.specs.Bytes.{past_blank}
 use Rattle.rh_terms.specs.Spelling.{AreDotted}
 use Rattle.rh_base.specs.Tree.{Trees}
 use Rattle.rh_base.specs.declared.term.Terms.{Terms}
-use Rattle.rh_terms.specs.Grammar.{dotted, terms_from, line_at, told, terms_of, FaultIs}
+use Rattle.rh_terms.specs.Grammar.{dotted, terms_from, line_at, told, terms_of, Tells}
 use Rattle.rh_terms.specs.Fronts.{CanGoOn, StopsAt}
 use Rattle.rh_terms.proofs.Spelled.{chosen}
 use Rattle.rh_terms.proofs.FoundText.{line_is}
@@ -19,7 +19,6 @@ use Rattle.rh_terms.proofs.Read.{dotted_read}
 use Rattle.rh_terms.proofs.Stops.{IsErr}
 use Rattle.rh_terms.proofs.StopsText.{WholeFails, dotted_stops}
 use Rattle.rh_terms.proofs.GoesOnText.{dotted_reaches}
-use Rattle.rh_terms.proofs.Told.{same_fault}
 
 -- Two cuts of a list with as much behind them are one.
 same_cut : (f g : List ℕ) (b c : ℕ) (x y : List ℕ) → f ++ b ∷ x ≡ g ++ c ∷ y → length x ≡ length y → (f ≡ g) × (b ≡ c)
@@ -89,11 +88,11 @@ syntax_stops bytes line e =
     ]
 
 -- the fault that was answered
-pub fault_stops : (bytes : List ℕ) (fault : TermFault) (line : ℕ) → FaultIs fault (terms_of bytes)
-    → ◌≡◌ {A = Result Terms TermFault} (Err fault) (Err (faults.Syntax line)) → StopsAt line bytes
-fault_stops bytes fault line exact e =
-    let P : TermFault → Type 0 = λ f. FaultIs f (terms_of bytes) in
-    syntax_stops bytes line (subst P (same_fault fault (faults.Syntax line) e) exact)
+pub tells_syntax : (bytes : List ℕ) (r : Result Terms TermFault) → Tells r (terms_of bytes) → (line : ℕ) → r ≡ Err (faults.Syntax line)
+    → StopsAt line bytes
+tells_syntax bytes r h line e =
+    let P : Result Terms TermFault → Type 0 = λ x. Tells x (terms_of bytes) in
+    syntax_stops bytes line (subst P e h)
 
 -- ---- a text stops at one line
 

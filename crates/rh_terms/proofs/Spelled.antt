@@ -225,7 +225,7 @@ tuple_is (suc room) ts s h = Spells.tuple_of room ts s h
 
 -- ---- terms
 
-under_is : {A B : Type 0} (f : A → B) (read : Read A) (y : B) (rest : List ℕ) → under f read ≡ Ok (y, rest) → (x : A) × (read ≡ Ok (x, rest)) × (f x ≡ y)
+pub under_is : {A B : Type 0} (f : A → B) (read : Read A) (y : B) (rest : List ℕ) → under f read ≡ Ok (y, rest) → (x : A) × (read ≡ Ok (x, rest)) × (f x ≡ y)
 under_is {A} {B} f read y rest e =
     let x = bind_ok read (λ x. Ok (f x.0, x.1)) (y, rest) e in
     let p : B × List ℕ = (f x.0.0, x.0.1) in

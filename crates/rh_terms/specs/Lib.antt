@@ -5,5 +5,5 @@ pub mod Grammar
 pub mod Spelling
 pub mod Constructs
 pub mod Fronts
-pub mod Nest
+pub mod Kept
 pub mod FaultTexts

@@ -13,14 +13,17 @@
 
 mod bytes;
 mod fault;
+mod keep;
 mod laws;
 mod marks;
 mod nest;
 mod reading;
 mod shown;
+mod skim;
 mod tokens;
 
 pub use fault::TermFault;
+pub use keep::{Keep, KeepAll};
 pub use laws::{bounds_are_never_met, one_reading, stops_at_one_line};
 pub use nest::MAX_DEPTH;
-pub use reading::read_terms;
+pub use reading::{read_kept, read_terms};

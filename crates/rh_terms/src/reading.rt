@@ -5,27 +5,33 @@ ghost use Rattle.std.specs.Str.{is_utf8, IsUtf8};
 ghost use Rattle.rh_terms.specs.Constructs.{HasConstruct};
 ghost use Rattle.rh_terms.specs.Faults.{ReadsAs};
 ghost use Rattle.rh_terms.specs.Fronts.{StopsAt};
-ghost use Rattle.rh_terms.specs.Grammar.{terms_from, line_at, terms_of, Tells, fault_told};
+ghost use Rattle.rh_terms.specs.Grammar.{line_at, terms_of, Tells, fault_told};
+ghost use Rattle.rh_terms.specs.Kept.{kept_from, kept_of};
 ghost use Rattle.rh_terms.specs.Spelling.{AreDotted};
 ghost use Rattle.rh_base.specs.Tree.{Trees, trees_of, items_of};
 
 use crate::bytes::skip_blank;
 use crate::fault::{Fault, ReadError, TermFault};
-use crate::nest::Nest;
+use crate::keep::{Keep, KeepAll};
+use crate::marks::dot_of;
+use crate::nest::{MAX_DEPTH, term_of};
 use rh_base::{Term, Terms};
 use std::alloc::Global;
 
-// The terms from the first one on.
-fn terms_of_text(alloc: Global, bytes: &[u8]) -> Result<Vec<Term>, ReadError>
+// The terms from the first one on, as they are kept.
+fn terms_of_text<K: Keep>(alloc: Global, keep: K, bytes: &[u8]) -> Result<Vec<Term>, ReadError>
     requires { IsUtf8 bytes.now }
-    ensures { ReadsAs (λ x. trees_of x.items) result (terms_from bytes.now) }
+    ensures { ReadsAs (λ x. trees_of x.items) result (kept_from K.behind_key keep bytes.now) }
 {
-    let mut nest = Nest::new(alloc);
+    let mut terms = Vec::new(alloc);
     let mut rest = bytes;
     'bytes: while !rest.is_empty() {
-        rest = nest.step(alloc, rest)?;
+        let (term, after_term) = term_of(alloc, keep, MAX_DEPTH, rest)?;
+        terms.push(term)?;
+        let after = dot_of(skip_blank(after_term))?;
+        rest = skip_blank(after);
     }
-    nest.finish()
+    Ok(terms)
 }
 
 // The line of the place from which on so many bytes are left.
@@ -71,6 +77,21 @@ fn fault_of(bytes: &[u8], error: ReadError) -> TermFault
     }
 }
 
+/// The terms of a text, as they are kept: as [`read_terms`] reads them, but of those that are skipped is kept only whether they
+/// are lists, `[]` or else `{}`. A fault is answered wherever it stands.
+pub fn read_kept<K: Keep>(alloc: Global, keep: K, bytes: &[u8]) -> Result<Terms, TermFault>
+    // Want of memory aside, the answer is the definition's: the terms as they are kept, or the first fault and its line.
+    ensures { Tells result (kept_of K.behind_key keep (terms_of bytes.now)) }
+{
+    if !is_text(bytes) {
+        return Err(TermFault::NotUtf8);
+    }
+    match terms_of_text(alloc, keep, skip_blank(bytes)) {
+        Ok(items) => Ok(Terms::of(items)),
+        Err(error) => Err(fault_of(bytes, error)),
+    }
+}
+
 /// The terms of a text: each is followed by a dot, as in a file that Erlang's `file:consult/1` reads.
 ///
 /// A text that holds no such terms is answered by its first fault from left to right.
@@ -87,11 +108,5 @@ pub fn read_terms(alloc: Global, bytes: &[u8]) -> Result<Terms, TermFault>
     // Where a text is refused as unsupported, one of the constructs stands on that line, where reading comes to it.
     ensures unsupported { (line : ℕ) → result ≡ Err (TermFault.Unsupported line) → HasConstruct line bytes.now }
 {
-    if !is_text(bytes) {
-        return Err(TermFault::NotUtf8);
-    }
-    match terms_of_text(alloc, skip_blank(bytes)) {
-        Ok(items) => Ok(Terms::of(items)),
-        Err(error) => Err(fault_of(bytes, error)),
-    }
+    read_kept(alloc, KeepAll, bytes)
 }

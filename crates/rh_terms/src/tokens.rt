@@ -8,6 +8,7 @@ ghost use Rattle.rh_terms.specs.Faults.{ReadsAs};
 ghost use Rattle.rh_terms.specs.Tokens.{escape, is_plain, quoted, number, digits_at, integer_at, name_at};
 ghost use Rattle.rh_terms.specs.Tokens.{quoted_atom_at, text_at, is_other_number, signed, fits, IsAtMost};
 ghost use Rattle.rh_terms.specs.Grammar.{word_at};
+ghost use Rattle.rh_terms.specs.Kept.{behind};
 ghost use Rattle.rh_base.specs.Tree.{tree_of};
 
 use crate::bytes::{begins_with, is_atom_byte, is_digit_byte, is_lower_byte, skip_blank, stuck_at};
@@ -264,6 +265,93 @@ pub fn word_of(alloc: Global, bytes: &[u8]) -> Result<(Term, &[u8]), ReadError>
                 text_of(alloc, after)
             } else if b == b'-' || is_digit_byte(b) {
                 integer_of(bytes)
+            } else {
+                Err(stuck_at(bytes))
+            }
+        }
+    }
+}
+
+// What is behind the closing quote.
+#[tactic(auto, unfolding(crate::specs::Tokens::quoted))]
+fn behind_quoted(quote: u8, bytes: &[u8]) -> Result<&[u8], ReadError>
+    ensures { ReadsAs (λ rest. rest.now) result (behind (quoted false quote bytes.now)) }
+{
+    let mut rest = bytes;
+    'bytes: while let [b, after @ ..] = rest {
+        if *b == quote {
+            return Ok(after);
+        }
+        if *b == b'\\' {
+            match after {
+                [] => return Err(ReadError::Fault(Fault::Syntax(0))),
+                [c, others @ ..] => match escaped(*c) {
+                    None => return Err(ReadError::Fault(Fault::Unsupported(rest.len()))),
+                    Some(_) => rest = others,
+                },
+            }
+        } else {
+            rest = after;
+        }
+    }
+    Err(ReadError::Fault(Fault::Syntax(0)))
+}
+
+// What is behind an atom in quotes, of which the opening one was read.
+#[tactic(auto, unfolding(crate::specs::Tokens::quoted_atom_at))]
+fn behind_quoted_atom(bytes: &[u8]) -> Result<&[u8], ReadError>
+    ensures { ReadsAs (λ rest. rest.now) result (behind (quoted_atom_at bytes.now)) }
+{
+    behind_quoted(b'\'', bytes)
+}
+
+// What is behind a text, of which the opening quote was read.
+#[tactic(auto, unfolding(crate::specs::Tokens::text_at))]
+fn behind_text(bytes: &[u8]) -> Result<&[u8], ReadError>
+    ensures { ReadsAs (λ rest. rest.now) result (behind (text_at bytes.now)) }
+{
+    let rest = behind_quoted(b'"', bytes)?;
+    let after = skip_blank(rest);
+    if let [b'"', ..] = after {
+        return Err(ReadError::Fault(Fault::Unsupported(after.len())));
+    }
+    Ok(rest)
+}
+
+// What is behind an atom without quotes.
+#[tactic(auto, unfolding(crate::specs::Tokens::name_at))]
+fn behind_name(bytes: &[u8]) -> Result<&[u8], ReadError>
+    ensures { ReadsAs (λ rest. rest.now) result (behind (name_at bytes.now)) }
+{
+    let (_, rest) = bytes.split_at(name_len(bytes));
+    Ok(rest)
+}
+
+// What is behind an integer.
+fn behind_integer(bytes: &[u8]) -> Result<&[u8], ReadError>
+    ensures { ReadsAs (λ rest. rest.now) result (behind (integer_at bytes.now)) }
+{
+    let (_, rest) = integer_of(bytes)?;
+    Ok(rest)
+}
+
+/// What is behind an atom, a text or an integer.
+#[tactic(auto, unfolding(crate::specs::Grammar::word_at))]
+pub fn behind_word(bytes: &[u8]) -> Result<&[u8], ReadError>
+    ensures { ReadsAs (λ rest. rest.now) result (behind (word_at bytes.now)) }
+{
+    match bytes {
+        [] => Err(ReadError::Fault(Fault::Syntax(0))),
+        [b, after @ ..] => {
+            let b = *b;
+            if is_lower_byte(b) {
+                behind_name(bytes)
+            } else if b == b'\'' {
+                behind_quoted_atom(after)
+            } else if b == b'"' {
+                behind_text(after)
+            } else if b == b'-' || is_digit_byte(b) {
+                behind_integer(bytes)
             } else {
                 Err(stuck_at(bytes))
             }

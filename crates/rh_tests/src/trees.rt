@@ -1,7 +1,7 @@
 //! Terms: what is read of each construct, copies, and terms made by hand.
 
 use rh_base::{Str, Term, Terms};
-use rh_terms::read_terms;
+use rh_terms::{Keep, TermFault, read_kept, read_terms};
 use std::alloc::{AllocError, Global};
 use std::process::Abort;
 
@@ -112,4 +112,44 @@ fn made_by_hand(rt: HostRuntime) {
     assert!(rt; items.push(named(&rt, rt.alloc(), "svc")).is_ok());
     let terms = Terms::of(items);
     is_shown(&rt, rt.alloc(), &terms);
+}
+
+// All is kept but what stands behind `skip`.
+#[derive(Clone, Copy)]
+struct AllButSkip;
+
+impl Keep for AllButSkip {
+    ghost use Rattle.std.specs.Prelude.{None, Some, codes, if◌then◌else◌};
+    ghost use Rattle.std.specs.Str.{bytes_eq};
+
+    ghost behind_key = { λ all key. if bytes_eq key (codes "skip") then None else Some all };
+
+    fn behind(self, key: &str) -> Option<AllButSkip> {
+        if key == "skip" { None } else { Some(self) }
+    }
+}
+
+#[test]
+fn skipped_terms_are_not_kept(rt: HostRuntime) {
+    let text = "{skip, [a, {b}], {c}, \"t\", 'q', -7}. {keep, [{skip, [1], x}, skip, [skip, 2]]}. {{skip, 3}, 4}.";
+    let terms = read_kept(rt.alloc(), AllButSkip, text.as_bytes());
+    let want = "{skip,[],{},{},{},{},},{keep,[{skip,[],{},},skip,[skip,2,],],},{{skip,{},},4,},";
+    are_shown(&rt, rt.alloc(), &terms.ok().expect(&rt, "terms"), want);
+}
+
+#[test]
+fn skipped_terms_have_their_faults(rt: HostRuntime) {
+    for (text, want) in [
+        ("{skip,\n[a,\n b c]}.", TermFault::Syntax { line: 3 }),
+        ("{skip, [a, {b, [\n", TermFault::Syntax { line: 2 }),
+        ("{skip, 'a\n", TermFault::Syntax { line: 2 }),
+        ("{skip, {a, \"b\"\n\n\"c\"}}.", TermFault::Unsupported { line: 3 }),
+        ("{skip, 'a\n\\q'}.", TermFault::Unsupported { line: 2 }),
+        ("{skip, [a\n| b]}.", TermFault::Unsupported { line: 2 }),
+        ("{skip, 1.5}.", TermFault::Unsupported { line: 1 }),
+        ("{skip, -9223372036854775809}.", TermFault::IntRange),
+    ] {
+        let answer = read_kept(rt.alloc(), AllButSkip, text.as_bytes());
+        assert!(rt; answer.err() == Some(want), "{text}");
+    }
 }

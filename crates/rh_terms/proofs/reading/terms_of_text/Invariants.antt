@@ -1,11 +1,15 @@
 use Rattle.std.proofs.Common.{◌≡◌, length}
 use Rattle.std.specs.Str.{IsUtf8}
-use Rattle.rh_terms.specs.Grammar.{terms_from}
-use Rattle.rh_terms.specs.Nest.{going_in}
+use Rattle.rh_base.specs.Tree.{trees_of}
+use Rattle.rh_terms.specs.Kept.{kept_from}
+use Rattle.rh_terms.proofs.Joined.{after_trees}
 use Rattle.rh_terms.proofs.reading.terms_of_text.Given as goal
 
 abbrev pub invariant-bytes : goal.invariant-bytes
-invariant-bytes l = record { so_far : going_in l.nest l.rest ≡ terms_from l.bytes; text : IsUtf8 l.rest }
+invariant-bytes g l = record {
+  so_far : after_trees (trees_of l.terms.items) (kept_from g.K.Keep.behind_key l.keep l.rest) ≡ kept_from g.K.Keep.behind_key l.keep l.bytes;
+  text : IsUtf8 l.rest;
+}
 
 abbrev pub decreases-bytes : goal.decreases-bytes
-decreases-bytes l = length l.rest
+decreases-bytes g l = length l.rest
