@@ -279,7 +279,7 @@ FACTS = {"Cluster::is_within", "Lists::formed", "Wheel::formed", "State::formed"
          "firings_tell_the_tick", "firings_are_in_time"}
 # Parts of calls that have rows, which crates above make by themselves too.
 PARTS = {
-    "text_of_bytes", "text_of_vec", "is_in", "Cluster::of", "first_state_sharing", "operational_among", "operational_nodes",
+    "text_of_bytes", "text_of_vec", "read_kept", "is_in", "Cluster::of", "first_state_sharing", "operational_among", "operational_nodes",
     "missing_dep", "deps_run", "Outcome::sharing", "Bytes::same", "Reply::same", "Sim::answer",
     "Sim::look"}
 # Readers that no program makes, and that are lent no allocator.

@@ -10,6 +10,7 @@ pub mod Profile
 pub mod Values
 pub mod Agreement
 pub mod ClusterOf
+pub mod Kept
 pub mod Laws
 pub use Rattle.rh_model.specs.ClusterView
 pub use Rattle.rh_model.specs.TermSymbols

@@ -90,9 +90,9 @@ fn check_timeout(timeout: Option<&Term>) -> Result<(), ClusterFault>
     }
 }
 
-// A parameter that is read.
+/// A parameter that is read.
 #[derive(Clone, Copy)]
-enum KernelKey {
+pub enum KernelKey {
     Distributed,
     Mandatory,
     Optional,
@@ -100,8 +100,8 @@ enum KernelKey {
     Permissions,
 }
 
-// The parameter of a key, if it is read.
-fn kernel_key(key: &str) -> Option<KernelKey>
+/// The parameter of a key, if it is read.
+pub fn kernel_key(key: &str) -> Option<KernelKey>
     ensures { result ≡ kernel_key key.now }
 {
     match key {

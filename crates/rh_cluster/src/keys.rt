@@ -89,16 +89,16 @@ fn are_phases(value: &Term) -> bool
     shapes::atom(value) == Some("undefined") || shapes::list(value).is_some_and(are_entries)
 }
 
-// What is read under a key.
+/// What is read under a key.
 #[derive(Clone, Copy)]
-enum AppKey {
+pub enum AppKey {
     Applications,
     Mod,
     StartPhases,
 }
 
-// What is read under a key, if it is.
-fn app_key(key: &str) -> Option<AppKey>
+/// What is read under a key, if it is.
+pub fn app_key(key: &str) -> Option<AppKey>
     ensures { result ≡ app_key key.now }
 {
     match key {

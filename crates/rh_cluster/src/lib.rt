@@ -12,6 +12,7 @@ mod fault;
 mod gathering;
 mod headers;
 mod kernel;
+mod kept;
 mod keys;
 mod laws;
 mod lists;
@@ -27,6 +28,6 @@ mod shown;
 mod values;
 
 pub use fault::ClusterFault;
-pub use laws::clusters_are_within;
+pub use laws::{clusters_are_within, skipped_tells_nothing};
 pub use reading::read_cluster;
 pub use rh_model::{App, Cluster, Dep, Group, Groups, Node, Restart, Spread, SyncWait};

@@ -16,15 +16,15 @@ use rh_base::Term;
 use rh_model::{NameSet, Names};
 use std::alloc::Global;
 
-// A section that is read.
+/// A section that is read.
 #[derive(Clone, Copy)]
-enum SectionKey {
+pub enum SectionKey {
     Kernel,
     Rehearse,
 }
 
-// The section of a key, if it is read.
-fn section_key(key: &str) -> Option<SectionKey>
+/// The section of a key, if it is read.
+pub fn section_key(key: &str) -> Option<SectionKey>
     ensures { result ≡ section_key key.now }
 {
     match key {
