@@ -2,11 +2,14 @@
 //!
 //! A check tells one fault by its code, and mostly not where it is. [`blamed`] finds the tuple without which the file would be
 //! accepted, or would be refused for another reason: parameters, sections and keys are tried one at a time. [`fault_in`] tells the
-//! fault with its line.
+//! fault with its line, the way there and what was expected.
 #![tactic(auto)]
 
 mod blame;
+mod expected;
 mod telling;
+mod ways;
+mod words;
 
 pub use blame::{MOST_READ, MOST_TRIED, blamed};
-pub use telling::fault_in;
+pub use telling::{MOST_SHOWN, fault_in};

@@ -1,72 +1,78 @@
 //! A fault with its place.
 
 ghost use Rattle.std.specs.Prelude.{◌≡◌, ◌++◌, IfOk, take, drop};
-ghost use Rattle.rh_blame.specs.Telling.{span, is_shown, words_of, shown, placed, fault_in};
+ghost use Rattle.rh_blame.specs.Words.{words_of};
+ghost use Rattle.rh_blame.specs.Spans.{span};
+ghost use Rattle.rh_blame.specs.Telling.{front, dots, takes, placed, fault_in};
 
 use crate::blame::{before, behind, blamed};
+use crate::expected::expected;
+use crate::ways::way;
+use crate::words::{first_word, words_of};
 use rh_base::{OutOfMemory, Str};
 use rh_cluster::ClusterFault;
 use rh_cluster_lint::fault_finding;
 use rh_findings::Finding;
+use rh_json_text::before_first;
 use rh_places::Tuple;
 use std::alloc::Global;
 
-/// A tuple of so many bytes at most is shown.
-pub const MOST_SHOWN: usize = 60;
+/// So many bytes of a tuple are shown at most.
+pub const MOST_SHOWN: usize = 40;
 
-// The bytes of a tuple.
-fn span(text: &[u8], tuple: Tuple) -> &[u8]
+/// The bytes of a tuple.
+pub fn span(text: &[u8], tuple: Tuple) -> &[u8]
     ensures { result.now ≡ span text.now tuple }
 {
     behind(before(text, tuple.to), tuple.from)
 }
 
-// Whether the bytes of a tuple are shown: they are few, and of one line.
-fn is_shown(bytes: &[u8]) -> bool
-    ensures { result ≡ is_shown bytes.now }
+// What is shown of the bytes of a tuple: the first line of them, cut where it is long, and then dots.
+fn shown(bytes: &[u8]) -> (&str, &'static str)
+    ensures front { result.0.now ≡ words_of (front bytes.now) }
+    ensures rest { result.1.now ≡ dots bytes.now }
 {
-    bytes.len() <= MOST_SHOWN && !bytes.contains(&b'\n')
+    let front = before(before_first(bytes, b'\n'), MOST_SHOWN);
+    let dots = if front.len() < bytes.len() { ".." } else { "" };
+    (words_of(front), dots)
 }
 
-// These bytes as words; none where they are no text.
-fn words_of(bytes: &[u8]) -> &str
-    ensures { result.now ≡ words_of bytes.now }
+// What is said of what a tuple takes, where it takes something else than it has.
+fn takes(fault: &ClusterFault, bytes: &[u8]) -> &'static str
+    ensures { result.now ≡ takes fault.now bytes.now }
 {
-    match std::str::from_utf8(bytes) {
-        Ok(words) => words,
-        Err(_) => "",
+    match fault {
+        ClusterFault::BadValue => expected(first_word(bytes)),
+        _ => "",
     }
-}
-
-// The text of a tuple, where it is shown.
-fn shown(text: &[u8], tuple: Tuple) -> &str
-    ensures { result.now ≡ shown text.now tuple }
-{
-    let bytes = span(text, tuple);
-    if is_shown(bytes) { words_of(bytes) } else { "" }
 }
 
 // A finding with the place of a tuple.
 fn placed(
     alloc: Global,
     text: &[u8],
+    fault: &ClusterFault,
     finding: Finding,
     tuple: Tuple,
 ) -> Result<Finding, OutOfMemory>
-    ensures { IfOk result (λ told. told ≡ placed text.now finding tuple) }
+    ensures { IfOk result (λ told. told ≡ placed text.now fault.now finding tuple) }
 {
+    let bytes = span(text, tuple);
     let words = finding.text.as_str();
-    let example = shown(text, tuple);
-    let told = format!(in alloc; "{words}: {example}")?;
+    let (front, dots) = shown(bytes);
+    let wanted = takes(fault, bytes);
+    let told = format!(in alloc; "{words}: {front}{dots}{wanted}")?;
     Ok(Finding {
         line: Some(tuple.line),
         kind: finding.kind,
         text: Str::of(told),
+        path: Some(way(alloc, text, tuple)?),
     })
 }
 
 /// The fault of a text that is no cluster, by the code that a check tells, with what was expected. Its line is that of the fault,
-/// where it names one, else that of the tuple which is at fault, if one is; a short tuple is shown.
+/// where it names one, else that of the tuple which is at fault, if one is. Then the way to the tuple is told and what stands there, cut
+/// at [`MOST_SHOWN`] bytes, and of a bad value what may stand there.
 #[tactic(auto, unfolding(crate::specs::Telling::fault_in))]
 pub fn fault_in(alloc: Global, text: &[u8], fault: &ClusterFault) -> Result<Finding, OutOfMemory>
     ensures { IfOk result (λ finding. finding ≡ fault_in text.now fault.now) }
@@ -77,6 +83,6 @@ pub fn fault_in(alloc: Global, text: &[u8], fault: &ClusterFault) -> Result<Find
     }
     match blamed(alloc, text, fault)? {
         None => Ok(finding),
-        Some(tuple) => placed(alloc, text, finding, tuple),
+        Some(tuple) => placed(alloc, text, fault, finding, tuple),
     }
 }

@@ -46,4 +46,4 @@ node_named (fault.Mismatch node) = node
 node_named _ = []
 
 unfoldable pub fault_finding : ClusterFault → Finding
-fault_finding f = record { line = fault_line f; kind = Error; text = fault_words f ++ node_named f }
+fault_finding f = record { line = fault_line f; kind = Error; text = fault_words f ++ node_named f; path = None }

@@ -1,5 +1,5 @@
 -- How the findings of a file are told, with their lines (ours).
-use Rattle.std.specs.Prelude.{List, if◌then◌else◌}
+use Rattle.std.specs.Prelude.{List, None, if◌then◌else◌}
 use Rattle.rh_model.specs.ClusterView.{ClusterView}
 use Rattle.rh_file_lint.specs.declared.finding.FileFinding.{FileFinding}
 use Rattle.rh_findings.specs.declared.finding.Kind.TheVariants.{Warning, Hint}
@@ -13,4 +13,5 @@ file_found l c f = record {
   line = file_line l f;
   kind = if is_warning f then Warning else Hint;
   text = sentence (words_of f) (names_of c f);
+  path = None;
 }

@@ -112,5 +112,6 @@ pub fn fault_finding(alloc: Global, fault: &ClusterFault) -> Result<Finding, Out
         line: fault_line(fault),
         kind: Kind::Error,
         text: Str::of(text),
+        path: None,
     })
 }

@@ -58,6 +58,7 @@ fn file_found(
         line: file_line(lines, finding),
         kind,
         text: sentence(alloc, words_of(finding), names_of(cluster, finding))?,
+        path: None,
     })
 }
 

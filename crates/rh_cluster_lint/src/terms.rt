@@ -44,6 +44,7 @@ fn near_found(
         line: lines.word_line(term, written.as_str()),
         kind: Kind::Warning,
         text: near_words(alloc, written, meant)?,
+        path: None,
     })
 }
 
@@ -57,11 +58,13 @@ fn term_found(alloc: Global, lines: &Lines<'_>, found: &TermFinding) -> Result<F
             line: None,
             kind: Kind::Hint,
             text: plain(alloc, NO_PROFILE)?,
+            path: None,
         }),
         TermFinding::UndefinedWritten { term } => Ok(Finding {
             line: lines.line_at(*term),
             kind: Kind::Warning,
             text: plain(alloc, UNDEFINED_WRITTEN)?,
+            path: None,
         }),
         TermFinding::NearSection {
             term,

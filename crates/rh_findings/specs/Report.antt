@@ -16,9 +16,14 @@ abbrev pub line_words : Option ℕ → List ℕ
 line_words None = []
 line_words (Some k) = decimal k ++ codes ": "
 
+-- the way to a finding, where it is known
+abbrev pub path_words : Option (List ℕ) → List ℕ
+path_words None = []
+path_words (Some path) = codes " (" ++ path ++ codes ")"
+
 -- the line of a finding
 unfoldable pub finding_line : Finding → List ℕ
-finding_line f = line_words f.line ++ (kind_word f.kind ++ (codes " " ++ (f.text ++ codes "\n")))
+finding_line f = line_words f.line ++ (kind_word f.kind ++ (codes " " ++ (f.text ++ (path_words f.path ++ codes "\n"))))
 
 abbrev pub is_of : Kind → Kind → Bool
 is_of Error Error = true

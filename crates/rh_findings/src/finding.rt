@@ -2,6 +2,7 @@
 
 ghost use Rattle.std.specs.Prelude.{◌≡◌};
 ghost use Rattle.rh_findings.specs.Order.{rank, place};
+ghost use Rattle.rh_findings.specs.Report.{kind_word, is_of};
 
 use rh_base::Str;
 
@@ -24,9 +25,33 @@ pub struct Finding {
     pub kind: Kind,
     /// Its code, a colon, and words for a person.
     pub text: Str,
+    /// The way to it from its term on, where it is known: `node a@x, kernel`.
+    pub path: Option<Str>,
 }
 
 impl Kind {
+    /// Its word.
+    pub fn word(self) -> &'static str
+        ensures { result.now ≡ kind_word self }
+    {
+        match self {
+            Kind::Error => "error",
+            Kind::Warning => "warning",
+            Kind::Hint => "hint",
+        }
+    }
+
+    /// Is it this kind?
+    pub fn is(self, kind: Kind) -> bool
+        ensures { result ≡ is_of kind self }
+    {
+        match kind {
+            Kind::Error => matches!(self, Kind::Error),
+            Kind::Warning => matches!(self, Kind::Warning),
+            Kind::Hint => matches!(self, Kind::Hint),
+        }
+    }
+
     // The place of its kind among findings of one line.
     fn rank(self) -> u128
         ensures { result ≡ rank self }

@@ -13,5 +13,5 @@ mod sentences;
 pub use finding::{Finding, Kind};
 pub use laws::list_is_one;
 pub use order::put_in_order;
-pub use report::{is_clean, report_text};
+pub use report::{count, is_clean, report_text};
 pub use sentences::{Names, Words, sentence};

@@ -3,35 +3,11 @@
 ghost use Rattle.std.specs.Prelude.{◌≡◌, ◌++◌, IfOk, OnOk};
 ghost use Rattle.std.specs.List.{flat_map};
 ghost use Rattle.std.specs.String.{string_bytes};
-ghost use Rattle.rh_findings.specs.Report.{kind_word, line_words, finding_line, is_of, count, last_line, report_text, is_clean};
+ghost use Rattle.rh_findings.specs.Report.{line_words, path_words, finding_line, count, last_line, report_text, is_clean};
 
 use crate::finding::{Finding, Kind};
-use rh_base::OutOfMemory;
+use rh_base::{OutOfMemory, Str};
 use std::alloc::Global;
-
-impl Kind {
-    // Its word.
-    fn word(self) -> &'static str
-        ensures { result.now ≡ kind_word self }
-    {
-        match self {
-            Kind::Error => "error",
-            Kind::Warning => "warning",
-            Kind::Hint => "hint",
-        }
-    }
-
-    // Is it this kind?
-    fn is(self, kind: Kind) -> bool
-        ensures { result ≡ is_of kind self }
-    {
-        match kind {
-            Kind::Error => matches!(self, Kind::Error),
-            Kind::Warning => matches!(self, Kind::Warning),
-            Kind::Hint => matches!(self, Kind::Hint),
-        }
-    }
-}
 
 // Adds the number of a line, where it is known.
 #[tactic(auto, unfolding(crate::specs::Report::line_words))]
@@ -44,6 +20,18 @@ fn push_line(text: &mut String, line: Option<u64>) -> Result<(), OutOfMemory>
     Ok(())
 }
 
+// Adds the way to a finding, where it is known.
+#[tactic(auto, unfolding(crate::specs::Report::path_words))]
+fn push_path(text: &mut String, path: &Option<Str>) -> Result<(), OutOfMemory>
+    ensures { OnOk result (string_bytes text.new ≡ string_bytes text.old ++ path_words path.now) }
+{
+    if let Some(path) = path {
+        let way = path.as_str();
+        write!(text, " ({way})")?;
+    }
+    Ok(())
+}
+
 // Adds the line of a finding.
 #[tactic(auto, unfolding(crate::specs::Report::finding_line))]
 fn push_finding(text: &mut String, finding: &Finding) -> Result<(), OutOfMemory>
@@ -52,7 +40,9 @@ fn push_finding(text: &mut String, finding: &Finding) -> Result<(), OutOfMemory>
     push_line(text, finding.line)?;
     let kind = finding.kind.word();
     let words = finding.text.as_str();
-    write!(text, "{kind} {words}\n")?;
+    write!(text, "{kind} {words}")?;
+    push_path(text, &finding.path)?;
+    write!(text, "\n")?;
     Ok(())
 }
 
@@ -66,8 +56,8 @@ fn push_findings(text: &mut String, findings: &[Finding]) -> Result<(), OutOfMem
     Ok(())
 }
 
-// How many findings are of this kind.
-fn count(kind: Kind, findings: &[Finding]) -> usize
+/// How many findings are of this kind.
+pub fn count(kind: Kind, findings: &[Finding]) -> usize
     ensures { result ≡ count kind findings.now }
 {
     let mut count: usize = 0;

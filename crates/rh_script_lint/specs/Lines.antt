@@ -12,7 +12,7 @@ use Rattle.rh_findings.specs.declared.finding.Finding.{Finding}
 use Rattle.rh_script_lint.specs.Commands.{CommandView, command_words, command_named}
 
 abbrev pub error_at : ℕ → List ℕ → Finding
-error_at k text = record { line = Some k; kind = Error; text = text }
+error_at k text = record { line = Some k; kind = Error; text = text; path = None }
 
 -- a near name, if there is one
 unfoldable pub near_words : Option (List ℕ) → List ℕ

@@ -1,5 +1,5 @@
 -- What a live OTP does otherwise at the steps of a script (ours).
-use Rattle.std.specs.Prelude.{ℕ, ◌+◌, List, [], ◌∷◌, ◌++◌, codes, Bool, true, false, not, ◌&&◌, Some, if◌then◌else◌}
+use Rattle.std.specs.Prelude.{ℕ, ◌+◌, List, [], ◌∷◌, ◌++◌, codes, Bool, true, false, not, ◌&&◌, Some, None, if◌then◌else◌}
 use Rattle.std.specs.List.{flat_map, list_any}
 use Rattle.rh_model.specs.ClusterView.{ClusterView}
 use Rattle.rh_trail.specs.declared.call.Call.{Call}
@@ -23,6 +23,7 @@ step_found c k f = record {
   line = Some k;
   kind = if is_warning f then Warning else Hint;
   text = sentence (words_of f) (names_of c f);
+  path = None;
 }
 
 -- a warning behind which a live call or boot script doesn't return: from there on a live cluster has another past
@@ -30,7 +31,7 @@ abbrev pub is_another_past : StepFinding → Bool
 is_another_past f = is_warning f && hangs f
 
 unfoldable pub another_past : ℕ → Finding
-another_past k = record { line = Some k; kind = Hint; text = codes "another_past: from here on a live cluster has another past" }
+another_past k = record { line = Some k; kind = Hint; text = codes "another_past: from here on a live cluster has another past"; path = None }
 
 -- the findings of a step on line k
 unfoldable pub of_steps : ClusterView → ℕ → List StepFinding → List Finding

@@ -20,6 +20,7 @@ pub fn error_at(number: u64, text: String) -> Finding
         line: Some(number),
         kind: Kind::Error,
         text: Str::of(text),
+        path: None,
     }
 }
 

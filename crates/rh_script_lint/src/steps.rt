@@ -35,6 +35,7 @@ fn step_found(
         line: Some(number),
         kind,
         text: sentence(alloc, words_of(finding), names_of(cluster, finding))?,
+        path: None,
     })
 }
 
@@ -83,6 +84,7 @@ fn another_past(alloc: Global, number: u64) -> Result<Finding, OutOfMemory>
         line: Some(number),
         kind: Kind::Hint,
         text: Str::of(text),
+        path: None,
     })
 }
 

@@ -1,7 +1,7 @@
 use Rattle.std.proofs.Common.{◌≡◌, ◌∙◌, ℕ, List, [], Bool, true, false, refl, if◌then◌else◌}
 use Rattle.std.specs.Str.{is_utf8}
 use Rattle.std.proofs.lemmas.Str.{is_utf8-from_IsUtf8, IsUtf8-from_is_utf8}
-use Rattle.rh_blame.proofs.telling.words_of.Goals as goal
+use Rattle.rh_blame.proofs.words.words_of.Goals as goal
 
 if_it_is : (b : Bool) (xs : List ℕ) → b ≡ true → xs ≡ (if b then xs else [])
 if_it_is true xs h = refl
