@@ -9,6 +9,7 @@ use Rattle.rh_places.specs.declared.tuples.Tuple.{Tuple}
 use Rattle.rh_blame.specs.declared.telling.TheConstants.{MOST_SHOWN}
 use Rattle.rh_blame.specs.Blame.{blamed}
 use Rattle.rh_blame.specs.Expected.{expected}
+use Rattle.rh_blame.specs.Hints.{hint_words}
 use Rattle.rh_blame.specs.Spans.{span}
 use Rattle.rh_blame.specs.Ways.{way}
 use Rattle.rh_blame.specs.Words.{words_of, first_word}
@@ -27,6 +28,10 @@ shown bytes = words_of (front bytes) ++ dots bytes
 abbrev pub takes : ClusterFault → List ℕ → List ℕ
 takes fault.BadValue bytes = expected (first_word bytes)
 takes _ bytes = []
+
+-- a finding with what may have been meant
+unfoldable pub hinted : List ℕ → ClusterFault → Finding → Finding
+hinted text fault f = record { line = f.line; kind = f.kind; text = f.text ++ hint_words text fault f.line; path = None }
 
 -- a finding with the place of a tuple, and the way there
 abbrev pub placed : List ℕ → ClusterFault → Finding → Tuple → Finding
@@ -47,4 +52,4 @@ told_in text fault f (Some line) = f
 told_in text fault f None = placed_if text fault f (blamed text fault)
 
 unfoldable pub fault_in : List ℕ → ClusterFault → Finding
-fault_in text fault = told_in text fault (fault_finding fault) (fault_finding fault).line
+fault_in text fault = told_in text fault (hinted text fault (fault_finding fault)) (hinted text fault (fault_finding fault)).line

@@ -6,7 +6,9 @@
 #![tactic(auto)]
 
 mod blame;
+mod constructs;
 mod expected;
+mod hints;
 mod telling;
 mod ways;
 mod words;

@@ -3,10 +3,11 @@
 ghost use Rattle.std.specs.Prelude.{◌≡◌, ◌++◌, IfOk, take, drop};
 ghost use Rattle.rh_blame.specs.Words.{words_of};
 ghost use Rattle.rh_blame.specs.Spans.{span};
-ghost use Rattle.rh_blame.specs.Telling.{front, dots, takes, placed, fault_in};
+ghost use Rattle.rh_blame.specs.Telling.{front, dots, takes, hinted, placed, fault_in};
 
 use crate::blame::{before, behind, blamed};
 use crate::expected::expected;
+use crate::hints::hint_words;
 use crate::ways::way;
 use crate::words::{first_word, words_of};
 use rh_base::{OutOfMemory, Str};
@@ -47,6 +48,27 @@ fn takes(fault: &ClusterFault, bytes: &[u8]) -> &'static str
     }
 }
 
+// A finding with what may have been meant.
+#[tactic(auto, unfolding(crate::specs::Telling::hinted))]
+fn hinted(
+    alloc: Global,
+    text: &[u8],
+    fault: &ClusterFault,
+    finding: Finding,
+) -> Result<Finding, OutOfMemory>
+    ensures { IfOk result (λ told. told ≡ hinted text.now fault.now finding) }
+{
+    let words = finding.text.as_str();
+    let hint = hint_words(text, fault, finding.line);
+    let told = format!(in alloc; "{words}{hint}")?;
+    Ok(Finding {
+        line: finding.line,
+        kind: finding.kind,
+        text: Str::of(told),
+        path: None,
+    })
+}
+
 // A finding with the place of a tuple.
 fn placed(
     alloc: Global,
@@ -70,14 +92,14 @@ fn placed(
     })
 }
 
-/// The fault of a text that is no cluster, by the code that a check tells, with what was expected. Its line is that of the fault,
+/// The fault of a text that is no cluster, by the code that a check tells, with what was expected, and what may have been meant. Its line is that of the fault,
 /// where it names one, else that of the tuple which is at fault, if one is. Then the way to the tuple is told and what stands there, cut
 /// at [`MOST_SHOWN`] bytes, and of a bad value what may stand there.
 #[tactic(auto, unfolding(crate::specs::Telling::fault_in))]
 pub fn fault_in(alloc: Global, text: &[u8], fault: &ClusterFault) -> Result<Finding, OutOfMemory>
     ensures { IfOk result (λ finding. finding ≡ fault_in text.now fault.now) }
 {
-    let finding = fault_finding(alloc, fault)?;
+    let finding = hinted(alloc, text, fault, fault_finding(alloc, fault)?)?;
     if finding.line.is_some() {
         return Ok(finding);
     }

@@ -1,7 +1,8 @@
 -- What is found in the lines of a script (ours).
-use Rattle.std.specs.Prelude.{ℕ, ◌+◌, List, [], ◌∷◌, ◌++◌, codes, Option, Some, None, is_some, if◌then◌else◌, slice_get}
+use Rattle.std.specs.Prelude.{ℕ, ◌+◌, List, [], ◌∷◌, ◌++◌, codes, nat_eq, Option, Some, None, is_some, if◌then◌else◌, slice_get}
 use Rattle.std.specs.Option.{option_and_then}
-use Rattle.std.specs.Str.{is_utf8}
+use Rattle.std.specs.List.{starts_with}
+use Rattle.std.specs.Str.{bytes_eq, is_utf8}
 use Rattle.rh_model.specs.ClusterView.{ClusterView, node_of, app_of}
 use Rattle.rh_script.specs.declared.script.Line.{Line}
 use Rattle.rh_script.specs.declared.script.Line.TheVariants as line
@@ -21,9 +22,19 @@ near_words (Some name) = codes "; " ++ (name ++ codes " is near")
 
 -- ---- a line that is no command
 
+-- what may have been meant by its first word: a comment as in the cluster file, or behind blanks, the line between the two, a plan
+abbrev pub meant_words : List ℕ → List ℕ
+meant_words word =
+    if starts_with nat_eq word (codes "%") then codes "; a comment in a script begins with #"
+    else if starts_with nat_eq word (codes "#") then codes "; the # of a comment is the first byte of its line"
+    else if bytes_eq word (codes "===") then codes "; one line === stands before the script"
+    else if bytes_eq word (codes "plan") then codes "; plans are for sweep"
+    else []
+
 -- its first word is none; one may be near
 unfoldable pub unknown_command : List ℕ → List ℕ
-unknown_command word = (codes "unknown_command: " ++ (word ++ codes " is no command")) ++ near_words (nearest word command_words)
+unknown_command word =
+    (codes "unknown_command: " ++ (word ++ (codes " is no command" ++ meant_words word))) ++ near_words (nearest word command_words)
 
 -- it is, and what stands behind it isn't what the command asks for
 unfoldable pub bad_arguments : List ℕ → List ℕ

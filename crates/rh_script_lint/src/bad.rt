@@ -3,7 +3,7 @@
 ghost use Rattle.std.specs.Prelude.{◌≡◌, ◌++◌, IfOk, OnOk, map, [], ◌∷◌};
 ghost use Rattle.std.specs.Option.{option_map};
 ghost use Rattle.std.specs.String.{string_bytes};
-ghost use Rattle.rh_script_lint.specs.Lines.{near_words, unknown_command, bad_arguments, unread, bad_words, error_at};
+ghost use Rattle.rh_script_lint.specs.Lines.{near_words, meant_words, unknown_command, bad_arguments, unread, bad_words, error_at};
 
 use crate::commands::{Command, command_named, command_words};
 use crate::words::{text_of, words_of};
@@ -35,13 +35,31 @@ pub fn push_near(text: &mut String, near: Option<&str>) -> Result<(), OutOfMemor
     Ok(())
 }
 
+// What may have been meant by a word that is no command.
+fn meant_words(word: &str) -> &'static str
+    ensures { result.now ≡ meant_words word.now }
+{
+    if word.as_bytes().starts_with(b"%") {
+        "; a comment in a script begins with #"
+    } else if word.as_bytes().starts_with(b"#") {
+        "; the # of a comment is the first byte of its line"
+    } else if word == "===" {
+        "; one line === stands before the script"
+    } else if word == "plan" {
+        "; plans are for sweep"
+    } else {
+        ""
+    }
+}
+
 // What is told of a word that is no command.
 #[tactic(auto, unfolding(crate::specs::Lines::unknown_command))]
 fn unknown_command(alloc: Global, word: &str) -> Result<String, OutOfMemory>
     ensures { IfOk result (λ text. string_bytes text ≡ unknown_command word.now) }
 {
     let near = nearest(alloc, word, command_words())?;
-    let mut text = format!(in alloc; "unknown_command: {word} is no command")?;
+    let meant = meant_words(word);
+    let mut text = format!(in alloc; "unknown_command: {word} is no command{meant}")?;
     push_near(&mut text, near)?;
     Ok(text)
 }
