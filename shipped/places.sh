@@ -73,7 +73,7 @@ tell_expectations() {
 }
 
 # Prints what `lint` found: the file and its own line stand in place of a line of the whole input, and the first file before what has no
-# line.
+# line. In JSON the file has a field of its own.
 tell_findings() {
   local found number rest part counts=() names=()
   for part in "${!parts[@]}"; do
@@ -81,18 +81,30 @@ tell_findings() {
     names+=("$(name_of "$part")")
   done
   while IFS= read -r found; do
-    if [[ $found =~ ^([0-9]+):\ (.*)$ ]]; then
+    if [[ $found =~ ^([0-9]+):\ (.*)$ || $found =~ ^\{\"line\":([0-9]+),(.*)$ ]]; then
       number=${BASH_REMATCH[1]} rest=${BASH_REMATCH[2]}
       for part in "${!counts[@]}"; do
         ((number > counts[part] && part + 1 < ${#counts[@]})) || break
         number=$((number - counts[part]))
       done
-      found="${names[part]}:$number: $rest"
+      if [[ $found == \{* ]]; then
+        found="{\"file\":$(json_text "${names[part]}"),\"line\":$number,$rest"
+      else
+        found="${names[part]}:$number: $rest"
+      fi
     elif [[ $found == @(error|warning|hint)\ * ]]; then
       found="${names[0]}: $found"
+    elif [[ $found == '{"kind":'* ]]; then
+      found="{\"file\":$(json_text "${names[0]}"),${found#\{}"
     fi
     printf '%s\n' "$found" || return
   done
+}
+
+# A text without control characters as a string of JSON.
+json_text() {
+  local text=${1//\\/\\\\}
+  printf '"%s"' "${text//\"/\\\"}"
 }
 
 # Tells the first steps that were refused, which lines of JSON have with the numbers of their lines.

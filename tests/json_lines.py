@@ -1,4 +1,4 @@
-"""What programs read: `run --json`, `check --json` and `sweep --json` tell what `run`, `check` and `sweep` tell.
+"""What programs read: `run --json`, `check --json`, `lint --json` and `sweep --json` tell what these tell without it.
 
 Each line is parsed by Python's json. From its fields the other output is written again, and has to be that output, byte for byte.
 What that one doesn't tell is compared with what it was asked: the number and the text of a command's line with the script, the
@@ -28,6 +28,8 @@ KEYS = {
     "timer": "timer ?node ?application due",
     "outcome": "plan accepted failovers takeovers ?refused applications",
     "event": "event answer",
+    "finding": "?line kind code words ?path",
+    "counts": "errors warnings hints",
 }
 
 
@@ -285,6 +287,24 @@ def check_sweep(program, options, data):
         assert told_by(program, "run", others, text.encode(errors="surrogateescape"))[0] == [line, *base], "the base isn't that of `run`"
 
 
+def finding_text(line):
+    """A finding as `lint` prints it."""
+    it = has_keys("finding", line)
+    place, way = f"{it['line']}: " if "line" in it else "", f" ({it['path']})" if "path" in it else ""
+    return f"{place}{it['kind']} {it['code']}: {it['words']}{way}\n"
+
+
+def check_lint(program, options, data):
+    """The lines of findings tell what `lint` prints, and are as many as the last one says."""
+    lines, status = told_by(program, "lint", options, data)
+    plain = run(program, ["lint", *options], input=data)
+    assert status == plain.returncode, f"status {status}, without --json {plain.returncode}"
+    counts = has_keys("counts", lines[-1])
+    assert counts == {f"{kind}s": sum(it["kind"] == kind for it in lines[:-1]) for kind in ("error", "warning", "hint")}, f"{counts}"
+    last = "{errors} errors, {warnings} warnings, {hints} hints\n".format(**counts)
+    assert "".join(map(finding_text, lines[:-1])) + last == plain.stdout.decode(), "it isn't what `lint` prints"
+
+
 def without(options, name):
     """The options but for the one of this name, with its value behind it or behind `=`."""
     places = [at for at, word in enumerate(options) if word == name]
@@ -296,14 +316,16 @@ def json_of_examples(program):
     for path in example_files():
         yield f"json of examples/{os.path.relpath(path, EXAMPLES)}", fault_in(check_run, program, [], read(path))
         yield f"json of a sweep of examples/{os.path.relpath(path, EXAMPLES)}", fault_in(check_sweep, program, [], read(path))
+        yield f"json of lint of examples/{os.path.relpath(path, EXAMPLES)}", fault_in(check_lint, program, ["--all"], read(path))
 
 
 def json_of_rows(program):
-    """The inputs of the rows of `run` and `sweep`, told as JSON."""
+    """The inputs of the rows of `run`, `lint` and `sweep`, told as JSON."""
     for path in files_below(ROWS):
         row = row_at(path)
-        check = {"run": check_run, "sweep": check_sweep}.get(row.words[0] if row.words else "")
-        if check and not {"--json", "--echo", "--strict"} & {*row.words} and row.status in (0, 2, 3, 6):
+        check = {"run": check_run, "lint": check_lint, "sweep": check_sweep}.get(row.words[0] if row.words else "")
+        is_plain = not {"--json", "--echo", "--strict"} & {*row.words} and row.status in (0, 2, 3, 6)
+        if check and (is_plain or check is check_lint and "--json" not in row.words):
             yield f"json of {os.path.relpath(path, ROWS)}", fault_in(check, program, row.words[1:], row.input)
 
 

@@ -69,6 +69,11 @@ def findings(program, folder):
     out = b"c.txt: warning no_distributed_application: no application is distributed, so none fails over\n"
     out += b"b d.txt:2: error unknown_command: crsh is no command; crash is near\n1 errors, 1 warnings, 0 hints\n"
     yield "lint", wrong(done, 9, out, b"")
+    write(folder, 'q"\\.txt', b"\ncrsh a@x\n")
+    out = b'{"file":"c.txt","kind":"warning","code":"no_distributed_application","words":"no application is distributed, so none fails over"}\n'
+    out += b'{"file":"q\\"\\\\.txt","line":2,"kind":"error","code":"unknown_command","words":"crsh is no command; crash is near"}\n'
+    out += b'{"errors":1,"warnings":1,"hints":0}\n'
+    yield "lint --json", wrong(call(folder, ["lint", "--json", "c.txt", "p.txt", 'q"\\.txt']), 9, out, b"")
     write(folder, "r.txt", b"{profile, 2}.\n{node, a@x, [}.\n")
     out = b"r.txt:2: error T1: syntax: what stands here can't go on: a dot, a comma or a bracket may be missing, or quotes round a name\n"
     yield "lint of a file that is refused", wrong(call(folder, ["lint", "r.txt"]), 9, out + b"1 errors, 0 warnings, 0 hints\n", b"")

@@ -79,11 +79,11 @@ story_row : (asks (codes "story" ∷ []) ≡ Some (Story First false))
 unfolding clap_on_literals subcommand_named
 story_row = (refl, refl, refl, refl)
 
--- what is listed: also behind a step that hangs, and whether hints count
-lint_row : (asks (codes "lint" ∷ []) ≡ Some (Lint First (record { all = false; strict = false })))
-    × (asks (codes "lint" ∷ codes "--strict" ∷ codes "--pick" ∷ codes "last" ∷ []) ≡ Some (Lint Last (record { all = false; strict = true })))
-    × (asks (codes "lint" ∷ codes "--all" ∷ []) ≡ Some (Lint First (record { all = true; strict = false })))
-    × (faults (codes "lint" ∷ codes "--json" ∷ []) ≡ kind.UnknownArgument ∷ [])
+-- what is listed: also behind a step that hangs, whether hints count, and as JSON
+lint_row : (asks (codes "lint" ∷ []) ≡ Some (Lint First (record { all = false; strict = false; json = false })))
+    × (asks (codes "lint" ∷ codes "--strict" ∷ codes "--pick" ∷ codes "last" ∷ []) ≡ Some (Lint Last (record { all = false; strict = true; json = false })))
+    × (asks (codes "lint" ∷ codes "--all" ∷ []) ≡ Some (Lint First (record { all = true; strict = false; json = false })))
+    × (asks (codes "lint" ∷ codes "--json" ∷ codes "--all" ∷ []) ≡ Some (Lint First (record { all = true; strict = false; json = true })))
     × (faults (codes "run" ∷ codes "--all" ∷ []) ≡ kind.UnknownArgument ∷ [])
 unfolding clap_on_literals subcommand_named
 lint_row = (refl, refl, refl, refl, refl)

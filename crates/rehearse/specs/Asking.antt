@@ -82,8 +82,8 @@ run_as pick echo strict json =
     if json then (if echo || strict then None else Some (program.RunJson pick)) else Some (run_of pick echo strict)
 
 -- a list of what is wrong, in this manner
-abbrev pub lint_of : Pick → Bool → Bool → Program
-lint_of pick all strict = program.Lint pick (record { all = all; strict = strict })
+abbrev pub lint_of : Pick → Bool → Bool → Bool → Program
+lint_of pick all strict json = program.Lint pick (record { all = all; strict = strict; json = json })
 
 -- a sweep by so many workers, by JSON or not
 abbrev pub sweep_of : Pick → Bool → ℕ → Program
@@ -94,7 +94,7 @@ abbrev pub program_of : Subcommand → List Row → Option Program
 program_of Check rows = Some (if flag_in Json rows then program.CheckJson else program.Check)
 program_of Run rows = run_as (pick_in rows) (flag_in Echo rows) (flag_in Strict rows) (flag_in Json rows)
 program_of Story rows = Some (program.Story (pick_in rows) (flag_in Whole rows))
-program_of Lint rows = Some (lint_of (pick_in rows) (flag_in All rows) (flag_in Hints rows))
+program_of Lint rows = Some (lint_of (pick_in rows) (flag_in All rows) (flag_in Hints rows) (flag_in Json rows))
 program_of Verify rows = Some (program.Verify (pick_in rows))
 program_of Sessions rows = Some (program.Sessions (pick_in rows))
 program_of Sweep rows = option_map (sweep_of (pick_in rows) (flag_in Json rows)) (workers_in rows)

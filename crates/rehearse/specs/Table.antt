@@ -21,7 +21,7 @@ flag_word All = codes "all"
 abbrev pub entry_of : Subcommand → List ℕ × List Setting
 entry_of Run = (codes "run", setting.Pick ∷ setting.Flag Echo ∷ setting.Flag Strict ∷ setting.Flag Json ∷ [])
 entry_of Check = (codes "check", setting.Flag Json ∷ [])
-entry_of Lint = (codes "lint", setting.Pick ∷ setting.Flag All ∷ setting.Flag Hints ∷ [])
+entry_of Lint = (codes "lint", setting.Pick ∷ setting.Flag All ∷ setting.Flag Hints ∷ setting.Flag Json ∷ [])
 entry_of Story = (codes "story", setting.Pick ∷ setting.Flag Whole ∷ [])
 entry_of Verify = (codes "verify", setting.Pick ∷ [])
 entry_of Sessions = (codes "sessions", setting.Pick ∷ [])

@@ -239,6 +239,8 @@ all codes.
 
 Behind the first warning of a step that hangs on live nodes no more is told of
 the steps, since these have another past there. `--all` tells it nevertheless.
+With `--json` each line is an object, with the fields `line`, `kind`, `code`,
+`words` and `path`; the last one has `errors`, `warnings` and `hints`.
 
 Example:
 

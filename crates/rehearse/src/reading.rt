@@ -53,6 +53,7 @@ fn program_of(subcommand: Subcommand, matches: &ArgMatches<'_>) -> Option<Progra
             pick_in(matches),
             flag_in(matches, Flag::All),
             flag_in(matches, Flag::Hints),
+            flag_in(matches, Flag::Json),
         )),
         Subcommand::Verify => Some(Program::Verify(pick_in(matches))),
         Subcommand::Sessions => Some(Program::Sessions(pick_in(matches))),
@@ -77,9 +78,9 @@ fn check_of(json: bool) -> Program
     }
 }
 
-// A run, by JSON or not: one that answers by JSON has no other manner.
-fn run_as(pick: Pick, echo: bool, strict: bool, json: bool) -> Option<Program>
-    ensures named { result ≡ run_as pick echo strict json }
+// A run: one that answers by JSON, or each command before the next one is read, has no other manner.
+fn run_as(pick: Pick, echo: bool, strict: bool, json: bool, interactive: bool) -> Option<Program>
+    ensures named { result ≡ run_as pick echo strict json interactive }
     ensures staffed { IfSome result IsStaffed }
 {
     if !json {
@@ -104,11 +105,11 @@ fn run_of(pick: Pick, echo: bool, strict: bool) -> Program
 }
 
 // A list of what is wrong, in this manner.
-fn lint_of(pick: Pick, all: bool, strict: bool) -> Program
-    ensures named { result ≡ lint_of pick all strict }
+fn lint_of(pick: Pick, all: bool, strict: bool, json: bool) -> Program
+    ensures named { result ≡ lint_of pick all strict json }
     ensures staffed { IsStaffed result }
 {
-    Program::Lint(pick, LintManner { all, strict })
+    Program::Lint(pick, LintManner { all, strict, json })
 }
 
 // A sweep by so many workers, by JSON or not.

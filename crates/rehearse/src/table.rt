@@ -77,10 +77,11 @@ static PICK: [Setting; 1] = [Setting::Pick];
 
 static PICK_WHOLE: [Setting; 2] = [Setting::Pick, Setting::Flag(Flag::Whole)];
 
-static PICK_ALL_HINTS: [Setting; 3] = [
+static PICK_ALL_HINTS_JSON: [Setting; 4] = [
     Setting::Pick,
     Setting::Flag(Flag::All),
     Setting::Flag(Flag::Hints),
+    Setting::Flag(Flag::Json),
 ];
 
 static PICK_STATES: [Setting; 2] = [Setting::Pick, Setting::States];
@@ -139,18 +140,16 @@ impl Subcommand {
         ensures settings { result.settings.now ≡ settings_of self }
     {
         match self {
-            Subcommand::Run => entry_of(
-                "run",
-                PICK_ECHO_STRICT_JSON.as_slice(),
-                RUN_ABOUT,
-                RUN_AFTER_HELP,
-            ),
+            Subcommand::Run => entry_of("run", RUN_SETTINGS.as_slice(), RUN_ABOUT, RUN_AFTER_HELP),
             Subcommand::Check => {
                 entry_of("check", JSON.as_slice(), CHECK_ABOUT, CHECK_AFTER_HELP)
             }
-            Subcommand::Lint => {
-                entry_of("lint", PICK_ALL_HINTS.as_slice(), LINT_ABOUT, LINT_AFTER_HELP)
-            }
+            Subcommand::Lint => entry_of(
+                "lint",
+                PICK_ALL_HINTS_JSON.as_slice(),
+                LINT_ABOUT,
+                LINT_AFTER_HELP,
+            ),
             Subcommand::Story => entry_of(
                 "story",
                 PICK_WHOLE.as_slice(),

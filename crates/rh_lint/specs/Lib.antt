@@ -1,1 +1,2 @@
+pub mod LintJson
 pub mod LintText

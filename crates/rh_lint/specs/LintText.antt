@@ -16,6 +16,7 @@ use Rattle.rh_cluster_lint.specs.Text.{text_found}
 use Rattle.rh_script_lint.specs.Lines.{of_lines}
 use Rattle.rh_script_lint.specs.Steps.{of_script_steps}
 use Rattle.rh_lint.specs.declared.manner.LintManner.{LintManner}
+use Rattle.rh_lint.specs.LintJson.{lint_json}
 
 -- the number of the script's first line in the whole input: it stands behind the cluster's text and the line `===`
 abbrev pub first_line : List ℕ → ℕ
@@ -42,6 +43,10 @@ found_in bytes pick all =
 
 -- ---- what is written
 
+-- the list, as lines of JSON or not
+abbrev pub list_text : Bool → List Finding → List ℕ
+list_text json found = if json then lint_json found else report_text found
+
 -- the fault that the text tells: something was found that counts
 abbrev pub lint_end : Bool → Option Told
 lint_end clean = if clean then None else Some told.Differs
@@ -49,5 +54,5 @@ lint_end clean = if clean then None else Some told.Differs
 -- what lint owes: all that is found, and nothing else, in its order
 abbrev pub OwesLint : LintManner → Pick → List ℕ → List ℕ → Option Told → Type 0
 OwesLint manner pick bytes text owed =
-    (listed : List Finding) × IsListed (found_in bytes pick manner.all) listed × (text ≡ report_text listed)
+    (listed : List Finding) × IsListed (found_in bytes pick manner.all) listed × (text ≡ list_text manner.json listed)
     × (owed ≡ lint_end (is_clean manner.strict (found_in bytes pick manner.all)))

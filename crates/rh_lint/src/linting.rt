@@ -1,22 +1,22 @@
 //! The program `lint`.
 
 ghost use Rattle.std.specs.Prelude.{◌≡◌, ◌≤◌, length, IfOk, false};
-ghost use Rattle.std.specs.String.{string_bytes};
 ghost use Rattle.rh_devices.specs.Devices.{input_limit};
 ghost use Rattle.rh_app.specs.Programs.{ProgramGives, NoThreads};
-ghost use Rattle.rh_lint.specs.LintText.{lint_end, OwesLint};
+ghost use Rattle.rh_lint.specs.LintText.{lint_end, list_text, OwesLint};
 
 use crate::finding::found_in;
+use crate::json::lint_json;
 use crate::manner::LintManner;
 use rh_app::{RunFault, Told, ended};
 use rh_base::OutOfMemory;
 use rh_devices::{Sink, Source, Watched, read_input, write_text};
-use rh_findings::{is_clean, put_in_order, report_text};
+use rh_findings::{Finding, is_clean, put_in_order, report_text};
 use rh_rules::Pick;
 use std::alloc::Global;
 
 /// Reads all of the input, a cluster file, a line `===` and a script, and then lists what is wrong with it, a line for each finding
-/// in the order of lines, and one that counts them.
+/// in the order of lines, and one that counts them. The manner says whether the lines are JSON.
 ///
 /// The line of a finding is its number in the whole input. Of one line errors come before warnings, and these before hints. Of the
 /// steps behind one that hangs on live nodes nothing is told, unless the manner asks for all. The input has at most 16,777,216 bytes.
@@ -41,7 +41,7 @@ pub fn run_lint<S: Source, K: Sink>(
     match linted(alloc, input.as_slice(), pick, manner) {
         Err(_) => Err(RunFault::OutOfMemory),
         Ok((text, told)) => {
-            write_text(writer, text.as_bytes())?;
+            write_text(writer, text.as_slice())?;
             ended(told)
         }
     }
@@ -53,15 +53,27 @@ fn linted(
     input: &[u8],
     pick: Pick,
     manner: LintManner,
-) -> Result<(String, Option<Told>), OutOfMemory>
+) -> Result<(Vec<u8>, Option<Told>), OutOfMemory>
     requires { length input.now ≤ input_limit }
-    ensures { IfOk result (λ linted. OwesLint manner pick input.now (string_bytes linted.0) linted.1) }
+    ensures { IfOk result (λ linted. OwesLint manner pick input.now linted.0.items linted.1) }
 {
     let mut found = found_in(alloc, input, pick, manner.all)?;
     let told = lint_end(is_clean(manner.strict, found.as_slice()));
     put_in_order(&mut found)?;
-    let text = report_text(alloc, found.as_slice())?;
+    let text = list_text(alloc, manner.json, found.as_slice())?;
     Ok((text, told))
+}
+
+// The text that lists findings, as JSON or not.
+fn list_text(alloc: Global, json: bool, findings: &[Finding]) -> Result<Vec<u8>, OutOfMemory>
+    ensures { IfOk result (λ text. text.items ≡ list_text json findings.now) }
+{
+    if json {
+        lint_json(alloc, findings)
+    } else {
+        let text = report_text(alloc, findings)?;
+        Ok(text.into_bytes())
+    }
 }
 
 // The fault that the text tells.

@@ -7,4 +7,6 @@ pub struct LintManner {
     pub all: bool,
     /// Hints count as warnings do.
     pub strict: bool,
+    /// Each line is an object of JSON.
+    pub json: bool,
 }

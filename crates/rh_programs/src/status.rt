@@ -110,11 +110,7 @@ pub fn rehearse_together<T: Threads + Wait + Sync, S: Source, K: Sink>(
 
 /// Answers each command of a script before more is read, over one device with both directions, flushes it, however that ended, and
 /// answers the exit status, which is that of [`rehearse_alone`].
-pub fn rehearse_dialogue<D: Source + Sink>(
-    alloc: Global,
-    pick: Pick,
-    device: &mut Watched<D>,
-) -> u8
+pub fn rehearse_dialogue<D: Source + Sink>(alloc: Global, pick: Pick, device: &mut Watched<D>) -> u8
     requires { device.old.failed ≡ false }
     ensures { DialogueStatus D.Source.gives D.Source.fails D.Sink.takes D.Sink.flushes D.Sink.fails pick result device.old device.new }
 {

@@ -131,7 +131,8 @@ impl Keep for AllButSkip {
 
 #[test]
 fn skipped_terms_are_not_kept(rt: HostRuntime) {
-    let text = "{skip, [a, {b}], {c}, \"t\", 'q', -7}. {keep, [{skip, [1], x}, skip, [skip, 2]]}. {{skip, 3}, 4}.";
+    let text =
+        "{skip, [a, {b}], {c}, \"t\", 'q', -7}. {keep, [{skip, [1], x}, skip, [skip, 2]]}. {{skip, 3}, 4}.";
     let terms = read_kept(rt.alloc(), AllButSkip, text.as_bytes());
     let want = "{skip,[],{},{},{},{},},{keep,[{skip,[],{},},skip,[skip,2,],],},{{skip,{},},4,},";
     are_shown(&rt, rt.alloc(), &terms.ok().expect(&rt, "terms"), want);
@@ -143,7 +144,10 @@ fn skipped_terms_have_their_faults(rt: HostRuntime) {
         ("{skip,\n[a,\n b c]}.", TermFault::Syntax { line: 3 }),
         ("{skip, [a, {b, [\n", TermFault::Syntax { line: 2 }),
         ("{skip, 'a\n", TermFault::Syntax { line: 2 }),
-        ("{skip, {a, \"b\"\n\n\"c\"}}.", TermFault::Unsupported { line: 3 }),
+        (
+            "{skip, {a, \"b\"\n\n\"c\"}}.",
+            TermFault::Unsupported { line: 3 },
+        ),
         ("{skip, 'a\n\\q'}.", TermFault::Unsupported { line: 2 }),
         ("{skip, [a\n| b]}.", TermFault::Unsupported { line: 2 }),
         ("{skip, 1.5}.", TermFault::Unsupported { line: 1 }),

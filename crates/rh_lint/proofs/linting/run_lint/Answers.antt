@@ -19,11 +19,11 @@ returns-in_err-write_text-in-Ok g c =
     let takes = g.K.Sink.takes in
     let fails = g.K.Sink.fails in
     let bytes = c.as_slice.result.now in
-    let text = c.as_bytes.result.now in
+    let text = c.as_slice-in-Ok.result.now in
     let input : IsInput g.S.Source.gives c.args.reader.now c.read_input.new.reader bytes =
     subst (λ bs. IsInput g.S.Source.gives c.args.reader.now c.read_input.new.reader bs) (sym c.as_slice.ensures.value)
     (c.in_ok-input.ensures.bytes, c.in_ok-input.ensures.limit, c.in_ok-input.ensures.ok) in
-    let owes = subst (λ (t : List ℕ). OwesLint c.args.manner c.args.pick bytes t c.in-Ok.told) (sym c.as_bytes.ensures.value) c.in-Ok.ensures in
+    let owes = subst (λ (t : List ℕ). OwesLint c.args.manner c.args.pick bytes t c.in-Ok.told) (sym c.as_slice-in-Ok.ensures.value) c.in-Ok.ensures in
     let broke = c.in_err-write_text-in-Ok.ensures in
     let p = err_from_is_err_and c.from_residual-in_err-write_text-in-Ok.result c.from_residual-in_err-write_text-in-Ok.ensures.1 in
     rw (p.1, p.2)
