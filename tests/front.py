@@ -158,7 +158,7 @@ def explained_codes(program, folder):
             b"Live nodes (docs/LIVE_OTP.md): `{sync_nodes_timeout, 0}`\n\n- Rules: it fires at the next tick.")
     yield "a code with one", told(call(folder, ["lint", "--explain", "sync_timeout_zero"]), zero, b"\n- Do: write 1 or more, or leave it out.\n")
     hang = call(folder, ["lint", "--explain", "tuple_takeover"])
-    yield "a code that hangs", told(hang, b"tuple_takeover: warning\n\nIt is started at a node of a tuple while ", b".\nLive nodes hang there: ")
+    yield "a code that hangs", told(hang, b"tuple_takeover: warning\n\nIt is started at a node of a tuple while ", b".\nLive nodes hang there, and have another past from there on: ")
     yield "a code of check", wrong(call(folder, ["lint", "--explain", "c5"]), 0, call(folder, ["help", "C5"]).stdout, b"")
     for words, owed in (
             (["--explain", "near_nmae"], b"lint has no code near_nmae; near: near_name; "),
