@@ -78,9 +78,9 @@ fn check_of(json: bool) -> Program
     }
 }
 
-// A run: one that answers by JSON, or each command before the next one is read, has no other manner.
-fn run_as(pick: Pick, echo: bool, strict: bool, json: bool, interactive: bool) -> Option<Program>
-    ensures named { result ≡ run_as pick echo strict json interactive }
+// A run, by JSON or not: one that answers by JSON has no other manner.
+fn run_as(pick: Pick, echo: bool, strict: bool, json: bool) -> Option<Program>
+    ensures named { result ≡ run_as pick echo strict json }
     ensures staffed { IfSome result IsStaffed }
 {
     if !json {

@@ -140,7 +140,12 @@ impl Subcommand {
         ensures settings { result.settings.now ≡ settings_of self }
     {
         match self {
-            Subcommand::Run => entry_of("run", RUN_SETTINGS.as_slice(), RUN_ABOUT, RUN_AFTER_HELP),
+            Subcommand::Run => entry_of(
+                "run",
+                PICK_ECHO_STRICT_JSON.as_slice(),
+                RUN_ABOUT,
+                RUN_AFTER_HELP,
+            ),
             Subcommand::Check => {
                 entry_of("check", JSON.as_slice(), CHECK_ABOUT, CHECK_AFTER_HELP)
             }
