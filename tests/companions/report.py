@@ -16,7 +16,7 @@ ENTRY = "{node, %s, [{kernel, [{distributed, [%s]}, {sync_nodes_optional, [%s]},
 PAIR, TRIPLE = ("a@x", "b@x"), ("a@x", "b@x", "c@x")
 WEB = ("{web, 5000, [a@x, b@x]}", ("web",))
 # As many states are reached there by up to six crashes, boots and waits of 5000 ms, as the search of tests/explored.py counts them.
-STATES = 185
+STATES = 16
 TOGETHER = ("{one, 2000, [a@x, {b@x, c@x}]}, {two, 2000, [a@x, {b@x, c@x}]}", ("one", "two"))
 
 
