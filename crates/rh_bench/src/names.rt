@@ -1,0 +1,48 @@
+//! The names of nodes and applications.
+
+use rh_base::OutOfMemory;
+use std::alloc::Global;
+
+/// The names of a cluster's nodes and applications, in their order: those that are distributed, and local ones.
+#[derive(Drop)]
+pub struct Names {
+    pub nodes: Vec<String>,
+    pub apps: Vec<String>,
+    pub locals: Vec<String>,
+}
+
+/// The names of so many.
+pub fn names_of(
+    alloc: Global,
+    nodes: usize,
+    apps: usize,
+    locals: usize,
+) -> Result<Names, OutOfMemory> {
+    Ok(Names {
+        nodes: numbered(alloc, "n", "@lab", nodes)?,
+        apps: numbered(alloc, "a", "", apps)?,
+        locals: numbered(alloc, "l", "", locals)?,
+    })
+}
+
+// So many names, each with its number between these two.
+fn numbered(
+    alloc: Global,
+    front: &str,
+    back: &str,
+    count: usize,
+) -> Result<Vec<String>, OutOfMemory> {
+    let mut names = Vec::new(alloc);
+    for number in 0..count {
+        names.push(format!(in alloc; "{front}{number}{back}")?)?;
+    }
+    Ok(names)
+}
+
+/// The name of this number; none where there is no such name.
+pub fn name_at(names: &[String], number: usize) -> &str {
+    match names.get(number) {
+        Some(name) => name.as_str(),
+        None => "",
+    }
+}
