@@ -9,3 +9,4 @@ pub mod Removes
 pub mod Unlinked
 pub mod Exchanges
 pub mod Spots
+pub mod SideBySide

@@ -5,3 +5,4 @@ pub mod Lists
 pub mod WellFormed
 pub mod Linking
 pub mod Spots
+pub mod SideBySide

@@ -19,6 +19,7 @@ mod link;
 mod links;
 mod lists;
 mod spot;
+mod words;
 
 pub use change::Change;
 pub use edit::LinkEdit;

@@ -1,6 +1,6 @@
 //! Links.
 
-ghost use Rattle.std.specs.Prelude.{◌≡◌, ◌<◌, ◌↔◌, Some, None, true};
+ghost use Rattle.std.specs.Prelude.{◌≡◌, ◌<◌, ◌↔◌, ℕ, Some, None, true};
 
 use std::marker::Model;
 
@@ -67,25 +67,23 @@ impl Link {
         }
     }
 
+    // One of two links: the first where this one is to one, the second where it is to none.
+    #[inline]
+    pub fn choose(self, first: Link, second: Link) -> Link
+        ensures one { (n : ℕ) → self ≡ Some n → result ≡ first }
+        ensures none { self ≡ None → result ≡ second }
+    {
+        if self.raw == Link::NONE {
+            second
+        } else {
+            first
+        }
+    }
+
     // Are both to the same one, or to none?
     pub fn is_same(self, other: Link) -> bool
         ensures { (result ≡ true) ↔ (self ≡ other) }
     {
         self.raw == other.raw
     }
-}
-
-// Are the same links at the same places?
-pub fn are_same(some: &[Link], others: &[Link]) -> bool
-    ensures { (result ≡ true) ↔ (some.now ≡ others.now) }
-{
-    if some.len() != others.len() {
-        return false;
-    }
-    'links: for place in 0..some.len() {
-        if !some[place].is_same(others[place]) {
-            return false;
-        }
-    }
-    true
 }

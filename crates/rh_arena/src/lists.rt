@@ -75,14 +75,14 @@ impl Lists {
     pub fn entry_count(&self) -> u32
         ensures { result ≡ entry_count self.now }
     {
-        self.links.prev.len() as u32
+        self.links.entry_count() as u32
     }
 
     /// How many lists there are, empty or not.
     pub fn list_count(&self) -> u32
         ensures { result ≡ list_count self.now }
     {
-        self.links.head.len() as u32
+        self.links.list_count() as u32
     }
 
     /// The first entry of a list; `None` exactly if it is empty.
@@ -92,7 +92,7 @@ impl Lists {
         ensures word { result ≡ head_of self.now list }
         ensures first { result ≡ slice_get (listed self.now list) 0 }
     {
-        self.links.head[list as usize].wide()
+        self.links.list(list as usize).head.wide()
     }
 
     /// The entry behind an entry in its list. Of an entry in no list it is what was behind it when it was taken out, or
@@ -103,7 +103,7 @@ impl Lists {
         ensures word { result ≡ next_of self.now entry }
         ensures behind { (list : ℕ) → owner_of self.now entry ≡ Some list → result ≡ after entry (listed self.now list) }
     {
-        self.links.next[entry as usize].wide()
+        self.links.entry(entry as usize).next.wide()
     }
 
     /// The entry before an entry in its list. Of an entry in no list it is what was before it when it was taken out, or
@@ -114,7 +114,7 @@ impl Lists {
         ensures word { result ≡ prev_of self.now entry }
         ensures ahead { (list : ℕ) → owner_of self.now entry ≡ Some list → result ≡ before entry (listed self.now list) }
     {
-        self.links.prev[entry as usize].wide()
+        self.links.entry(entry as usize).prev.wide()
     }
 
     /// The list that an entry is in, if it is in one.
@@ -125,7 +125,7 @@ impl Lists {
         ensures member { (list : ℕ) → (owner_of self.now entry ≡ Some list) ↔ Contains (listed self.now list) entry }
         ensures list { IfSome result (λ list. list < list_count self.now) }
     {
-        self.links.owner[entry as usize].wide()
+        self.links.entry(entry as usize).owner.wide()
     }
 
     /// How many entries a list has.
@@ -136,7 +136,7 @@ impl Lists {
         ensures count { result ≡ length (listed self.now list) }
         ensures at_most { result ≤ entry_count self.now }
     {
-        u32::from(self.links.count[list as usize])
+        u32::from(self.links.list(list as usize).count)
     }
 
     /// Puts an entry that is in no list at the end of a list. Its own links are overwritten.
@@ -155,8 +155,9 @@ impl Lists {
         ensures entry { entry_in result.changes ≡ entry }
         ensures taken_from { list_in result.changes ≡ None }
     {
-        let last = self.links.tail[list as usize];
-        let count = self.links.count[list as usize];
+        let there = self.links.list(list as usize);
+        let last = there.tail;
+        let count = there.count;
         let spot = Spot {
             entry: entry as u16,
             list: list as u16,
@@ -189,12 +190,13 @@ impl Lists {
         ensures entry { entry_in result.changes ≡ entry }
         ensures taken_from { list_in result.changes ≡ owner_of self.old entry }
     {
-        let before = self.links.prev[entry as usize];
-        let after = self.links.next[entry as usize];
-        let Some(list) = self.links.owner[entry as usize].get() else {
+        let there = self.links.entry(entry as usize);
+        let Some(list) = there.owner.get() else {
             unreachable!()
         };
-        let count = self.links.count[list as usize];
+        let before = there.prev;
+        let after = there.next;
+        let count = self.links.list(list as usize).count;
         let spot = Spot {
             entry: entry as u16,
             list,

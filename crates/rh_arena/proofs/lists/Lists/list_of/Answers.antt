@@ -1,5 +1,4 @@
-use Rattle.std.proofs.Common.{◌≡◌, ◌<◌, ℕ, Option, Some, None, IfSome, sym, subst, ◌∙◌, arith}
-use Rattle.std.proofs.lemmas.Grind.{common_steps}
+use Rattle.std.proofs.Common.{◌≡◌, ◌<◌, ℕ, Option, Some, None, IfSome, sym, ap, subst, ◌∙◌}
 use Rattle.rh_arena.specs.Words.{Words, owner_of, list_count}
 use Rattle.rh_arena.specs.WellFormed.{IsWellFormed}
 use Rattle.rh_arena.proofs.Reading.{owner_inside}
@@ -12,8 +11,8 @@ inside : (w : Words) (i : ℕ) (o : Option ℕ) → IsWellFormed w → o ≡ own
 inside w i None f e = tt
 inside w i (Some l) f e = owner_inside w l i f (sym e)
 
-owner_is : (c : goal.After-wide) → c.index.result.now ≡ owner_of c.args.self.now c.args.entry
-owner_is c = grind (arith, common_steps)
+owner_is : (c : goal.After-wide) → c.entry.result.owner ≡ owner_of c.args.self.now c.args.entry
+owner_is c = c.entry.ensures.owner ∙ ap (λ w. owner_of w c.args.entry) c.self.view_is
 
 pub returns-clause-member : goal.returns-clause-member
 returns-clause-member c = (formed c).owners c.args.entry

@@ -1,6 +1,5 @@
 use Rattle.std.proofs.Common.{◌≡◌, ◌<◌, ◌≤◌, ◌+◌, ℕ, None, not, ap, sym, subst, ◌∙◌, arith}
 use Rattle.std.proofs.lemmas.List.{get_or_default}
-use Rattle.std.proofs.lemmas.Grind.{common_steps}
 use Rattle.rh_arena.specs.Words.{Words, entry_count, list_count, count_of, tail_of}
 use Rattle.rh_arena.specs.Lists.{listed}
 use Rattle.rh_arena.specs.Linking.{pushed}
@@ -14,7 +13,8 @@ use Rattle.rh_arena.proofs.lists.Lists.push_back.Goals as goal
 
 pub overflow_add-values : goal.overflow_add-values
 overflow_add-values c =
-    let h : c.index-count.result.now ≡ count_of c.args.self.now c.args.list = grind (arith, common_steps) in
+    let h : c.list-there.result.count ≡ count_of c.args.self.now c.args.list =
+    c.list-there.ensures.count ∙ ap (λ w. count_of w c.args.list) c.self.view_is in
     let formed : IsWellFormed c.args.self.now = subst IsWellFormed c.self.view_is c.self.invariant.formed in
     let few : entry_count c.args.self.now ≤ 65535 = subst (λ w. entry_count w ≤ 65535) c.self.view_is c.self.invariant.entries in
     let room : count_of c.args.self.now c.args.list < entry_count c.args.self.now =
@@ -27,8 +27,8 @@ words_are c =
     let w : Words = c.args.self.now in
     let l : ℕ = c.args.list in
     let i : ℕ = c.args.entry in
-    let last : c.index-last.result.now ≡ tail_of w l = grind (arith, common_steps) in
-    let count : c.index-count.result.now ≡ count_of w l = grind (arith, common_steps) in
+    let last : c.list-there.result.tail ≡ tail_of w l = c.list-there.ensures.tail ∙ ap (λ w. tail_of w l) c.self.view_is in
+    let count : c.list-there.result.count ≡ count_of w l = c.list-there.ensures.count ∙ ap (λ w. count_of w l) c.self.view_is in
     c.exchange.ensures.words ∙ (λ k. exchange (c.self.view_is k) (c.new-edit.ensures k))
     ∙ (λ k. puts w (changes_at (record { entry = i; list = l; before = last k; after = c.none.ensures k }) (record {
       prev = last k;

@@ -1,7 +1,6 @@
-use Rattle.std.proofs.Common.{◌≡◌, ◌<◌, ◌≤◌, ◌-◌, ℕ, List, length, get_or, Option, Some, None, not, ap, sym, subst, ◌∙◌, arith}
+use Rattle.std.proofs.Common.{◌≡◌, ◌<◌, ◌≤◌, ◌-◌, ℕ, length, Some, None, not, ap, sym, subst, ◌∙◌, arith}
 use Rattle.std.specs.List.{Contains}
-use Rattle.std.proofs.lemmas.List.{get_or_default, get_or_read}
-use Rattle.std.proofs.lemmas.Grind.{common_steps}
+use Rattle.std.proofs.lemmas.List.{get_or_default}
 use Rattle.rh_arena.specs.Words.{Words, entry_count, list_count, prev_of, next_of, count_of, owner_of}
 use Rattle.rh_arena.specs.Lists.{listed}
 use Rattle.rh_arena.specs.Linking.{removed}
@@ -14,37 +13,23 @@ use Rattle.rh_arena.proofs.Removes.{removed_formed, removed_listed, removed_othe
 use Rattle.rh_arena.proofs.Spots.{puts_removed}
 use Rattle.rh_arena.proofs.lists.Lists.remove.Goals as goal
 
--- what was read from the words as they are kept, at any default
-read_is : {A : Type 0} (xs ys : List A) (i : ℕ) (x d : A) → i < length ys → x ≡ get_or xs i x → xs ≡ ys → x ≡ get_or ys i d
-read_is xs ys i x d h e q = get_or_read ys i x h (e ∙ ap (λ zs. get_or zs i x) q) d
-
--- so are the entry's own links
-prev_read : (w : Words) (l i : ℕ) (xs : List (Option ℕ)) (x : Option ℕ) → IsWellFormed w → owner_of w i ≡ Some l → x ≡ get_or xs i x → xs ≡ w.prev
-    → x ≡ prev_of w i
-prev_read w l i xs x f o e q = read_is xs w.prev i x None (entry_inside w l i f o) e q
-
-next_read : (w : Words) (l i : ℕ) (xs : List (Option ℕ)) (x : Option ℕ) → IsWellFormed w → owner_of w i ≡ Some l → x ≡ get_or xs i x → xs ≡ w.next
-    → x ≡ next_of w i
-next_read w l i xs x f o e q = let inside = entry_inside w l i f o in read_is xs w.next i x None (omega (arith, inside, f.next)) e q
-
-pub index-count-requires : goal.index-count-requires
-index-count-requires c =
+pub list-count-requires : goal.list-count-requires
+list-count-requires c =
     let formed : IsWellFormed c.args.self.now = subst IsWellFormed c.self.view_is c.self.invariant.formed in
-    let owner : owner_of c.args.self.now c.args.entry ≡ Some c.in-Some.list = grind (arith, common_steps) in
-    let inside : c.in-Some.list < list_count c.args.self.now = owner_inside c.args.self.now c.in-Some.list c.args.entry formed owner in
-    let counts : length c.args.self.now.count ≡ list_count c.args.self.now = formed.count in
-    grind (arith, common_steps)
+    let owner : owner_of c.args.self.now c.args.entry ≡ Some c.in-Some.list =
+    sym (c.entry-there.ensures.owner ∙ ap (λ w. owner_of w c.args.entry) c.self.view_is) ∙ sym c.get.ensures ∙ c.in-Some.is in
+    subst (λ w. c.in-Some.list < list_count w) (sym c.self.view_is) (owner_inside c.args.self.now c.in-Some.list c.args.entry formed owner)
 
 pub overflow_sub-values : goal.overflow_sub-values
 overflow_sub-values c =
     let w : Words = c.args.self.now in
     let l : ℕ = c.in-Some.list in
     let formed : IsWellFormed w = subst IsWellFormed c.self.view_is c.self.invariant.formed in
-    let owner : owner_of w c.args.entry ≡ Some l = grind (arith, common_steps) in
+    let owner : owner_of w c.args.entry ≡ Some l =
+    sym (c.entry-there.ensures.owner ∙ ap (λ w. owner_of w c.args.entry) c.self.view_is) ∙ sym c.get.ensures ∙ c.in-Some.is in
     let inside : l < list_count w = owner_inside w l c.args.entry formed owner in
     let is : count_of w l ≡ length (listed w l) = count_listed w l formed inside in
-    let same : c.index-count.result.now ≡ count_of w l = read_is _ w.count l c.index-count.result.now 0 (omega (arith, inside, formed.count))
-    c.index-count.ensures ((λ k. (c.self-inside.view_is k).links.count) ∙ (λ k. (c.self.view_is k).count)) in
+    let same : c.list-count.result.count ≡ count_of w l = c.list-count.ensures.count ∙ ap (λ w. count_of w l) c.self.view_is in
     let there : Contains (listed w l) c.args.entry = (formed.owners c.args.entry l).0 owner in
     omega (arith, same, is, there.1)
 
@@ -54,15 +39,13 @@ new-edit-requires c =
     let l : ℕ = c.in-Some.list in
     let i : ℕ = c.args.entry in
     let formed : IsWellFormed w = subst IsWellFormed c.self.view_is c.self.invariant.formed in
-    let owner : owner_of w i ≡ Some l = grind (arith, common_steps) in
-    let p : c.index-before.result.now ≡ prev_of w i = prev_read w l i _ c.index-before.result.now formed owner
-    c.index-before.ensures ((λ k. (c.self-inside.view_is k).links.prev) ∙ (λ k. (c.self.view_is k).prev)) in
-    let n : c.index-after.result.now ≡ next_of w i = next_read w l i _ c.index-after.result.now formed owner
-    c.index-after.ensures ((λ k. (c.self-inside.view_is k).links.next) ∙ (λ k. (c.self.view_is k).next)) in
+    let owner : owner_of w i ≡ Some l = sym (c.entry-there.ensures.owner ∙ ap (λ w. owner_of w i) c.self.view_is) ∙ sym c.get.ensures ∙ c.in-Some.is in
+    let p : c.entry-there.result.prev ≡ prev_of w i = c.entry-there.ensures.prev ∙ ap (λ w. prev_of w i) c.self.view_is in
+    let n : c.entry-there.result.next ≡ next_of w i = c.entry-there.ensures.next ∙ ap (λ w. next_of w i) c.self.view_is in
     record { before = λ e. not_own_prev w l i formed owner (sym p ∙ e); after = λ e. not_own_next w l i formed owner (sym n ∙ e) }
 
 owner_is : (c : goal.After-exchange) → owner_of c.args.self.now c.args.entry ≡ Some c.in-Some.list
-owner_is c = grind (arith, common_steps)
+owner_is c = sym (c.entry-there.ensures.owner ∙ ap (λ w. owner_of w c.args.entry) c.self.view_is) ∙ sym c.get.ensures ∙ c.in-Some.is
 
 words_are : (c : goal.After-exchange) → c.exchange.new.links ≡ removed c.args.self.now c.in-Some.list c.args.entry
 unfolding exchange
@@ -70,14 +53,9 @@ words_are c =
     let w : Words = c.args.self.now in
     let l : ℕ = c.in-Some.list in
     let i : ℕ = c.args.entry in
-    let formed : IsWellFormed w = subst IsWellFormed c.self.view_is c.self.invariant.formed in
-    let list : l < list_count w = owner_inside w l i formed (owner_is c) in
-    let count : c.index-count.result.now ≡ count_of w l = read_is _ w.count l c.index-count.result.now 0 (omega (arith, list, formed.count))
-    c.index-count.ensures ((λ k. (c.self-inside.view_is k).links.count) ∙ (λ k. (c.self.view_is k).count)) in
-    let p : c.index-before.result.now ≡ prev_of w i = prev_read w l i _ c.index-before.result.now formed (owner_is c)
-    c.index-before.ensures ((λ k. (c.self-inside.view_is k).links.prev) ∙ (λ k. (c.self.view_is k).prev)) in
-    let n : c.index-after.result.now ≡ next_of w i = next_read w l i _ c.index-after.result.now formed (owner_is c)
-    c.index-after.ensures ((λ k. (c.self-inside.view_is k).links.next) ∙ (λ k. (c.self.view_is k).next)) in
+    let count : c.list-count.result.count ≡ count_of w l = c.list-count.ensures.count ∙ ap (λ w. count_of w l) c.self.view_is in
+    let p : c.entry-there.result.prev ≡ prev_of w i = c.entry-there.ensures.prev ∙ ap (λ w. prev_of w i) c.self.view_is in
+    let n : c.entry-there.result.next ≡ next_of w i = c.entry-there.ensures.next ∙ ap (λ w. next_of w i) c.self.view_is in
     c.exchange.ensures.words ∙ (λ k. exchange (c.self.view_is k) (c.new-edit.ensures k))
     ∙ (λ k. puts w (changes_at (record { entry = i; list = l; before = p k; after = n k }) (record {
       prev = p k;
