@@ -92,7 +92,7 @@ MANY = ("Sim::step", "Room::serve", "try_plan")
 # list or tuple of two or three elements in a text, and one for a report or for a list of notices, which keep spare memory then.
 SPARED = {"sweep": 1, "read_cluster": 48, "read_terms": 8, "Room::serve of a step": 1, "Room::serve of a look": 1}
 # The most growths that a call may ask for. A copy of a state shares the cluster.
-MOST = {"State::copy": 28, "Sim::copy": 31, "Room::fork": 31}
+MOST = {"State::copy": 11, "Sim::copy": 14, "Room::fork": 14}
 # The most growths for a plan more in a sweep: a worker copies the base's state once, and not for each plan.
 MOST_FOR_A_PLAN = 5
 MAKER_OF = {name: program for program, names in GROWTH.items() for name in names}

@@ -8,7 +8,7 @@ use Rattle.rh_arena.proofs.lists.Lists.TheSendSync as links
 use Rattle.rh_state.proofs.status.Kind.TheSendSync as kind
 use Rattle.rh_state.proofs.status.Mode.TheSendSync as mode
 use Rattle.rh_state.proofs.status.Standing.TheSendSync as standing
-use Rattle.rh_state.proofs.table.Row.TheSendSync as table
+use Rattle.rh_state.proofs.table.Table.TheSendSync as table
 use Rattle.rh_state.specs.contracts.state.State as State
 
 pub state_send : IsSend State.the_row

@@ -1,7 +1,7 @@
 -- The state before any event.
 use Rattle.std.proofs.Common.{◌≡◌, ◌<◌, ◌≤◌, ◌+◌, ◌*◌, ℕ, List, [], ◌∷◌, ◌++◌, length, map, replicate, All, None, refl, ap, sym, ◌∙◌, arith}
-use Rattle.std.specs.List.{range_with_len}
-use Rattle.std.proofs.lemmas.List.{get_or-replicate, length-map, length-replicate, map_push, same_lists}
+use Rattle.std.specs.List.{range_with_len, flat_map}
+use Rattle.std.proofs.lemmas.List.{get_or-replicate, length-map, length-replicate, map_push, flat_map_more, same_lists}
 use Rattle.std.proofs.lemmas.List.Elements.{All-map, All-nil, All-replicate}
 use Rattle.std.proofs.lemmas.List.FromFn.{length-range_with_len, map-range_with_len_more}
 use Rattle.rh_model.specs.ClusterView.{ClusterView, node_count, app_count, numbered}
@@ -29,6 +29,10 @@ use Rattle.rh_state.proofs.Links.{by_node}
 pub map_numbered_more : {X Y : Type 0} (f : X → Y) (g : ℕ → X) (n : ℕ) → map f (map g (range_with_len 0 (n + 1)))
     ≡ map f (map g (range_with_len 0 n)) ++ f (g n) ∷ []
 map_numbered_more f g n = rw (map-range_with_len_more g 0 n n (omega arith)) (map_push f _ _)
+
+pub flat_map_numbered_more : {X Y : Type 0} (f : X → List Y) (g : ℕ → X) (n : ℕ) → flat_map f (map g (range_with_len 0 (n + 1)))
+    ≡ flat_map f (map g (range_with_len 0 n)) ++ f (g n)
+flat_map_numbered_more f g n = rw (map-range_with_len_more g 0 n n (omega arith)) (sym (flat_map_more f [] (map g (range_with_len 0 n)) (g n)))
 
 pub length-configured : (c : ClusterView) (n : Node) → length (configured c n) ≡ app_count c
 unfolding configured apps_of

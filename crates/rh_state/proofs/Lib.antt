@@ -11,4 +11,5 @@ pub mod Crossing
 mod Rows
 pub mod Records
 pub mod Tables
+pub mod Cut
 pub mod Twice

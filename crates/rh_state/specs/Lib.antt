@@ -1,6 +1,7 @@
 pub mod Numbers
 pub mod Limits
 pub mod Tables
+pub mod Cut
 pub mod Lists
 pub mod Timers
 pub mod StateView

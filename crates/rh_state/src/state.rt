@@ -1,6 +1,6 @@
 //! The state of a cluster.
 
-ghost use Rattle.std.specs.Prelude.{◌≡◌, ◌<◌, IfOk, map};
+ghost use Rattle.std.specs.Prelude.{◌≡◌, ◌<◌, ◌++◌, IfOk, map};
 ghost use Rattle.rh_model.specs.ClusterView.{node_count};
 ghost use Rattle.rh_state.specs.Numbers.{nodes_of};
 ghost use Rattle.rh_state.specs.First.{first, first_words, configured};
@@ -16,9 +16,9 @@ mod setting;
 mod timers;
 
 use crate::status::{Kind, Mode, Standing};
-use crate::table::{Row, rows_of};
+use crate::table::Table;
 use rh_arena::Lists;
-use rh_base::{Duplicate, OutOfMemory, copies_of};
+use rh_base::{Duplicate, OutOfMemory};
 use rh_model::{App, Cluster, Node, Restart};
 use rh_wheel::Wheel;
 use std::alloc::Global;
@@ -39,9 +39,9 @@ pub struct State {
     // What runs and what waits at each node. The entry of a pair has the number node * applications + application; what
     // runs at node n is list n, what waits there is list nodes + n.
     links: Lists,
-    restarts: Vec<Row<Restart>>,
-    kinds: Vec<Row<Kind>>,
-    allowed: Vec<Row<bool>>,
+    restarts: Table<Restart>,
+    kinds: Table<Kind>,
+    allowed: Table<bool>,
     standings: Vec<Standing>,
     // The sync timer of node n has number n, the failover timer of application a the number of nodes + a.
     wheel: Wheel,
@@ -53,9 +53,9 @@ impl Model for State {
 
     ghost Value = { Stored };
 
-    ghost view = { λ s. record { cluster = s.cluster.value; time = s.time; modes = s.modes.items; incarnations = s.incarnations.items; links = s.links; restarts = s.restarts.items; kinds = s.kinds.items; allowed = s.allowed.items; standings = s.standings.items; wheel = s.wheel } };
+    ghost view = { λ s. record { cluster = s.cluster.value; time = s.time; modes = s.modes.items; incarnations = s.incarnations.items; links = s.links; restarts = s.restarts; kinds = s.kinds; allowed = s.allowed; standings = s.standings.items; wheel = s.wheel } };
 
-    ghost invariant = { λ s. IsFormed (record { cluster = s.cluster.value; time = s.time; modes = s.modes.items; incarnations = s.incarnations.items; links = s.links; restarts = s.restarts.items; kinds = s.kinds.items; allowed = s.allowed.items; standings = s.standings.items; wheel = s.wheel }) };
+    ghost invariant = { λ s. IsFormed (record { cluster = s.cluster.value; time = s.time; modes = s.modes.items; incarnations = s.incarnations.items; links = s.links; restarts = s.restarts; kinds = s.kinds; allowed = s.allowed; standings = s.standings.items; wheel = s.wheel }) };
 }
 
 impl State {
@@ -114,14 +114,14 @@ impl State {
     fn copy_tables(
         &self,
         alloc: Global,
-    ) -> Result<(Vec<Row<Restart>>, Vec<Row<Kind>>, Vec<Row<bool>>), OutOfMemory>
-        ensures restarts { IfOk result (λ tables. tables.0.items ≡ self.now.restarts) }
-        ensures kinds { IfOk result (λ tables. tables.1.items ≡ self.now.kinds) }
-        ensures allowed { IfOk result (λ tables. tables.2.items ≡ self.now.allowed) }
+    ) -> Result<(Table<Restart>, Table<Kind>, Table<bool>), OutOfMemory>
+        ensures restarts { IfOk result (λ tables. tables.0 ≡ self.now.restarts) }
+        ensures kinds { IfOk result (λ tables. tables.1 ≡ self.now.kinds) }
+        ensures allowed { IfOk result (λ tables. tables.2 ≡ self.now.allowed) }
     {
-        let restarts = copies_of(alloc, self.restarts.as_slice())?;
-        let kinds = copies_of(alloc, self.kinds.as_slice())?;
-        let allowed = copies_of(alloc, self.allowed.as_slice())?;
+        let restarts = self.restarts.copy(alloc)?;
+        let kinds = self.kinds.copy(alloc)?;
+        let allowed = self.allowed.copy(alloc)?;
         Ok((restarts, kinds, allowed))
     }
 }
@@ -155,8 +155,8 @@ pub fn first_state_sharing(alloc: Global, cluster: &Arc<Cluster>) -> Result<Stat
     // With 64 nodes and 128 applications at most there are 8,192 pairs, 128 lists and 192 timers at most: 16 bits number them.
     let links = Lists::new(alloc, (nodes * apps) as u16, 2 * nodes as u16)?;
     links.formed();
-    let restarts = rows_of(alloc, nodes, apps, Restart::Temporary)?;
-    let kinds = rows_of(alloc, nodes, apps, Kind::Normal)?;
+    let restarts = Table::filled(alloc, nodes, apps, Restart::Temporary)?;
+    let kinds = Table::filled(alloc, nodes, apps, Kind::Normal)?;
     let allowed = permissions_of(alloc, cluster)?;
     let standings = vec![in alloc; Standing::Quiet; apps]?;
     let wheel = Wheel::new(alloc, (nodes + apps) as u16)?;
@@ -177,28 +177,33 @@ pub fn first_state_sharing(alloc: Global, cluster: &Arc<Cluster>) -> Result<Stat
 }
 
 // The permissions that are configured, node by node.
-#[tactic(auto, using(crate::proofs::FirstStates::map_numbered_more), unfolding(crate::specs::Numbers::nodes_of))]
-fn permissions_of(alloc: Global, cluster: &Cluster) -> Result<Vec<Row<bool>>, OutOfMemory>
-    ensures { IfOk result (λ table. table.items ≡ map (configured cluster.now) (nodes_of cluster.now)) }
+#[tactic(auto, using(crate::proofs::FirstStates::flat_map_numbered_more), unfolding(crate::specs::Numbers::nodes_of))]
+fn permissions_of(alloc: Global, cluster: &Cluster) -> Result<Table<bool>, OutOfMemory>
+    ensures { IfOk result (λ table. table ≡ map (configured cluster.now) (nodes_of cluster.now)) }
 {
-    let mut table = Vec::new(alloc);
-    for number in 0..cluster.node_count() {
-        table.push(permissions_at(alloc, cluster, Node(number as u8))?)?;
+    let nodes = cluster.node_count();
+    let apps = cluster.app_count();
+    let mut permissions = Vec::with_capacity(alloc, nodes * apps)?;
+    for number in 0..nodes {
+        push_permissions(&mut permissions, cluster, Node(number as u8))?;
     }
-    Ok(table)
+    Ok(Table::of(permissions, nodes, apps))
 }
 
-// The permissions that are configured at a node.
+// Adds the permissions that are configured at a node.
 #[tactic(auto, using(crate::proofs::FirstStates::map_numbered_more), unfolding(crate::specs::First::configured, crate::specs::Numbers::apps_of))]
-fn permissions_at(alloc: Global, cluster: &Cluster, node: Node) -> Result<Row<bool>, OutOfMemory>
+fn push_permissions(
+    permissions: &mut Vec<bool>,
+    cluster: &Cluster,
+    node: Node,
+) -> Result<(), OutOfMemory>
     requires { node.0 < node_count cluster.now }
-    ensures { IfOk result (λ row. row ≡ configured cluster.now node) }
+    ensures { IfOk result (λ _. permissions.new.items ≡ permissions.old.items ++ configured cluster.now node) }
 {
-    let mut permissions = Vec::new(alloc);
     for number in 0..cluster.app_count() {
         permissions.push(cluster.permitted(node, App(number as u8)))?;
     }
-    Ok(Row::of(permissions))
+    Ok(())
 }
 
 impl Duplicate for State {

@@ -1,100 +1,104 @@
-//! Rows of a table.
+//! Tables over pairs: a row for each node, and in it a cell for each application.
 
-ghost use Rattle.std.specs.Prelude.{◌≡◌, ◌<◌, unwrap_or, ◌↔◌, length, slice_get, slice_set, Some, IfOk, IsTrue, replicate};
+ghost use Rattle.std.specs.Prelude.{◌≡◌, ◌<◌, ◌*◌, unwrap_or, ◌↔◌, length, slice_get, Some, IfOk, IsTrue, replicate};
+ghost use Rattle.rh_state.specs.Cut.{cut};
+ghost use Rattle.rh_state.specs.Tables.{row, with_cell};
 
-use rh_base::{Duplicate, OutOfMemory, Same, are_same};
+use rh_base::{OutOfMemory, Same, are_same};
 use std::alloc::Global;
 use std::marker::Model;
 
-/// One row of a table, with a cell for each application.
+/// A table.
 #[derive(Drop)]
-pub struct Row<T> {
-    items: Vec<T>,
+pub struct Table<T> {
+    // Row behind row, so that a table is one block of memory, however many rows it has.
+    cells: Vec<T>,
+    rows: usize,
+    width: usize,
 }
 
-impl<T> Model for Row<T> {
-    ghost use Rattle.std.specs.Prelude.{List};
+impl<T> Model for Table<T> {
+    ghost use Rattle.std.specs.Prelude.{List, ◌≡◌, ◌*◌, length};
+    ghost use Rattle.rh_state.specs.Cut.{cut};
 
-    ghost Value = { List T };
+    ghost Value = { List (List T) };
 
-    ghost view = { λ r. r.items.items };
+    ghost view = { λ t. cut t.rows t.width t.cells.items };
+
+    ghost invariant = { λ t. length t.cells.items ≡ t.rows * t.width };
 }
 
-impl<T> Row<T> {
-    /// These cells.
-    pub fn of(items: Vec<T>) -> Row<T>
-        ensures { result ≡ items.items }
+impl<T> Table<T> {
+    /// These cells, in so many rows of this width.
+    pub fn of(cells: Vec<T>, rows: usize, width: usize) -> Table<T>
+        requires { length cells.items ≡ rows * width }
+        ensures { result ≡ cut rows width cells.items }
     {
-        Row { items }
+        Table { cells, rows, width }
     }
 }
 
-impl<T: Copy> Row<T> {
-    /// So many cells, with this in each.
-    pub fn filled(alloc: Global, cells: usize, value: T) -> Result<Row<T>, OutOfMemory>
-        ensures { IfOk result (λ row. row ≡ replicate cells value) }
+impl<T: Copy> Table<T> {
+    /// So many rows of this width, with this in each cell.
+    pub fn filled(
+        alloc: Global,
+        rows: usize,
+        width: usize,
+        value: T,
+    ) -> Result<Table<T>, OutOfMemory>
+        requires { rows * width < 65536 }
+        ensures { IfOk result (λ table. table ≡ replicate rows (replicate width value)) }
     {
-        let mut items = Vec::new(alloc);
-        for _ in 0..cells {
-            items.push(value)?;
+        let mut cells = Vec::with_capacity(alloc, rows * width)?;
+        for _ in 0..rows * width {
+            cells.push(value)?;
         }
-        Ok(Row { items })
+        Ok(Table { cells, rows, width })
+    }
+
+    /// An equal table.
+    pub fn copy(&self, alloc: Global) -> Result<Table<T>, OutOfMemory>
+        ensures { IfOk result (λ copy. copy ≡ self.now) }
+    {
+        Ok(Table {
+            cells: Vec::from_slice(alloc, self.cells.as_slice())?,
+            rows: self.rows,
+            width: self.width,
+        })
     }
 
     /// What stands in a cell.
-    pub fn at(&self, app: u8) -> T
-        requires { app < length self.now }
-        ensures { slice_get self.now app ≡ Some result }
+    pub fn at(&self, node: u8, app: u8) -> T
+        requires node { node < length self.now }
+        requires app { app < length (row self.now node) }
+        ensures { slice_get (row self.now node) app ≡ Some result }
     {
-        self.items[app as usize]
+        self.cells[node as usize * self.width + app as usize]
     }
 
     /// Writes into a cell, and says what stood there; where there is no such cell, nothing is written, and the value is given back.
-    pub fn exchange(&mut self, app: u8, value: T) -> T
-        ensures cells { self.new ≡ slice_set self.old app value }
-        ensures value { result ≡ unwrap_or (slice_get self.old app) value }
+    pub fn exchange(&mut self, node: u8, app: u8, value: T) -> T
+        ensures cells { self.new ≡ with_cell self.old node app value }
+        ensures value { result ≡ unwrap_or (slice_get (row self.old node) app) value }
     {
-        match self.items.get_mut(app as usize) {
-            Some(cell) => {
-                let before = *cell;
-                *cell = value;
-                before
-            }
-            None => value,
+        let (node, app) = (node as usize, app as usize);
+        // A cell past the end of its row would be one of the next row.
+        if node >= self.rows || app >= self.width {
+            return value;
         }
+        let place = node * self.width + app;
+        let before = self.cells[place];
+        self.cells[place] = value;
+        before
     }
 }
 
-/// So many rows of so many cells, with this in each.
-pub fn rows_of<T: Copy>(
-    alloc: Global,
-    rows: usize,
-    cells: usize,
-    value: T,
-) -> Result<Vec<Row<T>>, OutOfMemory>
-    ensures { IfOk result (λ table. table.items ≡ replicate rows (replicate cells value)) }
-{
-    let mut table = Vec::new(alloc);
-    for _ in 0..rows {
-        table.push(Row::filled(alloc, cells, value)?)?;
-    }
-    Ok(table)
-}
-
-impl<T: Copy> Duplicate for Row<T> {
-    fn copy(&self, alloc: Global) -> Result<Row<T>, OutOfMemory>
-        ensures { IfOk result (λ copy. copy ≡ self.now) }
-    {
-        Ok(Row {
-            items: Vec::from_slice(alloc, self.items.as_slice())?,
-        })
-    }
-}
-
-impl<T: Same> Same for Row<T> {
-    fn same(&self, other: &Row<T>) -> bool
+impl<T: Same> Table<T> {
+    /// Are the tables equal?
+    pub fn same(&self, other: &Table<T>) -> bool
         ensures { IsTrue result ↔ (self.now ≡ other.now) }
     {
-        are_same(self.items.as_slice(), other.items.as_slice())
+        // As many cells in as many rows: so each row has the same width, where there are any.
+        self.rows == other.rows && are_same(self.cells.as_slice(), other.cells.as_slice())
     }
 }

@@ -32,9 +32,9 @@ impl State {
     fn same_tables(&self, other: &State) -> bool
         ensures { IsTrue result ↔ ((self.now.restarts ≡ other.now.restarts) × (self.now.kinds ≡ other.now.kinds) × (self.now.allowed ≡ other.now.allowed)) }
     {
-        are_same(self.restarts.as_slice(), other.restarts.as_slice())
-            && are_same(self.kinds.as_slice(), other.kinds.as_slice())
-            && are_same(self.allowed.as_slice(), other.allowed.as_slice())
+        self.restarts.same(&other.restarts)
+            && self.kinds.same(&other.kinds)
+            && self.allowed.same(&other.allowed)
     }
 }
 

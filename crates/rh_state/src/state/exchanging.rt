@@ -7,7 +7,7 @@ ghost use Rattle.rh_state.specs.Formed.{IsFormed};
 
 use crate::edit::{Change, Edit};
 use crate::state::State;
-use crate::table::Row;
+use crate::table::Table;
 use rh_model::{App, Node};
 
 #[tactic(auto, unfolding(crate::specs::Edits::exchange, crate::specs::Edits::turned))]
@@ -106,12 +106,9 @@ fn exchanged<T: Copy>(values: &mut Vec<T>, place: usize, value: T) -> T
 }
 
 // The same for a cell of a table.
-pub(crate) fn exchanged_cell<T: Copy>(table: &mut Vec<Row<T>>, node: Node, app: App, value: T) -> T
-    ensures cells { table.new.items ≡ with_cell table.old.items node.0 app.0 value }
-    ensures value { result ≡ unwrap_or (slice_get (row table.old.items node.0) app.0) value }
+pub(crate) fn exchanged_cell<T: Copy>(table: &mut Table<T>, node: Node, app: App, value: T) -> T
+    ensures cells { table.new ≡ with_cell table.old node.0 app.0 value }
+    ensures value { result ≡ unwrap_or (slice_get (row table.old node.0) app.0) value }
 {
-    match table.get_mut(node.0 as usize) {
-        Some(cells) => cells.exchange(app.0, value),
-        None => value,
-    }
+    table.exchange(node.0, app.0, value)
 }

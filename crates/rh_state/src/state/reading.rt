@@ -111,7 +111,7 @@ impl State {
         requires app { app.0 < app_count (read self.now).cluster }
         ensures { result ≡ restart_of (read self.now) node app }
     {
-        self.restarts[node.0 as usize].at(app.0)
+        self.restarts.at(node.0, app.0)
     }
 
     /// How an application was last started at a node, also where it doesn't run: normally at first (application(3)).
@@ -121,7 +121,7 @@ impl State {
         ensures kind { result ≡ kind_of (read self.now) node app }
         ensures number { IsKindOf (read self.now).cluster result }
     {
-        self.kinds[node.0 as usize].at(app.0)
+        self.kinds.at(node.0, app.0)
     }
 
     /// May an application run at a node (kernel(6), `permissions`)?
@@ -130,7 +130,7 @@ impl State {
         requires app { app.0 < app_count (read self.now).cluster }
         ensures { result ≡ is_allowed (read self.now) node app }
     {
-        self.allowed[node.0 as usize].at(app.0)
+        self.allowed.at(node.0, app.0)
     }
 
     /// Where an application stands; a local one is always quiet.

@@ -61,6 +61,15 @@ returns-then-branch-clause-lines g c =
       },
     )
 
+pub lines-init : goal.lines-init
+lines-init g c = record {
+  text = ([], ([], refl, refl), λ more. refl);
+  bad = λ more. refl;
+  watch = c.requires.writer;
+  same = refl;
+  count = omega arith;
+}
+
 pub lines-preserved : goal.lines-preserved
 lines-preserved g c =
     let takes = g.K.Sink.takes in

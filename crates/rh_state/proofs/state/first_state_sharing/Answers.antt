@@ -17,9 +17,9 @@ words : (c : goal.In_ok-cluster) → record {
   modes = c.in_ok-modes.modes.items;
   incarnations = c.in_ok-incarnations.incarnations.items;
   links = c.in_ok-links.links;
-  restarts = c.in_ok-restarts.restarts.items;
-  kinds = c.in_ok-kinds.kinds.items;
-  allowed = c.in_ok-allowed.allowed.items;
+  restarts = c.in_ok-restarts.restarts;
+  kinds = c.in_ok-kinds.kinds;
+  allowed = c.in_ok-allowed.allowed;
   standings = c.in_ok-standings.standings.items;
   wheel = c.in_ok-wheel.wheel;
 } ≡ first_words c.args.cluster.now.value
@@ -31,7 +31,7 @@ words c =
     let modes : c.in_ok-modes.modes.items ≡ replicate c.node_count-nodes.result Down = search rules in
     let incarnations : c.in_ok-incarnations.incarnations.items ≡ replicate c.node_count-nodes.result 0 = search rules in
     let standings : c.in_ok-standings.standings.items ≡ replicate c.app_count-apps.result Quiet = search rules in
-    let allowed : c.in_ok-allowed.allowed.items ≡ map (configured cluster) (nodes_of cluster) = search rules in
+    let allowed : c.in_ok-allowed.allowed ≡ map (configured cluster) (nodes_of cluster) = search rules in
     rw (modes, incarnations, c.in_ok-restarts.ensures, c.in_ok-kinds.ensures, c.in_ok-links.ensures.words, c.in_ok-wheel.ensures.words)
     (rw (allowed, standings, nodes, apps, same) refl)
 

@@ -8,5 +8,5 @@ returns-clause-exact c =
     rw (
       c.exchanged_cell-before.ensures.cells,
       c.exchanged_cell-before.ensures.value,
-      cell_exchanged c.self.inside.allowed.items c.args.node.0 c.args.app.0 c.args.allow,
+      cell_exchanged c.self.inside.allowed c.args.node.0 c.args.app.0 c.args.allow,
     ) c.self.view_is

@@ -8,5 +8,5 @@ returns-clause-exact c =
     rw (
       c.exchanged_cell-before.ensures.cells,
       c.exchanged_cell-before.ensures.value,
-      cell_exchanged c.self.inside.kinds.items c.args.node.0 c.args.app.0 c.args.kind,
+      cell_exchanged c.self.inside.kinds c.args.node.0 c.args.app.0 c.args.kind,
     ) c.self.view_is

@@ -8,5 +8,5 @@ returns-clause-exact c =
     rw (
       c.exchanged_cell-before.ensures.cells,
       c.exchanged_cell-before.ensures.value,
-      cell_exchanged c.self.inside.restarts.items c.args.node.0 c.args.app.0 c.args.restart,
+      cell_exchanged c.self.inside.restarts c.args.node.0 c.args.app.0 c.args.restart,
     ) c.self.view_is
