@@ -1,5 +1,5 @@
 -- The bits of a set.
-use Rattle.std.proofs.Common.{not, nat_lt, IsTrue, nat_eq, ◌≡◌, ◌≢◌, ◌<◌, ◌≤◌, ◌*◌, ◌-◌, ◌^◌, ◌%◌, ◌==◌, ◌||◌, ◌&&◌, ◌⊎◌, ℕ, true, false, bit_and, w64, sym, ap, ◌∙◌, inl, inr, min}
+use Rattle.std.proofs.Common.{Bool, refl, not, nat_lt, IsTrue, nat_eq, ◌≡◌, ◌≢◌, ◌<◌, ◌≤◌, ◌*◌, ◌-◌, ◌^◌, ◌%◌, ◌==◌, ◌||◌, ◌&&◌, ◌⊎◌, ℕ, true, false, bit_and, w64, sym, ap, ◌∙◌, inl, inr, min}
 use Rattle.std.proofs.Common.{arith}
 use Rattle.std.specs.Int.{bit_at, bit_not, trailing_zeros}
 use Rattle.std.specs.Int.RustNames.{bit_or}
@@ -118,3 +118,25 @@ module _ (set : NodeBits) (small : set.bits < 2 ^ 64) (some : set.bits ≢ 0) wh
 
   pub not_none : ((n : Node) → has set n ≡ false) → true ≡ false
   not_none none = sym first_member ∙ none (record { 0 = trailing_zeros w64 set.bits })
+
+-- without a node of it the word is less
+pub fewer_bits : (bits : ℕ) (node : Node) → bits < 2 ^ 64 → node.0 < 64 → has (record { bits = bits }) node ≡ true
+    → bit_and bits (bit_not w64 (1 * 2 ^ node.0 % 2 ^ 64)) < bits
+fewer_bits bits node small below here = less (bit_and bits mask) bits (and_le_l bits mask)
+    (λ e. clash (sym here ∙ ap (λ (b : ℕ). has (record { bits = b }) node) (sym e) ∙ has_less bits node node small below ∙ gone (nat_eq node.0 node.0) (same_self node.0)))
+  where
+    mask : ℕ
+    mask = bit_not w64 (1 * 2 ^ node.0 % 2 ^ 64)
+
+    less : (m n : ℕ) → m ≤ n → m ≢ n → m < n
+    less m n le other = omega (arith, le, other)
+
+    clash : {P : Type 0} → true ≡ false → P
+    clash e = cc
+
+    same_self : (i : ℕ) → nat_eq i i ≡ true
+    same_self i = grind (arith, nat_tests)
+
+    gone : (b : Bool) → b ≡ true → not b && has (record { bits = bits }) node ≡ false
+    gone true e = refl
+    gone false e = clash (sym e)

@@ -1,6 +1,6 @@
 //! The choice among the nodes at which an application can run.
 
-ghost use Rattle.std.specs.Prelude.{◌≡◌, ◌<◌, ◌↔◌, ◌&&◌, ◌==◌, true, [], ◌∷◌, ◌++◌, All, Some, position, IsNone, IfSome, map};
+ghost use Rattle.std.specs.Prelude.{◌≡◌, ◌<◌, ◌↔◌, ◌&&◌, ◌==◌, true, false, [], ◌∷◌, ◌++◌, All, Some, position, IsNone, IfSome, map};
 ghost use Rattle.std.specs.List.{filter, list_any};
 ghost use Rattle.std.specs.Option.{option_to_list};
 ghost use Rattle.rh_model.specs.declared.node.Node.{Node};
@@ -58,13 +58,16 @@ pub fn best(state: &State, app: App, set: NodeSet, pick: Pick) -> Option<Node>
     one_of_lightest(state, group, set, count, pick)
 }
 
-// Is the node in the set, and can the application run there?
-fn is_able(state: &State, app: App, node: Node, set: NodeSet) -> bool
-    requires node { IsNodeOf (read state.now).cluster node }
-    requires app { app.0 < app_count (read state.now).cluster }
-    ensures { result ≡ (has set node && is_operational (read state.now) app node) }
+// The lowest node of the set, if it is one of so many.
+fn lowest(set: NodeSet, count: usize) -> Option<Node>
+    ensures member { IfSome result (λ n. has set n ≡ true) }
+    ensures number { IfSome result (λ n. n.0 < count) }
+    ensures none { IsNone result → (n : Node) → n.0 < count → has set n ≡ false }
 {
-    set.has(node) && operational(state, app, node)
+    match set.first() {
+        Some(node) if (node.0 as usize) < count => Some(node),
+        _ => None,
+    }
 }
 
 /// The nodes of a set at which an application can run (Distributed Applications).
@@ -73,13 +76,12 @@ pub fn operational_among(state: &State, app: App, set: NodeSet) -> NodeSet
     ensures { (n : Node) → has result n ≡ (has set n && is_operational (read state.now) app n) }
 {
     state.formed();
+    let count = state.cluster().node_count();
     let mut nodes = NodeSet::empty();
-    if set.is_empty() {
-        return nodes;
-    }
-    'nodes: for number in 0..state.cluster().node_count() {
-        let node = Node(number as u8);
-        if is_able(state, app, node, set) {
+    let mut rest = set;
+    'nodes: while let Some(node) = lowest(rest, count) {
+        rest = rest.without(node);
+        if operational(state, app, node) {
             nodes = nodes.with(node);
         }
     }

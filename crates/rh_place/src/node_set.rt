@@ -60,11 +60,12 @@ impl NodeSet {
         NodeSet { bits: u64::MAX }
     }
 
-    // The set without a node of it.
+    // The set without a node.
     #[tactic(auto, unfolding(crate::specs::Sets::has))]
-    fn without(self, node: Node) -> NodeSet
+    pub(crate) fn without(self, node: Node) -> NodeSet
         requires { node.0 < Self.LIMIT }
-        ensures { (n : Node) → has result n ≡ (not (same_node n node) && has self n) }
+        ensures nodes { (n : Node) → has result n ≡ (not (same_node n node) && has self n) }
+        ensures less { has self node ≡ true → result.bits < self.bits }
     {
         NodeSet {
             bits: self.bits & !(1 << node.0),

@@ -1,4 +1,4 @@
-use Rattle.std.proofs.Common.{◌≡◌, Bool, sym, ap, ◌∙◌, arith, false, true, length, refl, ◌&&◌, nat_lt}
+use Rattle.std.proofs.Common.{◌≡◌, Bool, sym, ap, ◌∙◌, arith, false, true, refl, ◌&&◌, nat_lt}
 use Rattle.rh_model.specs.ClusterView.{ClusterView, node_count}
 use Rattle.rh_state.specs.Stored.{read}
 use Rattle.rh_place.specs.Sets.{has}
@@ -11,12 +11,14 @@ not_both true = refl
 not_both false = refl
 
 pub returns : goal.returns
-returns c = λ n. cases (nat_lt n.0 c.nodes.number)
-    (λ t. c.nodes.invariant.below n (is_below n.0 c.nodes.number t))
-    (λ f. let above = is_above n.0 c.nodes.number f in
-    let e : length (read c.args.state.now).modes ≡ node_count (read c.args.state.now).cluster = c.formed.ensures.shape.modes in
-    let counted : c.node_count-number-end.result ≡ node_count (read c.args.state.now).cluster = c.node_count-number-end.ensures.count
-    ∙ ap (λ (v : ClusterView). node_count v) c.cluster.ensures in
-    c.nodes.invariant.above n above
-    ∙ sym (ap (λ b. has c.args.set n && b) (beyond (read c.args.state.now) c.args.app n (omega (arith, c.nodes-test.false)))
+returns c = λ n.
+    let s = read c.args.state.now in
+    let counted = c.node_count-count.ensures.count ∙ ap (λ (v : ClusterView). node_count v) c.cluster.ensures in
+    cases (nat_lt n.0 (node_count s.cluster))
+    (λ t. let lt = is_below n.0 (node_count s.cluster) t in
+    c.nodes.invariant.seen n lt (c.in_default.ensures.none refl n (omega (arith, counted, lt))))
+    (λ f. let above = is_above n.0 (node_count s.cluster) f in
+    let e = c.formed.ensures.shape.modes in
+    c.nodes.invariant.others n above
+    ∙ sym (ap (λ b. has c.args.set n && b) (beyond s c.args.app n (omega (arith, e, above)))
     ∙ not_both (has c.args.set n)))
