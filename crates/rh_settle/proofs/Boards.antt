@@ -29,7 +29,7 @@ use Rattle.rh_rules.specs.declared.notice.Move.{Move}
 use Rattle.rh_rules.specs.declared.notice.Move.TheVariants.{Local, Placement, Takeover}
 use Rattle.rh_rules.specs.declared.notice.Pair.{Pair}
 use Rattle.rh_settle.specs.Boards.{AppSets, AppMarks, BoardView, is_among, is_marked, is_wanted, is_touched, touches_local, matters, nodes_changed, mover}
-use Rattle.rh_settle.specs.Boards.{IsExactAt, IsBoardOf}
+use Rattle.rh_settle.specs.Boards.{MarksLocals, IsExactAt, IsBoardOf}
 use Rattle.rh_rules.specs.Course.{is_fresh, is_local}
 use Rattle.rh_rules.specs.Moves.{can_start, local_move, local_moves, comes_before, calls_away, placements, placements_from, takeovers, takeovers_from, moved_state}
 use Rattle.rh_settle.specs.Making.{CanBeMade}
@@ -261,14 +261,6 @@ none_of_mover s x k none of = ap (λ b. cond (b && (is_allowed s k x && deps_run
     (is_false (is_local s.cluster x) (λ y. both (is_touched s.cluster x x)
     (or_left (same_app x x) (has_app (needed_apps s.cluster x) x) (same_refl x.0)) (none_touched s.cluster x x none of y)))
 
--- where no move touches one there are none
-pub no_locals : (s : StateView) (n : Node) → IsShaped s → ((a : App) → touches_local s.cluster a ≡ false) → local_moves s n ≡ []
-unfolding local_moves
-no_locals s n shape none =
-    given_alike (local_move s n) (λ a. []) (IsAppOf s.cluster) (λ a of. none_of_mover s a n (none a) of) (row s.waiting n.0)
-    (listed_all (IsAppOf s.cluster) s.waiting n.0 shape.waiting_apps)
-    ∙ given_none (λ a. []) (row s.waiting n.0) (λ a. refl)
-
 -- so the local moves are those of before, at the nodes that the move changes too
 locals_moved : (s : StateView) (m : Move) (k : Node) → IsShaped (moved_state s m) → IsAppOf s.cluster (mover m) → touches_local s.cluster (mover m) ≡ false
     → local_moves (moved_state s m) k ≡ local_moves s k
@@ -320,6 +312,7 @@ kept_moved s (Takeover x l n) b k shape of h = record {
 -- ---- a look at a node
 -- what a look at a node behind a move of an application leaves, and what it finds
 pub record Looked (t : StateView) (x : App) (b c : BoardView) (n : Node) : Type 0 where
+  pub marks : c.local ≡ b.local
   pub touching : c.touching ≡ b.touching
   pub moving : c.moving ≡ b.moving
   pub fresh : c.fresh ≡ b.fresh
@@ -378,6 +371,10 @@ module _ (s t : StateView) (m : Move) (pairs : List Pair) (is : t ≡ moved_stat
   still_marked b c touching h a =
       ap (λ (marks : AppMarks). is_marked marks a) touching ∙ h.touching a ∙ ap (λ (v : ClusterView). touches_local v a) (sym same_cluster)
 
+  still_local : (b c : BoardView) → c.local ≡ b.local → IsBoardOf s pairs b → MarksLocals t.cluster c.local
+  still_local b c marks h = subst (λ (ms : AppMarks). MarksLocals t.cluster ms) (sym marks)
+      (subst (λ (v : ClusterView). MarksLocals v b.local) (sym same_cluster) h.local)
+
   still_fresh : (b c : BoardView) → c.fresh ≡ b.fresh → IsBoardOf s pairs b → (a : App) (n : Node) → IsAppOf t.cluster a → IsNodeOf t.cluster n
       → is_among c.fresh a n ≡ is_fresh pairs n a
   still_fresh b c fresh h a n of_a of_n =
@@ -386,6 +383,7 @@ module _ (s t : StateView) (m : Move) (pairs : List Pair) (is : t ≡ moved_stat
 
   pub followed : (b c : BoardView) (n : Node) → ((k : Node) → k.0 ≢ n.0 → Apart m k) → Looked t (mover m) b c n → IsBoardOf s pairs b → IsBoardOf t pairs c
   followed b c n apart look h = record {
+    local = still_local b c look.marks h;
     touching = still_marked b c look.touching h;
     fresh = still_fresh b c look.fresh h;
     exact = λ k. looked_at t (mover m) b c n k look (still_marked b b refl h (mover m)) (kept_at b k (h.exact k)) (λ d. still_at b k (apart k d) (h.exact k));
@@ -394,6 +392,7 @@ module _ (s t : StateView) (m : Move) (pairs : List Pair) (is : t ≡ moved_stat
   pub followed_twice : (b c d : BoardView) (n l : Node) → ((k : Node) → k.0 ≢ n.0 → k.0 ≢ l.0 → Apart m k) → Looked t (mover m) b c n → Looked t (mover m) c d l
       → IsBoardOf s pairs b → IsBoardOf t pairs d
   followed_twice b c d n l apart look again h = record {
+    local = still_local b d (again.marks ∙ look.marks) h;
     touching = still_marked b d (again.touching ∙ look.touching) h;
     fresh = still_fresh b d (again.fresh ∙ look.fresh) h;
     exact = λ k.

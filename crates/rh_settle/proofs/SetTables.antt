@@ -7,7 +7,7 @@ use Rattle.std.proofs.Math.ListN.{replicate}
 use Rattle.std.proofs.lemmas.Bool.{cases_lt}
 use Rattle.std.proofs.Math.Nat.{div-le_self}
 use Rattle.std.proofs.lemmas.Nat.{div-add-mod', mod_below, pow_pos, or_lt}
-use Rattle.std.proofs.lemmas.Nat.Bits.{shr_and_one, bit_at-lt, bit_at-zero, bit_at_above, bit_at_set_same, bit_at_set_other, bit_at_cat_high, bit_at-trailing_zeros, same_from_bits}
+use Rattle.std.proofs.lemmas.Nat.Bits.{shr_and_one, bit_at-lt, bit_at-zero, bit_at_above, bit_at_set_same, bit_at_set_other, bit_at_cat_low, bit_at_cat_high, bit_at-trailing_zeros, same_from_bits}
 use Rattle.std.proofs.lemmas.List.{get_or-replicate, length-replicate}
 use Rattle.std.proofs.lemmas.Option.{slice_get_past, slice_get-get_or, unwrap_or-slice_get}
 use Rattle.std.proofs.lemmas.Bool.Decides.{eqb_tells, nat_tests}
@@ -70,6 +70,36 @@ marked_set marks app small a = elim (eqb_tells a.0 app.0) [
     or_false : (p : Bool) → p || false ≡ p
     or_false true = refl
     or_false false = refl
+
+-- the low bits of a number are those of what is left of it
+kept : (n i : ℕ) → i < 128 → bit_at (n % 2 ^ 128) i ≡ bit_at n i
+kept n i small = sym (bit_at_cat_low (n / 2 ^ 128) 128 (n % 2 ^ 128) i small) ∙ ap (λ m. bit_at m i) (div-add-mod' n (2 ^ 128))
+
+-- all marks move up by one
+pub moved_first : (marks : ℕ) (a : App) → a.0 ≡ 0 → is_marked (record { marks = marks * 2 ^ 1 % 2 ^ 128 }) a ≡ false
+unfolding is_marked
+moved_first marks a first = ap (λ v. v == 1) (ap (bit_at (marks * 2 ^ 1 % 2 ^ 128)) first ∙ kept (marks * 2 ^ 1) 0 (omega arith)
+    ∙ ap (λ m. bit_at m 0) (more (marks * 2 ^ 1)) ∙ bit_at_cat_low marks 1 0 0 (omega arith) ∙ bit_at-zero 0)
+  where
+    more : (m : ℕ) → m ≡ m + 0
+    more m = omega arith
+
+pub moved_other : (marks : ℕ) (a b : App) → b.0 ≡ a.0 + 1 → b.0 < 128 → is_marked (record { marks = marks * 2 ^ 1 % 2 ^ 128 }) b ≡ is_marked (record { marks = marks }) a
+unfolding is_marked
+moved_other marks a b next small = ap (λ v. v == 1) (kept (marks * 2 ^ 1) b.0 small ∙ ap (λ m. bit_at m b.0) (more (marks * 2 ^ 1))
+    ∙ bit_at_cat_high marks 1 0 b.0 (omega arith) (omega (arith, next)) ∙ ap (bit_at marks) (back a.0 b.0 next))
+  where
+    more : (m : ℕ) → m ≡ m + 0
+    more m = omega arith
+
+    back : (i j : ℕ) → j ≡ i + 1 → j - 1 ≡ i
+    back i j next = omega (arith, next)
+
+pub moved_few : (marks : ℕ) → marks * 2 ^ 1 % 2 ^ 128 < 2 ^ 128
+moved_few marks = below (marks * 2 ^ 1)
+  where
+    below : (m : ℕ) → m % 2 ^ 128 < 2 ^ 128
+    below m = omega arith
 
 pub marks_few : (marks : ℕ) (app : App) → marks < 2 ^ 128 → bit_or marks (1 * 2 ^ app.0 % 2 ^ 128) < 2 ^ 128
 marks_few marks app small = or_lt 128 marks (1 * 2 ^ app.0 % 2 ^ 128) small (below (1 * 2 ^ app.0))

@@ -1,5 +1,5 @@
 -- What a move that touches no local application leaves of a search for local moves.
-use Rattle.std.proofs.Common.{◌≡◌, ◌+◌, ◌<◌, ◌≤◌, ℕ, suc, Bool, true, false, not, ◌&&◌, ◌||◌, List, [], ◌∷◌, ◌++◌, All, take, nat_eq, refl, sym, ap, ◌∙◌, arith, length, get_or}
+use Rattle.std.proofs.Common.{◌≡◌, ◌+◌, ◌-◌, ◌<◌, ◌≤◌, ℕ, zero, suc, subst, Bool, true, false, not, ◌&&◌, ◌||◌, List, [], ◌∷◌, ◌++◌, All, take, nat_eq, refl, sym, ap, ◌∙◌, arith, length, get_or}
 use Rattle.std.specs.List.{list_any}
 use Rattle.std.proofs.lemmas.List.{take_all}
 use Rattle.std.proofs.lemmas.List.Folds.{list_any_at, list_any_more}
@@ -101,6 +101,31 @@ module _ (c : ClusterView) (x : App) (i : ℕ) (marked : Bool) (lt : i < app_cou
       or_none : (p : Bool) → p ≡ (p || false)
       or_none true = refl
       or_none false = refl
+
+-- those that aren't local are passed over
+pub marked_past : (c : ClusterView) (x : App) (i j : ℕ) (marked : Bool) → i ≤ j → j ≤ app_count c
+    → ((a : App) → i ≤ a.0 → a.0 < j → is_local c a ≡ false) → marked ≡ list_any (λ a. is_local c a && is_touched c x a) (take i (apps_of c))
+    → marked ≡ list_any (λ a. is_local c a && is_touched c x a) (take j (apps_of c))
+marked_past c x i j marked le few none h = subst (λ k. marked ≡ list_any here (take k (apps_of c))) (there i j le)
+    (by (j - i) (omega (arith, le, few)) (λ a from less. none a from (omega (arith, le, less))))
+  where
+    here : App → Bool
+    here a = is_local c a && is_touched c x a
+
+    there : (i j : ℕ) → i ≤ j → i + (j - i) ≡ j
+    there i j le = omega (arith, le)
+
+    further : (i d : ℕ) → (i + d) + 1 ≡ i + suc d
+    further i d = omega arith
+
+    nothing : (i : ℕ) → i ≡ i + 0
+    nothing i = omega arith
+
+    by : (d : ℕ) → i + d ≤ app_count c → ((a : App) → i ≤ a.0 → a.0 < i + d → is_local c a ≡ false) → marked ≡ list_any here (take (i + d) (apps_of c))
+    by zero few none = subst (λ k. marked ≡ list_any here (take k (apps_of c))) (nothing i) h
+    by (suc d) few none = subst (λ k. marked ≡ list_any here (take k (apps_of c))) (further i d)
+        (marked_other c x (i + d) marked (omega (arith, few)) (by d (omega (arith, few)) (λ a from less. none a from (omega (arith, less))))
+        (none (app_numbered (i + d)) (omega arith) (omega arith)))
 
 pub marked_all : (c : ClusterView) (x : App) (i : ℕ) (marked : Bool) → app_count c ≤ i
     → marked ≡ list_any (λ a. is_local c a && is_touched c x a) (take i (apps_of c)) → marked ≡ touches_local c x

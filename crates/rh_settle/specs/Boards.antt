@@ -41,13 +41,22 @@ pub record AppMarks : Type 0 where
 unfoldable pub is_marked : AppMarks → App → Bool
 is_marked t a = bit_at t.marks a.0 == 1
 
--- a set of nodes, and for each application two marks and two sets of nodes
+-- a set of nodes, and for each application three marks and two sets of nodes
 pub record BoardView : Type 0 where
   pub locals : NodeBits
+  pub local : AppMarks
   pub touching : AppMarks
   pub moving : AppMarks
   pub fresh : AppSets
   pub able : AppSets
+
+-- of the applications of a cluster the local ones are marked
+abbrev pub MarksLocals : ClusterView → AppMarks → Type 0
+MarksLocals c marks = (a : App) → IsAppOf c a → is_marked marks a ≡ is_local c a
+
+-- each application that has a node in its set is marked
+abbrev pub Covers : AppMarks → AppSets → Type 0
+Covers marks sets = (a : App) (n : Node) → is_among sets a n ≡ true → is_marked marks a ≡ true
 
 -- an application is to run
 abbrev pub is_wanted : Standing → Bool
@@ -73,8 +82,10 @@ pub record IsExactAt (s : StateView) (b : BoardView) (n : Node) : Type 0 where
   pub moving : (a : App) → IsAppOf s.cluster a → matters s b.fresh a n ≡ true → is_marked b.moving a ≡ true
   pub able : (a : App) → IsAppOf s.cluster a → matters s b.fresh a n ≡ true → is_among b.able a n ≡ is_operational s a n
 
--- the same of each node, the fresh pairs are these, and those are marked whose moves touch a local application
+-- the same of each node, the fresh pairs are these, and those are marked that are local, and those whose moves touch a
+-- local application
 pub record IsBoardOf (s : StateView) (pairs : List Pair) (b : BoardView) : Type 0 where
+  pub local : MarksLocals s.cluster b.local
   pub touching : (a : App) → is_marked b.touching a ≡ touches_local s.cluster a
   pub fresh : (a : App) (n : Node) → IsAppOf s.cluster a → IsNodeOf s.cluster n → is_among b.fresh a n ≡ is_fresh pairs n a
   pub exact : (n : Node) → IsExactAt s b n

@@ -1,6 +1,6 @@
 //! A mark for each application.
 
-ghost use Rattle.std.specs.Prelude.{◌≡◌, ◌<◌, ◌≤◌, ◌||◌, ◌↔◌, false, true, IsTrue, IsNone, IfSome};
+ghost use Rattle.std.specs.Prelude.{◌≡◌, ◌+◌, ◌<◌, ◌≤◌, ◌||◌, ◌↔◌, false, true, IsTrue, IsNone, IfSome};
 ghost use Rattle.rh_model.specs.declared.limits.TheConstants.{MAX_APPS};
 ghost use Rattle.rh_model.specs.declared.node.App.{App};
 ghost use Rattle.rh_state.specs.Numbers.{same_app};
@@ -60,6 +60,17 @@ impl AppMarks {
         ensures { (a : App) → is_marked self.new a ≡ (is_marked self.old a || same_app a app) }
     {
         self.marks |= 1 << app.0;
+    }
+
+    // Moves each mark to the next application, and marks application 0 or doesn't.
+    pub fn push_front(&mut self, mark: bool)
+        ensures first { (a : App) → a.0 ≡ 0 → is_marked self.new a ≡ mark }
+        ensures others { (a b : App) → b.0 ≡ a.0 + 1 → b.0 < MAX_APPS → is_marked self.new b ≡ is_marked self.old a }
+    {
+        self.marks <<= 1;
+        if mark {
+            self.mark(App(0));
+        }
     }
 
     // The first marked application from this number on.

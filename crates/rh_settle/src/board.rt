@@ -16,13 +16,13 @@ ghost use Rattle.rh_place.specs.declared.node_set.TheConstants.NodeSet.{LIMIT};
 ghost use Rattle.rh_rules.specs.Placing.{is_operational};
 ghost use Rattle.rh_place.specs.Sets.{has};
 ghost use Rattle.rh_rules.specs.declared.notice.Pair.{Pair};
-ghost use Rattle.rh_settle.specs.Boards.{is_among, is_marked, is_wanted, is_touched, touches_local, matters, nodes_changed, mover, IsBoardOf};
+ghost use Rattle.rh_settle.specs.Boards.{is_among, is_marked, is_wanted, is_touched, touches_local, matters, nodes_changed, mover, MarksLocals, Covers, IsBoardOf};
 ghost use Rattle.rh_rules.specs.Course.{is_fresh};
 ghost use Rattle.rh_rules.specs.Moves.{local_moves, moved_state};
 
 use crate::app_marks::AppMarks;
 use crate::app_sets::AppSets;
-use crate::search::{is_local, local_at};
+use crate::search::{is_local, starts_at};
 use rh_model::{App, Cluster, MAX_APPS, Node};
 use rh_place::{NodeSet, operational, operational_among, operational_nodes};
 use rh_rules::{Move, Pair};
@@ -34,6 +34,8 @@ use std::marker::Model;
 pub(crate) struct Board {
     // The nodes at which a local application can start.
     locals: NodeSet,
+    // The local applications.
+    local: AppMarks,
     // The applications of which a move can change that: the local ones, and those that a local one needs.
     touching: AppMarks,
     // The applications that can be placed or taken over: those that are to run, and those that have a fresh pair.
@@ -49,29 +51,38 @@ impl Model for Board {
 
     ghost Value = { BoardView };
 
-    ghost view = { λ b. record { locals = b.locals; touching = b.touching; moving = b.moving; fresh = b.fresh; able = b.able } };
+    ghost view = { λ b. record { locals = b.locals; local = b.local; touching = b.touching; moving = b.moving; fresh = b.fresh; able = b.able } };
 }
 
 impl Board {
+    // A board without marks and without nodes.
+    fn blank() -> Board
+        ensures { (a : App) (n : Node) → is_among result.fresh a n ≡ false }
+    {
+        Board {
+            locals: NodeSet::empty(),
+            local: AppMarks::empty(),
+            touching: AppMarks::empty(),
+            moving: AppMarks::empty(),
+            fresh: AppSets::empty(),
+            able: AppSets::empty(),
+        }
+    }
+
     /// The board of a state, after these pairs were marked and these were freed.
     pub fn of(state: &State, marked: &[Pair], freed: &[Pair]) -> Board
         ensures { IsBoardOf (read state.now) (freed.now ++ marked.now) result }
     {
         let _few_apps = state.cluster().app_count();
         let _few_nodes = state.cluster().node_count();
-        let mut fresh = AppSets::empty();
-        add_fresh(&mut fresh, freed);
-        add_fresh(&mut fresh, marked);
-        let moving = moving_apps(state, &fresh);
-        let able = able_sets(state, &fresh, &moving);
-        let touching = touching_apps(state.cluster());
-        Board {
-            locals: local_nodes(state, &touching),
-            touching,
-            moving,
-            fresh,
-            able,
-        }
+        let mut board = Board::blank();
+        mark_apps(state, &mut board.local, &mut board.moving);
+        board.touching = touching_apps(state.cluster(), &board.local);
+        board.locals = local_nodes(state, &board.local);
+        add_fresh(&mut board.fresh, &mut board.moving, freed);
+        add_fresh(&mut board.fresh, &mut board.moving, marked);
+        find_able(state, &board.moving, &board.fresh, &mut board.able);
+        board
     }
 
     /// The nodes at which a local application can start.
@@ -112,6 +123,8 @@ impl Board {
     fn look_again(&mut self, state: &State, moved: App, node: Node)
         requires app { IsAppOf (read state.now).cluster moved }
         requires node { IsNodeOf (read state.now).cluster node }
+        requires marks { MarksLocals (read state.now).cluster self.old.local }
+        ensures marks { self.new.local ≡ self.old.local }
         ensures touching { self.new.touching ≡ self.old.touching }
         ensures moving { self.new.moving ≡ self.old.moving }
         ensures fresh { self.new.fresh ≡ self.old.fresh }
@@ -124,7 +137,7 @@ impl Board {
         let _few_apps = state.cluster().app_count();
         let _few_nodes = state.cluster().node_count();
         if self.touching.has(moved) {
-            self.locals = self.locals.put(node, local_at(state, node).is_some());
+            self.locals = self.locals.put(node, starts_at(state, &self.local, node));
         }
         look_again_at(
             state,
@@ -140,6 +153,7 @@ impl Board {
     pub fn follow(&mut self, state: &State, made: Move)
         requires app { IsAppOf (read state.now).cluster (mover made) }
         requires nodes { All (IsNodeOf (read state.now).cluster) (nodes_changed made) }
+        requires marks { MarksLocals (read state.now).cluster self.old.local }
         ensures { (s : StateView) (fresh : List Pair) → IsBoardOf s fresh self.old → read state.now ≡ moved_state s made → IsBoardOf (read state.now) fresh self.new }
     {
         state.formed();
@@ -167,36 +181,65 @@ fn mark_touching(marks: &mut AppMarks, cluster: &Cluster, app: App)
     }
 }
 
+// Is an application to run?
+fn is_wanted(state: &State, app: App) -> bool
+    requires { IsAppOf (read state.now).cluster app }
+    ensures { result ≡ is_wanted (standing_of (read state.now) app) }
+{
+    matches!(state.standing(app), Standing::Wanted(_))
+}
+
+// Marks the applications that are local, and those that are to run.
+fn mark_apps(state: &State, local: &mut AppMarks, wanted: &mut AppMarks)
+    ensures local { MarksLocals (read state.now).cluster local.new }
+    ensures wanted { (a : App) → IsAppOf (read state.now).cluster a → is_marked wanted.new a ≡ is_wanted (standing_of (read state.now) a) }
+{
+    let mut number = state.cluster().app_count();
+    'apps: while number > 0 {
+        number -= 1;
+        let app = App(number as u8);
+        local.push_front(is_local(state.cluster(), app));
+        wanted.push_front(is_wanted(state, app));
+    }
+}
+
 // The applications of which a move touches a local one.
-fn touching_apps(cluster: &Cluster) -> AppMarks
+fn touching_apps(cluster: &Cluster, local: &AppMarks) -> AppMarks
+    requires { MarksLocals cluster.now local.now }
     ensures { (a : App) → is_marked result a ≡ touches_local cluster.now a }
 {
     let mut marks = AppMarks::empty();
     let count = cluster.app_count();
-    'apps: for number in 0..count {
-        let app = App(number as u8);
-        if is_local(cluster, app) {
-            mark_touching(&mut marks, cluster, app);
-        }
+    let mut from = 0;
+    'apps: while let Some(app) = local.next_below(from, count) {
+        mark_touching(&mut marks, cluster, app);
+        from = app.0 + 1;
     }
     marks
 }
 
-// Puts a pair to the fresh ones.
-fn add_pair(sets: &mut AppSets, pair: Pair)
-    ensures { (a : App) (n : Node) → a.0 < MAX_APPS → n.0 < LIMIT → is_among sets.new a n ≡ (is_among sets.old a n || (same_node n pair.node && same_app a pair.app)) }
+// Puts a pair to the fresh ones, and marks its application.
+fn add_pair(sets: &mut AppSets, marks: &mut AppMarks, pair: Pair)
+    requires { Covers marks.old sets.old }
+    ensures pairs { (a : App) (n : Node) → a.0 < MAX_APPS → n.0 < LIMIT → is_among sets.new a n ≡ (is_among sets.old a n || (same_node n pair.node && same_app a pair.app)) }
+    ensures covered { Covers marks.new sets.new }
+    ensures kept { (a : App) → is_marked marks.old a ≡ true → is_marked marks.new a ≡ true }
 {
     if (pair.app.0 as usize) < MAX_APPS && pair.node.0 < NodeSet::LIMIT {
         sets.put(pair.app, pair.node, true);
+        marks.mark(pair.app);
     }
 }
 
-// Puts pairs to the fresh ones.
-fn add_fresh(sets: &mut AppSets, pairs: &[Pair])
-    ensures { (a : App) (n : Node) → a.0 < MAX_APPS → n.0 < LIMIT → is_among sets.new a n ≡ (is_among sets.old a n || is_fresh pairs.now n a) }
+// Puts pairs to the fresh ones, and marks their applications.
+fn add_fresh(sets: &mut AppSets, marks: &mut AppMarks, pairs: &[Pair])
+    requires { Covers marks.old sets.old }
+    ensures pairs { (a : App) (n : Node) → a.0 < MAX_APPS → n.0 < LIMIT → is_among sets.new a n ≡ (is_among sets.old a n || is_fresh pairs.now n a) }
+    ensures covered { Covers marks.new sets.new }
+    ensures kept { (a : App) → is_marked marks.old a ≡ true → is_marked marks.new a ≡ true }
 {
     'pairs: for pair in pairs {
-        add_pair(sets, *pair);
+        add_pair(sets, marks, *pair);
     }
 }
 
@@ -211,57 +254,32 @@ fn able_nodes(state: &State, app: App, fresh: NodeSet) -> NodeSet
     }
 }
 
-// Is an application to run, or has it a fresh pair?
-fn is_moving(state: &State, app: App, fresh: NodeSet) -> bool
-    requires { IsAppOf (read state.now).cluster app }
-    ensures { (n : Node) → is_wanted (standing_of (read state.now) app) || has fresh n ≡ true → result ≡ true }
+// Finds for each of these applications where it can run, as far as that matters.
+fn find_able(state: &State, moving: &AppMarks, fresh: &AppSets, able: &mut AppSets)
+    ensures { (n : Node) (a : App) → IsAppOf (read state.now).cluster a → is_marked moving.now a ≡ true → matters (read state.now) fresh.now a n ≡ true → is_among able.new a n ≡ is_operational (read state.now) a n }
 {
-    matches!(state.standing(app), Standing::Wanted(_)) || !fresh.is_empty()
-}
-
-// The applications of which it matters where they can run.
-fn moving_apps(state: &State, fresh: &AppSets) -> AppMarks
-    ensures { (n : Node) (a : App) → IsAppOf (read state.now).cluster a → matters (read state.now) fresh.now a n ≡ true → is_marked result a ≡ true }
-{
-    let mut marks = AppMarks::empty();
-    let count = state.cluster().app_count();
-    'apps: for number in 0..count {
-        let app = App(number as u8);
-        if is_moving(state, app, fresh.of(app)) {
-            marks.mark(app);
-        }
-    }
-    marks
-}
-
-// For each of these applications where it can run, as far as that matters.
-fn able_sets(state: &State, fresh: &AppSets, moving: &AppMarks) -> AppSets
-    ensures { (n : Node) (a : App) → IsAppOf (read state.now).cluster a → is_marked moving.now a ≡ true → matters (read state.now) fresh.now a n ≡ true → is_among result a n ≡ is_operational (read state.now) a n }
-{
-    let mut sets = AppSets::empty();
     let count = state.cluster().app_count();
     let mut from = 0;
     'apps: while let Some(app) = moving.next_below(from, count) {
-        sets.set(app, able_nodes(state, app, fresh.of(app)));
+        able.set(app, able_nodes(state, app, fresh.of(app)));
         from = app.0 + 1;
     }
-    sets
 }
 
-// The nodes at which a local application can start. There are none where no move of an application touches a local one.
-fn local_nodes(state: &State, touching: &AppMarks) -> NodeSet
-    requires { (a : App) → is_marked touching.now a ≡ touches_local (read state.now).cluster a }
+// The nodes at which a local application can start.
+fn local_nodes(state: &State, local: &AppMarks) -> NodeSet
+    requires { MarksLocals (read state.now).cluster local.now }
     ensures { (n : Node) → has result n ≡ is_some (head (local_moves (read state.now) n)) }
 {
     state.formed();
     let mut nodes = NodeSet::empty();
-    if touching.is_empty() {
+    if local.is_empty() {
         return nodes;
     }
     let count = state.cluster().node_count();
     'nodes: for number in 0..count {
         let node = Node(number as u8);
-        nodes = nodes.put(node, local_at(state, node).is_some());
+        nodes = nodes.put(node, starts_at(state, local, node));
     }
     nodes
 }
@@ -292,7 +310,7 @@ fn look_again_for(state: &State, fresh: &AppSets, app: App, node: Node, able: &m
 {
     let _few = state.cluster().app_count();
     let _nodes = state.cluster().node_count();
-    if matches!(state.standing(app), Standing::Wanted(_)) || fresh.of(app).has(node) {
+    if is_wanted(state, app) || fresh.of(app).has(node) {
         able.put(app, node, operational(state, app, node));
     }
 }

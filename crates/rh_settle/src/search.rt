@@ -1,27 +1,29 @@
 //! Which move comes next.
 
-ghost use Rattle.std.specs.Prelude.{◌≡◌, ◌<◌, ◌≤◌, ◌&&◌, List, true, false, IsNone, IfSome};
+ghost use Rattle.std.specs.Prelude.{◌≡◌, ◌<◌, ◌≤◌, ◌&&◌, List, true, false, is_some, IsNone, IfSome};
 ghost use Rattle.rh_model.specs.ClusterView.{node_count, app_count};
 ghost use Rattle.rh_model.specs.ClusterView.{group_of};
 ghost use Rattle.rh_model.specs.declared.node.Node.{Node};
 ghost use Rattle.rh_state.specs.declared.status.Standing.TheVariants.{Running};
 ghost use Rattle.rh_state.specs.Numbers.{nodes_of, apps_of};
+ghost use Rattle.rh_state.specs.StateView.{waits_at};
 ghost use Rattle.rh_state.specs.Stored.{read};
 ghost use Rattle.rh_rules.specs.declared.pick.Pick.{Pick};
-ghost use Rattle.rh_base.specs.Lists.{first_given};
+ghost use Rattle.rh_base.specs.Lists.{first_given, head};
 ghost use Rattle.rh_rules.specs.Placing.{picked, is_operational};
 ghost use Rattle.rh_place.specs.Sets.{has};
 ghost use Rattle.rh_rules.specs.declared.notice.Pair.{Pair};
 ghost use Rattle.rh_rules.specs.Course.{is_fresh, is_local};
-ghost use Rattle.rh_settle.specs.Boards.{IsExactAt, IsBoardOf};
+ghost use Rattle.rh_settle.specs.Boards.{MarksLocals, IsExactAt, IsBoardOf};
 ghost use Rattle.rh_rules.specs.Moves.{can_start, local_moves, placements, comes_before, takeovers, takeovers_from};
 ghost use Rattle.rh_rules.specs.Settling.{next_moves};
 
+use crate::app_marks::AppMarks;
 use crate::board::Board;
 use rh_model::{App, Cluster, Node};
 use rh_place::{NodeSet, Pick, best, deps_run};
 use rh_rules::{Move, Pair};
-use rh_state::{Standing, State};
+use rh_state::{Place, Standing, State};
 
 /// Isn't the application distributed?
 pub(crate) fn is_local(cluster: &Cluster, app: App) -> bool
@@ -42,7 +44,7 @@ fn can_start(state: &State, node: Node, app: App) -> bool
 }
 
 // The local move that comes next at a node.
-pub(crate) fn local_at(state: &State, node: Node) -> Option<Move>
+fn local_at(state: &State, node: Node) -> Option<Move>
     requires { node.0 < node_count (read state.now).cluster }
     ensures { (pick : Pick) → result ≡ picked pick (local_moves (read state.now) node) }
 {
@@ -55,6 +57,41 @@ pub(crate) fn local_at(state: &State, node: Node) -> Option<Move>
         waiting = state.next_in_list(node, app);
     }
     None
+}
+
+// Does an application wait at a node where it is local and can start?
+fn starts(state: &State, node: Node, app: App) -> bool
+    requires node { node.0 < node_count (read state.now).cluster }
+    requires app { app.0 < app_count (read state.now).cluster }
+    ensures { result ≡ (waits_at (read state.now) node app && can_start (read state.now) node app) }
+{
+    state.formed();
+    matches!(state.place_of(node, app), Place::InWaiting) && can_start(state, node, app)
+}
+
+// Can a local application start at a node? These are the marks of the local ones. The list of what waits there can be long
+// where few applications are local, and short where many are: so this goes along both side by side, and the one that
+// ends first tells.
+pub(crate) fn starts_at(state: &State, local: &AppMarks, node: Node) -> bool
+    requires node { node.0 < node_count (read state.now).cluster }
+    requires marks { MarksLocals (read state.now).cluster local.now }
+    ensures { result ≡ is_some (head (local_moves (read state.now) node)) }
+{
+    state.formed();
+    let count = state.cluster().app_count();
+    let mut from = 0;
+    let mut waiting = state.first_waiting(node);
+    'waiting: while let Some(behind) = waiting {
+        let Some(app) = local.next_below(from, count) else {
+            return false;
+        };
+        if starts(state, node, app) {
+            return true;
+        }
+        from = app.0 + 1;
+        waiting = state.next_in_list(node, behind);
+    }
+    local_at(state, node).is_some()
 }
 
 // The local move that comes next.

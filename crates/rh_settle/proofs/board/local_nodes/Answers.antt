@@ -7,7 +7,8 @@ use Rattle.rh_base.proofs.Lists.{cases}
 use Rattle.rh_rules.specs.declared.pick.Pick.TheVariants.{First}
 use Rattle.rh_place.specs.Sets.{has}
 use Rattle.rh_rules.specs.Moves.{local_moves}
-use Rattle.rh_settle.proofs.Boards.{local_beyond, no_locals}
+use Rattle.rh_settle.proofs.Boards.{local_beyond}
+use Rattle.rh_settle.proofs.Starts.{none_local}
 use Rattle.rh_settle.proofs.Entries.{is_below, is_above}
 use Rattle.rh_settle.proofs.board.local_nodes.Goals as goal
 
@@ -18,15 +19,15 @@ pub nodes-preserved : goal.nodes-preserved
 nodes-preserved c =
     let s = read c.args.state.now in
     let i = c.nodes.number in
-    let here = c.is_some.ensures ∙ ap is_some (c.local_at.ensures First) in
+    let here = c.starts_at.ensures in
     record {
       below = λ n lt. elim (eqb_tells n.0 i) [
-        | inl same ↦ c.put-nodes.ensures n ∙ ap (λ b. cond b c.is_some.result (has c.nodes.nodes n)) same.0
+        | inl same ↦ c.put-nodes.ensures n ∙ ap (λ b. cond b c.starts_at.result (has c.nodes.nodes n)) same.0
             ∙ here ∙ ap (λ (j : ℕ). is_some (head (local_moves s (numbered j)))) (sym same.1)
-        | inr other ↦ c.put-nodes.ensures n ∙ ap (λ b. cond b c.is_some.result (has c.nodes.nodes n)) other.0
+        | inr other ↦ c.put-nodes.ensures n ∙ ap (λ b. cond b c.starts_at.result (has c.nodes.nodes n)) other.0
             ∙ c.nodes.invariant.below n (omega (arith, lt, other.1))
       ];
-      above = λ n ge. c.put-nodes.ensures n ∙ ap (λ b. cond b c.is_some.result (has c.nodes.nodes n)) (differs n.0 i ge)
+      above = λ n ge. c.put-nodes.ensures n ∙ ap (λ b. cond b c.starts_at.result (has c.nodes.nodes n)) (differs n.0 i ge)
           ∙ c.nodes.invariant.above n (omega (arith, ge));
     }
 
@@ -44,4 +45,4 @@ pub returns-then-is_empty : goal.returns-then-is_empty
 returns-then-is_empty c = λ n.
     let s = read c.args.state.now in
     c.empty-nodes.ensures n
-    ∙ sym (ap (λ ms. is_some (head ms)) (no_locals s n c.formed.ensures.shape (λ a. sym (c.requires a) ∙ c.is_empty.ensures.0 c.if-is_empty.true a)))
+    ∙ sym (none_local s n c.formed.ensures.shape (λ a of. sym (c.requires a of) ∙ c.is_empty.ensures.0 c.if-is_empty.true a))

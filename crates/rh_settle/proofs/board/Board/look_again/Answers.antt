@@ -11,8 +11,8 @@ use Rattle.rh_settle.proofs.board.Board.look_again.Goals.{then-has, else-has}
 pub returns-clause-local : goal.returns-clause-local
 returns-clause-local c = λ marked. elim c.if-has.branch [
   | then-has w ↦ ap (λ (b : Inside). has b.locals c.args.node) w.self-inside-is ∙ w.put-self-inside.ensures c.args.node
-      ∙ ap (λ b. cond b w.is_some.result (has c.self.inside.locals c.args.node)) (same_refl c.args.node.0)
-      ∙ w.is_some.ensures ∙ ap is_some (w.local_at.ensures First)
+      ∙ ap (λ b. cond b w.starts_at.result (has c.self.inside.locals c.args.node)) (same_refl c.args.node.0)
+      ∙ w.starts_at.ensures
   | else-has w ↦ both c.has.result (c.has.ensures ∙ ap (λ (v : BoardView). is_marked v.touching c.args.moved) c.self.view_is ∙ marked) w.if-has.false
 ]
 
@@ -25,6 +25,6 @@ returns-clause-apart c = λ apart. elim c.if-has.branch [
 pub returns-clause-locals : goal.returns-clause-locals
 returns-clause-locals c = λ n other. elim c.if-has.branch [
   | then-has w ↦ ap (λ (b : Inside). has b.locals n) w.self-inside-is ∙ w.put-self-inside.ensures n
-      ∙ ap (λ b. cond b w.is_some.result (has c.self.inside.locals n)) other ∙ ap (λ (v : BoardView). has v.locals n) c.self.view_is
+      ∙ ap (λ b. cond b w.starts_at.result (has c.self.inside.locals n)) other ∙ ap (λ (v : BoardView). has v.locals n) c.self.view_is
   | else-has w ↦ ap (λ (b : Inside). has b.locals n) w.self-inside-is ∙ ap (λ (v : BoardView). has v.locals n) c.self.view_is
 ]

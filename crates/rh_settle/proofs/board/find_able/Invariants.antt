@@ -4,11 +4,11 @@ use Rattle.rh_model.specs.declared.node.Node.{Node}
 use Rattle.rh_state.specs.Stored.{read}
 use Rattle.rh_rules.specs.Placing.{is_operational}
 use Rattle.rh_settle.specs.Boards.{is_among, is_marked, matters}
-use Rattle.rh_settle.proofs.board.able_sets.Given as goal
+use Rattle.rh_settle.proofs.board.find_able.Given as goal
 
 abbrev pub invariant-apps : goal.invariant-apps
 invariant-apps l = (n : Node) (a : App) → a.0 < l.from → is_marked l.moving a ≡ true → matters (read l.state) l.fresh a n ≡ true
-    → is_among l.sets a n ≡ is_operational (read l.state) a n
+    → is_among l.able a n ≡ is_operational (read l.state) a n
 
 abbrev pub decreases-apps : goal.decreases-apps
 decreases-apps l = l.count - l.from

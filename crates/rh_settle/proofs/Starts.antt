@@ -1,0 +1,105 @@
+-- Where a local application can start.
+use Rattle.std.proofs.Common.{◌≡◌, ◌<◌, ◌≤◌, ◌+◌, ◌-◌, ℕ, Bool, true, false, cond, ◌&&◌, ◌||◌, List, [], ◌∷◌, refl, sym, ap, ◌∙◌, arith, is_some, subst}
+use Rattle.rh_model.specs.declared.node.Node.{Node}
+use Rattle.rh_model.specs.declared.node.App.{App}
+use Rattle.rh_model.specs.ClusterView.{app_numbered}
+use Rattle.rh_state.specs.Numbers.{same_app}
+use Rattle.rh_state.specs.Lists.{has_app}
+use Rattle.rh_state.specs.Shape.{IsShaped, IsAppOf}
+use Rattle.rh_state.specs.StateView.{StateView, waiting_at, waits_at, runs_at, is_allowed}
+use Rattle.rh_base.specs.Lists.{or_else, first_given, head}
+use Rattle.rh_base.proofs.Lists.{cases}
+use Rattle.rh_rules.specs.Placing.{deps_run}
+use Rattle.rh_rules.specs.Course.{is_local}
+use Rattle.rh_rules.specs.declared.notice.Move.TheVariants.{Local}
+use Rattle.rh_rules.specs.Moves.{can_start, local_move, local_moves}
+use Rattle.rh_settle.specs.Boards.{AppMarks, is_marked, MarksLocals}
+use Rattle.rh_settle.proofs.Entries.{both, same_number, is_false}
+use Rattle.rh_settle.proofs.Places.{same_refl, or_left, or_right}
+use Rattle.rh_settle.proofs.Shapes.{started_within}
+use Rattle.rh_settle.proofs.Searches.{up_to}
+
+-- where an application of a list can start, a move is given
+one_of : (s : StateView) (n : Node) (a : App) (apps : List App) → has_app apps a ≡ true → can_start s n a ≡ true
+    → is_some (head (first_given (local_move s n) apps)) ≡ true
+one_of s n a [] here start = both false here refl
+one_of s n a (b ∷ apps) here start = cases (can_start s n b)
+    (λ t. ap (λ p. is_some (head (or_else (cond p (Local n b ∷ []) []) (first_given (local_move s n) apps)))) t)
+    (λ f. ap (λ p. is_some (head (or_else (cond p (Local n b ∷ []) []) (first_given (local_move s n) apps)))) f
+    ∙ one_of s n a apps (later (same_app a b) (has_app apps a)
+    (is_false (same_app a b) (λ e. both (can_start s n b) (ap (λ i. can_start s n (app_numbered i)) (sym (same_number a.0 b.0 e)) ∙ start) f)) here) start)
+  where
+    later : (p q : Bool) → p ≡ false → p || q ≡ true → q ≡ true
+    later true q f h = both true refl f
+    later false q f h = h
+
+-- where none of a list can, none is given
+none_of : (s : StateView) (n : Node) (apps : List App) → ((a : App) → has_app apps a ≡ true → can_start s n a ≡ false)
+    → is_some (head (first_given (local_move s n) apps)) ≡ false
+none_of s n [] none = refl
+none_of s n (b ∷ apps) none =
+    ap (λ p. is_some (head (or_else (cond p (Local n b ∷ []) []) (first_given (local_move s n) apps)))) (none b (or_left (same_app b b) (has_app apps b) (same_refl b.0)))
+    ∙ none_of s n apps (λ a here. none a (or_right (same_app a b) (has_app apps a) here))
+
+each_of : (p q : Bool) → p && q ≡ true → (p ≡ true) × (q ≡ true)
+each_of true q h = (refl, h)
+each_of false q h = both false h refl
+
+-- where one waits at a node and can start there, there is a local move
+pub one_starts : (s : StateView) (n : Node) (a : App) → waits_at s n a && can_start s n a ≡ true → is_some (head (local_moves s n)) ≡ true
+unfolding local_moves
+one_starts s n a h = let t = each_of (waits_at s n a) (can_start s n a) h in one_of s n a (waiting_at s n) t.0 t.1
+
+-- one that isn't local can't start
+no_start : (s : StateView) (n : Node) (a : App) → is_local s.cluster a ≡ false → can_start s n a ≡ false
+unfolding can_start
+no_start s n a f = ap (λ p. p && (is_allowed s n a && deps_run s n a)) f
+
+-- where none of the marked ones does, there is none
+pub none_starts : (s : StateView) (n : Node) (marks : AppMarks) → IsShaped s → MarksLocals s.cluster marks
+    → ((a : App) → IsAppOf s.cluster a → is_marked marks a ≡ true → waits_at s n a && can_start s n a ≡ false) → is_some (head (local_moves s n)) ≡ false
+unfolding local_moves
+none_starts s n marks shape are none = none_of s n (waiting_at s n)
+    (λ a here. let of = started_within s n a shape (or_right (runs_at s n a) (waits_at s n a) here) in
+    cases (is_local s.cluster a)
+    (λ y. ap (λ p. p && can_start s n a) (sym here) ∙ none a of (are a of ∙ y))
+    (λ f. no_start s n a f))
+
+pub none_local : (s : StateView) (n : Node) → IsShaped s → ((a : App) → IsAppOf s.cluster a → is_local s.cluster a ≡ false) → is_some (head (local_moves s n)) ≡ false
+unfolding local_moves
+none_local s n shape none = none_of s n (waiting_at s n)
+    (λ a here. no_start s n a (none a (started_within s n a shape (or_right (runs_at s n a) (waits_at s n a) here))))
+
+-- what holds of the applications below a number, from there on below an application, and of that one, holds up to it
+pub up_through : (P : App → Type 0) (i : ℕ) (x a : App) → a.0 < x.0 + 1 → (a.0 < i → P a) → (i ≤ a.0 → a.0 < x.0 → P a) → P x → P a
+up_through P i x a lt below between here = up_to i a.0 below (λ from. up_to x.0 a.0 (between from)
+    (λ ge. subst (λ (j : ℕ). P (app_numbered j)) (same x.0 a.0 lt ge) here))
+  where
+    same : (i j : ℕ) → j < i + 1 → i ≤ j → i ≡ j
+    same i j lt ge = omega (arith, lt, ge)
+
+-- ---- marks that move up
+-- the applications from a number on have their marks, which are still to move up by so many; so they do after one step
+pub pushed : (p : App → Bool) (old new : AppMarks) (count i : ℕ) → 0 < i → i ≤ count → count ≤ 128
+    → ((a : App) → a.0 ≡ 0 → is_marked new a ≡ p (app_numbered (i - 1)))
+    → ((a b : App) → b.0 ≡ a.0 + 1 → b.0 < 128 → is_marked new b ≡ is_marked old a)
+    → ((a b : App) → a.0 < count → a.0 ≡ b.0 + i → is_marked old b ≡ p a)
+    → (a b : App) → a.0 < count → a.0 ≡ b.0 + (i - 1) → is_marked new b ≡ p a
+pushed p old new count i some few limit first others so_far a b of at = up_to b.0 0
+    (λ later. others (app_numbered (b.0 - 1)) b (back b.0 later) (low a.0 b.0 of at) ∙ so_far a (app_numbered (b.0 - 1)) of (there a.0 b.0 later at))
+    (λ zeroth. first b (none b.0 zeroth) ∙ ap (λ j. p (app_numbered j)) (here a.0 b.0 zeroth at))
+  where
+    back : (j : ℕ) → 0 < j → j ≡ (j - 1) + 1
+    back j later = omega (arith, later)
+
+    low : (k j : ℕ) → k < count → k ≡ j + (i - 1) → j < 128
+    low k j of at = omega (arith, of, at, limit)
+
+    there : (k j : ℕ) → 0 < j → k ≡ j + (i - 1) → k ≡ (j - 1) + i
+    there k j later at = omega (arith, later, at, some)
+
+    none : (j : ℕ) → j ≤ 0 → j ≡ 0
+    none j le = omega (arith, le)
+
+    here : (k j : ℕ) → j ≤ 0 → k ≡ j + (i - 1) → i - 1 ≡ k
+    here k j le at = omega (arith, le, at)

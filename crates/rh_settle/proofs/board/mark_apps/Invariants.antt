@@ -1,0 +1,20 @@
+use Rattle.std.proofs.Common.{◌≡◌, ◌+◌, ◌≤◌}
+use Rattle.rh_model.specs.declared.node.App.{App}
+use Rattle.rh_model.specs.ClusterView.{app_count}
+use Rattle.rh_state.specs.Shape.{IsAppOf}
+use Rattle.rh_state.specs.StateView.{standing_of}
+use Rattle.rh_state.specs.Stored.{read}
+use Rattle.rh_rules.specs.Course.{is_local}
+use Rattle.rh_settle.specs.Boards.{is_marked, is_wanted}
+use Rattle.rh_settle.proofs.board.mark_apps.Given as goal
+
+-- the applications from this number on have their marks, which are still to move up by so many
+abbrev pub invariant-apps : goal.invariant-apps
+invariant-apps l = record {
+  few : l.number ≤ app_count (read l.state).cluster;
+  local : (a b : App) → IsAppOf (read l.state).cluster a → a.0 ≡ b.0 + l.number → is_marked l.local b ≡ is_local (read l.state).cluster a;
+  wanted : (a b : App) → IsAppOf (read l.state).cluster a → a.0 ≡ b.0 + l.number → is_marked l.wanted b ≡ is_wanted (standing_of (read l.state) a);
+}
+
+abbrev pub decreases-apps : goal.decreases-apps
+decreases-apps l = l.number
