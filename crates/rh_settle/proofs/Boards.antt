@@ -1,8 +1,7 @@
 -- What a board says of the next moves, and what a move leaves of it.
 use Rattle.std.proofs.Common.{◌≡◌, ◌≢◌, ℕ, ◌<◌, ◌≤◌, zero, suc, Bool, true, false, cond, ◌&&◌, ◌||◌, List, [], ◌∷◌, is_some, refl, sym, ap, ◌∙◌}
-use Rattle.std.proofs.Common.{length, get_or, unwrap_or, slice_get, slice_set, arith, nat_lt, subst, map, filter_map, All}
+use Rattle.std.proofs.Common.{length, get_or, unwrap_or, slice_get, slice_set, arith, nat_lt, subst, map, filter_map}
 use Rattle.std.specs.List.{list_all}
-use Rattle.std.proofs.lemmas.List.Elements.{All-cons, All-nil}
 use Rattle.std.proofs.lemmas.Option.{slice_get_past}
 use Rattle.rh_model.specs.declared.node.Node.{Node}
 use Rattle.rh_model.specs.declared.node.App.{App}
@@ -28,11 +27,10 @@ use Rattle.rh_place.proofs.Nowhere.{none_chosen}
 use Rattle.rh_rules.specs.declared.notice.Move.{Move}
 use Rattle.rh_rules.specs.declared.notice.Move.TheVariants.{Local, Placement, Takeover}
 use Rattle.rh_rules.specs.declared.notice.Pair.{Pair}
-use Rattle.rh_settle.specs.Boards.{AppSets, AppMarks, BoardView, is_among, is_marked, is_wanted, is_touched, touches_local, matters, nodes_changed, mover}
+use Rattle.rh_settle.specs.Boards.{AppSets, AppMarks, BoardView, is_among, is_marked, is_wanted, is_touched, touches_local, matters, mover}
 use Rattle.rh_settle.specs.Boards.{MarksLocals, IsExactAt, IsBoardOf}
 use Rattle.rh_rules.specs.Course.{is_fresh, is_local}
 use Rattle.rh_rules.specs.Moves.{can_start, local_move, local_moves, comes_before, calls_away, placements, placements_from, takeovers, takeovers_from, moved_state}
-use Rattle.rh_settle.specs.Making.{CanBeMade}
 use Rattle.rh_settle.proofs.Entries.{taken, put, has as entry, taken_apart, put_apart, is_below, is_above, is_false, both, same_number, other_number}
 use Rattle.rh_settle.proofs.NextMoves.{operational_within}
 use Rattle.rh_settle.proofs.Points.{not_before}
@@ -402,19 +400,6 @@ module _ (s t : StateView) (m : Move) (pairs : List Pair) (is : t ≡ moved_stat
         (λ e. looked_at t (mover m) b c n k look mark kept (λ f. still_at b k (apart k f e) (h.exact k)));
   }
 
--- the application that a move moves is the cluster's
-pub moved_app : (s : StateView) (m : Move) → CanBeMade s m → IsAppOf s.cluster (mover m)
-moved_app s (Local n a) h = h.app
-moved_app s (Placement a from n) h = h.0.app
-moved_app s (Takeover a m n) h = h.0.app
-
--- the nodes whose lists a move changes are the cluster's
-pub changed_nodes : (s : StateView) (m : Move) → CanBeMade s m → All (IsNodeOf s.cluster) (nodes_changed m)
-changed_nodes s (Local n a) h = All-cons (IsNodeOf s.cluster) n [] h.node (All-nil (IsNodeOf s.cluster))
-changed_nodes s (Placement a from n) h = All-cons (IsNodeOf s.cluster) n [] h.0.node (All-nil (IsNodeOf s.cluster))
-changed_nodes s (Takeover a m n) h =
-    All-cons (IsNodeOf s.cluster) n (m ∷ []) h.0.node (All-cons (IsNodeOf s.cluster) m [] h.1.node (All-nil (IsNodeOf s.cluster)))
-
 -- ---- what calls away
 -- a node has a fresh pair and the application can run there
 pub callers_are : (s : StateView) (pairs : List Pair) (b : BoardView) → IsBoardOf s pairs b → (a : App) → IsAppOf s.cluster a → (n : Node) → IsNodeOf s.cluster n
@@ -439,7 +424,7 @@ none_beyond s pairs a m n shape past = cases (is_operational s a n)
     and_false true false = refl
     and_false false q = refl
 
--- nor does the node at which it runs: where no other node can and has a fresh pair, none calls an application away
+-- nor does the node at which it runs: where no other can and has a fresh pair, none calls it away
 pub none_calls : (s : StateView) (pairs : List Pair) (a : App) (m : Node) → IsShaped s
     → ((n : Node) → n.0 ≢ m.0 → IsNodeOf s.cluster n → (is_fresh pairs n a && is_operational s a n) ≡ false) → (n : Node) → calls_away s pairs a m n ≡ false
 unfolding calls_away
@@ -480,16 +465,19 @@ unmarked : (s : StateView) (b : BoardView) (a : App) (n : Node) → IsAppOf s.cl
 unmarked s b a n of exact off = is_false (matters s b.fresh a n) (λ m. both (is_marked b.moving a) (exact.moving a of m) off)
 
 -- so it isn't placed
-pub unmarked_stays : (s : StateView) (b : BoardView) (a : App) → IsAppOf s.cluster a → ((n : Node) → IsExactAt s b n) → is_marked b.moving a ≡ false
-    → placements s a ≡ []
+pub unwanted_stays : (s : StateView) (a : App) → is_wanted (standing_of s a) ≡ false → placements s a ≡ []
 unfolding placements
-unmarked_stays s b a of exact off = by (standing_of s a) (neither _ _ (unmarked s b a (numbered 0) of (exact (numbered 0)) off)).0
+unwanted_stays s a off = by (standing_of s a) off
   where
     by : (st : Standing) → is_wanted st ≡ false → placements_from s a st ≡ []
     by Quiet h = refl
     by (Wanted from) h = both (is_wanted (Wanted from)) refl h
     by (Lost _) h = refl
     by (Running _) h = refl
+
+pub unmarked_stays : (s : StateView) (b : BoardView) (a : App) → IsAppOf s.cluster a → ((n : Node) → IsExactAt s b n) → is_marked b.moving a ≡ false
+    → placements s a ≡ []
+unmarked_stays s b a of exact off = unwanted_stays s a (neither _ _ (unmarked s b a (numbered 0) of (exact (numbered 0)) off)).0
 
 -- and isn't taken over
 pub unmarked_kept : (s : StateView) (pairs : List Pair) (b : BoardView) (a : App) → IsShaped s → IsAppOf s.cluster a → IsBoardOf s pairs b

@@ -1,5 +1,5 @@
 -- How many edits a part of a step keeps, put together from its own parts.
-use Rattle.std.proofs.Common.{◌≡◌, ◌≤◌, ◌+◌, ◌*◌, ℕ, List, [], ◌∷◌, ◌++◌, length, length-append, Result, Ok, Err, OnOk, ap, arith}
+use Rattle.std.proofs.Common.{◌≡◌, ◌≤◌, ◌+◌, ℕ, List, [], ◌∷◌, ◌++◌, length, length-append, Result, Ok, Err, OnOk, ap, arith}
 use Rattle.std.proofs.lemmas.List.Sums.{sum_by_push, sum_by-cons, sum_by-append}
 use Rattle.rh_model.specs.ClusterView.{ClusterView}
 use Rattle.rh_rules.specs.declared.notice.Notice.{Notice}

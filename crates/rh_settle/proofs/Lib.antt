@@ -29,6 +29,7 @@ pub mod SetTables
 pub mod Touches
 pub mod Boards
 pub mod Members
+pub mod Movers
 pub mod Starts
 mod Rows
 mod RowsReady

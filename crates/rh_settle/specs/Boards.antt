@@ -41,6 +41,12 @@ pub record AppMarks : Type 0 where
 unfoldable pub is_marked : AppMarks → App → Bool
 is_marked t a = bit_at t.marks a.0 == 1
 
+-- a set of nodes, and for each application two marks
+pub record ReadyView : Type 0 where
+  pub starts : NodeBits
+  pub local : AppMarks
+  pub wanted : AppMarks
+
 -- a set of nodes, and for each application three marks and two sets of nodes
 pub record BoardView : Type 0 where
   pub locals : NodeBits
@@ -62,6 +68,12 @@ Covers marks sets = (a : App) (n : Node) → is_among sets a n ≡ true → is_m
 abbrev pub is_wanted : Standing → Bool
 is_wanted (Wanted from) = true
 is_wanted _ = false
+
+-- the nodes at which a local application can start, the local applications, and those that are to run
+pub record IsReadyOf (s : StateView) (r : ReadyView) : Type 0 where
+  pub starts : (n : Node) → has r.starts n ≡ is_some (head (local_moves s n))
+  pub local : MarksLocals s.cluster r.local
+  pub wanted : (a : App) → IsAppOf s.cluster a → is_marked r.wanted a ≡ is_wanted (standing_of s a)
 
 -- where an application can run matters to its placement, and at the nodes of its fresh pairs to its takeover
 abbrev pub matters : StateView → AppSets → App → Node → Bool

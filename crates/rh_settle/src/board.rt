@@ -16,13 +16,14 @@ ghost use Rattle.rh_place.specs.declared.node_set.TheConstants.NodeSet.{LIMIT};
 ghost use Rattle.rh_rules.specs.Placing.{is_operational};
 ghost use Rattle.rh_place.specs.Sets.{has};
 ghost use Rattle.rh_rules.specs.declared.notice.Pair.{Pair};
-ghost use Rattle.rh_settle.specs.Boards.{is_among, is_marked, is_wanted, is_touched, touches_local, matters, nodes_changed, mover, MarksLocals, Covers, IsBoardOf};
+ghost use Rattle.rh_settle.specs.Boards.{is_among, is_marked, is_wanted, is_touched, touches_local, matters, nodes_changed, mover, MarksLocals, Covers, IsReadyOf, IsBoardOf};
 ghost use Rattle.rh_rules.specs.Course.{is_fresh};
 ghost use Rattle.rh_rules.specs.Moves.{local_moves, moved_state};
 
 use crate::app_marks::AppMarks;
 use crate::app_sets::AppSets;
-use crate::search::{is_local, starts_at};
+use crate::ready::{Ready, is_wanted};
+use crate::search::starts_at;
 use rh_model::{App, Cluster, MAX_APPS, Node};
 use rh_place::{NodeSet, operational, operational_among, operational_nodes};
 use rh_rules::{Move, Pair};
@@ -55,30 +56,22 @@ impl Model for Board {
 }
 
 impl Board {
-    // A board without marks and without nodes.
-    fn blank() -> Board
-        ensures { (a : App) (n : Node) → is_among result.fresh a n ≡ false }
-    {
-        Board {
-            locals: NodeSet::empty(),
-            local: AppMarks::empty(),
-            touching: AppMarks::empty(),
-            moving: AppMarks::empty(),
-            fresh: AppSets::empty(),
-            able: AppSets::empty(),
-        }
-    }
-
     /// The board of a state, after these pairs were marked and these were freed.
-    pub fn of(state: &State, marked: &[Pair], freed: &[Pair]) -> Board
+    pub fn of(state: &State, ready: Ready, marked: &[Pair], freed: &[Pair]) -> Board
+        requires { IsReadyOf (read state.now) ready }
         ensures { IsBoardOf (read state.now) (freed.now ++ marked.now) result }
     {
         let _few_apps = state.cluster().app_count();
         let _few_nodes = state.cluster().node_count();
-        let mut board = Board::blank();
-        mark_apps(state, &mut board.local, &mut board.moving);
-        board.touching = touching_apps(state.cluster(), &board.local);
-        board.locals = local_nodes(state, &board.local);
+        let touching = touching_apps(state.cluster(), &ready.local);
+        let mut board = Board {
+            locals: ready.starts,
+            local: ready.local,
+            touching,
+            moving: ready.wanted,
+            fresh: AppSets::empty(),
+            able: AppSets::empty(),
+        };
         add_fresh(&mut board.fresh, &mut board.moving, freed);
         add_fresh(&mut board.fresh, &mut board.moving, marked);
         find_able(state, &board.moving, &board.fresh, &mut board.able);
@@ -181,28 +174,6 @@ fn mark_touching(marks: &mut AppMarks, cluster: &Cluster, app: App)
     }
 }
 
-// Is an application to run?
-fn is_wanted(state: &State, app: App) -> bool
-    requires { IsAppOf (read state.now).cluster app }
-    ensures { result ≡ is_wanted (standing_of (read state.now) app) }
-{
-    matches!(state.standing(app), Standing::Wanted(_))
-}
-
-// Marks the applications that are local, and those that are to run.
-fn mark_apps(state: &State, local: &mut AppMarks, wanted: &mut AppMarks)
-    ensures local { MarksLocals (read state.now).cluster local.new }
-    ensures wanted { (a : App) → IsAppOf (read state.now).cluster a → is_marked wanted.new a ≡ is_wanted (standing_of (read state.now) a) }
-{
-    let mut number = state.cluster().app_count();
-    'apps: while number > 0 {
-        number -= 1;
-        let app = App(number as u8);
-        local.push_front(is_local(state.cluster(), app));
-        wanted.push_front(is_wanted(state, app));
-    }
-}
-
 // The applications of which a move touches a local one.
 fn touching_apps(cluster: &Cluster, local: &AppMarks) -> AppMarks
     requires { MarksLocals cluster.now local.now }
@@ -264,24 +235,6 @@ fn find_able(state: &State, moving: &AppMarks, fresh: &AppSets, able: &mut AppSe
         able.set(app, able_nodes(state, app, fresh.of(app)));
         from = app.0 + 1;
     }
-}
-
-// The nodes at which a local application can start.
-fn local_nodes(state: &State, local: &AppMarks) -> NodeSet
-    requires { MarksLocals (read state.now).cluster local.now }
-    ensures { (n : Node) → has result n ≡ is_some (head (local_moves (read state.now) n)) }
-{
-    state.formed();
-    let mut nodes = NodeSet::empty();
-    if local.is_empty() {
-        return nodes;
-    }
-    let count = state.cluster().node_count();
-    'nodes: for number in 0..count {
-        let node = Node(number as u8);
-        nodes = nodes.put(node, starts_at(state, local, node));
-    }
-    nodes
 }
 
 // Does an application need another one?

@@ -8,6 +8,7 @@ mod app_sets;
 mod board;
 mod laws;
 mod make;
+mod ready;
 pub mod recording;
 mod search;
 mod settling;

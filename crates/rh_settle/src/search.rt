@@ -20,6 +20,7 @@ ghost use Rattle.rh_rules.specs.Settling.{next_moves};
 
 use crate::app_marks::AppMarks;
 use crate::board::Board;
+use crate::ready::Ready;
 use rh_model::{App, Cluster, Node};
 use rh_place::{NodeSet, Pick, best, deps_run};
 use rh_rules::{Move, Pair};
@@ -264,6 +265,6 @@ pub(crate) fn next_on(state: &State, board: &Board, pick: Pick) -> Option<Move>
 pub fn next_move(state: &State, fresh: &[Pair], pick: Pick) -> Option<Move>
     ensures { result ≡ picked pick (next_moves (read state.now) fresh.now) }
 {
-    let board = Board::of(state, fresh, &[]);
+    let board = Board::of(state, Ready::of(state), fresh, &[]);
     next_on(state, &board, pick)
 }

@@ -5,6 +5,7 @@ ghost use Rattle.rh_state.specs.StateView.{waits_at};
 ghost use Rattle.rh_state.specs.Stored.{read};
 ghost use Rattle.rh_rules.specs.Course.{Course, fresh_of};
 ghost use Rattle.rh_settle.specs.Traces.{IsPairOf, course};
+ghost use Rattle.rh_settle.specs.Boards.{IsReadyOf};
 ghost use Rattle.rh_settle.specs.Counts.{FewEdits};
 ghost use Rattle.rh_settle.specs.Ways.{Goes};
 ghost use Rattle.rh_rules.specs.Settling.{NoneEnabled, nexts, all_moved, tell_waiting, waits_told, settled, Settles, pair_count};
@@ -12,6 +13,7 @@ ghost use Rattle.rh_settle.specs.Validity.{RunsWhereItStands};
 
 use crate::board::Board;
 use crate::make::make_move;
+use crate::ready::Ready;
 use crate::search::next_on;
 use crate::trace::Trace;
 use rh_base::OutOfMemory;
@@ -19,7 +21,33 @@ use rh_place::Pick;
 use rh_rules::{Notice, Pair};
 use rh_state::{Place, State};
 
-// Makes next moves until there is none.
+// Makes next moves, of which these are ready, until there is none.
+#[tactic(auto, using(crate::proofs::Ways::goes_none))]
+fn make_ready_moves(
+    state: &mut State,
+    ready: Ready,
+    pick: Pick,
+    trace: &mut Trace,
+) -> Result<(), OutOfMemory>
+    requires ready { IsReadyOf (read state.old) ready }
+    requires runs { RunsWhereItStands (read state.old) }
+    ensures moved { OnOk result (course (read state.new) trace.new ≡ all_moved pick (course (read state.old) trace.old)) }
+    ensures still { OnOk result (nexts (course (read state.new) trace.new) ≡ []) }
+    ensures cluster { (read state.new).cluster ≡ (read state.old).cluster }
+    ensures runs { OnOk result (RunsWhereItStands (read state.new)) }
+    ensures way { Goes state.old trace.old state.new trace.new }
+    ensures few { FewEdits 0 trace.old trace.new }
+{
+    let mut board = Board::of(state, ready, trace.marked(), trace.freed());
+    'moves: while let Some(next) = next_on(state, &board, pick) {
+        state.formed();
+        make_move(state, next, trace)?;
+        board.follow(state, next);
+    }
+    Ok(())
+}
+
+// The same where nothing may be ready, as behind most events: then no board is made, whose tables would have to be zeroed.
 #[tactic(auto, using(crate::proofs::Ways::goes_none))]
 fn make_moves(state: &mut State, pick: Pick, trace: &mut Trace) -> Result<(), OutOfMemory>
     requires runs { RunsWhereItStands (read state.old) }
@@ -30,13 +58,12 @@ fn make_moves(state: &mut State, pick: Pick, trace: &mut Trace) -> Result<(), Ou
     ensures way { Goes state.old trace.old state.new trace.new }
     ensures few { FewEdits 0 trace.old trace.new }
 {
-    let mut board = Board::of(state, trace.marked(), trace.freed());
-    'moves: while let Some(next) = next_on(state, &board, pick) {
-        state.formed();
-        make_move(state, next, trace)?;
-        board.follow(state, next);
+    state.formed();
+    let ready = Ready::of(state);
+    if ready.is_idle() && trace.marked().is_empty() && trace.freed().is_empty() {
+        return Ok(());
     }
-    Ok(())
+    make_ready_moves(state, ready, pick, trace)
 }
 
 // Does an application wait at a node?

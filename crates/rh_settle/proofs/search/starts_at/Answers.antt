@@ -1,5 +1,4 @@
 use Rattle.std.proofs.Common.{◌≡◌, ◌&&◌, true, false, sym, ap, ◌∙◌, refl, arith, is_some}
-use Rattle.rh_model.specs.declared.node.App.{App}
 use Rattle.rh_model.specs.ClusterView.{ClusterView, app_count}
 use Rattle.rh_state.specs.StateView.{waits_at}
 use Rattle.rh_state.specs.Stored.{read}

@@ -1,7 +1,5 @@
-use Rattle.std.proofs.Common.{◌≡◌, ◌<◌, ◌+◌, ◌||◌, ℕ, false, sym, ap, ◌∙◌, arith, nat_eq, Bool, refl, true}
+use Rattle.std.proofs.Common.{◌≡◌, ◌+◌, ◌||◌, ℕ, false, sym, ◌∙◌, arith, nat_eq, Bool, refl, true}
 use Rattle.std.proofs.lemmas.Bool.Decides.{nat_tests}
-use Rattle.rh_model.specs.declared.node.App.{App}
-use Rattle.rh_settle.specs.Boards.{is_marked}
 use Rattle.rh_settle.proofs.SetTables.{moved_first, moved_other}
 use Rattle.rh_settle.proofs.app_marks.AppMarks.push_front.Goals as goal
 

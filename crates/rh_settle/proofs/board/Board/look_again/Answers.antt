@@ -1,5 +1,4 @@
-use Rattle.std.proofs.Common.{cond, is_some, ap, ◌∙◌}
-use Rattle.rh_rules.specs.declared.pick.Pick.TheVariants.{First}
+use Rattle.std.proofs.Common.{cond, ap, ◌∙◌}
 use Rattle.rh_place.specs.Sets.{has}
 use Rattle.rh_settle.specs.declared.board.Board.TheInside.{Inside}
 use Rattle.rh_settle.specs.Boards.{BoardView, is_marked}

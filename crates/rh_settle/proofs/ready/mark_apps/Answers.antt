@@ -1,12 +1,11 @@
 use Rattle.std.proofs.Common.{◌-◌, ◌<◌, ◌≤◌, arith, ap, ◌∙◌}
 use Rattle.rh_model.specs.ClusterView.{ClusterView, app_numbered, app_count}
-use Rattle.rh_model.specs.declared.node.App.{App}
 use Rattle.rh_state.specs.StateView.{standing_of}
 use Rattle.rh_state.specs.Stored.{read}
 use Rattle.rh_rules.specs.Course.{is_local}
-use Rattle.rh_settle.specs.Boards.{is_marked, is_wanted}
+use Rattle.rh_settle.specs.Boards.{is_wanted}
 use Rattle.rh_settle.proofs.Starts.{pushed}
-use Rattle.rh_settle.proofs.board.mark_apps.Goals as goal
+use Rattle.rh_settle.proofs.ready.mark_apps.Goals as goal
 
 pub apps-preserved : goal.apps-preserved
 apps-preserved c =

@@ -4,13 +4,12 @@ use Rattle.rh_model.specs.ClusterView.{ClusterView, node_count, numbered}
 use Rattle.rh_state.specs.Stored.{read}
 use Rattle.rh_base.specs.Lists.{head}
 use Rattle.rh_base.proofs.Lists.{cases}
-use Rattle.rh_rules.specs.declared.pick.Pick.TheVariants.{First}
 use Rattle.rh_place.specs.Sets.{has}
 use Rattle.rh_rules.specs.Moves.{local_moves}
 use Rattle.rh_settle.proofs.Boards.{local_beyond}
 use Rattle.rh_settle.proofs.Starts.{none_local}
 use Rattle.rh_settle.proofs.Entries.{is_below, is_above}
-use Rattle.rh_settle.proofs.board.local_nodes.Goals as goal
+use Rattle.rh_settle.proofs.ready.local_nodes.Goals as goal
 
 differs : (i j : ℕ) → j + 1 ≤ i → nat_eq i j ≡ false
 differs i j h = grind (arith, nat_tests)

@@ -6,7 +6,7 @@ use Rattle.rh_state.specs.StateView.{standing_of}
 use Rattle.rh_state.specs.Stored.{read}
 use Rattle.rh_rules.specs.Course.{is_local}
 use Rattle.rh_settle.specs.Boards.{is_marked, is_wanted}
-use Rattle.rh_settle.proofs.board.mark_apps.Given as goal
+use Rattle.rh_settle.proofs.ready.mark_apps.Given as goal
 
 -- the applications from this number on have their marks, which are still to move up by so many
 abbrev pub invariant-apps : goal.invariant-apps

@@ -4,7 +4,7 @@ use Rattle.rh_state.specs.Stored.{read}
 use Rattle.rh_base.specs.Lists.{head}
 use Rattle.rh_place.specs.Sets.{has}
 use Rattle.rh_rules.specs.Moves.{local_moves}
-use Rattle.rh_settle.proofs.board.local_nodes.Given as goal
+use Rattle.rh_settle.proofs.ready.local_nodes.Given as goal
 
 abbrev pub invariant-nodes : goal.invariant-nodes
 invariant-nodes l = record {

@@ -8,7 +8,7 @@ use Rattle.rh_rules.specs.Settling.{all_moved}
 use Rattle.rh_settle.specs.Validity.{RunsWhereItStands}
 use Rattle.rh_settle.specs.Ways.{Goes}
 use Rattle.rh_settle.proofs.Points.{points}
-use Rattle.rh_settle.proofs.settling.make_moves.Given as goal
+use Rattle.rh_settle.proofs.settling.make_ready_moves.Given as goal
 
 abbrev pub invariant-moves : goal.invariant-moves
 invariant-moves l = record {
