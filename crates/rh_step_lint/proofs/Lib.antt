@@ -1,6 +1,7 @@
 pub mod Beyond
 pub mod Joined
 pub mod BootsReady
+pub mod Untouched
 mod Scene
 mod RowsStarts
 mod RowsOthers

@@ -7,4 +7,5 @@ pub mod Lacks
 pub mod Pairs
 pub mod Nodes
 pub mod Findings
+pub mod Touched
 pub mod Laws

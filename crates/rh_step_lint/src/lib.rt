@@ -22,6 +22,8 @@ mod rising;
 mod starting;
 mod step;
 mod telling;
+mod touch;
+mod touching;
 mod tries;
 
 pub use finding::StepFinding;

@@ -5,11 +5,13 @@ ghost use Rattle.std.specs.List.{flat_map};
 ghost use Rattle.std.specs.Option.{option_to_list};
 ghost use Rattle.rh_state.specs.Numbers.{nodes_of};
 ghost use Rattle.rh_step_lint.specs.Pairs.{found};
-ghost use Rattle.rh_step_lint.specs.Findings.{codes_told, found_with, found_at, found_of, waits_found, lists_found, findings_made};
+ghost use Rattle.rh_step_lint.specs.Findings.{codes_told, found_of, waits_found, lists_found, findings_made};
+ghost use Rattle.rh_step_lint.specs.Touched.{all_touched};
 
 use crate::code::Code;
 use crate::finding::StepFinding;
 use crate::step::Step;
+use crate::touch::Touch;
 use rh_base::OutOfMemory;
 use rh_model::{App, Node};
 use std::alloc::Global;
@@ -86,41 +88,34 @@ impl<'a> Step<'a> {
         }
     }
 
-    // Adds those of a kind at a node, application by application.
-    #[tactic(auto, unfolding(crate::specs::Findings::found_at))]
-    fn push_at(
+    // Adds those of a kind. It is asked only of what the step touches, since nothing is found elsewhere.
+    fn push_of(
         &self,
         found: &mut Vec<StepFinding>,
         code: Code,
-        node: Node,
+        touched: &[Touch],
     ) -> Result<(), OutOfMemory>
-        ensures { OnOk result (found.new.items ≡ found.old.items ++ found_at self.now.state self.now.event code node) }
-    {
-        let apps = self.apps.as_slice();
-        for app in apps {
-            push_if_any(found, self.found(code, node, *app))?;
-        }
-        Ok(())
-    }
-
-    // Adds those of a kind, node by node.
-    #[tactic(auto, unfolding(crate::specs::Findings::found_of))]
-    fn push_of(&self, found: &mut Vec<StepFinding>, code: Code) -> Result<(), OutOfMemory>
+        requires { touched.now ≡ all_touched self.now.state self.now.event }
         ensures { OnOk result (found.new.items ≡ found.old.items ++ found_of self.now.state self.now.event code) }
     {
-        let nodes = self.nodes.as_slice();
-        for node in nodes {
-            self.push_at(found, code, *node)?;
+        for touch in touched {
+            push_if_any(found, self.found(code, touch.node, touch.app))?;
         }
         Ok(())
     }
 
     // Adds those of some kinds.
-    fn push_pairs(&self, found: &mut Vec<StepFinding>, codes: &[Code]) -> Result<(), OutOfMemory>
+    fn push_pairs(
+        &self,
+        found: &mut Vec<StepFinding>,
+        codes: &[Code],
+        touched: &[Touch],
+    ) -> Result<(), OutOfMemory>
+        requires { touched.now ≡ all_touched self.now.state self.now.event }
         ensures { OnOk result (found.new.items ≡ found.old.items ++ flat_map (found_of self.now.state self.now.event) codes.now) }
     {
         for code in codes {
-            self.push_of(found, *code)?;
+            self.push_of(found, *code, touched)?;
         }
         Ok(())
     }
@@ -153,7 +148,8 @@ impl<'a> Step<'a> {
         ensures { IfOk result (λ found. found.items ≡ findings_made self.now.state self.now.event) }
     {
         let mut found = Vec::new(alloc);
-        self.push_pairs(&mut found, &CODES)?;
+        let touched = self.touched(alloc)?;
+        self.push_pairs(&mut found, &CODES, touched.as_slice())?;
         self.push_waits(&mut found)?;
         self.push_lists(&mut found)?;
         Ok(found)

@@ -32,9 +32,9 @@ impl<'a> Step<'a> {
         }
     }
 
-    // Is it lost without a timeout, or is its time over?
+    /// Is it lost without a timeout, or is its time over?
     #[tactic(auto, unfolding(crate::specs::Tries::fails_over), using(crate::proofs::Beyond::is_below, crate::proofs::Beyond::standing_beyond))]
-    fn fails_over(&self, app: App) -> bool
+    pub(crate) fn fails_over(&self, app: App) -> bool
         ensures { result ≡ fails_over self.now.state self.now.event app }
     {
         self.state.formed();

@@ -1,0 +1,13 @@
+use Rattle.std.proofs.Common.{arith, ◌≡◌, ◌++◌, ◌∙◌, ap}
+use Rattle.std.proofs.lemmas.Grind.{common_steps}
+use Rattle.std.specs.List.{flat_map}
+use Rattle.rh_step_lint.specs.Touched.{found_in}
+use Rattle.rh_step_lint.proofs.Untouched.{found_in_touched}
+use Rattle.rh_step_lint.proofs.step.Step.push_of.Goals as goal
+
+pub returns : goal.returns
+returns c =
+    let all : c.loop-touch.found.items ≡ c.args.found.now.items ++ flat_map (found_in c.args.self.now.state c.args.self.now.event c.args.code) c.args.touched.now
+    = grind (arith, common_steps) in
+    all ∙ ap (λ t. c.args.found.now.items ++ t)
+    (found_in_touched c.args.self.now.state c.args.self.now.event c.args.code c.args.touched.now c.requires)

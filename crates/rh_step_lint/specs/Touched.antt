@@ -1,0 +1,62 @@
+-- Which nodes and applications a step touches (ours): of others no kind of finding speaks.
+use Rattle.std.specs.Prelude.{List, [], ◌∷◌, Bool, false, ◌&&◌, ◌||◌, if◌then◌else◌}
+use Rattle.std.specs.List.{flat_map}
+use Rattle.rh_rules.specs.Prelude.{App, Node, same_node, same_app, nodes_of, apps_of, StateView}
+use Rattle.rh_rules.specs.declared.event.Event.{Event}
+use Rattle.rh_rules.specs.declared.event.Event.TheVariants.{Start, Stop, Permit, Takeover, Exit, StartAll}
+use Rattle.rh_step_lint.specs.After.{starts_now}
+use Rattle.rh_step_lint.specs.Tries.{fails_over, is_called}
+use Rattle.rh_step_lint.specs.Findings.{found_with}
+use Rattle.rh_step_lint.specs.declared.code.Code.{Code}
+use Rattle.rh_step_lint.specs.declared.finding.StepFinding.{StepFinding}
+use Rattle.rh_step_lint.specs.declared.touch.Touch.{Touch}
+
+-- the event names the node and the application, and doesn't start it
+abbrev pub names : Event → Node → App → Bool
+names (Stop m b) n a = same_node m n && same_app b a
+names (Permit m b allow) n a = same_node m n && same_app b a
+names (Takeover m b r) n a = same_node m n && same_app b a
+names (Exit m b normal) n a = same_node m n && same_app b a
+names _ n a = false
+
+-- the event names them, the application is started there, or it fails over to the node
+unfoldable pub is_touched : StateView → Event → Node → App → Bool
+is_touched s e n a = names e n a || (starts_now s e n a || is_called s e n a)
+
+-- all of them, in the order of the cluster file, node by node
+abbrev pub touch_of : Node → App → Touch
+touch_of n a = record { node = n; app = a }
+
+abbrev pub touched_with : StateView → Event → Node → App → List Touch
+touched_with s e n a = if is_touched s e n a then touch_of n a ∷ [] else []
+
+unfoldable pub touched_at : StateView → Event → Node → List Touch
+touched_at s e n = flat_map (touched_with s e n) (apps_of s.cluster)
+
+unfoldable pub all_touched : StateView → Event → List Touch
+all_touched s e = flat_map (touched_at s e) (nodes_of s.cluster)
+
+-- the finding of a kind at one of them
+abbrev pub found_in : StateView → Event → Code → Touch → List StepFinding
+found_in s e kind t = found_with s e kind t.node t.app
+
+-- ---- at a node that doesn't come up
+-- the event names the application
+abbrev pub names_app : Event → App → Bool
+names_app (Start m b r) a = same_app b a
+names_app (Stop m b) a = same_app b a
+names_app (Permit m b allow) a = same_app b a
+names_app (Takeover m b r) a = same_app b a
+names_app (Exit m b normal) a = same_app b a
+names_app (StartAll b r) a = same_app b a
+names_app _ a = false
+
+-- only these applications may be touched: that which the event names, and those that fail over
+unfoldable pub moves : StateView → Event → App → Bool
+moves s e a = names_app e a || fails_over s e a
+
+abbrev pub mover : StateView → Event → App → List App
+mover s e a = if moves s e a then a ∷ [] else []
+
+unfoldable pub all_movers : StateView → Event → List App
+all_movers s e = flat_map (mover s e) (apps_of s.cluster)

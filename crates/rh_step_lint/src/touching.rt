@@ -1,0 +1,159 @@
+//! Which nodes and applications a step touches.
+
+ghost use Rattle.std.specs.Prelude.{◌≡◌, ◌++◌, ◌∷◌, [], OnOk, IfOk, if◌then◌else◌};
+ghost use Rattle.std.specs.List.{flat_map};
+ghost use Rattle.rh_step_lint.specs.After.{comes_up};
+ghost use Rattle.rh_step_lint.specs.Touched.{names, names_app, is_touched, touched_with, touched_at, all_touched, moves, mover, all_movers};
+
+use crate::step::Step;
+use crate::touch::Touch;
+use rh_base::OutOfMemory;
+use rh_model::{App, Node};
+use rh_rules::Event;
+use std::alloc::Global;
+
+// Does the event name an application?
+fn names_app(event: Event, app: App) -> bool
+    ensures { result ≡ names_app event app }
+{
+    match event {
+        Event::Start { app: one, .. } => one.0 == app.0,
+        Event::Stop { app: one, .. } => one.0 == app.0,
+        Event::Permit { app: one, .. } => one.0 == app.0,
+        Event::Takeover { app: one, .. } => one.0 == app.0,
+        Event::Exit { app: one, .. } => one.0 == app.0,
+        Event::StartAll { app: one, .. } => one.0 == app.0,
+        _ => false,
+    }
+}
+
+// Does it name a node with it, and not start it?
+fn names(event: Event, node: Node, app: App) -> bool
+    ensures { result ≡ names event node app }
+{
+    match event {
+        Event::Stop { node: at, app: one } => at.0 == node.0 && one.0 == app.0,
+        Event::Permit {
+            node: at,
+            app: one,
+            ..
+        } => at.0 == node.0 && one.0 == app.0,
+        Event::Takeover {
+            node: at,
+            app: one,
+            ..
+        } => at.0 == node.0 && one.0 == app.0,
+        Event::Exit {
+            node: at,
+            app: one,
+            ..
+        } => at.0 == node.0 && one.0 == app.0,
+        _ => false,
+    }
+}
+
+// Adds a node and an application, if the step touches them.
+fn push_if(touched: &mut Vec<Touch>, holds: bool, touch: Touch) -> Result<(), OutOfMemory>
+    ensures { OnOk result (touched.new.items ≡ touched.old.items ++ (if holds then touch ∷ [] else [])) }
+{
+    if holds {
+        touched.push(touch)?;
+    }
+    Ok(())
+}
+
+// Adds an application, if it moves.
+fn push_app_if(apps: &mut Vec<App>, holds: bool, app: App) -> Result<(), OutOfMemory>
+    ensures { OnOk result (apps.new.items ≡ apps.old.items ++ (if holds then app ∷ [] else [])) }
+{
+    if holds {
+        apps.push(app)?;
+    }
+    Ok(())
+}
+
+impl<'a> Step<'a> {
+    // Does the step touch them? Whether the node comes up is known.
+    #[tactic(auto, unfolding(crate::specs::Touched::is_touched, crate::specs::After::starts_now))]
+    fn is_touched(&self, rises: bool, node: Node, app: App) -> bool
+        requires { rises ≡ comes_up self.now.state self.now.event node }
+        ensures { result ≡ is_touched self.now.state self.now.event node app }
+    {
+        names(self.event, node, app)
+            || self.is_started_by(node, app)
+            || rises && self.boots(node, app)
+            || self.is_called(node, app)
+    }
+
+    // May it touch the application where the node doesn't come up?
+    #[tactic(auto, unfolding(crate::specs::Touched::moves))]
+    fn moves(&self, app: App) -> bool
+        ensures { result ≡ moves self.now.state self.now.event app }
+    {
+        names_app(self.event, app) || self.fails_over(app)
+    }
+
+    // The applications of which that is so.
+    #[tactic(auto, unfolding(crate::specs::Touched::all_movers))]
+    fn movers(&self, alloc: Global) -> Result<Vec<App>, OutOfMemory>
+        ensures { IfOk result (λ movers. movers.items ≡ all_movers self.now.state self.now.event) }
+    {
+        let mut movers = Vec::new(alloc);
+        let apps = self.apps.as_slice();
+        for app in apps {
+            push_app_if(&mut movers, self.moves(*app), *app)?;
+        }
+        Ok(movers)
+    }
+
+    // Adds those of a node with these applications.
+    fn push_among(
+        &self,
+        touched: &mut Vec<Touch>,
+        rises: bool,
+        node: Node,
+        apps: &[App],
+    ) -> Result<(), OutOfMemory>
+        requires { rises ≡ comes_up self.now.state self.now.event node }
+        ensures { OnOk result (touched.new.items ≡ touched.old.items ++ flat_map (touched_with self.now.state self.now.event node) apps.now) }
+    {
+        for app in apps {
+            let touch = Touch { node, app: *app };
+            push_if(touched, self.is_touched(rises, node, *app), touch)?;
+        }
+        Ok(())
+    }
+
+    // Adds those of a node. The profile had each node asked of each application: where a node doesn't come up, only those that
+    // move are.
+    #[tactic(auto, unfolding(crate::specs::Touched::touched_at, crate::specs::Touched::all_movers), using(crate::proofs::Untouched::only_movers))]
+    fn push_touched(
+        &self,
+        touched: &mut Vec<Touch>,
+        movers: &[App],
+        node: Node,
+    ) -> Result<(), OutOfMemory>
+        requires { movers.now ≡ all_movers self.now.state self.now.event }
+        ensures { OnOk result (touched.new.items ≡ touched.old.items ++ touched_at self.now.state self.now.event node) }
+    {
+        if self.comes_up(node) {
+            self.push_among(touched, true, node, self.apps.as_slice())
+        } else {
+            self.push_among(touched, false, node, movers)
+        }
+    }
+
+    /// All that the step touches, in the order of the cluster file, node by node.
+    #[tactic(auto, unfolding(crate::specs::Touched::all_touched))]
+    pub(crate) fn touched(&self, alloc: Global) -> Result<Vec<Touch>, OutOfMemory>
+        ensures { IfOk result (λ touched. touched.items ≡ all_touched self.now.state self.now.event) }
+    {
+        let mut touched = Vec::new(alloc);
+        let movers = self.movers(alloc)?;
+        let nodes = self.nodes.as_slice();
+        for node in nodes {
+            self.push_touched(&mut touched, movers.as_slice(), *node)?;
+        }
+        Ok(touched)
+    }
+}
