@@ -116,7 +116,7 @@ optional_beyond c n within above = ap (λ v. unwrap_or (option_map (λ (v : Node
 pub wait_beyond : (c : ClusterView) (n : Node) → IsWithin c → nat_lt n.0 (node_count c) ≡ false → sync_wait_of c n ≡ Unset
 wait_beyond c n within above = ap (λ v. unwrap_or (option_map (λ (v : NodeView). v.sync_wait) v) Unset) (past c.nodes n.0 (node_count c) within.nodes above)
 
-spread_beyond : (c : ClusterView) (a : App) → IsWithin c → nat_lt a.0 (app_count c) ≡ false → spread_of c a ≡ None
+pub spread_beyond : (c : ClusterView) (a : App) → IsWithin c → nat_lt a.0 (app_count c) ≡ false → spread_of c a ≡ None
 spread_beyond c a within above = ap (λ v. option_and_then (λ (v : AppView). v.spread) v) (past c.apps a.0 (app_count c) within.apps above)
 
 pub local_beyond : (c : ClusterView) (a : App) → IsWithin c → nat_lt a.0 (app_count c) ≡ false → is_local c a ≡ true

@@ -1,8 +1,7 @@
 -- Of what a step doesn't touch no kind of finding speaks.
-use Rattle.std.proofs.Common.{◌≡◌, ◌∙◌, ◌&&◌, ◌||◌, ◌++◌, ◌∷◌, [], not, List, Bool, true, false, Option, None, cond, refl, ap, sym, inl, inr}
+use Rattle.std.proofs.Common.{◌≡◌, ◌∙◌, ◌&&◌, ◌||◌, ◌++◌, ◌∷◌, [], not, List, Bool, true, false, None, refl, ap, sym, inl, inr}
 use Rattle.std.specs.List.{flat_map}
-use Rattle.std.specs.Option.{option_to_list}
-use Rattle.std.proofs.lemmas.Bool.{true≢false, cases_Bool, and_left, and_right, or_parts, or_from}
+use Rattle.std.proofs.lemmas.Bool.{true≢false, cases_Bool, and_left, and_right, or_parts}
 use Rattle.std.proofs.lemmas.Grind.{flat_map-append}
 use Rattle.rh_model.specs.ClusterView.{has_phases}
 use Rattle.rh_model.specs.declared.node.Node.{Node}
@@ -13,7 +12,7 @@ use Rattle.rh_rules.specs.ByHand.{ends_node}
 use Rattle.rh_rules.specs.Course.{is_local}
 use Rattle.rh_rules.specs.Everywhere.{is_target}
 use Rattle.rh_rules.specs.declared.event.Event.{Event}
-use Rattle.rh_rules.specs.declared.event.Event.TheVariants.{Boot, Crash, Tick, Start, Stop, Permit, Takeover, Exit, StartAll, StopAll}
+use Rattle.rh_rules.specs.declared.event.Event.TheVariants.{Start, Stop, Permit, Takeover, Exit, StartAll}
 use Rattle.rh_step_lint.specs.After.{comes_up, ends, boots, is_started_by, starts_now}
 use Rattle.rh_step_lint.specs.Tries.{fails_over, is_called, is_permitted_by, tries, asks_others}
 use Rattle.rh_step_lint.specs.Pairs.{found, starts_forbidden, starts_below, takes_back, starts_quiet, is_placed_behind_tuple, permits_quiet, forbids, forbids_runner, forbids_last, forbids_twice, stops_forbidden, boots_now, boots_to_run, is_helped, is_booted_with_phases, goes_to, ends_with, moves_unready}
@@ -24,23 +23,23 @@ use Rattle.rh_step_lint.specs.declared.code.Code.TheVariants as code
 use Rattle.rh_step_lint.specs.declared.touch.Touch.{Touch}
 
 -- ---- what the event doesn't name
-permits_not : (s : StateView) (e : Event) (n : Node) (a : App) → names e n a ≡ false → is_permitted_by s e n a ≡ false
+pub permits_not : (s : StateView) (e : Event) (n : Node) (a : App) → names e n a ≡ false → is_permitted_by s e n a ≡ false
 unfolding is_permitted_by
 permits_not s (Permit m b allow) n a fails = and_left (same_node m n && same_app b a) (allow && waits_at s n a) fails
 permits_not s _ n a fails = refl
 
-forbids_not : (e : Event) (n : Node) (a : App) → names e n a ≡ false → forbids e n a ≡ false
+pub forbids_not : (e : Event) (n : Node) (a : App) → names e n a ≡ false → forbids e n a ≡ false
 unfolding forbids
 forbids_not (Permit m b allow) n a fails = and_left (same_node m n && same_app b a) (not allow) fails
 forbids_not _ n a fails = refl
 
-stops_not : (s : StateView) (e : Event) (n : Node) (a : App) → names e n a ≡ false → stops_forbidden s e n a ≡ false
+pub stops_not : (s : StateView) (e : Event) (n : Node) (a : App) → names e n a ≡ false → stops_forbidden s e n a ≡ false
 unfolding stops_forbidden
 stops_not s (Stop m b) n a fails =
     and_left (same_node m n && same_app b a) (is_local s.cluster a && (waits_at s n a && not (is_allowed s n a))) fails
 stops_not s _ n a fails = refl
 
-moves_not : (s : StateView) (e : Event) (n : Node) (a : App) → names e n a ≡ false → moves_unready s e n a ≡ false
+pub moves_not : (s : StateView) (e : Event) (n : Node) (a : App) → names e n a ≡ false → moves_unready s e n a ≡ false
 unfolding moves_unready
 moves_not s (Takeover m b r) n a fails = and_left (same_node m n && same_app b a) (not (is_started s n a)) fails
 moves_not s _ n a fails = refl
@@ -52,7 +51,7 @@ crossed false false z w fails = refl
 crossed true false z w fails = refl
 crossed true true z w fails = absurd (true≢false fails)
 
-ends_not : (s : StateView) (e : Event) (n : Node) (a : App) → names e n a ≡ false → ends_with s e n a ≡ false
+pub ends_not : (s : StateView) (e : Event) (n : Node) (a : App) → names e n a ≡ false → ends_with s e n a ≡ false
 unfolding ends_with ends
 ends_not s (Exit m b normal) n a fails =
     crossed (same_node m n) (same_app b a) (not (is_local s.cluster a)) (ends_node (restart_of s n b) normal) fails

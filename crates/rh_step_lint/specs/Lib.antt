@@ -6,6 +6,7 @@ pub mod Others
 pub mod Lacks
 pub mod Pairs
 pub mod Nodes
+pub mod Ranked
 pub mod Findings
 pub mod Touched
 pub mod Laws

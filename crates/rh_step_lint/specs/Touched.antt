@@ -1,15 +1,20 @@
 -- Which nodes and applications a step touches (ours): of others no kind of finding speaks.
-use Rattle.std.specs.Prelude.{List, [], ◌∷◌, Bool, false, ◌&&◌, ◌||◌, if◌then◌else◌}
+use Rattle.std.specs.Prelude.{List, [], ◌∷◌, Bool, false, not, length, ◌&&◌, ◌||◌, ◌==◌, if◌then◌else◌}
 use Rattle.std.specs.List.{flat_map}
+use Rattle.rh_model.specs.Needs.{needed_apps}
 use Rattle.rh_rules.specs.Prelude.{App, Node, same_node, same_app, nodes_of, apps_of, StateView}
 use Rattle.rh_rules.specs.declared.event.Event.{Event}
 use Rattle.rh_rules.specs.declared.event.Event.TheVariants.{Start, Stop, Permit, Takeover, Exit, StartAll}
 use Rattle.rh_step_lint.specs.After.{starts_now}
-use Rattle.rh_step_lint.specs.Tries.{fails_over, is_called}
+use Rattle.rh_step_lint.specs.Tries.{fails_over, is_called, asks_others}
+use Rattle.rh_step_lint.specs.Pairs.{starts_forbidden, starts_below, takes_back, starts_quiet, is_placed_behind_tuple, boots_now, is_helped, is_booted_with_phases, goes_to}
+use Rattle.rh_step_lint.specs.Ranked.{has_spare}
 use Rattle.rh_step_lint.specs.Findings.{found_with}
 use Rattle.rh_step_lint.specs.declared.code.Code.{Code}
+use Rattle.rh_step_lint.specs.declared.code.Code.TheVariants as code
 use Rattle.rh_step_lint.specs.declared.finding.StepFinding.{StepFinding}
 use Rattle.rh_step_lint.specs.declared.touch.Touch.{Touch}
+use Rattle.rh_step_lint.specs.declared.touch.Trial.{Trial}
 
 -- the event names the node and the application, and doesn't start it
 abbrev pub names : Event → Node → App → Bool
@@ -23,12 +28,59 @@ names _ n a = false
 unfoldable pub is_touched : StateView → Event → Node → App → Bool
 is_touched s e n a = names e n a || (starts_now s e n a || is_called s e n a)
 
--- all of them, in the order of the cluster file, node by node
-abbrev pub touch_of : Node → App → Touch
-touch_of n a = record { node = n; app = a }
+-- ---- what the kinds ask of them first
+-- an application needs others
+abbrev pub has_needs : StateView → App → Bool
+has_needs s a = not (length (needed_apps s.cluster a) == 0)
 
+-- what comes of it where a live OTP looks for the node of the application there
+abbrev pub trial_of : StateView → Event → Node → App → Trial
+trial_of s e n a = record {
+  waits = asks_others s e n a && has_spare s e a;
+  forbidden = starts_forbidden s e n a;
+  below = starts_below s e n a;
+  back = takes_back s e n a;
+  weighs = is_placed_behind_tuple s e n a;
+}
+
+-- a node and an application with all of that
+abbrev pub touch_of : StateView → Event → Node → App → Touch
+touch_of s e n a = record {
+  node = n;
+  app = a;
+  named = names e n a;
+  trial = trial_of s e n a;
+  starts = starts_now s e n a;
+  quiet = starts_quiet s e n a;
+  needs = has_needs s a && boots_now s e n a;
+  phases = is_booted_with_phases s e n a;
+  helped = is_helped s e n a;
+  goes = has_needs s a && goes_to s e n a;
+}
+
+-- a kind may speak of them
+abbrev pub may_speak : Code → Touch → Bool
+may_speak code.BetterNodeNotStarted t = t.trial.waits
+may_speak code.TupleMemberNotStarted t = t.trial.waits
+may_speak code.WorseNodeNotStarted t = t.trial.waits
+may_speak code.ForbiddenStartWaits t = t.trial.forbidden
+may_speak code.RunsAtAWorseNode t = t.trial.below
+may_speak code.TupleTakeover t = t.trial.back
+may_speak code.WeightsForEver t = t.trial.weighs
+may_speak code.BetterNodeWaitsQuiet t = t.quiet
+may_speak code.DependencyForbiddenAtStart t = t.needs
+may_speak code.BeforeDependency t = t.needs
+may_speak code.NeedsADistributedOne t = t.needs
+may_speak code.StartWithinTime t = t.starts
+may_speak code.NobodySawTheLoss t = t.phases
+may_speak code.KindAfterLoss t = t.helped
+may_speak code.DependencyGone t = t.goes
+may_speak _ t = t.named
+
+-- ---- all of them, in the order of the cluster file
+-- at a node those with an application, application by application; and then node by node
 abbrev pub touched_with : StateView → Event → Node → App → List Touch
-touched_with s e n a = if is_touched s e n a then touch_of n a ∷ [] else []
+touched_with s e n a = if is_touched s e n a then touch_of s e n a ∷ [] else []
 
 unfoldable pub touched_at : StateView → Event → Node → List Touch
 touched_at s e n = flat_map (touched_with s e n) (apps_of s.cluster)

@@ -171,7 +171,8 @@ impl<'a> Step<'a> {
     pub(crate) fn is_started_after(&self, node: Node, app: App) -> bool
         ensures { result ≡ is_started_after self.now.state self.now.event node app }
     {
-        self.starts_now(node, app) || self.is_started(node, app)
+        // Most nodes of its list have it started before the step, which is one look.
+        self.is_started(node, app) || self.starts_now(node, app)
     }
 
     /// May it run there behind the step?

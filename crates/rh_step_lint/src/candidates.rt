@@ -1,6 +1,6 @@
 //! Which nodes may run a distributed application behind a step, and which of them a live OTP asks.
 
-ghost use Rattle.std.specs.Prelude.{◌≡◌};
+ghost use Rattle.std.specs.Prelude.{◌≡◌, ◌&&◌, not};
 ghost use Rattle.rh_rules.specs.Moves.{comes_before};
 ghost use Rattle.rh_step_lint.specs.Candidates.{ranks_before, same_place, share_group, is_in_tuple, takes_part, is_available, is_outranked, is_best, asks_all, is_idle, holds_up};
 
@@ -69,13 +69,13 @@ impl<'a> Step<'a> {
             && self.is_permitted_after(node, app)
     }
 
-    // Is one of an earlier group?
-    #[tactic(auto, unfolding(crate::specs::Candidates::is_outranked))]
+    // Is one of an earlier group? The place of the best group tells it: to ask all nodes takes many times as long.
+    #[tactic(auto, using(crate::proofs::Ranks::outranked_by_place))]
     fn is_outranked(&self, app: App, node: Node) -> bool
         ensures { result ≡ is_outranked self.now.state self.now.event app node }
     {
-        self.nodes.iter().any(|other| self.ranks_before(app, *other, node)
-            && self.is_available(app, *other))
+        self.within();
+        comes_before(self.best_place(app), self.group(app, node))
     }
 
     /// Is a node available, and of the best group that has an available one?
@@ -86,12 +86,19 @@ impl<'a> Step<'a> {
         self.is_available(app, node) && !self.is_outranked(app, node)
     }
 
+    // Is a node's group a tuple, and isn't it outranked? One walk through the groups tells its rank: that is asked first.
+    fn asks_as_tuple(&self, app: App, node: Node) -> bool
+        ensures { result ≡ (is_in_tuple self.now.state.cluster app node && not (is_outranked self.now.state self.now.event app node)) }
+    {
+        !self.is_outranked(app, node) && self.is_in_tuple(app, node)
+    }
+
     // Do all available nodes of the list tell their weight?
     #[tactic(auto, unfolding(crate::specs::Candidates::asks_all))]
     fn asks_all(&self, app: App) -> bool
         ensures { result ≡ asks_all self.now.state self.now.event app }
     {
-        self.nodes.iter().any(|node| self.is_in_tuple(app, *node) && !self.is_outranked(app, *node))
+        self.nodes.iter().any(|node| self.asks_as_tuple(app, *node))
     }
 
     /// Is another node available, and hasn't it started the application behind the step?

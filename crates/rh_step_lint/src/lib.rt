@@ -16,6 +16,7 @@ mod losing;
 mod others;
 mod pairs;
 mod permitting;
+mod ranking;
 mod reading;
 mod relation;
 mod rising;
@@ -25,6 +26,7 @@ mod telling;
 mod touch;
 mod touching;
 mod tries;
+mod trying;
 
 pub use finding::StepFinding;
 pub use laws::comes_up_if_ready;

@@ -6,7 +6,7 @@ ghost use Rattle.std.specs.Option.{option_to_list};
 ghost use Rattle.rh_state.specs.Numbers.{nodes_of};
 ghost use Rattle.rh_step_lint.specs.Pairs.{found};
 ghost use Rattle.rh_step_lint.specs.Findings.{codes_told, found_of, waits_found, lists_found, findings_made};
-ghost use Rattle.rh_step_lint.specs.Touched.{all_touched};
+ghost use Rattle.rh_step_lint.specs.Touched.{touch_of, may_speak, found_in, all_touched};
 
 use crate::code::Code;
 use crate::finding::StepFinding;
@@ -42,6 +42,29 @@ const CODES: [Code; 23] = [
     Code::LocalForbiddenTwice,
     Code::LocalStopWhileForbidden,
 ];
+
+// May a kind speak of a node and an application that the step touches?
+fn may_speak(code: Code, touch: &Touch) -> bool
+    ensures { result ≡ may_speak code touch.now }
+{
+    match code {
+        Code::BetterNodeNotStarted | Code::TupleMemberNotStarted | Code::WorseNodeNotStarted => {
+            touch.trial.waits
+        }
+        Code::ForbiddenStartWaits => touch.trial.forbidden,
+        Code::RunsAtAWorseNode => touch.trial.below,
+        Code::TupleTakeover => touch.trial.back,
+        Code::WeightsForEver => touch.trial.weighs,
+        Code::BetterNodeWaitsQuiet => touch.quiet,
+        Code::DependencyForbiddenAtStart | Code::BeforeDependency | Code::NeedsADistributedOne =>
+            touch.needs,
+        Code::StartWithinTime => touch.starts,
+        Code::NobodySawTheLoss => touch.phases,
+        Code::KindAfterLoss => touch.helped,
+        Code::DependencyGone => touch.goes,
+        _ => touch.named,
+    }
+}
 
 // Adds a finding, if there is one.
 pub(crate) fn push_if_any(
@@ -88,6 +111,22 @@ impl<'a> Step<'a> {
         }
     }
 
+    // Adds that of a kind at a node with an application that the step touches, if there is one.
+    fn push_in(
+        &self,
+        found: &mut Vec<StepFinding>,
+        code: Code,
+        touch: &Touch,
+    ) -> Result<(), OutOfMemory>
+        requires { touch.now ≡ touch_of self.now.state self.now.event touch.now.node touch.now.app }
+        ensures { OnOk result (found.new.items ≡ found.old.items ++ found_in self.now.state self.now.event code touch.now) }
+    {
+        if may_speak(code, touch) {
+            push_if_any(found, self.found(code, touch.node, touch.app))?;
+        }
+        Ok(())
+    }
+
     // Adds those of a kind. It is asked only of what the step touches, since nothing is found elsewhere.
     fn push_of(
         &self,
@@ -99,7 +138,7 @@ impl<'a> Step<'a> {
         ensures { OnOk result (found.new.items ≡ found.old.items ++ found_of self.now.state self.now.event code) }
     {
         for touch in touched {
-            push_if_any(found, self.found(code, touch.node, touch.app))?;
+            self.push_in(found, code, touch)?;
         }
         Ok(())
     }

@@ -1,6 +1,7 @@
 //! What a live OTP does otherwise at a node with an application.
 
-ghost use Rattle.std.specs.Prelude.{◌≡◌};
+ghost use Rattle.std.specs.Prelude.{◌≡◌, ◌&&◌};
+ghost use Rattle.rh_step_lint.specs.Candidates.{ranks_before, is_in_tuple};
 ghost use Rattle.rh_step_lint.specs.Tries.{runner};
 ghost use Rattle.rh_step_lint.specs.Pairs.{is_behind, starts_forbidden, starts_below, takes_back, starts_quiet, is_behind_tuple, is_placed_behind_tuple, permits_quiet, forbids, forbids_runner, forbids_last, forbids_twice, stops_forbidden, boots_now, boots_to_run, awaited, given_up, lost_with, other_node, is_helped, is_booted_with_phases, goes_to, ends_with, moves_unready};
 
@@ -18,9 +19,9 @@ fn other_node(node: Node, other: Node) -> Option<Node>
 }
 
 impl<'a> Step<'a> {
-    // Does it run behind the best group?
+    /// Does it run behind the best group?
     #[tactic(auto, unfolding(crate::specs::Pairs::is_behind))]
-    fn is_behind(&self, app: App) -> bool
+    pub(crate) fn is_behind(&self, app: App) -> bool
         ensures { result ≡ is_behind self.now.state self.now.event app (runner self.now.state self.now.event app) }
     {
         match self.runner(app) {
@@ -63,13 +64,24 @@ impl<'a> Step<'a> {
         self.starts_now(node, app) && !self.is_local(app) && self.is_quiet(app)
     }
 
-    // Does a tuple stand before the node's group?
-    #[tactic(auto, unfolding(crate::specs::Pairs::is_behind_tuple))]
-    fn is_behind_tuple(&self, app: App, node: Node) -> bool
+    // Is the other node's group a tuple, and does it stand before the node's? Few groups stand before it: so that is asked first.
+    fn is_tuple_before(&self, app: App, other: Node, node: Node) -> bool
+        ensures { result ≡ (is_in_tuple self.now.state.cluster app other && ranks_before self.now.state.cluster app other node) }
+    {
+        self.ranks_before(app, other, node) && self.is_in_tuple(app, other)
+    }
+
+    /// Does a tuple stand before the node's group? None stands before the first group.
+    #[tactic(auto, unfolding(crate::specs::Pairs::is_behind_tuple), using(crate::proofs::Ranks::none_before_first))]
+    pub(crate) fn is_behind_tuple(&self, app: App, node: Node) -> bool
         ensures { result ≡ is_behind_tuple self.now.state app node }
     {
-        self.nodes.iter().any(|other| self.is_in_tuple(app, *other)
-            && self.ranks_before(app, *other, node))
+        if matches!(self.group(app, node), Some(0)) {
+            return false;
+        }
+        self.nodes
+            .iter()
+            .any(|other| self.is_tuple_before(app, *other, node))
     }
 
     /// Is it placed at a node of the best group, behind a tuple?

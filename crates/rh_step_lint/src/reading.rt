@@ -8,9 +8,10 @@ ghost use Rattle.rh_state.specs.StateView.{mode_of, is_up, is_alive, is_waiting,
 ghost use Rattle.rh_state.specs.Standings.{is_quiet};
 ghost use Rattle.rh_rules.specs.Course.{is_local};
 ghost use Rattle.rh_rules.specs.NodesEnd.{timeout_of};
+ghost use Rattle.rh_step_lint.specs.Ranked.{groups_at};
 
 use crate::step::Step;
-use rh_model::{App, Node, Restart, SyncWait};
+use rh_model::{App, Group, Node, Restart, SyncWait};
 use rh_state::{Mode, Place, Standing};
 
 impl<'a> Step<'a> {
@@ -179,6 +180,21 @@ impl<'a> Step<'a> {
             self.state.cluster().group_of(app, node)
         } else {
             None
+        }
+    }
+
+    /// The groups of its list.
+    #[tactic(auto, using(crate::proofs::Beyond::is_below, crate::proofs::Ranks::groups_beyond))]
+    pub(crate) fn groups(&self, app: App) -> &[Group]
+        ensures { result.now ≡ groups_at self.now.state.cluster app }
+    {
+        self.within();
+        if !self.knows_app(app) {
+            return &[];
+        }
+        match self.state.cluster().spread(app) {
+            Some(spread) => spread.groups.as_slice(),
+            None => &[],
         }
     }
 

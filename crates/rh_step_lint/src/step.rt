@@ -41,7 +41,7 @@ impl<'a> Model for Step<'a> {
 fn nodes_of(alloc: Global, cluster: &Cluster) -> Result<Vec<Node>, OutOfMemory>
     ensures { IfOk result (λ nodes. nodes.items ≡ nodes_of cluster.now) }
 {
-    let mut nodes = Vec::new(alloc);
+    let mut nodes = Vec::with_capacity(alloc, cluster.node_count())?;
     for number in 0..cluster.node_count() {
         nodes.push(Node(number as u8))?;
     }
@@ -53,7 +53,7 @@ fn nodes_of(alloc: Global, cluster: &Cluster) -> Result<Vec<Node>, OutOfMemory>
 fn apps_of(alloc: Global, cluster: &Cluster) -> Result<Vec<App>, OutOfMemory>
     ensures { IfOk result (λ apps. apps.items ≡ apps_of cluster.now) }
 {
-    let mut apps = Vec::new(alloc);
+    let mut apps = Vec::with_capacity(alloc, cluster.app_count())?;
     for number in 0..cluster.app_count() {
         apps.push(App(number as u8))?;
     }

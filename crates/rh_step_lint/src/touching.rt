@@ -3,7 +3,7 @@
 ghost use Rattle.std.specs.Prelude.{◌≡◌, ◌++◌, ◌∷◌, [], OnOk, IfOk, if◌then◌else◌};
 ghost use Rattle.std.specs.List.{flat_map};
 ghost use Rattle.rh_step_lint.specs.After.{comes_up};
-ghost use Rattle.rh_step_lint.specs.Touched.{names, names_app, is_touched, touched_with, touched_at, all_touched, moves, mover, all_movers};
+ghost use Rattle.rh_step_lint.specs.Touched.{names, names_app, is_touched, touch_of, touched_with, touched_at, all_touched, moves, mover, all_movers};
 
 use crate::step::Step;
 use crate::touch::Touch;
@@ -52,16 +52,6 @@ fn names(event: Event, node: Node, app: App) -> bool
     }
 }
 
-// Adds a node and an application, if the step touches them.
-fn push_if(touched: &mut Vec<Touch>, holds: bool, touch: Touch) -> Result<(), OutOfMemory>
-    ensures { OnOk result (touched.new.items ≡ touched.old.items ++ (if holds then touch ∷ [] else [])) }
-{
-    if holds {
-        touched.push(touch)?;
-    }
-    Ok(())
-}
-
 // Adds an application, if it moves.
 fn push_app_if(apps: &mut Vec<App>, holds: bool, app: App) -> Result<(), OutOfMemory>
     ensures { OnOk result (apps.new.items ≡ apps.old.items ++ (if holds then app ∷ [] else [])) }
@@ -106,6 +96,47 @@ impl<'a> Step<'a> {
         Ok(movers)
     }
 
+    // Those that are touched, with what the kinds ask of them first.
+    #[tactic(auto, unfolding(crate::specs::Pairs::starts_quiet))]
+    fn touch(&self, node: Node, app: App) -> Touch
+        ensures { result ≡ touch_of self.now.state self.now.event node app }
+    {
+        let starts = self.starts_now(node, app);
+        let has_needs = !self.needs(app).is_empty();
+        let quiet = starts && !self.is_local(app) && self.is_quiet(app);
+        let needs = has_needs && self.boots_now(node, app);
+        let goes = has_needs && self.goes_to(node, app);
+        Touch {
+            node,
+            app,
+            named: names(self.event, node, app),
+            trial: self.trial(node, app),
+            starts,
+            quiet,
+            needs,
+            phases: self.is_booted_with_phases(node, app),
+            helped: self.is_helped(node, app),
+            goes,
+        }
+    }
+
+    // Adds a node with an application, if the step touches them.
+    fn push_touch(
+        &self,
+        touched: &mut Vec<Touch>,
+        rises: bool,
+        node: Node,
+        app: App,
+    ) -> Result<(), OutOfMemory>
+        requires { rises ≡ comes_up self.now.state self.now.event node }
+        ensures { OnOk result (touched.new.items ≡ touched.old.items ++ touched_with self.now.state self.now.event node app) }
+    {
+        if self.is_touched(rises, node, app) {
+            touched.push(self.touch(node, app))?;
+        }
+        Ok(())
+    }
+
     // Adds those of a node with these applications.
     fn push_among(
         &self,
@@ -118,14 +149,12 @@ impl<'a> Step<'a> {
         ensures { OnOk result (touched.new.items ≡ touched.old.items ++ flat_map (touched_with self.now.state self.now.event node) apps.now) }
     {
         for app in apps {
-            let touch = Touch { node, app: *app };
-            push_if(touched, self.is_touched(rises, node, *app), touch)?;
+            self.push_touch(touched, rises, node, *app)?;
         }
         Ok(())
     }
 
-    // Adds those of a node. The profile had each node asked of each application: where a node doesn't come up, only those that
-    // move are.
+    // Adds those of a node. Most nodes don't come up at a step: of such a one only the applications that move are asked.
     #[tactic(auto, unfolding(crate::specs::Touched::touched_at, crate::specs::Touched::all_movers), using(crate::proofs::Untouched::only_movers))]
     fn push_touched(
         &self,

@@ -53,7 +53,8 @@ impl<'a> Step<'a> {
     pub(crate) fn is_called(&self, node: Node, app: App) -> bool
         ensures { result ≡ is_called self.now.state self.now.event node app }
     {
-        self.fails_over(app) && self.is_started(node, app) && self.is_up_after(node)
+        // Of all nodes few have it started: the others aren't asked what takes longer.
+        self.is_started(node, app) && self.fails_over(app) && self.is_up_after(node)
     }
 
     /// Is it permitted at a node that holds it ready?
