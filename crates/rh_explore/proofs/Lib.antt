@@ -1,6 +1,8 @@
 pub mod Places
 pub mod KeyParts
 pub mod KeysApart
+pub mod CodesApart
+pub mod TimersOff
 pub mod KeyLists
 pub mod Asked
 pub mod Stepped

@@ -2,10 +2,9 @@
 use Rattle.std.proofs.Common.{◌≡◌, true, false, inl, inr, ◌<◌, ◌≤◌, ◌+◌, ℕ, List, [], ◌∷◌, ◌++◌, length, get_or, slice_get, Some, All, sym, ap, ◌∙◌, subst, arith}
 use Rattle.std.specs.Prelude.{Contains}
 use Rattle.std.specs.Option.{option_map}
-use Rattle.std.proofs.lemmas.List.{length-map, get_or-map, map_push}
+use Rattle.std.proofs.lemmas.List.{length-map, get_or-map}
 use Rattle.std.proofs.lemmas.Option.{same_Some, slice_get-map, slice_get_within, slice_get-get_or, get_or_from_slice_get}
 use Rattle.rh_state.specs.StateView.{StateView}
-use Rattle.rh_state.specs.Stored.{Stored, read}
 use Rattle.rh_shifts.specs.Shifts.{timeless, Alike}
 use Rattle.rh_shifts.specs.Laws.{meets_limit}
 use Rattle.rh_settle.proofs.Entries.{both}
@@ -15,9 +14,11 @@ use Rattle.rh_rules.specs.declared.event.Event.{Event}
 use Rattle.rh_explore.specs.declared.reaching.Way.TheVariants.{To, Nowhere, AtLimit}
 use Rattle.rh_explore.specs.declared.space.Found.{Found}
 use Rattle.rh_explore.specs.declared.bounds.Covered.TheVariants as covered
+use Rattle.rh_explore.specs.Codes.{code, AreWords}
 use Rattle.rh_explore.specs.Keys.{key_of}
+use Rattle.rh_explore.proofs.CodesApart.{code_same}
 use Rattle.rh_explore.specs.Reaching.{Scope, MayCome}
-use Rattle.rh_explore.specs.Spaces.{Seen, StepsTo, IsSeen, IsSearched, IsNear, IsExpanded, IsExpandedAt, IsAtLimit, IsCut, IsEnd, seen_in, seen_of, key_in, keys_of}
+use Rattle.rh_explore.specs.Spaces.{Seen, StepsTo, IsSeen, IsSearched, IsNear, IsExpanded, IsExpandedAt, IsAtLimit, IsCut, IsEnd, seen_in, seen_of, code_in, codes_of}
 use Rattle.rh_explore.proofs.Places.{at_of}
 use Rattle.rh_explore.proofs.Alikes.{accepted_alike, few_alike}
 use Rattle.rh_explore.proofs.KeysApart.{keys_apart, keys_alike}
@@ -27,121 +28,117 @@ use Rattle.rh_explore.proofs.Searched.{one_left_out, one_known, one_new, expand_
 pub seen_there : (found : List Found) (k : ℕ) (f : Found) → slice_get found k ≡ Some f → slice_get (seen_of found) k ≡ Some (seen_in f)
 seen_there found k f here = slice_get-map seen_in found k ∙ ap (option_map seen_in) here
 
-module _ (w : Scope) (found : List Found) (at : ℕ) (f : Found) (here : slice_get found at ≡ Some f) where
+module _ (w : Scope) (seen : List Seen) (at : ℕ) (x : Seen) (here : slice_get seen at ≡ Some x) where
   -- it is the one that is expanded
-  it_is : (count : ℕ) (so : IsExpandedAt w (seen_of found) at count) → IsExpanded w (seen_of found) at (seen_in f) count
-  it_is count so =
-      subst (λ x. IsExpanded w (seen_of found) at x count)
-      (same_Some so.0 (seen_in f) (sym so.1.here ∙ seen_there found at f here)) so.1
+  it_is : (count : ℕ) (so : IsExpandedAt w seen at count) → IsExpanded w seen at x count
+  it_is count so = subst (λ y. IsExpanded w seen at y count) (same_Some so.0 x (sym so.1.here ∙ here)) so.1
 
-  module _ (e : Event) (made : ℕ) (is : slice_get w.events made ≡ Some e) (so : IsExpandedAt w (seen_of found) at made) where
+  module _ (e : Event) (made : ℕ) (is : slice_get w.events made ≡ Some e) (so : IsExpandedAt w seen at made) where
     listed : Contains w.events e
     listed = (made, slice_get_within w.events made e is, get_or_from_slice_get w.events made e e is)
 
-    is_here : IsSeen w (seen_in f)
-    is_here = at_of (IsSeen w) (seen_of found) at (seen_in f) (it_is made so).searched.each (seen_there found at f here)
+    is_here : IsSeen w x
+    is_here = at_of (IsSeen w) seen at x (it_is made so).searched.each here
 
-    pub not_there : StepsTo w.pick w.down (read f.state) e Nowhere → IsExpandedAt w (seen_of found) at (made + 1)
-    not_there not = (
-      seen_in f,
-      one_left_out w (seen_of found) at (seen_in f) made e is (it_is made so)
-          (λ (s : StateView) (alike : Alike s (read f.state)) (valid : IsValid s) (may : MayCome w s e).
-          not.1 (accepted_alike w s (read f.state) e alike may not.0) (few_alike w s (read f.state) e valid is_here.valid alike may)),
+    pub here_valid : IsValid x.state
+    here_valid = is_here.valid
+
+    pub not_there : (t : StateView) → StepsTo w.pick w.down x.state e Nowhere t → IsExpandedAt w seen at (made + 1)
+    not_there t not = (
+      x,
+      one_left_out w seen at x made e is (it_is made so)
+          (λ (s : StateView) (alike : Alike s x.state) (valid : IsValid s) (may : MayCome w s e).
+          not.1 (accepted_alike w s x.state e alike may not.0) (few_alike w s x.state e valid is_here.valid alike may)),
     )
 
-    pub at_limit : StepsTo w.pick w.down (read f.state) e AtLimit → IsAtLimit w (seen_of found) at
-    at_limit met = (seen_in f, e, seen_there found at f here, listed, met)
+    pub at_limit : (t : StateView) → StepsTo w.pick w.down x.state e AtLimit t → IsAtLimit w seen at
+    at_limit t met = (x, e, here, listed, met)
 
-    module _ (t : Stored) (steps : StepsTo w.pick w.down (read f.state) e (To t)) where
-      may : MayCome w (read f.state) e
+    module _ (t : StateView) (steps : StepsTo w.pick w.down x.state e To t) where
+      may : MayCome w x.state e
       may = record {
         listed = listed;
         accepted = steps.0;
         few = steps.1;
       }
 
-      is_seen : (k : ℕ) (g : Found) → slice_get found k ≡ Some g → IsSeen w (seen_in g)
-      is_seen k g there = at_of (IsSeen w) (seen_of found) k (seen_in g) (it_is made so).searched.each (seen_there found k g there)
+      is_seen : (k : ℕ) (y : Seen) → slice_get seen k ≡ Some y → IsSeen w y
+      is_seen k y there = at_of (IsSeen w) seen k y (it_is made so).searched.each there
 
       -- a state with its key is alike
-      same_key : (k : ℕ) (g : Found) → slice_get found k ≡ Some g → key_of (read g.state) ≡ key_of (read t) → Alike (read g.state) (read t)
-      same_key k g there keys =
-          let that = is_seen k g there in
-          let this = is_seen at f here in
-          keys_apart (read g.state) (read t) that.valid.sound.shaped steps.3.sound.shaped
-          (steps.4 ∙ this.cluster ∙ sym that.cluster) keys
+      same_key : (k : ℕ) (y : Seen) → slice_get seen k ≡ Some y → key_of y.state ≡ key_of t → Alike y.state t
+      same_key k y there keys =
+          let that = is_seen k y there in
+          keys_apart y.state t that.valid.sound.shaped steps.3.sound.shaped (steps.4 ∙ is_here.cluster ∙ sym that.cluster) keys
 
-      pub known : Contains (keys_of found) (key_of (read t)) → IsExpandedAt w (seen_of found) at (made + 1)
-      known has =
-          let k = has.0 in
-          let k_in : k < length found = omega (arith, has.1, length-map found key_in) in
-          let g = get_or found k f in
-          let there : slice_get found k ≡ Some g = slice_get-get_or found k f k_in in
-          let keys : key_of (read g.state) ≡ key_of (read t) = sym (get_or-map key_in found k f (key_of (read t)) k_in) ∙ has.2 in
-          let near = at_of (λ (y : Seen). length y.path ≤ length f.path.items + 1) (seen_of found) k (seen_in g) (it_is made so).near (seen_there found k g there) in (
-            seen_in f,
-            one_known w (seen_of found) at (seen_in f) made e is (it_is made so)
-                (k, seen_in g, seen_there found k g there, sym (same_key k g there keys ∙ ap timeless steps.2), near),
-          )
-
-      module _ (new : Contains (keys_of found) (key_of (read t)) → ⊥) where
-        fresh : All (λ (y : Seen). Alike y.state (read t) → ⊥) (seen_of found)
-        fresh = λ k d l same.
-            let k_in : k < length found = omega (arith, l, length-map found seen_in) in
-            let g = get_or found k f in
-            let seen_is : get_or (seen_of found) k d ≡ seen_in g = get_or-map seen_in found k f d k_in in
-            new (
-              k,
-              omega (arith, k_in, length-map found key_in),
-              get_or-map key_in found k f (key_of (read t)) k_in ∙ ap key_of (sym (ap (λ (y : Seen). y.state) seen_is))
-                  ∙ keys_alike (get_or (seen_of found) k d).state (read t) same,
+      module _ (words : All (λ (y : Seen). AreWords (key_of y.state)) seen) (fits : AreWords (key_of t)) where
+        pub known : Contains (codes_of seen) (code (key_of t)) → IsExpandedAt w seen at (made + 1)
+        known has =
+            let k = has.0 in
+            let k_in : k < length seen = omega (arith, has.1, length-map seen code_in) in
+            let y = get_or seen k x in
+            let there : slice_get seen k ≡ Some y = slice_get-get_or seen k x k_in in
+            let codes : code (key_of y.state) ≡ code (key_of t) = sym (get_or-map code_in seen k x (code (key_of t)) k_in) ∙ has.2 in
+            let keys : key_of y.state ≡ key_of t = code_same (key_of y.state) (key_of t) (at_of (λ (z : Seen). AreWords (key_of z.state)) seen k y words there) fits codes in
+            let near = at_of (λ (z : Seen). length z.path ≤ length x.path + 1) seen k y (it_is made so).near there in (
+              x,
+              one_known w seen at x made e is (it_is made so)
+                  (k, y, there, sym (same_key k y there keys ∙ ap timeless steps.2), near),
             )
 
-        pub added : (g : Found) → g.path.items ≡ f.path.items ++ e ∷ [] → g.state ≡ t → IsExpandedAt w (seen_of (found ++ g ∷ [])) at (made + 1)
-        added g path state =
-            let one = one_new w (seen_of found) at (seen_in f) made e is (it_is made so) (read t) steps.2 may steps.3 steps.4 fresh in
-            let last : seen_in g ≡ record { path = f.path.items ++ e ∷ []; state = read t } = λ i. record { path = path i; state = read (state i) } in (
-              seen_in f,
-              subst (λ (seen : List Seen). IsExpanded w seen at (seen_in f) (made + 1))
-                  (sym (map_push seen_in found g ∙ ap (λ (x : Seen). seen_of found ++ x ∷ []) last)) one,
+      module _ (new : Contains (codes_of seen) (code (key_of t)) → ⊥) where
+        fresh : All (λ (y : Seen). Alike y.state t → ⊥) seen
+        fresh = λ k d l same.
+            new (
+              k,
+              omega (arith, l, length-map seen code_in),
+              get_or-map code_in seen k d (code (key_of t)) l ∙ ap code (keys_alike (get_or seen k d).state t same),
+            )
+
+        pub added : (y : Seen) → y.path ≡ x.path ++ e ∷ [] → y.state ≡ t → IsExpandedAt w (seen ++ y ∷ []) at (made + 1)
+        added y path state =
+            let one = one_new w seen at x made e is (it_is made so) t steps.2 may steps.3 steps.4 fresh in
+            let last : y ≡ record { path = x.path ++ e ∷ []; state = t } = λ i. record { path = path i; state = state i } in (
+              x,
+              subst (λ (seen' : List Seen). IsExpanded w seen' at x (made + 1)) (ap (λ (z : Seen). seen ++ z ∷ []) (sym last)) one,
             )
 
   -- ---- before the first event, and behind the last
-  pub begun : IsSearched w (seen_of found) at → IsNear (seen_of found) at → IsExpandedAt w (seen_of found) at 0
-  begun searched near = (seen_in f, expand_begins w (seen_of found) at (seen_in f) searched near (seen_there found at f here))
+  pub begun : IsSearched w seen at → IsNear seen at → IsExpandedAt w seen at 0
+  begun searched near = (x, expand_begins w seen at x searched near here)
 
-  pub done_next : IsExpandedAt w (seen_of found) at (length w.events) → IsSearched w (seen_of found) (at + 1)
-  done_next so = expand_ends w (seen_of found) at (seen_in f) (it_is (length w.events) so)
+  pub done_next : IsExpandedAt w seen at (length w.events) → IsSearched w seen (at + 1)
+  done_next so = expand_ends w seen at x (it_is (length w.events) so)
 
-  pub near_next : (count : ℕ) → IsExpandedAt w (seen_of found) at count → IsNear (seen_of found) (at + 1)
-  near_next count so = let ex = it_is count so in expand_near w (seen_of found) at ex.searched (seen_in f) count ex
+  pub near_next : (count : ℕ) → IsExpandedAt w seen at count → IsNear seen (at + 1)
+  near_next count so = let ex = it_is count so in expand_near w seen at ex.searched x count ex
 
-  pub few_more : (count steps : ℕ) → IsExpandedAt w (seen_of found) at count → length f.path.items < steps
-      → All (λ (x : Seen). length x.path ≤ steps) (seen_of found)
+  pub few_more : (count steps : ℕ) → IsExpandedAt w seen at count → length x.path < steps
+      → All (λ (y : Seen). length y.path ≤ steps) seen
   few_more count steps so short = λ k d l. let near = (it_is count so).near k d l in omega (arith, near, short)
 
   -- ---- the end
   -- below the limits, and while there is room, no event ends the search
-  pub never_cut : (count steps states : ℕ) → IsExpandedAt w (seen_of found) at count → IsCut w states (seen_of found) at → length found < states
-      → length f.path.items < steps → StaysBelowLimits w steps → ⊥
-  never_cut count steps states so (inl full) few short below = absurd (omega (arith, full, few, length-map found seen_in))
+  pub never_cut : (count steps states : ℕ) → IsExpandedAt w seen at count → IsCut w states seen at → length seen < states
+      → length x.path < steps → StaysBelowLimits w steps → ⊥
+  never_cut count steps states so (inl full) few short below = absurd (omega (arith, full, few))
   never_cut count steps states so (inr met) few short below =
       let e = met.1 in
-      let x_is : met.0 ≡ seen_in f = same_Some met.0 (seen_in f) (sym met.2 ∙ seen_there found at f here) in
-      let is = at_of (IsSeen w) (seen_of found) at (seen_in f) (it_is count so).searched.each (seen_there found at f here) in
-      both (meets_limit (read f.state) e)
+      let x_is : met.0 ≡ x = same_Some met.0 x (sym met.2 ∙ here) in
+      let is = at_of (IsSeen w) seen at x (it_is count so).searched.each here in
+      both (meets_limit x.state e)
       (subst (λ (y : Seen). meets_limit y.state e ≡ true) x_is met.4)
-      (subst (λ (s : StateView). meets_limit s e ≡ false) is.leads (below f.path.items e is.may_come short met.3))
+      (subst (λ (s : StateView). meets_limit s e ≡ false) is.leads (below x.path e is.may_come short met.3))
 
-  pub searched_still : (count : ℕ) → IsExpandedAt w (seen_of found) at count → IsSearched w (seen_of found) at
+  pub searched_still : (count : ℕ) → IsExpandedAt w seen at count → IsSearched w seen at
   searched_still count so = (it_is count so).searched
 
-  pub near_still : (count : ℕ) → IsExpandedAt w (seen_of found) at count → IsNear (seen_of found) at
-  near_still count so = λ x there.
-      let x_is : seen_in f ≡ x = same_Some (seen_in f) x (sym (seen_there found at f here) ∙ there) in
-      subst (λ (y : Seen). All (λ (z : Seen). length z.path ≤ length y.path + 1) (seen_of found)) x_is (it_is count so).near
+  pub near_still : (count : ℕ) → IsExpandedAt w seen at count → IsNear seen at
+  near_still count so = λ y there.
+      let x_is : x ≡ y = same_Some x y (sym here ∙ there) in
+      subst (λ (z : Seen). All (λ (u : Seen). length u.path ≤ length z.path + 1) seen) x_is (it_is count so).near
 
-  pub up_to : (n : ℕ) → IsSearched w (seen_of found) at → n ≤ length f.path.items → IsEnd (seen_of found) at (covered.UpTo n)
-  up_to n searched far = λ k x l there.
-      let order = ordered_at w (seen_of found) at searched at k (seen_in f) x l (seen_there found at f here) there in
+  pub up_to : (n : ℕ) → IsSearched w seen at → n ≤ length x.path → IsEnd seen at (covered.UpTo n)
+  up_to n searched far = λ k y l there.
+      let order = ordered_at w seen at searched at k x y l here there in
       omega (arith, order, far)

@@ -15,19 +15,20 @@ use Rattle.rh_explore.specs.declared.asking.Ask.{Ask}
 use Rattle.rh_explore.specs.Asking.{holds_in}
 use Rattle.rh_explore.specs.declared.bounds.Covered.{Covered}
 use Rattle.rh_explore.specs.declared.bounds.Covered.TheVariants as covered
+use Rattle.rh_explore.specs.declared.reaching.Probe.{Probe}
 use Rattle.rh_explore.specs.declared.reaching.Way.{Way}
 use Rattle.rh_explore.specs.declared.reaching.Way.TheVariants.{To, Nowhere, AtLimit}
 use Rattle.rh_explore.specs.declared.space.Found.{Found}
 use Rattle.rh_explore.specs.declared.space.Space.{Space}
+use Rattle.rh_explore.specs.Codes.{code, AreWords}
 use Rattle.rh_explore.specs.Keys.{key_of}
 use Rattle.rh_explore.specs.Reaching.{Scope, MayCome, MayAllCome, not_up_count, behind}
 
 -- the event leads there, within the scope; or it can't be made, or too many nodes are not up behind it; or a limit refuses it
-abbrev pub StepsTo : Pick → ℕ → StateView → Event → Way → Type 0
-StepsTo pick down s e Nowhere = (meets_limit s e ≡ false) × (refused s e ≡ None → not_up_count (step pick s e) ≤ down → ⊥)
-StepsTo pick down s e AtLimit = meets_limit s e ≡ true
-StepsTo pick down s e (To t) =
-    (refused s e ≡ None) × (not_up_count (step pick s e) ≤ down) × (read t ≡ step pick s e) × IsValid (read t) × ((read t).cluster ≡ s.cluster)
+abbrev pub StepsTo : Pick → ℕ → StateView → Event → Way → StateView → Type 0
+StepsTo pick down s e Nowhere t = (meets_limit s e ≡ false) × (refused s e ≡ None → not_up_count (step pick s e) ≤ down → ⊥)
+StepsTo pick down s e AtLimit t = meets_limit s e ≡ true
+StepsTo pick down s e To t = (refused s e ≡ None) × (not_up_count (step pick s e) ≤ down) × (t ≡ step pick s e) × IsValid t × (t.cluster ≡ s.cluster)
 
 -- a state that was found, and a list of events that leads to it
 pub record Seen : Type 0 where
@@ -100,13 +101,19 @@ seen_in f = record { path = f.path.items; state = read f.state }
 abbrev pub seen_of : List Found → List Seen
 seen_of found = map seen_in found
 
--- the keys of what was found
-abbrev pub key_in : Found → List ℕ
-key_in f = key_of (read f.state)
+-- the keys of what was found, as they are kept
+abbrev pub code_in : Seen → List ℕ
+code_in x = code (key_of x.state)
 
-abbrev pub keys_of : List Found → List (List ℕ)
-keys_of found = map key_in found
+abbrev pub codes_of : List Seen → List (List ℕ)
+codes_of seen = map code_in seen
 
 -- they are kept beside it
-abbrev pub HasKeys : Space → Type 0
-HasKeys space = map (λ key. key.items) space.keys.keys ≡ keys_of space.found.items
+pub record HasKeys (space : Space) : Type 0 where
+  pub codes : map (λ key. key.bytes.items) space.keys.keys ≡ codes_of (seen_of space.found.items)
+  pub words : All (λ (x : Seen). AreWords (key_of x.state)) (seen_of space.found.items)
+
+-- no event is tried in the state of this number
+pub record IsUntried (probe : Probe) (seen : List Seen) (at : ℕ) : Type 0 where
+  pub none : probe.edits.items ≡ []
+  pub here : (x : Seen) × (slice_get seen at ≡ Some x) × (read probe.state ≡ x.state)

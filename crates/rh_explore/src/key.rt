@@ -1,31 +1,58 @@
-//! The key of a state: a list of numbers by which states that are alike are found.
+//! The key of a state: a list of numbers by which states that are alike are found, as bytes.
 
-ghost use Rattle.std.specs.Prelude.{◌≡◌, ◌++◌, IfOk, OnOk};
+ghost use Rattle.std.specs.Prelude.{◌≡◌, ◌++◌, [], OnOk, IfOk};
 ghost use Rattle.std.specs.List.{flat_map};
 ghost use Rattle.rh_state.specs.Numbers.{nodes_of, apps_of};
 ghost use Rattle.rh_state.specs.Stored.{read};
+ghost use Rattle.rh_settle.specs.Validity.{IsValid};
 ghost use Rattle.rh_explore.specs.Keys.{timer_numbers, node_numbers, app_numbers, key_of};
+ghost use Rattle.rh_explore.specs.Codes.{code, AreWords};
 
+mod code;
 mod parts;
 
+pub(crate) use crate::key::code::Key;
 use crate::key::parts::{push_node, push_standing, push_timer};
 use rh_base::OutOfMemory;
 use rh_model::{App, Node};
-use rh_state::{State, Timer};
+use rh_state::{Edit, State, go_back};
 use std::alloc::Global;
 
-/// The key of a state. Two states of a cluster are alike, as they are read, exactly if their keys are equal: the clock, the starts of
-/// nodes and the start kinds have no part in it, and timers are counted from now.
-#[tactic(auto, unfolding(crate::specs::Keys::key_of))]
-pub(crate) fn key_of(alloc: Global, state: &State) -> Result<Vec<u64>, OutOfMemory>
-    ensures { IfOk result (λ key. key.items ≡ key_of (read state.now)) }
-{
-    let mut key = Vec::new(alloc);
-    push_nodes(&mut key, state)?;
-    push_apps(&mut key, state)?;
-    let timers = state.timers(alloc)?;
-    push_timers(&mut key, state.now(), timers.as_slice())?;
-    Ok(key)
+/// Makes keys, each in the memory of the one before it.
+#[derive(Drop)]
+pub(crate) struct KeyMaker {
+    numbers: Vec<u64>,
+    // The timers that were taken off to be counted in their order.
+    taken: Vec<Edit>,
+    // The key that was made last.
+    pub(crate) key: Key,
+}
+
+impl KeyMaker {
+    /// A maker that made none yet.
+    pub(crate) fn new(alloc: Global) -> KeyMaker {
+        KeyMaker {
+            numbers: Vec::new(alloc),
+            taken: Vec::new(alloc),
+            key: Key::new(alloc),
+        }
+    }
+
+    /// Makes the key of a state, which is again as it was. Two states of a cluster are alike, as they are read, exactly if their keys
+    /// are equal: the clock, the starts of nodes and the start kinds have no part in it, and timers are counted from now.
+    #[tactic(auto, unfolding(crate::specs::Keys::key_of))]
+    pub(crate) fn make(&mut self, state: &mut State) -> Result<(), OutOfMemory>
+        requires { IsValid (read state.old) }
+        ensures key { OnOk result (self.new.key.bytes.items ≡ code (key_of (read state.old))) }
+        ensures words { OnOk result (AreWords (key_of (read state.old))) }
+        ensures state { OnOk result (state.new ≡ state.old) }
+    {
+        self.numbers.clear();
+        push_nodes(&mut self.numbers, state)?;
+        push_apps(&mut self.numbers, state)?;
+        push_timers(&mut self.numbers, state, &mut self.taken)?;
+        self.key.set(self.numbers.as_slice())
+    }
 }
 
 // Adds what is said of each node.
@@ -52,12 +79,26 @@ fn push_apps(key: &mut Vec<u64>, state: &State) -> Result<(), OutOfMemory>
     Ok(())
 }
 
-// Adds each timer, with how long it has to go.
-fn push_timers(key: &mut Vec<u64>, now: u64, timers: &[(u64, Timer)]) -> Result<(), OutOfMemory>
-    ensures { OnOk result (key.new.items ≡ key.old.items ++ flat_map (timer_numbers now) timers.now) }
+// Adds each timer, with how long it has to go. The first one is taken off the state until none is left, and then all are put back:
+// so their order is known without a copy of them.
+fn push_timers(
+    key: &mut Vec<u64>,
+    state: &mut State,
+    taken: &mut Vec<Edit>,
+) -> Result<(), OutOfMemory>
+    requires { IsValid (read state.old) }
+    ensures key { OnOk result (key.new.items ≡ key.old.items ++ flat_map (timer_numbers (read state.old).time) (read state.old).timers) }
+    ensures state { OnOk result (state.new ≡ state.old) }
 {
-    for entry in timers {
-        push_timer(key, now, *entry)?;
+    taken.clear();
+    let now = state.now();
+    state.formed();
+    'timers: while let Some((due, timer)) = state.earliest() {
+        push_timer(key, now, (due, timer))?;
+        let edit = state.cancel_timer(timer);
+        state.formed();
+        taken.push(edit)?;
     }
+    go_back(taken.as_mut_slice(), state);
     Ok(())
 }

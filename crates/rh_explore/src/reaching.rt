@@ -1,7 +1,10 @@
-//! One step from a state that was reached.
+//! One step from a state that was reached, and back.
 
-ghost use Rattle.std.specs.Prelude.{◌≡◌, ◌≤◌, ◌<◌, not, if◌then◌else◌, None, Some, IfOk};
+ghost use Rattle.std.specs.Prelude.{◌≡◌, ◌≤◌, ◌<◌, [], not, if◌then◌else◌, None, Some, IfOk, OnOk};
+ghost use Rattle.rh_base.specs.Exchanges.{back, AllBack};
 ghost use Rattle.rh_model.specs.ClusterView.{node_count};
+ghost use Rattle.rh_state.specs.Edits.{exchange};
+ghost use Rattle.rh_state.specs.Records.{CanGoBack, LedBy};
 ghost use Rattle.rh_state.specs.StateView.{is_up, mode_of};
 ghost use Rattle.rh_state.specs.Stored.{read};
 ghost use Rattle.rh_rules.specs.Refusals.{refused};
@@ -13,43 +16,110 @@ ghost use Rattle.rh_explore.specs.Spaces.{StepsTo};
 
 use rh_base::OutOfMemory;
 use rh_model::Node;
-use rh_state::{Mode, State};
-use rh_step::{Event, Pick, Refusal, perform, refusal_of};
+use rh_state::{Edit, Mode, State, go_back};
+use rh_step::{Event, Notice, Pick, Refusal, perform, refusal_of};
 use std::alloc::Global;
 
 /// Where an event leads.
-#[derive(Drop)]
+#[derive(Clone, Copy, Debug, PartialEq, Eq)]
 pub(crate) enum Way {
-    /// To this state.
-    To(State),
+    /// To the state that the probe is in now.
+    To,
     /// Nowhere: the rules refuse it, or too many nodes are not up behind it.
     Nowhere,
     /// A limit of starts or of time refuses it.
     AtLimit,
 }
 
-/// Where an event leads, if no more nodes may not be up behind it than these.
-pub(crate) fn state_behind(
-    alloc: Global,
-    state: &State,
-    event: &Event,
-    pick: Pick,
-    down: usize,
-) -> Result<Way, OutOfMemory>
-    requires { IsValid (read state.now) }
-    ensures { IfOk result (StepsTo pick down (read state.now) event.now) }
-{
-    if let Some(refusal) = refusal_of(state, event) {
-        if is_limit(refusal) {
-            return Ok(Way::AtLimit);
+/// A state in which events are tried: each is made in place, and taken back before the next one.
+#[derive(Drop)]
+pub(crate) struct Probe {
+    pub(crate) state: State,
+    // What the event that is tried has changed. Like the notices, the edits of the next one are kept in the same memory.
+    edits: Vec<Edit>,
+    // What it told, which nobody reads.
+    notices: Vec<Notice>,
+}
+
+impl Probe {
+    /// In this state no event is tried yet.
+    pub(crate) fn of(alloc: Global, state: State) -> Probe
+        ensures state { result.state ≡ state }
+        ensures none { result.edits.items ≡ [] }
+    {
+        Probe {
+            state,
+            edits: Vec::new(alloc),
+            notices: Vec::new(alloc),
         }
-        return Ok(Way::Nowhere);
     }
-    let next = state_after(alloc, state, event, pick)?;
-    if not_up_count(&next) > down {
-        return Ok(Way::Nowhere);
+
+    /// Goes over to another state, in which no event is tried yet.
+    pub(crate) fn begin(&mut self, state: State)
+        ensures state { self.new.state ≡ state }
+        ensures none { self.new.edits.items ≡ [] }
+    {
+        self.state = state;
+        self.edits.clear();
     }
-    Ok(Way::To(next))
+
+    /// Makes an event, and says where it leads, if no more nodes may not be up behind it than these.
+    pub(crate) fn make(
+        &mut self,
+        alloc: Global,
+        event: &Event,
+        pick: Pick,
+        down: usize,
+    ) -> Result<Way, OutOfMemory>
+        requires valid { IsValid (read self.old.state) }
+        requires none { self.old.edits.items ≡ [] }
+        ensures way { IfOk result (λ way. StepsTo pick down (read self.old.state) event.now way (read self.new.state)) }
+        ensures led { OnOk result (LedBy self.old.state self.new.edits.items self.new.state) }
+    {
+        if let Some(refusal) = refusal_of(&self.state, event) {
+            if is_limit(refusal) {
+                return Ok(Way::AtLimit);
+            }
+            return Ok(Way::Nowhere);
+        }
+        self.perform(alloc, event, pick)?;
+        if not_up_count(&self.state) > down {
+            return Ok(Way::Nowhere);
+        }
+        Ok(Way::To)
+    }
+
+    // Makes an event that isn't refused.
+    #[tactic(auto, unfolding(rh_trail::specs::Runs::step), using(crate::proofs::Stepped::cluster_kept))]
+    fn perform(&mut self, alloc: Global, event: &Event, pick: Pick) -> Result<(), OutOfMemory>
+        requires accepted { refused (read self.old.state) event.now ≡ None }
+        requires valid { IsValid (read self.old.state) }
+        requires none { self.old.edits.items ≡ [] }
+        ensures state { OnOk result (read self.new.state ≡ step pick (read self.old.state) event.now) }
+        ensures valid { OnOk result (IsValid (read self.new.state)) }
+        ensures cluster { OnOk result ((read self.new.state).cluster ≡ (read self.old.state).cluster) }
+        ensures led { OnOk result (LedBy self.old.state self.new.edits.items self.new.state) }
+    {
+        self.notices.clear();
+        perform(
+            alloc,
+            &mut self.state,
+            event,
+            pick,
+            &mut self.edits,
+            &mut self.notices,
+        )
+    }
+
+    /// Takes back what the event that is tried has changed.
+    pub(crate) fn take_back(&mut self)
+        requires { AllBack exchange CanGoBack self.old.state self.old.edits.items }
+        ensures state { self.new.state ≡ back exchange self.old.state self.old.edits.items }
+        ensures none { self.new.edits.items ≡ [] }
+    {
+        go_back(self.edits.as_mut_slice(), &mut self.state);
+        self.edits.clear();
+    }
 }
 
 // Is it a limit of starts or of time that refuses?
@@ -57,27 +127,6 @@ fn is_limit(refusal: Refusal) -> bool
     ensures { result ≡ is_limit (Some refusal) }
 {
     matches!(refusal, Refusal::IncarnationLimit | Refusal::TimeLimit)
-}
-
-// The state behind an event that isn't refused.
-#[tactic(auto, unfolding(rh_trail::specs::Runs::step), using(crate::proofs::Stepped::cluster_kept))]
-fn state_after(
-    alloc: Global,
-    state: &State,
-    event: &Event,
-    pick: Pick,
-) -> Result<State, OutOfMemory>
-    requires accepted { refused (read state.now) event.now ≡ None }
-    requires valid { IsValid (read state.now) }
-    ensures state { IfOk result (λ next. read next ≡ step pick (read state.now) event.now) }
-    ensures valid { IfOk result (λ next. IsValid (read next)) }
-    ensures cluster { IfOk result (λ next. (read next).cluster ≡ (read state.now).cluster) }
-{
-    let mut next = state.copy(alloc)?;
-    let mut edits = Vec::new(alloc);
-    let mut notices = Vec::new(alloc);
-    perform(alloc, &mut next, event, pick, &mut edits, &mut notices)?;
-    Ok(next)
 }
 
 // How many nodes wait or are down.

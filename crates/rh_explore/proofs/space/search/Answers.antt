@@ -6,7 +6,7 @@ use Rattle.rh_explore.specs.Exploring.{scope_of}
 use Rattle.rh_explore.specs.Spaces.{Seen, IsSearched, IsNear, seen_in, seen_of}
 use Rattle.rh_explore.proofs.Begun.{base_near, base_few, at_true, at_false}
 use Rattle.rh_explore.proofs.Places.{there_of}
-use Rattle.rh_explore.proofs.Reached.{begun, done_next, near_next, few_more, searched_still, near_still, never_cut, up_to}
+use Rattle.rh_explore.proofs.Reached.{seen_there, begun, done_next, near_next, few_more, searched_still, near_still, never_cut, up_to}
 use Rattle.rh_explore.proofs.Searched.{base_searched}
 use Rattle.rh_explore.proofs.space.search.Goals as goal
 
@@ -37,7 +37,7 @@ returns-then-depth-bounds-clause-searched c =
       next,
       c.states.invariant.searched,
       c.states.invariant.near,
-      up_to w found next f (there_of found next f within c.index-here.ensures) c.args.bounds.now.steps c.states.invariant.searched far,
+      up_to w (seen_of found) next (seen_in f) (seen_there found next f (there_of found next f within c.index-here.ensures)) c.args.bounds.now.steps c.states.invariant.searched far,
     )
 
 pub expand-requires-clause-begun : goal.expand-requires-clause-begun
@@ -47,7 +47,7 @@ expand-requires-clause-begun c =
     let next = c.states.next in
     let f : Found = c.index-here.result.now in
     let within : next < length found = omega (arith, c.states-test.true, c.len.ensures) in
-    begun w found next f (there_of found next f within c.index-here.ensures) c.states.invariant.searched c.states.invariant.near
+    begun w (seen_of found) next (seen_in f) (seen_there found next f (there_of found next f within c.index-here.ensures)) c.states.invariant.searched c.states.invariant.near
 
 pub returns-then-not-all-clause-searched : goal.returns-then-not-all-clause-searched
 returns-then-not-all-clause-searched c =
@@ -61,9 +61,9 @@ returns-then-not-all-clause-searched c =
     let cut = at_false c.in_ok-all.all _ _ c.if-not-all.true c.in_ok-all.ensures.made in
     let depth : c.len-depth.result ≤ length f.path.items = omega (arith, c.len-depth.ensures) in (
       next,
-      searched_still w new next f there cut.0 cut.1,
-      near_still w new next f there cut.0 cut.1,
-      up_to w new next f there c.len-depth.result (searched_still w new next f there cut.0 cut.1) depth,
+      searched_still w (seen_of new) next (seen_in f) (seen_there new next f there) cut.0 cut.1,
+      near_still w (seen_of new) next (seen_in f) (seen_there new next f there) cut.0 cut.1,
+      up_to w (seen_of new) next (seen_in f) (seen_there new next f there) c.len-depth.result (searched_still w (seen_of new) next (seen_in f) (seen_there new next f there) cut.0 cut.1) depth,
     )
 
 pub returns-then-not-all-clause-few : goal.returns-then-not-all-clause-few
@@ -77,7 +77,7 @@ returns-then-not-all-clause-few c =
     let there : slice_get new next ≡ Some f = c.in_ok-all.ensures.kept ∙ there_of found next f within c.index-here.ensures in
     let cut = at_false c.in_ok-all.all _ _ c.if-not-all.true c.in_ok-all.ensures.made in
     let short : length f.path.items < c.args.bounds.now.steps = omega (arith, c.if-depth-bounds.false, c.len-depth.ensures) in
-    few_more w new next f there cut.0 c.args.bounds.now.steps cut.1 short
+    few_more w (seen_of new) next (seen_in f) (seen_there new next f there) cut.0 c.args.bounds.now.steps cut.1 short
 
 pub returns-then-not-all-clause-covers : goal.returns-then-not-all-clause-covers
 returns-then-not-all-clause-covers c = λ few below.
@@ -90,7 +90,7 @@ returns-then-not-all-clause-covers c = λ few below.
     let there : slice_get new next ≡ Some f = c.in_ok-all.ensures.kept ∙ there_of found next f within c.index-here.ensures in
     let cut = at_false c.in_ok-all.all _ _ c.if-not-all.true c.in_ok-all.ensures.made in
     let short : length f.path.items < c.args.bounds.now.steps = omega (arith, c.if-depth-bounds.false, c.len-depth.ensures) in
-    absurd (never_cut w new next f there cut.0 c.args.bounds.now.steps c.args.bounds.now.states cut.1 cut.2 few short below)
+    absurd (never_cut w (seen_of new) next (seen_in f) (seen_there new next f there) cut.0 c.args.bounds.now.steps c.args.bounds.now.states cut.1 cut.2 (omega (arith, few, length-map new seen_in)) short below)
 
 pub states-preserved : goal.states-preserved
 states-preserved c =
@@ -108,8 +108,8 @@ states-preserved c =
     let before = c.states.invariant.room in
     record {
       keys = c.in_ok-all.ensures.keys;
-      searched = done_next w new next f there so;
-      near = near_next w new next f there count so;
-      few = few_more w new next f there count c.args.bounds.now.steps so short;
+      searched = done_next w (seen_of new) next (seen_in f) (seen_there new next f there) so;
+      near = near_next w (seen_of new) next (seen_in f) (seen_there new next f there) count so;
+      few = few_more w (seen_of new) next (seen_in f) (seen_there new next f there) count c.args.bounds.now.steps so short;
       room = omega (arith, room, before);
     }
