@@ -1,9 +1,8 @@
 -- What one event adds to what was found.
 use Rattle.std.proofs.Common.{◌≡◌, true, false, inl, inr, ◌<◌, ◌≤◌, ◌+◌, ℕ, List, [], ◌∷◌, ◌++◌, length, get_or, slice_get, Some, All, sym, ap, ◌∙◌, subst, arith}
 use Rattle.std.specs.Prelude.{Contains}
-use Rattle.std.specs.Option.{option_map}
 use Rattle.std.proofs.lemmas.List.{length-map, get_or-map}
-use Rattle.std.proofs.lemmas.Option.{same_Some, slice_get-map, slice_get_within, slice_get-get_or, get_or_from_slice_get}
+use Rattle.std.proofs.lemmas.Option.{same_Some, slice_get_within, slice_get-get_or, get_or_from_slice_get}
 use Rattle.rh_state.specs.StateView.{StateView}
 use Rattle.rh_shifts.specs.Shifts.{timeless, Alike}
 use Rattle.rh_shifts.specs.Laws.{meets_limit}
@@ -12,21 +11,17 @@ use Rattle.rh_explore.specs.Exploring.{StaysBelowLimits}
 use Rattle.rh_settle.specs.Validity.{IsValid}
 use Rattle.rh_rules.specs.declared.event.Event.{Event}
 use Rattle.rh_explore.specs.declared.reaching.Way.TheVariants.{To, Nowhere, AtLimit}
-use Rattle.rh_explore.specs.declared.space.Found.{Found}
 use Rattle.rh_explore.specs.declared.bounds.Covered.TheVariants as covered
 use Rattle.rh_explore.specs.Codes.{code, AreWords}
 use Rattle.rh_explore.specs.Keys.{key_of}
 use Rattle.rh_explore.proofs.CodesApart.{code_same}
 use Rattle.rh_explore.specs.Reaching.{Scope, MayCome}
-use Rattle.rh_explore.specs.Spaces.{Seen, StepsTo, IsSeen, IsSearched, IsNear, IsExpanded, IsExpandedAt, IsAtLimit, IsCut, IsEnd, seen_in, seen_of, code_in, codes_of}
+use Rattle.rh_explore.specs.Spaces.{Seen, StepsTo, IsSeen, IsSearched, IsNear, IsExpanded, IsExpandedAt, IsAtLimit, IsCut, IsEnd}
+use Rattle.rh_explore.specs.Kept.{code_in, codes_of}
 use Rattle.rh_explore.proofs.Places.{at_of}
 use Rattle.rh_explore.proofs.Alikes.{accepted_alike, few_alike}
 use Rattle.rh_explore.proofs.KeysApart.{keys_apart, keys_alike}
 use Rattle.rh_explore.proofs.Searched.{one_left_out, one_known, one_new, expand_begins, expand_ends, expand_near, ordered_at}
-
--- a found state, among those that were
-pub seen_there : (found : List Found) (k : ℕ) (f : Found) → slice_get found k ≡ Some f → slice_get (seen_of found) k ≡ Some (seen_in f)
-seen_there found k f here = slice_get-map seen_in found k ∙ ap (option_map seen_in) here
 
 module _ (w : Scope) (seen : List Seen) (at : ℕ) (x : Seen) (here : slice_get seen at ≡ Some x) where
   -- it is the one that is expanded

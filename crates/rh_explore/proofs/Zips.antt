@@ -1,5 +1,5 @@
 -- Two lists, pair by pair.
-use Rattle.std.proofs.Common.{List, [], ◌∷◌, ◌++◌}
+use Rattle.std.proofs.Common.{◌≡◌, ℕ, suc, List, [], ◌∷◌, ◌++◌, length, slice_get, Some, refl, arith}
 use Rattle.std.specs.List.{AllZip}
 
 -- what follows of each pair follows of all
@@ -15,3 +15,14 @@ zip_push R [] [] x y all one = (one, tt)
 zip_push R [] (b ∷ ys) x y all one = absurd all
 zip_push R (a ∷ xs) [] x y all one = absurd all
 zip_push R (a ∷ xs) (b ∷ ys) x y all one = (all.0, zip_push R xs ys x y all.1 one)
+
+-- what follows of each third of each pair, place by place
+pub zip_through : {A B C : Type 0} (R : A → C → Type 0) (Q : B → C → Type 0) (xs : List A) (ys : List B) (zs : List C) → length xs ≡ length ys
+    → ((j : ℕ) (x : A) (y : B) (z : C) → slice_get xs j ≡ Some x → slice_get ys j ≡ Some y → R x z → Q y z) → AllZip R xs zs → AllZip Q ys zs
+zip_through R Q [] [] [] long so all = tt
+zip_through R Q [] [] (z ∷ zs) long so all = absurd all
+zip_through R Q [] (y ∷ ys) zs long so all = absurd (omega (arith, long))
+zip_through R Q (x ∷ xs) [] zs long so all = absurd (omega (arith, long))
+zip_through R Q (x ∷ xs) (y ∷ ys) [] long so all = absurd all
+zip_through R Q (x ∷ xs) (y ∷ ys) (z ∷ zs) long so all =
+    (so 0 x y z refl refl all.0, zip_through R Q xs ys zs (omega (arith, long)) (λ j a b d at there. so (suc j) a b d at there) all.1)

@@ -4,4 +4,7 @@ pub mod Exploring
 pub mod Keys
 pub mod Codes
 pub mod Spaces
+pub mod Failures
+pub mod Kept
+pub mod Tellings
 pub mod Laws

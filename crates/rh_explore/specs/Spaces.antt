@@ -1,7 +1,6 @@
 -- What is said within a search, where a part of the states is found (ours).
-use Rattle.std.specs.Prelude.{◌≡◌, ◌⊎◌, ◌≤◌, ◌<◌, ◌+◌, ℕ, true, false, List, [], Some, None, length, map, slice_get, All, AllPairs, Contains}
+use Rattle.std.specs.Prelude.{◌≡◌, ◌⊎◌, ◌≤◌, ◌<◌, ◌+◌, ℕ, true, false, List, [], Some, None, length, slice_get, All, AllPairs, Contains}
 use Rattle.rh_state.specs.StateView.{StateView}
-use Rattle.rh_state.specs.Stored.{read}
 use Rattle.rh_rules.specs.declared.event.Event.{Event}
 use Rattle.rh_rules.specs.declared.pick.Pick.{Pick}
 use Rattle.rh_rules.specs.Refusals.{refused}
@@ -15,13 +14,8 @@ use Rattle.rh_explore.specs.declared.asking.Ask.{Ask}
 use Rattle.rh_explore.specs.Asking.{holds_in}
 use Rattle.rh_explore.specs.declared.bounds.Covered.{Covered}
 use Rattle.rh_explore.specs.declared.bounds.Covered.TheVariants as covered
-use Rattle.rh_explore.specs.declared.reaching.Probe.{Probe}
 use Rattle.rh_explore.specs.declared.reaching.Way.{Way}
 use Rattle.rh_explore.specs.declared.reaching.Way.TheVariants.{To, Nowhere, AtLimit}
-use Rattle.rh_explore.specs.declared.space.Found.{Found}
-use Rattle.rh_explore.specs.declared.space.Space.{Space}
-use Rattle.rh_explore.specs.Codes.{code, AreWords}
-use Rattle.rh_explore.specs.Keys.{key_of}
 use Rattle.rh_explore.specs.Reaching.{Scope, MayCome, MayAllCome, not_up_count, behind}
 
 -- the event leads there, within the scope; or it can't be made, or too many nodes are not up behind it; or a limit refuses it
@@ -93,27 +87,3 @@ abbrev pub FirstFails : List Seen → Ask → Verdict → Type 0
 FirstFails seen ask Holds = All (λ (x : Seen). holds_in ask x.state ≡ true) seen
 FirstFails seen ask (Fails es) = (i : ℕ) × (x : Seen) × (slice_get seen i ≡ Some x) × (es.items ≡ x.path) × (holds_in ask x.state ≡ false)
     × ((k : ℕ) (y : Seen) → k < i → slice_get seen k ≡ Some y → holds_in ask y.state ≡ true)
-
--- what was found, as it is kept
-abbrev pub seen_in : Found → Seen
-seen_in f = record { path = f.path.items; state = read f.state }
-
-abbrev pub seen_of : List Found → List Seen
-seen_of found = map seen_in found
-
--- the keys of what was found, as they are kept
-abbrev pub code_in : Seen → List ℕ
-code_in x = code (key_of x.state)
-
-abbrev pub codes_of : List Seen → List (List ℕ)
-codes_of seen = map code_in seen
-
--- they are kept beside it
-pub record HasKeys (space : Space) : Type 0 where
-  pub codes : map (λ key. key.bytes.items) space.keys.keys ≡ codes_of (seen_of space.found.items)
-  pub words : All (λ (x : Seen). AreWords (key_of x.state)) (seen_of space.found.items)
-
--- no event is tried in the state of this number
-pub record IsUntried (probe : Probe) (seen : List Seen) (at : ℕ) : Type 0 where
-  pub none : probe.edits.items ≡ []
-  pub here : (x : Seen) × (slice_get seen at ≡ Some x) × (read probe.state ≡ x.state)

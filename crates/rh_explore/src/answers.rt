@@ -1,15 +1,17 @@
 //! What a search answers.
 
-ghost use Rattle.std.specs.Prelude.{◌≡◌, ◌<◌, ◌≤◌, length, List, IfOk};
+ghost use Rattle.std.specs.Prelude.{◌≡◌, ◌<◌, ◌≤◌, ℕ, length, slice_get, List, Some, IfOk};
 ghost use Rattle.std.specs.List.{AllZip};
 ghost use Rattle.rh_state.specs.StateView.{StateView};
 ghost use Rattle.rh_state.specs.Stored.{read};
 ghost use Rattle.rh_settle.specs.Validity.{IsValid};
 ghost use Rattle.rh_explore.specs.Exploring.{scope_of, StaysBelowLimits, CoversAll, IsVerdict, AreReached};
-ghost use Rattle.rh_explore.specs.Spaces.{FirstFails, seen_of};
+ghost use Rattle.rh_explore.specs.Kept.{AreLinked};
+ghost use Rattle.rh_explore.specs.Tellings.{IsTold};
 
 use crate::asking::Ask;
 use crate::bounds::{Bounds, Covered};
+use crate::paths::path_to;
 use crate::space::{Found, search};
 use rh_base::OutOfMemory;
 use rh_state::State;
@@ -61,11 +63,11 @@ pub fn explore(
     ensures covers { IfOk result (λ x. x.states < bounds.now.states → StaysBelowLimits (scope_of base.now pick events.now bounds.now) bounds.now.steps
         → CoversAll bounds.now.steps x.covered) }
 {
-    let (space, covered) = search(alloc, base, pick, events, bounds)?;
+    let (space, covered) = search(alloc, base, pick, events, bounds, asks)?;
     let found = space.found.as_slice();
-    let verdicts = verdicts_on(alloc, found, asks)?;
+    let verdicts = verdicts_on(alloc, found, space.failures.firsts.as_slice())?;
     let states = found.len();
-    let deepest = found[states - 1].path.len();
+    let deepest = found[states - 1].depth as usize;
     Ok(Explored {
         states,
         deepest,
@@ -74,27 +76,32 @@ pub fn explore(
     })
 }
 
-// The verdicts on these asks.
-fn verdicts_on(alloc: Global, found: &[Found], asks: &[Ask]) -> Result<Vec<Verdict>, OutOfMemory>
-    ensures { IfOk result (λ verdicts. AllZip (FirstFails (seen_of found.now)) asks.now verdicts.items) }
+// A verdict for each ask, by the number of the first state in which it doesn't hold, if there is one.
+fn verdicts_on(
+    alloc: Global,
+    found: &[Found],
+    firsts: &[Option<usize>],
+) -> Result<Vec<Verdict>, OutOfMemory>
+    requires linked { AreLinked found.now }
+    requires within { (j i : ℕ) → slice_get firsts.now j ≡ Some (Some i) → i < length found.now }
+    ensures { IfOk result (λ verdicts. AllZip (IsTold found.now) firsts.now verdicts.items) }
 {
-    let mut verdicts = Vec::with_capacity(alloc, asks.len())?;
-    'asks: for ask in asks {
-        let verdict = verdict_on(alloc, found, ask)?;
+    let mut verdicts = Vec::with_capacity(alloc, firsts.len())?;
+    'firsts: for first in firsts {
+        let verdict = verdict_on(alloc, found, *first)?;
         verdicts.push(verdict)?;
     }
     Ok(verdicts)
 }
 
-// The verdict on an ask: the first of these states in which it doesn't hold decides.
-fn verdict_on(alloc: Global, found: &[Found], ask: &Ask) -> Result<Verdict, OutOfMemory>
-    ensures { IfOk result (FirstFails (seen_of found.now) ask.now) }
+// The verdict on an ask, which doesn't hold in the state of this number first.
+fn verdict_on(alloc: Global, found: &[Found], first: Option<usize>) -> Result<Verdict, OutOfMemory>
+    requires linked { AreLinked found.now }
+    requires within { (i : ℕ) → first ≡ Some i → i < length found.now }
+    ensures { IfOk result (IsTold found.now first) }
 {
-    'found: for one in found {
-        if !ask.holds_in(&one.state) {
-            let path = Vec::from_slice(alloc, one.path.as_slice())?;
-            return Ok(Verdict::Fails(path));
-        }
+    match first {
+        None => Ok(Verdict::Holds),
+        Some(number) => Ok(Verdict::Fails(path_to(alloc, found, number)?)),
     }
-    Ok(Verdict::Holds)
 }

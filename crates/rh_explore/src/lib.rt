@@ -8,8 +8,10 @@
 mod answers;
 mod asking;
 mod bounds;
+mod failures;
 mod key;
 mod laws;
+mod paths;
 mod reaching;
 mod space;
 

@@ -1,14 +1,19 @@
 //! The states that were found, and the search for them.
 
-ghost use Rattle.std.specs.Prelude.{◌≡◌, ◌<◌, ◌≤◌, ◌+◌, ◌↔◌, ℕ, [], ◌∷◌, ◌++◌, length, map, slice_get, max, All, Contains, IfOk, OnOk, IsTrue, MatchBool, Some, ⊤};
+ghost use Rattle.std.specs.Prelude.{◌≡◌, ◌<◌, ◌≤◌, ◌+◌, ◌↔◌, ℕ, [], ◌∷◌, ◌++◌, List, length, map, slice_get, max, All, Contains, IfOk, OnOk, IsTrue, MatchBool, None, Some, ⊤};
+ghost use Rattle.rh_state.specs.StateView.{StateView};
 ghost use Rattle.rh_state.specs.Stored.{read};
 ghost use Rattle.rh_settle.specs.Validity.{IsValid};
+ghost use Rattle.rh_explore.specs.Failures.{AreFailures};
 ghost use Rattle.rh_explore.specs.Codes.{code, AreWords};
 ghost use Rattle.rh_explore.specs.Keys.{key_of};
 ghost use Rattle.rh_explore.specs.Exploring.{scope_of, StaysBelowLimits, CoversAll};
-ghost use Rattle.rh_explore.specs.Spaces.{Seen, IsSearched, IsNear, IsEnd, IsCut, IsUntried, HasKeys, codes_of, seen_of, IsExpandedAt};
+ghost use Rattle.rh_explore.specs.Spaces.{Seen, IsSearched, IsNear, IsEnd, IsCut, IsExpandedAt};
+ghost use Rattle.rh_explore.specs.Kept.{seen_of, states_of, bytes_of, IsKept, IsShort, IsUntried, GoesOnFrom};
 
+use crate::asking::Ask;
 use crate::bounds::{Bounds, Covered};
+use crate::failures::Failures;
 use crate::key::{Key, KeyMaker};
 use crate::reaching::{Probe, Way};
 use indexmap::IndexSet;
@@ -16,66 +21,88 @@ use rh_base::OutOfMemory;
 use rh_state::State;
 use rh_step::{Event, Pick};
 use std::alloc::Global;
+use std::collections::VecDeque;
 
-/// A state that was found.
-#[derive(Drop)]
+/// How a state was found.
+#[derive(Clone, Copy, Debug, PartialEq, Eq)]
 pub(crate) struct Found {
-    /// A list of events that leads to it, and is a shortest one.
-    pub(crate) path: Vec<Event>,
-    pub(crate) state: State,
+    /// The number of the state in which an event was made that led to it, and that event; none led to the base.
+    pub(crate) last: Option<(usize, Event)>,
+    /// How many events lead to it, one behind the other; no fewer do.
+    pub(crate) depth: u32,
 }
 
 /// The states that were found, in the order in which they were.
 #[derive(Drop)]
 pub(crate) struct Space {
     pub(crate) found: Vec<Found>,
+    pub(crate) failures: Failures,
     // Their keys, in the same order.
     keys: IndexSet<Key>,
-    // A copy of the state whose events are made: most of them lead to a state that was found, which needs no copy then.
+    // Those whose events weren't made yet. The others aren't needed any more, and a state takes much more memory than its key.
+    front: VecDeque<State>,
+    // The state whose events are made: most of them lead to a state that was found, which needs no copy then.
     probe: Probe,
     maker: KeyMaker,
 }
 
 impl Space {
     // The base alone.
-    fn of(alloc: Global, base: &State) -> Result<Space, OutOfMemory>
+    fn of(alloc: Global, base: &State, asks: &[Ask]) -> Result<Space, OutOfMemory>
         requires { IsValid (read base.now) }
-        ensures found { IfOk result (λ space. seen_of space.found.items ≡ record { path = []; state = read base.now } ∷ []) }
-        ensures keys { IfOk result HasKeys }
+        ensures found { IfOk result (λ space. space.found.items ≡ record { last = None; depth = 0 } ∷ []) }
+        ensures keys { IfOk result (λ space. bytes_of space ≡ code (key_of (read base.now)) ∷ []) }
+        ensures words { OnOk result (AreWords (key_of (read base.now))) }
+        ensures front { IfOk result (λ space. space.front.items ≡ base.now ∷ []) }
+        ensures failures { IfOk result (λ space. AreFailures space.failures.firsts.items space.failures.left.items asks.now (read base.now ∷ [])) }
     {
         let mut space = Space {
             found: Vec::new(alloc),
+            failures: Failures::of(alloc, asks)?,
             keys: IndexSet::new(alloc),
+            front: VecDeque::new(alloc),
             probe: Probe::of(alloc, base.copy(alloc)?),
             maker: KeyMaker::new(alloc),
         };
         space.maker.make(&mut space.probe.state)?;
         let key = space.maker.key.copy(alloc)?;
-        let state = base.copy(alloc)?;
-        let path = Vec::new(alloc);
-        space.push(key, Found { path, state })?;
+        let found = Found {
+            last: None,
+            depth: 0,
+        };
+        space.push(key, found, base.copy(alloc)?, asks)?;
         Ok(space)
     }
 
     // Adds a state with its key, which isn't there.
-    fn push(&mut self, key: Key, found: Found) -> Result<(), OutOfMemory>
-        requires keys { HasKeys self.old }
-        requires key { key.bytes.items ≡ code (key_of (read found.state)) }
-        requires words { AreWords (key_of (read found.state)) }
-        requires new { Contains (codes_of (seen_of self.old.found.items)) key.bytes.items → ⊥ }
+    fn push(
+        &mut self,
+        key: Key,
+        found: Found,
+        state: State,
+        asks: &[Ask],
+    ) -> Result<(), OutOfMemory>
+        requires new { Contains (bytes_of self.old) key.bytes.items → ⊥ }
+        requires failures { (states : List StateView) × (length self.old.found.items ≡ length states)
+            × AreFailures self.old.failures.firsts.items self.old.failures.left.items asks.now states }
         ensures found { OnOk result (self.new.found.items ≡ self.old.found.items ++ found ∷ []) }
-        ensures keys { OnOk result (HasKeys self.new) }
+        ensures keys { OnOk result (bytes_of self.new ≡ bytes_of self.old ++ key.bytes.items ∷ []) }
+        ensures front { OnOk result (self.new.front.items ≡ self.old.front.items ++ state ∷ []) }
+        ensures failures { (states : List StateView) → length self.old.found.items ≡ length states
+            → AreFailures self.old.failures.firsts.items self.old.failures.left.items asks.now states
+            → AreFailures self.new.failures.firsts.items self.new.failures.left.items asks.now (states ++ read state ∷ []) }
         ensures probe { OnOk result (self.new.probe ≡ self.old.probe) }
     {
+        self.failures.ask(asks, self.found.len(), &state);
         self.keys.insert(key)?;
         self.found.push(found)?;
+        self.front.push_back(state)?;
         Ok(())
     }
 
     // Is a state with the key that was made last there?
     fn has_made(&self) -> bool
-        requires { HasKeys self.now }
-        ensures { IsTrue result ↔ Contains (codes_of (seen_of self.now.found.items)) self.now.maker.key.bytes.items }
+        ensures { IsTrue result ↔ Contains (bytes_of self.now) self.now.maker.key.bytes.items }
     {
         self.keys.contains(&self.maker.key)
     }
@@ -86,25 +113,28 @@ impl Space {
         &mut self,
         alloc: Global,
         at: usize,
+        state: State,
         base: &State,
         pick: Pick,
         events: &[Event],
         bounds: &Bounds,
+        asks: &[Ask],
     ) -> Result<bool, OutOfMemory>
-        requires keys { HasKeys self.old }
-        requires within { at < length self.old.found.items }
-        requires begun { IsExpandedAt (scope_of base.now pick events.now bounds.now) (seen_of self.old.found.items) at 0 }
-        ensures keys { OnOk result (HasKeys self.new) }
+        requires kept { IsKept (scope_of base.now pick events.now bounds.now) asks.now self.old (at + 1) }
+        requires short { IsShort bounds.now self.old.found.items at }
+        requires state { slice_get (states_of (seen_of (scope_of base.now pick events.now bounds.now) self.old.found.items)) at ≡ Some (read state) }
+        requires begun { IsExpandedAt (scope_of base.now pick events.now bounds.now) (seen_of (scope_of base.now pick events.now bounds.now) self.old.found.items) at 0 }
+        ensures kept { OnOk result (IsKept (scope_of base.now pick events.now bounds.now) asks.now self.new (at + 1)) }
         ensures made { IfOk result (λ all. MatchBool all
-            (IsExpandedAt (scope_of base.now pick events.now bounds.now) (seen_of self.new.found.items) at (length events.now))
-            ((made : ℕ) × IsExpandedAt (scope_of base.now pick events.now bounds.now) (seen_of self.new.found.items) at made
-            × IsCut (scope_of base.now pick events.now bounds.now) bounds.now.states (seen_of self.new.found.items) at)) }
-        ensures kept { OnOk result (slice_get self.new.found.items at ≡ slice_get self.old.found.items at) }
+            (IsExpandedAt (scope_of base.now pick events.now bounds.now) (seen_of (scope_of base.now pick events.now bounds.now) self.new.found.items) at (length events.now))
+            ((made : ℕ) × IsExpandedAt (scope_of base.now pick events.now bounds.now) (seen_of (scope_of base.now pick events.now bounds.now) self.new.found.items) at made
+            × IsCut (scope_of base.now pick events.now bounds.now) bounds.now.states (seen_of (scope_of base.now pick events.now bounds.now) self.new.found.items) at)) }
+        ensures grown { OnOk result (GoesOnFrom self.old.found.items self.new.found.items) }
         ensures room { OnOk result (length self.new.found.items ≤ max (length self.old.found.items) bounds.now.states) }
     {
-        self.probe.begin(self.found[at].state.copy(alloc)?);
+        self.probe.begin(state);
         'events: for event in events {
-            if !self.reach(alloc, at, event, base, pick, events, bounds)? {
+            if !self.reach(alloc, at, event, base, pick, events, bounds, asks)? {
                 return Ok(false);
             }
         }
@@ -122,26 +152,28 @@ impl Space {
         pick: Pick,
         events: &[Event],
         bounds: &Bounds,
+        asks: &[Ask],
     ) -> Result<bool, OutOfMemory>
-        requires keys { HasKeys self.old }
-        requires within { at < length self.old.found.items }
+        requires kept { IsKept (scope_of base.now pick events.now bounds.now) asks.now self.old (at + 1) }
+        requires short { IsShort bounds.now self.old.found.items at }
+        requires untried { IsUntried self.old.probe (seen_of (scope_of base.now pick events.now bounds.now) self.old.found.items) at }
         requires begun { (made : ℕ) × (slice_get events.now made ≡ Some event.now)
-            × IsExpandedAt (scope_of base.now pick events.now bounds.now) (seen_of self.old.found.items) at made }
-        requires untried { IsUntried self.old.probe (seen_of self.old.found.items) at }
-        ensures keys { OnOk result (HasKeys self.new) }
+            × IsExpandedAt (scope_of base.now pick events.now bounds.now) (seen_of (scope_of base.now pick events.now bounds.now) self.old.found.items) at made }
+        ensures kept { OnOk result (IsKept (scope_of base.now pick events.now bounds.now) asks.now self.new (at + 1)) }
         ensures made { IfOk result (λ went. (made : ℕ) → slice_get events.now made ≡ Some event.now
-            → IsExpandedAt (scope_of base.now pick events.now bounds.now) (seen_of self.old.found.items) at made
+            → IsExpandedAt (scope_of base.now pick events.now bounds.now) (seen_of (scope_of base.now pick events.now bounds.now) self.old.found.items) at made
             → MatchBool went
-            (IsExpandedAt (scope_of base.now pick events.now bounds.now) (seen_of self.new.found.items) at (made + 1))
-            (IsExpandedAt (scope_of base.now pick events.now bounds.now) (seen_of self.new.found.items) at made
-            × IsCut (scope_of base.now pick events.now bounds.now) bounds.now.states (seen_of self.new.found.items) at)) }
-        ensures untried { IfOk result (λ went. MatchBool went (IsUntried self.new.probe (seen_of self.new.found.items) at) ⊤) }
-        ensures kept { OnOk result (slice_get self.new.found.items at ≡ slice_get self.old.found.items at) }
+            (IsExpandedAt (scope_of base.now pick events.now bounds.now) (seen_of (scope_of base.now pick events.now bounds.now) self.new.found.items) at (made + 1))
+            (IsExpandedAt (scope_of base.now pick events.now bounds.now) (seen_of (scope_of base.now pick events.now bounds.now) self.new.found.items) at made
+            × IsCut (scope_of base.now pick events.now bounds.now) bounds.now.states (seen_of (scope_of base.now pick events.now bounds.now) self.new.found.items) at)) }
+        ensures untried { IfOk result (λ went. MatchBool went (IsUntried self.new.probe (seen_of (scope_of base.now pick events.now bounds.now) self.new.found.items) at) ⊤) }
+        ensures grown { OnOk result (GoesOnFrom self.old.found.items self.new.found.items) }
         ensures room { OnOk result (length self.new.found.items ≤ max (length self.old.found.items) bounds.now.states) }
     {
         // Only the contract speaks of these.
         let _ = base;
         let _ = events;
+        let _steps = bounds.steps;
         let way = self.probe.make(alloc, event, pick, bounds.down)?;
         match way {
             Way::To => {}
@@ -161,40 +193,43 @@ impl Space {
         }
         let key = self.maker.key.copy(alloc)?;
         let state = self.probe.state.copy(alloc)?;
-        let mut path = Vec::from_slice(alloc, self.found[at].path.as_slice())?;
-        path.push(*event)?;
-        self.push(key, Found { path, state })?;
+        let found = Found {
+            last: Some((at, *event)),
+            depth: self.found[at].depth + 1,
+        };
+        self.push(key, found, state, asks)?;
         self.probe.take_back();
         Ok(true)
     }
 }
 
-/// All states that these events reach from the base, within the bounds, and which lists of events were looked at.
+/// All states that these events reach from the base, within the bounds, which lists of events were looked at, and what holds in them.
 pub(crate) fn search(
     alloc: Global,
     base: &State,
     pick: Pick,
     events: &[Event],
     bounds: &Bounds,
+    asks: &[Ask],
 ) -> Result<(Space, Covered), OutOfMemory>
     requires { IsValid (read base.now) }
-    ensures searched { IfOk result (λ found. (done : ℕ) × IsSearched (scope_of base.now pick events.now bounds.now) (seen_of found.0.found.items) done
-        × IsNear (seen_of found.0.found.items) done × IsEnd (seen_of found.0.found.items) done found.1) }
-    ensures few { IfOk result (λ found. All (λ (x : Seen). length x.path ≤ bounds.now.steps) (seen_of found.0.found.items)) }
+    ensures kept { IfOk result (λ found. (done : ℕ) × IsKept (scope_of base.now pick events.now bounds.now) asks.now found.0 done) }
+    ensures searched { IfOk result (λ found. (done : ℕ) × IsSearched (scope_of base.now pick events.now bounds.now) (seen_of (scope_of base.now pick events.now bounds.now) found.0.found.items) done
+        × IsNear (seen_of (scope_of base.now pick events.now bounds.now) found.0.found.items) done × IsEnd (seen_of (scope_of base.now pick events.now bounds.now) found.0.found.items) done found.1) }
+    ensures few { IfOk result (λ found. All (λ (x : Seen). length x.path ≤ bounds.now.steps) (seen_of (scope_of base.now pick events.now bounds.now) found.0.found.items)) }
     ensures covers { IfOk result (λ found. length found.0.found.items < bounds.now.states
         → StaysBelowLimits (scope_of base.now pick events.now bounds.now) bounds.now.steps → CoversAll bounds.now.steps found.1) }
 {
-    let mut space = Space::of(alloc, base)?;
+    let mut space = Space::of(alloc, base, asks)?;
     let mut next = 0;
-    'states: while next < space.found.len() {
-        let here = &space.found[next];
-        let depth = here.path.len();
-        if depth >= bounds.steps as usize {
+    'states: while let Some(state) = space.front.pop_front() {
+        let depth = space.found[next].depth;
+        if depth >= bounds.steps {
             return Ok((space, Covered::UpTo(bounds.steps)));
         }
-        let all = space.expand(alloc, next, base, pick, events, bounds)?;
+        let all = space.expand(alloc, next, state, base, pick, events, bounds, asks)?;
         if !all {
-            return Ok((space, Covered::UpTo(depth as u32)));
+            return Ok((space, Covered::UpTo(depth)));
         }
         next += 1;
     }

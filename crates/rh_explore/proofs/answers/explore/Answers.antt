@@ -1,71 +1,95 @@
-use Rattle.std.proofs.Common.{◌≡◌, ◌<◌, ◌≤◌, ◌+◌, ◌-◌, ℕ, List, length, map, get_or, slice_get, vec_len, Some, sym, ap, ◌∙◌, subst, arith}
+use Rattle.std.proofs.Common.{◌≡◌, ◌<◌, ◌≤◌, ◌+◌, ◌-◌, ℕ, List, length, get_or, slice_get, Option, Some, None, sym, ap, ◌∙◌, subst, arith}
+use Rattle.std.specs.List.{AllZip}
 use Rattle.std.proofs.lemmas.List.{length-map}
-use Rattle.std.proofs.lemmas.Option.{slice_get_within}
-use Rattle.rh_explore.specs.declared.answers.Verdict.{Verdict}
-use Rattle.rh_explore.specs.declared.asking.Ask.{Ask}
+use Rattle.std.proofs.lemmas.Option.{slice_get_within, slice_get-get_or}
 use Rattle.rh_explore.specs.declared.space.Found.{Found}
 use Rattle.rh_explore.specs.Exploring.{scope_of, IsVerdict, AreReached}
-use Rattle.rh_explore.specs.Spaces.{Seen, FirstFails, seen_in, seen_of}
-use Rattle.rh_explore.proofs.Places.{there_of, at_of}
-use Rattle.rh_explore.proofs.Reached.{seen_there}
+use Rattle.rh_explore.specs.Spaces.{Seen}
+use Rattle.rh_explore.specs.Kept.{seen_by, seen_of, states_of, AreLinked}
+use Rattle.rh_explore.specs.Tellings.{IsTold}
+use Rattle.rh_explore.proofs.Places.{at_of}
+use Rattle.rh_explore.proofs.PathsTo.{path_at, seen_there, depth_is, length-seen}
 use Rattle.rh_explore.proofs.Searched.{verdict_so, are_reached}
-use Rattle.rh_explore.proofs.Zips.{zip_more}
+use Rattle.rh_explore.proofs.Told.{told_first, failure_within}
+use Rattle.rh_explore.proofs.Zips.{zip_through}
 use Rattle.rh_explore.proofs.answers.explore.Goals as goal
+
+pub verdicts_on-requires-clause-linked : goal.verdicts_on-requires-clause-linked
+verdicts_on-requires-clause-linked c =
+    subst AreLinked (sym c.as_slice-found.ensures.value) c.in_ok-space.ensures.kept.1.linked
+
+pub verdicts_on-requires-clause-within : goal.verdicts_on-requires-clause-within
+verdicts_on-requires-clause-within c = λ j i at.
+    let w = scope_of c.args.base.now c.args.pick c.args.events.now c.args.bounds.now in
+    let space = c.in_ok-space.space in
+    let k = c.in_ok-space.ensures.kept.1 in
+    let l = failure_within space.failures.firsts.items space.failures.left.items c.args.asks.now (seen_of w space.found.items) k.failures j i
+    (ap (λ (fs : List (Option ℕ)). slice_get fs j) (sym c.as_slice.ensures.value) ∙ at) in
+    omega (arith, l, length-seen w space.found.items, ap (λ (fs : List Found). length fs) c.as_slice-found.ensures.value)
 
 pub returns-clause-verdicts : goal.returns-clause-verdicts
 returns-clause-verdicts c =
     let w = scope_of c.args.base.now c.args.pick c.args.events.now c.args.bounds.now in
     let steps = c.args.bounds.now.steps in
     let covered = c.in_ok-space.covered in
-    let items : List Found = c.in_ok-space.space.found.items in
-    let slice : List Found = c.as_slice-found.result.now in
+    let space = c.in_ok-space.space in
+    let items : List Found = space.found.items in
     let s = c.in_ok-space.ensures.searched in
-    zip_more (FirstFails (seen_of slice)) (IsVerdict w steps covered)
-    (λ (ask : Ask) (v : Verdict) (first : FirstFails (seen_of slice) ask v).
-    verdict_so w (seen_of items) s.0 s.1 s.2 steps c.in_ok-space.ensures.few covered s.3 ask v
-    (subst (λ (found : List Found). FirstFails (seen_of found) ask v) c.as_slice-found.ensures.value first))
-    c.args.asks.now c.in_ok-verdicts.verdicts.items c.in_ok-verdicts.ensures
+    let k = c.in_ok-space.ensures.kept.1 in
+    let firsts = space.failures.firsts.items in
+    zip_through (IsTold items) (IsVerdict w steps covered) firsts c.args.asks.now c.in_ok-verdicts.verdicts.items k.failures.count
+    (λ j first ask v at there told.
+    verdict_so w (seen_of w items) s.0 s.1 s.2 steps c.in_ok-space.ensures.few covered s.3 ask v
+    (told_first w items firsts space.failures.left.items c.args.asks.now k.failures j first ask v at there told))
+    (subst (λ (fs : List (Option ℕ)). AllZip (IsTold items) fs c.in_ok-verdicts.verdicts.items) c.as_slice.ensures.value
+    (subst (λ (found : List Found). AllZip (IsTold found) c.as_slice.result.now c.in_ok-verdicts.verdicts.items) c.as_slice-found.ensures.value c.in_ok-verdicts.ensures))
+
+abbrev none : Found
+none = record { last = None; depth = 0 }
 
 pub returns-clause-states : goal.returns-clause-states
 returns-clause-states c =
     let w = scope_of c.args.base.now c.args.pick c.args.events.now c.args.bounds.now in
-    let covered = c.in_ok-space.covered in
     let items : List Found = c.in_ok-space.space.found.items in
     let slice : List Found = c.as_slice-found.result.now in
     let value : slice ≡ items = c.as_slice-found.ensures.value in
-    let f : Found = c.index-found-states.result in
     let s = c.in_ok-space.ensures.searched in
-    let seen = seen_of items in
-    let long = length-map items seen_in in
+    let seen = seen_of w items in
+    let long = length-seen w items in
     let some = slice_get_within seen 0 _ s.1.begins in
     let last = length items - 1 in
-    let is : f ≡ get_or items last f = subst (λ (xs : List Found). f ≡ get_or xs (length xs - 1) f) value c.index-found-states.is in
+    let f = get_or items last none in
     let within : last < length items = omega (arith, long, some) in
-    let here : slice_get seen last ≡ Some (seen_in f) = seen_there items last f (there_of items last f within is) in
-    let is_last : last + 1 ≡ length seen = omega (arith, long, some) in
-    let state = λ (x : Seen). x.state in
-    let states = map state seen in
-    let same = ap (λ (g : Found). vec_len g.path) c.index-found-states.is in
-    let deep : length f.path.items ≡ c.len-deepest.result = omega (arith, c.len-deepest.ensures, same) in (
-      states,
-      length-map seen state ∙ long ∙ sym (ap (λ (xs : List Found). length xs) value),
-      subst (λ (n : ℕ). AreReached w n covered states) deep (are_reached w seen s.0 s.1 s.2 last (seen_in f) here is_last covered s.3),
+    let there : slice_get items last ≡ Some f = slice_get-get_or items last none within in
+    let here = seen_there w items last f there in
+    let x : Seen = seen_by w (path_at items last) in
+    let deep : f.depth ≡ length x.path = depth_is items last f c.in_ok-space.ensures.kept.1.linked there in
+    let told : (get_or slice (length slice - 1) none).depth ≡ f.depth = ap (λ (fs : List Found). (get_or fs (length fs - 1) none).depth) value in
+    let covered = c.in_ok-space.covered in
+    let is_last : last + 1 ≡ length seen = omega (arith, long, some) in (
+      states_of seen,
+      length-map seen (λ (y : Seen). y.state) ∙ long ∙ sym (ap (λ (xs : List Found). length xs) value),
+      subst (λ (n : ℕ). AreReached w n covered (states_of seen)) (sym (told ∙ deep)) (are_reached w seen s.0 s.1 s.2 last x here is_last covered s.3),
     )
 
 pub returns-clause-deepest : goal.returns-clause-deepest
 returns-clause-deepest c =
-    let steps = c.args.bounds.now.steps in
+    let w = scope_of c.args.base.now c.args.pick c.args.events.now c.args.bounds.now in
     let items : List Found = c.in_ok-space.space.found.items in
     let slice : List Found = c.as_slice-found.result.now in
     let value : slice ≡ items = c.as_slice-found.ensures.value in
-    let f : Found = c.index-found-states.result in
     let s = c.in_ok-space.ensures.searched in
-    let seen = seen_of items in
-    let long = length-map items seen_in in
+    let seen = seen_of w items in
+    let long = length-seen w items in
     let some = slice_get_within seen 0 _ s.1.begins in
     let last = length items - 1 in
-    let is : f ≡ get_or items last f = subst (λ (xs : List Found). f ≡ get_or xs (length xs - 1) f) value c.index-found-states.is in
+    let f = get_or items last none in
     let within : last < length items = omega (arith, long, some) in
-    let few = at_of (λ (x : Seen). length x.path ≤ steps) seen last (seen_in f) c.in_ok-space.ensures.few (seen_there items last f (there_of items last f within is)) in
-    let same = ap (λ (g : Found). vec_len g.path) c.index-found-states.is in
-    omega (arith, few, c.len-deepest.ensures, same)
+    let there : slice_get items last ≡ Some f = slice_get-get_or items last none within in
+    let here = seen_there w items last f there in
+    let x : Seen = seen_by w (path_at items last) in
+    let deep : f.depth ≡ length x.path = depth_is items last f c.in_ok-space.ensures.kept.1.linked there in
+    let told : (get_or slice (length slice - 1) none).depth ≡ f.depth = ap (λ (fs : List Found). (get_or fs (length fs - 1) none).depth) value in
+    let steps = c.args.bounds.now.steps in
+    let few = at_of (λ (y : Seen). length y.path ≤ steps) seen last x c.in_ok-space.ensures.few here in
+    omega (arith, few, deep, told)

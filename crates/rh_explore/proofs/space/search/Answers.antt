@@ -1,115 +1,278 @@
-use Rattle.std.proofs.Common.{◌≡◌, ◌<◌, ◌≤◌, ◌∷◌, [], List, length, slice_get, Some, All, sym, ap, ◌∙◌, subst, arith}
-use Rattle.std.proofs.lemmas.List.{length-map}
-use Rattle.rh_state.specs.Stored.{read}
+use Rattle.std.proofs.Common.{rules, ◌++◌, ◌≡◌, ◌<◌, ◌≤◌, ◌+◌, ◌∷◌, [], ℕ, zero, suc, List, length, map, drop, slice_get, Option, Some, None, All, refl, sym, ap, ◌∙◌, subst, arith}
+use Rattle.std.specs.Option.{option_to_list}
+use Rattle.std.proofs.lemmas.List.{length-map, length-drop}
+use Rattle.std.proofs.lemmas.List.Elements.{All-nil, All-cons}
+use Rattle.std.proofs.lemmas.Option.{same_Some, none-some, slice_get_within}
+use Rattle.rh_state.specs.StateView.{StateView}
+use Rattle.rh_state.specs.Stored.{Stored, read}
+use Rattle.rh_rules.specs.declared.event.Event.{Event}
 use Rattle.rh_explore.specs.declared.space.Found.{Found}
+use Rattle.rh_explore.specs.declared.space.Space.{Space}
+use Rattle.rh_explore.specs.Codes.{code, AreWords}
+use Rattle.rh_explore.specs.Failures.{AreFailures}
+use Rattle.rh_explore.specs.Keys.{key_of}
 use Rattle.rh_explore.specs.Exploring.{scope_of}
-use Rattle.rh_explore.specs.Spaces.{Seen, IsSearched, IsNear, seen_in, seen_of}
+use Rattle.rh_explore.specs.Reaching.{Scope}
+use Rattle.rh_explore.specs.Spaces.{Seen, IsSearched, IsNear}
+use Rattle.rh_explore.specs.Kept.{seen_by, seen_of, states_of, AreLinked}
 use Rattle.rh_explore.proofs.Begun.{base_near, base_few, at_true, at_false}
 use Rattle.rh_explore.proofs.Places.{there_of}
-use Rattle.rh_explore.proofs.Reached.{seen_there, begun, done_next, near_next, few_more, searched_still, near_still, never_cut, up_to}
+use Rattle.rh_explore.proofs.PathsTo.{path_at, seen_there, found_stays, depth_is, drop_first, length-seen}
+use Rattle.rh_explore.proofs.Reached.{begun, done_next, near_next, few_more, searched_still, near_still, never_cut, up_to}
 use Rattle.rh_explore.proofs.Searched.{base_searched}
 use Rattle.rh_explore.proofs.space.search.Goals as goal
+
+abbrev first : Found
+first = record { last = None; depth = 0 }
+
+base_linked : AreLinked (first ∷ [])
+base_linked = record { depths = refl; earlier = λ k f from e at last. absurd (none k f from e at last) }
+  where
+    none : (k : ℕ) (f : Found) (from : ℕ) (e : Event) → slice_get (first ∷ []) k ≡ Some f → f.last ≡ Some (from, e) → ⊥
+    none zero f from e at last = none-some (from, e) (ap (λ (g : Found). g.last) (same_Some first f at) ∙ last)
+    none (suc k) f from e at last = none-some f at
 
 pub states-init : goal.states-init
 states-init c =
     let w = scope_of c.args.base.now c.args.pick c.args.events.now c.args.bounds.now in
     let base = read c.args.base.now in
-    let found : List Found = c.in_ok-space.space.found.items in
-    let is : seen_of found ≡ record { path = []; state = base } ∷ [] = c.in_ok-space.ensures.found in
-    let long = length-map found seen_in in
-    let one = ap (λ (xs : List Seen). length xs) is in
+    let space : Space = c.in_ok-space.space in
+    let of = c.in_ok-space.ensures in
+    let is : seen_of w space.found.items ≡ record { path = []; state = base } ∷ [] = ap (seen_of w) of.found in
+    let one = ap (λ (xs : List Found). length xs) of.found in
     record {
-      keys = c.in_ok-space.ensures.keys;
+      kept = record {
+        linked = subst AreLinked (sym of.found) base_linked;
+        codes = of.keys ∙ ap (λ (s : List Seen). map (λ x. code (key_of x.state)) s) (sym is);
+        words = subst (λ (s : List Seen). All (λ (x : Seen). AreWords (key_of x.state)) s) (sym is)
+            (All-cons (λ (x : Seen). AreWords (key_of x.state)) (record { path = []; state = base }) [] of.words (All-nil (λ (x : Seen). AreWords (key_of x.state))));
+        front = ap (map read) of.front ∙ ap states_of (sym is);
+        failures = subst (λ (s : List Seen). AreFailures space.failures.firsts.items space.failures.left.items c.args.asks.now (states_of s)) (sym is) of.failures;
+      };
       searched = subst (λ (seen : List Seen). IsSearched w seen 0) (sym is) (base_searched w c.requires);
       near = subst (λ (seen : List Seen). IsNear seen 0) (sym is) (base_near base);
       few = subst (λ (seen : List Seen). All (λ (x : Seen). length x.path ≤ c.args.bounds.now.steps) seen) (sym is) (base_few base c.args.bounds.now.steps);
-      room = omega (arith, long, one);
+      room = omega (arith, one);
     }
+
+-- the state that was taken up
+taken : (w : Scope) (found : List Found) (old new : List Stored) (state : Stored) (next : ℕ) → old ≡ state ∷ new
+    → map read old ≡ drop next (states_of (seen_of w found))
+    → (slice_get (states_of (seen_of w found)) next ≡ Some (read state)) × (map read new ≡ drop (next + 1) (states_of (seen_of w found)))
+taken w found old new state next popped front =
+    drop_first (states_of (seen_of w found)) next (read state) (map read new) (sym (ap (map read) popped) ∙ front)
+
+within_of : (w : Scope) (found : List Found) (next : ℕ) (s : StateView) → slice_get (states_of (seen_of w found)) next ≡ Some s → next < length found
+within_of w found next s at =
+    let l = slice_get_within (states_of (seen_of w found)) next s at in
+    let long = length-map (seen_of w found) (λ (x : Seen). x.state) in
+    let all = length-seen w found in
+    omega (arith, l, long, all)
+
+pub index-requires : goal.index-requires
+index-requires c =
+    let w = scope_of c.args.base.now c.args.pick c.args.events.now c.args.bounds.now in
+    let found : List Found = c.states.space.found.items in
+    let next = c.states.next in
+    let k = c.states.invariant.kept in
+    let t = taken w found c.states.space.front.items c.pop_front.new.self.items c.in-Some.state next c.in-Some.ensures.items k.front in
+    let within : next < length found = within_of w found next (read c.in-Some.state) t.0 in
+    omega (arith, within)
+
+pub returns-then-depth-bounds-clause-kept : goal.returns-then-depth-bounds-clause-kept
+returns-then-depth-bounds-clause-kept c =
+    let w = scope_of c.args.base.now c.args.pick c.args.events.now c.args.bounds.now in
+    let found : List Found = c.states.space.found.items in
+    let next = c.states.next in
+    let k = c.states.invariant.kept in
+    let t = taken w found c.states.space.front.items c.pop_front.new.self.items c.in-Some.state next c.in-Some.ensures.items k.front in
+    let within : next < length found = within_of w found next (read c.in-Some.state) t.0 in
+    (next + 1, record { linked = k.linked; codes = k.codes; words = k.words; front = t.1; failures = k.failures })
 
 pub returns-then-depth-bounds-clause-searched : goal.returns-then-depth-bounds-clause-searched
 returns-then-depth-bounds-clause-searched c =
     let w = scope_of c.args.base.now c.args.pick c.args.events.now c.args.bounds.now in
     let found : List Found = c.states.space.found.items in
     let next = c.states.next in
-    let f : Found = c.index-here.result.now in
-    let within : next < length found = omega (arith, c.states-test.true, c.len.ensures) in
-    let far : c.args.bounds.now.steps ≤ length f.path.items = omega (arith, c.if-depth-bounds.true, c.len-depth.ensures) in (
+    let k = c.states.invariant.kept in
+    let t = taken w found c.states.space.front.items c.pop_front.new.self.items c.in-Some.state next c.in-Some.ensures.items k.front in
+    let within : next < length found = within_of w found next (read c.in-Some.state) t.0 in
+    let f : Found = c.index.result.now in
+    let there : slice_get found next ≡ Some f = there_of found next f within c.index.ensures in
+    let x : Seen = seen_by w (path_at found next) in
+    let here : slice_get (seen_of w found) next ≡ Some x = seen_there w found next f there in
+    let deep : f.depth ≡ length x.path = depth_is found next f k.linked there in (
       next,
       c.states.invariant.searched,
       c.states.invariant.near,
-      up_to w (seen_of found) next (seen_in f) (seen_there found next f (there_of found next f within c.index-here.ensures)) c.args.bounds.now.steps c.states.invariant.searched far,
+      up_to w (seen_of w found) next x here c.args.bounds.now.steps c.states.invariant.searched (omega (arith, c.if-depth-bounds.true, deep)),
     )
+
+pub expand-requires-clause-kept : goal.expand-requires-clause-kept
+expand-requires-clause-kept c =
+    let w = scope_of c.args.base.now c.args.pick c.args.events.now c.args.bounds.now in
+    let found : List Found = c.states.space.found.items in
+    let next = c.states.next in
+    let k = c.states.invariant.kept in
+    let t = taken w found c.states.space.front.items c.pop_front.new.self.items c.in-Some.state next c.in-Some.ensures.items k.front in
+    let within : next < length found = within_of w found next (read c.in-Some.state) t.0 in
+    record { linked = k.linked; codes = k.codes; words = k.words; front = t.1; failures = k.failures }
+
+pub expand-requires-clause-short : goal.expand-requires-clause-short
+expand-requires-clause-short c =
+    let w = scope_of c.args.base.now c.args.pick c.args.events.now c.args.bounds.now in
+    let found : List Found = c.states.space.found.items in
+    let next = c.states.next in
+    let k = c.states.invariant.kept in
+    let t = taken w found c.states.space.front.items c.pop_front.new.self.items c.in-Some.state next c.in-Some.ensures.items k.front in
+    let within : next < length found = within_of w found next (read c.in-Some.state) t.0 in
+    let f : Found = c.index.result.now in
+    (f, there_of found next f within c.index.ensures, omega (arith, c.if-depth-bounds.false))
+
+pub expand-requires-clause-state : goal.expand-requires-clause-state
+expand-requires-clause-state c =
+    let w = scope_of c.args.base.now c.args.pick c.args.events.now c.args.bounds.now in
+    let found : List Found = c.states.space.found.items in
+    let next = c.states.next in
+    let k = c.states.invariant.kept in
+    let t = taken w found c.states.space.front.items c.pop_front.new.self.items c.in-Some.state next c.in-Some.ensures.items k.front in
+    let within : next < length found = within_of w found next (read c.in-Some.state) t.0 in
+    t.0
 
 pub expand-requires-clause-begun : goal.expand-requires-clause-begun
 expand-requires-clause-begun c =
     let w = scope_of c.args.base.now c.args.pick c.args.events.now c.args.bounds.now in
     let found : List Found = c.states.space.found.items in
     let next = c.states.next in
-    let f : Found = c.index-here.result.now in
-    let within : next < length found = omega (arith, c.states-test.true, c.len.ensures) in
-    begun w (seen_of found) next (seen_in f) (seen_there found next f (there_of found next f within c.index-here.ensures)) c.states.invariant.searched c.states.invariant.near
+    let k = c.states.invariant.kept in
+    let t = taken w found c.states.space.front.items c.pop_front.new.self.items c.in-Some.state next c.in-Some.ensures.items k.front in
+    let within : next < length found = within_of w found next (read c.in-Some.state) t.0 in
+    let f : Found = c.index.result.now in
+    let there : slice_get found next ≡ Some f = there_of found next f within c.index.ensures in
+    let x : Seen = seen_by w (path_at found next) in
+    let here : slice_get (seen_of w found) next ≡ Some x = seen_there w found next f there in
+    let deep : f.depth ≡ length x.path = depth_is found next f k.linked there in
+    begun w (seen_of w found) next x here c.states.invariant.searched c.states.invariant.near
 
 pub returns-then-not-all-clause-searched : goal.returns-then-not-all-clause-searched
 returns-then-not-all-clause-searched c =
     let w = scope_of c.args.base.now c.args.pick c.args.events.now c.args.bounds.now in
     let found : List Found = c.states.space.found.items in
     let next = c.states.next in
-    let f : Found = c.index-here.result.now in
-    let within : next < length found = omega (arith, c.states-test.true, c.len.ensures) in
+    let k = c.states.invariant.kept in
+    let t = taken w found c.states.space.front.items c.pop_front.new.self.items c.in-Some.state next c.in-Some.ensures.items k.front in
+    let within : next < length found = within_of w found next (read c.in-Some.state) t.0 in
+    let f : Found = c.index.result.now in
     let new : List Found = c.expand.new.self.found.items in
-    let there : slice_get new next ≡ Some f = c.in_ok-all.ensures.kept ∙ there_of found next f within c.index-here.ensures in
+    let there : slice_get new next ≡ Some f = found_stays found new next f c.in_ok-all.ensures.grown (there_of found next f within c.index.ensures) in
+    let seen = seen_of w new in
+    let x : Seen = seen_by w (path_at new next) in
+    let here : slice_get seen next ≡ Some x = seen_there w new next f there in
+    let deep : f.depth ≡ length x.path = depth_is new next f c.in_ok-all.ensures.kept.linked there in
+    let short : length x.path < c.args.bounds.now.steps = omega (arith, c.if-depth-bounds.false, deep) in
     let cut = at_false c.in_ok-all.all _ _ c.if-not-all.true c.in_ok-all.ensures.made in
-    let depth : c.len-depth.result ≤ length f.path.items = omega (arith, c.len-depth.ensures) in (
-      next,
-      searched_still w (seen_of new) next (seen_in f) (seen_there new next f there) cut.0 cut.1,
-      near_still w (seen_of new) next (seen_in f) (seen_there new next f there) cut.0 cut.1,
-      up_to w (seen_of new) next (seen_in f) (seen_there new next f there) c.len-depth.result (searched_still w (seen_of new) next (seen_in f) (seen_there new next f there) cut.0 cut.1) depth,
-    )
+    let still = searched_still w seen next x here cut.0 cut.1 in
+    (next, still, near_still w seen next x here cut.0 cut.1, up_to w seen next x here f.depth still (omega (arith, deep)))
 
 pub returns-then-not-all-clause-few : goal.returns-then-not-all-clause-few
 returns-then-not-all-clause-few c =
     let w = scope_of c.args.base.now c.args.pick c.args.events.now c.args.bounds.now in
     let found : List Found = c.states.space.found.items in
     let next = c.states.next in
-    let f : Found = c.index-here.result.now in
-    let within : next < length found = omega (arith, c.states-test.true, c.len.ensures) in
+    let k = c.states.invariant.kept in
+    let t = taken w found c.states.space.front.items c.pop_front.new.self.items c.in-Some.state next c.in-Some.ensures.items k.front in
+    let within : next < length found = within_of w found next (read c.in-Some.state) t.0 in
+    let f : Found = c.index.result.now in
     let new : List Found = c.expand.new.self.found.items in
-    let there : slice_get new next ≡ Some f = c.in_ok-all.ensures.kept ∙ there_of found next f within c.index-here.ensures in
+    let there : slice_get new next ≡ Some f = found_stays found new next f c.in_ok-all.ensures.grown (there_of found next f within c.index.ensures) in
+    let seen = seen_of w new in
+    let x : Seen = seen_by w (path_at new next) in
+    let here : slice_get seen next ≡ Some x = seen_there w new next f there in
+    let deep : f.depth ≡ length x.path = depth_is new next f c.in_ok-all.ensures.kept.linked there in
+    let short : length x.path < c.args.bounds.now.steps = omega (arith, c.if-depth-bounds.false, deep) in
     let cut = at_false c.in_ok-all.all _ _ c.if-not-all.true c.in_ok-all.ensures.made in
-    let short : length f.path.items < c.args.bounds.now.steps = omega (arith, c.if-depth-bounds.false, c.len-depth.ensures) in
-    few_more w (seen_of new) next (seen_in f) (seen_there new next f there) cut.0 c.args.bounds.now.steps cut.1 short
+    few_more w seen next x here cut.0 c.args.bounds.now.steps cut.1 short
 
 pub returns-then-not-all-clause-covers : goal.returns-then-not-all-clause-covers
 returns-then-not-all-clause-covers c = λ few below.
     let w = scope_of c.args.base.now c.args.pick c.args.events.now c.args.bounds.now in
     let found : List Found = c.states.space.found.items in
     let next = c.states.next in
-    let f : Found = c.index-here.result.now in
-    let within : next < length found = omega (arith, c.states-test.true, c.len.ensures) in
+    let k = c.states.invariant.kept in
+    let t = taken w found c.states.space.front.items c.pop_front.new.self.items c.in-Some.state next c.in-Some.ensures.items k.front in
+    let within : next < length found = within_of w found next (read c.in-Some.state) t.0 in
+    let f : Found = c.index.result.now in
     let new : List Found = c.expand.new.self.found.items in
-    let there : slice_get new next ≡ Some f = c.in_ok-all.ensures.kept ∙ there_of found next f within c.index-here.ensures in
+    let there : slice_get new next ≡ Some f = found_stays found new next f c.in_ok-all.ensures.grown (there_of found next f within c.index.ensures) in
+    let seen = seen_of w new in
+    let x : Seen = seen_by w (path_at new next) in
+    let here : slice_get seen next ≡ Some x = seen_there w new next f there in
+    let deep : f.depth ≡ length x.path = depth_is new next f c.in_ok-all.ensures.kept.linked there in
+    let short : length x.path < c.args.bounds.now.steps = omega (arith, c.if-depth-bounds.false, deep) in
     let cut = at_false c.in_ok-all.all _ _ c.if-not-all.true c.in_ok-all.ensures.made in
-    let short : length f.path.items < c.args.bounds.now.steps = omega (arith, c.if-depth-bounds.false, c.len-depth.ensures) in
-    absurd (never_cut w (seen_of new) next (seen_in f) (seen_there new next f there) cut.0 c.args.bounds.now.steps c.args.bounds.now.states cut.1 cut.2 (omega (arith, few, length-map new seen_in)) short below)
+    absurd (never_cut w seen next x here cut.0 c.args.bounds.now.steps c.args.bounds.now.states cut.1 cut.2 (omega (arith, few, length-seen w new)) short below)
+
+pub overflow_add-next : goal.overflow_add-next
+overflow_add-next c =
+    let w = scope_of c.args.base.now c.args.pick c.args.events.now c.args.bounds.now in
+    let found : List Found = c.states.space.found.items in
+    let next = c.states.next in
+    let k = c.states.invariant.kept in
+    let t = taken w found c.states.space.front.items c.pop_front.new.self.items c.in-Some.state next c.in-Some.ensures.items k.front in
+    let within : next < length found = within_of w found next (read c.in-Some.state) t.0 in
+    first_of (omega (arith, within), first_of (search (rules, within), grind (arith, within)))
+
+pub states-smaller : goal.states-smaller
+states-smaller c =
+    let w = scope_of c.args.base.now c.args.pick c.args.events.now c.args.bounds.now in
+    let found : List Found = c.states.space.found.items in
+    let next = c.states.next in
+    let k = c.states.invariant.kept in
+    let t = taken w found c.states.space.front.items c.pop_front.new.self.items c.in-Some.state next c.in-Some.ensures.items k.front in
+    let within : next < length found = within_of w found next (read c.in-Some.state) t.0 in
+    let room = c.states.invariant.room in
+    omega (arith, within, room)
 
 pub states-preserved : goal.states-preserved
 states-preserved c =
     let w = scope_of c.args.base.now c.args.pick c.args.events.now c.args.bounds.now in
     let found : List Found = c.states.space.found.items in
     let next = c.states.next in
-    let f : Found = c.index-here.result.now in
-    let within : next < length found = omega (arith, c.states-test.true, c.len.ensures) in
+    let k = c.states.invariant.kept in
+    let t = taken w found c.states.space.front.items c.pop_front.new.self.items c.in-Some.state next c.in-Some.ensures.items k.front in
+    let within : next < length found = within_of w found next (read c.in-Some.state) t.0 in
+    let f : Found = c.index.result.now in
     let new : List Found = c.expand.new.self.found.items in
-    let there : slice_get new next ≡ Some f = c.in_ok-all.ensures.kept ∙ there_of found next f within c.index-here.ensures in
+    let there : slice_get new next ≡ Some f = found_stays found new next f c.in_ok-all.ensures.grown (there_of found next f within c.index.ensures) in
+    let seen = seen_of w new in
+    let x : Seen = seen_by w (path_at new next) in
+    let here : slice_get seen next ≡ Some x = seen_there w new next f there in
+    let deep : f.depth ≡ length x.path = depth_is new next f c.in_ok-all.ensures.kept.linked there in
+    let short : length x.path < c.args.bounds.now.steps = omega (arith, c.if-depth-bounds.false, deep) in
     let so = at_true c.in_ok-all.all _ _ c.if-not-all.false c.in_ok-all.ensures.made in
-    let short : length f.path.items < c.args.bounds.now.steps = omega (arith, c.if-depth-bounds.false, c.len-depth.ensures) in
     let count = length w.events in
     let room = c.in_ok-all.ensures.room in
     let before = c.states.invariant.room in
     record {
-      keys = c.in_ok-all.ensures.keys;
-      searched = done_next w (seen_of new) next (seen_in f) (seen_there new next f there) so;
-      near = near_next w (seen_of new) next (seen_in f) (seen_there new next f there) count so;
-      few = few_more w (seen_of new) next (seen_in f) (seen_there new next f there) count c.args.bounds.now.steps so short;
+      kept = c.in_ok-all.ensures.kept;
+      searched = done_next w seen next x here so;
+      near = near_next w seen next x here count so;
+      few = few_more w seen next x here count c.args.bounds.now.steps so short;
       room = omega (arith, room, before);
     }
+
+pub returns-clause-searched : goal.returns-clause-searched
+returns-clause-searched c =
+    let w = scope_of c.args.base.now c.args.pick c.args.events.now c.args.bounds.now in
+    let found : List Found = c.states.space.found.items in
+    let seen = seen_of w found in
+    let old : List Stored = c.states.space.front.items in
+    let new : List Stored = c.pop_front.new.self.items in
+    let all : old ≡ new = c.pop_front.ensures.items ∙ ap (λ (o : Option Stored). option_to_list o ++ new) c.in_default.is in
+    let long = ap (λ (l : List Stored). length l) (all ∙ c.pop_front.ensures.rest) in
+    let rest = length-drop 1 old in
+    let front = ap (λ (l : List StateView). length l) c.states.invariant.kept.front in
+    let mapped = length-map old read in
+    let left = length-drop c.states.next (states_of seen) in
+    let states = length-map seen (λ (x : Seen). x.state) in
+    (c.states.next, c.states.invariant.searched, c.states.invariant.near, omega (arith, long, rest, front, mapped, left, states))

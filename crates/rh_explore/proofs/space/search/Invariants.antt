@@ -1,14 +1,15 @@
 use Rattle.std.proofs.Common.{◌≤◌, ◌-◌, length, max, All}
 use Rattle.rh_explore.specs.Exploring.{scope_of}
-use Rattle.rh_explore.specs.Spaces.{Seen, HasKeys, IsSearched, IsNear, seen_of}
+use Rattle.rh_explore.specs.Spaces.{Seen, IsSearched, IsNear}
+use Rattle.rh_explore.specs.Kept.{IsKept, seen_of}
 use Rattle.rh_explore.proofs.space.search.Given as goal
 
 abbrev pub invariant-states : goal.invariant-states
 invariant-states l = record {
-  keys : HasKeys l.space;
-  searched : IsSearched (scope_of l.base l.pick l.events l.bounds) (seen_of l.space.found.items) l.next;
-  near : IsNear (seen_of l.space.found.items) l.next;
-  few : All (λ (x : Seen). length x.path ≤ l.bounds.steps) (seen_of l.space.found.items);
+  kept : IsKept (scope_of l.base l.pick l.events l.bounds) l.asks l.space l.next;
+  searched : IsSearched (scope_of l.base l.pick l.events l.bounds) (seen_of (scope_of l.base l.pick l.events l.bounds) l.space.found.items) l.next;
+  near : IsNear (seen_of (scope_of l.base l.pick l.events l.bounds) l.space.found.items) l.next;
+  few : All (λ (x : Seen). length x.path ≤ l.bounds.steps) (seen_of (scope_of l.base l.pick l.events l.bounds) l.space.found.items);
   room : length l.space.found.items ≤ max 1 l.bounds.states;
 }
 

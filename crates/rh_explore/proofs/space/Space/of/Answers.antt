@@ -1,9 +1,17 @@
-use Rattle.std.proofs.Common.{sym, ◌∙◌, subst}
+use Rattle.std.proofs.Common.{[], ◌∷◌, List, length, ap, ◌∙◌, subst}
 use Rattle.rh_state.specs.Stored.{Stored, read}
+use Rattle.rh_explore.specs.declared.space.Found.{Found}
 use Rattle.rh_explore.specs.Codes.{AreWords}
+use Rattle.rh_explore.specs.Failures.{AreFailures}
 use Rattle.rh_explore.specs.Keys.{key_of}
 use Rattle.rh_explore.proofs.space.Space.of.Goals as goal
 
-pub push-requires-clause-words : goal.push-requires-clause-words
-push-requires-clause-words c =
-    subst (λ (z : Stored). AreWords (key_of (read z))) (c.of.ensures.state ∙ c.in_ok-copy.ensures ∙ sym c.in_ok-state.ensures) c.in_ok-make.ensures.words
+pub returns-clause-words : goal.returns-clause-words
+returns-clause-words c =
+    subst (λ (z : Stored). AreWords (key_of (read z))) (c.of-2.ensures.state ∙ c.in_ok-copy.ensures) c.in_ok-make.ensures.words
+
+pub returns-clause-failures : goal.returns-clause-failures
+returns-clause-failures c =
+    subst (λ (z : Stored). AreFailures c.push.new.self.failures.firsts.items c.push.new.self.failures.left.items c.args.asks.now (read z ∷ []))
+    c.in_ok-copy-2.ensures
+    (c.in_ok-push.ensures.failures [] (ap (λ (l : List Found). length l) c.new.ensures.items) c.in_ok-of.ensures)

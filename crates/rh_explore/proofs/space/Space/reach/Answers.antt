@@ -1,29 +1,33 @@
-use Rattle.std.proofs.Common.{◌≡◌, ◌+◌, ◌++◌, ◌∷◌, [], ℕ, List, slice_get, sym, ap, ◌∙◌, subst}
+use Rattle.std.proofs.Common.{◌≡◌, ◌<◌, ◌+◌, ◌++◌, ◌∷◌, [], ℕ, List, refl, slice_get, Some, sym, ap, ◌∙◌, subst, arith}
 use Rattle.std.specs.Prelude.{Contains}
-use Rattle.std.proofs.lemmas.List.{map_push}
+use Rattle.std.proofs.lemmas.List.{length-map}
 use Rattle.std.proofs.lemmas.Option.{same_Some, slice_get_within}
+use Rattle.rh_base.specs.Exchanges.{back}
+use Rattle.rh_state.specs.Edits.{exchange}
 use Rattle.rh_state.specs.StateView.{StateView}
 use Rattle.rh_state.specs.Stored.{Stored, read}
 use Rattle.rh_rules.specs.declared.event.Event.{Event}
 use Rattle.rh_settle.proofs.Entries.{both}
-use Rattle.rh_base.specs.Exchanges.{back}
-use Rattle.rh_state.specs.Edits.{exchange}
 use Rattle.rh_explore.specs.declared.reaching.Probe.{Probe}
 use Rattle.rh_explore.specs.declared.reaching.Way.{Way}
 use Rattle.rh_explore.specs.declared.reaching.Way.TheVariants.{To, Nowhere}
 use Rattle.rh_explore.specs.declared.space.Found.{Found}
-use Rattle.rh_explore.specs.Codes.{AreWords}
+use Rattle.rh_explore.specs.Codes.{code, AreWords}
 use Rattle.rh_explore.specs.Exploring.{scope_of}
+use Rattle.rh_explore.specs.Failures.{AreFailures}
 use Rattle.rh_explore.specs.Keys.{key_of}
-use Rattle.rh_explore.specs.Spaces.{Seen, StepsTo, IsExpandedAt, seen_in, seen_of, codes_of}
+use Rattle.rh_explore.specs.Spaces.{Seen, StepsTo, IsExpandedAt}
+use Rattle.rh_explore.specs.Kept.{path_by, paths_of, seen_by, seen_of, states_of, codes_of, bytes_of, AreLinked}
+use Rattle.rh_explore.proofs.PathsTo.{path_at, seen_there, seen_push, linked_push, length-seen}
+use Rattle.rh_explore.proofs.OneMore.{more_is, kept_more}
 use Rattle.rh_explore.proofs.Places.{at_front, there_of}
-use Rattle.rh_explore.proofs.Reached.{seen_there, not_there, known, added}
+use Rattle.rh_explore.proofs.Reached.{not_there, known, added}
 use Rattle.rh_explore.proofs.space.Space.reach.Goals as goal
 
 pub returns-in-Nowhere-clause-made : goal.returns-in-Nowhere-clause-made
 returns-in-Nowhere-clause-made c = λ made is so.
     let w = scope_of c.args.base.now c.args.pick c.args.events.now c.args.bounds.now in
-    let seen = seen_of c.args.self.now.found.items in
+    let seen = seen_of w c.args.self.now.found.items in
     let u = c.requires.untried.here in
     let e : Event = c.args.event.now in
     let s = read c.args.self.now.probe.state in
@@ -35,7 +39,7 @@ returns-in-Nowhere-clause-made c = λ made is so.
 pub returns-then-has_made-clause-made : goal.returns-then-has_made-clause-made
 returns-then-has_made-clause-made c = λ made is so.
     let w = scope_of c.args.base.now c.args.pick c.args.events.now c.args.bounds.now in
-    let seen = seen_of c.args.self.now.found.items in
+    let seen = seen_of w c.args.self.now.found.items in
     let u = c.requires.untried.here in
     let e : Event = c.args.event.now in
     let s = read c.args.self.now.probe.state in
@@ -43,59 +47,103 @@ returns-then-has_made-clause-made c = λ made is so.
     known w seen c.args.at u.0 u.1 e made is so t
     (subst (λ (z : StateView). StepsTo c.args.pick c.args.bounds.now.down z e To t) u.2
     (subst (λ (v : Way). StepsTo c.args.pick c.args.bounds.now.down s e v t) c.in-To.is c.in_ok-way.ensures.way))
-    c.requires.keys.words c.in_ok-make.ensures.words
-    (subst (λ (q : List ℕ). Contains (codes_of seen) q) c.in_ok-make.ensures.key (c.has_made.ensures.0 c.if-has_made.true))
+    c.requires.kept.words c.in_ok-make.ensures.words
+    (subst (λ (q : List ℕ). Contains (codes_of seen) q) c.in_ok-make.ensures.key
+    (subst (λ (l : List (List ℕ)). Contains l c.make-2.new.self.key.bytes.items) c.requires.kept.codes (c.has_made.ensures.0 c.if-has_made.true)))
 
-pub push-requires-2-clause-words : goal.push-requires-2-clause-words
-push-requires-2-clause-words c =
-    subst (λ (z : Stored). AreWords (key_of (read z))) (sym (c.in_ok-state.ensures ∙ c.in_ok-make.ensures.state)) c.in_ok-make.ensures.words
+pub overflow_add-found : goal.overflow_add-found
+overflow_add-found c =
+    let s = c.requires.short in
+    let f : Found = c.index.result.now in
+    let there = there_of c.args.self.now.found.items c.args.at f (slice_get_within c.args.self.now.found.items c.args.at s.0 s.1) c.index.ensures in
+    let f_is : s.0 ≡ f = same_Some s.0 f (sym s.1 ∙ there) in
+    let deep : f.depth < c.args.bounds.now.steps = subst (λ (h : Found). h.depth < c.args.bounds.now.steps) f_is s.2 in
+    omega (arith, deep, c.ranges)
+
+pub push-requires-clause-failures : goal.push-requires-clause-failures
+push-requires-clause-failures c =
+    let w = scope_of c.args.base.now c.args.pick c.args.events.now c.args.bounds.now in
+    let found : List Found = c.args.self.now.found.items in
+    (states_of (seen_of w found), sym (length-map (seen_of w found) (λ (x : Seen). x.state) ∙ length-seen w found), c.requires.kept.failures)
+
+pub returns-clause-kept : goal.returns-clause-kept
+returns-clause-kept c =
+    let w = scope_of c.args.base.now c.args.pick c.args.events.now c.args.bounds.now in
+    let at = c.args.at in
+    let e : Event = c.args.event.now in
+    let found : List Found = c.args.self.now.found.items in
+    let seen = seen_of w found in
+    let s = c.requires.short in
+    let f : Found = c.index.result.now in
+    let there : slice_get found at ≡ Some f = there_of found at f (slice_get_within found at s.0 s.1) c.index.ensures in
+    let g : Found = record { last = Some (at, e); depth = f.depth + 1 } in
+    let u = c.requires.untried.here in
+    let x : Seen = seen_by w (path_at found at) in
+    let x_is : u.0 ≡ x = same_Some u.0 x (sym u.1 ∙ seen_there w found at f there) in
+    let t = read c.make.new.self.state in
+    let steps = subst (λ (z : StateView). StepsTo c.args.pick c.args.bounds.now.down z e To t) (u.2 ∙ ap (λ (z : Seen). z.state) x_is)
+    (subst (λ (v : Way). StepsTo c.args.pick c.args.bounds.now.down (read c.args.self.now.probe.state) e v t) c.in-To.is c.in_ok-way.ensures.way) in
+    let y : Seen = seen_by w (path_by (paths_of found) g.last) in
+    let y_state : t ≡ y.state = steps.2 ∙ sym (ap (λ (z : Seen). z.state) (more_is w found at e g refl)) in
+    let copied : read c.in_ok-state.state ≡ t = ap read (c.in_ok-state.ensures ∙ c.in_ok-make.ensures.state) in
+    let k = kept_more w c.args.asks.now c.args.self.now c.push.new.self (at + 1) y c.in_ok-state.state c.requires.kept
+    (subst AreLinked (sym c.in_ok-push.ensures.found) (linked_push found f g at e c.requires.kept.linked there refl refl))
+    (ap (seen_of w) c.in_ok-push.ensures.found ∙ seen_push w found g)
+    (c.in_ok-push.ensures.keys ∙ ap (λ (k : List ℕ). bytes_of c.args.self.now ++ k ∷ []) (c.in_ok-key.ensures ∙ c.in_ok-make.ensures.key ∙ ap (λ (z : StateView). code (key_of z)) y_state))
+    (subst (λ (z : StateView). AreWords (key_of z)) y_state c.in_ok-make.ensures.words)
+    c.in_ok-push.ensures.front
+    (copied ∙ y_state)
+    (subst (λ (z : StateView). AreFailures c.push.new.self.failures.firsts.items c.push.new.self.failures.left.items c.args.asks.now (states_of seen ++ z ∷ [])) (copied ∙ y_state)
+    (c.in_ok-push.ensures.failures (states_of seen) (sym (length-map seen (λ (z : Seen). z.state) ∙ length-seen w found)) c.requires.kept.failures))
+    (omega (arith, slice_get_within seen at u.0 u.1)) in
+    record { linked = k.linked; codes = k.codes; words = k.words; front = k.front; failures = k.failures }
 
 pub returns-clause-made : goal.returns-clause-made
 returns-clause-made c = λ made is so.
     let w = scope_of c.args.base.now c.args.pick c.args.events.now c.args.bounds.now in
-    let found : List Found = c.args.self.now.found.items in
-    let seen = seen_of found in
     let at = c.args.at in
-    let u = c.requires.untried.here in
     let e : Event = c.args.event.now in
-    let s = read c.args.self.now.probe.state in
-    let t = read c.make.new.self.state in
-    let f : Found = c.index.result.now in
-    let f_is : seen_in f ≡ u.0 = same_Some (seen_in f) u.0 (sym (seen_there found at f (there_of found at f c.requires.within c.index.ensures)) ∙ u.1) in
-    let g : Found = record { path = c.push.new.self; state = c.in_ok-state.state } in
-    let all : seen_of c.push-2.new.self.found.items ≡ seen ++ seen_in g ∷ [] = ap seen_of c.in_ok-push-2.ensures.found ∙ map_push seen_in found g in
-    subst (λ (items : List Seen). IsExpandedAt w items at (made + 1)) (sym all)
-    (added w seen at u.0 u.1 e made is so t
-    (subst (λ (z : StateView). StepsTo c.args.pick c.args.bounds.now.down z e To t) u.2
-    (subst (λ (v : Way). StepsTo c.args.pick c.args.bounds.now.down s e v t) c.in-To.is c.in_ok-way.ensures.way))
-    (λ has. both c.has_made.result (c.has_made.ensures.1 (subst (λ (q : List ℕ). Contains (codes_of seen) q) (sym c.in_ok-make.ensures.key) has)) c.if-has_made.false)
-    (seen_in g)
-    (c.in_ok-push.ensures.items ∙ ap (λ (p : List Event). p ++ e ∷ []) (c.in_ok-path.ensures.items ∙ c.as_slice.ensures.value ∙ ap (λ (z : Seen). z.path) f_is))
-    (ap read (c.in_ok-state.ensures ∙ c.in_ok-make.ensures.state)))
-
-pub returns-clause-kept : goal.returns-clause-kept
-returns-clause-kept c =
     let found : List Found = c.args.self.now.found.items in
-    let g : Found = record { path = c.push.new.self; state = c.in_ok-state.state } in
-    ap (λ (items : List Found). slice_get items c.args.at) c.in_ok-push-2.ensures.found ∙ at_front found (g ∷ []) c.args.at c.requires.within
+    let seen = seen_of w found in
+    let s = c.requires.short in
+    let f : Found = c.index.result.now in
+    let there : slice_get found at ≡ Some f = there_of found at f (slice_get_within found at s.0 s.1) c.index.ensures in
+    let g : Found = record { last = Some (at, e); depth = f.depth + 1 } in
+    let u = c.requires.untried.here in
+    let x : Seen = seen_by w (path_at found at) in
+    let x_is : u.0 ≡ x = same_Some u.0 x (sym u.1 ∙ seen_there w found at f there) in
+    let t = read c.make.new.self.state in
+    let steps = subst (λ (z : StateView). StepsTo c.args.pick c.args.bounds.now.down z e To t) (u.2 ∙ ap (λ (z : Seen). z.state) x_is)
+    (subst (λ (v : Way). StepsTo c.args.pick c.args.bounds.now.down (read c.args.self.now.probe.state) e v t) c.in-To.is c.in_ok-way.ensures.way) in
+    let y : Seen = seen_by w (path_by (paths_of found) g.last) in
+    subst (λ (items : List Seen). IsExpandedAt w items at (made + 1)) (sym (ap (seen_of w) c.in_ok-push.ensures.found ∙ seen_push w found g))
+    (added w seen at x (seen_there w found at f there) e made is so t steps
+    (λ has. both c.has_made.result (c.has_made.ensures.1 (subst (λ (l : List (List ℕ)). Contains l c.make-2.new.self.key.bytes.items) (sym c.requires.kept.codes)
+    (subst (λ (q : List ℕ). Contains (codes_of seen) q) (sym c.in_ok-make.ensures.key) has))) c.if-has_made.false)
+    y refl (sym (steps.2 ∙ sym (ap (λ (z : Seen). z.state) (more_is w found at e g refl)))))
 
 pub returns-clause-untried : goal.returns-clause-untried
 returns-clause-untried c =
+    let w = scope_of c.args.base.now c.args.pick c.args.events.now c.args.bounds.now in
+    let at = c.args.at in
     let found : List Found = c.args.self.now.found.items in
-    let seen = seen_of found in
+    let seen = seen_of w found in
+    let g : Found = record { last = Some (at, c.args.event.now); depth = c.index.result.now.depth + 1 } in
     let u = c.requires.untried.here in
-    let g : Found = record { path = c.push.new.self; state = c.in_ok-state.state } in
-    let all : seen_of c.push-2.new.self.found.items ≡ seen ++ seen_in g ∷ [] = ap seen_of c.in_ok-push-2.ensures.found ∙ map_push seen_in found g in
-    let here = ap (λ (items : List Seen). slice_get items c.args.at) all ∙ at_front seen (seen_in g ∷ []) c.args.at (slice_get_within seen c.args.at u.0 u.1) ∙ u.1 in
+    let y : Seen = seen_by w (path_by (paths_of found) g.last) in
     record {
       none = c.take_back-2.ensures.none;
       here = (
         u.0,
-        here,
+        ap (λ (items : List Seen). slice_get items at) (ap (seen_of w) c.in_ok-push.ensures.found ∙ seen_push w found g)
+            ∙ at_front seen (y ∷ []) at (slice_get_within seen at u.0 u.1) ∙ u.1,
         ap read (c.take_back-2.ensures.state
-            ∙ ap (λ (p : Probe). back exchange p.state p.edits.items) c.in_ok-push-2.ensures.probe
+            ∙ ap (λ (p : Probe). back exchange p.state p.edits.items) c.in_ok-push.ensures.probe
             ∙ ap (λ (z : Stored). back exchange z c.make.new.self.edits.items) c.in_ok-make.ensures.state
             ∙ c.in_ok-way.ensures.led.back)
             ∙ u.2,
       );
     }
+
+pub returns-clause-grown : goal.returns-clause-grown
+returns-clause-grown c = (_, c.in_ok-push.ensures.found)

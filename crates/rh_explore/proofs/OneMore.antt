@@ -1,0 +1,55 @@
+-- One state more is kept.
+use Rattle.std.proofs.Common.{◌≡◌, ◌≤◌, ℕ, List, [], ◌∷◌, ◌++◌, All, map, drop, length, Some, sym, ap, ◌∙◌, subst, arith}
+use Rattle.std.proofs.lemmas.List.{map_push, length-map, drop-append-le}
+use Rattle.std.proofs.lemmas.List.Elements.{All-push}
+use Rattle.rh_state.specs.StateView.{StateView}
+use Rattle.rh_state.specs.Stored.{Stored, read}
+use Rattle.rh_rules.specs.declared.event.Event.{Event}
+use Rattle.rh_trail.specs.Runs.{step}
+use Rattle.rh_explore.specs.declared.asking.Ask.{Ask}
+use Rattle.rh_explore.specs.declared.space.Found.{Found}
+use Rattle.rh_explore.specs.declared.space.Space.{Space}
+use Rattle.rh_explore.specs.Codes.{code, AreWords}
+use Rattle.rh_explore.specs.Failures.{AreFailures}
+use Rattle.rh_explore.specs.Keys.{key_of}
+use Rattle.rh_explore.specs.Reaching.{Scope, behind}
+use Rattle.rh_explore.specs.Spaces.{Seen}
+use Rattle.rh_explore.specs.Kept.{path_by, paths_of, seen_by, seen_of, states_of, code_in, codes_of, bytes_of, AreLinked, IsKept}
+use Rattle.rh_explore.proofs.PathsTo.{path_at}
+use Rattle.rh_explore.proofs.Searched.{behind_push}
+
+-- the state that was found behind an event
+pub more_is : (w : Scope) (found : List Found) (at : ℕ) (e : Event) (g : Found) → g.last ≡ Some (at, e)
+    → seen_by w (path_by (paths_of found) g.last) ≡ record { path = path_at found at ++ e ∷ []; state = step w.pick (behind w w.base (path_at found at)) e }
+more_is w found at e g last =
+    ap (λ o. seen_by w (path_by (paths_of found) o)) last
+    ∙ (λ i. record { path = path_at found at ++ e ∷ []; state = behind_push w w.base (path_at found at) e i })
+
+pub kept_more : (w : Scope) (asks : List Ask) (old new : Space) (n : ℕ) (y : Seen) (state : Stored) → IsKept w asks old n
+    → AreLinked new.found.items
+    → seen_of w new.found.items ≡ seen_of w old.found.items ++ y ∷ []
+    → bytes_of new ≡ bytes_of old ++ code (key_of y.state) ∷ []
+    → AreWords (key_of y.state)
+    → new.front.items ≡ old.front.items ++ state ∷ []
+    → read state ≡ y.state
+    → AreFailures new.failures.firsts.items new.failures.left.items asks (states_of (seen_of w old.found.items) ++ y.state ∷ [])
+    → n ≤ length (seen_of w old.found.items)
+    → IsKept w asks new n
+kept_more w asks old new n y state kept linked more bytes words front is failures few =
+    let seen = seen_of w old.found.items in
+    let state_in = λ (x : Seen). x.state in
+    let W = λ (x : Seen). AreWords (key_of x.state) in
+    let long = length-map seen state_in in
+    record {
+      linked = linked;
+      codes = bytes ∙ ap (λ (l : List (List ℕ)). l ++ code (key_of y.state) ∷ []) kept.codes ∙ sym (map_push code_in seen y) ∙ ap codes_of (sym more);
+      words = subst (λ (s : List Seen). All W s) (sym more) (All-push W seen y kept.words words);
+      front = ap (map read) front
+          ∙ map_push read old.front.items state
+          ∙ (λ i. kept.front i ++ is i ∷ [])
+          ∙ sym (drop-append-le n (states_of seen) (y.state ∷ []) (omega (arith, few, long)))
+          ∙ ap (drop n) (sym (map_push state_in seen y))
+          ∙ ap (λ (s : List Seen). drop n (states_of s)) (sym more);
+      failures = subst (λ (l : List StateView). AreFailures new.failures.firsts.items new.failures.left.items asks l)
+          (sym (ap states_of more ∙ map_push state_in seen y)) failures;
+    }

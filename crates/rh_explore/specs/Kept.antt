@@ -1,0 +1,73 @@
+-- What was found, as it is kept (ours).
+use Rattle.std.specs.Prelude.{◌≡◌, ◌<◌, ℕ, List, [], ◌∷◌, ◌++◌, Option, Some, None, length, map, fold, drop, unwrap_or, slice_get, All}
+use Rattle.rh_state.specs.StateView.{StateView}
+use Rattle.rh_state.specs.Stored.{read}
+use Rattle.rh_rules.specs.declared.event.Event.{Event}
+use Rattle.rh_explore.specs.declared.asking.Ask.{Ask}
+use Rattle.rh_explore.specs.declared.bounds.Bounds.{Bounds}
+use Rattle.rh_explore.specs.declared.reaching.Probe.{Probe}
+use Rattle.rh_explore.specs.declared.space.Found.{Found}
+use Rattle.rh_explore.specs.declared.space.Space.{Space}
+use Rattle.rh_explore.specs.Codes.{code, AreWords}
+use Rattle.rh_explore.specs.Failures.{AreFailures}
+use Rattle.rh_explore.specs.Keys.{key_of}
+use Rattle.rh_explore.specs.Reaching.{Scope, behind}
+use Rattle.rh_explore.specs.Spaces.{Seen}
+
+-- the list of events that leads to a state, by those that lead to the states before it
+abbrev pub path_by : List (List Event) → Option (ℕ × Event) → List Event
+path_by paths None = []
+path_by paths (Some (from, e)) = unwrap_or (slice_get paths from) [] ++ e ∷ []
+
+abbrev pub with_path : List (List Event) → Found → List (List Event)
+with_path paths f = paths ++ path_by paths f.last ∷ []
+
+-- the lists that lead to all of them
+abbrev pub paths_of : List Found → List (List Event)
+paths_of found = fold with_path [] found
+
+-- a list, and the state behind it
+abbrev pub seen_by : Scope → List Event → Seen
+seen_by w path = record { path = path; state = behind w w.base path }
+
+abbrev pub seen_of : Scope → List Found → List Seen
+seen_of w found = map (seen_by w) (paths_of found)
+
+abbrev pub states_of : List Seen → List StateView
+states_of seen = map (λ x. x.state) seen
+
+-- each but the base was found behind an earlier one, and it is told how many events lead to it
+pub record AreLinked (found : List Found) : Type 0 where
+  pub depths : map (λ f. f.depth) found ≡ map (λ (path : List Event). length path) (paths_of found)
+  pub earlier : (k : ℕ) (f : Found) (from : ℕ) (e : Event) → slice_get found k ≡ Some f → f.last ≡ Some (from, e) → from < k
+
+-- the keys of states, as they are kept
+abbrev pub code_in : Seen → List ℕ
+code_in x = code (key_of x.state)
+
+abbrev pub codes_of : List Seen → List (List ℕ)
+codes_of seen = map code_in seen
+
+abbrev pub bytes_of : Space → List (List ℕ)
+bytes_of space = map (λ key. key.bytes.items) space.keys.keys
+
+-- the key of each is kept, the states but for the first so many, and what fails in which
+pub record IsKept (w : Scope) (asks : List Ask) (space : Space) (done : ℕ) : Type 0 where
+  pub linked : AreLinked space.found.items
+  pub codes : bytes_of space ≡ codes_of (seen_of w space.found.items)
+  pub words : All (λ (x : Seen). AreWords (key_of x.state)) (seen_of w space.found.items)
+  pub front : map read space.front.items ≡ drop done (states_of (seen_of w space.found.items))
+  pub failures : AreFailures space.failures.firsts.items space.failures.left.items asks (states_of (seen_of w space.found.items))
+
+-- events may follow in the state of this number
+abbrev pub IsShort : Bounds → List Found → ℕ → Type 0
+IsShort bounds found at = (f : Found) × (slice_get found at ≡ Some f) × (f.depth < bounds.steps)
+
+-- no event is tried in the state of this number
+pub record IsUntried (probe : Probe) (seen : List Seen) (at : ℕ) : Type 0 where
+  pub none : probe.edits.items ≡ []
+  pub here : (x : Seen) × (slice_get seen at ≡ Some x) × (read probe.state ≡ x.state)
+
+-- what was found stays, and more is found
+abbrev pub GoesOnFrom : List Found → List Found → Type 0
+GoesOnFrom old new = (more : List Found) × (new ≡ old ++ more)
