@@ -26,9 +26,10 @@ pub mod LocalFirsts
 pub mod NextFirsts
 pub mod FieldLaws
 pub mod SetTables
+pub mod TakenMarks
 pub mod Touches
 pub mod Boards
-pub mod Members
+pub mod GroupWalks
 pub mod Movers
 pub mod Starts
 mod Rows

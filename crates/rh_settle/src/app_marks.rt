@@ -1,6 +1,6 @@
 //! A mark for each application.
 
-ghost use Rattle.std.specs.Prelude.{◌≡◌, ◌+◌, ◌<◌, ◌≤◌, ◌||◌, ◌↔◌, false, true, IsTrue, IsNone, IfSome};
+ghost use Rattle.std.specs.Prelude.{◌≡◌, ◌+◌, ◌<◌, ◌≤◌, ◌&&◌, ◌||◌, ◌↔◌, false, true, not, IsTrue, IsNone, IfSome};
 ghost use Rattle.rh_model.specs.declared.limits.TheConstants.{MAX_APPS};
 ghost use Rattle.rh_model.specs.declared.node.App.{App};
 ghost use Rattle.rh_state.specs.Numbers.{same_app};
@@ -105,5 +105,34 @@ impl AppMarks {
             Some(app) if (app.0 as usize) < count => Some(app),
             _ => None,
         }
+    }
+
+    // Equal marks.
+    pub fn copy(&self) -> AppMarks
+        ensures { result ≡ self.now }
+    {
+        AppMarks { marks: self.marks }
+    }
+
+    // Takes away the first mark, if it is below the count, and says whose it was.
+    pub fn take_below(&mut self, count: usize) -> Option<App>
+        ensures marked { IfSome result (λ a. is_marked self.old a ≡ true) }
+        ensures first { IfSome result (λ a. (b : App) → b.0 < a.0 → is_marked self.old b ≡ false) }
+        ensures few { IfSome result (λ a. a.0 < MAX_APPS) }
+        ensures below { IfSome result (λ a. a.0 < count) }
+        ensures taken { IfSome result (λ a. (b : App) → is_marked self.new b ≡ (is_marked self.old b && not (same_app b a))) }
+        ensures fewer { IfSome result (λ a. self.new.marks < self.old.marks) }
+        ensures none { IsNone result → (b : App) → b.0 < count → is_marked self.old b ≡ false }
+    {
+        let marks = self.marks;
+        if marks == 0 {
+            return None;
+        }
+        let app = App(marks.trailing_zeros() as u8);
+        if app.0 as usize >= count {
+            return None;
+        }
+        self.marks = marks & (marks - 1);
+        Some(app)
     }
 }

@@ -85,15 +85,11 @@ impl Board {
         self.locals
     }
 
-    /// The first application, from this number on and below the count, that can be placed or taken over.
-    pub fn next_moving(&self, from: u8, count: usize) -> Option<App>
-        ensures from { IfSome result (λ a. from ≤ a.0) }
-        ensures first { IfSome result (λ a. (b : App) → from ≤ b.0 → b.0 < a.0 → is_marked self.now.moving b ≡ false) }
-        ensures few { IfSome result (λ a. a.0 < MAX_APPS) }
-        ensures below { IfSome result (λ a. a.0 < count) }
-        ensures none { IsNone result → (b : App) → from ≤ b.0 → b.0 < count → is_marked self.now.moving b ≡ false }
+    /// The applications that can be placed or taken over.
+    pub fn moving(&self) -> AppMarks
+        ensures { result ≡ self.now.moving }
     {
-        self.moving.next_below(from, count)
+        self.moving.copy()
     }
 
     /// The nodes at which an application can run, if it is to run.
@@ -230,10 +226,9 @@ fn find_able(state: &State, moving: &AppMarks, fresh: &AppSets, able: &mut AppSe
     ensures { (n : Node) (a : App) → IsAppOf (read state.now).cluster a → is_marked moving.now a ≡ true → matters (read state.now) fresh.now a n ≡ true → is_among able.new a n ≡ is_operational (read state.now) a n }
 {
     let count = state.cluster().app_count();
-    let mut from = 0;
-    'apps: while let Some(app) = moving.next_below(from, count) {
+    let mut rest = moving.copy();
+    'apps: while let Some(app) = rest.take_below(count) {
         able.set(app, able_nodes(state, app, fresh.of(app)));
-        from = app.0 + 1;
     }
 }
 
@@ -254,21 +249,39 @@ fn is_touched(cluster: &Cluster, moved: App, app: App) -> bool
     app.0 == moved.0 || needs(cluster, app, moved)
 }
 
-// Looks again whether an application can run at a node, if that matters.
-fn look_again_for(state: &State, fresh: &AppSets, app: App, node: Node, able: &mut AppSets)
+// Does it matter whether an application can run at a node?
+fn matters(state: &State, fresh: &AppSets, app: App, node: Node) -> bool
+    requires { IsAppOf (read state.now).cluster app }
+    ensures { result ≡ matters (read state.now) fresh.now app node }
+{
+    let _few = state.cluster().app_count();
+    is_wanted(state, app) || fresh.of(app).has(node)
+}
+
+// Looks again whether an application can run at a node, if that matters and a move of this other one touches it. Whether it
+// matters is asked first, which costs least.
+fn look_again_for(
+    state: &State,
+    fresh: &AppSets,
+    moved: App,
+    app: App,
+    node: Node,
+    able: &mut AppSets,
+)
     requires app { IsAppOf (read state.now).cluster app }
     requires node { IsNodeOf (read state.now).cluster node }
-    ensures here { matters (read state.now) fresh.now app node ≡ true → is_among able.new app node ≡ is_operational (read state.now) app node }
+    ensures here { is_touched (read state.now).cluster moved app ≡ true → matters (read state.now) fresh.now app node ≡ true → is_among able.new app node ≡ is_operational (read state.now) app node }
     ensures others { (a : App) (n : Node) → same_app a app && same_node n node ≡ false → is_among able.new a n ≡ is_among able.old a n }
+    ensures untouched { is_touched (read state.now).cluster moved app ≡ false → able.new ≡ able.old }
 {
     let _few = state.cluster().app_count();
     let _nodes = state.cluster().node_count();
-    if is_wanted(state, app) || fresh.of(app).has(node) {
+    if matters(state, fresh, app, node) && is_touched(state.cluster(), moved, app) {
         able.put(app, node, operational(state, app, node));
     }
 }
 
-// The same for each of these applications that a move of this one touches.
+// Looks again so for each of these applications.
 fn look_again_at(
     state: &State,
     moving: &AppMarks,
@@ -282,11 +295,8 @@ fn look_again_at(
     ensures others { (a : App) (n : Node) → is_touched (read state.now).cluster moved a && same_node n node ≡ false → is_among able.new a n ≡ is_among able.old a n }
 {
     let count = state.cluster().app_count();
-    let mut from = 0;
-    'apps: while let Some(app) = moving.next_below(from, count) {
-        if is_touched(state.cluster(), moved, app) {
-            look_again_for(state, fresh, app, node, able);
-        }
-        from = app.0 + 1;
+    let mut rest = moving.copy();
+    'apps: while let Some(app) = rest.take_below(count) {
+        look_again_for(state, fresh, moved, app, node, able);
     }
 }

@@ -1,8 +1,8 @@
 //! Which move comes next.
 
-ghost use Rattle.std.specs.Prelude.{◌≡◌, ◌<◌, ◌≤◌, ◌&&◌, List, true, false, is_some, IsNone, IfSome};
+ghost use Rattle.std.specs.Prelude.{◌≡◌, ◌<◌, ◌≤◌, ◌&&◌, ◌||◌, List, All, true, false, is_some, position, IsNone, IfSome};
 ghost use Rattle.rh_model.specs.ClusterView.{node_count, app_count};
-ghost use Rattle.rh_model.specs.ClusterView.{group_of};
+ghost use Rattle.rh_model.specs.ClusterView.{group_of, is_in};
 ghost use Rattle.rh_model.specs.declared.node.Node.{Node};
 ghost use Rattle.rh_state.specs.declared.status.Standing.TheVariants.{Running};
 ghost use Rattle.rh_state.specs.Numbers.{nodes_of, apps_of};
@@ -11,6 +11,7 @@ ghost use Rattle.rh_state.specs.Stored.{read};
 ghost use Rattle.rh_rules.specs.declared.pick.Pick.{Pick};
 ghost use Rattle.rh_base.specs.Lists.{first_given, head};
 ghost use Rattle.rh_rules.specs.Placing.{picked, is_operational};
+ghost use Rattle.rh_place.specs.declared.node_set.TheConstants.NodeSet.{LIMIT};
 ghost use Rattle.rh_place.specs.Sets.{has};
 ghost use Rattle.rh_rules.specs.declared.notice.Pair.{Pair};
 ghost use Rattle.rh_rules.specs.Course.{is_fresh, is_local};
@@ -21,7 +22,7 @@ ghost use Rattle.rh_rules.specs.Settling.{next_moves};
 use crate::app_marks::AppMarks;
 use crate::board::Board;
 use crate::ready::Ready;
-use rh_model::{App, Cluster, Node};
+use rh_model::{App, Cluster, Group, Node};
 use rh_place::{NodeSet, Pick, best, deps_run};
 use rh_rules::{Move, Pair};
 use rh_state::{Place, Standing, State};
@@ -70,9 +71,12 @@ fn starts(state: &State, node: Node, app: App) -> bool
     matches!(state.place_of(node, app), Place::InWaiting) && can_start(state, node, app)
 }
 
+// How many local applications are asked for each step along a list.
+const ASKED: u8 = 8;
+
 // Can a local application start at a node? These are the marks of the local ones. The list of what waits there can be long
-// where few applications are local, and short where many are: so this goes along both side by side, and the one that
-// ends first tells.
+// where few applications are local, and short where many are: so this asks the local ones, goes along the list meanwhile, a
+// step for so many of them, since a step costs more than an answer, and whichever ends first tells.
 pub(crate) fn starts_at(state: &State, local: &AppMarks, node: Node) -> bool
     requires node { node.0 < node_count (read state.now).cluster }
     requires marks { MarksLocals (read state.now).cluster local.now }
@@ -80,17 +84,21 @@ pub(crate) fn starts_at(state: &State, local: &AppMarks, node: Node) -> bool
 {
     state.formed();
     let count = state.cluster().app_count();
-    let mut from = 0;
+    let mut rest = local.copy();
+    let mut left = ASKED;
     let mut waiting = state.first_waiting(node);
     'waiting: while let Some(behind) = waiting {
-        let Some(app) = local.next_below(from, count) else {
+        let Some(app) = rest.take_below(count) else {
             return false;
         };
         if starts(state, node, app) {
             return true;
         }
-        from = app.0 + 1;
-        waiting = state.next_in_list(node, behind);
+        left -= 1;
+        if left == 0 {
+            left = ASKED;
+            waiting = state.next_in_list(node, behind);
+        }
     }
     local_at(state, node).is_some()
 }
@@ -129,57 +137,61 @@ fn next_placement(state: &State, board: &Board, pick: Pick) -> Option<Move>
     ensures { result ≡ picked pick (first_given (placements (read state.now)) (apps_of (read state.now).cluster)) }
 {
     let count = state.cluster().app_count();
-    let mut from = 0;
-    'apps: while let Some(app) = board.next_moving(from, count) {
+    let mut rest = board.moving();
+    'apps: while let Some(app) = rest.take_below(count) {
         if let Some(next) = placement_of(state, board, app, pick) {
             return Some(next);
         }
-        from = app.0 + 1;
     }
     None
 }
 
-// Does the place of a node's group come before that of another's?
-fn comes_before(place: Option<usize>, other: Option<usize>) -> bool
-    ensures { result ≡ comes_before place other }
+// A set with the nodes of a group too; none if this node is one of the group.
+fn with_group(set: NodeSet, group: &[Node], from: Node) -> Option<NodeSet>
+    requires { All (λ (n : Node). n.0 < LIMIT) group.now }
+    ensures apart { IfSome result (λ more. is_in from group.now ≡ false) }
+    ensures more { IfSome result (λ more. (n : Node) → has more n ≡ (has set n || is_in n group.now)) }
+    ensures here { IsNone result → is_in from group.now ≡ true }
 {
-    match (place, other) {
-        (Some(i), Some(j)) => i < j,
-        (Some(_), None) => true,
-        (None, _) => false,
+    let mut more = set;
+    'members: for node in group {
+        if node.0 == from.0 {
+            return None;
+        }
+        more = more.with(*node);
     }
+    Some(more)
 }
 
-// A node of the set that is one of so many.
-fn member(set: NodeSet, count: usize) -> Option<Node>
-    ensures member { IfSome result (λ n. has set n ≡ true) }
-    ensures number { IfSome result (λ n. n.0 < count) }
-    ensures none { IsNone result → (n : Node) → n.0 < count → has set n ≡ false }
+// The nodes whose groups come before that of a node. The walk ends at that one's group, which is mostly among the first: an
+// application runs at the first node where it can.
+fn nodes_before(groups: &[Group], from: Node) -> NodeSet
+    requires { All (All (λ (n : Node). n.0 < LIMIT)) groups.now }
+    ensures { (n : Node) → has result n ≡ comes_before (position (is_in n) groups.now) (position (is_in from) groups.now) }
 {
-    match set.first() {
-        Some(node) if (node.0 as usize) < count => Some(node),
-        _ => None,
-    }
-}
-
-// The nodes of the set whose groups come before that of a node.
-#[tactic(auto, using(crate::proofs::Members::fewer_members))]
-fn earlier(state: &State, app: App, from: Node, set: NodeSet) -> NodeSet
-    requires { app.0 < app_count (read state.now).cluster }
-    ensures nodes { (n : Node) → n.0 < node_count (read state.now).cluster → has result n ≡ (comes_before (group_of (read state.now).cluster app n) (group_of (read state.now).cluster app from) && has set n) }
-    ensures others { (n : Node) → node_count (read state.now).cluster ≤ n.0 → has result n ≡ false }
-{
-    let count = state.cluster().node_count();
-    let place = state.cluster().group_of(app, from);
     let mut nodes = NodeSet::empty();
-    let mut rest = set;
-    'nodes: while let Some(node) = member(rest, count) {
-        rest = rest.put(node, false);
-        if comes_before(state.cluster().group_of(app, node), place) {
-            nodes = nodes.with(node);
+    'groups: for group in groups {
+        match with_group(nodes, group.as_slice(), from) {
+            Some(more) => nodes = more,
+            None => return nodes,
         }
     }
     nodes
+}
+
+// The nodes of the set whose groups come before that of a node.
+fn earlier(state: &State, app: App, from: Node, set: NodeSet) -> NodeSet
+    requires { app.0 < app_count (read state.now).cluster }
+    ensures nodes { (n : Node) → has result n ≡ (comes_before (group_of (read state.now).cluster app n) (group_of (read state.now).cluster app from) && has set n) }
+    ensures others { (n : Node) → node_count (read state.now).cluster ≤ n.0 → has result n ≡ false }
+{
+    let cluster = state.cluster();
+    cluster.is_within();
+    let _few = cluster.node_count();
+    match cluster.spread(app) {
+        Some(spread) => nodes_before(spread.groups.as_slice(), from).and(set),
+        None => NodeSet::empty(),
+    }
 }
 
 // The takeover, by one of these nodes, of an application that runs at a node.
@@ -235,12 +247,11 @@ fn next_takeover(state: &State, board: &Board, pick: Pick) -> Option<Move>
 {
     state.formed();
     let count = state.cluster().app_count();
-    let mut from = 0;
-    'apps: while let Some(app) = board.next_moving(from, count) {
+    let mut rest = board.moving();
+    'apps: while let Some(app) = rest.take_below(count) {
         if let Some(next) = takeover_of(state, board, app, pick) {
             return Some(next);
         }
-        from = app.0 + 1;
     }
     None
 }

@@ -47,7 +47,8 @@ fn make_ready_moves(
     Ok(())
 }
 
-// The same where nothing may be ready, as behind most events: then no board is made, whose tables would have to be zeroed.
+// Makes next moves until there is none. Behind most events nothing is ready: then no board is made, whose tables would have
+// to be zeroed.
 #[tactic(auto, using(crate::proofs::Ways::goes_none))]
 fn make_moves(state: &mut State, pick: Pick, trace: &mut Trace) -> Result<(), OutOfMemory>
     requires runs { RunsWhereItStands (read state.old) }

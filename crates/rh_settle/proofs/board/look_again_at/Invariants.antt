@@ -1,4 +1,4 @@
-use Rattle.std.proofs.Common.{◌≡◌, ◌<◌, ◌-◌, ◌&&◌, true, false}
+use Rattle.std.proofs.Common.{◌≡◌, ◌&&◌, true, false}
 use Rattle.rh_model.specs.declared.node.App.{App}
 use Rattle.rh_model.specs.declared.node.Node.{Node}
 use Rattle.rh_state.specs.Numbers.{same_node}
@@ -9,10 +9,10 @@ use Rattle.rh_settle.proofs.board.look_again_at.Given as goal
 
 abbrev pub invariant-apps : goal.invariant-apps
 invariant-apps l = record {
-  here : (a : App) → a.0 < l.from → is_marked l.moving a ≡ true → is_touched (read l.state).cluster l.moved a ≡ true
+  here : (a : App) → is_marked l.rest a ≡ false → is_marked l.moving a ≡ true → is_touched (read l.state).cluster l.moved a ≡ true
       → matters (read l.state) l.fresh a l.node ≡ true → is_among l.able a l.node ≡ is_operational (read l.state) a l.node;
   others : (a : App) (n : Node) → is_touched (read l.state).cluster l.moved a && same_node n l.node ≡ false → is_among l.able a n ≡ is_among l.fn.able a n;
 }
 
 abbrev pub decreases-apps : goal.decreases-apps
-decreases-apps l = l.count - l.from
+decreases-apps l = l.rest.marks

@@ -1,8 +1,13 @@
-use Rattle.std.proofs.Common.{ap, sym, ◌∙◌, arith, refl}
+use Rattle.std.proofs.Common.{◌≡◌, true, [], ap, sym, ◌∙◌, arith, refl}
+use Rattle.rh_model.specs.declared.node.App.{App}
 use Rattle.rh_model.specs.ClusterView.{ClusterView, app_count}
+use Rattle.rh_state.specs.Shape.{IsAppOf}
+use Rattle.rh_base.proofs.Lists.{cases}
 use Rattle.rh_rules.specs.Moves.{placements}
+use Rattle.rh_settle.specs.Boards.{is_marked}
 use Rattle.rh_settle.proofs.Boards.{unmarked_stays}
-use Rattle.rh_settle.proofs.Searches.{found_behind, none_behind, up_to, none_to, none_picked}
+use Rattle.rh_settle.proofs.Searches.{found_behind, none_behind, none_picked}
+use Rattle.rh_settle.proofs.TakenMarks.{one_taken}
 use Rattle.rh_state.specs.Stored.{read}
 use Rattle.rh_settle.proofs.search.next_placement.Goals as goal
 
@@ -11,21 +16,23 @@ returns-in-Some-placement_of c =
     let s = read c.args.state.now in
     let e = c.app_count-count.ensures.count ∙ ap (λ (v : ClusterView). app_count v) c.cluster.ensures in
     found_behind c.args.pick s.cluster (placements s) c.in-Some.app c.in-Some-placement_of.next (omega (arith, e, c.in-Some.ensures.below))
-    (λ a of lt. up_to c.apps.from a.0 (c.apps.invariant a of)
-    (λ from. unmarked_stays s c.args.board.now a of c.requires (c.in-Some.ensures.first a from lt)))
+    (λ a of lt. cases (is_marked c.args.board.now.moving a)
+    (λ y. c.apps.invariant a (c.in-Some.ensures.first a lt) y of)
+    (λ f. unmarked_stays s c.args.board.now a of c.requires f))
     c.in-Some-placement_of.ensures
 
 pub apps-preserved : goal.apps-preserved
-apps-preserved c = λ a of lt.
+apps-preserved c =
     let s = read c.args.state.now in
-    none_to (placements s) c.apps.from c.in-Some.app a lt (c.apps.invariant a of)
-    (λ from less. unmarked_stays s c.args.board.now a of c.requires (c.in-Some.ensures.first a from less))
-    (none_picked c.args.pick (placements s c.in-Some.app) (sym c.in_default-placement_of.ensures))
+    one_taken (λ (a : App). is_marked c.args.board.now.moving a ≡ true → IsAppOf s.cluster a → placements s a ≡ [])
+    c.apps.rest c.take_below.new.self c.in-Some.app c.in-Some.ensures.taken c.apps.invariant
+    (λ y of. none_picked c.args.pick (placements s c.in-Some.app) (sym c.in_default-placement_of.ensures))
 
 pub returns : goal.returns
 returns c =
     let s = read c.args.state.now in
     let e = c.app_count-count.ensures.count ∙ ap (λ (v : ClusterView). app_count v) c.cluster.ensures in
     none_behind c.args.pick s.cluster (placements s)
-    (λ a of. up_to c.apps.from a.0 (c.apps.invariant a of)
-    (λ from. unmarked_stays s c.args.board.now a of c.requires (c.in_default.ensures.none refl a from (omega (arith, e, of)))))
+    (λ a of. cases (is_marked c.args.board.now.moving a)
+    (λ y. c.apps.invariant a (c.in_default.ensures.none refl a (omega (arith, e, of))) y of)
+    (λ f. unmarked_stays s c.args.board.now a of c.requires f))

@@ -21,13 +21,13 @@ use Rattle.rh_settle.proofs.search.takeover_from.Goals as goal
 -- the earlier ones of these nodes are those that call the application away
 calling : (s : StateView) (fresh : List Pair) (a : App) (m : Node) (callers set : NodeBits) → IsShaped s
     → ((n : Node) → n.0 < node_count s.cluster → has callers n ≡ (is_fresh fresh n a && is_operational s a n))
-    → ((n : Node) → n.0 < node_count s.cluster → has set n ≡ (comes_before (group_of s.cluster a n) (group_of s.cluster a m) && has callers n))
+    → ((n : Node) → has set n ≡ (comes_before (group_of s.cluster a n) (group_of s.cluster a m) && has callers n))
     → ((n : Node) → node_count s.cluster ≤ n.0 → has set n ≡ false)
     → (n : Node) → has set n ≡ calls_away s fresh a m n
 unfolding calls_away
 calling s fresh a m callers set shape are nodes others n = cases (nat_lt n.0 (node_count s.cluster))
     (λ t. let lt = is_below n.0 (node_count s.cluster) t in
-    nodes n lt ∙ ap (λ b. comes_before (group_of s.cluster a n) (group_of s.cluster a m) && b) (are n lt))
+    nodes n ∙ ap (λ b. comes_before (group_of s.cluster a n) (group_of s.cluster a m) && b) (are n lt))
     (λ f. let ge = is_above n.0 (node_count s.cluster) f in
     others n ge ∙ sym (none_beyond s fresh a m n shape ge))
 
