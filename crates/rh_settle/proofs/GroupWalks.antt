@@ -9,7 +9,7 @@ use Rattle.rh_rules.specs.Moves.{comes_before}
 use Rattle.rh_settle.proofs.Entries.{both}
 use Rattle.rh_settle.proofs.InGroups.{position_cons, none_before, first_before, before_suc}
 
-neither : (p q : Bool) → p || q ≡ false → (p ≡ false) × (q ≡ false)
+pub neither : (p q : Bool) → p || q ≡ false → (p ≡ false) × (q ≡ false)
 neither true q h = both true refl h
 neither false q h = (refl, h)
 

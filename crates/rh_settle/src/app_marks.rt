@@ -54,6 +54,11 @@ impl AppMarks {
         self.marks == 0
     }
 
+    // Are eight applications marked at most?
+    pub fn are_few(&self) -> bool {
+        self.marks.count_ones() <= 8
+    }
+
     // Marks an application.
     pub fn mark(&mut self, app: App)
         requires { app.0 < MAX_APPS }

@@ -1,18 +1,18 @@
 //! What can move of itself, whatever pairs are fresh.
 
-ghost use Rattle.std.specs.Prelude.{◌≡◌, ◌<◌, true, false, is_some};
+ghost use Rattle.std.specs.Prelude.{◌≡◌, ◌<◌, ◌&&◌, ◌||◌, true, false, is_some};
 ghost use Rattle.rh_model.specs.declared.node.App.{App};
 ghost use Rattle.rh_model.specs.declared.node.Node.{Node};
 ghost use Rattle.rh_state.specs.Shape.{IsAppOf};
-ghost use Rattle.rh_state.specs.StateView.{standing_of};
+ghost use Rattle.rh_state.specs.StateView.{standing_of, waits_at};
 ghost use Rattle.rh_state.specs.Stored.{read};
 ghost use Rattle.rh_base.specs.Lists.{head};
 ghost use Rattle.rh_place.specs.Sets.{has};
-ghost use Rattle.rh_rules.specs.Moves.{local_moves};
+ghost use Rattle.rh_rules.specs.Moves.{can_start, local_moves};
 ghost use Rattle.rh_settle.specs.Boards.{is_marked, is_wanted, MarksLocals, IsReadyOf};
 
 use crate::app_marks::AppMarks;
-use crate::search::{is_local, starts_at};
+use crate::search::{is_local, starts, starts_at};
 use rh_model::{App, Node};
 use rh_place::NodeSet;
 use rh_state::{Standing, State};
@@ -84,6 +84,39 @@ fn mark_apps(state: &State, local: &mut AppMarks, wanted: &mut AppMarks)
     }
 }
 
+// The nodes of a set, and those at which a local application waits and can start.
+fn with_starts(set: NodeSet, state: &State, app: App) -> NodeSet
+    requires { IsAppOf (read state.now).cluster app }
+    ensures { (n : Node) → has result n ≡ (has set n || (waits_at (read state.now) n app && can_start (read state.now) n app)) }
+{
+    state.formed();
+    let count = state.cluster().node_count();
+    let mut nodes = set;
+    'nodes: for number in 0..count {
+        let node = Node(number as u8);
+        if starts(state, node, app) {
+            nodes = nodes.with(node);
+        }
+    }
+    nodes
+}
+
+// The nodes at which a local application can start, found by asking each node for each local one. Where few are local this
+// costs less than a walk over their marks at each node.
+fn nodes_of_each(state: &State, local: &AppMarks) -> NodeSet
+    requires { MarksLocals (read state.now).cluster local.now }
+    ensures { (n : Node) → has result n ≡ is_some (head (local_moves (read state.now) n)) }
+{
+    state.formed();
+    let count = state.cluster().app_count();
+    let mut nodes = NodeSet::empty();
+    let mut rest = local.copy();
+    'apps: while let Some(app) = rest.take_below(count) {
+        nodes = with_starts(nodes, state, app);
+    }
+    nodes
+}
+
 // The nodes at which a local application can start.
 fn local_nodes(state: &State, local: &AppMarks) -> NodeSet
     requires { MarksLocals (read state.now).cluster local.now }
@@ -93,6 +126,9 @@ fn local_nodes(state: &State, local: &AppMarks) -> NodeSet
     let mut nodes = NodeSet::empty();
     if local.is_empty() {
         return nodes;
+    }
+    if local.are_few() {
+        return nodes_of_each(state, local);
     }
     let count = state.cluster().node_count();
     'nodes: for number in 0..count {

@@ -62,7 +62,7 @@ fn local_at(state: &State, node: Node) -> Option<Move>
 }
 
 // Does an application wait at a node where it is local and can start?
-fn starts(state: &State, node: Node, app: App) -> bool
+pub(crate) fn starts(state: &State, node: Node, app: App) -> bool
     requires node { node.0 < node_count (read state.now).cluster }
     requires app { app.0 < app_count (read state.now).cluster }
     ensures { result ≡ (waits_at (read state.now) node app && can_start (read state.now) node app) }
