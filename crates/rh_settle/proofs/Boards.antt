@@ -27,7 +27,7 @@ use Rattle.rh_place.proofs.Nowhere.{none_chosen}
 use Rattle.rh_rules.specs.declared.notice.Move.{Move}
 use Rattle.rh_rules.specs.declared.notice.Move.TheVariants.{Local, Placement, Takeover}
 use Rattle.rh_rules.specs.declared.notice.Pair.{Pair}
-use Rattle.rh_settle.specs.Boards.{AppSets, AppMarks, BoardView, is_among, is_marked, is_wanted, is_touched, touches_local, matters, mover}
+use Rattle.rh_settle.specs.Boards.{AppSets, AppMarks, BoardView, is_among, is_marked, is_wanted, is_touched, touches_local, matters, is_asked, mover}
 use Rattle.rh_settle.specs.Boards.{MarksLocals, IsExactAt, IsBoardOf}
 use Rattle.rh_rules.specs.Course.{is_fresh, is_local}
 use Rattle.rh_rules.specs.Moves.{can_start, local_move, local_moves, comes_before, calls_away, placements, placements_from, takeovers, takeovers_from, moved_state}
@@ -99,6 +99,19 @@ mattered true false f h e = both false (h refl) refl
 mattered false true f h e = refl
 mattered false false f h e = e
 
+-- and where it is asked now, it was asked before
+asked : (p q g f : Bool) → (p ≡ true → q ≡ true) → (p && g) || f ≡ true → (q && g) || f ≡ true
+asked true true g f h e = e
+asked true false g f h e = both false (h refl) refl
+asked false true true f h e = refl
+asked false true false f h e = e
+asked false false g f h e = e
+
+-- where it is asked, it matters
+pub asked_matters : (p g f : Bool) → (p && g) || f ≡ true → p || f ≡ true
+asked_matters true g f e = refl
+asked_matters false g f e = e
+
 -- where an application stands as before, and all that it needs runs as before, it can run as before
 module _ (s : StateView) (r w : List (List App)) (ks : List (List Kind)) (st : List Standing) (n : Node) where
   abbrev Runs : App → Type 0
@@ -140,9 +153,10 @@ module _ (s : StateView) (r w : List (List App)) (ks : List (List Kind)) (st : L
   exact_same : (b : BoardView) → ((a : App) → is_wanted (standing_of (relisted s r w ks st) a) ≡ true → is_wanted (standing_of s a) ≡ true)
       → IsExactAt s b n → IsExactAt (relisted s r w ks st) b n
   exact_same b wanted h = record {
-    locals = h.locals ∙ ap (λ xs. is_some (head xs)) (sym locals_same);
+    starts = h.starts ∙ ap (λ xs. is_some (head xs)) (sym locals_same);
     moving = λ a of m. h.moving a of (mattered (is_wanted (standing_of (relisted s r w ks st) a)) (is_wanted (standing_of s a)) (is_among b.fresh a n) (wanted a) m);
-    able = λ a of m. h.able a of (mattered (is_wanted (standing_of (relisted s r w ks st) a)) (is_wanted (standing_of s a)) (is_among b.fresh a n) (wanted a) m)
+    able = λ a of m. h.able a of (asked (is_wanted (standing_of (relisted s r w ks st) a)) (is_wanted (standing_of s a)) (is_some (group_of s.cluster a n))
+        (is_among b.fresh a n) (wanted a) m)
         ∙ sym (operational_same a);
   }
 
@@ -283,27 +297,27 @@ locals_moved s (Takeover x m n) k shape of none =
 -- ---- what a board keeps
 -- so it stays exact for what the move doesn't touch
 record IsKeptAt (t : StateView) (x : App) (b : BoardView) (k : Node) : Type 0 where
-  pub locals : touches_local t.cluster x ≡ false → has b.locals k ≡ is_some (head (local_moves t k))
+  pub starts : touches_local t.cluster x ≡ false → has b.starts k ≡ is_some (head (local_moves t k))
   pub moving : (a : App) → IsAppOf t.cluster a → matters t b.fresh a k ≡ true → is_marked b.moving a ≡ true
-  pub able : (a : App) → IsAppOf t.cluster a → is_touched t.cluster x a ≡ false → matters t b.fresh a k ≡ true → is_among b.able a k ≡ is_operational t a k
+  pub able : (a : App) → IsAppOf t.cluster a → is_touched t.cluster x a ≡ false → is_asked t b.fresh a k ≡ true → is_among b.able a k ≡ is_operational t a k
 
 kept_moved : (s : StateView) (m : Move) (b : BoardView) (k : Node) → IsShaped (moved_state s m) → IsAppOf (moved_state s m).cluster (mover m) → IsExactAt s b k
     → IsKeptAt (moved_state s m) (mover m) b k
 kept_moved s (Local n x) b k shape of h = record {
-  locals = λ u. h.locals ∙ ap (λ xs. is_some (head xs)) (sym (locals_moved s (Local n x) k shape of u));
+  starts = λ u. h.starts ∙ ap (λ xs. is_some (head xs)) (sym (locals_moved s (Local n x) k shape of u));
   moving = λ a of_a m. h.moving a of_a m;
   able = λ a of_a u m. h.able a of_a m ∙ sym (operational_moved s (Local n x) a k u);
 }
 kept_moved s (Placement x from n) b k shape of h = record {
-  locals = λ u. h.locals ∙ ap (λ xs. is_some (head xs)) (sym (locals_moved s (Placement x from n) k shape of u));
+  starts = λ u. h.starts ∙ ap (λ xs. is_some (head xs)) (sym (locals_moved s (Placement x from n) k shape of u));
   moving = λ a of_a m. h.moving a of_a (mattered _ (is_wanted (standing_of s a)) (is_among b.fresh a k) (still_wanted s x n a) m);
-  able = λ a of_a u m. h.able a of_a (mattered _ (is_wanted (standing_of s a)) (is_among b.fresh a k) (still_wanted s x n a) m)
+  able = λ a of_a u m. h.able a of_a (asked _ (is_wanted (standing_of s a)) (is_some (group_of s.cluster a k)) (is_among b.fresh a k) (still_wanted s x n a) m)
       ∙ sym (operational_moved s (Placement x from n) a k u);
 }
 kept_moved s (Takeover x l n) b k shape of h = record {
-  locals = λ u. h.locals ∙ ap (λ xs. is_some (head xs)) (sym (locals_moved s (Takeover x l n) k shape of u));
+  starts = λ u. h.starts ∙ ap (λ xs. is_some (head xs)) (sym (locals_moved s (Takeover x l n) k shape of u));
   moving = λ a of_a m. h.moving a of_a (mattered _ (is_wanted (standing_of s a)) (is_among b.fresh a k) (still_wanted s x n a) m);
-  able = λ a of_a u m. h.able a of_a (mattered _ (is_wanted (standing_of s a)) (is_among b.fresh a k) (still_wanted s x n a) m)
+  able = λ a of_a u m. h.able a of_a (asked _ (is_wanted (standing_of s a)) (is_some (group_of s.cluster a k)) (is_among b.fresh a k) (still_wanted s x n a) m)
       ∙ sym (operational_moved s (Takeover x l n) a k u);
 }
 
@@ -314,9 +328,9 @@ pub record Looked (t : StateView) (x : App) (b c : BoardView) (n : Node) : Type 
   pub touching : c.touching ≡ b.touching
   pub moving : c.moving ≡ b.moving
   pub fresh : c.fresh ≡ b.fresh
-  pub local : is_marked b.touching x ≡ true → has c.locals n ≡ is_some (head (local_moves t n))
-  pub apart : is_marked b.touching x ≡ false → c.locals ≡ b.locals
-  pub locals : (k : Node) → same_node k n ≡ false → has c.locals k ≡ has b.locals k
+  pub local : is_marked b.touching x ≡ true → has c.starts n ≡ is_some (head (local_moves t n))
+  pub apart : is_marked b.touching x ≡ false → c.starts ≡ b.starts
+  pub starts : (k : Node) → same_node k n ≡ false → has c.starts k ≡ has b.starts k
   pub here : (a : App) → IsAppOf t.cluster a → is_marked c.moving a ≡ true → is_touched t.cluster x a ≡ true → matters t c.fresh a n ≡ true → is_among c.able a n ≡ is_operational t a n
   pub able : (a : App) (k : Node) → is_touched t.cluster x a && same_node k n ≡ false → is_among c.able a k ≡ is_among b.able a k
 
@@ -324,30 +338,34 @@ module _ (t : StateView) (x : App) (b c : BoardView) (n k : Node) (look : Looked
   mattered_too : (a : App) → matters t c.fresh a k ≡ true → matters t b.fresh a k ≡ true
   mattered_too a m = sym (ap (λ (fresh : AppSets). matters t fresh a k) look.fresh) ∙ m
 
+  asked_too : (a : App) → is_asked t c.fresh a k ≡ true → is_asked t b.fresh a k ≡ true
+  asked_too a m = sym (ap (λ (fresh : AppSets). is_asked t fresh a k) look.fresh) ∙ m
+
   marked_too : (a : App) → is_marked b.moving a ≡ true → is_marked c.moving a ≡ true
   marked_too a m = ap (λ (marks : AppMarks). is_marked marks a) look.moving ∙ m
 
   look_kept : IsKeptAt t x b k → IsKeptAt t x c k
   look_kept kept = record {
-    locals = λ u. ap (λ (nodes : NodeBits). has nodes k) (look.apart (mark ∙ u)) ∙ kept.locals u;
+    starts = λ u. ap (λ (nodes : NodeBits). has nodes k) (look.apart (mark ∙ u)) ∙ kept.starts u;
     moving = λ a of m. marked_too a (kept.moving a of (mattered_too a m));
-    able = λ a of u m. look.able a k (ap (λ p. p && same_node k n) u) ∙ kept.able a of u (mattered_too a m);
+    able = λ a of u m. look.able a k (ap (λ p. p && same_node k n) u) ∙ kept.able a of u (asked_too a m);
   }
 
   looked_at : IsKeptAt t x b k → (k.0 ≢ n.0 → IsExactAt t b k) → IsExactAt t c k
   looked_at kept apart = cases (same_node k n)
       (λ y. subst (λ (i : ℕ). IsKeptAt t x c (numbered i) → IsExactAt t c (numbered i)) (sym (same_number k.0 n.0 y)) here (look_kept kept))
       (λ f. let h = apart (other_number k.0 n.0 f) in record {
-        locals = look.locals k f ∙ h.locals;
+        starts = look.starts k f ∙ h.starts;
         moving = λ a of m. marked_too a (h.moving a of (mattered_too a m));
-        able = λ a of m. look.able a k (ap (λ p. is_touched t.cluster x a && p) f ∙ and_false (is_touched t.cluster x a)) ∙ h.able a of (mattered_too a m);
+        able = λ a of m. look.able a k (ap (λ p. is_touched t.cluster x a && p) f ∙ and_false (is_touched t.cluster x a)) ∙ h.able a of (asked_too a m);
       })
     where
       here : IsKeptAt t x c n → IsExactAt t c n
       here kept = record {
-        locals = cases (touches_local t.cluster x) (λ y. look.local (mark ∙ y)) (λ u. kept.locals u);
+        starts = cases (touches_local t.cluster x) (λ y. look.local (mark ∙ y)) (λ u. kept.starts u);
         moving = kept.moving;
-        able = λ a of m. cases (is_touched t.cluster x a) (λ y. look.here a of (kept.moving a of m) y m) (λ u. kept.able a of u m);
+        able = λ a of m. let mattering = asked_matters (is_wanted (standing_of t a)) (is_some (group_of t.cluster a n)) (is_among c.fresh a n) m in
+            cases (is_touched t.cluster x a) (λ y. look.here a of (kept.moving a of mattering) y mattering) (λ u. kept.able a of u m);
       }
 
       and_false : (p : Bool) → p && false ≡ false
@@ -405,7 +423,7 @@ module _ (s t : StateView) (m : Move) (pairs : List Pair) (is : t ≡ moved_stat
 pub callers_are : (s : StateView) (pairs : List Pair) (b : BoardView) → IsBoardOf s pairs b → (a : App) → IsAppOf s.cluster a → (n : Node) → IsNodeOf s.cluster n
     → (is_among b.fresh a n && is_among b.able a n) ≡ (is_fresh pairs n a && is_operational s a n)
 callers_are s pairs b h a of_a n of_n = by (is_among b.fresh a n) (h.fresh a n of_a of_n)
-    (λ f. (h.exact n).able a of_a (or_right (is_wanted (standing_of s a)) _ f))
+    (λ f. (h.exact n).able a of_a (or_right (is_wanted (standing_of s a) && is_some (group_of s.cluster a n)) _ f))
   where
     by : (f : Bool) → f ≡ is_fresh pairs n a → (f ≡ true → is_among b.able a n ≡ is_operational s a n)
         → (f && is_among b.able a n) ≡ (is_fresh pairs n a && is_operational s a n)

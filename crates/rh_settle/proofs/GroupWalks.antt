@@ -1,12 +1,19 @@
--- A walk over groups as far as the first that has a node.
-use Rattle.std.proofs.Common.{◌≡◌, ◌<◌, ◌≤◌, ◌||◌, ℕ, zero, suc, Bool, true, false, cond, List, [], ◌∷◌, All, Option, Some, None, length, take, get_or, nat_eq, refl, ap, ◌∙◌, arith}
-use Rattle.std.specs.List.{list_any, position}
-use Rattle.std.specs.Option.{option_map}
+-- A walk over groups as far as the first that has a node, and what is asked of the nodes of all groups only.
+use Rattle.std.proofs.Common.{◌≡◌, ◌<◌, ◌≤◌, ◌||◌, ℕ, zero, suc, Bool, true, false, cond, List, [], ◌∷◌, All, Option, Some, None, length, take, get_or, nat_eq, refl, ap, ◌∙◌, arith, is_some, unwrap_or}
+use Rattle.std.specs.List.{list_any, position, filter}
+use Rattle.std.specs.Option.{option_map, option_and_then}
 use Rattle.std.proofs.lemmas.Bool.Decides.{nat_tests}
 use Rattle.rh_model.specs.declared.node.Node.{Node}
-use Rattle.rh_model.specs.ClusterView.{is_in}
+use Rattle.rh_model.specs.declared.node.App.{App}
+use Rattle.rh_model.specs.declared.settings.Spread.{Spread}
+use Rattle.rh_model.specs.ClusterView.{is_in, group_of, spread_of}
+use Rattle.rh_state.specs.StateView.{StateView, running_count}
+use Rattle.rh_base.specs.Lists.{or_else, first_given, lightest}
+use Rattle.rh_base.proofs.Lists.{place_any}
+use Rattle.rh_rules.specs.Placing.{best}
 use Rattle.rh_rules.specs.Moves.{comes_before}
 use Rattle.rh_settle.proofs.Entries.{both}
+use Rattle.rh_settle.proofs.Places.{same_refl, or_left, or_right}
 use Rattle.rh_settle.proofs.InGroups.{position_cons, none_before, first_before, before_suc}
 
 pub neither : (p q : Bool) → p || q ≡ false → (p ≡ false) × (q ≡ false)
@@ -60,3 +67,28 @@ nowhere count [] n all past = refl
 nowhere count (g ∷ groups) n all past =
     passed (is_in n) g groups (not_in count g n (all 0 g (omega arith)) past)
     ∙ ap (option_map suc) (nowhere count groups n (λ k d l. all (suc k) d (omega arith)) past)
+
+-- ---- what is asked of the nodes of a list only
+same_filter : (p q : Node → Bool) (group : List Node) → ((n : Node) → is_in n group ≡ true → p n ≡ q n) → filter p group ≡ filter q group
+same_filter p q [] same = refl
+same_filter p q (m ∷ group) same =
+    let here = same m (or_left (nat_eq m.0 m.0) (is_in m group) (same_refl m.0)) in
+    let rest = same_filter p q group (λ n h. same n (or_right (nat_eq n.0 m.0) (is_in n group) h)) in
+    λ i. cond (here i) (m ∷ rest i) (rest i)
+
+same_given : (p q : Node → Bool) (groups : List (List Node)) → ((n : Node) → list_any (is_in n) groups ≡ true → p n ≡ q n)
+    → first_given (filter p) groups ≡ first_given (filter q) groups
+same_given p q [] same = refl
+same_given p q (g ∷ groups) same =
+    let here = same_filter p q g (λ n h. same n (or_left (is_in n g) (list_any (is_in n) groups) h)) in
+    let rest = same_given p q groups (λ n h. same n (or_right (is_in n g) (list_any (is_in n) groups) h)) in
+    λ i. or_else (here i) (rest i)
+
+pub same_best : (s : StateView) (a : App) (p q : Node → Bool) → ((n : Node) → is_some (group_of s.cluster a n) ≡ true → p n ≡ q n) → best s a p ≡ best s a q
+unfolding best
+same_best s a p q same = ap (lightest (running_count s)) (by (spread_of s.cluster a) same)
+  where
+    by : (o : Option Spread) → ((n : Node) → is_some (option_and_then (λ (v : Spread). position (is_in n) v.groups) o) ≡ true → p n ≡ q n)
+        → first_given (filter p) (unwrap_or (option_map (λ (v : Spread). v.groups) o) []) ≡ first_given (filter q) (unwrap_or (option_map (λ (v : Spread). v.groups) o) [])
+    by None same = refl
+    by (Some v) same = same_given p q v.groups (λ n h. same n (place_any (is_in n) v.groups ∙ h))

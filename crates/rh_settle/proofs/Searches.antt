@@ -157,15 +157,6 @@ up_to i j below from = elim (cases_lt j i) [
   | inr ge ↦ from ge
 ]
 
--- nothing is given up to an application, where nothing is given below a place, from there on below it, and by itself
-pub none_to : {B : Type 0} (f : App → List B) (i : ℕ) (x a : App) → a.0 < x.0 + 1 → (a.0 < i → f a ≡ []) → (i ≤ a.0 → a.0 < x.0 → f a ≡ []) → f x ≡ []
-    → f a ≡ []
-none_to f i x a lt below between here = up_to i a.0 below (λ from. up_to x.0 a.0 (between from)
-    (λ ge. ap (λ (j : ℕ). f (app_numbered j)) (same a.0 x.0 lt ge) ∙ here))
-  where
-    same : (i j : ℕ) → i < j + 1 → j ≤ i → i ≡ j
-    same i j lt ge = omega arith
-
 pub either_some : {A : Type 0} (pick : Pick) (xs ys : List A) (o : A) → Some o ≡ picked pick xs → Some o ≡ picked pick (or_else xs ys)
 either_some pick xs ys o h = h ∙ ap (picked pick) (sym (some_picked pick xs ys o (sym h)))
 

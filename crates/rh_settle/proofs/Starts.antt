@@ -1,5 +1,5 @@
 -- Where a local application can start.
-use Rattle.std.proofs.Common.{◌≡◌, ◌<◌, ◌≤◌, ◌+◌, ◌-◌, ℕ, Bool, true, false, cond, ◌&&◌, ◌||◌, List, [], ◌∷◌, refl, sym, ap, ◌∙◌, arith, is_some, subst, None}
+use Rattle.std.proofs.Common.{◌≡◌, ◌<◌, ◌≤◌, ◌+◌, ◌-◌, ℕ, Bool, true, false, cond, ◌&&◌, ◌||◌, List, [], ◌∷◌, refl, sym, ap, ◌∙◌, arith, is_some, None}
 use Rattle.rh_model.specs.declared.node.Node.{Node}
 use Rattle.rh_model.specs.declared.node.App.{App}
 use Rattle.rh_model.specs.ClusterView.{app_numbered}
@@ -75,14 +75,6 @@ pub none_local : (s : StateView) (n : Node) → IsShaped s → ((a : App) → Is
 unfolding local_moves
 none_local s n shape none = none_of s n (waiting_at s n)
     (λ a here. no_start s n a (none a (started_within s n a shape (or_right (runs_at s n a) (waits_at s n a) here))))
-
--- what holds of the applications below a number, from there on below an application, and of that one, holds up to it
-pub up_through : (P : App → Type 0) (i : ℕ) (x a : App) → a.0 < x.0 + 1 → (a.0 < i → P a) → (i ≤ a.0 → a.0 < x.0 → P a) → P x → P a
-up_through P i x a lt below between here = up_to i a.0 below (λ from. up_to x.0 a.0 (between from)
-    (λ ge. subst (λ (j : ℕ). P (app_numbered j)) (same x.0 a.0 lt ge) here))
-  where
-    same : (i j : ℕ) → j < i + 1 → i ≤ j → i ≡ j
-    same i j lt ge = omega (arith, lt, ge)
 
 -- ---- marks that move up
 -- the applications from a number on have their marks, which are still to move up by so many; so they do after one step

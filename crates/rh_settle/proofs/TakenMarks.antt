@@ -77,9 +77,6 @@ module _ (marks : ℕ) (small : marks < 2 ^ 128) (some : marks ≢ 0) where
   lowest : (low < 128) × (bit_at marks low ≡ 1) × ((i : ℕ) → i < low → bit_at marks i ≡ 0)
   lowest = bit_at-trailing_zeros w128 marks (omega (arith, some)) small
 
-  pub low_few : low < 128
-  low_few = lowest.0
-
   pub low_marked : is_marked (record { marks = marks }) first ≡ true
   unfolding is_marked
   low_marked = ap (λ b. b == 1) lowest.1

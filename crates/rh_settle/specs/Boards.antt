@@ -4,7 +4,7 @@ use Rattle.std.specs.Int.{bit_at}
 use Rattle.std.specs.List.{list_any}
 use Rattle.rh_model.specs.declared.node.Node.{Node}
 use Rattle.rh_model.specs.declared.node.App.{App}
-use Rattle.rh_model.specs.ClusterView.{ClusterView}
+use Rattle.rh_model.specs.ClusterView.{ClusterView, group_of}
 use Rattle.rh_model.specs.Needs.{needed_apps}
 use Rattle.rh_state.specs.declared.status.Standing.{Standing}
 use Rattle.rh_state.specs.declared.status.Standing.TheVariants.{Wanted}
@@ -49,7 +49,7 @@ pub record ReadyView : Type 0 where
 
 -- a set of nodes, and for each application three marks and two sets of nodes
 pub record BoardView : Type 0 where
-  pub locals : NodeBits
+  pub starts : NodeBits
   pub local : AppMarks
   pub touching : AppMarks
   pub moving : AppMarks
@@ -79,6 +79,10 @@ pub record IsReadyOf (s : StateView) (r : ReadyView) : Type 0 where
 abbrev pub matters : StateView → AppSets → App → Node → Bool
 matters s fresh a n = is_wanted (standing_of s a) || is_among fresh a n
 
+-- to its placement it matters at the nodes of its list only
+abbrev pub is_asked : StateView → AppSets → App → Node → Bool
+is_asked s fresh a n = (is_wanted (standing_of s a) && is_some (group_of s.cluster a n)) || is_among fresh a n
+
 -- a move of an application can change where this one can run: it is the one that moves, or it needs that one
 unfoldable pub is_touched : ClusterView → App → App → Bool
 is_touched c moved a = same_app a moved || has_app (needed_apps c a) moved
@@ -87,12 +91,12 @@ is_touched c moved a = same_app a moved || has_app (needed_apps c a) moved
 unfoldable pub touches_local : ClusterView → App → Bool
 touches_local c moved = list_any (λ a. is_local c a && is_touched c moved a) (apps_of c)
 
--- at a node: a local application can start there, and an application can run there, wherever that matters; and where it
+-- at a node: a local application can start there, and an application can run there, wherever that is asked; and where it
 -- matters the application is marked
 pub record IsExactAt (s : StateView) (b : BoardView) (n : Node) : Type 0 where
-  pub locals : has b.locals n ≡ is_some (head (local_moves s n))
+  pub starts : has b.starts n ≡ is_some (head (local_moves s n))
   pub moving : (a : App) → IsAppOf s.cluster a → matters s b.fresh a n ≡ true → is_marked b.moving a ≡ true
-  pub able : (a : App) → IsAppOf s.cluster a → matters s b.fresh a n ≡ true → is_among b.able a n ≡ is_operational s a n
+  pub able : (a : App) → IsAppOf s.cluster a → is_asked s b.fresh a n ≡ true → is_among b.able a n ≡ is_operational s a n
 
 -- the same of each node, the fresh pairs are these, and those are marked that are local, and those whose moves touch a
 -- local application

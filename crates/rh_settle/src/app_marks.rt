@@ -1,6 +1,6 @@
 //! A mark for each application.
 
-ghost use Rattle.std.specs.Prelude.{◌≡◌, ◌+◌, ◌<◌, ◌≤◌, ◌&&◌, ◌||◌, ◌↔◌, false, true, not, IsTrue, IsNone, IfSome};
+ghost use Rattle.std.specs.Prelude.{◌≡◌, ◌+◌, ◌<◌, ◌≤◌, ◌&&◌, ◌||◌, ◌↔◌, false, true, not, count_ones, IsTrue, IsNone, IfSome};
 ghost use Rattle.rh_model.specs.declared.limits.TheConstants.{MAX_APPS};
 ghost use Rattle.rh_model.specs.declared.node.App.{App};
 ghost use Rattle.rh_state.specs.Numbers.{same_app};
@@ -55,7 +55,9 @@ impl AppMarks {
     }
 
     // Are eight applications marked at most?
-    pub fn are_few(&self) -> bool {
+    pub fn are_few(&self) -> bool
+        ensures { IsTrue result ↔ (count_ones self.now.marks ≤ 8) }
+    {
         self.marks.count_ones() <= 8
     }
 

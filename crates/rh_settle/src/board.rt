@@ -1,10 +1,11 @@
 //! What settling keeps between its moves, so that no move is searched for from the beginning.
 
+ghost use Rattle.std.specs.List.{list_any};
 ghost use Rattle.std.specs.Prelude.{◌≡◌, ◌≢◌, ◌<◌, ◌≤◌, ◌&&◌, ◌||◌, ◌++◌, List, All, true, false, is_some, IsNone, IfSome};
 ghost use Rattle.rh_model.specs.declared.limits.TheConstants.{MAX_APPS};
 ghost use Rattle.rh_model.specs.declared.node.App.{App};
 ghost use Rattle.rh_model.specs.declared.node.Node.{Node};
-ghost use Rattle.rh_model.specs.ClusterView.{node_count, app_count};
+ghost use Rattle.rh_model.specs.ClusterView.{node_count, app_count, group_of, is_in};
 ghost use Rattle.rh_model.specs.Needs.{needed_apps};
 ghost use Rattle.rh_state.specs.Lists.{has_app};
 ghost use Rattle.rh_state.specs.Numbers.{same_app, same_node};
@@ -16,7 +17,7 @@ ghost use Rattle.rh_place.specs.declared.node_set.TheConstants.NodeSet.{LIMIT};
 ghost use Rattle.rh_rules.specs.Placing.{is_operational};
 ghost use Rattle.rh_place.specs.Sets.{has};
 ghost use Rattle.rh_rules.specs.declared.notice.Pair.{Pair};
-ghost use Rattle.rh_settle.specs.Boards.{is_among, is_marked, is_wanted, is_touched, touches_local, matters, nodes_changed, mover, MarksLocals, Covers, IsReadyOf, IsBoardOf};
+ghost use Rattle.rh_settle.specs.Boards.{is_among, is_marked, is_wanted, is_touched, touches_local, matters, is_asked, nodes_changed, mover, MarksLocals, Covers, IsReadyOf, IsBoardOf};
 ghost use Rattle.rh_rules.specs.Course.{is_fresh};
 ghost use Rattle.rh_rules.specs.Moves.{local_moves, moved_state};
 
@@ -24,8 +25,8 @@ use crate::app_marks::AppMarks;
 use crate::app_sets::AppSets;
 use crate::ready::{Ready, is_wanted};
 use crate::search::starts_at;
-use rh_model::{App, Cluster, MAX_APPS, Node};
-use rh_place::{NodeSet, operational, operational_among, operational_nodes};
+use rh_model::{App, Cluster, Group, MAX_APPS, Node};
+use rh_place::{NodeSet, operational, operational_among};
 use rh_rules::{Move, Pair};
 use rh_state::{Standing, State};
 use std::marker::Model;
@@ -34,7 +35,7 @@ use std::marker::Model;
 #[derive(Drop)]
 pub(crate) struct Board {
     // The nodes at which a local application can start.
-    locals: NodeSet,
+    starts: NodeSet,
     // The local applications.
     local: AppMarks,
     // The applications of which a move can change that: the local ones, and those that a local one needs.
@@ -43,7 +44,7 @@ pub(crate) struct Board {
     moving: AppMarks,
     // For each application the nodes of its fresh pairs.
     fresh: AppSets,
-    // For each application the nodes at which it can run: all of them where it is to run, else those of its fresh pairs.
+    // For each application the nodes at which it can run, of those of its fresh pairs and, where it is to run, of its list.
     able: AppSets,
 }
 
@@ -52,7 +53,7 @@ impl Model for Board {
 
     ghost Value = { BoardView };
 
-    ghost view = { λ b. record { locals = b.locals; local = b.local; touching = b.touching; moving = b.moving; fresh = b.fresh; able = b.able } };
+    ghost view = { λ b. record { starts = b.starts; local = b.local; touching = b.touching; moving = b.moving; fresh = b.fresh; able = b.able } };
 }
 
 impl Board {
@@ -65,7 +66,7 @@ impl Board {
         let _few_nodes = state.cluster().node_count();
         let touching = touching_apps(state.cluster(), &ready.local);
         let mut board = Board {
-            locals: ready.starts,
+            starts: ready.starts,
             local: ready.local,
             touching,
             moving: ready.wanted,
@@ -79,10 +80,10 @@ impl Board {
     }
 
     /// The nodes at which a local application can start.
-    pub fn locals(&self) -> NodeSet
-        ensures { (n : Node) → has result n ≡ has self.now.locals n }
+    pub fn starts(&self) -> NodeSet
+        ensures { (n : Node) → has result n ≡ has self.now.starts n }
     {
-        self.locals
+        self.starts
     }
 
     /// The applications that can be placed or taken over.
@@ -92,7 +93,7 @@ impl Board {
         self.moving.copy()
     }
 
-    /// The nodes at which an application can run, if it is to run.
+    /// Of the nodes of its list those at which an application can run, if it is to run.
     pub fn able(&self, app: App) -> NodeSet
         requires { app.0 < MAX_APPS }
         ensures { (n : Node) → has result n ≡ is_among self.now.able app n }
@@ -117,16 +118,16 @@ impl Board {
         ensures touching { self.new.touching ≡ self.old.touching }
         ensures moving { self.new.moving ≡ self.old.moving }
         ensures fresh { self.new.fresh ≡ self.old.fresh }
-        ensures local { is_marked self.old.touching moved ≡ true → has self.new.locals node ≡ is_some (head (local_moves (read state.now) node)) }
-        ensures apart { is_marked self.old.touching moved ≡ false → self.new.locals ≡ self.old.locals }
-        ensures locals { (n : Node) → same_node n node ≡ false → has self.new.locals n ≡ has self.old.locals n }
+        ensures local { is_marked self.old.touching moved ≡ true → has self.new.starts node ≡ is_some (head (local_moves (read state.now) node)) }
+        ensures apart { is_marked self.old.touching moved ≡ false → self.new.starts ≡ self.old.starts }
+        ensures starts { (n : Node) → same_node n node ≡ false → has self.new.starts n ≡ has self.old.starts n }
         ensures here { (a : App) → IsAppOf (read state.now).cluster a → is_marked self.new.moving a ≡ true → is_touched (read state.now).cluster moved a ≡ true → matters (read state.now) self.new.fresh a node ≡ true → is_among self.new.able a node ≡ is_operational (read state.now) a node }
         ensures able { (a : App) (n : Node) → is_touched (read state.now).cluster moved a && same_node n node ≡ false → is_among self.new.able a n ≡ is_among self.old.able a n }
     {
         let _few_apps = state.cluster().app_count();
         let _few_nodes = state.cluster().node_count();
         if self.touching.has(moved) {
-            self.locals = self.locals.put(node, starts_at(state, &self.local, node));
+            self.starts = self.starts.put(node, starts_at(state, &self.local, node));
         }
         look_again_at(
             state,
@@ -210,20 +211,59 @@ fn add_fresh(sets: &mut AppSets, marks: &mut AppMarks, pairs: &[Pair])
     }
 }
 
-// The nodes at which an application can run, as far as that matters.
+// A set with the nodes of a group too.
+fn with_nodes(set: NodeSet, group: &[Node]) -> NodeSet
+    requires { All (λ (n : Node). n.0 < LIMIT) group.now }
+    ensures { (n : Node) → has result n ≡ (has set n || is_in n group.now) }
+{
+    let mut nodes = set;
+    'nodes: for node in group {
+        nodes = nodes.with(*node);
+    }
+    nodes
+}
+
+// A set with the nodes of these groups too.
+fn with_groups(set: NodeSet, groups: &[Group]) -> NodeSet
+    requires { All (All (λ (n : Node). n.0 < LIMIT)) groups.now }
+    ensures { (n : Node) → has result n ≡ (has set n || list_any (is_in n) groups.now) }
+{
+    let mut nodes = set;
+    'groups: for group in groups {
+        nodes = with_nodes(nodes, group.as_slice());
+    }
+    nodes
+}
+
+// A set with the nodes of an application's list too.
+fn with_list(set: NodeSet, cluster: &Cluster, app: App) -> NodeSet
+    requires { IsAppOf cluster.now app }
+    ensures { (n : Node) → has result n ≡ (has set n || is_some (group_of cluster.now app n)) }
+{
+    cluster.is_within();
+    let _few = cluster.node_count();
+    match cluster.spread(app) {
+        Some(spread) => with_groups(set, spread.groups.as_slice()),
+        None => set,
+    }
+}
+
+// The nodes at which an application can run, as far as that is asked.
 fn able_nodes(state: &State, app: App, fresh: NodeSet) -> NodeSet
     requires { IsAppOf (read state.now).cluster app }
-    ensures { (n : Node) → is_wanted (standing_of (read state.now) app) || has fresh n ≡ true → has result n ≡ is_operational (read state.now) app n }
+    ensures { (n : Node) → (is_wanted (standing_of (read state.now) app) && is_some (group_of (read state.now).cluster app n)) || has fresh n ≡ true → has result n ≡ is_operational (read state.now) app n }
 {
     match state.standing(app) {
-        Standing::Wanted(_) => operational_nodes(state, app),
+        Standing::Wanted(_) => {
+            operational_among(state, app, with_list(fresh, state.cluster(), app))
+        }
         _ => operational_among(state, app, fresh),
     }
 }
 
-// Finds for each of these applications where it can run, as far as that matters.
+// Finds for each of these applications where it can run, as far as that is asked.
 fn find_able(state: &State, moving: &AppMarks, fresh: &AppSets, able: &mut AppSets)
-    ensures { (n : Node) (a : App) → IsAppOf (read state.now).cluster a → is_marked moving.now a ≡ true → matters (read state.now) fresh.now a n ≡ true → is_among able.new a n ≡ is_operational (read state.now) a n }
+    ensures { (n : Node) (a : App) → IsAppOf (read state.now).cluster a → is_marked moving.now a ≡ true → is_asked (read state.now) fresh.now a n ≡ true → is_among able.new a n ≡ is_operational (read state.now) a n }
 {
     let count = state.cluster().app_count();
     let mut rest = moving.copy();

@@ -109,7 +109,7 @@ fn next_local(state: &State, board: &Board) -> Option<Move>
     ensures { (pick : Pick) → result ≡ picked pick (first_given (local_moves (read state.now)) (nodes_of (read state.now).cluster)) }
 {
     state.formed();
-    match board.locals().first() {
+    match board.starts().first() {
         Some(node) => local_at(state, node),
         None => None,
     }

@@ -12,6 +12,7 @@ use Rattle.rh_settle.specs.Boards.{ReadyView, is_among, is_marked, is_wanted, to
 use Rattle.rh_rules.specs.Course.{is_fresh, is_local}
 use Rattle.rh_state.specs.StateView.{standing_of}
 use Rattle.rh_state.specs.Stored.{read}
+use Rattle.rh_settle.proofs.Boards.{asked_matters}
 use Rattle.rh_settle.proofs.Entries.{either, both}
 use Rattle.rh_settle.proofs.board.Board.of.Goals as goal
 
@@ -33,9 +34,10 @@ returns c =
           ∙ ap (λ b. b || is_fresh c.args.marked.now n a) (c.add_fresh.ensures.pairs a n few low ∙ ap (λ b. b || is_fresh c.args.freed.now n a) (c.empty.ensures a n))
           ∙ sym (list_any-append (λ (p : Pair). (n.0 == p.node.0) && (a.0 == p.app.0)) c.args.freed.now c.args.marked.now);
       exact = λ n. record {
-        locals = ap (λ (r : ReadyView). has r.starts n) c.ready.view_is ∙ c.requires.starts n;
+        starts = ap (λ (r : ReadyView). has r.starts n) c.ready.view_is ∙ c.requires.starts n;
         moving = λ a of_a m. marked n a of_a m;
-        able = λ a of_a m. c.find_able.ensures n a of_a (marked n a of_a m) m;
+        able = λ a of_a m. c.find_able.ensures n a of_a
+            (marked n a of_a (asked_matters (is_wanted (standing_of (read c.args.state.now) a)) _ (is_among c.add_fresh-2.new.sets a n) m)) m;
       };
     }
 
