@@ -1,7 +1,8 @@
 -- Groups and nodes, one after the other.
-use Rattle.std.proofs.Common.{◌≡◌, ◌≢◌, ℕ, suc, ◌+◌, ◌-◌, ◌<◌, List, [], ◌∷◌, ◌++◌, Bool, true, false, length, Some, Result, Ok, Err, drop, get_or, refl, sym, ap, ◌∙◌}
-use Rattle.std.specs.List.{range_with_len}
+use Rattle.std.proofs.Common.{◌≡◌, ◌≢◌, ℕ, suc, ◌+◌, ◌-◌, ◌<◌, List, [], ◌∷◌, ◌++◌, ◌||◌, Bool, true, false, length, Some, Result, Ok, Err, drop, get_or, refl, sym, ap, ◌∙◌}
+use Rattle.std.specs.List.{list_any, range_with_len}
 use Rattle.std.proofs.lemmas.List.{drop_more}
+use Rattle.std.proofs.lemmas.Option.{unwrap_or-slice_get}
 use Rattle.std.specs.Option.{option_map, unwrap_or}
 use Rattle.std.specs.Prelude.{flat_map}
 use Rattle.rh_cluster.specs.declared.fault.ClusterFault.{ClusterFault}
@@ -13,7 +14,7 @@ use Rattle.rh_cluster.specs.declared.shares.Share.{Share}
 use Rattle.rh_model.specs.declared.node.App.{App}
 use Rattle.rh_model.specs.declared.settings.Restart.{Restart}
 use Rattle.rh_cluster.specs.Agreement.{same_group, same_groups, first_involved, mismatch_faults, mismatches, mismatches_with, numbers_below}
-use Rattle.rh_cluster.specs.Agreement.{has_name, boot_at, is_elsewhere, boot_entry_faults, boot_list_faults, WantsForName}
+use Rattle.rh_cluster.specs.Agreement.{has_name, boot_at, is_elsewhere, boot_entry_faults, boot_list_faults, shares_at, names_node, WantsForName}
 use Rattle.rh_cluster.specs.Values.{spread_for}
 use Rattle.rh_model.specs.ClusterView.{NodeView}
 use Rattle.rh_base.proofs.Elements.{and_false, range_more}
@@ -88,3 +89,11 @@ pub wants_nothing : {X : Type 0} (r : Result X ClusterFault) (earlier faults : L
     → first faults ≢ Some fault.OutOfMemory → WantsForName r (earlier ++ faults)
 wants_nothing (Ok x) earlier faults h not_memory = tt
 wants_nothing (Err f) earlier faults h not_memory = λ e. absurd (not_memory (h ∙ ap Some e))
+
+-- ---- the nodes' `distributed`, one after the other
+
+pub named_from : (n : Node) (all : List (List Share)) (i : ℕ) → i < length all
+    → list_any (names_node n) (drop i all) ≡ (names_node n (shares_at all i) || list_any (names_node n) (drop (i + 1) all))
+named_from n all i inside =
+    ap (list_any (names_node n)) (drop_more all i [] inside)
+    ∙ ap (λ shares. names_node n shares || list_any (names_node n) (drop (i + 1) all)) (sym (unwrap_or-slice_get all i []))

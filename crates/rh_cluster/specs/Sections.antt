@@ -1,5 +1,5 @@
 -- The third stage: the sections of each term (kernel(6), app(4), ours).
-use Rattle.std.specs.Prelude.{ℕ, List, [], ◌∷◌, ◌++◌, length, filter_map, flat_map, Bool, true, false, not, ◌&&◌}
+use Rattle.std.specs.Prelude.{◌≡◌, ℕ, List, [], ◌∷◌, ◌++◌, length, filter_map, flat_map, Bool, true, false, not, ◌&&◌}
 use Rattle.std.specs.Prelude.{◌||◌, ◌==◌, is_some, is_none, Option, Some, None, option_map, codes, if◌then◌else◌}
 use Rattle.std.specs.List.{list_any, list_all}
 use Rattle.std.specs.Option.{option_map_or}
@@ -120,6 +120,11 @@ share_faults_by names earlier (Some s) =
 -- an entry of `distributed`
 unfoldable pub share_faults : NamesView → List Tree → Tree → List ClusterFault
 share_faults names earlier t = share_faults_by names earlier (as_share t)
+
+-- a `distributed` in which there is no fault, or none at all
+abbrev pub IsFaultless : NamesView → Option Tree → Type 0
+IsFaultless names None = Unit {0}
+IsFaultless names (Some v) = list_faults (share_faults names) v ≡ []
 
 abbrev pub pair_faults_by : NamesView → (Tree → Bool) → List Tree → Option (Tree × Tree) → List ClusterFault
 pair_faults_by names is_value earlier None = fault.BadValue ∷ []

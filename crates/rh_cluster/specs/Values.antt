@@ -196,6 +196,27 @@ share_of names t = do
     spread = record { timeout = time_or_zero s.1; groups = map (group_in names) (elements s.2) };
   })
 
+-- the value of a configuration's `distributed`
+abbrev pub distributed_in : Tree → Option Tree
+distributed_in config = value_under (codes "distributed") (kernel_of config)
+
+-- that of a term, if it is a node's
+abbrev pub distributed_of : Tree → Option Tree
+distributed_of t = as_node t >>= λ n. distributed_in n.1
+
+-- a term's `distributed`, if it has an entry
+abbrev pub filled : Tree → Option Tree
+filled t = distributed_of t >>= λ value. if length (elements value) == 0 then None else Some value
+
+-- the first one of these terms
+abbrev pub first_filled : List Tree → Option Tree
+first_filled [] = None
+first_filled (t ∷ ts) = option_or (filled t) (first_filled ts)
+
+-- the entries of a value of `distributed`
+abbrev pub shares_under : NamesView → Option Tree → List Share
+shares_under names value = filter_map (share_of names) (unwrap_or (option_map elements value) [])
+
 -- the entries of a node's `distributed`
 unfoldable pub shares_in : NamesView → Tree → List Share
 shares_in names config = filter_map (share_of names) (elements_under (codes "distributed") (kernel_of config))

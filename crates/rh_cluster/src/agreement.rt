@@ -12,7 +12,7 @@ ghost use Rattle.rh_cluster.specs.Agreement.{agreed_shares, agree, mismatch_faul
 ghost use Rattle.rh_cluster.specs.Agreement.{boot_list_faults, boot_at, agreement_stage, numbers_below, WantsForName};
 
 use crate::fault::ClusterFault;
-use crate::shares::{Share, Shares};
+use crate::shares::{AllShares, Share};
 use rh_base::{OutOfMemory, Str};
 use rh_model::{
     App, Group, MAX_NODES, NameSet, Node, NodeSettings, Restart, Spread, SyncWait, is_in,
@@ -133,22 +133,15 @@ fn names_node(node: Node, shares: &[Share]) -> bool
 }
 
 // Does the `distributed` of some node name it?
-fn some_names_node(node: Node, all: &[Shares]) -> bool
+fn some_names_node(node: Node, all: &AllShares) -> bool
     ensures { result ≡ list_any (names_node node) all.now }
 {
-    for shares in all {
-        if names_node(node, shares.as_slice()) {
+    for index in 0..all.len() {
+        if names_node(node, all.at(index)) {
             return true;
         }
     }
     false
-}
-
-// The `distributed` of a node.
-fn shares_at(all: &[Shares], node: usize) -> &[Share]
-    ensures { result.now ≡ shares_at all.now node }
-{
-    all.get(node).map_or(&[], Shares::as_slice)
 }
 
 // How long a node waits when it starts.
@@ -169,16 +162,16 @@ fn boot_at(nodes: &[NodeSettings], node: usize) -> &[(App, Restart)]
 
 // Has the node's `distributed` an entry, or does some node's name it?
 #[tactic(auto, unfolding(crate::specs::Agreement::is_involved))]
-fn is_involved(all: &[Shares], node: usize) -> bool
+fn is_involved(all: &AllShares, node: usize) -> bool
     requires { node ≤ u8.MAX }
     ensures { result ≡ is_involved all.now node }
 {
-    !shares_at(all, node).is_empty() || some_names_node(Node(node as u8), all)
+    !all.at(node).is_empty() || some_names_node(Node(node as u8), all)
 }
 
 // The first involved node.
 #[tactic(auto, unfolding(crate::specs::Agreement::first_involved))]
-fn first_involved(all: &[Shares]) -> Option<usize>
+fn first_involved(all: &AllShares) -> Option<usize>
     requires { length all.now ≤ MAX_NODES }
     ensures { result ≡ first_involved all.now }
 {
@@ -192,12 +185,12 @@ fn first_involved(all: &[Shares]) -> Option<usize>
 
 /// The `distributed` of the first involved node, which is that of all of them where they agree.
 #[tactic(auto, unfolding(crate::specs::Agreement::agreed_shares))]
-pub fn agreed_shares(all: &[Shares]) -> &[Share]
+pub fn agreed_shares(all: &AllShares) -> &[Share]
     requires { length all.now ≤ MAX_NODES }
     ensures { result.now ≡ agreed_shares all.now }
 {
     match first_involved(all) {
-        Some(node) => shares_at(all, node),
+        Some(node) => all.at(node),
         None => &[],
     }
 }
@@ -214,13 +207,20 @@ pub fn spread_for(shares: &[Share], app: App) -> Option<&Spread>
     None
 }
 
+// Have two nodes the same entries, in any order?
+#[tactic(auto, using(crate::proofs::Alike::same_as_itself))]
+fn same_distributed(all: &AllShares, this: usize, that: usize) -> bool
+    ensures { result ≡ same_shares (shares_at all.now this) (shares_at all.now that) }
+{
+    all.are_alike(this, that) || same_shares(all.at(this), all.at(that))
+}
+
 // Do two nodes agree: the same wait, the same `distributed`?
 #[tactic(auto, unfolding(crate::specs::Agreement::agree))]
-fn agree(nodes: &[NodeSettings], all: &[Shares], this: usize, that: usize) -> bool
+fn agree(nodes: &[NodeSettings], all: &AllShares, this: usize, that: usize) -> bool
     ensures { result ≡ agree nodes.now all.now this that }
 {
-    same_wait(wait_at(nodes, this), wait_at(nodes, that))
-        && same_shares(shares_at(all, this), shares_at(all, that))
+    same_wait(wait_at(nodes, this), wait_at(nodes, that)) && same_distributed(all, this, that)
 }
 
 // The same name in memory of its own.
@@ -236,7 +236,7 @@ fn check_mismatch(
     alloc: Global,
     names: &NameSet,
     nodes: &[NodeSettings],
-    all: &[Shares],
+    all: &AllShares,
     first: usize,
     node: usize,
 ) -> Result<(), ClusterFault>
@@ -258,7 +258,7 @@ fn check_mismatches(
     alloc: Global,
     names: &NameSet,
     nodes: &[NodeSettings],
-    all: &[Shares],
+    all: &AllShares,
 ) -> Result<(), ClusterFault>
     requires named { length names.now ≡ length all.now }
     requires few { length all.now ≤ MAX_NODES }
@@ -327,7 +327,7 @@ pub fn check_agreement(
     alloc: Global,
     names: &NameSet,
     nodes: &[NodeSettings],
-    all: &[Shares],
+    all: &AllShares,
 ) -> Result<(), ClusterFault>
     requires named { length names.now ≡ length all.now }
     requires few { length all.now ≤ MAX_NODES }

@@ -1,16 +1,16 @@
 //! The entries of `distributed`, as they are kept.
 
-ghost use Rattle.std.specs.Prelude.{◌≡◌, ◌==◌, map, filter_map, IfOk, IfSome};
+ghost use Rattle.std.specs.Prelude.{◌≡◌, ◌==◌, map, filter_map, unwrap_or, IfOk, IfSome, IsTrue};
 ghost use Rattle.std.specs.Option.{option_map};
 ghost use Rattle.rh_base.specs.Tree.{tree_of};
-ghost use Rattle.rh_cluster.specs.Values.{time_or_zero, group_in, elements, share_of, shares_in};
+ghost use Rattle.rh_cluster.specs.Values.{time_or_zero, group_in, elements, share_of, shares_under, shares_in, filled, first_filled};
 
 use crate::building_nodes::nodes_named;
 use crate::descriptions::members;
 use crate::kernel::share;
 use crate::shapes;
 use crate::shares::{Share, Shares};
-use crate::values::{app_named, elements, elements_under};
+use crate::values::{app_named, distributed_in, elements};
 use rh_base::{OutOfMemory, Term};
 use rh_model::{Group, Groups, Names, Spread};
 use std::alloc::Global;
@@ -73,11 +73,69 @@ fn shares_of(alloc: Global, names: &Names, terms: &[Term]) -> Result<Shares, Out
     Ok(Shares::of(shares))
 }
 
-/// The entries of a configuration's `distributed`.
-#[tactic(auto, unfolding(crate::specs::Values::shares_in))]
-pub fn shares_in(alloc: Global, names: &Names, config: &Term) -> Result<Shares, OutOfMemory>
-    ensures { IfOk result (λ shares. shares ≡ shares_in names.now (tree_of config.now)) }
+/// The entries of a value of `distributed`; without one there are none.
+pub fn shares_under(
+    alloc: Global,
+    names: &Names,
+    value: Option<&Term>,
+) -> Result<Shares, OutOfMemory>
+    ensures { IfOk result (λ shares. shares ≡ shares_under names.now (option_map (λ t. tree_of t.now) value.entry)) }
 {
-    let kernel = elements_under("kernel", elements(config));
-    shares_of(alloc, names, elements_under("distributed", kernel))
+    match value {
+        Some(term) => shares_of(alloc, names, elements(term)),
+        None => Ok(Shares::of(Vec::new(alloc))),
+    }
+}
+
+// Are these the same value, or is there none?
+fn is_same_value(this: Option<&Term>, that: Option<&Term>) -> bool
+    ensures { IsTrue result → option_map (λ t. tree_of t.now) this.entry ≡ option_map (λ t. tree_of t.now) that.entry }
+{
+    match (this, that) {
+        (Some(this), Some(that)) => this.same(that),
+        (None, None) => true,
+        _ => false,
+    }
+}
+
+/// The entries of a configuration's `distributed`, unless it is the common one.
+#[tactic(auto, unfolding(crate::specs::Values::shares_in, crate::specs::Values::elements_under))]
+pub fn own_shares(
+    alloc: Global,
+    names: &Names,
+    common: Option<&Term>,
+    config: &Term,
+) -> Result<Option<Shares>, OutOfMemory>
+    ensures { IfOk result (λ own. unwrap_or own (shares_under names.now (option_map (λ t. tree_of t.now) common.entry)) ≡ shares_in names.now (tree_of config.now)) }
+{
+    let value = distributed_in(config);
+    if is_same_value(value, common) {
+        return Ok(None);
+    }
+    Ok(Some(shares_under(alloc, names, value)?))
+}
+
+// A term's `distributed`, if it has an entry.
+fn filled(term: &Term) -> Option<&Term>
+    ensures { option_map (λ t. tree_of t.now) result ≡ filled (tree_of term.now) }
+{
+    let (_, config) = shapes::node(term)?;
+    let value = distributed_in(config)?;
+    if elements(value).is_empty() {
+        None
+    } else {
+        Some(value)
+    }
+}
+
+/// The first `distributed` that has an entry. Most files give it to all their nodes.
+pub fn first_filled(terms: &[Term]) -> Option<&Term>
+    ensures { option_map (λ t. tree_of t.now) result ≡ first_filled (map tree_of terms.now) }
+{
+    for term in terms {
+        if let Some(value) = filled(term) {
+            return Some(value);
+        }
+    }
+    None
 }

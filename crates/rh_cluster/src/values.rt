@@ -4,7 +4,7 @@ ghost use Rattle.std.specs.Prelude.{◌≡◌, map};
 ghost use Rattle.std.specs.Option.{option_map};
 ghost use Rattle.rh_base.specs.Tree.{tree_of};
 ghost use Rattle.rh_model.specs.Names.{NamesView};
-ghost use Rattle.rh_cluster.specs.Values.{elements, value_if, value_under, elements_under, node_named, app_named};
+ghost use Rattle.rh_cluster.specs.Values.{elements, value_if, value_under, elements_under, distributed_in, node_named, app_named};
 
 use crate::shapes;
 use rh_base::Term;
@@ -51,6 +51,13 @@ pub fn elements_under<'a>(key: &str, terms: &'a [Term]) -> &'a [Term]
         Some(value) => elements(value),
         None => &[],
     }
+}
+
+/// The value of a configuration's `distributed`.
+pub fn distributed_in(config: &Term) -> Option<&Term>
+    ensures { option_map (λ value. tree_of value.now) result ≡ distributed_in (tree_of config.now) }
+{
+    value_under("distributed", elements_under("kernel", elements(config)))
 }
 
 /// The node of this name.

@@ -7,12 +7,12 @@ use Rattle.rh_cluster.proofs.reading.apps_checked.Goals as goal
 pub check_agreement-requires-clause-named : goal.check_agreement-requires-clause-named
 check_agreement-requires-clause-named c =
     ap length c.nodes.ensures.names ∙ ap (λ (n : NamesView). length n.nodes) c.requires.names
-    ∙ sym (ap length (c.as_slice-all.ensures.value ∙ c.in_ok-all.ensures) ∙ length-all_shares c.args.names.now (map tree_of c.args.terms.now))
+    ∙ sym (ap length c.in_ok-all.ensures ∙ length-all_shares c.args.names.now (map tree_of c.args.terms.now))
 
 pub check_agreement-requires-clause-few : goal.check_agreement-requires-clause-few
 check_agreement-requires-clause-few c =
-    let all : length c.as_slice-all.result.now ≡ length c.nodes.result.now =
-    ap length (c.as_slice-all.ensures.value ∙ c.in_ok-all.ensures) ∙ length-all_shares c.args.names.now (map tree_of c.args.terms.now)
+    let all =
+    ap length c.in_ok-all.ensures ∙ length-all_shares c.args.names.now (map tree_of c.args.terms.now)
     ∙ sym (ap length c.nodes.ensures.names ∙ ap (λ (n : NamesView). length n.nodes) c.requires.names) in
     omega (arith, c.nodes.ensures.few)
 
@@ -25,7 +25,7 @@ check_agreement-requires-clause-few_nodes c =
 
 pub agreed_shares-requires : goal.agreed_shares-requires
 agreed_shares-requires c =
-    let all : length c.as_slice-all.result.now ≡ length c.nodes.result.now =
-    ap length (c.as_slice-all.ensures.value ∙ c.in_ok-all.ensures) ∙ length-all_shares c.args.names.now (map tree_of c.args.terms.now)
+    let all =
+    ap length c.in_ok-all.ensures ∙ length-all_shares c.args.names.now (map tree_of c.args.terms.now)
     ∙ sym (ap length c.nodes.ensures.names ∙ ap (λ (n : NamesView). length n.nodes) c.requires.names) in
     omega (arith, c.nodes.ensures.few)
