@@ -2,6 +2,7 @@ pub mod Places
 pub mod KeyParts
 pub mod KeysApart
 pub mod CodesApart
+pub mod KeyCodes
 pub mod TimersOff
 pub mod KeyLists
 pub mod Asked

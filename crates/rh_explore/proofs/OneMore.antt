@@ -1,7 +1,6 @@
 -- One state more is kept.
-use Rattle.std.proofs.Common.{◌≡◌, ◌≤◌, ℕ, List, [], ◌∷◌, ◌++◌, All, map, drop, length, Some, sym, ap, ◌∙◌, subst, arith}
+use Rattle.std.proofs.Common.{◌≡◌, ◌≤◌, ℕ, List, [], ◌∷◌, ◌++◌, map, drop, length, Some, sym, ap, ◌∙◌, subst, arith}
 use Rattle.std.proofs.lemmas.List.{map_push, length-map, drop-append-le}
-use Rattle.std.proofs.lemmas.List.Elements.{All-push}
 use Rattle.rh_state.specs.StateView.{StateView}
 use Rattle.rh_state.specs.Stored.{Stored, read}
 use Rattle.rh_rules.specs.declared.event.Event.{Event}
@@ -9,7 +8,7 @@ use Rattle.rh_trail.specs.Runs.{step}
 use Rattle.rh_explore.specs.declared.asking.Ask.{Ask}
 use Rattle.rh_explore.specs.declared.space.Found.{Found}
 use Rattle.rh_explore.specs.declared.space.Space.{Space}
-use Rattle.rh_explore.specs.Codes.{code, AreWords}
+use Rattle.rh_explore.specs.Codes.{code}
 use Rattle.rh_explore.specs.Failures.{AreFailures}
 use Rattle.rh_explore.specs.Keys.{key_of}
 use Rattle.rh_explore.specs.Reaching.{Scope, behind}
@@ -29,21 +28,18 @@ pub kept_more : (w : Scope) (asks : List Ask) (old new : Space) (n : ℕ) (y : S
     → AreLinked new.found.items
     → seen_of w new.found.items ≡ seen_of w old.found.items ++ y ∷ []
     → bytes_of new ≡ bytes_of old ++ code (key_of y.state) ∷ []
-    → AreWords (key_of y.state)
     → new.front.items ≡ old.front.items ++ state ∷ []
     → read state ≡ y.state
     → AreFailures new.failures.firsts.items new.failures.left.items asks (states_of (seen_of w old.found.items) ++ y.state ∷ [])
     → n ≤ length (seen_of w old.found.items)
     → IsKept w asks new n
-kept_more w asks old new n y state kept linked more bytes words front is failures few =
+kept_more w asks old new n y state kept linked more bytes front is failures few =
     let seen = seen_of w old.found.items in
     let state_in = λ (x : Seen). x.state in
-    let W = λ (x : Seen). AreWords (key_of x.state) in
     let long = length-map seen state_in in
     record {
       linked = linked;
       codes = bytes ∙ ap (λ (l : List (List ℕ)). l ++ code (key_of y.state) ∷ []) kept.codes ∙ sym (map_push code_in seen y) ∙ ap codes_of (sym more);
-      words = subst (λ (s : List Seen). All W s) (sym more) (All-push W seen y kept.words words);
       front = ap (map read) front
           ∙ map_push read old.front.items state
           ∙ (λ i. kept.front i ++ is i ∷ [])

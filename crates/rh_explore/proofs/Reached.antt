@@ -12,7 +12,7 @@ use Rattle.rh_settle.specs.Validity.{IsValid}
 use Rattle.rh_rules.specs.declared.event.Event.{Event}
 use Rattle.rh_explore.specs.declared.reaching.Way.TheVariants.{To, Nowhere, AtLimit}
 use Rattle.rh_explore.specs.declared.bounds.Covered.TheVariants as covered
-use Rattle.rh_explore.specs.Codes.{code, AreWords}
+use Rattle.rh_explore.specs.Codes.{code}
 use Rattle.rh_explore.specs.Keys.{key_of}
 use Rattle.rh_explore.proofs.CodesApart.{code_same}
 use Rattle.rh_explore.specs.Reaching.{Scope, MayCome}
@@ -66,20 +66,19 @@ module _ (w : Scope) (seen : List Seen) (at : ℕ) (x : Seen) (here : slice_get 
           let that = is_seen k y there in
           keys_apart y.state t that.valid.sound.shaped steps.3.sound.shaped (steps.4 ∙ is_here.cluster ∙ sym that.cluster) keys
 
-      module _ (words : All (λ (y : Seen). AreWords (key_of y.state)) seen) (fits : AreWords (key_of t)) where
-        pub known : Contains (codes_of seen) (code (key_of t)) → IsExpandedAt w seen at (made + 1)
-        known has =
-            let k = has.0 in
-            let k_in : k < length seen = omega (arith, has.1, length-map seen code_in) in
-            let y = get_or seen k x in
-            let there : slice_get seen k ≡ Some y = slice_get-get_or seen k x k_in in
-            let codes : code (key_of y.state) ≡ code (key_of t) = sym (get_or-map code_in seen k x (code (key_of t)) k_in) ∙ has.2 in
-            let keys : key_of y.state ≡ key_of t = code_same (key_of y.state) (key_of t) (at_of (λ (z : Seen). AreWords (key_of z.state)) seen k y words there) fits codes in
-            let near = at_of (λ (z : Seen). length z.path ≤ length x.path + 1) seen k y (it_is made so).near there in (
-              x,
-              one_known w seen at x made e is (it_is made so)
-                  (k, y, there, sym (same_key k y there keys ∙ ap timeless steps.2), near),
-            )
+      pub known : Contains (codes_of seen) (code (key_of t)) → IsExpandedAt w seen at (made + 1)
+      known has =
+          let k = has.0 in
+          let k_in : k < length seen = omega (arith, has.1, length-map seen code_in) in
+          let y = get_or seen k x in
+          let there : slice_get seen k ≡ Some y = slice_get-get_or seen k x k_in in
+          let codes : code (key_of y.state) ≡ code (key_of t) = sym (get_or-map code_in seen k x (code (key_of t)) k_in) ∙ has.2 in
+          let keys : key_of y.state ≡ key_of t = code_same (key_of y.state) (key_of t) codes in
+          let near = at_of (λ (z : Seen). length z.path ≤ length x.path + 1) seen k y (it_is made so).near there in (
+            x,
+            one_known w seen at x made e is (it_is made so)
+                (k, y, there, sym (same_key k y there keys ∙ ap timeless steps.2), near),
+          )
 
       module _ (new : Contains (codes_of seen) (code (key_of t)) → ⊥) where
         fresh : All (λ (y : Seen). Alike y.state t → ⊥) seen

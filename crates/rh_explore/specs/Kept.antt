@@ -1,5 +1,5 @@
 -- What was found, as it is kept (ours).
-use Rattle.std.specs.Prelude.{◌≡◌, ◌<◌, ℕ, List, [], ◌∷◌, ◌++◌, Option, Some, None, length, map, fold, drop, unwrap_or, slice_get, All}
+use Rattle.std.specs.Prelude.{◌≡◌, ◌<◌, ℕ, List, [], ◌∷◌, ◌++◌, Option, Some, None, length, map, fold, drop, unwrap_or, slice_get}
 use Rattle.rh_state.specs.StateView.{StateView}
 use Rattle.rh_state.specs.Stored.{read}
 use Rattle.rh_rules.specs.declared.event.Event.{Event}
@@ -8,7 +8,7 @@ use Rattle.rh_explore.specs.declared.bounds.Bounds.{Bounds}
 use Rattle.rh_explore.specs.declared.reaching.Probe.{Probe}
 use Rattle.rh_explore.specs.declared.space.Found.{Found}
 use Rattle.rh_explore.specs.declared.space.Space.{Space}
-use Rattle.rh_explore.specs.Codes.{code, AreWords}
+use Rattle.rh_explore.specs.Codes.{code}
 use Rattle.rh_explore.specs.Failures.{AreFailures}
 use Rattle.rh_explore.specs.Keys.{key_of}
 use Rattle.rh_explore.specs.Reaching.{Scope, behind}
@@ -55,7 +55,6 @@ bytes_of space = map (λ key. key.bytes.items) space.keys.keys
 pub record IsKept (w : Scope) (asks : List Ask) (space : Space) (done : ℕ) : Type 0 where
   pub linked : AreLinked space.found.items
   pub codes : bytes_of space ≡ codes_of (seen_of w space.found.items)
-  pub words : All (λ (x : Seen). AreWords (key_of x.state)) (seen_of w space.found.items)
   pub front : map read space.front.items ≡ drop done (states_of (seen_of w space.found.items))
   pub failures : AreFailures space.failures.firsts.items space.failures.left.items asks (states_of (seen_of w space.found.items))
 

@@ -1,4 +1,4 @@
-//! The key of a state: a list of numbers by which states that are alike are found, as bytes.
+//! The key of a state: the numbers by which states that are alike are found, in bytes.
 
 ghost use Rattle.std.specs.Prelude.{◌≡◌, ◌++◌, [], OnOk, IfOk};
 ghost use Rattle.std.specs.List.{flat_map};
@@ -6,7 +6,7 @@ ghost use Rattle.rh_state.specs.Numbers.{nodes_of, apps_of};
 ghost use Rattle.rh_state.specs.Stored.{read};
 ghost use Rattle.rh_settle.specs.Validity.{IsValid};
 ghost use Rattle.rh_explore.specs.Keys.{timer_numbers, node_numbers, app_numbers, key_of};
-ghost use Rattle.rh_explore.specs.Codes.{code, AreWords};
+ghost use Rattle.rh_explore.specs.Codes.{code};
 
 mod code;
 mod parts;
@@ -21,7 +21,6 @@ use std::alloc::Global;
 /// Makes keys, each in the memory of the one before it.
 #[derive(Drop)]
 pub(crate) struct KeyMaker {
-    numbers: Vec<u64>,
     // The timers that were taken off to be counted in their order.
     taken: Vec<Edit>,
     // The key that was made last.
@@ -32,7 +31,6 @@ impl KeyMaker {
     /// A maker that made none yet.
     pub(crate) fn new(alloc: Global) -> KeyMaker {
         KeyMaker {
-            numbers: Vec::new(alloc),
             taken: Vec::new(alloc),
             key: Key::new(alloc),
         }
@@ -44,21 +42,20 @@ impl KeyMaker {
     pub(crate) fn make(&mut self, state: &mut State) -> Result<(), OutOfMemory>
         requires { IsValid (read state.old) }
         ensures key { OnOk result (self.new.key.bytes.items ≡ code (key_of (read state.old))) }
-        ensures words { OnOk result (AreWords (key_of (read state.old))) }
         ensures state { OnOk result (state.new ≡ state.old) }
     {
-        self.numbers.clear();
-        push_nodes(&mut self.numbers, state)?;
-        push_apps(&mut self.numbers, state)?;
-        push_timers(&mut self.numbers, state, &mut self.taken)?;
-        self.key.set(self.numbers.as_slice())
+        let key = &mut self.key.bytes;
+        key.clear();
+        push_nodes(key, state)?;
+        push_apps(key, state)?;
+        push_timers(key, state, &mut self.taken)
     }
 }
 
 // Adds what is said of each node.
 #[tactic(auto, unfolding(rh_state::specs::Numbers::nodes_of))]
-fn push_nodes(key: &mut Vec<u64>, state: &State) -> Result<(), OutOfMemory>
-    ensures { OnOk result (key.new.items ≡ key.old.items ++ flat_map (node_numbers (read state.now)) (nodes_of (read state.now).cluster)) }
+fn push_nodes(key: &mut Vec<u8>, state: &State) -> Result<(), OutOfMemory>
+    ensures { OnOk result (key.new.items ≡ key.old.items ++ code (flat_map (node_numbers (read state.now)) (nodes_of (read state.now).cluster))) }
 {
     let count = state.cluster().node_count();
     for number in 0..count {
@@ -69,8 +66,8 @@ fn push_nodes(key: &mut Vec<u64>, state: &State) -> Result<(), OutOfMemory>
 
 // Adds where each application stands.
 #[tactic(auto, unfolding(rh_state::specs::Numbers::apps_of))]
-fn push_apps(key: &mut Vec<u64>, state: &State) -> Result<(), OutOfMemory>
-    ensures { OnOk result (key.new.items ≡ key.old.items ++ flat_map (app_numbers (read state.now)) (apps_of (read state.now).cluster)) }
+fn push_apps(key: &mut Vec<u8>, state: &State) -> Result<(), OutOfMemory>
+    ensures { OnOk result (key.new.items ≡ key.old.items ++ code (flat_map (app_numbers (read state.now)) (apps_of (read state.now).cluster))) }
 {
     let count = state.cluster().app_count();
     for number in 0..count {
@@ -82,12 +79,12 @@ fn push_apps(key: &mut Vec<u64>, state: &State) -> Result<(), OutOfMemory>
 // Adds each timer, with how long it has to go. The first one is taken off the state until none is left, and then all are put back:
 // so their order is known without a copy of them.
 fn push_timers(
-    key: &mut Vec<u64>,
+    key: &mut Vec<u8>,
     state: &mut State,
     taken: &mut Vec<Edit>,
 ) -> Result<(), OutOfMemory>
     requires { IsValid (read state.old) }
-    ensures key { OnOk result (key.new.items ≡ key.old.items ++ flat_map (timer_numbers (read state.old).time) (read state.old).timers) }
+    ensures key { OnOk result (key.new.items ≡ key.old.items ++ code (flat_map (timer_numbers (read state.old).time) (read state.old).timers)) }
     ensures state { OnOk result (state.new ≡ state.old) }
 {
     taken.clear();

@@ -5,7 +5,7 @@ ghost use Rattle.rh_state.specs.StateView.{StateView};
 ghost use Rattle.rh_state.specs.Stored.{read};
 ghost use Rattle.rh_settle.specs.Validity.{IsValid};
 ghost use Rattle.rh_explore.specs.Failures.{AreFailures};
-ghost use Rattle.rh_explore.specs.Codes.{code, AreWords};
+ghost use Rattle.rh_explore.specs.Codes.{code};
 ghost use Rattle.rh_explore.specs.Keys.{key_of};
 ghost use Rattle.rh_explore.specs.Exploring.{scope_of, StaysBelowLimits, CoversAll};
 ghost use Rattle.rh_explore.specs.Spaces.{Seen, IsSearched, IsNear, IsEnd, IsCut, IsExpandedAt};
@@ -52,7 +52,6 @@ impl Space {
         requires { IsValid (read base.now) }
         ensures found { IfOk result (λ space. space.found.items ≡ record { last = None; depth = 0 } ∷ []) }
         ensures keys { IfOk result (λ space. bytes_of space ≡ code (key_of (read base.now)) ∷ []) }
-        ensures words { OnOk result (AreWords (key_of (read base.now))) }
         ensures front { IfOk result (λ space. space.front.items ≡ base.now ∷ []) }
         ensures failures { IfOk result (λ space. AreFailures space.failures.firsts.items space.failures.left.items asks.now (read base.now ∷ [])) }
     {

@@ -1,7 +1,7 @@
 //! A key as it is kept.
 
 ghost use Rattle.std.specs.Prelude.{◌≡◌, ◌++◌, [], OnOk, IfOk};
-ghost use Rattle.rh_explore.specs.Codes.{number_code, code, AreWords};
+ghost use Rattle.rh_explore.specs.Codes.{number_code};
 
 use rh_base::OutOfMemory;
 use std::alloc::Global;
@@ -10,7 +10,7 @@ use std::hash::{Hash, Hasher};
 /// A key in bytes, since nearly all of its numbers are small.
 #[derive(Drop, PartialEq, Eq)]
 pub(crate) struct Key {
-    bytes: Vec<u8>,
+    pub(super) bytes: Vec<u8>,
 }
 
 // All bytes are hashed at once; those of a `Vec` are one by one.
@@ -38,18 +38,6 @@ impl Key {
         }
     }
 
-    /// Makes it the key of these numbers.
-    pub(crate) fn set(&mut self, numbers: &[u64]) -> Result<(), OutOfMemory>
-        ensures code { OnOk result (self.new.bytes.items ≡ code numbers.now) }
-        ensures words { AreWords numbers.now }
-    {
-        self.bytes.clear();
-        'numbers: for number in numbers {
-            push_number(&mut self.bytes, *number)?;
-        }
-        Ok(())
-    }
-
     /// An equal key, in no more memory than it takes.
     pub(crate) fn copy(&self, alloc: Global) -> Result<Key, OutOfMemory>
         ensures { IfOk result (λ copy. copy.bytes.items ≡ self.now.bytes.items) }
@@ -60,9 +48,9 @@ impl Key {
     }
 }
 
-// Adds a number: a single byte, unless it is 255 or above.
+/// Adds a number: a single byte, unless it is 255 or above.
 #[tactic(auto, unfolding(crate::specs::Codes::number_code))]
-fn push_number(bytes: &mut Vec<u8>, number: u64) -> Result<(), OutOfMemory>
+pub(super) fn push_number(bytes: &mut Vec<u8>, number: u64) -> Result<(), OutOfMemory>
     ensures { OnOk result (bytes.new.items ≡ bytes.old.items ++ number_code number) }
 {
     if number < 255 {

@@ -1,11 +1,12 @@
 use Rattle.std.proofs.Common.{ℕ, ◌++◌, List, map, ap, sym, ◌∙◌, arith}
 use Rattle.std.specs.List.{flat_map, range_with_len}
-use Rattle.std.proofs.lemmas.List.{flat_map_more}
 use Rattle.std.proofs.lemmas.List.FromFn.{map-range_with_len_more}
 use Rattle.rh_model.specs.ClusterView.{app_numbered}
 use Rattle.rh_model.specs.declared.node.App.{App}
 use Rattle.rh_state.specs.Stored.{read}
+use Rattle.rh_explore.specs.Codes.{code}
 use Rattle.rh_explore.specs.Keys.{app_numbers}
+use Rattle.rh_explore.proofs.KeyCodes.{code_more}
 use Rattle.rh_explore.proofs.key.push_apps.Goals as goal
 
 pub loop-number-preserved : goal.loop-number-preserved
@@ -14,6 +15,6 @@ loop-number-preserved c =
     let i = c.loop-number.number in
     let head = c.args.key.now.items in
     c.in_ok-push_standing.ensures
-    ∙ ap (λ (t : List ℕ). t ++ app_numbers s (app_numbered i)) c.loop-number.invariant
-    ∙ flat_map_more (app_numbers s) head (map app_numbered (range_with_len 0 i)) (app_numbered i)
-    ∙ ap (λ (all : List App). head ++ flat_map (app_numbers s) all) (sym (map-range_with_len_more app_numbered 0 i i (omega arith)))
+    ∙ ap (λ (t : List ℕ). t ++ code (app_numbers s (app_numbered i))) c.loop-number.invariant
+    ∙ code_more (app_numbers s) head (map app_numbered (range_with_len 0 i)) (app_numbered i)
+    ∙ ap (λ (all : List App). head ++ code (flat_map (app_numbers s) all)) (sym (map-range_with_len_more app_numbered 0 i i (omega arith)))

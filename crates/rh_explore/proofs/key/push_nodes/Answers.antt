@@ -1,11 +1,12 @@
 use Rattle.std.proofs.Common.{ℕ, ◌++◌, List, map, ap, sym, ◌∙◌, arith}
 use Rattle.std.specs.List.{flat_map, range_with_len}
-use Rattle.std.proofs.lemmas.List.{flat_map_more}
 use Rattle.std.proofs.lemmas.List.FromFn.{map-range_with_len_more}
 use Rattle.rh_model.specs.ClusterView.{numbered}
 use Rattle.rh_model.specs.declared.node.Node.{Node}
 use Rattle.rh_state.specs.Stored.{read}
+use Rattle.rh_explore.specs.Codes.{code}
 use Rattle.rh_explore.specs.Keys.{node_numbers}
+use Rattle.rh_explore.proofs.KeyCodes.{code_more}
 use Rattle.rh_explore.proofs.key.push_nodes.Goals as goal
 
 pub loop-number-preserved : goal.loop-number-preserved
@@ -14,6 +15,6 @@ loop-number-preserved c =
     let i = c.loop-number.number in
     let head = c.args.key.now.items in
     c.in_ok-push_node.ensures
-    ∙ ap (λ (t : List ℕ). t ++ node_numbers s (numbered i)) c.loop-number.invariant
-    ∙ flat_map_more (node_numbers s) head (map numbered (range_with_len 0 i)) (numbered i)
-    ∙ ap (λ (all : List Node). head ++ flat_map (node_numbers s) all) (sym (map-range_with_len_more numbered 0 i i (omega arith)))
+    ∙ ap (λ (t : List ℕ). t ++ code (node_numbers s (numbered i))) c.loop-number.invariant
+    ∙ code_more (node_numbers s) head (map numbered (range_with_len 0 i)) (numbered i)
+    ∙ ap (λ (all : List Node). head ++ code (flat_map (node_numbers s) all)) (sym (map-range_with_len_more numbered 0 i i (omega arith)))

@@ -2,8 +2,9 @@ use Rattle.std.proofs.Common.{◌≡◌, ◌++◌, map}
 use Rattle.std.specs.List.{flat_map, range_with_len}
 use Rattle.rh_model.specs.ClusterView.{numbered}
 use Rattle.rh_state.specs.Stored.{read}
+use Rattle.rh_explore.specs.Codes.{code}
 use Rattle.rh_explore.specs.Keys.{node_numbers}
 use Rattle.rh_explore.proofs.key.push_nodes.Given as goal
 
 abbrev pub invariant-loop-number : goal.invariant-loop-number
-invariant-loop-number l = l.key.items ≡ l.fn.key.items ++ flat_map (node_numbers (read l.fn.state)) (map numbered (range_with_len 0 l.number))
+invariant-loop-number l = l.key.items ≡ l.fn.key.items ++ code (flat_map (node_numbers (read l.fn.state)) (map numbered (range_with_len 0 l.number)))

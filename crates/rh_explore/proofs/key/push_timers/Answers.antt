@@ -9,7 +9,9 @@ use Rattle.rh_state.specs.StateView.{StateView}
 use Rattle.rh_state.specs.Stored.{Stored, read}
 use Rattle.rh_state.specs.Timers.{without_timer}
 use Rattle.rh_state.proofs.Records.{grows_none, grows_one, grows_more}
+use Rattle.rh_explore.specs.Codes.{code}
 use Rattle.rh_explore.specs.Keys.{timer_numbers}
+use Rattle.rh_explore.proofs.KeyCodes.{code-append}
 use Rattle.rh_explore.proofs.TimersOff.{IsOnce, first_off, first_set, none_left}
 use Rattle.rh_explore.proofs.key.push_timers.Goals as goal
 
@@ -30,10 +32,11 @@ timers-preserved c =
           c.cancel_timer-edit.ensures.done c.cancel_timer-edit.ensures.exact c.timers.invariant.formed c.formed-in-Some.ensures.words);
       formed = c.formed-in-Some.ensures.words;
       once = subst IsOnce (sym left) (once-without t (read before).timers c.timers.invariant.once);
-      told = ap (λ (xs : List (ℕ × Timer)). c.push_timer.new.key.items ++ flat_map line xs) left
-          ∙ ap (λ (k : List ℕ). k ++ flat_map line rest) c.in_ok-push_timer.ensures
-          ∙ append_assoc c.timers.key.items (line (due, t)) (flat_map line rest)
-          ∙ ap (λ (xs : List (ℕ × Timer)). c.timers.key.items ++ flat_map line xs) (sym all)
+      told = ap (λ (xs : List (ℕ × Timer)). c.push_timer.new.key.items ++ code (flat_map line xs)) left
+          ∙ ap (λ (k : List ℕ). k ++ code (flat_map line rest)) c.in_ok-push_timer.ensures
+          ∙ append_assoc c.timers.key.items (code (line (due, t))) (code (flat_map line rest))
+          ∙ ap (λ (l : List ℕ). c.timers.key.items ++ l) (sym (code-append (line (due, t)) (flat_map line rest)))
+          ∙ ap (λ (xs : List (ℕ × Timer)). c.timers.key.items ++ code (flat_map line xs)) (sym all)
           ∙ c.timers.invariant.told;
     }
 
@@ -63,6 +66,6 @@ returns-clause-key c =
     let line = timer_numbers c.now-now.result in
     let none : (read c.timers.state).timers ≡ [] = none_left (read c.timers.state).timers (sym c.earliest.ensures.first ∙ c.in_default.is) in
     sym (append-nil c.timers.key.items)
-    ∙ ap (λ (xs : List (ℕ × Timer)). c.timers.key.items ++ flat_map line xs) (sym none)
+    ∙ ap (λ (xs : List (ℕ × Timer)). c.timers.key.items ++ code (flat_map line xs)) (sym none)
     ∙ c.timers.invariant.told
-    ∙ ap (λ now. c.args.key.now.items ++ flat_map (timer_numbers now) (read c.args.state.now).timers) c.now-now.ensures.time
+    ∙ ap (λ now. c.args.key.now.items ++ code (flat_map (timer_numbers now) (read c.args.state.now).timers)) c.now-now.ensures.time

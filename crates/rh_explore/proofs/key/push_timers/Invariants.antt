@@ -3,6 +3,7 @@ use Rattle.std.specs.List.{flat_map}
 use Rattle.rh_state.specs.Records.{Grows}
 use Rattle.rh_state.specs.Stored.{read}
 use Rattle.rh_state.specs.Formed.{IsFormed}
+use Rattle.rh_explore.specs.Codes.{code}
 use Rattle.rh_explore.specs.Keys.{timer_numbers}
 use Rattle.rh_explore.proofs.TimersOff.{IsOnce}
 use Rattle.rh_explore.proofs.key.push_timers.Given as goal
@@ -12,7 +13,7 @@ invariant-timers l = record {
   grown : Grows l.fn.state [] l.state l.taken.items;
   formed : IsFormed l.state;
   once : IsOnce (read l.state).timers;
-  told : l.key.items ++ flat_map (timer_numbers l.now) (read l.state).timers ≡ l.fn.key.items ++ flat_map (timer_numbers l.now) (read l.fn.state).timers;
+  told : l.key.items ++ code (flat_map (timer_numbers l.now) (read l.state).timers) ≡ l.fn.key.items ++ code (flat_map (timer_numbers l.now) (read l.fn.state).timers);
 }
 
 abbrev pub decreases-timers : goal.decreases-timers

@@ -1,14 +1,13 @@
 use Rattle.std.proofs.Common.{rules, ◌++◌, ◌≡◌, ◌<◌, ◌≤◌, ◌+◌, ◌∷◌, [], ℕ, zero, suc, List, length, map, drop, slice_get, Option, Some, None, All, refl, sym, ap, ◌∙◌, subst, arith}
 use Rattle.std.specs.Option.{option_to_list}
 use Rattle.std.proofs.lemmas.List.{length-map, length-drop}
-use Rattle.std.proofs.lemmas.List.Elements.{All-nil, All-cons}
 use Rattle.std.proofs.lemmas.Option.{same_Some, none-some, slice_get_within}
 use Rattle.rh_state.specs.StateView.{StateView}
 use Rattle.rh_state.specs.Stored.{Stored, read}
 use Rattle.rh_rules.specs.declared.event.Event.{Event}
 use Rattle.rh_explore.specs.declared.space.Found.{Found}
 use Rattle.rh_explore.specs.declared.space.Space.{Space}
-use Rattle.rh_explore.specs.Codes.{code, AreWords}
+use Rattle.rh_explore.specs.Codes.{code}
 use Rattle.rh_explore.specs.Failures.{AreFailures}
 use Rattle.rh_explore.specs.Keys.{key_of}
 use Rattle.rh_explore.specs.Exploring.{scope_of}
@@ -44,8 +43,6 @@ states-init c =
       kept = record {
         linked = subst AreLinked (sym of.found) base_linked;
         codes = of.keys ∙ ap (λ (s : List Seen). map (λ x. code (key_of x.state)) s) (sym is);
-        words = subst (λ (s : List Seen). All (λ (x : Seen). AreWords (key_of x.state)) s) (sym is)
-            (All-cons (λ (x : Seen). AreWords (key_of x.state)) (record { path = []; state = base }) [] of.words (All-nil (λ (x : Seen). AreWords (key_of x.state))));
         front = ap (map read) of.front ∙ ap states_of (sym is);
         failures = subst (λ (s : List Seen). AreFailures space.failures.firsts.items space.failures.left.items c.args.asks.now (states_of s)) (sym is) of.failures;
       };
@@ -87,7 +84,7 @@ returns-then-depth-bounds-clause-kept c =
     let k = c.states.invariant.kept in
     let t = taken w found c.states.space.front.items c.pop_front.new.self.items c.in-Some.state next c.in-Some.ensures.items k.front in
     let within : next < length found = within_of w found next (read c.in-Some.state) t.0 in
-    (next + 1, record { linked = k.linked; codes = k.codes; words = k.words; front = t.1; failures = k.failures })
+    (next + 1, record { linked = k.linked; codes = k.codes; front = t.1; failures = k.failures })
 
 pub returns-then-depth-bounds-clause-searched : goal.returns-then-depth-bounds-clause-searched
 returns-then-depth-bounds-clause-searched c =
@@ -116,7 +113,7 @@ expand-requires-clause-kept c =
     let k = c.states.invariant.kept in
     let t = taken w found c.states.space.front.items c.pop_front.new.self.items c.in-Some.state next c.in-Some.ensures.items k.front in
     let within : next < length found = within_of w found next (read c.in-Some.state) t.0 in
-    record { linked = k.linked; codes = k.codes; words = k.words; front = t.1; failures = k.failures }
+    record { linked = k.linked; codes = k.codes; front = t.1; failures = k.failures }
 
 pub expand-requires-clause-short : goal.expand-requires-clause-short
 expand-requires-clause-short c =

@@ -1,19 +1,33 @@
-use Rattle.std.proofs.Common.{ℕ, ◌++◌, List, map, ap, sym, ◌∙◌, arith}
+use Rattle.std.proofs.Common.{◌≡◌, ◌+◌, ◌*◌, ◌++◌, ◌∷◌, [], ℕ, List, map, take, set, sym, ap, ◌∙◌, arith}
 use Rattle.std.specs.List.{flat_map, range_with_len}
-use Rattle.std.proofs.lemmas.List.{flat_map_more}
+use Rattle.std.proofs.lemmas.List.{length-set}
 use Rattle.std.proofs.lemmas.List.FromFn.{map-range_with_len_more}
 use Rattle.rh_model.specs.ClusterView.{app_numbered}
 use Rattle.rh_model.specs.declared.node.App.{App}
+use Rattle.rh_state.specs.StateView.{restart_of, is_allowed}
 use Rattle.rh_state.specs.Stored.{read}
-use Rattle.rh_explore.specs.Keys.{pair_numbers}
+use Rattle.rh_explore.specs.Codes.{code}
+use Rattle.rh_explore.specs.Keys.{restart_number, permission_number, pair_numbers}
+use Rattle.rh_explore.proofs.KeyCodes.{code_more, pair_code, two_set}
 use Rattle.rh_explore.proofs.key.parts.push_pairs.Goals as goal
 
 pub loop-number-preserved : goal.loop-number-preserved
 loop-number-preserved c =
     let s = read c.args.state.now in
+    let n = c.args.node in
     let i = c.loop-number.number in
-    let head = c.args.key.now.items in
-    c.in_ok-push_pair.ensures
-    ∙ ap (λ (t : List ℕ). t ++ pair_numbers s c.args.node (app_numbered i)) c.loop-number.invariant
-    ∙ flat_map_more (pair_numbers s c.args.node) head (map app_numbered (range_with_len 0 i)) (app_numbered i)
-    ∙ ap (λ (all : List App). head ++ flat_map (pair_numbers s c.args.node) all) (sym (map-range_with_len_more app_numbered 0 i i (omega arith)))
+    let row : List ℕ = c.loop-number.row in
+    let pair = pair_numbers s n in
+    let before = c.loop-number.invariant in
+    let restart : c.restart_byte.result ≡ restart_number (restart_of s n (app_numbered i)) = c.restart_byte.ensures ∙ ap restart_number c.restart_of.ensures in
+    let permission : c.permission_byte.result ≡ permission_number (is_allowed s n (app_numbered i)) =
+    c.permission_byte.ensures ∙ ap permission_number c.allowed.ensures in
+    let few = c.app_count-count.ensures.limit in (
+      length-set (set row (2 * i) c.restart_byte.result) (2 * i + 1) c.permission_byte.result ∙ length-set row (2 * i) c.restart_byte.result ∙ before.0,
+      two_set row i c.restart_byte.result c.permission_byte.result (omega (arith, before.0, few, c.loop-number-test.true))
+          ∙ (λ k. take (2 * i) row ++ restart k ∷ permission k ∷ [])
+          ∙ ap (λ (l : List ℕ). take (2 * i) row ++ l) (sym (pair_code s n (app_numbered i)))
+          ∙ ap (λ (t : List ℕ). t ++ code (pair (app_numbered i))) before.1
+          ∙ code_more pair [] (map app_numbered (range_with_len 0 i)) (app_numbered i)
+          ∙ ap (λ (all : List App). code (flat_map pair all)) (sym (map-range_with_len_more app_numbered 0 i i (omega arith))),
+    )

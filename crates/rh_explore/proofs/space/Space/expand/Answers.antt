@@ -18,7 +18,7 @@ events-init c =
     let x = c.requires.begun.0 in
     let x_state : read c.args.state ≡ x.state = state_there (seen_of w found) c.args.at x (read c.args.state) c.requires.begun.1.here c.requires.state in
     record {
-      kept = record { linked = k.linked; codes = k.codes; words = k.words; front = k.front; failures = k.failures };
+      kept = record { linked = k.linked; codes = k.codes; front = k.front; failures = k.failures };
       short = c.requires.short;
       expanded = c.requires.begun;
       untried = record { none = c.begin.ensures.none; here = (x, c.requires.begun.1.here, ap read c.begin.ensures.state ∙ x_state) };

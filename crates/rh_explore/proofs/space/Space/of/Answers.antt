@@ -1,14 +1,8 @@
-use Rattle.std.proofs.Common.{[], ◌∷◌, List, length, ap, ◌∙◌, subst}
+use Rattle.std.proofs.Common.{[], ◌∷◌, List, length, ap, subst}
 use Rattle.rh_state.specs.Stored.{Stored, read}
 use Rattle.rh_explore.specs.declared.space.Found.{Found}
-use Rattle.rh_explore.specs.Codes.{AreWords}
 use Rattle.rh_explore.specs.Failures.{AreFailures}
-use Rattle.rh_explore.specs.Keys.{key_of}
 use Rattle.rh_explore.proofs.space.Space.of.Goals as goal
-
-pub returns-clause-words : goal.returns-clause-words
-returns-clause-words c =
-    subst (λ (z : Stored). AreWords (key_of (read z))) (c.of-2.ensures.state ∙ c.in_ok-copy.ensures) c.in_ok-make.ensures.words
 
 pub returns-clause-failures : goal.returns-clause-failures
 returns-clause-failures c =

@@ -12,7 +12,7 @@ use Rattle.rh_explore.specs.declared.reaching.Probe.{Probe}
 use Rattle.rh_explore.specs.declared.reaching.Way.{Way}
 use Rattle.rh_explore.specs.declared.reaching.Way.TheVariants.{To, Nowhere}
 use Rattle.rh_explore.specs.declared.space.Found.{Found}
-use Rattle.rh_explore.specs.Codes.{code, AreWords}
+use Rattle.rh_explore.specs.Codes.{code}
 use Rattle.rh_explore.specs.Exploring.{scope_of}
 use Rattle.rh_explore.specs.Failures.{AreFailures}
 use Rattle.rh_explore.specs.Keys.{key_of}
@@ -47,7 +47,6 @@ returns-then-has_made-clause-made c = λ made is so.
     known w seen c.args.at u.0 u.1 e made is so t
     (subst (λ (z : StateView). StepsTo c.args.pick c.args.bounds.now.down z e To t) u.2
     (subst (λ (v : Way). StepsTo c.args.pick c.args.bounds.now.down s e v t) c.in-To.is c.in_ok-way.ensures.way))
-    c.requires.kept.words c.in_ok-make.ensures.words
     (subst (λ (q : List ℕ). Contains (codes_of seen) q) c.in_ok-make.ensures.key
     (subst (λ (l : List (List ℕ)). Contains l c.make-2.new.self.key.bytes.items) c.requires.kept.codes (c.has_made.ensures.0 c.if-has_made.true)))
 
@@ -90,13 +89,12 @@ returns-clause-kept c =
     (subst AreLinked (sym c.in_ok-push.ensures.found) (linked_push found f g at e c.requires.kept.linked there refl refl))
     (ap (seen_of w) c.in_ok-push.ensures.found ∙ seen_push w found g)
     (c.in_ok-push.ensures.keys ∙ ap (λ (k : List ℕ). bytes_of c.args.self.now ++ k ∷ []) (c.in_ok-key.ensures ∙ c.in_ok-make.ensures.key ∙ ap (λ (z : StateView). code (key_of z)) y_state))
-    (subst (λ (z : StateView). AreWords (key_of z)) y_state c.in_ok-make.ensures.words)
     c.in_ok-push.ensures.front
     (copied ∙ y_state)
     (subst (λ (z : StateView). AreFailures c.push.new.self.failures.firsts.items c.push.new.self.failures.left.items c.args.asks.now (states_of seen ++ z ∷ [])) (copied ∙ y_state)
     (c.in_ok-push.ensures.failures (states_of seen) (sym (length-map seen (λ (z : Seen). z.state) ∙ length-seen w found)) c.requires.kept.failures))
     (omega (arith, slice_get_within seen at u.0 u.1)) in
-    record { linked = k.linked; codes = k.codes; words = k.words; front = k.front; failures = k.failures }
+    record { linked = k.linked; codes = k.codes; front = k.front; failures = k.failures }
 
 pub returns-clause-made : goal.returns-clause-made
 returns-clause-made c = λ made is so.
