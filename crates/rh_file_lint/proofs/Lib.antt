@@ -1,5 +1,7 @@
 pub mod OneMore
 pub mod Steps
+pub mod Standbys
+pub mod PlacesTold
 pub mod Parts
 pub mod AllSound
 pub mod EachTold

@@ -5,6 +5,7 @@ pub mod NodeLists
 pub mod BootLists
 pub mod Circles
 pub mod Losses
+pub mod Rows
 pub mod Findings
 pub mod Working
 pub mod Laws

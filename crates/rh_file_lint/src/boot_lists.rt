@@ -5,7 +5,7 @@ ghost use Rattle.rh_model.specs.ClusterView.{node_count, app_count, dep_name};
 ghost use Rattle.rh_model.specs.declared.node.Node.{Node};
 ghost use Rattle.rh_state.specs.Numbers.{nodes_of};
 ghost use Rattle.rh_file_lint.specs.Cluster.{some_node, boots};
-ghost use Rattle.rh_file_lint.specs.BootLists.{is_met, first_unmet, unmet_dep, isnt_booted, boots_permanent, is_permanent_somewhere, runs_several_times, first_booting, is_distributed_pair};
+ghost use Rattle.rh_file_lint.specs.BootLists.{is_met, first_unmet, unmet_dep, isnt_booted, boots_permanent, is_permanent_somewhere, runs_several_times, is_distributed_pair};
 
 use crate::cluster::{boots, boots_before, is_distributed, is_in_list};
 use rh_model::{App, Cluster, Dep, Node, Restart};
@@ -115,20 +115,6 @@ pub(crate) fn runs_several_times(cluster: &Cluster, app: App) -> bool
     ensures { result ≡ runs_several_times cluster.now app }
 {
     !is_distributed(cluster, app) && booting_count(cluster, app) >= 2
-}
-
-// The first node that boots both applications, this one before the other.
-#[tactic(auto, unfolding(crate::specs::BootLists::first_booting, rh_state::specs::Numbers::nodes_of))]
-pub(crate) fn first_booting(cluster: &Cluster, app: App, other: App) -> Option<Node>
-    ensures { result ≡ first_booting cluster.now app other }
-{
-    for number in 0..cluster.node_count() {
-        let node = Node(number as u8);
-        if boots_before(cluster, node, app, other) {
-            return Some(node);
-        }
-    }
-    None
 }
 
 // Are these two distributed applications, the first one before the other in the file?

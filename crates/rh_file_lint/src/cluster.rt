@@ -45,7 +45,7 @@ pub(crate) fn name_of(cluster: &Cluster, node: Node) -> &str
 }
 
 // The place of an application in a node's boot list.
-fn boot_place(cluster: &Cluster, node: Node, app: App) -> Option<usize>
+pub(crate) fn boot_place(cluster: &Cluster, node: Node, app: App) -> Option<usize>
     requires { node.0 < node_count cluster.now }
     ensures { result ≡ boot_place cluster.now node app }
 {

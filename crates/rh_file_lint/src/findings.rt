@@ -7,7 +7,9 @@ ghost use Rattle.rh_file_lint.specs.Findings.{no_distributed_application, of_syn
 use crate::at_apps::{AppKind, tell_at_apps};
 use crate::at_nodes::{NodeKind, tell, tell_at_nodes};
 use crate::cluster::is_distributed;
+use crate::crossings::tell_crossings;
 use crate::finding::FileFinding;
+use crate::losses::tell_losses;
 use rh_base::OutOfMemory;
 use rh_model::{App, Cluster};
 use std::alloc::Global;
@@ -98,7 +100,7 @@ fn tell_of_boot_lists(
     ensures { OnOk result (found.new.items ≡ found.old.items ++ of_boot_lists cluster.now) }
 {
     tell_at_nodes(found, cluster, NodeKind::BootBeforeDependency)?;
-    tell_at_apps(alloc, found, cluster, AppKind::CrossedBootLists)?;
+    tell_crossings(alloc, found, cluster)?;
     tell_at_nodes(found, cluster, NodeKind::NotBootedAtListedNode)?;
     tell_at_apps(alloc, found, cluster, AppKind::PermanentDistributed)?;
     tell_at_apps(alloc, found, cluster, AppKind::LocalAtSeveralNodes)
@@ -114,5 +116,5 @@ fn tell_of_several_apps(
     ensures { OnOk result (found.new.items ≡ found.old.items ++ of_several_apps cluster.now) }
 {
     tell_at_apps(alloc, found, cluster, AppKind::DependencyCircle)?;
-    tell_at_apps(alloc, found, cluster, AppKind::LostTogether)
+    tell_losses(alloc, found, cluster)
 }

@@ -10,11 +10,13 @@ mod at_nodes;
 mod boot_lists;
 mod circles;
 mod cluster;
+mod crossings;
 mod finding;
 mod findings;
 mod laws;
 mod losses;
 mod node_lists;
+mod rows;
 mod sync_lists;
 mod timeouts;
 
