@@ -1,5 +1,5 @@
 -- One step more of what applications depend on.
-use Rattle.std.proofs.Common.{◌≡◌, ℕ, ◌+◌, suc, ◌<◌, ◌||◌, Bool, false, List, [], ◌∷◌, map, slice_get, unwrap_or, filter_map, Option, Some, None, IsSome, All, refl, ap, ◌∙◌, arith}
+use Rattle.std.proofs.Common.{◌≡◌, ℕ, ◌+◌, ◌-◌, zero, suc, ◌<◌, ◌||◌, Bool, false, List, [], ◌∷◌, map, slice_get, unwrap_or, filter_map, Option, Some, None, IsSome, All, refl, sym, ap, ◌∙◌, arith}
 use Rattle.std.specs.List.{list_any, range_with_len}
 use Rattle.std.specs.Option.{option_map}
 use Rattle.std.proofs.lemmas.Option.{slice_get-map, slice_get-get_or, slice_get_within}
@@ -72,3 +72,24 @@ step_more c steps marks more b within so_far is a lt =
 pub none_yet : (c : ClusterView) (marks : List Bool) (b : App) → marks ≡ [] → (a : App) → is_marked marks a ≡ depends_within 0 c a b
 unfolding depends_within
 none_yet c marks b is a = ap (λ ms. is_marked ms a) is
+
+-- ---- marks to which a step adds none: all later steps leave them
+stays : (c : ClusterView) (marks : List Bool) (b : App) → IsWithin c → marks ≡ map (needs_marked c marks b) (apps_of c) → (later steps : ℕ)
+    → ((a : App) → a.0 < app_count c → is_marked marks a ≡ depends_within steps c a b)
+    → (a : App) → a.0 < app_count c → is_marked marks a ≡ depends_within (steps + later) c a b
+stays c marks b within same zero steps so_far a lt =
+    let e : steps ≡ steps + 0 = omega arith in
+    so_far a lt ∙ ap (λ k. depends_within k c a b) e
+stays c marks b within same (suc later) steps so_far a lt =
+    let e : steps + 1 + later ≡ steps + suc later = omega arith in
+    stays c marks b within same later (steps + 1) (step_more c steps marks marks b within so_far same) a lt ∙ ap (λ k. depends_within k c a b) e
+
+pub settled : (c : ClusterView) (steps : ℕ) (marks more : List Bool) (b : App) → IsWithin c
+    → ((a : App) → a.0 < app_count c → is_marked marks a ≡ depends_within steps c a b) → more ≡ map (needs_marked c marks b) (apps_of c)
+    → more ≡ marks → steps < app_count c
+    → (a : App) → a.0 < app_count c → is_marked more a ≡ depends_within (app_count c) c a b
+settled c steps marks more b within so_far is same few a lt =
+    let e : steps + (app_count c - steps) ≡ app_count c = omega arith in
+    ap (λ ms. is_marked ms a) same
+    ∙ stays c marks b within (sym same ∙ is) (app_count c - steps) steps so_far a lt
+    ∙ ap (λ k. depends_within k c a b) e

@@ -1,6 +1,6 @@
 //! Applications that depend on themselves.
 
-ghost use Rattle.std.specs.Prelude.{◌≡◌, ◌<◌, map, IfOk};
+ghost use Rattle.std.specs.Prelude.{◌≡◌, ◌↔◌, ◌<◌, map, IfOk, IsTrue};
 ghost use Rattle.rh_model.specs.ClusterView.{app_count};
 ghost use Rattle.rh_model.specs.declared.node.App.{App};
 ghost use Rattle.rh_state.specs.Numbers.{apps_of};
@@ -47,14 +47,26 @@ fn one_step_more(
     Ok(more)
 }
 
-// Marks the applications that depend on another one, as far as the cluster goes.
+// Are these the same marks?
+fn are_same(marks: &[bool], others: &[bool]) -> bool
+    ensures { IsTrue result ↔ (marks.now ≡ others.now) }
+{
+    marks == others
+}
+
+// Marks the applications that depend on another one, as far as the cluster goes. A step that marks no other application is the last: all
+// later ones would do the same.
 fn depending(alloc: Global, cluster: &Cluster, other: App) -> Result<Vec<bool>, OutOfMemory>
     ensures { IfOk result (λ marks. (a : App) → a.0 < app_count cluster.now → is_marked marks.items a ≡ depends_within (app_count cluster.now) cluster.now a other) }
 {
     cluster.is_within();
     let mut marks = Vec::new(alloc);
     'steps: for _step in 0..cluster.app_count() {
-        marks = one_step_more(alloc, cluster, marks.as_slice(), other)?;
+        let more = one_step_more(alloc, cluster, marks.as_slice(), other)?;
+        if are_same(more.as_slice(), marks.as_slice()) {
+            return Ok(more);
+        }
+        marks = more;
     }
     Ok(marks)
 }
