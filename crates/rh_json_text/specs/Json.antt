@@ -1,5 +1,5 @@
 -- The pieces of a JSON text (RFC 8259). Ours is that no blank stands between them.
-use Rattle.std.specs.Prelude.{ℕ, ◌+◌, ◌/◌, ◌%◌, ◌||◌, ◌==◌, List, [], ◌∷◌, ◌++◌, drop, nat_lt, if◌then◌else◌, codes}
+use Rattle.std.specs.Prelude.{ℕ, Bool, ◌+◌, ◌/◌, ◌%◌, ◌||◌, ◌==◌, List, [], ◌∷◌, ◌++◌, drop, nat_lt, if◌then◌else◌, codes}
 use Rattle.std.specs.List.{flat_map, join_by}
 
 -- the digit of a number below 16
@@ -13,6 +13,10 @@ escaped b =
     if nat_lt b 32 then codes "\\u00" ++ hex_digit (b / 16) ∷ hex_digit (b % 16) ∷ []
     else if b == 34 || b == 92 then 92 ∷ b ∷ []
     else b ∷ []
+
+-- whether a byte of a string can't stand there as it is
+unfoldable pub is_escaped : ℕ → Bool
+is_escaped b = nat_lt b 32 || (b == 34 || b == 92)
 
 -- a string
 unfoldable pub json_string : List ℕ → List ℕ

@@ -1,9 +1,9 @@
 //! The pieces of a JSON text, each pushed behind a text. Where memory is refused, a front of the piece may stand there already.
 
-ghost use Rattle.std.specs.Prelude.{◌≡◌, ◌<◌, ◌++◌, OnOk};
+ghost use Rattle.std.specs.Prelude.{◌≡◌, ◌<◌, ◌++◌, IsTrue, OnOk};
 ghost use Rattle.std.specs.List.{flat_map};
 ghost use Rattle.std.specs.Fmt.{decimal};
-ghost use Rattle.rh_json_text.specs.Json.{hex_digit, escaped, json_string, bracketed};
+ghost use Rattle.rh_json_text.specs.Json.{hex_digit, is_escaped, escaped, json_string, bracketed};
 
 use rh_base::OutOfMemory;
 use std::alloc::Global;
@@ -43,29 +43,41 @@ fn hex_digit(digit: u8) -> u8
     }
 }
 
-// Adds a byte of a string.
-#[tactic(auto, unfolding(crate::specs::Json::escaped))]
-fn push_escaped(out: &mut Vec<u8>, byte: u8) -> Result<(), OutOfMemory>
+// Whether this byte can't stand in a string as it is.
+#[tactic(auto, unfolding(crate::specs::Json::is_escaped))]
+fn is_escaped(byte: u8) -> bool
+    ensures { result ≡ is_escaped byte }
+{
+    byte < 32 || byte == b'"' || byte == b'\\'
+}
+
+// Adds a byte that can't stand in a string as it is.
+#[tactic(auto, unfolding(crate::specs::Json::escaped, crate::specs::Json::is_escaped))]
+fn push_escape(out: &mut Vec<u8>, byte: u8) -> Result<(), OutOfMemory>
+    requires { IsTrue (is_escaped byte) }
     ensures { OnOk result (out.new.items ≡ out.old.items ++ escaped byte) }
 {
     if byte < 32 {
         push_text(out, "\\u00")?;
         return push_bytes(out, &[hex_digit(byte / 16), hex_digit(byte % 16)]);
     }
-    if byte == b'"' || byte == b'\\' {
-        return push_bytes(out, &[b'\\', byte]);
-    }
-    push_bytes(out, &[byte])
+    push_bytes(out, &[b'\\', byte])
 }
 
-// Adds the bytes of a string.
+// Adds the bytes of a string: those between two that are escaped at once, since most strings have none.
 fn push_each_escaped(out: &mut Vec<u8>, text: &[u8]) -> Result<(), OutOfMemory>
     ensures { OnOk result (out.new.items ≡ out.old.items ++ flat_map escaped text.now) }
 {
-    for byte in text {
-        push_escaped(out, *byte)?;
+    let mut pushed = 0;
+    for place in 0..text.len() {
+        let byte = text[place];
+        if is_escaped(byte) {
+            push_bytes(out, &text[pushed..place])?;
+            push_escape(out, byte)?;
+            pushed = place + 1;
+        }
     }
-    Ok(())
+    push_bytes(out, &text[pushed..])
 }
 
 /// Adds a string: between quotes, with what JSON asks to be escaped (RFC 8259, section 7). All other bytes stay as they are, so the
