@@ -1,7 +1,8 @@
 -- Arrays whose values were written each behind a comma.
-use Rattle.std.proofs.Common.{◌≡◌, ◌+◌, ℕ, List, [], ◌∷◌, ◌++◌, map, filter, Bool, true, false, if◌then◌else◌, refl, sym, ap, ◌∙◌, append_assoc, arith, codes, Result, Ok, Err, OnOk}
+use Rattle.std.proofs.Common.{◌≡◌, ◌+◌, ◌<◌, ◌≤◌, ℕ, length, take, drop, set, List, [], ◌∷◌, ◌++◌, map, filter, Bool, true, false, if◌then◌else◌, refl, sym, ap, ◌∙◌, append_assoc, arith, codes, Result, Ok, Err, OnOk}
 use Rattle.std.specs.List.{flat_map, range_with_len}
-use Rattle.std.proofs.lemmas.List.{append-nil, flat_map_more}
+use Rattle.std.proofs.lemmas.List.{append-nil, flat_map_more, take-append-drop, take-set, drop-set, drop-drop, take_all, drop_all}
+use Rattle.std.proofs.Math.Seq.{take-append_seam, drop-append_seam}
 use Rattle.std.proofs.lemmas.List.FromFn.{map-range_with_len_more}
 use Rattle.std.proofs.lemmas.List.Elements.{filter-append}
 use Rattle.std.proofs.lemmas.Grind.{flat_map-append}
@@ -11,6 +12,32 @@ pub array_is_bracketed : {X : Type 0} (value : X → List ℕ) (xs : List X) →
 unfolding json_array
 array_is_bracketed value [] = refl
 array_is_bracketed value (x ∷ xs) = refl
+
+-- the bracket in place of the first comma
+pub bracket_for_comma : (text : List ℕ) (start : ℕ) → start < length text → set text start 91 ≡ take start text ++ (91 ∷ drop 1 (drop start text))
+bracket_for_comma text start inside =
+    sym (take-append-drop start (set text start 91))
+    ∙ ap (λ (t : List ℕ). t ++ drop start (set text start 91)) (take-set text start 91)
+    ∙ ap (λ (t : List ℕ). take start text ++ t) (drop-set text start 91 inside)
+    ∙ ap (λ (t : List ℕ). take start text ++ 91 ∷ t) (sym (drop-drop 1 start text))
+
+-- the bracket where no value stands
+pub bracket_behind : (text : List ℕ) (start : ℕ) → length text ≤ start → text ++ 91 ∷ [] ≡ take start text ++ (91 ∷ drop 1 (drop start text))
+bracket_behind text start all =
+    ap (λ (t : List ℕ). t ++ 91 ∷ []) (sym (take_all start text all))
+    ∙ ap (λ (t : List ℕ). take start text ++ 91 ∷ drop 1 t) (sym (drop_all start text all))
+
+-- values behind a text, each behind a comma, of which an array was made
+pub array_is_closed : {X : Type 0} (value : X → List ℕ) (xs : List X) (begun written closed : List ℕ) (start : ℕ)
+    → start ≡ length begun → written ≡ begun ++ flat_map (behind_comma value) xs → closed ≡ take start written ++ bracketed (drop start written)
+    → closed ≡ begun ++ json_array value xs
+array_is_closed value xs begun written closed start at values closing =
+    closing
+    ∙ ap (λ (n : ℕ). take n written ++ bracketed (drop n written)) at
+    ∙ ap (λ (t : List ℕ). take (length begun) t ++ bracketed (drop (length begun) t)) values
+    ∙ ap (λ (t : List ℕ). t ++ bracketed (drop (length begun) (begun ++ flat_map (behind_comma value) xs))) (take-append_seam begun (flat_map (behind_comma value) xs))
+    ∙ ap (λ (t : List ℕ). begun ++ bracketed t) (drop-append_seam begun (flat_map (behind_comma value) xs))
+    ∙ ap (λ (t : List ℕ). begun ++ t) (array_is_bracketed value xs)
 
 -- a text behind which one more value was written, and those of the numbers up to it
 pub numbers_more : {X : Type 0} (value : X → List ℕ) (numbered : ℕ → X) (begun text more : List ℕ) (i : ℕ)

@@ -7,5 +7,5 @@
 mod pieces;
 mod words;
 
-pub use pieces::{push_array, push_bytes, push_number, push_string, push_text};
+pub use pieces::{close_array, push_array, push_bytes, push_number, push_string, push_text};
 pub use words::{after_first, before_first};

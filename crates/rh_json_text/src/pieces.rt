@@ -1,6 +1,7 @@
 //! The pieces of a JSON text, each pushed behind a text. Where memory is refused, a front of the piece may stand there already.
+//! An array's values are pushed first, each behind a comma, and [`close_array`] makes the array of them in place.
 
-ghost use Rattle.std.specs.Prelude.{◌≡◌, ◌<◌, ◌++◌, IsTrue, OnOk};
+ghost use Rattle.std.specs.Prelude.{◌≡◌, ◌<◌, ◌≤◌, ◌++◌, length, take, drop, codes, IsTrue, OnOk};
 ghost use Rattle.std.specs.List.{flat_map};
 ghost use Rattle.std.specs.Fmt.{decimal};
 ghost use Rattle.rh_json_text.specs.Json.{hex_digit, is_escaped, escaped, json_string, bracketed};
@@ -89,6 +90,29 @@ pub fn push_string(out: &mut Vec<u8>, text: &[u8]) -> Result<(), OutOfMemory>
     push_text(out, "\"")?;
     push_each_escaped(out, text)?;
     push_text(out, "\"")
+}
+
+// Opens the array of the values that stand behind the first `start` bytes, each behind a comma: the bracket takes the first comma's place.
+#[tactic(auto, using(crate::proofs::Arrays::bracket_for_comma, crate::proofs::Arrays::bracket_behind))]
+fn open_array(out: &mut Vec<u8>, start: usize) -> Result<(), OutOfMemory>
+    requires { start ≤ length out.old.items }
+    ensures { OnOk result (out.new.items ≡ take start out.old.items ++ (codes "[" ++ drop 1 (drop start out.old.items))) }
+{
+    if start < out.len() {
+        out[start] = b'[';
+        return Ok(());
+    }
+    push_text(out, "[")
+}
+
+/// Makes an array of the values that stand behind the first `start` bytes, each behind a comma, as a loop writes them. Where memory is
+/// refused, they may stand there still.
+pub fn close_array(out: &mut Vec<u8>, start: usize) -> Result<(), OutOfMemory>
+    requires { start ≤ length out.old.items }
+    ensures { OnOk result (out.new.items ≡ take start out.old.items ++ bracketed (drop start out.old.items)) }
+{
+    open_array(out, start)?;
+    push_text(out, "]")
 }
 
 /// Adds an array of values, each of which stands behind a comma, as a loop writes them.
