@@ -1,6 +1,6 @@
 -- Worked rows: the lines of a cluster, of commands and of a report, computed from the definitions.
 use Rattle.std.proofs.Common.{◌≡◌, ◌++◌, [], ◌∷◌, codes, true, false, Some, None, refl}
-use Rattle.std.specs.Fmt.{digits, decimal}
+use Rattle.std.specs.Fmt.{digits}
 use Rattle.rh_model.specs.ClusterView.{ClusterView, numbered, app_numbered}
 use Rattle.rh_model.specs.declared.node.App.{App}
 use Rattle.rh_model.specs.declared.settings.Restart.TheVariants.{Permanent, Transient, Temporary}

@@ -3,10 +3,11 @@
 ghost use Rattle.std.specs.Prelude.{◌≡◌, ◌++◌, OnOk, IfOk, codes};
 ghost use Rattle.std.specs.Option.{option_map};
 ghost use Rattle.rh_state.specs.Stored.{read};
+ghost use Rattle.rh_script.specs.Answers.{answer_text};
 ghost use Rattle.rh_json_text.specs.Json.{json_array};
 ghost use Rattle.rh_json_lines.specs.Notices.{notice_json, timed_notices};
 ghost use Rattle.rh_json_lines.specs.Reports.{report_json};
-ghost use Rattle.rh_json_lines.specs.AnswerLines.{more_json, head_json, reply_line, bad_json};
+ghost use Rattle.rh_json_lines.specs.AnswerLines.{first_line, more_json, head_json, reply_line, bad_json};
 
 use crate::notices::push_notices;
 use crate::reports::push_report;
@@ -86,8 +87,20 @@ fn push_head(
     push_string(out, before_first(answer, b'\n'))
 }
 
+// A text with the first line of an answer: nothing else of an answer is written as it is. What may be long, the lines of notices and
+// of a report, isn't made for it.
+#[tactic(auto, unfolding(rh_script::specs::Answers::answer_text))]
+fn answer_front(alloc: Global, cluster: &Cluster, reply: &Reply) -> Result<Vec<u8>, OutOfMemory>
+    ensures { IfOk result (λ text. first_line text.items ≡ first_line (answer_text cluster.now reply.now)) }
+{
+    match reply {
+        Reply::Done(_) | Reply::Seen { .. } => Ok(Vec::from_slice(alloc, b"ok\n".as_slice())?),
+        _ => answer_text(alloc, cluster, reply),
+    }
+}
+
 // The line of a command of this number, with its answer, in the state behind it.
-#[tactic(auto, unfolding(crate::specs::AnswerLines::reply_line))]
+#[tactic(auto, unfolding(crate::specs::AnswerLines::reply_line, crate::specs::AnswerLines::head_json))]
 pub fn reply_line(
     alloc: Global,
     number: u64,
@@ -100,8 +113,9 @@ pub fn reply_line(
     ensures { IfOk result (λ line. line.items
         ≡ reply_line cluster.now number command.now (option_map (λ f. f.items) fired.now) reply.now (read state.now)) }
 {
-    let answer = answer_text(alloc, cluster, reply)?;
-    let mut line = Vec::new(alloc);
+    let answer = answer_front(alloc, cluster, reply)?;
+    // As much as most lines take.
+    let mut line = Vec::with_capacity(alloc, 1_024)?;
     push_head(alloc, &mut line, number, command, answer.as_slice())?;
     push_more(alloc, &mut line, cluster, state, fired, reply)?;
     push_text(&mut line, "}\n")?;

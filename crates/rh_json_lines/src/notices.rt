@@ -13,7 +13,7 @@ ghost use Rattle.rh_json_lines.specs.Notices.{pair_json, named_json, time_json, 
 use crate::starts::{push_app_at, push_node_at, push_start};
 use rh_base::OutOfMemory;
 use rh_cluster::{App, Cluster, Node};
-use rh_json_text::{push_array, push_number, push_string, push_text};
+use rh_json_text::{close_array, push_number, push_string, push_text};
 use rh_step::{Event, FiredTimer, Notice, refusal_of};
 use rh_trail::{Call, Sim};
 use std::alloc::Global;
@@ -173,7 +173,7 @@ fn push_told(
 }
 
 // Adds the array of a step's notices.
-#[tactic(auto, using(rh_json_text::proofs::Arrays::array_is_bracketed))]
+#[tactic(auto, using(rh_json_text::proofs::Arrays::array_is_closed))]
 pub fn push_notices(
     alloc: Global,
     out: &mut Vec<u8>,
@@ -184,9 +184,9 @@ pub fn push_notices(
     ensures { OnOk result (out.new.items ≡ out.old.items
         ++ json_array (notice_json cluster.now) (timed_notices notices.now (option_map (λ f. f.items) fired.now))) }
 {
-    let mut values = Vec::new(alloc);
-    push_told(alloc, &mut values, cluster, notices, fired)?;
-    push_array(out, values.as_slice())
+    let start = out.len();
+    push_told(alloc, out, cluster, notices, fired)?;
+    close_array(out, start)
 }
 
 /// The timers that fire in a tick that isn't refused, and nothing of another call. The simulation is lent: it is as before, also where

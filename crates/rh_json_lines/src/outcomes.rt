@@ -91,16 +91,11 @@ fn push_refused(
 
 // Adds where each distributed application stands at its end, and the end of the line.
 #[tactic(auto, unfolding(crate::specs::OutcomeLines::ends_json))]
-fn push_ends(
-    alloc: Global,
-    out: &mut Vec<u8>,
-    cluster: &Cluster,
-    outcome: &Outcome,
-) -> Result<(), OutOfMemory>
+fn push_ends(out: &mut Vec<u8>, cluster: &Cluster, outcome: &Outcome) -> Result<(), OutOfMemory>
     ensures { OnOk result (out.new.items ≡ out.old.items ++ ends_json cluster.now outcome.now) }
 {
     push_text(out, ",\"applications\":")?;
-    push_standings(alloc, out, cluster, outcome.standings.as_slice())?;
+    push_standings(out, cluster, outcome.standings.as_slice())?;
     push_text(out, "}\n")
 }
 
@@ -118,7 +113,7 @@ pub fn outcome_line(
     push_accepted(alloc, &mut line, name, outcome)?;
     push_counts(alloc, &mut line, outcome)?;
     push_refused(alloc, &mut line, cluster, outcome.refused)?;
-    push_ends(alloc, &mut line, cluster, outcome)?;
+    push_ends(&mut line, cluster, outcome)?;
     Ok(line)
 }
 

@@ -17,7 +17,7 @@ use crate::starts::{push_app_at, push_node_at};
 use crate::states::push_state;
 use rh_base::OutOfMemory;
 use rh_cluster::{App, Cluster, Node};
-use rh_json_text::{push_array, push_number, push_string, push_text};
+use rh_json_text::{close_array, push_number, push_string, push_text};
 use rh_state::{Standing, State, Timer};
 use std::alloc::Global;
 
@@ -158,35 +158,35 @@ fn push_each_state(alloc: Global, out: &mut Vec<u8>, state: &State) -> Result<()
 }
 
 // Adds the array of the nodes.
-#[tactic(auto, using(rh_json_text::proofs::Arrays::array_is_bracketed))]
+#[tactic(auto, using(rh_json_text::proofs::Arrays::array_is_closed))]
 fn push_all_states(alloc: Global, out: &mut Vec<u8>, state: &State) -> Result<(), OutOfMemory>
     ensures { OnOk result (out.new.items ≡ out.old.items ++ json_array (state_json (read state.now)) (nodes_of (read state.now).cluster)) }
 {
-    let mut values = Vec::new(alloc);
-    push_each_state(alloc, &mut values, state)?;
-    push_array(out, values.as_slice())
+    let start = out.len();
+    push_each_state(alloc, out, state)?;
+    close_array(out, start)
 }
 
 // Adds the array of the distributed applications.
-#[tactic(auto, using(rh_json_text::proofs::Arrays::array_is_bracketed))]
-fn push_all_distributed(alloc: Global, out: &mut Vec<u8>, state: &State) -> Result<(), OutOfMemory>
+#[tactic(auto, using(rh_json_text::proofs::Arrays::array_is_closed))]
+fn push_all_distributed(out: &mut Vec<u8>, state: &State) -> Result<(), OutOfMemory>
     ensures { OnOk result (out.new.items ≡ out.old.items
         ++ json_array (λ a. standing_json (read state.now).cluster a (standing_of (read state.now) a)) (distributed_in (read state.now).cluster)) }
 {
-    let mut values = Vec::new(alloc);
-    push_each_distributed(&mut values, state)?;
-    push_array(out, values.as_slice())
+    let start = out.len();
+    push_each_distributed(out, state)?;
+    close_array(out, start)
 }
 
 // Adds the array of the timers.
-#[tactic(auto, using(rh_json_text::proofs::Arrays::array_is_bracketed))]
+#[tactic(auto, using(rh_json_text::proofs::Arrays::array_is_closed))]
 fn push_all_timers(alloc: Global, out: &mut Vec<u8>, state: &State) -> Result<(), OutOfMemory>
     ensures { OnOk result (out.new.items ≡ out.old.items ++ json_array (timer_json (read state.now).cluster) (read state.now).timers) }
 {
     let timers = state.timers(alloc)?;
-    let mut values = Vec::new(alloc);
-    push_each_timer(alloc, &mut values, state.cluster(), timers.as_slice())?;
-    push_array(out, values.as_slice())
+    let start = out.len();
+    push_each_timer(alloc, out, state.cluster(), timers.as_slice())?;
+    close_array(out, start)
 }
 
 // Adds the time, and how many steps stand, of how many.
@@ -216,7 +216,7 @@ fn push_parts(alloc: Global, out: &mut Vec<u8>, state: &State) -> Result<(), Out
     push_text(out, ",\"nodes\":")?;
     push_all_states(alloc, out, state)?;
     push_text(out, ",\"applications\":")?;
-    push_all_distributed(alloc, out, state)?;
+    push_all_distributed(out, state)?;
     push_text(out, ",\"timers\":")?;
     push_all_timers(alloc, out, state)
 }

@@ -8,9 +8,8 @@ ghost use Rattle.rh_json_lines.specs.OutcomeLines.{stands_json};
 use crate::reports::push_standing;
 use rh_base::OutOfMemory;
 use rh_cluster::{App, Cluster};
-use rh_json_text::{push_array, push_text};
+use rh_json_text::{close_array, push_text};
 use rh_state::Standing;
-use std::alloc::Global;
 
 // Adds applications, each behind a comma.
 fn push_each_standing(
@@ -28,16 +27,15 @@ fn push_each_standing(
 }
 
 // Adds the array of the applications.
-#[tactic(auto, using(rh_json_text::proofs::Arrays::array_is_bracketed))]
+#[tactic(auto, using(rh_json_text::proofs::Arrays::array_is_closed))]
 pub fn push_standings(
-    alloc: Global,
     out: &mut Vec<u8>,
     cluster: &Cluster,
     standings: &[(App, Standing)],
 ) -> Result<(), OutOfMemory>
     ensures { OnOk result (out.new.items ≡ out.old.items ++ json_array (stands_json cluster.now) standings.now) }
 {
-    let mut values = Vec::new(alloc);
-    push_each_standing(&mut values, cluster, standings)?;
-    push_array(out, values.as_slice())
+    let start = out.len();
+    push_each_standing(out, cluster, standings)?;
+    close_array(out, start)
 }

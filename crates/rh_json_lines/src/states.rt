@@ -14,7 +14,7 @@ use crate::clusters::{push_app, push_node};
 use crate::starts::push_start;
 use rh_base::OutOfMemory;
 use rh_cluster::{App, Node};
-use rh_json_text::{push_array, push_number, push_string, push_text};
+use rh_json_text::{close_array, push_number, push_string, push_text};
 use rh_state::{Mode, State};
 use rh_trail::restart_word;
 use std::alloc::Global;
@@ -130,51 +130,36 @@ fn push_each_forbidden(out: &mut Vec<u8>, state: &State, node: Node) -> Result<(
 }
 
 // Adds the array of the applications that run at a node.
-#[tactic(auto, using(rh_json_text::proofs::Arrays::array_is_bracketed))]
-fn push_all_running(
-    alloc: Global,
-    out: &mut Vec<u8>,
-    state: &State,
-    node: Node,
-) -> Result<(), OutOfMemory>
+#[tactic(auto, using(rh_json_text::proofs::Arrays::array_is_closed))]
+fn push_all_running(out: &mut Vec<u8>, state: &State, node: Node) -> Result<(), OutOfMemory>
     requires { node.0 < node_count (read state.now).cluster }
     ensures { OnOk result (out.new.items ≡ out.old.items ++ json_array (running_json (read state.now) node) (running_at (read state.now) node)) }
 {
-    let mut values = Vec::new(alloc);
-    push_each_running(&mut values, state, node)?;
-    push_array(out, values.as_slice())
+    let start = out.len();
+    push_each_running(out, state, node)?;
+    close_array(out, start)
 }
 
 // Adds the array of those that wait there.
-#[tactic(auto, using(rh_json_text::proofs::Arrays::array_is_bracketed))]
-fn push_all_waiting(
-    alloc: Global,
-    out: &mut Vec<u8>,
-    state: &State,
-    node: Node,
-) -> Result<(), OutOfMemory>
+#[tactic(auto, using(rh_json_text::proofs::Arrays::array_is_closed))]
+fn push_all_waiting(out: &mut Vec<u8>, state: &State, node: Node) -> Result<(), OutOfMemory>
     requires { node.0 < node_count (read state.now).cluster }
     ensures { OnOk result (out.new.items ≡ out.old.items ++ json_array (waiting_json (read state.now) node) (waiting_at (read state.now) node)) }
 {
-    let mut values = Vec::new(alloc);
-    push_each_waiting(&mut values, state, node)?;
-    push_array(out, values.as_slice())
+    let start = out.len();
+    push_each_waiting(out, state, node)?;
+    close_array(out, start)
 }
 
 // Adds the array of those that may not run there.
-#[tactic(auto, using(rh_json_text::proofs::Arrays::array_is_bracketed))]
-fn push_all_forbidden(
-    alloc: Global,
-    out: &mut Vec<u8>,
-    state: &State,
-    node: Node,
-) -> Result<(), OutOfMemory>
+#[tactic(auto, using(rh_json_text::proofs::Arrays::array_is_closed))]
+fn push_all_forbidden(out: &mut Vec<u8>, state: &State, node: Node) -> Result<(), OutOfMemory>
     requires { node.0 < node_count (read state.now).cluster }
     ensures { OnOk result (out.new.items ≡ out.old.items ++ json_array (app_json (read state.now).cluster) (forbidden_at (read state.now) node)) }
 {
-    let mut values = Vec::new(alloc);
-    push_each_forbidden(&mut values, state, node)?;
-    push_array(out, values.as_slice())
+    let start = out.len();
+    push_each_forbidden(out, state, node)?;
+    close_array(out, start)
 }
 
 // Adds the name of a node, what it does, and how often it was booted.
@@ -193,63 +178,43 @@ fn push_mode(alloc: Global, out: &mut Vec<u8>, state: &State, node: Node) -> Res
 
 // Adds what runs at a node.
 #[tactic(auto, unfolding(crate::specs::Reports::running_list))]
-fn push_running_at(
-    alloc: Global,
-    out: &mut Vec<u8>,
-    state: &State,
-    node: Node,
-) -> Result<(), OutOfMemory>
+fn push_running_at(out: &mut Vec<u8>, state: &State, node: Node) -> Result<(), OutOfMemory>
     requires { node.0 < node_count (read state.now).cluster }
     ensures { OnOk result (out.new.items ≡ out.old.items ++ running_list (read state.now) node) }
 {
     push_text(out, ",\"running\":")?;
-    push_all_running(alloc, out, state, node)
+    push_all_running(out, state, node)
 }
 
 // Adds what waits there.
 #[tactic(auto, unfolding(crate::specs::Reports::waiting_list))]
-fn push_waiting_at(
-    alloc: Global,
-    out: &mut Vec<u8>,
-    state: &State,
-    node: Node,
-) -> Result<(), OutOfMemory>
+fn push_waiting_at(out: &mut Vec<u8>, state: &State, node: Node) -> Result<(), OutOfMemory>
     requires { node.0 < node_count (read state.now).cluster }
     ensures { OnOk result (out.new.items ≡ out.old.items ++ waiting_list (read state.now) node) }
 {
     push_text(out, ",\"waiting\":")?;
-    push_all_waiting(alloc, out, state, node)
+    push_all_waiting(out, state, node)
 }
 
 // Adds what may not run there.
 #[tactic(auto, unfolding(crate::specs::Reports::forbidden_list))]
-fn push_forbidden_at(
-    alloc: Global,
-    out: &mut Vec<u8>,
-    state: &State,
-    node: Node,
-) -> Result<(), OutOfMemory>
+fn push_forbidden_at(out: &mut Vec<u8>, state: &State, node: Node) -> Result<(), OutOfMemory>
     requires { node.0 < node_count (read state.now).cluster }
     ensures { OnOk result (out.new.items ≡ out.old.items ++ forbidden_list (read state.now) node) }
 {
     push_text(out, ",\"forbidden\":")?;
-    push_all_forbidden(alloc, out, state, node)
+    push_all_forbidden(out, state, node)
 }
 
 // Adds what runs at a node, what waits there, and what may not run there.
 #[tactic(auto, unfolding(crate::specs::Reports::lists_json))]
-fn push_lists(
-    alloc: Global,
-    out: &mut Vec<u8>,
-    state: &State,
-    node: Node,
-) -> Result<(), OutOfMemory>
+fn push_lists(out: &mut Vec<u8>, state: &State, node: Node) -> Result<(), OutOfMemory>
     requires { node.0 < node_count (read state.now).cluster }
     ensures { OnOk result (out.new.items ≡ out.old.items ++ lists_json (read state.now) node) }
 {
-    push_running_at(alloc, out, state, node)?;
-    push_waiting_at(alloc, out, state, node)?;
-    push_forbidden_at(alloc, out, state, node)
+    push_running_at(out, state, node)?;
+    push_waiting_at(out, state, node)?;
+    push_forbidden_at(out, state, node)
 }
 
 // Adds a node.
@@ -264,6 +229,6 @@ pub fn push_state(
     ensures { OnOk result (out.new.items ≡ out.old.items ++ state_json (read state.now) node) }
 {
     push_mode(alloc, out, state, node)?;
-    push_lists(alloc, out, state, node)?;
+    push_lists(out, state, node)?;
     push_text(out, "}")
 }

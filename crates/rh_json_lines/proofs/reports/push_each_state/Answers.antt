@@ -1,5 +1,3 @@
-use Rattle.std.proofs.Common.{append_assoc, ◌∙◌}
-use Rattle.std.specs.Prelude.{codes}
 use Rattle.rh_model.specs.ClusterView.{numbered}
 use Rattle.rh_state.specs.Stored.{read}
 use Rattle.rh_json_lines.specs.Reports.{state_json}
