@@ -5,5 +5,6 @@ pub mod Counting
 pub mod Turning
 pub mod Whole
 pub mod Differing
+pub mod Joined
 pub mod Quiet
 pub mod Agreeing

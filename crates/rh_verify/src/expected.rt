@@ -6,6 +6,7 @@ ghost use Rattle.rh_notes.specs.Notes.{note_of};
 ghost use Rattle.rh_verify.specs.Spaces.{lines_of};
 ghost use Rattle.rh_verify.specs.Expected.{asked_by, ahead, answer_in, wanted_in, answers_in, wanted_among, is_expectation};
 
+use crate::spaces::push_line;
 use rh_base::OutOfMemory;
 use rh_cluster::Cluster;
 use rh_notes::{Kind, note_of};
@@ -27,7 +28,7 @@ pub fn lines_ahead<'a>(
         let (line, after) = split_line(rest);
         let line = content(line);
         match line_of(alloc, cluster, line)? {
-            Line::Nothing => lines.push(line)?,
+            Line::Nothing => push_line(&mut lines, line)?,
             _ => return Ok(lines),
         }
         rest = after;
@@ -42,7 +43,7 @@ fn push_answer<'a>(texts: &mut Vec<&'a [u8]>, line: &'a [u8]) -> Result<(), OutO
 {
     match note_of(line) {
         Some((Kind::Answer, text)) => {
-            texts.push(text)?;
+            push_line(texts, text)?;
             Ok(())
         }
         Some((Kind::Time | Kind::Reason | Kind::Table | Kind::Wanted, _)) | None => Ok(()),
@@ -67,7 +68,7 @@ fn push_wanted<'a>(texts: &mut Vec<&'a [u8]>, line: &'a [u8]) -> Result<(), OutO
 {
     match note_of(line) {
         Some((Kind::Wanted, text)) => {
-            texts.push(text)?;
+            push_line(texts, text)?;
             Ok(())
         }
         Some((Kind::Answer | Kind::Time | Kind::Reason | Kind::Table, _)) | None => Ok(()),

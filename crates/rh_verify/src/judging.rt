@@ -1,7 +1,9 @@
 //! What doesn't hold of a command, and the block that tells it.
 
-ghost use Rattle.std.specs.Prelude.{◌≡◌, ◌++◌, map, codes, IfOk, OnOk};
+ghost use Rattle.std.specs.Prelude.{◌≡◌, ◌≢◌, ◌++◌, List, ℕ, map, codes, IfOk, OnOk};
 ghost use Rattle.std.specs.List.{flat_map};
+ghost use Rattle.std.specs.Option.{MatchOption};
+ghost use Rattle.std.specs.Str.{bytes_eq};
 ghost use Rattle.rh_state.specs.Stored.{read};
 ghost use Rattle.rh_trail.specs.Report.{report_text};
 ghost use Rattle.rh_verify.specs.Spaces.{lines_of, below};
@@ -17,27 +19,38 @@ use rh_state::State;
 use rh_trail::report;
 use std::alloc::Global;
 
-// These lines, each with its end.
-fn joined(alloc: Global, lines: &[&[u8]]) -> Result<Vec<u8>, OutOfMemory>
-    ensures { IfOk result (λ text. text.items ≡ flat_map (λ l. l ++ codes "\n") (map (λ line. line.now) lines.now)) }
+// What stands behind this line and its end, where a text begins with them.
+fn behind_line<'a>(text: &'a [u8], line: &[u8]) -> Option<&'a [u8]>
+    ensures { MatchOption result ((rest : List ℕ) → text.now ≢ line.now ++ codes "\n" ++ rest) (λ rest. text.now ≡ line.now ++ codes "\n" ++ rest.now) }
 {
-    let mut text = Vec::new(alloc);
-    for line in lines {
-        text.extend_from_slice(*line)?;
-        text.push(b'\n')?;
+    match text.strip_prefix(line) {
+        Some(rest) => rest.strip_prefix(b"\n".as_slice()),
+        None => None,
     }
-    Ok(text)
+}
+
+// Whether a text is these lines, each with its end.
+fn is_joined(lines: &[&[u8]], text: &[u8]) -> bool
+    ensures { result ≡ bytes_eq (flat_map (λ l. l ++ codes "\n") (map (λ line. line.now) lines.now)) text.now }
+{
+    let mut rest = text;
+    for line in lines {
+        match behind_line(rest, *line) {
+            Some(after) => rest = after,
+            None => return false,
+        }
+    }
+    rest.is_empty()
 }
 
 // Whether an answer is these lines and no other. Where there are none, it may be any.
-fn is_answered(alloc: Global, lines: &[&[u8]], answer: &[u8]) -> Result<bool, OutOfMemory>
-    ensures { IfOk result (λ same. same ≡ is_answered (map (λ line. line.now) lines.now) answer.now) }
+fn is_answered(lines: &[&[u8]], answer: &[u8]) -> bool
+    ensures { result ≡ is_answered (map (λ line. line.now) lines.now) answer.now }
 {
     if lines.is_empty() {
-        return Ok(true);
+        return true;
     }
-    let text = joined(alloc, lines)?;
-    Ok(text.as_slice() == answer)
+    is_joined(lines, answer)
 }
 
 // Whether a report of these lines has this line, spaces at the front aside.
@@ -123,7 +136,7 @@ fn block_of(
     ensures { IfOk result (λ text. text.items
         ≡ block_of number line.now (map (λ l. l.now) wanted.now) came.now (map (λ l. l.now) lacking.now)) }
 {
-    let is_answered = is_answered(alloc, wanted, came)?;
+    let is_answered = is_answered(wanted, came);
     if is_answered && lacking.is_empty() {
         return Ok(Vec::new(alloc));
     }

@@ -1,6 +1,6 @@
 //! Lines of a text, and the spaces round them.
 
-ghost use Rattle.std.specs.Prelude.{◌≡◌, ◌≤◌, ◌++◌, length, map, codes, IfOk, OnOk};
+ghost use Rattle.std.specs.Prelude.{◌≡◌, ◌≤◌, ◌++◌, [], ◌∷◌, length, map, codes, IfOk, OnOk};
 ghost use Rattle.std.specs.List.{flat_map};
 ghost use Rattle.rh_script.specs.Lines.{raw_lines};
 ghost use Rattle.rh_verify.specs.Spaces.{lines_of, without_front, without_back, without_spaces, below};
@@ -8,6 +8,17 @@ ghost use Rattle.rh_verify.specs.Spaces.{lines_of, without_front, without_back, 
 use rh_base::OutOfMemory;
 use rh_script::{content, split_line};
 use std::alloc::Global;
+
+// Adds a line. With the first comes room for as many as most commands have behind them.
+pub fn push_line<'a>(lines: &mut Vec<&'a [u8]>, line: &'a [u8]) -> Result<(), OutOfMemory>
+    ensures { OnOk result (lines.new.items ≡ lines.old.items ++ line.entry ∷ []) }
+{
+    if lines.is_empty() {
+        lines.reserve(32)?;
+    }
+    lines.push(line)?;
+    Ok(())
+}
 
 // The lines of a text, without their ends.
 pub fn lines_of(alloc: Global, text: &[u8]) -> Result<Vec<&[u8]>, OutOfMemory>
@@ -17,7 +28,7 @@ pub fn lines_of(alloc: Global, text: &[u8]) -> Result<Vec<&[u8]>, OutOfMemory>
     let mut rest = text;
     'lines: while !rest.is_empty() {
         let (line, after) = split_line(rest);
-        lines.push(content(line))?;
+        push_line(&mut lines, content(line))?;
         rest = after;
     }
     Ok(lines)
