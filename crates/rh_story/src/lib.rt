@@ -6,6 +6,7 @@
 
 mod head;
 mod lines;
+mod notices;
 mod reasons;
 mod story;
 mod table;

@@ -1,24 +1,19 @@
 //! What is told of an accepted event: its notices with their reasons, and in a tick by the timers that fired.
 
-ghost use Rattle.std.specs.Prelude.{◌≡◌, ◌++◌, OnOk, IfOk};
+ghost use Rattle.std.specs.Prelude.{◌≡◌, ◌++◌, OnOk};
 ghost use Rattle.std.specs.List.{flat_map};
 ghost use Rattle.rh_state.specs.Stored.{read};
 ghost use Rattle.rh_settle.specs.Validity.{IsValid};
-ghost use Rattle.rh_script.specs.Answers.{notice_line};
 ghost use Rattle.rh_story.specs.LineText.{answer_lines, time_line, notice_lines, firing_lines};
 
+use crate::notices::push_notice_line;
 use crate::reasons::push_why;
 use rh_base::OutOfMemory;
-use rh_cluster::Cluster;
 use rh_notes::{Kind, mark};
-use rh_script::{answer_text, split_line};
+use rh_script::split_line;
 use rh_state::State;
-use rh_step::{FiredTimer, Notice, Notices};
-use rh_trail::Reply;
+use rh_step::{FiredTimer, Notice};
 use std::alloc::Global;
-
-// The first line of an answer that isn't refused.
-const OK: &str = "ok\n";
 
 /// Adds each line of an answer behind the mark of answers.
 pub fn push_answer(text: &mut Vec<u8>, answer: &[u8]) -> Result<(), OutOfMemory>
@@ -44,31 +39,22 @@ fn push_time(alloc: Global, text: &mut Vec<u8>, time: u64) -> Result<(), OutOfMe
     Ok(())
 }
 
-// The line of a notice: that of an answer behind its first.
-#[tactic(auto, unfolding(rh_script::specs::Answers::answer_text))]
-fn notice_text(alloc: Global, cluster: &Cluster, notice: &Notice) -> Result<Vec<u8>, OutOfMemory>
-    ensures { IfOk result (λ text. text.items ≡ notice_line cluster.now notice.now) }
-{
-    let mut notices = Vec::new(alloc);
-    notices.push(*notice)?;
-    let notices = Notices::of(alloc, notices)?;
-    let answer = answer_text(alloc, cluster, &Reply::Done(notices))?;
-    let line = Vec::from_slice(alloc, &answer.as_slice()[OK.len()..])?;
-    Ok(line)
-}
-
-// Adds a notice, and why it is told.
+// Adds a notice, and why it is told. Its line is made in a buffer, whatever that held.
 fn push_notice(
     alloc: Global,
     text: &mut Vec<u8>,
+    line: &mut String,
     state: &State,
     notice: &Notice,
 ) -> Result<(), OutOfMemory>
     requires { IsValid (read state.now) }
     ensures { OnOk result (text.new.items ≡ text.old.items ++ notice_lines (read state.now) notice.now) }
 {
-    let line = notice_text(alloc, state.cluster(), notice)?;
-    push_answer(text, line.as_slice())?;
+    line.clear();
+    // As much as most lines take.
+    line.reserve(64)?;
+    push_notice_line(line, state.cluster(), notice)?;
+    push_answer(text, line.as_bytes())?;
     push_why(alloc, text, state, notice)
 }
 
@@ -82,8 +68,9 @@ pub fn push_notices(
     requires { IsValid (read state.now) }
     ensures { OnOk result (text.new.items ≡ text.old.items ++ flat_map (notice_lines (read state.now)) notices.now) }
 {
+    let mut line = String::new(alloc);
     for notice in notices {
-        push_notice(alloc, text, state, notice)?;
+        push_notice(alloc, text, &mut line, state, notice)?;
     }
     Ok(())
 }
