@@ -1,9 +1,8 @@
 -- Words that are kept side by side: what holds of each kind of them.
-use Rattle.std.proofs.Common.{◌≡◌, ◌<◌, ◌≤◌, ◌∷◌, true, false, inl, inr, ℕ, zero, suc, List, [], Option, Some, None, length, get_or, set, map, replicate, refl, sym, ap, ◌∙◌, arith}
+use Rattle.std.proofs.Common.{◌≡◌, ◌<◌, ◌≤◌, ◌∷◌, true, false, inl, inr, ℕ, zero, suc, List, [], length, get_or, set, map, replicate, refl, sym, ap, ◌∙◌, arith}
 use Rattle.std.proofs.lemmas.Bool.{cases_lt}
 use Rattle.std.proofs.lemmas.List.{map-set, length-map, set_past, set-get_or}
 use Rattle.std.proofs.Math.ListN.{get_or-map}
-use Rattle.rh_arena.specs.Linking.{set_unless}
 use Rattle.rh_arena.specs.declared.words.EntryWords.{EntryWords}
 use Rattle.rh_arena.specs.declared.words.ListWords.{ListWords}
 
@@ -55,13 +54,3 @@ lists_from_words (x ∷ xs) (y ∷ ys) h t c =
     let t1 : map (λ l. l.tail) xs ≡ map (λ l. l.tail) ys = cc t in
     let c1 : map (λ l. l.count) xs ≡ map (λ l. l.count) ys = cc c in
     (λ k. record { head = h0 k; tail = t0 k; count = c0 k } ∷ lists_from_words xs ys h1 t1 c1 k)
-
--- a word of a list that is written where an entry has none on that side, and is as it was elsewhere
-pub map-set_unless : {A B : Type 0} (f : A → B) (xs : List A) (o : Option ℕ) (i : ℕ) (x d : A) (v : B) → (o ≡ None → f x ≡ v)
-    → ((n : ℕ) → o ≡ Some n → f x ≡ f (get_or xs i d)) → map f (set xs i x) ≡ set_unless (map f xs) o i v
-map-set_unless f xs None i x d v none some = map-set f xs i x ∙ ap (set (map f xs) i) (none refl)
-map-set_unless f xs (Some n) i x d v none some = map-set_own f xs i x d (some n refl)
-
-pub set_unless-past : {A B : Type 0} (f : A → B) (xs : List A) (o : Option ℕ) (i : ℕ) (v : B) → length xs ≤ i → map f xs ≡ set_unless (map f xs) o i v
-set_unless-past f xs None i v le = map-past f xs i v le
-set_unless-past f xs (Some n) i v le = refl

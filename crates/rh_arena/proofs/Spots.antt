@@ -1,5 +1,5 @@
 -- The six words at a place of a list.
-use Rattle.std.proofs.Common.{◌≡◌, ◌≢◌, ◌+◌, ◌-◌, ◌∷◌, List, [], ℕ, Option, Some, None, get_or, map, set, refl, ap, ◌∙◌, arith}
+use Rattle.std.proofs.Common.{◌≡◌, ◌≢◌, ◌+◌, ◌-◌, ◌∷◌, List, [], ℕ, Option, Some, None, set, refl, ap, ◌∙◌, arith}
 use Rattle.std.proofs.lemmas.List.{set-get_or}
 use Rattle.std.proofs.lemmas.List.Elements.{All-from_recursion}
 use Rattle.std.specs.List.{AllByRecursion as ByRecursion}
@@ -9,7 +9,7 @@ use Rattle.rh_arena.specs.declared.spot.Spot.{Spot}
 use Rattle.rh_arena.specs.declared.spot.Values.{Values}
 use Rattle.rh_arena.specs.Words.{Words, prev_of, next_of, tail_of, count_of}
 use Rattle.rh_arena.specs.Linking.{pushed, removed, set_at, set_unless, link_behind, link_before}
-use Rattle.rh_arena.specs.Exchange.{puts, had, word_of}
+use Rattle.rh_arena.specs.Exchange.{puts, word_of}
 use Rattle.rh_arena.specs.Spots.{changes_at, IsBetween}
 use Rattle.rh_arena.proofs.Exchanges.{AreApart, AreApart-cons, kinds_apart, behind_apart, before_apart}
 
@@ -27,33 +27,6 @@ puts_at w i l None None v = refl
 puts_at w i l None (Some a) v = refl
 puts_at w i l (Some b) None v = refl
 puts_at w i l (Some b) (Some a) v = refl
-
--- the links to the entry, back
-behind_had : (w : Words) (l : ℕ) (b u v : Option ℕ) → (b ≡ None → v ≡ get_or w.head l u) → ((i : ℕ) → b ≡ Some i → v ≡ get_or w.next i u)
-    → link_behind l b v ≡ had w (link_behind l b u)
-behind_had w l None u v none some = ap (Head l) (none refl)
-behind_had w l (Some i) u v none some = ap (Next i) (some i refl)
-
-before_had : (w : Words) (l : ℕ) (a u v : Option ℕ) → (a ≡ None → v ≡ get_or w.tail l u) → ((i : ℕ) → a ≡ Some i → v ≡ get_or w.prev i u)
-    → link_before l a v ≡ had w (link_before l a u)
-before_had w l None u v none some = ap (Tail l) (none refl)
-before_had w l (Some i) u v none some = ap (Prev i) (some i refl)
-
--- the changes back, by what the words had
-pub changes_had : (w : Words) (s : Spot) (v had_values : Values) → had_values.prev ≡ get_or w.prev s.entry v.prev
-    → had_values.next ≡ get_or w.next s.entry v.next → had_values.owner ≡ get_or w.owner s.entry v.owner
-    → had_values.count ≡ get_or w.count s.list v.count
-    → (s.before ≡ None → had_values.from_before ≡ get_or w.head s.list v.from_before)
-    → ((b : ℕ) → s.before ≡ Some b → had_values.from_before ≡ get_or w.next b v.from_before)
-    → (s.after ≡ None → had_values.from_behind ≡ get_or w.tail s.list v.from_behind)
-    → ((a : ℕ) → s.after ≡ Some a → had_values.from_behind ≡ get_or w.prev a v.from_behind)
-    → changes_at s had_values ≡ map (had w) (changes_at s v)
-changes_had w s v h p n o c first before last after =
-    let from_before : link_behind s.list s.before h.from_before ≡ had w (link_behind s.list s.before v.from_before) =
-    behind_had w s.list s.before v.from_before h.from_before first before in
-    let from_behind : link_before s.list s.after h.from_behind ≡ had w (link_before s.list s.after v.from_behind) =
-    before_had w s.list s.after v.from_behind h.from_behind last after in
-    (λ k. Prev s.entry (p k) ∷ Next s.entry (n k) ∷ Owner s.entry (o k) ∷ Count s.list (c k) ∷ from_before k ∷ from_behind k ∷ [])
 
 -- behind the last entry
 pub puts_pushed : (w : Words) (l i : ℕ)

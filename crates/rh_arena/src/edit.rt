@@ -100,6 +100,6 @@ impl LinkEdit {
         ensures again { turned links.new self.new ≡ self.old }
     {
         self.is_done = !self.is_done;
-        self.values = links.exchange(self.spot, self.values);
+        links.exchange(&self.spot, &mut self.values);
     }
 }

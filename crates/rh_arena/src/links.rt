@@ -95,114 +95,151 @@ impl Links {
         self.lists[list]
     }
 
-    // Gives the words at a place of a list these values, and says which they had.
-    pub fn exchange(&mut self, spot: Spot, values: Values) -> Values
-        requires { IsBetween spot }
-        ensures words { self.new ≡ puts self.old (changes_at spot values) }
-        ensures values { changes_at spot result ≡ map (had self.old) (changes_at spot values) }
+    // Gives the words at a place of a list these values, and the values those that the words had.
+    //
+    // A value and its word change places one after another, so that few of them are in hand at a time, and the rest of the
+    // place is read early, so that it is known which words the links to the entry are.
+    pub fn exchange(&mut self, spot: &Spot, values: &mut Values)
+        requires { IsBetween spot.now }
+        ensures words { self.new ≡ puts self.old (changes_at spot.now values.old) }
+        ensures values { changes_at spot.now values.new ≡ map (had self.old) (changes_at spot.now values.old) }
     {
-        let own = EntryWords {
-            prev: values.prev,
-            next: values.next,
-            owner: values.owner,
-        };
-        let entry = self.exchange_entry(spot.entry, own);
-        let ends = ListWords {
-            head: values.from_before,
-            tail: values.from_behind,
-            count: values.count,
-        };
-        let list = self.exchange_list(spot.list, spot.before, spot.after, ends);
-        let from_before = self.exchange_next(spot.before, values.from_before, list.head);
-        let from_behind = self.exchange_prev(spot.after, values.from_behind, list.tail);
-        Values {
-            prev: entry.prev,
-            next: entry.next,
-            owner: entry.owner,
-            count: list.count,
-            from_before,
-            from_behind,
-        }
+        self.exchange_entry(spot.entry, values);
+        let list = spot.list;
+        let before = spot.before;
+        let after = spot.after;
+        self.exchange_count(list, &mut values.count);
+        self.exchange_from_before(list, before, &mut values.from_before);
+        self.exchange_from_behind(list, after, &mut values.from_behind);
     }
 
-    // Gives an entry these words, and says which it had.
+    // Exchanges the words of an entry for values.
     #[inline]
-    fn exchange_entry(&mut self, entry: u16, words: EntryWords) -> EntryWords
-        ensures words { self.new ≡ record self.old { prev = slice_set self.old.prev entry words.prev; next = slice_set self.old.next entry words.next; owner = slice_set self.old.owner entry words.owner } }
-        ensures prev { result.prev ≡ slice_index_or self.old.prev entry words.prev }
-        ensures next { result.next ≡ slice_index_or self.old.next entry words.next }
-        ensures owner { result.owner ≡ slice_index_or self.old.owner entry words.owner }
+    fn exchange_entry(&mut self, entry: u16, values: &mut Values)
+        ensures words { self.new ≡ record self.old { prev = slice_set self.old.prev entry values.old.prev; next = slice_set self.old.next entry values.old.next; owner = slice_set self.old.owner entry values.old.owner } }
+        ensures values { values.new ≡ record values.old { prev = slice_index_or self.old.prev entry values.old.prev; next = slice_index_or self.old.next entry values.old.next; owner = slice_index_or self.old.owner entry values.old.owner } }
     {
         match self.entries.get_mut(usize::from(entry)) {
             Some(there) => {
-                let before = *there;
-                *there = words;
-                before
+                let had = *there;
+                *there = EntryWords {
+                    prev: values.prev,
+                    next: values.next,
+                    owner: values.owner,
+                };
+                values.prev = had.prev;
+                values.next = had.next;
+                values.owner = had.owner;
             }
-            None => words,
+            None => {}
         }
     }
 
-    // Gives a list of these words its count, its first entry where there is none before a place, and its last one where there
-    // is none behind it; says which words it had.
+    // Exchanges how many entries a list has for a value.
     #[inline]
-    fn exchange_list(&mut self, list: u16, before: Link, after: Link, words: ListWords) -> ListWords
-        ensures words { self.new ≡ record self.old { head = set_unless self.old.head before list words.head; tail = set_unless self.old.tail after list words.tail; count = slice_set self.old.count list words.count } }
-        ensures head { result.head ≡ slice_index_or self.old.head list words.head }
-        ensures tail { result.tail ≡ slice_index_or self.old.tail list words.tail }
-        ensures count { result.count ≡ slice_index_or self.old.count list words.count }
+    fn exchange_count(&mut self, list: u16, value: &mut u16)
+        ensures words { self.new ≡ record self.old { count = slice_set self.old.count list value.old } }
+        ensures value { value.new ≡ slice_index_or self.old.count list value.old }
     {
         match self.lists.get_mut(usize::from(list)) {
             Some(there) => {
-                let had = *there;
-                *there = ListWords {
-                    head: before.choose(had.head, words.head),
-                    tail: after.choose(had.tail, words.tail),
-                    count: words.count,
-                };
-                had
+                let had = there.count;
+                there.count = *value;
+                *value = had;
             }
-            None => words,
+            None => {}
         }
     }
 
-    // Gives what is behind an entry this value, and says what was; where there is no entry, that is the other value.
+    // Exchanges the link from before a place for a value: the word for what is behind the entry there or, where there is none,
+    // the list's word for its first entry.
     #[inline]
-    fn exchange_next(&mut self, entry: Link, value: Link, other: Link) -> Link
-        ensures words { self.new ≡ record self.old { next = set_at self.old.next entry value } }
-        ensures none { entry ≡ None → result ≡ other }
-        ensures value { (i : ℕ) → entry ≡ Some i → result ≡ slice_index_or self.old.next i value }
+    fn exchange_from_before(&mut self, list: u16, before: Link, value: &mut Link)
+        ensures words { self.new ≡ record self.old { next = set_at self.old.next before value.old; head = set_unless self.old.head before list value.old } }
+        ensures none { before ≡ None → value.new ≡ slice_index_or self.old.head list value.old }
+        ensures value { (i : ℕ) → before ≡ Some i → value.new ≡ slice_index_or self.old.next i value.old }
     {
-        let Some(entry) = entry.get() else {
-            return other;
-        };
-        match self.entries.get_mut(usize::from(entry)) {
-            Some(there) => {
-                let before = there.next;
-                there.next = value;
-                before
-            }
-            None => value,
+        match before.get() {
+            Some(before) => self.exchange_next(before, value),
+            None => self.exchange_head(list, value),
         }
     }
 
-    // The same for what is before an entry.
+    // Exchanges the link from behind a place for a value: the word for what is before the entry there or, where there is none,
+    // the list's word for its last entry.
     #[inline]
-    fn exchange_prev(&mut self, entry: Link, value: Link, other: Link) -> Link
-        ensures words { self.new ≡ record self.old { prev = set_at self.old.prev entry value } }
-        ensures none { entry ≡ None → result ≡ other }
-        ensures value { (i : ℕ) → entry ≡ Some i → result ≡ slice_index_or self.old.prev i value }
+    fn exchange_from_behind(&mut self, list: u16, after: Link, value: &mut Link)
+        ensures words { self.new ≡ record self.old { prev = set_at self.old.prev after value.old; tail = set_unless self.old.tail after list value.old } }
+        ensures none { after ≡ None → value.new ≡ slice_index_or self.old.tail list value.old }
+        ensures value { (i : ℕ) → after ≡ Some i → value.new ≡ slice_index_or self.old.prev i value.old }
     {
-        let Some(entry) = entry.get() else {
-            return other;
-        };
+        match after.get() {
+            Some(after) => self.exchange_prev(after, value),
+            None => self.exchange_tail(list, value),
+        }
+    }
+
+    // Exchanges what is behind an entry for a value.
+    #[inline]
+    fn exchange_next(&mut self, entry: u16, value: &mut Link)
+        ensures words { self.new ≡ record self.old { next = slice_set self.old.next entry value.old } }
+        ensures value { value.new ≡ slice_index_or self.old.next entry value.old }
+    {
         match self.entries.get_mut(usize::from(entry)) {
             Some(there) => {
-                let before = there.prev;
-                there.prev = value;
-                before
+                let had = there.next;
+                there.next = *value;
+                *value = had;
             }
-            None => value,
+            None => {}
+        }
+    }
+
+    // Exchanges what is before an entry for a value.
+    #[inline]
+    fn exchange_prev(&mut self, entry: u16, value: &mut Link)
+        ensures words { self.new ≡ record self.old { prev = slice_set self.old.prev entry value.old } }
+        ensures value { value.new ≡ slice_index_or self.old.prev entry value.old }
+    {
+        match self.entries.get_mut(usize::from(entry)) {
+            Some(there) => {
+                let had = there.prev;
+                there.prev = *value;
+                *value = had;
+            }
+            None => {}
+        }
+    }
+
+    // Exchanges the first entry of a list for a value.
+    #[inline]
+    fn exchange_head(&mut self, list: u16, value: &mut Link)
+        ensures words { self.new ≡ record self.old { head = slice_set self.old.head list value.old } }
+        ensures value { value.new ≡ slice_index_or self.old.head list value.old }
+    {
+        match self.lists.get_mut(usize::from(list)) {
+            Some(there) => {
+                let had = there.head;
+                there.head = *value;
+                *value = had;
+            }
+            None => {}
+        }
+    }
+
+    // Exchanges the last entry of a list for a value.
+    #[inline]
+    fn exchange_tail(&mut self, list: u16, value: &mut Link)
+        ensures words { self.new ≡ record self.old { tail = slice_set self.old.tail list value.old } }
+        ensures value { value.new ≡ slice_index_or self.old.tail list value.old }
+    {
+        match self.lists.get_mut(usize::from(list)) {
+            Some(there) => {
+                let had = there.tail;
+                there.tail = *value;
+                *value = had;
+            }
+            None => {}
         }
     }
 }

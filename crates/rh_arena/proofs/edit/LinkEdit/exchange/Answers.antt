@@ -12,7 +12,7 @@ not_not false = refl
 pub returns-clause-exact : goal.returns-clause-exact
 unfolding exchange
 returns-clause-exact c =
-    (λ k. puts (c.exchange-self-inside.ensures.words k) (c.exchange-self-inside.ensures.values k))
+    (λ k. puts (c.exchange.ensures.words k) (c.exchange.ensures.values k))
     ∙ puts_twice (changes_at c.self.inside.spot c.self.inside.values) c.args.links.now
 
 pub returns-clause-again : goal.returns-clause-again
@@ -21,7 +21,7 @@ returns-clause-again c =
     let different = AreApart-at_spot c.self.inside.spot c.self.inside.values c.self.invariant in
     (λ k. record {
       is_done = not_not c.self.inside.is_done k;
-      changes = map (had (c.exchange-self-inside.ensures.words k)) (c.exchange-self-inside.ensures.values k);
+      changes = map (had (c.exchange.ensures.words k)) (c.exchange.ensures.values k);
     })
     ∙ (λ k. record {
       is_done = c.self.inside.is_done;

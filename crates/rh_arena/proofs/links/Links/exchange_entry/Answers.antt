@@ -2,6 +2,7 @@ use Rattle.std.proofs.Common.{◌≤◌, ℕ, length, set, ◌∙◌, arith}
 use Rattle.std.proofs.lemmas.List.{map-set}
 use Rattle.rh_arena.specs.Words.{Words}
 use Rattle.rh_arena.specs.SideBySide.{words_of}
+use Rattle.rh_arena.specs.declared.spot.Values.{Values}
 use Rattle.rh_arena.specs.declared.words.EntryWords.{EntryWords}
 use Rattle.rh_arena.proofs.SideBySide.{past_end, map-past}
 use Rattle.rh_arena.proofs.links.Links.exchange_entry.Goals as goal
@@ -16,7 +17,8 @@ returns-clause-words c =
     let entries = c.self.inside.entries.items in
     let lists = c.self.inside.lists.items in
     let i : ℕ = c.from.result in
-    let x : EntryWords = c.args.words in
+    let v : Values = c.args.values.now in
+    let x : EntryWords = record { prev = v.prev; next = v.next; owner = v.owner } in
     elim c.match-get_mut.branch [
       | in-Some w ↦ (λ k. words_of (w.self-inside-is k).entries.items (w.self-inside-is k).lists.items)
           ∙ (λ k. record (words_of entries lists) {

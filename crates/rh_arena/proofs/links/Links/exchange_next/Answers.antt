@@ -1,27 +1,25 @@
-use Rattle.std.proofs.Common.{◌≡◌, ◌≤◌, ℕ, Option, Some, length, get_or, sym, ap, ◌∙◌, arith}
+use Rattle.std.proofs.Common.{◌≡◌, ◌≤◌, ℕ, Option, length, get_or, set, ap, ◌∙◌, arith}
 use Rattle.std.proofs.lemmas.List.{map-set}
 use Rattle.rh_arena.specs.Words.{Words}
-use Rattle.rh_arena.specs.Linking.{set_at}
 use Rattle.rh_arena.specs.SideBySide.{words_of}
 use Rattle.rh_arena.specs.declared.words.EntryWords.{EntryWords}
 use Rattle.rh_arena.proofs.SideBySide.{past_end, map-past, map-set_own}
 use Rattle.rh_arena.proofs.links.Links.exchange_next.Goals as goal
-use Rattle.rh_arena.proofs.links.Links.exchange_next.Goals.{in-Some-get_mut, in-None}
+use Rattle.rh_arena.proofs.links.Links.exchange_next.Goals.{in-Some, in-None}
 
--- the words, with a value for what is behind an entry, where there is one
-abbrev with_next : Words → Option ℕ → Option ℕ → Words
-with_next w entry v = record w { next = set_at w.next entry v }
+-- the words, with a value for what is behind an entry
+abbrev with_next : Words → ℕ → Option ℕ → Words
+with_next w i v = record w { next = set w.next i v }
 
 pub returns-clause-words : goal.returns-clause-words
 returns-clause-words c =
     let entries = c.self.inside.entries.items in
     let lists = c.self.inside.lists.items in
     let i : ℕ = c.from.result in
-    let v : Option ℕ = c.args.value in
-    let there : Some c.from.result ≡ c.args.entry = ap Some c.from.ensures ∙ sym c.in-Some.is ∙ c.get.ensures in
+    let v : Option ℕ = c.args.value.now in
     elim c.match-get_mut.branch [
-      | in-Some-get_mut w ↦ (let had : EntryWords = w.in-Some-get_mut.there.now in
-          let is : had ≡ get_or entries i had = w.in-Some-get_mut.ensures.value in
+      | in-Some w ↦ (let had : EntryWords = w.in-Some.there.now in
+          let is : had ≡ get_or entries i had = w.in-Some.ensures.value in
           let now : EntryWords = record had { next = v } in
           (λ k. words_of (w.self-inside-is k).entries.items (w.self-inside-is k).lists.items)
           ∙ (λ k. record (words_of entries lists) {
@@ -29,9 +27,9 @@ returns-clause-words c =
             next = map-set (λ e. e.next) entries i now k;
             owner = map-set_own (λ e. e.owner) entries i now had (ap (λ e. e.owner) is) k;
           })
-          ∙ (λ k. with_next (c.self.view_is k) (there k) v))
+          ∙ (λ k. with_next (c.self.view_is k) (c.from.ensures k) v))
       | in-None w ↦ (let past : length entries ≤ i = let end : c.self.inside.entries.len ≤ i = past_end _ i w.in-None.ensures.variant.1 in omega (arith, end, c.self.inside.entries.ok) in
           (λ k. words_of (w.self-inside-is k).entries.items (w.self-inside-is k).lists.items)
           ∙ (λ k. record (words_of entries lists) { next = map-past (λ e. e.next) entries i v past k })
-          ∙ (λ k. with_next (c.self.view_is k) (there k) v))
+          ∙ (λ k. with_next (c.self.view_is k) (c.from.ensures k) v))
     ]
