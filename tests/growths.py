@@ -88,9 +88,9 @@ MADE = {
 }
 # Those that are made five thousand times, of a cluster of the second profile with 128 applications: none wants memory.
 MANY = ("Sim::step", "Room::serve", "try_plan")
-# Blocks that a call can do without: one for each thread that isn't made then, whose work is done by another; a smaller one for each
-# list or tuple of two or three elements in a text, and one for a report or for a list of notices, which keep spare memory then.
-SPARED = {"sweep": 1, "read_cluster": 48, "read_terms": 8, "Room::serve of a step": 1, "Room::serve of a look": 1}
+# Blocks that a call can do without: one for each thread that isn't made then, whose work is done by another, and one for a report
+# or for a list of notices, which keep spare memory then.
+SPARED = {"sweep": 1, "Room::serve of a step": 1, "Room::serve of a look": 1}
 # The most growths that a call may ask for. A copy of a state shares the cluster.
 MOST = {"State::copy": 11, "Sim::copy": 14, "Room::fork": 14}
 # The most growths for a plan more in a sweep: a worker copies the base's state once, and not for each plan.

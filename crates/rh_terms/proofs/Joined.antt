@@ -1,5 +1,6 @@
 -- What was read before, and what is still read.
-use Rattle.std.proofs.Common.{◌≡◌, ℕ, List, [], ◌∷◌, ◌++◌, Result, Ok, Err, refl, sym, ap}
+use Rattle.std.proofs.Common.{◌≡◌, ◌≤◌, ℕ, List, [], ◌∷◌, ◌++◌, take, drop, length, Result, Ok, Err, refl, sym, ap, ◌∙◌, arith}
+use Rattle.std.proofs.lemmas.List.{take-append-le, drop-append-le, length-append}
 use Rattle.rh_terms.specs.declared.fault.Fault.{Fault}
 use Rattle.rh_base.specs.declared.term.Term.{Term}
 use Rattle.rh_terms.specs.Faults.{◌>>=◌, Read, under}
@@ -33,6 +34,15 @@ join-join (more x xs) ys zs = ap (more x) (join-join xs ys zs)
 pub trees-push : (ts : List Term) (t : Term) → trees_of (ts ++ t ∷ []) ≡ join (trees_of ts) (more (tree_of t) none)
 trees-push [] t = refl
 trees-push (x ∷ ts) t = ap (more (tree_of x)) (trees-push ts t)
+
+-- what lies on a stack below and above the first so many, after one term more
+pub pushed_above : (n : ℕ) (old new : List Term) (t : Term) → n ≤ length old → new ≡ old ++ t ∷ []
+    → (take n new ≡ take n old) × (drop n new ≡ drop n old ++ t ∷ []) × (n ≤ length new)
+pushed_above n old new t some is = (
+  ap (take n) is ∙ take-append-le n old (t ∷ []) some,
+  ap (drop n) is ∙ drop-append-le n old (t ∷ []) some,
+  rw (is, length-append old (t ∷ [])) (omega arith),
+)
 
 pub with-trees-none : (read : Read Trees) → with_trees none read ≡ read
 with-trees-none (Ok x) = refl

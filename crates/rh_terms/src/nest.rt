@@ -1,6 +1,6 @@
 //! Terms, with the lists and tuples inside each other.
 
-ghost use Rattle.std.specs.Prelude.{◌≡◌, ◌<◌, length};
+ghost use Rattle.std.specs.Prelude.{◌≡◌, ◌<◌, length, OnOk};
 ghost use Rattle.std.specs.Str.{IsUtf8};
 ghost use Rattle.rh_terms.specs.Faults.{ReadsAs, under};
 ghost use Rattle.rh_terms.specs.Grammar.{term_at, inside};
@@ -20,21 +20,24 @@ use std::alloc::Global;
 pub const MAX_DEPTH: usize = 64;
 
 /// A term as it is kept, with room for so many lists and tuples inside each other, and what is behind it.
+/// The elements of all lists and tuples that stand open lie on one stack.
 #[cycle(nest)]
-pub fn term_of<K: Keep>(
+pub fn term_of<'a, K: Keep>(
     alloc: Global,
+    stack: &mut Vec<Term>,
     keep: K,
     room: usize,
-    bytes: &[u8],
-) -> Result<(Term, &[u8]), ReadError>
+    bytes: &'a [u8],
+) -> Result<(Term, &'a [u8]), ReadError>
     requires { IsUtf8 bytes.now }
-    ensures { ReadsAs (λ x. (tree_of x.0, x.1.now)) result (under (kept_tree K.behind_key keep) (term_at room bytes.now)) }
+    ensures read { ReadsAs (λ x. (tree_of x.0, x.1.now)) result (under (kept_tree K.behind_key keep) (term_at room bytes.now)) }
+    ensures stack { OnOk result (stack.new.items ≡ stack.old.items) }
 {
     if begins_with(bytes, b'[') {
-        let (terms, rest) = terms_inside(alloc, Next::Each(keep), room, b']', &bytes[1..])?;
+        let (terms, rest) = terms_inside(alloc, stack, Next::Each(keep), room, b']', &bytes[1..])?;
         Ok((Term::List(terms), rest))
     } else if begins_with(bytes, b'{') {
-        let (terms, rest) = terms_inside(alloc, Next::First(keep), room, b'}', &bytes[1..])?;
+        let (terms, rest) = terms_inside(alloc, stack, Next::First(keep), room, b'}', &bytes[1..])?;
         Ok((Term::Tuple(terms), rest))
     } else {
         word_of(alloc, bytes)
@@ -43,16 +46,18 @@ pub fn term_of<K: Keep>(
 
 // What stands in a list or a tuple, of which the opening byte was read, and what is behind the closing one.
 #[cycle(nest)]
-fn terms_inside<K: Keep>(
+fn terms_inside<'a, K: Keep>(
     alloc: Global,
+    stack: &mut Vec<Term>,
     next: Next<K>,
     room: usize,
     close: u8,
-    bytes: &[u8],
-) -> Result<(Terms, &[u8]), ReadError>
+    bytes: &'a [u8],
+) -> Result<(Terms, &'a [u8]), ReadError>
     requires text { IsUtf8 bytes.now }
     requires ascii { close < 128 }
-    ensures { ReadsAs (λ x. (trees_of (items_of x.0), x.1.now)) result (under (kept_trees K.behind_key next) (inside room close bytes.now)) }
+    ensures read { ReadsAs (λ x. (trees_of (items_of x.0), x.1.now)) result (under (kept_trees K.behind_key next) (inside room close bytes.now)) }
+    ensures stack { OnOk result (stack.new.items ≡ stack.old.items) }
 {
     if room == 0 {
         return Err(ReadError::Fault(Fault::TooDeep));
@@ -61,33 +66,35 @@ fn terms_inside<K: Keep>(
     if begins_with(first, close) {
         return Ok((Terms::of(Vec::new(alloc)), &first[1..]));
     }
-    elements_of(alloc, next, room - 1, close, first)
+    elements_of(alloc, stack, next, room - 1, close, first)
 }
 
-// The elements from the first one on, in no more memory than they need where there is a block of that size, and what is behind
-// the closing byte.
+// The elements from the first one on, and what is behind the closing byte. They are read onto the stack, so that how many they
+// are is known before they get memory of their own: one block of just their size, and none that grows.
 #[cycle(nest)]
-fn elements_of<K: Keep>(
+fn elements_of<'a, K: Keep>(
     alloc: Global,
+    stack: &mut Vec<Term>,
     next: Next<K>,
     room: usize,
     close: u8,
-    bytes: &[u8],
-) -> Result<(Terms, &[u8]), ReadError>
+    bytes: &'a [u8],
+) -> Result<(Terms, &'a [u8]), ReadError>
     requires text { IsUtf8 bytes.now }
     requires ascii { close < 128 }
-    ensures { ReadsAs (λ x. (trees_of (items_of x.0), x.1.now)) result (under (kept_trees K.behind_key next) (elements_at room close bytes.now)) }
+    ensures read { ReadsAs (λ x. (trees_of (items_of x.0), x.1.now)) result (under (kept_trees K.behind_key next) (elements_at room close bytes.now)) }
+    ensures stack { OnOk result (stack.new.items ≡ stack.old.items) }
 {
-    let mut items = Vec::with_capacity(alloc, 1)?;
+    let below = stack.len();
     let mut next = next;
     let mut rest = bytes;
     'elements: loop {
-        let (term, after_term) = next_term(alloc, next, room, rest)?;
+        let (term, after_term) = next_term(alloc, stack, next, room, rest)?;
         next = next_behind(next, &term);
-        items.push(term)?;
+        stack.push(term)?;
         let (goes_on, after) = next_of(close, skip_blank(after_term))?;
         if !goes_on {
-            items.shrink_to_fit();
+            let items = stack.split_off(below)?;
             return Ok((Terms::of(items), after));
         }
         rest = after;
@@ -96,17 +103,19 @@ fn elements_of<K: Keep>(
 
 // The next one of them, and what is behind it.
 #[cycle(nest)]
-fn next_term<K: Keep>(
+fn next_term<'a, K: Keep>(
     alloc: Global,
+    stack: &mut Vec<Term>,
     next: Next<K>,
     room: usize,
-    bytes: &[u8],
-) -> Result<(Term, &[u8]), ReadError>
+    bytes: &'a [u8],
+) -> Result<(Term, &'a [u8]), ReadError>
     requires { IsUtf8 bytes.now }
-    ensures { ReadsAs (λ x. (tree_of x.0, x.1.now)) result (under (kept_next K.behind_key next) (term_at room bytes.now)) }
+    ensures read { ReadsAs (λ x. (tree_of x.0, x.1.now)) result (under (kept_next K.behind_key next) (term_at room bytes.now)) }
+    ensures stack { OnOk result (stack.new.items ≡ stack.old.items) }
 {
     match next {
-        Next::Each(keep) | Next::First(keep) => term_of(alloc, keep, room, bytes),
+        Next::Each(keep) | Next::First(keep) => term_of(alloc, stack, keep, room, bytes),
         Next::Skipped => skipped_term(alloc, room, bytes),
     }
 }

@@ -24,9 +24,10 @@ fn terms_of_text<K: Keep>(alloc: Global, keep: K, bytes: &[u8]) -> Result<Vec<Te
     ensures { ReadsAs (λ x. trees_of x.items) result (kept_from K.behind_key keep bytes.now) }
 {
     let mut terms = Vec::new(alloc);
+    let mut stack = Vec::new(alloc);
     let mut rest = bytes;
     'bytes: while !rest.is_empty() {
-        let (term, after_term) = term_of(alloc, keep, MAX_DEPTH, rest)?;
+        let (term, after_term) = term_of(alloc, &mut stack, keep, MAX_DEPTH, rest)?;
         terms.push(term)?;
         let after = dot_of(skip_blank(after_term))?;
         rest = skip_blank(after);

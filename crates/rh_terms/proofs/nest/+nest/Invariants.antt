@@ -1,4 +1,4 @@
-use Rattle.std.proofs.Common.{◌≡◌, ◌+◌, ◌*◌, length}
+use Rattle.std.proofs.Common.{◌≡◌, ◌+◌, ◌*◌, ◌≤◌, length, take, drop}
 use Rattle.std.specs.Str.{IsUtf8}
 use Rattle.rh_base.specs.Tree.{trees_of}
 use Rattle.rh_terms.specs.Faults.{under}
@@ -18,11 +18,14 @@ decreases-elements_of g l = 4 * l.room + 3
 abbrev pub decreases-next_term : goal.decreases-next_term
 decreases-next_term g l = 4 * l.room + 2
 
+-- the elements are what lies on the stack above what lay there before
 abbrev pub invariant-elements_of-elements : goal.invariant-elements_of-elements
 invariant-elements_of-elements g l = record {
-  so_far : with_trees (trees_of l.items.items) (under (kept_trees g.K.Keep.behind_key l.next) (elements_at l.room l.close l.rest)) ≡ under
+  so_far : with_trees (trees_of (drop l.below l.stack.items)) (under (kept_trees g.K.Keep.behind_key l.next) (elements_at l.room l.close l.rest)) ≡ under
       (kept_trees g.K.Keep.behind_key l.fn.next) (elements_at l.room l.close l.bytes);
   text : IsUtf8 l.rest;
+  below : take l.below l.stack.items ≡ l.fn.stack.items;
+  above : l.below ≤ length l.stack.items;
 }
 
 abbrev pub decreases-elements_of-elements : goal.decreases-elements_of-elements

@@ -21,7 +21,7 @@ returns-in_err-term g c =
     let e = c.in_err-term.field-0.0 in
     let P : Result Trees Fault → Type 0 = λ r. Fails e r in
     rw (p.1, p.2) (subst P c.bytes.invariant.so_far
-    (text_kept_fails_term g.K.Keep.behind_key c.args.keep e c.bytes.terms.items c.bytes.rest.now (grind (arith, nat_tests)) c.in_err-term.ensures))
+    (text_kept_fails_term g.K.Keep.behind_key c.args.keep e c.bytes.terms.items c.bytes.rest.now (grind (arith, nat_tests)) c.in_err-term.ensures.read))
 
 pub returns-in_err-after : goal.returns-in_err-after
 returns-in_err-after g c =
@@ -31,22 +31,22 @@ returns-in_err-after g c =
     let dot : Fails e (dot_at (past_blank c.in_ok-term.after_term.now)) = rw (← c.skip_blank.ensures.behind) c.in_err-after.ensures in
     rw (p.1, p.2) (subst P c.bytes.invariant.so_far
     (text_kept_fails_dot g.K.Keep.behind_key c.args.keep e c.bytes.terms.items c.in_ok-term.term c.bytes.rest.now c.in_ok-term.after_term.now
-    c.in_ok-term.ensures dot))
+    c.in_ok-term.ensures.read dot))
 
 pub bytes-smaller : goal.bytes-smaller
 bytes-smaller g c =
     let dot : dot_at (past_blank c.in_ok-term.after_term.now) ≡ Ok c.in_ok-after.after.now = cc (c.in_ok-after.ensures, c.skip_blank.ensures.behind) in
     rw c.skip_blank-rest.ensures.behind (kept_text_shorter (kept_tree g.K.Keep.behind_key c.args.keep) (tree_of c.in_ok-term.term) c.bytes.rest.now
-    c.in_ok-term.after_term.now c.in_ok-after.after.now c.in_ok-term.ensures dot)
+    c.in_ok-term.after_term.now c.in_ok-after.after.now c.in_ok-term.ensures.read dot)
 
 pub bytes-preserved : goal.bytes-preserved
 bytes-preserved g c =
     let dot : dot_at (past_blank c.in_ok-term.after_term.now) ≡ Ok c.in_ok-after.after.now = cc (c.in_ok-after.ensures, c.skip_blank.ensures.behind) in
     let text = kept_text (kept_tree g.K.Keep.behind_key c.args.keep) MAX_DEPTH (tree_of c.in_ok-term.term) c.bytes.rest.now
-    c.in_ok-term.after_term.now c.in_ok-term.ensures c.bytes.invariant.text in
+    c.in_ok-term.after_term.now c.in_ok-term.ensures.read c.bytes.invariant.text in
     record {
       so_far = rw c.skip_blank-rest.ensures.behind (text_kept_goes_on g.K.Keep.behind_key c.args.keep c.bytes.terms.items _ c.in_ok-term.term
-          c.bytes.rest.now c.in_ok-term.after_term.now c.in_ok-after.after.now c.in_ok-term.ensures dot c.in_ok-push.ensures.items
+          c.bytes.rest.now c.in_ok-term.after_term.now c.in_ok-after.after.now c.in_ok-term.ensures.read dot c.in_ok-push.ensures.items
           ∙ c.bytes.invariant.so_far);
       text = rw c.skip_blank-rest.ensures.behind (blank_text c.in_ok-after.after.now
           (dot_text (past_blank c.in_ok-term.after_term.now) c.in_ok-after.after.now dot (blank_text c.in_ok-term.after_term.now text)));
