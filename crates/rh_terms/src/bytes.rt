@@ -27,11 +27,33 @@ pub fn is_lower_byte(b: u8) -> bool
     b'a' <= b && b <= b'z'
 }
 
+// 1 at each letter of ASCII, digit, `_` and `@`. The bytes of an atom are of several of these kinds in no order, so tests one
+// after the other would be guessed wrong by the processor again and again.
+#[rattlefmt::skip]
+static ATOM_BYTES: [u8; 256] = [
+    0, 0, 0, 0, 0, 0, 0, 0, 0, 0, 0, 0, 0, 0, 0, 0,
+    0, 0, 0, 0, 0, 0, 0, 0, 0, 0, 0, 0, 0, 0, 0, 0,
+    0, 0, 0, 0, 0, 0, 0, 0, 0, 0, 0, 0, 0, 0, 0, 0,
+    1, 1, 1, 1, 1, 1, 1, 1, 1, 1, 0, 0, 0, 0, 0, 0,
+    1, 1, 1, 1, 1, 1, 1, 1, 1, 1, 1, 1, 1, 1, 1, 1,
+    1, 1, 1, 1, 1, 1, 1, 1, 1, 1, 1, 0, 0, 0, 0, 1,
+    0, 1, 1, 1, 1, 1, 1, 1, 1, 1, 1, 1, 1, 1, 1, 1,
+    1, 1, 1, 1, 1, 1, 1, 1, 1, 1, 1, 0, 0, 0, 0, 0,
+    0, 0, 0, 0, 0, 0, 0, 0, 0, 0, 0, 0, 0, 0, 0, 0,
+    0, 0, 0, 0, 0, 0, 0, 0, 0, 0, 0, 0, 0, 0, 0, 0,
+    0, 0, 0, 0, 0, 0, 0, 0, 0, 0, 0, 0, 0, 0, 0, 0,
+    0, 0, 0, 0, 0, 0, 0, 0, 0, 0, 0, 0, 0, 0, 0, 0,
+    0, 0, 0, 0, 0, 0, 0, 0, 0, 0, 0, 0, 0, 0, 0, 0,
+    0, 0, 0, 0, 0, 0, 0, 0, 0, 0, 0, 0, 0, 0, 0, 0,
+    0, 0, 0, 0, 0, 0, 0, 0, 0, 0, 0, 0, 0, 0, 0, 0,
+    0, 0, 0, 0, 0, 0, 0, 0, 0, 0, 0, 0, 0, 0, 0, 0,
+];
+
 /// Is it a letter of ASCII, a digit, `_` or `@`, with which an atom without quotes goes on?
 pub fn is_atom_byte(b: u8) -> bool
     ensures { result ≡ is_atom_byte b }
 {
-    is_lower_byte(b) || (b'@' <= b && b <= b'Z') || is_digit_byte(b) || b == b'_'
+    ATOM_BYTES[usize::from(b)] == 1
 }
 
 /// Is it `$`, `#`, `<`, `~`, `+` or a byte past ASCII, with which begins what is left out of Erlang?
