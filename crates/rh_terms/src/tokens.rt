@@ -249,6 +249,7 @@ fn text_of(alloc: Global, bytes: &[u8]) -> Result<(Term, &[u8]), ReadError>
 
 /// An atom, a text or an integer, and what is behind it.
 #[tactic(auto, unfolding(crate::specs::Grammar::word_at))]
+#[inline(always)]
 pub fn word_of(alloc: Global, bytes: &[u8]) -> Result<(Term, &[u8]), ReadError>
     requires { IsUtf8 bytes.now }
     ensures { ReadsAs (λ x. (tree_of x.0, x.1.now)) result (word_at bytes.now) }
