@@ -78,7 +78,7 @@ MADE = {
     "rows/verify/report": ("run_verify",),
     "rows/json/report": ("run_json", "reply_line", "push_string", "push_number", "close_array", "push_text", "push_bytes",
                          "before_first", "after_first"),
-    "rows/json/failover": ("fired_by",),
+    "rows/json/failover": ("fired_by", "Trace::expect_boot"),
     "rows/json/refused-and-bad": ("bad_line",),
     "rows/json/names": ("check_json", "cluster_line", "push_array"),
     "rows/json/fault-value": ("fault_line",),

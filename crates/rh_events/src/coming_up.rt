@@ -17,7 +17,8 @@ use rh_model::Node;
 use rh_settle::{Notice, Trace, recording};
 use rh_state::{Mode, State, Timer};
 
-/// A node at which nothing is started comes up, and what it boots is started.
+/// A node at which nothing is started comes up, and what it boots is started. Room for all marks, and for a notice of each, is
+/// made at once: to let both grow as they come would ask for memory six times or more.
 #[tactic(auto, unfolding(rh_rules::specs::NodesStart::come_up), using(rh_settle::proofs::Ways::goes_none, rh_settle::proofs::Ways::goes_told, rh_settle::proofs::Ways::goes_more))]
 pub fn come_up(state: &mut State, node: Node, trace: &mut Trace) -> Result<(), OutOfMemory>
     requires node { IsNodeOf (read state.old).cluster node }
@@ -27,6 +28,7 @@ pub fn come_up(state: &mut State, node: Node, trace: &mut Trace) -> Result<(), O
     ensures way { Goes state.old trace.old state.new trace.new }
     ensures few { OnOk result (FewWeighed (read state.old).cluster 0 trace.old trace.new) }
 {
+    trace.expect_boot(state.cluster().boot(node).len())?;
     trace.tell(Notice::Up { node })?;
     cancel_if_set(state, Timer::Sync(node), trace)?;
     recording::set_mode(state, node, Mode::Up, trace)?;

@@ -87,6 +87,16 @@ impl Trace {
         Ok(())
     }
 
+    /// Makes room for a node that comes up and boots so many applications: for the mark of each, for a notice of each, and for
+    /// one of the node. Where memory is refused nothing changes.
+    pub fn expect_boot(&mut self, apps: usize) -> Result<(), OutOfMemory>
+        ensures { self.new ≡ self.old }
+    {
+        self.marked.reserve(apps)?;
+        self.notices.reserve(apps.saturating_add(1))?;
+        Ok(())
+    }
+
     /// Frees a pair: it is fresh, and isn't marked. Where memory is refused nothing is freed.
     pub fn free(&mut self, pair: Pair) -> Result<(), OutOfMemory>
         ensures freed { OnOk result (self.new ≡ trace_of self.old.notices self.old.marked (self.old.freed ++ pair ∷ []) self.old.edits) }

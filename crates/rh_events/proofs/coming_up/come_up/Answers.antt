@@ -1,19 +1,22 @@
-use Rattle.std.proofs.Common.{List, length, sym, ap, ◌∙◌, arith}
+use Rattle.std.proofs.Common.{List, [], ◌∷◌, ◌++◌, length, ap, ◌∙◌, arith}
 use Rattle.rh_model.specs.ClusterView.{ClusterView, boot_of}
-use Rattle.rh_model.specs.declared.node.App.{App}
-use Rattle.rh_model.specs.declared.settings.Restart.{Restart}
+use Rattle.rh_model.specs.declared.node.Node.{Node}
 use Rattle.rh_rules.specs.declared.notice.Notice.{Notice}
 use Rattle.rh_rules.specs.declared.notice.Notice.TheVariants.{Up}
 use Rattle.rh_state.specs.Stored.{read}
 use Rattle.rh_rules.specs.Course.{Course}
-use Rattle.rh_settle.specs.Traces.{TraceView, course}
+use Rattle.rh_settle.specs.Traces.{TraceView, trace_of, course}
 use Rattle.rh_settle.proofs.Ways.{goes_told, goes_more, goes_cluster}
 use Rattle.rh_events.proofs.Counts.{told_once, mark_all_tells, on_ok_two}
 use Rattle.rh_events.proofs.coming_up.come_up.Goals as goal
 
+-- the node is told to be up
+abbrev with_up : Node → TraceView → TraceView
+with_up n t = trace_of (t.notices ++ Up n ∷ []) t.marked t.freed t.edits
+
 pub returns-clause-way : goal.returns-clause-way
 returns-clause-way c =
-    let m = c.in_ok-tell.ensures.told in
+    let m = c.in_ok-tell.ensures.told ∙ ap (λ (t : TraceView). with_up c.args.node t) c.expect_boot.ensures in
     goes_more _ _ _ _ _ _ (goes_told _ _ _ _ (ap (λ (t : TraceView). t.notices) m) (ap (λ (t : TraceView). t.edits) m))
     (goes_more _ _ _ _ _ _ c.in_ok-cancel_if_set.ensures.way
     (goes_more _ _ _ _ _ _ c.in_ok-set_mode.ensures.way c.mark_booted.ensures.way))
@@ -22,7 +25,7 @@ pub returns-clause-few : goal.returns-clause-few
 returns-clause-few c =
     let s = read c.args.state.now in
     let o = course (read c.set_mode.new.state) c.set_mode.new.trace in
-    let told = c.in_ok-tell.ensures.told in
+    let told = c.in_ok-tell.ensures.told ∙ ap (λ (t : TraceView). with_up c.args.node t) c.expect_boot.ensures in
     let once = goes_cluster _ _ _ _ c.in_ok-cancel_if_set.ensures.way in
     let twice = goes_cluster _ _ _ _ c.in_ok-set_mode.ensures.way ∙ once in
     let boots = ap (λ (v : ClusterView). length (boot_of v c.args.node)) twice in
