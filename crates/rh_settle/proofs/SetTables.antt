@@ -1,6 +1,6 @@
 -- A table with a set of nodes for each application, and one with a mark for each.
 use Rattle.std.proofs.Common.{◌≡◌, ◌≢◌, ℕ, ◌+◌, ◌-◌, ◌*◌, ◌/◌, ◌%◌, ◌^◌, ◌==◌, ◌<◌, ◌≤◌, ◌||◌, Bool, true, false, cond, List, length, get_or, unwrap_or, slice_get, slice_set, nat_lt, refl, sym, ap, ◌∙◌, inl, inr, arith, Option, bit_and}
-use Rattle.std.specs.Int.{bit_at, trailing_zeros}
+use Rattle.std.specs.Int.{bit_at, trailing_zeros, from_bool}
 use Rattle.std.specs.Int.RustNames.{bit_or}
 use Rattle.std.specs.Int.{w128}
 use Rattle.std.proofs.Math.ListN.{replicate}
@@ -71,35 +71,56 @@ marked_set marks app small a = elim (eqb_tells a.0 app.0) [
     or_false true = refl
     or_false false = refl
 
+-- ---- words with marks of 64 applications
 -- the low bits of a number are those of what is left of it
-kept : (n i : ℕ) → i < 128 → bit_at (n % 2 ^ 128) i ≡ bit_at n i
-kept n i small = sym (bit_at_cat_low (n / 2 ^ 128) 128 (n % 2 ^ 128) i small) ∙ ap (λ m. bit_at m i) (div-add-mod' n (2 ^ 128))
+kept : (n i : ℕ) → i < 64 → bit_at (n % 2 ^ 64) i ≡ bit_at n i
+kept n i small = sym (bit_at_cat_low (n / 2 ^ 64) 64 (n % 2 ^ 64) i small) ∙ ap (λ m. bit_at m i) (div-add-mod' n (2 ^ 64))
 
 -- all marks move up by one
-pub moved_first : (marks : ℕ) (a : App) → a.0 ≡ 0 → is_marked (record { marks = marks * 2 ^ 1 % 2 ^ 128 }) a ≡ false
-unfolding is_marked
-moved_first marks a first = ap (λ v. v == 1) (ap (bit_at (marks * 2 ^ 1 % 2 ^ 128)) first ∙ kept (marks * 2 ^ 1) 0 (omega arith)
-    ∙ ap (λ m. bit_at m 0) (more (marks * 2 ^ 1)) ∙ bit_at_cat_low marks 1 0 0 (omega arith) ∙ bit_at-zero 0)
-  where
-    more : (m : ℕ) → m ≡ m + 0
-    more m = omega arith
+moved : (marks bit : ℕ) → bit < 2 → marks * 2 ^ 1 % 2 ^ 64 + bit ≡ (marks * 2 ^ 1 + bit) % 2 ^ 64
+moved marks bit small = omega (arith, small)
 
-pub moved_other : (marks : ℕ) (a b : App) → b.0 ≡ a.0 + 1 → b.0 < 128 → is_marked (record { marks = marks * 2 ^ 1 % 2 ^ 128 }) b ≡ is_marked (record { marks = marks }) a
-unfolding is_marked
-moved_other marks a b next small = ap (λ v. v == 1) (kept (marks * 2 ^ 1) b.0 small ∙ ap (λ m. bit_at m b.0) (more (marks * 2 ^ 1))
-    ∙ bit_at_cat_high marks 1 0 b.0 (omega arith) (omega (arith, next)) ∙ ap (bit_at marks) (back a.0 b.0 next))
-  where
-    more : (m : ℕ) → m ≡ m + 0
-    more m = omega arith
+bit_small : (mark : Bool) → from_bool mark < 2
+bit_small true = omega arith
+bit_small false = omega arith
 
+pub moved_first : (marks : ℕ) (mark : Bool) (a : App) → a.0 ≡ 0 → is_marked (record { marks = marks * 2 ^ 1 % 2 ^ 64 + from_bool mark }) a ≡ mark
+unfolding is_marked
+moved_first marks mark a first = let bit = from_bool mark in let small = bit_small mark in
+    ap (λ v. v == 1) (ap (λ m. bit_at m a.0) (moved marks bit small) ∙ ap (bit_at ((marks * 2 ^ 1 + bit) % 2 ^ 64)) first
+    ∙ kept (marks * 2 ^ 1 + bit) 0 (omega arith) ∙ bit_at_cat_low marks 1 bit 0 (omega arith)) ∙ at_zeroth mark
+  where
+    at_zeroth : (mark : Bool) → bit_at (from_bool mark) 0 == 1 ≡ mark
+    at_zeroth true = refl
+    at_zeroth false = ap (λ v. v == 1) (bit_at-zero 0)
+
+pub moved_other : (marks : ℕ) (mark : Bool) (a b : App) → b.0 ≡ a.0 + 1 → b.0 < 64
+    → is_marked (record { marks = marks * 2 ^ 1 % 2 ^ 64 + from_bool mark }) b ≡ is_marked (record { marks = marks }) a
+unfolding is_marked
+moved_other marks mark a b next few = let bit = from_bool mark in let small = bit_small mark in
+    ap (λ v. v == 1) (ap (λ m. bit_at m b.0) (moved marks bit small) ∙ kept (marks * 2 ^ 1 + bit) b.0 few
+    ∙ bit_at_cat_high marks 1 bit b.0 (omega (arith, small)) (omega (arith, next)) ∙ ap (bit_at marks) (back a.0 b.0 next))
+  where
     back : (i j : ℕ) → j ≡ i + 1 → j - 1 ≡ i
     back i j next = omega (arith, next)
 
-pub moved_few : (marks : ℕ) → marks * 2 ^ 1 % 2 ^ 128 < 2 ^ 128
-moved_few marks = below (marks * 2 ^ 1)
+-- two of them in one
+whole : (high : ℕ) → high < 2 ^ 64 → high * 2 ^ 64 % 2 ^ 128 ≡ high * 2 ^ 64
+whole high small = omega (arith, small)
+
+pub low_half : (high low : ℕ) (a : App) → high < 2 ^ 64 → a.0 < 64
+    → is_marked (record { marks = high * 2 ^ 64 % 2 ^ 128 + low }) a ≡ is_marked (record { marks = low }) a
+unfolding is_marked
+low_half high low a small lt = ap (λ v. v == 1) (ap (λ m. bit_at (m + low) a.0) (whole high small) ∙ bit_at_cat_low high 64 low a.0 lt)
+
+pub high_half : (high low : ℕ) (a b : App) → high < 2 ^ 64 → low < 2 ^ 64 → a.0 ≡ b.0 + 64
+    → is_marked (record { marks = high * 2 ^ 64 % 2 ^ 128 + low }) a ≡ is_marked (record { marks = high }) b
+unfolding is_marked
+high_half high low a b small few at = ap (λ v. v == 1) (ap (λ m. bit_at (m + low) a.0) (whole high small)
+    ∙ bit_at_cat_high high 64 low a.0 few (omega (arith, at)) ∙ ap (bit_at high) (back a.0 b.0 at))
   where
-    below : (m : ℕ) → m % 2 ^ 128 < 2 ^ 128
-    below m = omega arith
+    back : (i j : ℕ) → i ≡ j + 64 → i - 64 ≡ j
+    back i j at = omega (arith, at)
 
 pub marks_few : (marks : ℕ) (app : App) → marks < 2 ^ 128 → bit_or marks (1 * 2 ^ app.0 % 2 ^ 128) < 2 ^ 128
 marks_few marks app small = or_lt 128 marks (1 * 2 ^ app.0 % 2 ^ 128) small (below (1 * 2 ^ app.0))

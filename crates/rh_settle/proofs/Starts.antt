@@ -78,9 +78,9 @@ none_local s n shape none = none_of s n (waiting_at s n)
 
 -- ---- marks that move up
 -- the applications from a number on have their marks, which are still to move up by so many; so they do after one step
-pub pushed : (p : App → Bool) (old new : AppMarks) (count i : ℕ) → 0 < i → i ≤ count → count ≤ 128
+pub pushed : (p : App → Bool) (old new : AppMarks) (count i : ℕ) → 0 < i → i ≤ count → count ≤ (i - 1) + 64
     → ((a : App) → a.0 ≡ 0 → is_marked new a ≡ p (app_numbered (i - 1)))
-    → ((a b : App) → b.0 ≡ a.0 + 1 → b.0 < 128 → is_marked new b ≡ is_marked old a)
+    → ((a b : App) → b.0 ≡ a.0 + 1 → b.0 < 64 → is_marked new b ≡ is_marked old a)
     → ((a b : App) → a.0 < count → a.0 ≡ b.0 + i → is_marked old b ≡ p a)
     → (a b : App) → a.0 < count → a.0 ≡ b.0 + (i - 1) → is_marked new b ≡ p a
 pushed p old new count i some few limit first others so_far a b of at = up_to b.0 0
@@ -90,7 +90,7 @@ pushed p old new count i some few limit first others so_far a b of at = up_to b.
     back : (j : ℕ) → 0 < j → j ≡ (j - 1) + 1
     back j later = omega (arith, later)
 
-    low : (k j : ℕ) → k < count → k ≡ j + (i - 1) → j < 128
+    low : (k j : ℕ) → k < count → k ≡ j + (i - 1) → j < 64
     low k j of at = omega (arith, of, at, limit)
 
     there : (k j : ℕ) → 0 < j → k ≡ j + (i - 1) → k ≡ (j - 1) + i

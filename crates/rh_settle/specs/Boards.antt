@@ -37,6 +37,10 @@ is_among t a n = has (set_of t a) n
 pub record AppMarks : Type 0 where
   pub marks : ℕ
 
+-- the marks that the bits of a number are
+abbrev pub marks_of : ℕ → AppMarks
+marks_of marks = record { marks = marks }
+
 -- is an application marked?
 unfoldable pub is_marked : AppMarks → App → Bool
 is_marked t a = bit_at t.marks a.0 == 1

@@ -4,7 +4,7 @@ ghost use Rattle.std.specs.Prelude.{◌≡◌, ◌+◌, ◌<◌, ◌≤◌, ◌&
 ghost use Rattle.rh_model.specs.declared.limits.TheConstants.{MAX_APPS};
 ghost use Rattle.rh_model.specs.declared.node.App.{App};
 ghost use Rattle.rh_state.specs.Numbers.{same_app};
-ghost use Rattle.rh_settle.specs.Boards.{is_marked};
+ghost use Rattle.rh_settle.specs.Boards.{is_marked, marks_of};
 
 use rh_model::{App, MAX_APPS};
 use std::marker::Model;
@@ -39,6 +39,16 @@ impl AppMarks {
         AppMarks { marks: 0 }
     }
 
+    // The marks of the first 64 applications, and those of the others.
+    pub fn of_halves(low: u64, high: u64) -> AppMarks
+        ensures low { (a : App) → a.0 < 64 → is_marked result a ≡ is_marked (marks_of low) a }
+        ensures high { (a b : App) → a.0 ≡ b.0 + 64 → is_marked result a ≡ is_marked (marks_of high) b }
+    {
+        AppMarks {
+            marks: (u128::from(high) << 64) + u128::from(low),
+        }
+    }
+
     // Is an application marked?
     pub fn has(&self, app: App) -> bool
         requires { app.0 < MAX_APPS }
@@ -67,17 +77,6 @@ impl AppMarks {
         ensures { (a : App) → is_marked self.new a ≡ (is_marked self.old a || same_app a app) }
     {
         self.marks |= 1 << app.0;
-    }
-
-    // Moves each mark to the next application, and marks application 0 or doesn't.
-    pub fn push_front(&mut self, mark: bool)
-        ensures first { (a : App) → a.0 ≡ 0 → is_marked self.new a ≡ mark }
-        ensures others { (a b : App) → b.0 ≡ a.0 + 1 → b.0 < MAX_APPS → is_marked self.new b ≡ is_marked self.old a }
-    {
-        self.marks <<= 1;
-        if mark {
-            self.mark(App(0));
-        }
     }
 
     // The first marked application from this number on.
@@ -142,4 +141,12 @@ impl AppMarks {
         self.marks = marks & (marks - 1);
         Some(app)
     }
+}
+
+// Marks of 64 applications, where each mark of these moves to the next one, and the first is marked or isn't.
+pub(crate) fn pushed(marks: u64, mark: bool) -> u64
+    ensures first { (a : App) → a.0 ≡ 0 → is_marked (marks_of result) a ≡ mark }
+    ensures others { (a b : App) → b.0 ≡ a.0 + 1 → b.0 < 64 → is_marked (marks_of result) b ≡ is_marked (marks_of marks) a }
+{
+    (marks << 1) + u64::from(mark)
 }

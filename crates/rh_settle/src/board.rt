@@ -44,7 +44,8 @@ pub(crate) struct Board {
     moving: AppMarks,
     // For each application the nodes of its fresh pairs.
     fresh: AppSets,
-    // For each application the nodes at which it can run, of those of its fresh pairs and, where it is to run, of its list.
+    // For each application nodes at which it can run: all such of its fresh pairs and, where it is to run, of its list. There can
+    // be others too, at which a move that touched it changed something.
     able: AppSets,
 }
 
@@ -93,7 +94,7 @@ impl Board {
         self.moving.copy()
     }
 
-    /// Of the nodes of its list those at which an application can run, if it is to run.
+    /// Nodes at which an application can run: if it is to run, all such of its list, and maybe others.
     pub fn able(&self, app: App) -> NodeSet
         requires { app.0 < MAX_APPS }
         ensures { (n : Node) → has result n ≡ is_among self.now.able app n }

@@ -1,6 +1,7 @@
 //! What can move of itself, whatever pairs are fresh.
 
-ghost use Rattle.std.specs.Prelude.{◌≡◌, ◌<◌, ◌&&◌, ◌||◌, true, false, is_some};
+ghost use Rattle.std.specs.Prelude.{◌≡◌, ◌<◌, ◌≤◌, ◌+◌, ◌&&◌, ◌||◌, true, false, is_some};
+ghost use Rattle.rh_model.specs.ClusterView.{app_count};
 ghost use Rattle.rh_model.specs.declared.node.App.{App};
 ghost use Rattle.rh_model.specs.declared.node.Node.{Node};
 ghost use Rattle.rh_state.specs.Shape.{IsAppOf};
@@ -8,10 +9,11 @@ ghost use Rattle.rh_state.specs.StateView.{standing_of, waits_at};
 ghost use Rattle.rh_state.specs.Stored.{read};
 ghost use Rattle.rh_base.specs.Lists.{head};
 ghost use Rattle.rh_place.specs.Sets.{has};
+ghost use Rattle.rh_rules.specs.Course.{is_local};
 ghost use Rattle.rh_rules.specs.Moves.{can_start, local_moves};
-ghost use Rattle.rh_settle.specs.Boards.{is_marked, is_wanted, MarksLocals, IsReadyOf};
+ghost use Rattle.rh_settle.specs.Boards.{is_marked, marks_of, is_wanted, MarksLocals, IsReadyOf};
 
-use crate::app_marks::AppMarks;
+use crate::app_marks::{AppMarks, pushed};
 use crate::search::{is_local, starts, starts_at};
 use rh_model::{App, Node};
 use rh_place::NodeSet;
@@ -42,9 +44,7 @@ impl Ready {
     pub fn of(state: &State) -> Ready
         ensures { IsReadyOf (read state.now) result }
     {
-        let mut local = AppMarks::empty();
-        let mut wanted = AppMarks::empty();
-        mark_apps(state, &mut local, &mut wanted);
+        let (local, wanted) = all_marks(state);
         Ready {
             starts: local_nodes(state, &local),
             local,
@@ -69,19 +69,42 @@ pub(crate) fn is_wanted(state: &State, app: App) -> bool
     matches!(state.standing(app), Standing::Wanted(_))
 }
 
-// Marks the applications that are local, and those that are to run. It begins at the last one, so that all marks move up
-// by one place each time: to shift a bit to the place of each application costs several times as much.
-fn mark_apps(state: &State, local: &mut AppMarks, wanted: &mut AppMarks)
-    ensures local { MarksLocals (read state.now).cluster local.new }
-    ensures wanted { (a : App) → IsAppOf (read state.now).cluster a → is_marked wanted.new a ≡ is_wanted (standing_of (read state.now) a) }
+// The marks of up to 64 applications, those from a number on, that are local, and of those that are to run. It begins at the
+// last one, so that all marks move up by one place each time: to shift a bit to the place of each application costs more.
+fn half_marks(state: &State, from: usize, end: usize) -> (u64, u64)
+    requires end { end ≤ app_count (read state.now).cluster }
+    requires from { from ≤ end }
+    requires few { end ≤ from + 64 }
+    ensures local { (a b : App) → a.0 < end → a.0 ≡ b.0 + from → is_marked (marks_of result.0) b ≡ is_local (read state.now).cluster a }
+    ensures wanted { (a b : App) → a.0 < end → a.0 ≡ b.0 + from → is_marked (marks_of result.1) b ≡ is_wanted (standing_of (read state.now) a) }
 {
-    let mut number = state.cluster().app_count();
-    'apps: while number > 0 {
+    let _few_apps = state.cluster().app_count();
+    let mut local = 0;
+    let mut wanted = 0;
+    let mut number = end;
+    'apps: while number > from {
         number -= 1;
         let app = App(number as u8);
-        local.push_front(is_local(state.cluster(), app));
-        wanted.push_front(is_wanted(state, app));
+        local = pushed(local, is_local(state.cluster(), app));
+        wanted = pushed(wanted, is_wanted(state, app));
     }
+    (local, wanted)
+}
+
+// The applications that are local, and those that are to run. Each half of them has marks in a word of its own on the way: a
+// mark that moves up in a word of twice that size takes twice the instructions.
+fn all_marks(state: &State) -> (AppMarks, AppMarks)
+    ensures local { MarksLocals (read state.now).cluster result.0 }
+    ensures wanted { (a : App) → IsAppOf (read state.now).cluster a → is_marked result.1 a ≡ is_wanted (standing_of (read state.now) a) }
+{
+    let count = state.cluster().app_count();
+    let half = if count < 64 { count } else { 64 };
+    let low = half_marks(state, 0, half);
+    let high = half_marks(state, half, count);
+    (
+        AppMarks::of_halves(low.0, high.0),
+        AppMarks::of_halves(low.1, high.1),
+    )
 }
 
 // The nodes of a set, and those at which a local application waits and can start.
