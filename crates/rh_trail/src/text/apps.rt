@@ -7,7 +7,7 @@ ghost use Rattle.rh_model.specs.ClusterView.{app_count};
 ghost use Rattle.rh_state.specs.Stored.{read};
 ghost use Rattle.rh_trail.specs.Report.{standing_line, app_line, app_lines};
 
-use crate::text::words::{app_word, push_standing};
+use crate::text::words::{app_word, push_standing_end};
 use rh_base::OutOfMemory;
 use rh_model::{App, Cluster};
 use rh_state::{Standing, State};
@@ -50,8 +50,5 @@ pub fn push_standing_line(
 {
     text.push_str("app ")?;
     text.push_str(app_word(cluster, app))?;
-    text.push_str(" ")?;
-    push_standing(text, cluster, standing)?;
-    text.push_str("\n")?;
-    Ok(())
+    push_standing_end(text, cluster, standing)
 }

@@ -9,7 +9,9 @@ ghost use Rattle.rh_state.specs.StateView.{running_at, waiting_at};
 ghost use Rattle.rh_state.specs.Stored.{read};
 ghost use Rattle.rh_trail.specs.Report.{node_line, running_line, waiting_line, forbidden_line, line_if_forbidden, node_lines};
 
-use crate::text::words::{app_word, mode_word, push_decimal, push_kind, restart_word};
+use crate::text::words::{
+    app_word, last_restart, push_decimal, push_kind_end, spaced_mode, spaced_restart,
+};
 use rh_base::OutOfMemory;
 use rh_model::{App, Cluster, Node};
 use rh_state::State;
@@ -38,9 +40,7 @@ fn push_node_line(text: &mut String, state: &State, node: Node) -> Result<(), Ou
 {
     text.push_str("node ")?;
     text.push_str(state.cluster().node_name(node))?;
-    text.push_str(" ")?;
-    text.push_str(mode_word(state.mode(node)))?;
-    text.push_str(" ")?;
+    text.push_str(spaced_mode(state.mode(node)))?;
     push_decimal(text, state.incarnation(node) as u64)?;
     text.push_str("\n")?;
     Ok(())
@@ -74,12 +74,8 @@ fn push_running_line(
 {
     text.push_str("  running ")?;
     text.push_str(state.cluster().app_name(app))?;
-    text.push_str(" ")?;
-    text.push_str(restart_word(state.restart_of(node, app)))?;
-    text.push_str(" ")?;
-    push_kind(text, state.cluster(), state.kind_of(node, app))?;
-    text.push_str("\n")?;
-    Ok(())
+    text.push_str(spaced_restart(state.restart_of(node, app)))?;
+    push_kind_end(text, state.cluster(), state.kind_of(node, app))
 }
 
 // Adds a line for each application that waits at a node.
@@ -110,9 +106,7 @@ fn push_waiting_line(
 {
     text.push_str("  waiting ")?;
     text.push_str(state.cluster().app_name(app))?;
-    text.push_str(" ")?;
-    text.push_str(restart_word(state.restart_of(node, app)))?;
-    text.push_str("\n")?;
+    text.push_str(last_restart(state.restart_of(node, app)))?;
     Ok(())
 }
 

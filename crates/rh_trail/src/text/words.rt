@@ -1,6 +1,6 @@
 //! The parts of a state in words.
 
-ghost use Rattle.std.specs.Prelude.{◌≡◌, ◌++◌, OnOk};
+ghost use Rattle.std.specs.Prelude.{◌≡◌, ◌++◌, codes, OnOk};
 ghost use Rattle.std.specs.Fmt.{decimal};
 ghost use Rattle.std.specs.String.{string_bytes};
 ghost use Rattle.rh_trail.specs.Report.{node_word, app_word, mode_words, restart_words, kind_words, standing_words};
@@ -35,14 +35,14 @@ pub fn app_word<'a>(cluster: &'a Cluster, app: App) -> &'a str
     }
 }
 
-// A mode as a word.
-pub(crate) fn mode_word(mode: Mode) -> &'static str
-    ensures { result.now ≡ mode_words mode }
+// A mode as a word between two spaces: one text to add in place of three.
+pub(crate) fn spaced_mode(mode: Mode) -> &'static str
+    ensures { result.now ≡ codes " " ++ mode_words mode ++ codes " " }
 {
     match mode {
-        Mode::Down => "down",
-        Mode::Waiting => "waiting",
-        Mode::Up => "up",
+        Mode::Down => " down ",
+        Mode::Waiting => " waiting ",
+        Mode::Up => " up ",
     }
 }
 
@@ -54,6 +54,28 @@ pub fn restart_word(restart: Restart) -> &'static str
         Restart::Permanent => "permanent",
         Restart::Transient => "transient",
         Restart::Temporary => "temporary",
+    }
+}
+
+// A restart type as a word between two spaces.
+pub(crate) fn spaced_restart(restart: Restart) -> &'static str
+    ensures { result.now ≡ codes " " ++ restart_words restart ++ codes " " }
+{
+    match restart {
+        Restart::Permanent => " permanent ",
+        Restart::Transient => " transient ",
+        Restart::Temporary => " temporary ",
+    }
+}
+
+// A restart type as the last word of a line, with the space before it and the line's end.
+pub(crate) fn last_restart(restart: Restart) -> &'static str
+    ensures { result.now ≡ codes " " ++ restart_words restart ++ codes "\n" }
+{
+    match restart {
+        Restart::Permanent => " permanent\n",
+        Restart::Transient => " transient\n",
+        Restart::Temporary => " temporary\n",
     }
 }
 
@@ -84,28 +106,55 @@ pub fn push_kind(text: &mut String, cluster: &Cluster, kind: Kind) -> Result<(),
     Ok(())
 }
 
-// Adds where a distributed application stands.
-pub(crate) fn push_standing(
+// Adds how an application was started, and the end of its line.
+pub(crate) fn push_kind_end(
+    text: &mut String,
+    cluster: &Cluster,
+    kind: Kind,
+) -> Result<(), OutOfMemory>
+    ensures { OnOk result (string_bytes text.new ≡ string_bytes text.old ++ (kind_words cluster.now kind ++ codes "\n")) }
+{
+    match kind {
+        Kind::Normal => text.push_str("normal\n")?,
+        Kind::Failover(_) | Kind::Takeover(_) => {
+            push_kind(text, cluster, kind)?;
+            text.push_str("\n")?;
+        }
+    }
+    Ok(())
+}
+
+// Adds the name of a node, and the end of its line.
+fn push_node_end(text: &mut String, cluster: &Cluster, node: Node) -> Result<(), OutOfMemory>
+    ensures { OnOk result (string_bytes text.new ≡ string_bytes text.old ++ (node_word cluster.now node ++ codes "\n")) }
+{
+    text.push_str(node_word(cluster, node))?;
+    text.push_str("\n")?;
+    Ok(())
+}
+
+// Adds a space, where a distributed application stands, and the end of its line.
+pub(crate) fn push_standing_end(
     text: &mut String,
     cluster: &Cluster,
     standing: Standing,
 ) -> Result<(), OutOfMemory>
-    ensures { OnOk result (string_bytes text.new ≡ string_bytes text.old ++ standing_words cluster.now standing) }
+    ensures { OnOk result (string_bytes text.new ≡ string_bytes text.old ++ (codes " " ++ standing_words cluster.now standing ++ codes "\n")) }
 {
     match standing {
-        Standing::Quiet => text.push_str("quiet")?,
-        Standing::Wanted(None) => text.push_str("wanted")?,
+        Standing::Quiet => text.push_str(" quiet\n")?,
+        Standing::Wanted(None) => text.push_str(" wanted\n")?,
         Standing::Wanted(Some(node)) => {
-            text.push_str("wanted ")?;
-            text.push_str(node_word(cluster, node))?;
+            text.push_str(" wanted ")?;
+            push_node_end(text, cluster, node)?;
         }
         Standing::Running(node) => {
-            text.push_str("running ")?;
-            text.push_str(node_word(cluster, node))?;
+            text.push_str(" running ")?;
+            push_node_end(text, cluster, node)?;
         }
         Standing::Lost(node) => {
-            text.push_str("lost ")?;
-            text.push_str(node_word(cluster, node))?;
+            text.push_str(" lost ")?;
+            push_node_end(text, cluster, node)?;
         }
     }
     Ok(())
