@@ -1,3 +1,4 @@
 pub mod Arrays
+pub mod Looks
 pub mod Rows
 pub mod Runs

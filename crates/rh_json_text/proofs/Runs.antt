@@ -5,7 +5,7 @@ use Rattle.std.proofs.lemmas.List.{take_more, drop-append-le, drop_all, drop-tak
 use Rattle.rh_json_text.specs.Json.{is_escaped, escaped}
 
 -- a byte that can stand in a string does
-stands : (b : ℕ) → is_escaped b ≡ false → escaped b ≡ b ∷ []
+pub stands : (b : ℕ) → is_escaped b ≡ false → escaped b ≡ b ∷ []
 unfolding is_escaped escaped
 stands b clean = grind arith
 

@@ -5,6 +5,7 @@
 #![tactic(auto)]
 
 mod pieces;
+mod plain;
 mod words;
 
 pub use pieces::{close_array, push_array, push_bytes, push_number, push_string, push_text};

@@ -6,6 +6,7 @@ ghost use Rattle.std.specs.List.{flat_map};
 ghost use Rattle.std.specs.Fmt.{decimal};
 ghost use Rattle.rh_json_text.specs.Json.{hex_digit, is_escaped, escaped, json_string, bracketed};
 
+use crate::plain::{is_escaped, is_plain};
 use rh_base::OutOfMemory;
 use std::alloc::Global;
 
@@ -44,14 +45,6 @@ fn hex_digit(digit: u8) -> u8
     }
 }
 
-// Whether this byte can't stand in a string as it is.
-#[tactic(auto, unfolding(crate::specs::Json::is_escaped))]
-fn is_escaped(byte: u8) -> bool
-    ensures { result ≡ is_escaped byte }
-{
-    byte < 32 || byte == b'"' || byte == b'\\'
-}
-
 // Adds a byte that can't stand in a string as it is.
 #[tactic(auto, unfolding(crate::specs::Json::escaped, crate::specs::Json::is_escaped))]
 fn push_escape(out: &mut Vec<u8>, byte: u8) -> Result<(), OutOfMemory>
@@ -81,6 +74,16 @@ fn push_each_escaped(out: &mut Vec<u8>, text: &[u8]) -> Result<(), OutOfMemory>
     push_bytes(out, &text[pushed..])
 }
 
+// Adds the bytes of a string. Most strings have none that is escaped, and are added as they are.
+fn push_inside(out: &mut Vec<u8>, text: &[u8]) -> Result<(), OutOfMemory>
+    ensures { OnOk result (out.new.items ≡ out.old.items ++ flat_map escaped text.now) }
+{
+    if is_plain(text) {
+        return push_bytes(out, text);
+    }
+    push_each_escaped(out, text)
+}
+
 /// Adds a string: between quotes, with what JSON asks to be escaped (RFC 8259, section 7). All other bytes stay as they are, so the
 /// string is JSON where the text is UTF-8.
 #[tactic(auto, unfolding(crate::specs::Json::json_string))]
@@ -88,7 +91,7 @@ pub fn push_string(out: &mut Vec<u8>, text: &[u8]) -> Result<(), OutOfMemory>
     ensures { OnOk result (out.new.items ≡ out.old.items ++ json_string text.now) }
 {
     push_text(out, "\"")?;
-    push_each_escaped(out, text)?;
+    push_inside(out, text)?;
     push_text(out, "\"")
 }
 
