@@ -7,6 +7,7 @@ ghost use Rattle.std.specs.Fmt.{decimal};
 ghost use Rattle.rh_json_text.specs.Json.{hex_digit, is_escaped, escaped, json_string, bracketed};
 
 use crate::plain::{is_escaped, is_plain};
+use itoa::Buffer;
 use rh_base::OutOfMemory;
 use std::alloc::Global;
 
@@ -25,12 +26,12 @@ pub fn push_text(out: &mut Vec<u8>, text: &str) -> Result<(), OutOfMemory>
     push_bytes(out, text.as_bytes())
 }
 
-/// Adds a number, in decimal.
+/// Adds a number, in decimal. Its digits stand on the stack first, and `alloc` is asked for nothing.
 pub fn push_number(alloc: Global, out: &mut Vec<u8>, number: u128) -> Result<(), OutOfMemory>
     ensures { OnOk result (out.new.items ≡ out.old.items ++ decimal number) }
 {
-    let text = format!(in alloc; "{number}")?;
-    push_text(out, text.as_str())
+    let mut buffer = Buffer::new();
+    push_text(out, buffer.format(number))
 }
 
 // The digit of a number below 16.
