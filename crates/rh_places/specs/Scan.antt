@@ -37,3 +37,7 @@ begins_term _ b = false
 -- the line on which the byte behind this one stands
 abbrev pub line_behind : ℕ → ℕ → ℕ
 line_behind line b = if b == 10 then line + 1 else line
+
+-- a byte of a term behind which something else stands than a byte of the term, or another line: all others change nothing
+abbrev pub is_marked : ℕ → Bool
+is_marked b = (b == 46) || (b == 37) || (b == 34) || (b == 39) || (b == 10)

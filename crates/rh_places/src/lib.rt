@@ -4,6 +4,7 @@
 //! the tuples of a depth. None of them reads the terms: of a text that `rh_terms` reads the n-th start is that of the n-th term.
 #![tactic(auto)]
 
+mod plain;
 mod scan;
 mod starts;
 mod tuples;

@@ -1,9 +1,10 @@
 //! Where terms begin.
 
-ghost use Rattle.std.specs.Prelude.{◌≡◌, ◌+◌, ◌<◌, ◌^◌, ◌++◌, length, IfOk, OnOk, if◌then◌else◌};
+ghost use Rattle.std.specs.Prelude.{◌≡◌, ◌+◌, ◌≤◌, ◌<◌, ◌^◌, ◌++◌, ℕ, length, drop, IfOk, OnOk, if◌then◌else◌};
 ghost use Rattle.rh_places.specs.Scan.{line_behind};
-ghost use Rattle.rh_places.specs.Starts.{start_here, term_starts};
+ghost use Rattle.rh_places.specs.Starts.{start_here, starts_from, term_starts};
 
+use crate::plain::plain_len;
 use crate::scan::Standing;
 use rh_base::OutOfMemory;
 use std::alloc::Global;
@@ -49,6 +50,18 @@ fn push_start(
     Ok(())
 }
 
+// How many bytes are passed that change neither what stands behind them nor the line, and begin no term. Most bytes of a term don't.
+#[tactic(auto, using(crate::proofs::Passed::plain_passed))]
+fn passed(standing: Standing, bytes: &[u8]) -> usize
+    ensures within { result ≤ length bytes.now }
+    ensures starts { (line at : ℕ) → starts_from standing line at bytes.now ≡ starts_from standing line (at + result) (drop result bytes.now) }
+{
+    match standing {
+        Standing::Inside => plain_len(bytes),
+        _ => 0,
+    }
+}
+
 /// Where terms begin that stand inside no other: the first byte that is no blank and in no comment, at the start of the text or behind
 /// a dot that stands outside quotes and comments.
 pub fn term_starts(alloc: Global, text: &[u8]) -> Result<Vec<Start>, OutOfMemory>
@@ -58,11 +71,14 @@ pub fn term_starts(alloc: Global, text: &[u8]) -> Result<Vec<Start>, OutOfMemory
     let mut starts = Vec::new(alloc);
     let mut standing = Standing::Between;
     let mut line: u32 = 1;
-    for at in 0..text.len() {
+    let mut at: usize = 0;
+    'text: while at < text.len() {
         let byte = text[at];
         push_start(&mut starts, standing, line, at, byte)?;
         standing = standing.behind(byte);
         line = next_line(line, byte);
+        at += 1;
+        at += passed(standing, &text[at..]);
     }
     Ok(starts)
 }
