@@ -1,5 +1,5 @@
 -- A branch of a base: where it is, and how it goes back.
-use Rattle.std.proofs.Common.{◌≡◌, ◌<◌, List, false, take, None, Some, refl, sym, ap, subst, ◌∙◌, arith}
+use Rattle.std.proofs.Common.{◌≡◌, ◌<◌, List, Vec, Global, false, take, None, Some, refl, sym, ap, subst, ◌∙◌, arith}
 use Rattle.std.proofs.lemmas.List.{length-take-le, length_push}
 use Rattle.rh_base.specs.Exchanges.{back, AllBack}
 use Rattle.rh_base.proofs.Exchanges.{back-append, AllBack-append}
@@ -51,6 +51,18 @@ begins b base chained at =
       valid = subst IsValid (sym state) (chained.valid base.seen.cursor chained.within);
       led = λ kept. subst (λ (es : List Edit). LedBy base.words es b.state) (sym at.none) record { all = tt; back = at.words };
     }
+
+-- what stands in the list that is kept for its room says nothing of where a branch is
+pub kept_for_room : (b : Branch) (base : Held) (s : SimView) (notices : Vec Notice Global) → IsBranch b base s
+    → IsBranch (record b { notices = notices }) base s
+kept_for_room b base s notices at = record {
+  pick = at.pick;
+  same = at.same;
+  within = at.within;
+  state = at.state;
+  valid = at.valid;
+  led = at.led;
+}
 
 -- ---- a branch at which an event is made
 module _ (b : Branch) (base : Held) (s : SimView) (at : IsBranch b base s) (e : Event) where

@@ -19,6 +19,7 @@ use rh_state::{Edit, State, go_back};
 use rh_step::{Event, Notice, Pick, Refusal, perform, refusal_of};
 use rh_trail::Sim;
 use std::alloc::Global;
+use std::mem;
 
 /// So many edits are kept to take a plan back, which take 2 MiB.
 const EDIT_LIMIT: usize = 65_536;
@@ -32,6 +33,9 @@ pub(crate) struct Branch {
     edits: Vec<Edit>,
     // Whether that was too much to be kept.
     dropped: bool,
+    // A list for the notices of an event. What stands in it says nothing: it is kept for its room alone, which is then not asked
+    // for again at each event of each plan.
+    notices: Vec<Notice>,
 }
 
 impl Branch {
@@ -46,6 +50,7 @@ impl Branch {
             state: base.state().copy(alloc)?,
             edits: Vec::new(alloc),
             dropped: false,
+            notices: Vec::new(alloc),
         })
     }
 
@@ -59,7 +64,10 @@ impl Branch {
     {
         // The base's words are those of its state.
         base.is_chained();
-        let outcome = tried(alloc, self, plan.events.as_slice())?;
+        let mut notices = mem::replace(&mut self.notices, Vec::new(alloc));
+        let tried = tried(alloc, self, plan.events.as_slice(), &mut notices);
+        self.notices = notices;
+        let outcome = tried?;
         self.go_back(alloc, base)?;
         Ok(outcome)
     }
@@ -95,18 +103,23 @@ impl Steps for Branch {
 
     ghost stands = { IsBranch };
 
-    fn advance(&mut self, alloc: Global, event: Event) -> Result<Vec<Notice>, Refusal> {
+    fn advance(
+        &mut self,
+        alloc: Global,
+        event: Event,
+        notices: &mut Vec<Notice>,
+    ) -> Result<(), Refusal> {
         if let Some(refusal) = refusal_of(&self.state, &event) {
             return Err(refusal);
         }
-        let mut notices = Vec::new(alloc);
+        notices.clear();
         let made = perform(
             alloc,
             &mut self.state,
             &event,
             self.pick,
             &mut self.edits,
-            &mut notices,
+            notices,
         );
         if made.is_err() {
             return Err(Refusal::OutOfMemory);
@@ -115,7 +128,7 @@ impl Steps for Branch {
             self.edits.clear();
             self.dropped = true;
         }
-        Ok(notices)
+        Ok(())
     }
 
     fn standings(&self, alloc: Global) -> Result<Standings, OutOfMemory> {

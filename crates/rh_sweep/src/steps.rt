@@ -1,6 +1,6 @@
 //! What the events of a plan are made on, one after the other.
 
-ghost use Rattle.std.specs.Prelude.{◌≡◌, ◌≢◌, ◌<◌, IfOk, IfErr, OnErr};
+ghost use Rattle.std.specs.Prelude.{◌≡◌, ◌≢◌, ◌<◌, IfOk, IfErr, OnOk, OnErr};
 ghost use Rattle.rh_trail.specs.Lone.{served, answered, with_event, trail_limit};
 ghost use Rattle.rh_trail.specs.SimView.{SimView, Held, state_of};
 ghost use Rattle.rh_trail.specs.declared.call.Call.TheVariants as call;
@@ -19,11 +19,17 @@ pub(crate) trait Steps {
     // It went on from the first simulation, and is where the second is.
     ghost stands: { Self → Held → SimView → Type 0 };
 
-    /// Makes an event, and gives its notices in order. A refused one changes nothing.
-    fn advance(&mut self, alloc: Global, event: Event) -> Result<Vec<Notice>, Refusal>
+    /// Makes an event, and gives its notices in order, in place of those that are there. A refused one changes nothing else.
+    /// The list is the caller's, so that a plan has one for all its events.
+    fn advance(
+        &mut self,
+        alloc: Global,
+        event: Event,
+        notices: &mut Vec<Notice>,
+    ) -> Result<(), Refusal>
         requires { (base : Held) × (s : SimView) × stands self.old base s }
-        ensures done { IfOk result (λ notices. (base : Held) (s : SimView) → stands self.old base s → s.cursor < trail_limit
-            → (served s (call.Step event) ≡ answered (reply.Done notices.items) (with_event s event)) × stands self.new base (with_event s event)) }
+        ensures done { OnOk result ((base : Held) (s : SimView) → stands self.old base s → s.cursor < trail_limit
+            → (served s (call.Step event) ≡ answered (reply.Done notices.new.items) (with_event s event)) × stands self.new base (with_event s event)) }
         ensures refused { IfErr result (λ refusal. refusal ≢ Refusal.OutOfMemory → (base : Held) (s : SimView) → stands self.old base s
             → served s (call.Step event) ≡ answered (reply.Refused refusal) s) }
         ensures kept { OnErr result ((base : Held) (s : SimView) → stands self.old base s → stands self.new base s) };
@@ -38,8 +44,19 @@ impl Steps for Sim {
 
     ghost stands = { WentOn };
 
-    fn advance(&mut self, alloc: Global, event: Event) -> Result<Vec<Notice>, Refusal> {
-        self.step(alloc, event)
+    fn advance(
+        &mut self,
+        alloc: Global,
+        event: Event,
+        notices: &mut Vec<Notice>,
+    ) -> Result<(), Refusal> {
+        match self.step(alloc, event) {
+            Ok(told) => {
+                *notices = told;
+                Ok(())
+            }
+            Err(refusal) => Err(refusal),
+        }
     }
 
     fn standings(&self, alloc: Global) -> Result<Standings, OutOfMemory> {

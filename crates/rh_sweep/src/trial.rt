@@ -38,24 +38,26 @@ pub fn try_plan(alloc: Global, sim: &mut Sim, plan: &Plan) -> Result<Outcome, Ou
     // As many records as events stand.
     sim.is_chained();
     let start = sim.cursor();
-    let outcome = tried(alloc, sim, plan.events.as_slice());
+    let mut notices = Vec::new(alloc);
+    let outcome = tried(alloc, sim, plan.events.as_slice(), &mut notices);
     go_back(sim, start);
     sim.cut_redo();
     outcome
 }
 
-/// The outcome of these events, with the simulation or the branch where they lead.
+/// The outcome of these events, with the simulation or the branch where they lead. The list is for the notices of each event.
 pub(crate) fn tried<S: Steps>(
     alloc: Global,
     steps: &mut S,
     events: &[Event],
+    notices: &mut Vec<Notice>,
 ) -> Result<Outcome, OutOfMemory>
     requires { (base : Held) × (s : SimView) × S.stands steps.old base s × HasRoomFor s events.now }
     ensures outcome { IfOk result (λ outcome. (base : Held) (s : SimView) → S.stands steps.old base s → HasRoomFor s events.now
         → outcome ≡ outcome_in s events.now) }
     ensures ahead { (base : Held) (s : SimView) → S.stands steps.old base s → HasRoomFor s events.now → (t : SimView) × S.stands steps.new base t }
 {
-    let count = go_ahead(alloc, steps, events)?;
+    let count = go_ahead(alloc, steps, events, notices)?;
     let standings = steps.standings(alloc)?;
     Ok(Outcome {
         accepted: count.accepted,
@@ -67,7 +69,12 @@ pub(crate) fn tried<S: Steps>(
 }
 
 // Makes the events up to the first refused one.
-fn go_ahead<S: Steps>(alloc: Global, steps: &mut S, events: &[Event]) -> Result<Count, OutOfMemory>
+fn go_ahead<S: Steps>(
+    alloc: Global,
+    steps: &mut S,
+    events: &[Event],
+    notices: &mut Vec<Notice>,
+) -> Result<Count, OutOfMemory>
     requires { (base : Held) × (s : SimView) × S.stands steps.old base s × HasRoomFor s events.now }
     ensures outcome { IfOk result (λ c. (base : Held) (s : SimView) → S.stands steps.old base s → HasRoomFor s events.now
         → (t : SimView) × S.stands steps.new base t × (ended (state_of t) c.accepted c.refused c.failovers c.takeovers ≡ outcome_in s events.now)) }
@@ -76,8 +83,8 @@ fn go_ahead<S: Steps>(alloc: Global, steps: &mut S, events: &[Event]) -> Result<
     let mut failovers = 0;
     let mut takeovers = 0;
     for index in 0..events.len() {
-        match steps.advance(alloc, events[index]) {
-            Ok(notices) => {
+        match steps.advance(alloc, events[index], notices) {
+            Ok(()) => {
                 failovers += failovers_in(notices.as_slice()) as u128;
                 takeovers += takeovers_in(notices.as_slice()) as u128;
             }

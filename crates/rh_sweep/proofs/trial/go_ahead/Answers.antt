@@ -39,7 +39,7 @@ loop-index-preserved g c =
     let inv = c.loop-index.invariant in
     let f = c.loop-index.failovers in
     let k = c.loop-index.takeovers in
-    let ns = c.in-Ok.notices.items in
+    let ns = c.advance.new.notices.items in
     let failovers : c.failovers_in.result ≡ count_by is_failover ns =
     c.failovers_in.ensures ∙ ap (λ (ms : List Notice). count_by is_failover ms) c.as_slice.ensures.value in
     let takeovers : c.takeovers_in.result ≡ count_by is_takeover ns =

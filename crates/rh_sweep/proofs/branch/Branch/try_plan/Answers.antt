@@ -2,27 +2,30 @@ use Rattle.std.proofs.Common.{◌∙◌, ap, sym, subst}
 use Rattle.rh_trail.specs.SimView.{Held}
 use Rattle.rh_sweep.specs.Outcomes.{outcome_in}
 use Rattle.rh_sweep.specs.Sweeping.{HasRoomFor}
-use Rattle.rh_sweep.proofs.Branching.{begins}
+use Rattle.rh_sweep.proofs.Branching.{begins, kept_for_room}
 use Rattle.rh_sweep.proofs.branch.Branch.try_plan.Goals as goal
 
-pub tried-requires : goal.tried-requires
-tried-requires c =
+pub tried-tried-requires : goal.tried-tried-requires
+tried-tried-requires c =
     let base : Held = c.args.base.now in (
       base,
       base.seen,
-      begins c.args.self.now base c.is_chained.ensures c.requires.at,
+      kept_for_room c.args.self.now base base.seen _ (begins c.args.self.now base c.is_chained.ensures c.requires.at),
       subst (HasRoomFor base.seen) (sym c.as_slice.ensures.value) c.requires.room,
     )
 
 pub go_back-requires : goal.go_back-requires
 go_back-requires c =
     let base : Held = c.args.base.now in
-    c.tried.ensures.ahead base base.seen (begins c.args.self.now base c.is_chained.ensures c.requires.at)
-    (subst (HasRoomFor base.seen) (sym c.as_slice.ensures.value) c.requires.room)
+    let led = c.tried-tried.ensures.ahead base base.seen
+    (kept_for_room c.args.self.now base base.seen _ (begins c.args.self.now base c.is_chained.ensures c.requires.at))
+    (subst (HasRoomFor base.seen) (sym c.as_slice.ensures.value) c.requires.room) in
+    (led.0, kept_for_room _ base led.0 _ led.1)
 
 pub returns-clause-outcome : goal.returns-clause-outcome
 returns-clause-outcome c =
     let base : Held = c.args.base.now in
-    c.in_ok-outcome.ensures.outcome base base.seen (begins c.args.self.now base c.is_chained.ensures c.requires.at)
+    c.in_ok-outcome.ensures.outcome base base.seen
+    (kept_for_room c.args.self.now base base.seen _ (begins c.args.self.now base c.is_chained.ensures c.requires.at))
     (subst (HasRoomFor base.seen) (sym c.as_slice.ensures.value) c.requires.room)
     ∙ ap (outcome_in base.seen) c.as_slice.ensures.value
