@@ -186,7 +186,19 @@ pub fn text_of(line: &[u8]) -> Option<&str>
     str::from_utf8(line).ok()
 }
 
+// What a line asks that is no comment. It isn't made a part of its caller, so that a comment costs nothing of what words need.
+#[inline(never)]
+fn line_in(cluster: &Cluster, line: &[u8]) -> Line
+    ensures { result ≡ (if is_utf8 line.now then command_of cluster.now (words_of line.now) else Line.Bad) }
+{
+    match text_of(line) {
+        Some(text) => command_in(cluster, text),
+        None => Line::Bad,
+    }
+}
+
 /// What a line asks. It takes no memory.
+#[inline]
 #[tactic(auto, unfolding(crate::specs::Commands::line_of))]
 pub fn line_of(_alloc: Global, cluster: &Cluster, line: &[u8]) -> Result<Line, OutOfMemory>
     ensures { IfOk result (λ asked. asked ≡ line_of cluster.now line.now) }
@@ -195,8 +207,5 @@ pub fn line_of(_alloc: Global, cluster: &Cluster, line: &[u8]) -> Result<Line, O
     if begins_with(b'#', line) {
         return Ok(Line::Nothing);
     }
-    let Some(text) = text_of(line) else {
-        return Ok(Line::Bad);
-    };
-    Ok(command_in(cluster, text))
+    Ok(line_in(cluster, line))
 }
