@@ -137,7 +137,11 @@ fn given_in(
             [] => None,
             [word, words @ ..] => {
                 let given = with_argument(cluster, *argument, word, given)?;
-                given_in(cluster, arguments, words, given)
+                // Behind the last one there is nothing to go on with.
+                match (arguments, words) {
+                    ([], []) => Some(given),
+                    _ => given_in(cluster, arguments, words, given),
+                }
             }
         },
     }
