@@ -1,14 +1,16 @@
 //! The texts of answers.
 
-ghost use Rattle.std.specs.Prelude.{◌≡◌, ◌++◌, is_some, OnOk, IfOk};
+ghost use Rattle.std.specs.Prelude.{◌≡◌, ◌++◌, codes, is_some, OnOk, IfOk};
 ghost use Rattle.std.specs.List.{flat_map};
 ghost use Rattle.std.specs.String.{string_bytes};
 ghost use Rattle.rh_model.specs.ClusterView.{dep_name};
+ghost use Rattle.rh_trail.specs.Report.{kind_words};
 ghost use Rattle.rh_script.specs.Answers.{dep_words, pair_words, reason_words, refusal_line, notice_line, answer_text, fault_text, bad_text};
 
 use rh_base::OutOfMemory;
 use rh_cluster::{App, Cluster, ClusterFault, Dep, Node};
 use rh_rules::{Notice, Refusal};
+use rh_state::Kind;
 use rh_trail::{NO_NAME, Reply, app_word, node_word, push_decimal, push_kind};
 use std::alloc::Global;
 
@@ -43,9 +45,24 @@ fn push_pair(text: &mut String, cluster: &Cluster, app: App, node: Node) -> Resu
     Ok(())
 }
 
-// Adds the line of a notice.
+// Adds a space, how an application was started, and the end of the line: most start normally, which is one text to add.
+fn push_kind_end(text: &mut String, cluster: &Cluster, kind: Kind) -> Result<(), OutOfMemory>
+    ensures { OnOk result (string_bytes text.new ≡ string_bytes text.old ++ (codes " " ++ kind_words cluster.now kind ++ codes "\n")) }
+{
+    match kind {
+        Kind::Normal => text.push_str(" normal\n")?,
+        Kind::Failover(_) | Kind::Takeover(_) => {
+            text.push_str(" ")?;
+            push_kind(text, cluster, kind)?;
+            text.push_str("\n")?;
+        }
+    }
+    Ok(())
+}
+
+/// Adds the line of a notice, as it stands in an answer.
 #[tactic(auto, unfolding(crate::specs::Answers::notice_line))]
-fn push_notice(text: &mut String, cluster: &Cluster, notice: &Notice) -> Result<(), OutOfMemory>
+pub fn push_notice(text: &mut String, cluster: &Cluster, notice: &Notice) -> Result<(), OutOfMemory>
     ensures { OnOk result (string_bytes text.new ≡ string_bytes text.old ++ notice_line cluster.now notice.now) }
 {
     match *notice {
@@ -67,9 +84,7 @@ fn push_notice(text: &mut String, cluster: &Cluster, notice: &Notice) -> Result<
         } => {
             text.push_str("started ")?;
             push_pair(text, cluster, app, node)?;
-            text.push_str(" ")?;
-            push_kind(text, cluster, kind)?;
-            text.push_str("\n")?;
+            push_kind_end(text, cluster, kind)?;
         }
         Notice::Stopped { app, node } => {
             text.push_str("stopped ")?;

@@ -16,7 +16,7 @@ mod session_lines;
 mod sweep_answers;
 mod sweep_lines;
 
-pub use answers::{answer_text, bad_text, fault_text};
+pub use answers::{answer_text, bad_text, fault_text, push_notice};
 pub use command_words::command_text;
 pub use laws::words_ask_again;
 pub use lines::{content, cut, split_line};
