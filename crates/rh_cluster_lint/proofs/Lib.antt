@@ -1,0 +1,2 @@
+pub mod LookedShapes
+pub mod FoundInKept

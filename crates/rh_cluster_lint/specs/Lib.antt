@@ -1,5 +1,6 @@
 pub mod Faults
 pub mod Lines
+pub mod Looked
 pub mod Terms
 pub mod FileWords
 pub mod File

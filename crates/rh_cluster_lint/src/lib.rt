@@ -8,6 +8,7 @@ mod fault;
 mod file;
 mod file_words;
 mod lines;
+mod looked;
 mod shapes;
 mod terms;
 mod text;

@@ -9,6 +9,7 @@ ghost use Rattle.rh_cluster_lint.specs.Text.{of_cluster, of_terms, text_found};
 
 use crate::file::push_file_findings;
 use crate::lines::Lines;
+use crate::looked::Looked;
 use crate::shapes::places_of;
 use crate::terms::push_term_findings;
 use rh_base::{OutOfMemory, Terms};
@@ -17,7 +18,7 @@ use rh_file_lint::file_findings;
 use rh_findings::Finding;
 use rh_places::term_starts;
 use rh_term_lint::term_findings;
-use rh_terms::{TermFault, read_terms};
+use rh_terms::{TermFault, read_kept};
 use std::alloc::Global;
 
 // Adds what is found in a cluster, if it is one.
@@ -68,7 +69,7 @@ fn of_terms(
 
 /// What is found in the text of a cluster file, beside its fault: names that are nearly one that is read, and, where it is a cluster, what
 /// can't be meant there, or a live OTP takes otherwise. Of a text that can't be read nothing is found.
-#[tactic(auto, unfolding(crate::specs::Text::text_found))]
+#[tactic(auto, unfolding(crate::specs::Text::text_found), using(crate::proofs::FoundInKept::nothing_in_fault))]
 pub fn text_findings(
     alloc: Global,
     text: &[u8],
@@ -77,7 +78,8 @@ pub fn text_findings(
     requires { length text.now + 1 < 2 ^ 32 }
     ensures { IfOk result (λ found. found.items ≡ text_found text.now (option_map (λ cluster. cluster.now) cluster.entry)) }
 {
-    match read_terms(alloc, text) {
+    // Most of a text stands in values of which nothing is told.
+    match read_kept(alloc, Looked::File, text) {
         Ok(terms) => of_terms(alloc, text, &terms, cluster),
         Err(TermFault::OutOfMemory) => Err(OutOfMemory),
         Err(_) => Ok(Vec::new(alloc)),
