@@ -66,13 +66,14 @@ GROWTH = {
         "perform", "firings_of", "Sim::firings", "report", "Bytes::of", "Sim::open", "Sim::copy",
         "Sim::step where timers fire", "Sim::step of a boot",
         "Sim::step behind an undone one", "Sim::step of stop_all", "Sim::step of start_all", "Sim::step of a permission",
-        "try_plan", "open_room", "Room::serve of a step", "Room::serve of a look", "Room::fork", "sweep"),
+        "try_plan", "why_app_waits", "reason_text", "open_room", "Room::serve of a step", "Room::serve of a look", "Room::fork",
+        "sweep"),
 }
 # Calls that programs make over a reader and a writer: each allocation of these rows is refused in turn (refused_memory.py), so the
 # text comes whole, or a front of it with status 5. A program that makes one of them alone takes the prover several minutes.
 MADE = {
     "rows/story/reasons": (
-        "run_story", "why_app_waits", "reason_text", "courses_of", "course_text", "Course::runs", "Course::app", "Course::changes",
+        "run_story", "reasons_of", "push_reason", "courses_of", "course_text", "Course::runs", "Course::app", "Course::changes",
         "Course::time", "Course::stay", "Course::away", "Course::pieces", "mark", "note_of", "is_told"),
     "rows/story/waits-for": ("why_node_waits", "awaited_text"),
     "rows/verify/report": ("run_verify",),

@@ -15,6 +15,7 @@ mod performing;
 mod rooms;
 mod sims;
 mod sweeps;
+mod waits;
 
 use rh_marks::{Answer, tell};
 use std::alloc::Global;
@@ -37,6 +38,8 @@ fn call<T: Runtime<A = Global> + Threads + Wait + Sync>(rt: &T, name: &str) -> O
     } else if let Some(answer) = all_nodes::answer(rt.alloc(), name) {
         Some(answer)
     } else if let Some(answer) = firings::answer(rt.alloc(), name) {
+        Some(answer)
+    } else if let Some(answer) = waits::answer(rt.alloc(), name) {
         Some(answer)
     } else {
         rooms::answer(rt.alloc(), name)

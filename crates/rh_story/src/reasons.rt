@@ -2,6 +2,7 @@
 
 ghost use Rattle.std.specs.Prelude.{◌≡◌, ◌<◌, ◌++◌, OnOk};
 ghost use Rattle.std.specs.List.{flat_map};
+ghost use Rattle.std.specs.Option.{option_to_list};
 ghost use Rattle.rh_state.specs.Stored.{read};
 ghost use Rattle.rh_settle.specs.Validity.{IsValid};
 ghost use Rattle.rh_why.specs.Texts.{reason_text};
@@ -12,7 +13,7 @@ use rh_cluster::{App, Cluster, Node};
 use rh_notes::{Kind, mark};
 use rh_state::State;
 use rh_step::Notice;
-use rh_why::{Reason, awaited_text, reason_text, why_app_waits, why_node_waits};
+use rh_why::{Reason, Reasons, awaited_text, push_reason, reasons_of, why_node_waits};
 use std::alloc::Global;
 
 // Adds the line of a reason in words.
@@ -25,38 +26,44 @@ fn push_line(text: &mut Vec<u8>, words: &[u8]) -> Result<(), OutOfMemory>
     Ok(())
 }
 
-// Adds a reason.
-fn push_reason(
-    alloc: Global,
+// Adds a reason, if there is one. Its line is made in a buffer, whatever that held.
+fn push_if_any(
     text: &mut Vec<u8>,
+    line: &mut String,
     cluster: &Cluster,
-    reason: &Reason,
+    reason: Option<Reason>,
 ) -> Result<(), OutOfMemory>
-    ensures { OnOk result (text.new.items ≡ text.old.items ++ reason_line (reason_text cluster.now reason.now)) }
+    ensures { OnOk result (text.new.items ≡ text.old.items ++ flat_map (λ reason. reason_line (reason_text cluster.now reason)) (option_to_list reason)) }
 {
-    let words = reason_text(alloc, cluster, reason)?;
-    push_line(text, words.as_bytes())
-}
-
-// Adds reasons.
-fn push_reasons(
-    alloc: Global,
-    text: &mut Vec<u8>,
-    cluster: &Cluster,
-    reasons: &[Reason],
-) -> Result<(), OutOfMemory>
-    ensures { OnOk result (text.new.items ≡ text.old.items ++ flat_map (λ reason. reason_line (reason_text cluster.now reason)) reasons.now) }
-{
-    for reason in reasons {
-        push_reason(alloc, text, cluster, reason)?;
+    if let Some(reason) = reason {
+        line.clear();
+        line.push_str(mark(Kind::Reason))?;
+        push_reason(line, cluster, &reason)?;
+        line.push_str("\n")?;
+        text.extend_from_slice(line.as_bytes())?;
     }
     Ok(())
 }
 
+// Adds reasons.
+fn push_reasons(
+    text: &mut Vec<u8>,
+    line: &mut String,
+    cluster: &Cluster,
+    reasons: Reasons,
+) -> Result<(), OutOfMemory>
+    ensures { OnOk result (text.new.items ≡ text.old.items
+        ++ flat_map (λ reason. reason_line (reason_text cluster.now reason)) (option_to_list reasons.lacking ++ option_to_list reasons.forbidding ++ option_to_list reasons.by_standing)) }
+{
+    push_if_any(text, line, cluster, reasons.lacking)?;
+    push_if_any(text, line, cluster, reasons.forbidding)?;
+    push_if_any(text, line, cluster, reasons.by_standing)
+}
+
 // Adds why an application waits at a node: what isn't of the cluster waits nowhere.
 fn push_app(
-    alloc: Global,
     text: &mut Vec<u8>,
+    line: &mut String,
     state: &State,
     app: App,
     node: Node,
@@ -66,16 +73,15 @@ fn push_app(
 {
     let cluster = state.cluster();
     if (node.0 as usize) < cluster.node_count() && (app.0 as usize) < cluster.app_count() {
-        let reasons = why_app_waits(alloc, state, app, node)?;
-        push_reasons(alloc, text, cluster, reasons.as_slice())?;
+        push_reasons(text, line, cluster, reasons_of(state, app, node))?;
     }
     Ok(())
 }
 
-/// Adds why a notice is told.
+/// Adds why a notice is told. Each line is made in a buffer, whatever that held.
 pub fn push_why(
-    alloc: Global,
     text: &mut Vec<u8>,
+    line: &mut String,
     state: &State,
     notice: &Notice,
 ) -> Result<(), OutOfMemory>
@@ -83,7 +89,7 @@ pub fn push_why(
     ensures { OnOk result (text.new.items ≡ text.old.items ++ why_lines (read state.now) notice.now) }
 {
     match *notice {
-        Notice::Waits { app, node } => push_app(alloc, text, state, app, node),
+        Notice::Waits { app, node } => push_app(text, line, state, app, node),
         _ => Ok(()),
     }
 }

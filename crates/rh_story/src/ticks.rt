@@ -39,9 +39,8 @@ fn push_time(alloc: Global, text: &mut Vec<u8>, time: u64) -> Result<(), OutOfMe
     Ok(())
 }
 
-// Adds a notice, and why it is told. Its line is made in a buffer, whatever that held.
+// Adds a notice, and why it is told. Each line is made in a buffer, whatever that held.
 fn push_notice(
-    alloc: Global,
     text: &mut Vec<u8>,
     line: &mut String,
     state: &State,
@@ -55,7 +54,7 @@ fn push_notice(
     line.reserve(64)?;
     push_notice_line(line, state.cluster(), notice)?;
     push_answer(text, line.as_bytes())?;
-    push_why(alloc, text, state, notice)
+    push_why(text, line, state, notice)
 }
 
 /// Adds notices, each with why it is told by this state.
@@ -70,7 +69,7 @@ pub fn push_notices(
 {
     let mut line = String::new(alloc);
     for notice in notices {
-        push_notice(alloc, text, &mut line, state, notice)?;
+        push_notice(text, &mut line, state, notice)?;
     }
     Ok(())
 }

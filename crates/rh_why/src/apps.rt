@@ -1,13 +1,13 @@
 //! Why an application waits.
 
-ghost use Rattle.std.specs.Prelude.{◌≡◌, ◌<◌, ◌++◌, OnOk, IfOk};
+ghost use Rattle.std.specs.Prelude.{◌≡◌, ◌<◌, ◌++◌, [], if◌then◌else◌, OnOk, IfOk};
 ghost use Rattle.std.specs.Option.{option_to_list};
 ghost use Rattle.rh_model.specs.ClusterView.{node_count, app_count};
 ghost use Rattle.rh_state.specs.StateView.{waits_at};
 ghost use Rattle.rh_state.specs.Stored.{read};
 ghost use Rattle.rh_why.specs.Reasons.{lacking, forbidding, by_standing, reasons};
 
-use crate::reason::Reason;
+use crate::reason::{Reason, Reasons};
 use rh_base::OutOfMemory;
 use rh_model::{App, Node};
 use rh_place::missing_dep;
@@ -17,7 +17,6 @@ use std::alloc::Global;
 /// Why an application that is started at a node waits there: all reasons that hold in this state, in a fixed order. First the first
 /// of its dependencies that doesn't run there; then that it may not run there; then, of a distributed one, where it runs, with
 /// which node it was lost, or that it is to run nowhere. There are none if it doesn't wait there.
-#[tactic(auto, unfolding(crate::specs::Reasons::reasons))]
 pub fn why_app_waits(
     alloc: Global,
     state: &State,
@@ -29,13 +28,35 @@ pub fn why_app_waits(
     ensures { IfOk result (λ found. found.items ≡ reasons (read state.now) app node) }
 {
     let mut found = Vec::new(alloc);
-    if !waits(state, app, node) {
-        return Ok(found);
-    }
-    push_if_any(&mut found, lacking(state, app, node))?;
-    push_if_any(&mut found, forbidding(state, app, node))?;
-    push_if_any(&mut found, by_standing(state, app))?;
+    let reasons = reasons_of(state, app, node);
+    push_if_any(&mut found, reasons.lacking)?;
+    push_if_any(&mut found, reasons.forbidding)?;
+    push_if_any(&mut found, reasons.by_standing)?;
     Ok(found)
+}
+
+/// Why an application that is started at a node waits there, as [`why_app_waits`] says it, without a list: so it wants no memory.
+#[tactic(auto, unfolding(crate::specs::Reasons::reasons))]
+pub fn reasons_of(state: &State, app: App, node: Node) -> Reasons
+    requires node { node.0 < node_count (read state.now).cluster }
+    requires app { app.0 < app_count (read state.now).cluster }
+    ensures all { option_to_list result.lacking ++ option_to_list result.forbidding ++ option_to_list result.by_standing ≡ reasons (read state.now) app node }
+    ensures lacking { option_to_list result.lacking ≡ (if waits_at (read state.now) node app then lacking (read state.now) app node else []) }
+    ensures forbidding { option_to_list result.forbidding ≡ (if waits_at (read state.now) node app then forbidding (read state.now) app node else []) }
+    ensures by_standing { option_to_list result.by_standing ≡ (if waits_at (read state.now) node app then by_standing (read state.now) app else []) }
+{
+    if !waits(state, app, node) {
+        return Reasons {
+            lacking: None,
+            forbidding: None,
+            by_standing: None,
+        };
+    }
+    Reasons {
+        lacking: lacking(state, app, node),
+        forbidding: forbidding(state, app, node),
+        by_standing: by_standing(state, app),
+    }
 }
 
 // Does an application wait at a node?

@@ -18,6 +18,17 @@ pub enum Reason {
     Quiet,
 }
 
+/// All reasons for which an application waits at a node: at most one of each sort, in the order in which they are told.
+#[derive(Clone, Copy, Debug, PartialEq, Eq)]
+pub struct Reasons {
+    /// Something that it needs doesn't run there.
+    pub lacking: Option<Reason>,
+    /// It may not run there.
+    pub forbidding: Option<Reason>,
+    /// Where it runs, with which node it was lost, or that it is to run nowhere.
+    pub by_standing: Option<Reason>,
+}
+
 /// For whom a node that boots waits.
 #[derive(Drop)]
 pub struct Awaited {

@@ -9,7 +9,7 @@ ghost use Rattle.rh_why.specs.Texts.{dep_word, reason_text, one_word, until_text
 use crate::reason::{Awaited, Reason};
 use rh_base::OutOfMemory;
 use rh_model::{Cluster, Dep, Node};
-use rh_trail::{NO_NAME, node_word};
+use rh_trail::{NO_NAME, node_word, push_decimal};
 use std::alloc::Global;
 
 // Is the dependency one of the cluster's?
@@ -35,28 +35,38 @@ fn dep_word<'a>(cluster: &'a Cluster, dep: Dep) -> &'a str
 
 /// Why an application waits, in one line without its end: `needs db`, `forbidden`, `runs at n1@lab`, `lost with n1@lab until 6000`,
 /// `quiet`. A number that nothing of the cluster has is shown as a question mark.
-#[tactic(auto, unfolding(crate::specs::Texts::reason_text))]
 pub fn reason_text(alloc: Global, cluster: &Cluster, reason: &Reason) -> Result<String, OutOfMemory>
     ensures { IfOk result (λ text. string_bytes text ≡ reason_text cluster.now reason.now) }
 {
     let mut text = String::new(alloc);
+    push_reason(&mut text, cluster, reason)?;
+    Ok(text)
+}
+
+/// Adds why an application waits, as [`reason_text`] says it.
+#[tactic(auto, unfolding(crate::specs::Texts::reason_text))]
+pub fn push_reason(text: &mut String, cluster: &Cluster, reason: &Reason) -> Result<(), OutOfMemory>
+    ensures { OnOk result (string_bytes text.new ≡ string_bytes text.old ++ reason_text cluster.now reason.now) }
+{
     match *reason {
         Reason::Needs { dep } => {
-            let name = dep_word(cluster, dep);
-            write!(text, "needs {name}")?;
+            text.push_str("needs ")?;
+            text.push_str(dep_word(cluster, dep))?;
         }
-        Reason::Forbidden => write!(text, "forbidden")?,
+        Reason::Forbidden => text.push_str("forbidden")?,
         Reason::RunsAt { node } => {
-            let name = node_word(cluster, node);
-            write!(text, "runs at {name}")?;
+            text.push_str("runs at ")?;
+            text.push_str(node_word(cluster, node))?;
         }
         Reason::LostWith { node, due } => {
-            let name = node_word(cluster, node);
-            write!(text, "lost with {name} until {due}")?;
+            text.push_str("lost with ")?;
+            text.push_str(node_word(cluster, node))?;
+            text.push_str(" until ")?;
+            push_decimal(text, due)?;
         }
-        Reason::Quiet => write!(text, "quiet")?,
+        Reason::Quiet => text.push_str("quiet")?,
     }
-    Ok(text)
+    Ok(())
 }
 
 /// For whom a node waits, in one line without its end: `waits for n2@lab n3@lab until 5000`, or without `until ..` where the wait

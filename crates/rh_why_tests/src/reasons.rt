@@ -1,11 +1,13 @@
 //! Why applications and nodes wait, asked of states that rehearsals reach.
 
-use rh_cluster::{App, Node, read_cluster};
+use rh_cluster::{App, Cluster, Node, read_cluster};
 use rh_samples::{CAVE, TWO_NODES};
 use rh_state::State;
 use rh_step::{Event, Pick};
 use rh_trail::Sim;
-use rh_why::{awaited_text, reason_text, why_app_waits, why_node_waits};
+use rh_why::{
+    Reason, awaited_text, push_reason, reason_text, reasons_of, why_app_waits, why_node_waits,
+};
 use std::alloc::Global;
 use std::process::Abort;
 
@@ -48,7 +50,17 @@ fn make_all(rt: &impl Abort, alloc: Global, sim: &mut Sim, events: &[Event]) {
     }
 }
 
-// The reasons of an application at a node are these lines.
+// Adds the line of a reason, if there is one.
+fn push_line(rt: &impl Abort, text: &mut String, cluster: &Cluster, reason: Option<Reason>) {
+    if let Some(reason) = reason {
+        push_reason(text, cluster, &reason)
+            .ok()
+            .expect(rt, "memory");
+        text.push_str("\n").ok().expect(rt, "memory");
+    }
+}
+
+// The reasons of an application at a node are these lines, with a list and without one.
 fn app_waits(rt: &impl Abort, alloc: Global, state: &State, app: App, node: Node, lines: &str) {
     let cluster = state.cluster();
     assert!(rt; (node.0 as usize) < cluster.node_count() && (app.0 as usize) < cluster.app_count());
@@ -62,6 +74,12 @@ fn app_waits(rt: &impl Abort, alloc: Global, state: &State, app: App, node: Node
             .expect(rt, "memory");
         writeln!(text, "{line}").ok().expect(rt, "memory");
     }
+    assert!(rt; text.as_str() == lines);
+    text.clear();
+    let reasons = reasons_of(state, app, node);
+    push_line(rt, &mut text, cluster, reasons.lacking);
+    push_line(rt, &mut text, cluster, reasons.forbidding);
+    push_line(rt, &mut text, cluster, reasons.by_standing);
     assert!(rt; text.as_str() == lines);
 }
 
