@@ -1,6 +1,6 @@
 //! What is told of a line of the script.
 
-ghost use Rattle.std.specs.Prelude.{◌≡◌, ◌≢◌, ◌++◌, None, OnOk, IfOk};
+ghost use Rattle.std.specs.Prelude.{◌≡◌, ◌≢◌, ◌++◌, [], None, OnOk, IfOk, ◌≤◌, vec_capacity};
 ghost use Rattle.std.specs.List.{flat_map};
 ghost use Rattle.rh_step.specs.Firings.{firings};
 ghost use Rattle.rh_trail.specs.SimView.{state_of};
@@ -13,6 +13,7 @@ ghost use Rattle.rh_script.specs.Lines.{content};
 ghost use Rattle.rh_script.specs.Commands.{line_of};
 ghost use Rattle.rh_script.specs.Answers.{answer_text, bad_text};
 ghost use Rattle.rh_story.specs.LineText.{answer_lines, notice_lines, node_lines, firing_lines, call_lines, kept, line_text, behind_line, is_bad};
+ghost use Rattle.rh_story.specs.declared.lines.TheConstants.{KEPT};
 
 use crate::head::push_closed;
 use crate::reasons::push_awaited;
@@ -25,41 +26,47 @@ use rh_step::{Event, refusal_of};
 use rh_trail::{Call, Sim};
 use std::alloc::Global;
 
-/// What a story writes for a line.
-#[derive(Drop)]
-pub struct LineText {
-    /// The text.
-    pub text: Vec<u8>,
-    /// Whether the line is no command.
-    pub bad: bool,
+// Room that is kept from line to line, in bytes: what nearly all lines take, with what comes of them.
+const KEPT: usize = 65_536;
+
+// Empties a buffer. The room for a longer text is given back, all of it: a smaller block would have to be asked for.
+fn empty(text: &mut Vec<u8>)
+    ensures items { text.new.items ≡ [] }
+    ensures room { vec_capacity text.new ≤ KEPT }
+{
+    text.clear();
+    if text.capacity() > KEPT {
+        text.shrink_to(0);
+    }
 }
 
-/// What a story writes for a line of this number, which is given to the simulation.
+/// Makes what a story writes for a line of this number, which is given to the simulation, in a buffer, whatever that held. The
+/// answer is whether the line is no command.
 pub fn tell_line(
     alloc: Global,
+    text: &mut Vec<u8>,
     sim: &mut Sim,
     number: u64,
     line: &[u8],
-) -> Result<LineText, OutOfMemory>
-    ensures text { IfOk result (λ told. told.text.items ≡ line_text sim.old.seen number line.now (line_of sim.old.seen.cluster (content line.now))) }
-    ensures bad { IfOk result (λ told. told.bad ≡ is_bad (line_of sim.old.seen.cluster (content line.now))) }
+) -> Result<bool, OutOfMemory>
+    ensures text { OnOk result (text.new.items ≡ line_text sim.old.seen number line.now (line_of sim.old.seen.cluster (content line.now))) }
+    ensures bad { IfOk result (λ bad. bad ≡ is_bad (line_of sim.old.seen.cluster (content line.now))) }
     ensures sim { OnOk result (sim.new.seen ≡ behind_line sim.old.seen (line_of sim.old.seen.cluster (content line.now))) }
 {
+    empty(text);
     let asked = line_of(alloc, sim.cluster(), content(line))?;
-    let mut text = Vec::new(alloc);
     match asked {
-        Line::Nothing => push_kept(&mut text, line)?,
+        Line::Nothing => push_kept(text, line)?,
         Line::Asks(call) => {
-            push_closed(&mut text, line)?;
-            push_call(alloc, &mut text, sim, call)?;
+            push_closed(text, line)?;
+            push_call(alloc, text, sim, call)?;
         }
         Line::Bad => {
-            push_closed(&mut text, line)?;
-            push_bad(alloc, &mut text, number)?;
+            push_closed(text, line)?;
+            push_bad(alloc, text, number)?;
         }
     }
-    let bad = matches!(asked, Line::Bad);
-    Ok(LineText { text, bad })
+    Ok(matches!(asked, Line::Bad))
 }
 
 // Adds a line that asks nothing, as it stands, unless an earlier story told it.

@@ -151,15 +151,16 @@ fn tell_lines<K: Sink>(
         (lines_text sim.old.seen 1 lack.now (raw_lines script.now))
         (bad_line 1 (lines_asked sim.old.seen.cluster (map content (raw_lines script.now)))) writer.old writer.new }
 {
+    let mut room = Vec::new(alloc);
     let mut rest = script;
     let mut number: u64 = 1;
     let mut behind = lack;
     'lines: while !rest.is_empty() {
         let (line, after) = split_line(rest);
-        let told = tell_line(alloc, sim, number, line)?;
-        let text = shown(line, after, told.text.as_slice());
+        let is_bad = tell_line(alloc, &mut room, sim, number, line)?;
+        let text = shown(line, after, room.as_slice());
         write_text(writer, text)?;
-        if told.bad {
+        if is_bad {
             write_text(writer, after)?;
             return Ok(Some(number));
         }
@@ -167,6 +168,7 @@ fn tell_lines<K: Sink>(
         rest = after;
         number += 1;
     }
+    drop(room);
     write_table(alloc, sim, behind, writer)?;
     Ok(None)
 }

@@ -24,7 +24,7 @@ returns-in_err-write_text g c =
     (raw_lines c.args.script.now) (raw_lines c.lines.rest.now) (raw_lines c.split_line.result.1.now)
     c.args.writer.now c.lines.writer c.write_text.new.writer c.lines.invariant.text.0 c.shown-text.result.now
     c.split_line.ensures.line c.lines.invariant.text.1 c.lines.invariant.text.2
-    (c.shown-text.ensures ∙ ap (λ t. shown c.split_line.result.0.now (raw_lines c.split_line.result.1.now) t) (c.as_slice.ensures.value ∙ c.in_ok-told.ensures.text))
+    (c.shown-text.ensures ∙ ap (λ t. shown c.split_line.result.0.now (raw_lines c.split_line.result.1.now) t) (c.as_slice.ensures.value ∙ c.in_ok-is_bad.ensures.text))
     c.in_err-write_text.field-0.0
     (subst (λ (f : WriteFault). WroteFront takes fails f c.shown-text.result.now c.lines.writer c.write_text.new.writer)
     (sym c.in_err-write_text.ensures.only) (c.in_err-write_text.ensures.front, c.in_err-write_text.ensures.err)))
@@ -40,20 +40,20 @@ returns-in_err-write_text-2 g c =
     (raw_lines c.args.script.now) (raw_lines c.lines.rest.now) (raw_lines rest)
     c.args.writer.now c.lines.writer c.write_text.new.writer c.lines.invariant.text.0 c.shown-text.result.now
     c.split_line.ensures.line c.lines.invariant.text.1 c.lines.invariant.text.2
-    (c.shown-text.ensures ∙ ap (λ t. shown c.split_line.result.0.now (raw_lines c.split_line.result.1.now) t) (c.as_slice.ensures.value ∙ c.in_ok-told.ensures.text))
-    (sym c.in_ok-told.ensures.bad ∙ c.if-told.true) rest (sym (lines_join rest)) c.in_ok-write_text.ensures.whole
-    c.write_text-then-told.new.writer
+    (c.shown-text.ensures ∙ ap (λ t. shown c.split_line.result.0.now (raw_lines c.split_line.result.1.now) t) (c.as_slice.ensures.value ∙ c.in_ok-is_bad.ensures.text))
+    (sym c.in_ok-is_bad.ensures.bad ∙ c.if-is_bad.true) rest (sym (lines_join rest)) c.in_ok-write_text.ensures.whole
+    c.write_text-then-is_bad.new.writer
     c.in_err-write_text-2.field-0.0
-    (subst (λ (f : WriteFault). WroteFront takes fails f rest c.write_text.new.writer c.write_text-then-told.new.writer)
+    (subst (λ (f : WriteFault). WroteFront takes fails f rest c.write_text.new.writer c.write_text-then-is_bad.new.writer)
     (sym c.in_err-write_text-2.ensures.only) (c.in_err-write_text-2.ensures.front, c.in_err-write_text-2.ensures.err)))
 
-pub returns-then-told : goal.returns-then-told
-returns-then-told g c =
+pub returns-then-is_bad : goal.returns-then-is_bad
+returns-then-is_bad g c =
     let takes = g.K.Sink.takes in
     let fails = g.K.Sink.fails in
     let rest = c.split_line.result.1.now in
     let line = c.split_line.result.0.now in
-    let bad = sym c.in_ok-told.ensures.bad ∙ c.if-told.true in (
+    let bad = sym c.in_ok-is_bad.ensures.bad ∙ c.if-is_bad.true in (
       fault_here c.args.sim.now.seen.cluster c.lines.number line (raw_lines c.args.script.now) (raw_lines c.lines.rest.now) (raw_lines rest)
           c.split_line.ensures.line c.lines.invariant.fault
           (subst (λ (k : ClusterView). is_bad (line_of k (content line)) ≡ true) c.lines.invariant.same bad),
@@ -61,8 +61,8 @@ returns-then-told g c =
           (raw_lines c.args.script.now) (raw_lines c.lines.rest.now) (raw_lines rest)
           c.args.writer.now c.lines.writer c.write_text.new.writer c.lines.invariant.text.0 c.shown-text.result.now
           c.split_line.ensures.line c.lines.invariant.text.1 c.lines.invariant.text.2
-          (c.shown-text.ensures ∙ ap (λ t. shown c.split_line.result.0.now (raw_lines c.split_line.result.1.now) t) (c.as_slice.ensures.value ∙ c.in_ok-told.ensures.text))
-          bad rest (sym (lines_join rest)) c.in_ok-write_text.ensures.whole c.write_text-then-told.new.writer
+          (c.shown-text.ensures ∙ ap (λ t. shown c.split_line.result.0.now (raw_lines c.split_line.result.1.now) t) (c.as_slice.ensures.value ∙ c.in_ok-is_bad.ensures.text))
+          bad rest (sym (lines_join rest)) c.in_ok-write_text.ensures.whole c.write_text-then-is_bad.new.writer
           c.in_ok-write_text-2.ensures.whole,
       c.in_ok-write_text-2.ensures.ok,
     )
@@ -96,20 +96,20 @@ lines-preserved g c =
     let rest = c.split_line.result.1.now in
     let line = c.split_line.result.0.now in
     let asked = line_of c.lines.sim.seen.cluster (content line) in
-    let good = sym c.in_ok-told.ensures.bad ∙ c.if-told.false in
+    let good = sym c.in_ok-is_bad.ensures.bad ∙ c.if-is_bad.false in
     record {
       text = story_goes_on takes fails c.args.sim.now.seen c.lines.sim.seen c.lines.number c.args.lack.now c.lines.behind.now line
           (raw_lines c.args.script.now) (raw_lines c.lines.rest.now) (raw_lines rest)
           c.args.writer.now c.lines.writer c.write_text.new.writer c.lines.invariant.text.0 c.shown-text.result.now
           c.split_line.ensures.line c.lines.invariant.text.1 c.lines.invariant.text.2
-          (c.shown-text.ensures ∙ ap (λ t. shown c.split_line.result.0.now (raw_lines c.split_line.result.1.now) t) (c.as_slice.ensures.value ∙ c.in_ok-told.ensures.text))
-          good c.tell_line.new.sim.seen c.in_ok-told.ensures.sim c.lack_behind-behind.result.now c.lack_behind-behind.ensures
+          (c.shown-text.ensures ∙ ap (λ t. shown c.split_line.result.0.now (raw_lines c.split_line.result.1.now) t) (c.as_slice.ensures.value ∙ c.in_ok-is_bad.ensures.text))
+          good c.tell_line.new.sim.seen c.in_ok-is_bad.ensures.sim c.lack_behind-behind.result.now c.lack_behind-behind.ensures
           c.in_ok-write_text.ensures.whole;
       fault = fault_later c.args.sim.now.seen.cluster c.lines.number line (raw_lines c.args.script.now) (raw_lines c.lines.rest.now) (raw_lines rest)
           c.split_line.ensures.line c.lines.invariant.fault
           (subst (λ (k : ClusterView). is_bad (line_of k (content line)) ≡ false) c.lines.invariant.same good);
       watch = c.in_ok-write_text.ensures.ok;
-      same = ap (λ (v : SimView). v.cluster) c.in_ok-told.ensures.sim ∙ line_keeps_cluster c.lines.sim.seen asked ∙ c.lines.invariant.same;
+      same = ap (λ (v : SimView). v.cluster) c.in_ok-is_bad.ensures.sim ∙ line_keeps_cluster c.lines.sim.seen asked ∙ c.lines.invariant.same;
       utf8 = c.lack_behind-behind.utf8;
       count = omega (arith, c.lines.invariant.count, c.split_line.ensures.shorter);
     }
