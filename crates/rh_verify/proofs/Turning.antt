@@ -1,5 +1,5 @@
 -- One line of a script, and those behind it.
-use Rattle.std.proofs.Common.{◌≡◌, ◌≤◌, ◌+◌, ℕ, List, [], ◌∷◌, ◌++◌, length, Bool, true, false, Option, Some, None, Result, Ok, Err, refl, sym, ap, subst, ◌∙◌, append-nil, append_assoc, arith}
+use Rattle.std.proofs.Common.{◌≡◌, ◌≤◌, ◌+◌, ℕ, List, [], ◌∷◌, ◌++◌, length, map, Bool, true, false, Option, Some, None, Result, Ok, Err, refl, sym, ap, subst, ◌∙◌, append-nil, append_assoc, arith}
 use Rattle.std.specs.List.{flat_map}
 use Rattle.std.proofs.lemmas.List.{length-append}
 use Rattle.std.proofs.lemmas.Grind.{flat_map-append}
@@ -13,10 +13,11 @@ use Rattle.rh_devices.specs.declared.fault.WriteFault.{WriteFault}
 use Rattle.rh_devices.specs.declared.watched.Watched.{Watched}
 use Rattle.rh_devices.specs.Devices.{Passed, WroteFront}
 use Rattle.rh_devices.proofs.Passing.{passed_none, passed_more, fault_behind, fault_before}
-use Rattle.rh_app.specs.RunText.{bad_line}
+use Rattle.rh_script.specs.Commands.{line_of}
+use Rattle.rh_app.specs.RunText.{bad_line, lines_asked}
 use Rattle.rh_verify.specs.declared.tally.Tally.{Tally}
 use Rattle.rh_verify.specs.declared.tally.Verdict.{Verdict}
-use Rattle.rh_verify.specs.Expected.{Check, check_of, checks, ahead}
+use Rattle.rh_verify.specs.Expected.{Check, check_of, asked_by, checks, ahead, passed_by, Passes}
 use Rattle.rh_verify.specs.Blocks.{block_text}
 use Rattle.rh_verify.specs.Counts.{tally_of}
 use Rattle.rh_verify.specs.Judging.{with_verdict, verdict_on, with_checks, Gave, Takes}
@@ -100,3 +101,36 @@ bad_next k Bad lines other = absurd (other refl)
 
 pub bad_here : (k : ℕ) (a : Line) (lines : List Line) → a ≡ Bad → bad_line k (a ∷ lines) ≡ Some k
 bad_here k a lines is = rw is refl
+
+-- ---- comments and blank lines that are passed
+pub checks_past : (s : SimView) (k : ℕ) (passed : List (List ℕ)) (left : List (List ℕ × Line)) → checks s k (passed_by passed ++ left) ≡ checks s (k + length passed) left
+checks_past s k [] left = let zero : k ≡ k + 0 = omega arith in ap (λ (n : ℕ). checks s n left) zero
+checks_past s k (line ∷ passed) left =
+    let place : (k + 1) + length passed ≡ k + length (line ∷ passed) = omega arith in
+    checks_past s (k + 1) passed left ∙ ap (λ (n : ℕ). checks s n left) place
+
+asked_lines : (c : ClusterView) (lines : List (List ℕ)) → lines_asked c lines ≡ map (λ (at : List ℕ × Line). at.1) (asked_by c lines)
+asked_lines c [] = refl
+asked_lines c (line ∷ lines) = ap (λ (asked : List Line). line_of c line ∷ asked) (asked_lines c lines)
+
+none_bad : (k : ℕ) (passed : List (List ℕ)) (left : List (List ℕ × Line))
+    → bad_line k (map (λ (at : List ℕ × Line). at.1) (passed_by passed ++ left)) ≡ bad_line (k + length passed) (map (λ (at : List ℕ × Line). at.1) left)
+none_bad k [] left = let zero : k ≡ k + 0 = omega arith in ap (λ (n : ℕ). bad_line n (map (λ (at : List ℕ × Line). at.1) left)) zero
+none_bad k (line ∷ passed) left =
+    let place : (k + 1) + length passed ≡ k + length (line ∷ passed) = omega arith in
+    none_bad (k + 1) passed left ∙ ap (λ (n : ℕ). bad_line n (map (λ (at : List ℕ × Line). at.1) left)) place
+
+-- the same lines are left, farther on
+module _ (c : ClusterView) (lines left : List (List ℕ)) (count : ℕ) (passes : Passes (asked_by c lines) (asked_by c left) count) where
+  pub checks_left : (s : SimView) (k : ℕ) → checks s (k + 1) (asked_by c lines) ≡ checks s (k + count) (asked_by c left)
+  checks_left s k =
+      let place : (k + 1) + length passes.0 ≡ k + count = let is = passes.2 in omega (arith, is) in
+      ap (checks s (k + 1)) passes.1 ∙ checks_past s (k + 1) passes.0 (asked_by c left) ∙ ap (λ (n : ℕ). checks s n (asked_by c left)) place
+
+  pub bad_left : (k : ℕ) → bad_line (k + 1) (lines_asked c lines) ≡ bad_line (k + count) (lines_asked c left)
+  bad_left k =
+      let place : (k + 1) + length passes.0 ≡ k + count = let is = passes.2 in omega (arith, is) in
+      ap (bad_line (k + 1)) (asked_lines c lines ∙ ap (map (λ (at : List ℕ × Line). at.1)) passes.1)
+      ∙ none_bad (k + 1) passes.0 (asked_by c left)
+      ∙ ap (λ (n : ℕ). bad_line n (map (λ (at : List ℕ × Line). at.1) (asked_by c left))) place
+      ∙ ap (bad_line (k + count)) (sym (asked_lines c left))

@@ -1,5 +1,5 @@
 -- The commands of a script, each with what is expected of it (ours).
-use Rattle.std.specs.Prelude.{ℕ, ◌+◌, List, [], ◌∷◌, map, Bool, true, false, not, ◌&&◌, ◌||◌, ◌==◌, length, Option, Some, None, is_some}
+use Rattle.std.specs.Prelude.{◌≡◌, ℕ, ◌+◌, List, [], ◌∷◌, ◌++◌, map, Bool, true, false, not, ◌&&◌, ◌||◌, ◌==◌, length, Option, Some, None, is_some}
 use Rattle.std.specs.List.{filter, filter_map}
 use Rattle.rh_model.specs.ClusterView.{ClusterView}
 use Rattle.rh_trail.specs.declared.call.Call.{Call}
@@ -24,6 +24,14 @@ ahead [] = []
 ahead ((line, Nothing) ∷ lines) = line ∷ ahead lines
 ahead ((line, Asks call) ∷ lines) = []
 ahead ((line, Bad) ∷ lines) = []
+
+-- comments and blank lines, each with what it asks
+abbrev pub passed_by : List (List ℕ) → List (List ℕ × Line)
+passed_by lines = map (λ line. (line, Nothing)) lines
+
+-- of these lines the comments and blank lines at the front were passed, and then so many with the line before them; those are left
+abbrev pub Passes : List (List ℕ × Line) → List (List ℕ × Line) → ℕ → Type 0
+Passes lines left count = (passed : List (List ℕ)) × (lines ≡ passed_by passed ++ left) × (count ≡ length passed + 1)
 
 -- a command of a script
 pub record Check : Type 0 where

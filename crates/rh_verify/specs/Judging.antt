@@ -8,6 +8,7 @@ use Rattle.rh_script.specs.declared.script.Line.TheVariants.{Bad}
 use Rattle.rh_devices.specs.declared.fault.WriteFault.{WriteFault}
 use Rattle.rh_devices.specs.declared.watched.Watched.{Watched}
 use Rattle.rh_devices.specs.Devices.{Passed, WroteFront}
+use Rattle.rh_verify.specs.declared.blocks.Taken.{Taken}
 use Rattle.rh_verify.specs.declared.tally.Tally.{Tally}
 use Rattle.rh_verify.specs.declared.tally.Verdict.{Verdict}
 use Rattle.rh_verify.specs.Expected.{Check, checks, answers_in, wanted_among, is_checked}
@@ -44,6 +45,11 @@ with_checks c t xs = record {
 abbrev pub Gave : {K V : Type 0} → (K → K → List ℕ → Type 0) → (K → K → Type 0) → Result V WriteFault → List ℕ → V → Watched K → Watched K → Type 0
 Gave takes fails (Ok v) text owed old new = (v ≡ owed) × Passed takes old.inner new.inner text × (new.failed ≡ false)
 Gave takes fails (Err f) text owed old new = WroteFront takes fails f text old new
+
+-- whether the line that was taken is bad
+abbrev pub was_bad : Result Taken WriteFault → Result Bool WriteFault
+was_bad (Ok taken) = Ok taken.is_bad
+was_bad (Err f) = Err f
 
 -- a line was taken, which makes a command or none, and the other lines are left; or it is bad, and nothing was done
 abbrev pub Takes : {K : Type 0} → (K → K → List ℕ → Type 0) → (K → K → Type 0) → Result Bool WriteFault → ClusterView → SimView → SimView → Tally → Tally

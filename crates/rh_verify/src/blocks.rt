@@ -6,10 +6,10 @@ ghost use Rattle.rh_trail.specs.Lone.{served};
 ghost use Rattle.rh_script.specs.Commands.{line_of};
 ghost use Rattle.rh_app.specs.RunText.{bad_line, lines_asked};
 ghost use Rattle.rh_verify.specs.Spaces.{lines_of};
-ghost use Rattle.rh_verify.specs.Expected.{check_of, asked_by, checks, numbered, is_expectation};
+ghost use Rattle.rh_verify.specs.Expected.{check_of, asked_by, checks, Passes, numbered, is_expectation};
 ghost use Rattle.rh_verify.specs.Blocks.{block_text, stray_text};
 ghost use Rattle.rh_verify.specs.Counts.{tally_of};
-ghost use Rattle.rh_verify.specs.Judging.{verdict_on, Gave, Takes};
+ghost use Rattle.rh_verify.specs.Judging.{verdict_on, Gave, Takes, was_bad};
 
 use crate::expected::{is_expectation, lines_ahead};
 use crate::judging::{judged, stray_text};
@@ -66,55 +66,85 @@ pub fn write_blocks<K: Sink>(
         checked: 0,
         differing: 0,
     };
+    let mut behind = Vec::new(alloc);
     let mut rest = script;
     let mut passed: u64 = 0;
     'lines: while !rest.is_empty() {
         let (line, after) = split_line(rest);
-        let is_bad = take_line(
+        let taken = take_line(
             alloc,
             sim,
             first + passed,
             content(line),
             after,
+            &mut behind,
             &mut tally,
             writer,
         )?;
-        if is_bad {
+        if taken.is_bad {
             return Ok((tally, Some(passed + 1)));
         }
-        rest = after;
-        passed += 1;
+        rest = taken.rest;
+        passed += taken.count;
     }
     Ok((tally, None))
 }
 
-// Takes a line, and writes the block of its command, if it is one. The answer is whether it is bad.
-fn take_line<K: Sink>(
+// What was taken of a script: a line, and those that were read with it.
+#[derive(Clone, Copy)]
+pub struct Taken<'a> {
+    // Whether the line is bad.
+    pub is_bad: bool,
+    // What stands behind the lines that were taken, and how many they are.
+    pub rest: &'a [u8],
+    pub count: u64,
+}
+
+// Takes a line, and writes the block of its command, if it is one. With a command the comments and blank lines behind it are taken:
+// they are put into a list, whatever that held.
+fn take_line<'a, K: Sink>(
     alloc: Global,
     sim: &mut Sim,
     number: u64,
     line: &[u8],
-    after: &[u8],
+    after: &'a [u8],
+    behind: &mut Vec<&'a [u8]>,
     tally: &mut Tally,
     writer: &mut Watched<K>,
-) -> Result<bool, WriteFault>
+) -> Result<Taken<'a>, WriteFault>
     requires writer { writer.old.failed ≡ false }
     requires commands { tally.old.commands + 1 < 2 ^ 64 }
     requires checked { tally.old.checked + 1 < 2 ^ 64 }
     requires differing { tally.old.differing + 1 < 2 ^ 64 }
     ensures taken { let c = sim.old.seen.cluster in
-        Takes K.takes K.fails result c sim.old.seen sim.new.seen tally.old tally.new number (line.now, line_of c line.now)
+        Takes K.takes K.fails (was_bad result) c sim.old.seen sim.new.seen tally.old tally.new number (line.now, line_of c line.now)
         (asked_by c (lines_of after.now)) writer.old writer.new }
     ensures cluster { OnOk result (sim.new.seen.cluster ≡ sim.old.seen.cluster) }
+    ensures rest { let c = sim.old.seen.cluster in
+        IfOk result (λ taken. Passes (asked_by c (lines_of after.now)) (asked_by c (lines_of taken.rest.now)) taken.count) }
+    ensures some { IfOk result (λ taken. 1 ≤ taken.count) }
+    ensures within { IfOk result (λ taken. taken.count + length taken.rest.now ≤ length after.now + 1) }
 {
     match line_of(alloc, sim.cluster(), line)? {
-        Line::Nothing => Ok(false),
-        Line::Bad => Ok(true),
+        Line::Nothing => Ok(Taken {
+            is_bad: false,
+            rest: after,
+            count: 1,
+        }),
+        Line::Bad => Ok(Taken {
+            is_bad: true,
+            rest: after,
+            count: 1,
+        }),
         Line::Asks(call) => {
-            let behind = lines_ahead(alloc, sim.cluster(), after)?;
+            let rest = lines_ahead(alloc, sim.cluster(), behind, after)?;
             let verdict = write_block(alloc, sim, number, line, call, behind.as_slice(), writer)?;
             *tally = with_verdict(*tally, verdict);
-            Ok(false)
+            Ok(Taken {
+                is_bad: false,
+                rest,
+                count: behind.len() as u64 + 1,
+            })
         }
     }
 }

@@ -7,7 +7,7 @@ ghost use Rattle.rh_verify.specs.Spaces.{lines_of};
 ghost use Rattle.rh_verify.specs.VerifyText.{script_text, script_end, last_text, last_end, tally_end, verify_text, verify_end, OwesVerify};
 
 use crate::blocks::{write_blocks, write_stray};
-use crate::expected::lines_ahead;
+use crate::expected::lines_before;
 use crate::spaces::line_count;
 use crate::tally::{Tally, tally_text, with_stray};
 use rh_app::{RunFault, Told, answer_bad, ended, write_fault};
@@ -84,7 +84,7 @@ fn verify_script<K: Sink>(
     ensures { Wrote K.takes K.fails result (script_text cluster pick first (lines_of script.now))
         (script_end cluster pick first (lines_of script.now)) writer.old writer.new }
 {
-    let lines = lines_ahead(alloc, &cluster, script)?;
+    let lines = lines_before(alloc, &cluster, script)?;
     let count = write_stray(alloc, first, lines.as_slice(), writer)?;
     let mut sim = Sim::open(alloc, cluster, pick)?;
     let counted = write_blocks(alloc, &mut sim, first, script, writer)?;

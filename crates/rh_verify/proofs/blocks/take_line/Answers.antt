@@ -1,4 +1,5 @@
-use Rattle.std.proofs.Common.{◌≡◌, ◌∷◌, ℕ, List, map, true, false, Ok, Err, sym, ap, subst, ◌∙◌}
+use Rattle.std.proofs.Common.{◌≡◌, ◌+◌, [], ◌∷◌, ◌++◌, ℕ, List, length, map, vec_len, true, false, Ok, Err, refl, sym, ap, subst, ◌∙◌, arith}
+use Rattle.std.proofs.lemmas.List.{length-map}
 use Rattle.std.specs.List.{flat_map}
 use Rattle.std.specs.Borrow.{Bor}
 use Rattle.std.proofs.lemmas.Result.{err_from_is_err_and}
@@ -9,7 +10,7 @@ use Rattle.rh_script.specs.declared.script.Line.{Line}
 use Rattle.rh_script.specs.declared.script.Line.TheVariants.{Nothing, Asks, Bad}
 use Rattle.rh_script.specs.Commands.{line_of}
 use Rattle.rh_verify.specs.Spaces.{lines_of}
-use Rattle.rh_verify.specs.Expected.{check_of, asked_by, ahead, checks}
+use Rattle.rh_verify.specs.Expected.{check_of, asked_by, ahead, passed_by, checks}
 use Rattle.rh_verify.specs.Blocks.{block_text}
 use Rattle.rh_verify.specs.Judging.{verdict_on, Gave}
 use Rattle.rh_verify.proofs.Turning.{takes_nothing, takes_bad, takes_call, call_fails}
@@ -26,11 +27,11 @@ returns-in_err-line_of-clause-taken g c =
       c.requires.writer,
     )
 
-pub returns-in_err-behind-in-Asks-clause-taken : goal.returns-in_err-behind-in-Asks-clause-taken
-returns-in_err-behind-in-Asks-clause-taken g c =
+pub returns-in_err-rest-in-Asks-clause-taken : goal.returns-in_err-rest-in-Asks-clause-taken
+returns-in_err-rest-in-Asks-clause-taken g c =
     let k = c.args.sim.now.seen.cluster in
     let line = c.args.line.now in
-    let p = err_from_is_err_and c.from_residual-in_err-behind-in-Asks.result c.from_residual-in_err-behind-in-Asks.ensures.1 in
+    let p = err_from_is_err_and c.from_residual-in_err-rest-in-Asks.result c.from_residual-in_err-rest-in-Asks.ensures.1 in
     rw (p.1, p.2) (
       nothing_yet g.K.Sink.takes g.K.Sink.fails c.args.writer.now.inner
           (flat_map (block_text k) (checks c.args.sim.now.seen c.args.number ((line, line_of k line) ∷ asked_by k (lines_of c.args.after.now)))),
@@ -62,7 +63,7 @@ returns-in_err-verdict-in-Asks-clause-taken g c =
     let call = c.in-Asks.call in
     let f = c.in_err-verdict-in-Asks.field-0.0 in
     let asked = sym c.in-Asks.is ∙ c.in_ok-line_of.ensures ∙ ap (λ (k : ClusterView). line_of k line) c.cluster.ensures in
-    let behind = ap (map (λ (l : Bor (List ℕ)). l.now)) c.as_slice.ensures.value ∙ c.in_ok-behind-in-Asks.ensures.lines
+    let behind = ap (map (λ (l : Bor (List ℕ)). l.now)) c.as_slice.ensures.value ∙ c.in_ok-rest-in-Asks.ensures.lines
     ∙ ap (λ (k : ClusterView). ahead (asked_by k (lines_of c.args.after.now))) c.cluster-in-Asks.ensures in
     let p = err_from_is_err_and c.from_residual-in_err-verdict-in-Asks.result c.from_residual-in_err-verdict-in-Asks.ensures.1 in
     rw (p.1, p.2)
@@ -80,7 +81,7 @@ returns-in_ok-verdict-in-Asks-clause-taken g c =
     let call = c.in-Asks.call in
     let v = c.in_ok-verdict-in-Asks.verdict in
     let asked = sym c.in-Asks.is ∙ c.in_ok-line_of.ensures ∙ ap (λ (k : ClusterView). line_of k line) c.cluster.ensures in
-    let behind = ap (map (λ (l : Bor (List ℕ)). l.now)) c.as_slice.ensures.value ∙ c.in_ok-behind-in-Asks.ensures.lines
+    let behind = ap (map (λ (l : Bor (List ℕ)). l.now)) c.as_slice.ensures.value ∙ c.in_ok-rest-in-Asks.ensures.lines
     ∙ ap (λ (k : ClusterView). ahead (asked_by k (lines_of c.args.after.now))) c.cluster-in-Asks.ensures in
     takes_call takes fails k c.args.sim.now.seen c.write_block.new.sim.seen c.args.tally.now c.with_verdict.result c.args.number line (line_of k line)
     (asked_by k (lines_of c.args.after.now)) c.args.writer.now c.write_block.new.writer call (sym asked) v c.in_ok-verdict-in-Asks.ensures.sim
@@ -88,3 +89,21 @@ returns-in_ok-verdict-in-Asks-clause-taken g c =
     (verdict_on k (check_of c.args.number line c.args.sim.now.seen call ls)) c.args.writer.now c.write_block.new.writer)
     behind c.in_ok-verdict-in-Asks.ensures.text)
     c.with_verdict.ensures
+
+pub returns-in-Nothing-clause-rest : goal.returns-in-Nothing-clause-rest
+returns-in-Nothing-clause-rest g c = ([], refl, refl)
+
+pub returns-in-Bad-clause-rest : goal.returns-in-Bad-clause-rest
+returns-in-Bad-clause-rest g c = ([], refl, refl)
+
+pub returns-in_ok-verdict-in-Asks-clause-rest : goal.returns-in_ok-verdict-in-Asks-clause-rest
+returns-in_ok-verdict-in-Asks-clause-rest g c =
+    let items = c.lines_ahead.new.lines.items in
+    let lines = map (λ (l : Bor (List ℕ)). l.now) items in
+    let own : c.len.result ≡ vec_len c.lines_ahead.new.lines = c.len.ensures in
+    let many : c.len.result ≡ length lines = omega (arith, own, length-map items (λ (l : Bor (List ℕ)). l.now)) in (
+      lines,
+      subst (λ (k : ClusterView). asked_by k (lines_of c.args.after.now) ≡ passed_by lines ++ asked_by k (lines_of c.in_ok-rest-in-Asks.rest.now))
+          c.cluster-in-Asks.ensures c.in_ok-rest-in-Asks.ensures.rest,
+      ap (λ (n : ℕ). n + 1) many,
+    )

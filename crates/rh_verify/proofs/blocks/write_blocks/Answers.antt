@@ -8,11 +8,11 @@ use Rattle.rh_devices.proofs.Passing.{passed_none}
 use Rattle.rh_script.specs.Commands.{line_of}
 use Rattle.rh_app.specs.RunText.{bad_line, lines_asked}
 use Rattle.rh_verify.specs.Spaces.{lines_of}
-use Rattle.rh_verify.specs.Expected.{asked_by, checks}
+use Rattle.rh_verify.specs.Expected.{Check, asked_by, checks, Passes}
 use Rattle.rh_verify.specs.Judging.{Takes}
 use Rattle.rh_verify.proofs.Texts.{asked_as, lines_as}
 use Rattle.rh_verify.proofs.Counting.{within}
-use Rattle.rh_verify.proofs.Turning.{goes_on, breaks, stops, ends_here, told_so_far, bad_next, bad_here}
+use Rattle.rh_verify.proofs.Turning.{goes_on, breaks, stops, ends_here, told_so_far, bad_next, bad_here, checks_left, bad_left}
 use Rattle.rh_verify.proofs.blocks.write_blocks.Goals as goal
 
 pub take_line-requires-clause-commands : goal.take_line-requires-clause-commands
@@ -41,15 +41,15 @@ returns-clause-counted g c =
     let so_far = c.lines.invariant in
     within c.args.sim.now.seen.cluster so_far.text.0 c.lines.tally (length c.args.script.now) so_far.text.3 (omega (arith, so_far.text.4, so_far.count))
 
-pub returns-then-is_bad-clause-counted : goal.returns-then-is_bad-clause-counted
-returns-then-is_bad-clause-counted g c =
+pub returns-then-taken-clause-counted : goal.returns-then-taken-clause-counted
+returns-then-taken-clause-counted g c =
     let so_far = c.lines.invariant in
     let k = c.args.sim.now.seen.cluster in
     let r = c.content.result.now in
-    let turn = rw c.if-is_bad.true at (subst (λ (x : ClusterView). Takes g.K.Sink.takes g.K.Sink.fails (Ok c.in_ok-is_bad.is_bad) x c.lines.sim.seen
+    let turn = rw c.if-taken.true at (subst (λ (x : ClusterView). Takes g.K.Sink.takes g.K.Sink.fails (Ok c.in_ok-taken.taken.is_bad) x c.lines.sim.seen
     c.take_line.new.sim.seen c.lines.tally c.take_line.new.tally (c.args.first + c.lines.passed) (r, line_of x r)
     (asked_by x (lines_of c.split_line.result.1.now)) c.lines.writer c.take_line.new.writer)
-    so_far.same c.in_ok-is_bad.ensures.taken) in
+    so_far.same c.in_ok-taken.ensures.taken) in
     within k so_far.text.0 c.take_line.new.tally (length c.args.script.now) (turn.1 ∙ so_far.text.3) (omega (arith, so_far.text.4, so_far.count))
 
 pub lines-init : goal.lines-init
@@ -80,23 +80,42 @@ lines-preserved g c =
     let line = c.split_line.result.0.now in
     let after = c.split_line.result.1.now in
     let so_far = c.lines.invariant in
-    let turn = rw c.if-is_bad.false at (subst (λ (x : ClusterView). Takes takes fails (Ok c.in_ok-is_bad.is_bad) x c.lines.sim.seen c.take_line.new.sim.seen
+    let turn = rw c.if-taken.false at (subst (λ (x : ClusterView). Takes takes fails (Ok c.in_ok-taken.taken.is_bad) x c.lines.sim.seen c.take_line.new.sim.seen
     c.lines.tally c.take_line.new.tally (c.args.first + c.lines.passed) (r, line_of x r) (asked_by x (lines_of after)) c.lines.writer c.take_line.new.writer)
-    so_far.same c.in_ok-is_bad.ensures.taken) in
+    so_far.same c.in_ok-taken.ensures.taken) in
+    let passes = subst (λ (x : ClusterView). Passes (asked_by x (lines_of after)) (asked_by x (lines_of c.in_ok-taken.taken.rest.now)) c.in_ok-taken.taken.count)
+    so_far.same c.in_ok-taken.ensures.rest in
+    let left = lines_of c.in_ok-taken.taken.rest.now in
+    let count = c.in_ok-taken.taken.count in
+    let text = goes_on takes fails k c.args.sim.now.seen c.lines.sim.seen c.take_line.new.sim.seen c.args.first c.lines.passed
+    (asked_by k (lines_of c.args.script.now)) (asked_by k (lines_of rest)) (asked_by k (lines_of after)) (r, line_of k r)
+    c.args.writer.now c.lines.writer c.take_line.new.writer c.lines.tally c.take_line.new.tally so_far.text.0
+    (asked_as rest line after c.split_line.ensures.line k r c.content.ensures) so_far.text.1 so_far.text.2 so_far.text.3 so_far.text.4 turn in
+    let near : c.args.first + (c.lines.passed + 1) ≡ (c.args.first + c.lines.passed) + 1 = omega arith in
+    let far : (c.args.first + c.lines.passed) + count ≡ c.args.first + (c.lines.passed + count) = omega arith in
+    let few = text.4 in
+    let some = c.in_ok-taken.ensures.some in
     record {
-      text = goes_on takes fails k c.args.sim.now.seen c.lines.sim.seen c.take_line.new.sim.seen c.args.first c.lines.passed
-          (asked_by k (lines_of c.args.script.now)) (asked_by k (lines_of rest)) (asked_by k (lines_of after)) (r, line_of k r)
-          c.args.writer.now c.lines.writer c.take_line.new.writer c.lines.tally c.take_line.new.tally so_far.text.0
-          (asked_as rest line after c.split_line.ensures.line k r c.content.ensures) so_far.text.1 so_far.text.2 so_far.text.3 so_far.text.4 turn;
+      text = (
+        text.0,
+        text.1,
+        text.2 ∙ ap (λ (n : ℕ). text.0 ++ checks c.take_line.new.sim.seen n (asked_by k (lines_of after))) near
+            ∙ ap (λ (xs : List Check). text.0 ++ xs) (checks_left k (lines_of after) left count passes c.take_line.new.sim.seen (c.args.first + c.lines.passed))
+            ∙ ap (λ (n : ℕ). text.0 ++ checks c.take_line.new.sim.seen n (asked_by k left)) far,
+        text.3,
+        omega (arith, few, some),
+      );
       bad = so_far.bad ∙ ap (bad_line (c.lines.passed + 1)) (lines_as rest line after c.split_line.ensures.line k r c.content.ensures)
-          ∙ bad_next (c.lines.passed + 1) (line_of k r) (lines_asked k (lines_of after)) turn.3;
+          ∙ bad_next (c.lines.passed + 1) (line_of k r) (lines_asked k (lines_of after)) turn.3
+          ∙ bad_left k (lines_of after) left count passes (c.lines.passed + 1)
+          ∙ ap (λ (n : ℕ). bad_line n (lines_asked k left)) (omega arith);
       watch = turn.6;
-      same = c.in_ok-is_bad.ensures.cluster ∙ so_far.same;
-      count = omega (arith, so_far.count, c.split_line.ensures.shorter);
+      same = c.in_ok-taken.ensures.cluster ∙ so_far.same;
+      count = omega (arith, so_far.count, c.split_line.ensures.shorter, c.in_ok-taken.ensures.within);
     }
 
-pub returns-in_err-is_bad-clause-text : goal.returns-in_err-is_bad-clause-text
-returns-in_err-is_bad-clause-text g c =
+pub returns-in_err-taken-clause-text : goal.returns-in_err-taken-clause-text
+returns-in_err-taken-clause-text g c =
     let takes = g.K.Sink.takes in
     let fails = g.K.Sink.fails in
     let k = c.args.sim.now.seen.cluster in
@@ -104,11 +123,11 @@ returns-in_err-is_bad-clause-text g c =
     let rest = c.lines.rest.now in
     let line = c.split_line.result.0.now in
     let after = c.split_line.result.1.now in
-    let f = c.in_err-is_bad.field-0.0 in
+    let f = c.in_err-taken.field-0.0 in
     let so_far = c.lines.invariant in
     let turn = subst (λ (x : ClusterView). Takes takes fails (Err f) x c.lines.sim.seen c.take_line.new.sim.seen
     c.lines.tally c.take_line.new.tally (c.args.first + c.lines.passed) (r, line_of x r) (asked_by x (lines_of after)) c.lines.writer c.take_line.new.writer)
-    so_far.same c.in_err-is_bad.ensures.taken in
+    so_far.same c.in_err-taken.ensures.taken in
     let p = err_from_is_err_and c.from_residual.result c.from_residual.ensures.1 in
     rw (p.1, p.2)
     (breaks takes fails k c.args.sim.now.seen c.lines.sim.seen c.take_line.new.sim.seen c.args.first c.lines.passed
@@ -116,8 +135,8 @@ returns-in_err-is_bad-clause-text g c =
     c.args.writer.now c.lines.writer c.take_line.new.writer c.lines.tally c.take_line.new.tally so_far.text.0
     (asked_as rest line after c.split_line.ensures.line k r c.content.ensures) so_far.text.1 so_far.text.2 so_far.text.3 so_far.text.4 f turn)
 
-pub returns-then-is_bad-clause-text : goal.returns-then-is_bad-clause-text
-returns-then-is_bad-clause-text g c =
+pub returns-then-taken-clause-text : goal.returns-then-taken-clause-text
+returns-then-taken-clause-text g c =
     let takes = g.K.Sink.takes in
     let fails = g.K.Sink.fails in
     let k = c.args.sim.now.seen.cluster in
@@ -126,9 +145,9 @@ returns-then-is_bad-clause-text g c =
     let line = c.split_line.result.0.now in
     let after = c.split_line.result.1.now in
     let so_far = c.lines.invariant in
-    let turn = rw c.if-is_bad.true at (subst (λ (x : ClusterView). Takes takes fails (Ok c.in_ok-is_bad.is_bad) x c.lines.sim.seen c.take_line.new.sim.seen
+    let turn = rw c.if-taken.true at (subst (λ (x : ClusterView). Takes takes fails (Ok c.in_ok-taken.taken.is_bad) x c.lines.sim.seen c.take_line.new.sim.seen
     c.lines.tally c.take_line.new.tally (c.args.first + c.lines.passed) (r, line_of x r) (asked_by x (lines_of after)) c.lines.writer c.take_line.new.writer)
-    so_far.same c.in_ok-is_bad.ensures.taken) in
+    so_far.same c.in_ok-taken.ensures.taken) in
     let here = asked_as rest line after c.split_line.ensures.line k r c.content.ensures in
     let whole = stops takes fails k c.args.sim.now.seen c.lines.sim.seen c.take_line.new.sim.seen c.args.first c.lines.passed
     (asked_by k (lines_of c.args.script.now)) (asked_by k (lines_of rest)) (asked_by k (lines_of after)) (r, line_of k r)
