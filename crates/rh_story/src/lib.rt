@@ -6,7 +6,6 @@
 
 mod head;
 mod lines;
-mod notices;
 mod reasons;
 mod story;
 mod table;
