@@ -1,6 +1,6 @@
 //! A key as it is kept.
 
-ghost use Rattle.std.specs.Prelude.{◌≡◌, ◌++◌, [], OnOk, IfOk};
+ghost use Rattle.std.specs.Prelude.{◌≡◌, ◌≤◌, ◌++◌, [], OnOk, IfOk};
 ghost use Rattle.rh_explore.specs.Codes.{number_code};
 
 use rh_base::OutOfMemory;
@@ -57,6 +57,17 @@ pub(super) fn push_number(bytes: &mut Vec<u8>, number: u64) -> Result<(), OutOfM
         bytes.push(number as u8)?;
         return Ok(());
     }
+    push_large(bytes, number)
+}
+
+// Adds a number that takes more than one byte. It stands apart, so that the others, nearly all, are added without a call.
+#[tactic(auto, unfolding(crate::specs::Codes::number_code))]
+#[cold]
+#[inline(never)]
+fn push_large(bytes: &mut Vec<u8>, number: u64) -> Result<(), OutOfMemory>
+    requires { 255 ≤ number }
+    ensures { OnOk result (bytes.new.items ≡ bytes.old.items ++ number_code number) }
+{
     bytes.push(255)?;
     bytes.extend_from_slice(number.to_le_bytes().as_slice())?;
     Ok(())

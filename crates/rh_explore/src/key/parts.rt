@@ -64,9 +64,26 @@ fn push_app(key: &mut Vec<u8>, app: App) -> Result<(), OutOfMemory>
     Ok(())
 }
 
-// Adds what is said of each pair of a node: two bytes each, in the cluster's order of applications.
+// Adds what is said of each pair of a node, pair by pair.
 #[tactic(auto, unfolding(rh_state::specs::Numbers::apps_of))]
-fn push_pairs(key: &mut Vec<u8>, state: &State, node: Node) -> Result<(), OutOfMemory>
+fn push_each_pair(key: &mut Vec<u8>, state: &State, node: Node) -> Result<(), OutOfMemory>
+    requires { node.0 < node_count (read state.now).cluster }
+    ensures { OnOk result (key.new.items ≡ key.old.items ++ code (flat_map (pair_numbers (read state.now) node) (apps_of (read state.now).cluster))) }
+{
+    let count = state.cluster().app_count();
+    for number in 0..count {
+        let app = App(number as u8);
+        key.extend_from_slice(&[
+            restart_byte(state.restart_of(node, app)),
+            permission_byte(state.allowed(node, app)),
+        ])?;
+    }
+    Ok(())
+}
+
+// The same, by way of a row of its own: a key then grows once for a node.
+#[tactic(auto, unfolding(rh_state::specs::Numbers::apps_of))]
+fn push_row(key: &mut Vec<u8>, state: &State, node: Node) -> Result<(), OutOfMemory>
     requires { node.0 < node_count (read state.now).cluster }
     ensures { OnOk result (key.new.items ≡ key.old.items ++ code (flat_map (pair_numbers (read state.now) node) (apps_of (read state.now).cluster))) }
 {
@@ -80,6 +97,22 @@ fn push_pairs(key: &mut Vec<u8>, state: &State, node: Node) -> Result<(), OutOfM
     }
     key.extend_from_slice(&row[..2 * count])?;
     Ok(())
+}
+
+// So many applications are few: their pairs are pushed one by one. A row is copied as a whole, and that has to wait until its bytes,
+// which were written one by one, can be read again.
+const FEW: usize = 8;
+
+// Adds what is said of each pair of a node: two bytes each, in the cluster's order of applications.
+fn push_pairs(key: &mut Vec<u8>, state: &State, node: Node) -> Result<(), OutOfMemory>
+    requires { node.0 < node_count (read state.now).cluster }
+    ensures { OnOk result (key.new.items ≡ key.old.items ++ code (flat_map (pair_numbers (read state.now) node) (apps_of (read state.now).cluster))) }
+{
+    if state.cluster().app_count() <= FEW {
+        push_each_pair(key, state, node)
+    } else {
+        push_row(key, state, node)
+    }
 }
 
 // Adds where an application stands.

@@ -1,0 +1,10 @@
+use Rattle.std.proofs.Common.{◌≡◌, ◌++◌, map}
+use Rattle.std.specs.List.{flat_map, range_with_len}
+use Rattle.rh_model.specs.ClusterView.{app_numbered}
+use Rattle.rh_state.specs.Stored.{read}
+use Rattle.rh_explore.specs.Codes.{code}
+use Rattle.rh_explore.specs.Keys.{pair_numbers}
+use Rattle.rh_explore.proofs.key.parts.push_each_pair.Given as goal
+
+abbrev pub invariant-loop-number : goal.invariant-loop-number
+invariant-loop-number l = l.key.items ≡ l.fn.key.items ++ code (flat_map (pair_numbers (read l.fn.state) l.fn.node) (map app_numbered (range_with_len 0 l.number)))
