@@ -12,6 +12,7 @@ pub mod PathsTo
 pub mod FailuresTold
 pub mod Searched
 pub mod OneMore
+pub mod Parents
 pub mod Reached
 pub mod Told
 pub mod Zips

@@ -1,8 +1,7 @@
 -- One state more is kept.
-use Rattle.std.proofs.Common.{◌≡◌, ◌≤◌, ℕ, List, [], ◌∷◌, ◌++◌, map, drop, length, Some, sym, ap, ◌∙◌, subst, arith}
-use Rattle.std.proofs.lemmas.List.{map_push, length-map, drop-append-le}
+use Rattle.std.proofs.Common.{◌≡◌, ℕ, List, [], ◌∷◌, ◌++◌, Some, sym, ap, ◌∙◌, subst}
+use Rattle.std.proofs.lemmas.List.{map_push}
 use Rattle.rh_state.specs.StateView.{StateView}
-use Rattle.rh_state.specs.Stored.{Stored, read}
 use Rattle.rh_rules.specs.declared.event.Event.{Event}
 use Rattle.rh_trail.specs.Runs.{step}
 use Rattle.rh_explore.specs.declared.asking.Ask.{Ask}
@@ -24,28 +23,18 @@ more_is w found at e g last =
     ap (λ o. seen_by w (path_by (paths_of found) o)) last
     ∙ (λ i. record { path = path_at found at ++ e ∷ []; state = behind_push w w.base (path_at found at) e i })
 
-pub kept_more : (w : Scope) (asks : List Ask) (old new : Space) (n : ℕ) (y : Seen) (state : Stored) → IsKept w asks old n
+pub kept_more : (w : Scope) (asks : List Ask) (old new : Space) (y : Seen) → IsKept w asks old
     → AreLinked new.found.items
     → seen_of w new.found.items ≡ seen_of w old.found.items ++ y ∷ []
     → bytes_of new ≡ bytes_of old ++ code (key_of y.state) ∷ []
-    → new.front.items ≡ old.front.items ++ state ∷ []
-    → read state ≡ y.state
     → AreFailures new.failures.firsts.items new.failures.left.items asks (states_of (seen_of w old.found.items) ++ y.state ∷ [])
-    → n ≤ length (seen_of w old.found.items)
-    → IsKept w asks new n
-kept_more w asks old new n y state kept linked more bytes front is failures few =
+    → IsKept w asks new
+kept_more w asks old new y kept linked more bytes failures =
     let seen = seen_of w old.found.items in
     let state_in = λ (x : Seen). x.state in
-    let long = length-map seen state_in in
     record {
       linked = linked;
       codes = bytes ∙ ap (λ (l : List (List ℕ)). l ++ code (key_of y.state) ∷ []) kept.codes ∙ sym (map_push code_in seen y) ∙ ap codes_of (sym more);
-      front = ap (map read) front
-          ∙ map_push read old.front.items state
-          ∙ (λ i. kept.front i ++ is i ∷ [])
-          ∙ sym (drop-append-le n (states_of seen) (y.state ∷ []) (omega (arith, few, long)))
-          ∙ ap (drop n) (sym (map_push state_in seen y))
-          ∙ ap (λ (s : List Seen). drop n (states_of s)) (sym more);
       failures = subst (λ (l : List StateView). AreFailures new.failures.firsts.items new.failures.left.items asks l)
           (sym (ap states_of more ∙ map_push state_in seen y)) failures;
     }

@@ -6,10 +6,9 @@ use Rattle.std.proofs.lemmas.List.{length_push, length-map, length-drop, map_pus
 use Rattle.std.proofs.lemmas.Option.{slice_get-map, slice_get_within, slice_get-get_or, none-some, same_Some}
 use Rattle.rh_rules.specs.declared.event.Event.{Event}
 use Rattle.rh_explore.specs.declared.space.Found.{Found}
-use Rattle.rh_state.specs.StateView.{StateView}
 use Rattle.rh_explore.specs.Reaching.{Scope}
 use Rattle.rh_explore.specs.Spaces.{Seen}
-use Rattle.rh_explore.specs.Kept.{path_by, with_path, paths_of, seen_by, seen_of, states_of, AreLinked, GoesOnFrom}
+use Rattle.rh_explore.specs.Kept.{path_by, with_path, paths_of, seen_by, seen_of, AreLinked, GoesOnFrom}
 use Rattle.rh_explore.proofs.Places.{at_front}
 
 fold_push : {A B : Type 0} (f : B → A → B) (b : B) (xs : List A) (x : A) → fold f b (xs ++ x ∷ []) ≡ f (fold f b xs) x
@@ -160,8 +159,3 @@ drop_first xs n y ys e =
 
     tails : {A : Type 0} {a b : A} {r t : List A} → a ∷ r ≡ b ∷ t → r ≡ t
     tails e = cc
-
--- a state, and what was seen there
-pub state_there : (seen : List Seen) (k : ℕ) (x : Seen) (s : StateView) → slice_get seen k ≡ Some x → slice_get (states_of seen) k ≡ Some s → s ≡ x.state
-state_there seen k x s at is =
-    same_Some s x.state (sym is ∙ slice_get-map (λ (y : Seen). y.state) seen k ∙ ap (option_map (λ (y : Seen). y.state)) at)

@@ -1,10 +1,15 @@
 -- What was found, as it is kept (ours).
-use Rattle.std.specs.Prelude.{◌≡◌, ◌<◌, ℕ, List, [], ◌∷◌, ◌++◌, Option, Some, None, length, map, fold, drop, unwrap_or, slice_get}
+use Rattle.std.specs.Prelude.{◌≡◌, ◌<◌, ◌+◌, ◌-◌, ℕ, List, [], ◌∷◌, ◌++◌, Option, Some, None, length, map, fold, take, drop, replicate, unwrap_or, slice_get}
+use Rattle.std.specs.List.{flat_map}
 use Rattle.rh_state.specs.StateView.{StateView}
 use Rattle.rh_state.specs.Stored.{read}
 use Rattle.rh_rules.specs.declared.event.Event.{Event}
 use Rattle.rh_explore.specs.declared.asking.Ask.{Ask}
 use Rattle.rh_explore.specs.declared.bounds.Bounds.{Bounds}
+use Rattle.rh_rules.specs.declared.pick.Pick.{Pick}
+use Rattle.rh_trail.specs.Runs.{step}
+use Rattle.rh_explore.specs.declared.front.Front.{Front}
+use Rattle.rh_explore.specs.declared.front.Parent.{Parent}
 use Rattle.rh_explore.specs.declared.reaching.Probe.{Probe}
 use Rattle.rh_explore.specs.declared.space.Found.{Found}
 use Rattle.rh_explore.specs.declared.space.Space.{Space}
@@ -51,12 +56,64 @@ codes_of seen = map code_in seen
 abbrev pub bytes_of : Space → List (List ℕ)
 bytes_of space = map (λ key. key.bytes.items) space.keys.keys
 
--- the key of each is kept, the states but for the first so many, and what fails in which
-pub record IsKept (w : Scope) (asks : List Ask) (space : Space) (done : ℕ) : Type 0 where
+-- the key of each is kept, and what fails in which
+pub record IsKept (w : Scope) (asks : List Ask) (space : Space) : Type 0 where
   pub linked : AreLinked space.found.items
   pub codes : bytes_of space ≡ codes_of (seen_of w space.found.items)
-  pub front : map read space.front.items ≡ drop done (states_of (seen_of w space.found.items))
   pub failures : AreFailures space.failures.firsts.items space.failures.left.items asks (states_of (seen_of w space.found.items))
+
+-- ---- the states whose events weren't made yet, by those from which they were found
+
+-- the state from which one was found: that behind all of its events but the last one
+abbrev pub parent_by : Scope → Seen → StateView
+parent_by w x = behind w w.base (take (length x.path - 1) x.path)
+
+abbrev pub parents_of : Scope → List Seen → List StateView
+parents_of w seen = map (parent_by w) seen
+
+-- the state that was found from it
+abbrev pub child_by : Pick → StateView → Option (ℕ × Event) → StateView
+child_by pick s None = s
+child_by pick s (Some (from, e)) = step pick s e
+
+-- a state, as often as others were found from it
+abbrev pub repeated : Parent → List StateView
+repeated p = read p.state ∷ replicate p.more (read p.state)
+
+-- those from which the states that are left were found
+abbrev pub waiting_in : Front → List StateView
+waiting_in front = replicate front.left (read front.probe.state) ++ flat_map repeated front.parents.items
+
+-- no event is made
+pub record IsIdle (probe : Probe) : Type 0 where
+  pub none : probe.edits.items ≡ []
+  pub unmoved : probe.entered.items ≡ []
+
+-- all but the first so many states are left, in their order
+pub record IsFront (w : Scope) (space : Space) (done : ℕ) : Type 0 where
+  pub idle : IsIdle space.front.probe
+  pub waiting : waiting_in space.front ≡ drop done (parents_of w (seen_of w space.found.items))
+
+-- and the next one is made of that of the probe
+pub record IsTakenUp (w : Scope) (space : Space) (at : ℕ) : Type 0 where
+  pub parent : slice_get (parents_of w (seen_of w space.found.items)) at ≡ Some (read space.front.probe.state)
+  pub front : IsFront w space (at + 1)
+
+-- what is left stays, and how the state of the probe was found
+pub record IsSameFront (old new : Front) : Type 0 where
+  pub parents : new.parents.items ≡ old.parents.items
+  pub left : new.left ≡ old.left
+  pub entered : new.probe.entered.items ≡ old.probe.entered.items
+
+-- the event that was tried is taken back
+pub record IsTakenBack (old new : Probe) : Type 0 where
+  pub state : new.state ≡ old.state
+  pub none : new.edits.items ≡ []
+
+-- all that were found since were found from this state
+abbrev pub IsFamily : Scope → StateView → List Found → List Found → Type 0
+IsFamily w s old new =
+    (n : ℕ) × (length new ≡ length old + n) × (parents_of w (seen_of w new) ≡ parents_of w (seen_of w old) ++ replicate n s)
 
 -- events may follow in the state of this number
 abbrev pub IsShort : Bounds → List Found → ℕ → Type 0

@@ -9,6 +9,7 @@ mod answers;
 mod asking;
 mod bounds;
 mod failures;
+mod front;
 mod key;
 mod laws;
 mod paths;

@@ -1,6 +1,6 @@
 //! One step from a state that was reached, and back.
 
-ghost use Rattle.std.specs.Prelude.{◌≡◌, ◌≤◌, ◌<◌, [], not, if◌then◌else◌, None, Some, IfOk, OnOk};
+ghost use Rattle.std.specs.Prelude.{◌≡◌, ◌≤◌, ◌<◌, ℕ, [], not, if◌then◌else◌, None, Some, IfOk, OnOk};
 ghost use Rattle.rh_base.specs.Exchanges.{back, AllBack};
 ghost use Rattle.rh_model.specs.ClusterView.{node_count};
 ghost use Rattle.rh_state.specs.Edits.{exchange};
@@ -13,6 +13,7 @@ ghost use Rattle.rh_settle.specs.Validity.{IsValid};
 ghost use Rattle.rh_trail.specs.Runs.{step};
 ghost use Rattle.rh_explore.specs.Reaching.{not_up_count};
 ghost use Rattle.rh_explore.specs.Spaces.{StepsTo};
+ghost use Rattle.rh_explore.specs.Kept.{child_by};
 
 use rh_base::OutOfMemory;
 use rh_model::Node;
@@ -35,6 +36,8 @@ pub(crate) enum Way {
 #[derive(Drop)]
 pub(crate) struct Probe {
     pub(crate) state: State,
+    // What the event that led to this state from the one before it has changed, if there is one.
+    entered: Vec<Edit>,
     // What the event that is tried has changed. Like the notices, the edits of the next one are kept in the same memory.
     edits: Vec<Edit>,
     // What it told, which nobody reads.
@@ -46,9 +49,11 @@ impl Probe {
     pub(crate) fn of(alloc: Global, state: State) -> Probe
         ensures state { result.state ≡ state }
         ensures none { result.edits.items ≡ [] }
+        ensures unmoved { result.entered.items ≡ [] }
     {
         Probe {
             state,
+            entered: Vec::new(alloc),
             edits: Vec::new(alloc),
             notices: Vec::new(alloc),
         }
@@ -58,9 +63,51 @@ impl Probe {
     pub(crate) fn begin(&mut self, state: State)
         ensures state { self.new.state ≡ state }
         ensures none { self.new.edits.items ≡ [] }
+        ensures unmoved { self.new.entered.items ≡ [] }
     {
         self.state = state;
+        self.entered.clear();
         self.edits.clear();
+    }
+
+    /// Goes over to the state that was found from this one by an event, if there is one, which was accepted then.
+    #[tactic(auto, unfolding(rh_trail::specs::Runs::step))]
+    pub(crate) fn enter(
+        &mut self,
+        alloc: Global,
+        last: Option<(usize, Event)>,
+        pick: Pick,
+    ) -> Result<(), OutOfMemory>
+        requires accepted { (from : ℕ) (e : Event) → last ≡ Some (from, e) → refused (read self.old.state) e ≡ None }
+        requires valid { IsValid (read self.old.state) }
+        requires unmoved { self.old.entered.items ≡ [] }
+        ensures state { OnOk result (read self.new.state ≡ child_by pick (read self.old.state) last) }
+        ensures led { OnOk result (LedBy self.old.state self.new.entered.items self.new.state) }
+        ensures edits { OnOk result (self.new.edits.items ≡ self.old.edits.items) }
+    {
+        self.notices.clear();
+        match last {
+            None => Ok(()),
+            Some((_, event)) => perform(
+                alloc,
+                &mut self.state,
+                &event,
+                pick,
+                &mut self.entered,
+                &mut self.notices,
+            ),
+        }
+    }
+
+    /// Goes back to the state from which this one was found.
+    pub(crate) fn leave(&mut self)
+        requires { AllBack exchange CanGoBack self.old.state self.old.entered.items }
+        ensures state { self.new.state ≡ back exchange self.old.state self.old.entered.items }
+        ensures unmoved { self.new.entered.items ≡ [] }
+        ensures edits { self.new.edits.items ≡ self.old.edits.items }
+    {
+        go_back(self.entered.as_mut_slice(), &mut self.state);
+        self.entered.clear();
     }
 
     /// Makes an event, and says where it leads, if no more nodes may not be up behind it than these.
@@ -75,6 +122,7 @@ impl Probe {
         requires none { self.old.edits.items ≡ [] }
         ensures way { IfOk result (λ way. StepsTo pick down (read self.old.state) event.now way (read self.new.state)) }
         ensures led { OnOk result (LedBy self.old.state self.new.edits.items self.new.state) }
+        ensures entered { self.new.entered.items ≡ self.old.entered.items }
     {
         if let Some(refusal) = refusal_of(&self.state, event) {
             if is_limit(refusal) {
@@ -99,6 +147,7 @@ impl Probe {
         ensures valid { OnOk result (IsValid (read self.new.state)) }
         ensures cluster { OnOk result ((read self.new.state).cluster ≡ (read self.old.state).cluster) }
         ensures led { OnOk result (LedBy self.old.state self.new.edits.items self.new.state) }
+        ensures entered { self.new.entered.items ≡ self.old.entered.items }
     {
         self.notices.clear();
         perform(
@@ -116,6 +165,7 @@ impl Probe {
         requires { AllBack exchange CanGoBack self.old.state self.old.edits.items }
         ensures state { self.new.state ≡ back exchange self.old.state self.old.edits.items }
         ensures none { self.new.edits.items ≡ [] }
+        ensures entered { self.new.entered.items ≡ self.old.entered.items }
     {
         go_back(self.edits.as_mut_slice(), &mut self.state);
         self.edits.clear();

@@ -9,19 +9,19 @@ ghost use Rattle.rh_explore.specs.Codes.{code};
 ghost use Rattle.rh_explore.specs.Keys.{key_of};
 ghost use Rattle.rh_explore.specs.Exploring.{scope_of, StaysBelowLimits, CoversAll};
 ghost use Rattle.rh_explore.specs.Spaces.{Seen, IsSearched, IsNear, IsEnd, IsCut, IsExpandedAt};
-ghost use Rattle.rh_explore.specs.Kept.{seen_of, states_of, bytes_of, IsKept, IsShort, IsUntried, GoesOnFrom};
+ghost use Rattle.rh_explore.specs.Kept.{seen_of, bytes_of, waiting_in, IsKept, IsShort, IsUntried, IsIdle, IsFront, IsTakenUp, IsSameFront, IsTakenBack, IsFamily, GoesOnFrom};
 
 use crate::asking::Ask;
 use crate::bounds::{Bounds, Covered};
 use crate::failures::Failures;
+use crate::front::Front;
 use crate::key::{Key, KeyMaker};
-use crate::reaching::{Probe, Way};
+use crate::reaching::Way;
 use indexmap::IndexSet;
 use rh_base::OutOfMemory;
 use rh_state::State;
 use rh_step::{Event, Pick};
 use std::alloc::Global;
-use std::collections::VecDeque;
 
 /// How a state was found.
 #[derive(Clone, Copy, Debug, PartialEq, Eq)]
@@ -40,9 +40,7 @@ pub(crate) struct Space {
     // Their keys, in the same order.
     keys: IndexSet<Key>,
     // Those whose events weren't made yet. The others aren't needed any more, and a state takes much more memory than its key.
-    front: VecDeque<State>,
-    // The state whose events are made: most of them lead to a state that was found, which needs no copy then.
-    probe: Probe,
+    front: Front,
     maker: KeyMaker,
 }
 
@@ -52,50 +50,43 @@ impl Space {
         requires { IsValid (read base.now) }
         ensures found { IfOk result (λ space. space.found.items ≡ record { last = None; depth = 0 } ∷ []) }
         ensures keys { IfOk result (λ space. bytes_of space ≡ code (key_of (read base.now)) ∷ []) }
-        ensures front { IfOk result (λ space. space.front.items ≡ base.now ∷ []) }
+        ensures idle { IfOk result (λ space. IsIdle space.front.probe) }
+        ensures front { IfOk result (λ space. waiting_in space.front ≡ read base.now ∷ []) }
         ensures failures { IfOk result (λ space. AreFailures space.failures.firsts.items space.failures.left.items asks.now (read base.now ∷ [])) }
     {
         let mut space = Space {
             found: Vec::new(alloc),
             failures: Failures::of(alloc, asks)?,
             keys: IndexSet::new(alloc),
-            front: VecDeque::new(alloc),
-            probe: Probe::of(alloc, base.copy(alloc)?),
+            front: Front::of(alloc, base.copy(alloc)?),
             maker: KeyMaker::new(alloc),
         };
-        space.maker.make(&mut space.probe.state)?;
+        space.maker.make(&mut space.front.probe.state)?;
         let key = space.maker.key.copy(alloc)?;
         let found = Found {
             last: None,
             depth: 0,
         };
-        space.push(key, found, base.copy(alloc)?, asks)?;
+        space.push(key, found, asks)?;
         Ok(space)
     }
 
-    // Adds a state with its key, which isn't there.
-    fn push(
-        &mut self,
-        key: Key,
-        found: Found,
-        state: State,
-        asks: &[Ask],
-    ) -> Result<(), OutOfMemory>
+    // Adds the state of the probe with its key, which isn't there.
+    fn push(&mut self, key: Key, found: Found, asks: &[Ask]) -> Result<(), OutOfMemory>
         requires new { Contains (bytes_of self.old) key.bytes.items → ⊥ }
         requires failures { (states : List StateView) × (length self.old.found.items ≡ length states)
             × AreFailures self.old.failures.firsts.items self.old.failures.left.items asks.now states }
         ensures found { OnOk result (self.new.found.items ≡ self.old.found.items ++ found ∷ []) }
         ensures keys { OnOk result (bytes_of self.new ≡ bytes_of self.old ++ key.bytes.items ∷ []) }
-        ensures front { OnOk result (self.new.front.items ≡ self.old.front.items ++ state ∷ []) }
         ensures failures { (states : List StateView) → length self.old.found.items ≡ length states
             → AreFailures self.old.failures.firsts.items self.old.failures.left.items asks.now states
-            → AreFailures self.new.failures.firsts.items self.new.failures.left.items asks.now (states ++ read state ∷ []) }
-        ensures probe { OnOk result (self.new.probe ≡ self.old.probe) }
+            → AreFailures self.new.failures.firsts.items self.new.failures.left.items asks.now (states ++ read self.old.front.probe.state ∷ []) }
+        ensures front { OnOk result (self.new.front ≡ self.old.front) }
     {
-        self.failures.ask(asks, self.found.len(), &state);
+        self.failures
+            .ask(asks, self.found.len(), &self.front.probe.state);
         self.keys.insert(key)?;
         self.found.push(found)?;
-        self.front.push_back(state)?;
         Ok(())
     }
 
@@ -106,32 +97,68 @@ impl Space {
         self.keys.contains(&self.maker.key)
     }
 
-    // Makes each event that may come in the state of this number, and keeps the states behind. It is false if there was one too
-    // many, or if a limit of starts or of time refused one: a state that is alike might accept it.
-    fn expand(
+    // Makes the state of this number of the one from which it was found, makes each event that may come in it, keeps the states behind,
+    // and goes back. It is false if there was one too many, or if a limit of starts or of time refused one: a state that is alike might
+    // accept it.
+    fn visit(
         &mut self,
         alloc: Global,
         at: usize,
-        state: State,
         base: &State,
         pick: Pick,
         events: &[Event],
         bounds: &Bounds,
         asks: &[Ask],
     ) -> Result<bool, OutOfMemory>
-        requires kept { IsKept (scope_of base.now pick events.now bounds.now) asks.now self.old (at + 1) }
+        requires kept { IsKept (scope_of base.now pick events.now bounds.now) asks.now self.old }
         requires short { IsShort bounds.now self.old.found.items at }
-        requires state { slice_get (states_of (seen_of (scope_of base.now pick events.now bounds.now) self.old.found.items)) at ≡ Some (read state) }
+        requires front { IsTakenUp (scope_of base.now pick events.now bounds.now) self.old at }
         requires begun { IsExpandedAt (scope_of base.now pick events.now bounds.now) (seen_of (scope_of base.now pick events.now bounds.now) self.old.found.items) at 0 }
-        ensures kept { OnOk result (IsKept (scope_of base.now pick events.now bounds.now) asks.now self.new (at + 1)) }
+        ensures kept { OnOk result (IsKept (scope_of base.now pick events.now bounds.now) asks.now self.new) }
         ensures made { IfOk result (λ all. MatchBool all
             (IsExpandedAt (scope_of base.now pick events.now bounds.now) (seen_of (scope_of base.now pick events.now bounds.now) self.new.found.items) at (length events.now))
             ((made : ℕ) × IsExpandedAt (scope_of base.now pick events.now bounds.now) (seen_of (scope_of base.now pick events.now bounds.now) self.new.found.items) at made
             × IsCut (scope_of base.now pick events.now bounds.now) bounds.now.states (seen_of (scope_of base.now pick events.now bounds.now) self.new.found.items) at)) }
+        ensures front { IfOk result (λ all. MatchBool all (IsFront (scope_of base.now pick events.now bounds.now) self.new (at + 1)) ⊤) }
         ensures grown { OnOk result (GoesOnFrom self.old.found.items self.new.found.items) }
         ensures room { OnOk result (length self.new.found.items ≤ max (length self.old.found.items) bounds.now.states) }
     {
-        self.probe.begin(state);
+        self.front.probe.enter(alloc, self.found[at].last, pick)?;
+        let before = self.found.len();
+        if !self.expand(alloc, at, base, pick, events, bounds, asks)? {
+            return Ok(false);
+        }
+        self.front.keep(alloc, self.found.len() - before)?;
+        self.front.probe.leave();
+        Ok(true)
+    }
+
+    // Makes each event that may come in the state of this number, and keeps what was found. It is false where `visit` is.
+    fn expand(
+        &mut self,
+        alloc: Global,
+        at: usize,
+        base: &State,
+        pick: Pick,
+        events: &[Event],
+        bounds: &Bounds,
+        asks: &[Ask],
+    ) -> Result<bool, OutOfMemory>
+        requires kept { IsKept (scope_of base.now pick events.now bounds.now) asks.now self.old }
+        requires short { IsShort bounds.now self.old.found.items at }
+        requires untried { IsUntried self.old.front.probe (seen_of (scope_of base.now pick events.now bounds.now) self.old.found.items) at }
+        requires begun { IsExpandedAt (scope_of base.now pick events.now bounds.now) (seen_of (scope_of base.now pick events.now bounds.now) self.old.found.items) at 0 }
+        ensures kept { OnOk result (IsKept (scope_of base.now pick events.now bounds.now) asks.now self.new) }
+        ensures made { IfOk result (λ all. MatchBool all
+            (IsExpandedAt (scope_of base.now pick events.now bounds.now) (seen_of (scope_of base.now pick events.now bounds.now) self.new.found.items) at (length events.now))
+            ((made : ℕ) × IsExpandedAt (scope_of base.now pick events.now bounds.now) (seen_of (scope_of base.now pick events.now bounds.now) self.new.found.items) at made
+            × IsCut (scope_of base.now pick events.now bounds.now) bounds.now.states (seen_of (scope_of base.now pick events.now bounds.now) self.new.found.items) at)) }
+        ensures back { IfOk result (λ all. MatchBool all (IsTakenBack self.old.front.probe self.new.front.probe) ⊤) }
+        ensures front { OnOk result (IsSameFront self.old.front self.new.front) }
+        ensures family { OnOk result (IsFamily (scope_of base.now pick events.now bounds.now) (read self.old.front.probe.state) self.old.found.items self.new.found.items) }
+        ensures grown { OnOk result (GoesOnFrom self.old.found.items self.new.found.items) }
+        ensures room { OnOk result (length self.new.found.items ≤ max (length self.old.found.items) bounds.now.states) }
+    {
         'events: for event in events {
             if !self.reach(alloc, at, event, base, pick, events, bounds, asks)? {
                 return Ok(false);
@@ -140,8 +167,8 @@ impl Space {
         Ok(true)
     }
 
-    // Makes an event in the state of this number, if it may come there, and keeps the state behind. It is false if it is one too
-    // many, or if a limit refused the event.
+    // Makes an event in the state of this number, if it may come there, and keeps what was found. It is false if it is one too many, or
+    // if a limit refused the event.
     fn reach(
         &mut self,
         alloc: Global,
@@ -153,19 +180,21 @@ impl Space {
         bounds: &Bounds,
         asks: &[Ask],
     ) -> Result<bool, OutOfMemory>
-        requires kept { IsKept (scope_of base.now pick events.now bounds.now) asks.now self.old (at + 1) }
+        requires kept { IsKept (scope_of base.now pick events.now bounds.now) asks.now self.old }
         requires short { IsShort bounds.now self.old.found.items at }
-        requires untried { IsUntried self.old.probe (seen_of (scope_of base.now pick events.now bounds.now) self.old.found.items) at }
+        requires untried { IsUntried self.old.front.probe (seen_of (scope_of base.now pick events.now bounds.now) self.old.found.items) at }
         requires begun { (made : ℕ) × (slice_get events.now made ≡ Some event.now)
             × IsExpandedAt (scope_of base.now pick events.now bounds.now) (seen_of (scope_of base.now pick events.now bounds.now) self.old.found.items) at made }
-        ensures kept { OnOk result (IsKept (scope_of base.now pick events.now bounds.now) asks.now self.new (at + 1)) }
+        ensures kept { OnOk result (IsKept (scope_of base.now pick events.now bounds.now) asks.now self.new) }
         ensures made { IfOk result (λ went. (made : ℕ) → slice_get events.now made ≡ Some event.now
             → IsExpandedAt (scope_of base.now pick events.now bounds.now) (seen_of (scope_of base.now pick events.now bounds.now) self.old.found.items) at made
             → MatchBool went
             (IsExpandedAt (scope_of base.now pick events.now bounds.now) (seen_of (scope_of base.now pick events.now bounds.now) self.new.found.items) at (made + 1))
             (IsExpandedAt (scope_of base.now pick events.now bounds.now) (seen_of (scope_of base.now pick events.now bounds.now) self.new.found.items) at made
             × IsCut (scope_of base.now pick events.now bounds.now) bounds.now.states (seen_of (scope_of base.now pick events.now bounds.now) self.new.found.items) at)) }
-        ensures untried { IfOk result (λ went. MatchBool went (IsUntried self.new.probe (seen_of (scope_of base.now pick events.now bounds.now) self.new.found.items) at) ⊤) }
+        ensures back { IfOk result (λ went. MatchBool went (IsTakenBack self.old.front.probe self.new.front.probe) ⊤) }
+        ensures front { OnOk result (IsSameFront self.old.front self.new.front) }
+        ensures family { OnOk result (IsFamily (scope_of base.now pick events.now bounds.now) (read self.old.front.probe.state) self.old.found.items self.new.found.items) }
         ensures grown { OnOk result (GoesOnFrom self.old.found.items self.new.found.items) }
         ensures room { OnOk result (length self.new.found.items ≤ max (length self.old.found.items) bounds.now.states) }
     {
@@ -173,31 +202,30 @@ impl Space {
         let _ = base;
         let _ = events;
         let _steps = bounds.steps;
-        let way = self.probe.make(alloc, event, pick, bounds.down)?;
+        let way = self.front.probe.make(alloc, event, pick, bounds.down)?;
         match way {
             Way::To => {}
             Way::Nowhere => {
-                self.probe.take_back();
+                self.front.probe.take_back();
                 return Ok(true);
             }
             Way::AtLimit => return Ok(false),
         }
-        self.maker.make(&mut self.probe.state)?;
+        self.maker.make(&mut self.front.probe.state)?;
         if self.has_made() {
-            self.probe.take_back();
+            self.front.probe.take_back();
             return Ok(true);
         }
         if self.found.len() >= bounds.states {
             return Ok(false);
         }
         let key = self.maker.key.copy(alloc)?;
-        let state = self.probe.state.copy(alloc)?;
         let found = Found {
             last: Some((at, *event)),
             depth: self.found[at].depth + 1,
         };
-        self.push(key, found, state, asks)?;
-        self.probe.take_back();
+        self.push(key, found, asks)?;
+        self.front.probe.take_back();
         Ok(true)
     }
 }
@@ -212,7 +240,7 @@ pub(crate) fn search(
     asks: &[Ask],
 ) -> Result<(Space, Covered), OutOfMemory>
     requires { IsValid (read base.now) }
-    ensures kept { IfOk result (λ found. (done : ℕ) × IsKept (scope_of base.now pick events.now bounds.now) asks.now found.0 done) }
+    ensures kept { IfOk result (λ found. IsKept (scope_of base.now pick events.now bounds.now) asks.now found.0) }
     ensures searched { IfOk result (λ found. (done : ℕ) × IsSearched (scope_of base.now pick events.now bounds.now) (seen_of (scope_of base.now pick events.now bounds.now) found.0.found.items) done
         × IsNear (seen_of (scope_of base.now pick events.now bounds.now) found.0.found.items) done × IsEnd (seen_of (scope_of base.now pick events.now bounds.now) found.0.found.items) done found.1) }
     ensures few { IfOk result (λ found. All (λ (x : Seen). length x.path ≤ bounds.now.steps) (seen_of (scope_of base.now pick events.now bounds.now) found.0.found.items)) }
@@ -221,12 +249,12 @@ pub(crate) fn search(
 {
     let mut space = Space::of(alloc, base, asks)?;
     let mut next = 0;
-    'states: while let Some(state) = space.front.pop_front() {
+    'states: while space.front.take_up() {
         let depth = space.found[next].depth;
         if depth >= bounds.steps {
             return Ok((space, Covered::UpTo(bounds.steps)));
         }
-        let all = space.expand(alloc, next, state, base, pick, events, bounds, asks)?;
+        let all = space.visit(alloc, next, base, pick, events, bounds, asks)?;
         if !all {
             return Ok((space, Covered::UpTo(depth)));
         }

@@ -16,13 +16,13 @@ use Rattle.rh_explore.proofs.answers.explore.Goals as goal
 
 pub verdicts_on-requires-clause-linked : goal.verdicts_on-requires-clause-linked
 verdicts_on-requires-clause-linked c =
-    subst AreLinked (sym c.as_slice-found.ensures.value) c.in_ok-space.ensures.kept.1.linked
+    subst AreLinked (sym c.as_slice-found.ensures.value) c.in_ok-space.ensures.kept.linked
 
 pub verdicts_on-requires-clause-within : goal.verdicts_on-requires-clause-within
 verdicts_on-requires-clause-within c = λ j i at.
     let w = scope_of c.args.base.now c.args.pick c.args.events.now c.args.bounds.now in
     let space = c.in_ok-space.space in
-    let k = c.in_ok-space.ensures.kept.1 in
+    let k = c.in_ok-space.ensures.kept in
     let l = failure_within space.failures.firsts.items space.failures.left.items c.args.asks.now (seen_of w space.found.items) k.failures j i
     (ap (λ (fs : List (Option ℕ)). slice_get fs j) (sym c.as_slice.ensures.value) ∙ at) in
     omega (arith, l, length-seen w space.found.items, ap (λ (fs : List Found). length fs) c.as_slice-found.ensures.value)
@@ -35,7 +35,7 @@ returns-clause-verdicts c =
     let space = c.in_ok-space.space in
     let items : List Found = space.found.items in
     let s = c.in_ok-space.ensures.searched in
-    let k = c.in_ok-space.ensures.kept.1 in
+    let k = c.in_ok-space.ensures.kept in
     let firsts = space.failures.firsts.items in
     zip_through (IsTold items) (IsVerdict w steps covered) firsts c.args.asks.now c.in_ok-verdicts.verdicts.items k.failures.count
     (λ j first ask v at there told.
@@ -63,7 +63,7 @@ returns-clause-states c =
     let there : slice_get items last ≡ Some f = slice_get-get_or items last none within in
     let here = seen_there w items last f there in
     let x : Seen = seen_by w (path_at items last) in
-    let deep : f.depth ≡ length x.path = depth_is items last f c.in_ok-space.ensures.kept.1.linked there in
+    let deep : f.depth ≡ length x.path = depth_is items last f c.in_ok-space.ensures.kept.linked there in
     let told : (get_or slice (length slice - 1) none).depth ≡ f.depth = ap (λ (fs : List Found). (get_or fs (length fs - 1) none).depth) value in
     let covered = c.in_ok-space.covered in
     let is_last : last + 1 ≡ length seen = omega (arith, long, some) in (
@@ -88,7 +88,7 @@ returns-clause-deepest c =
     let there : slice_get items last ≡ Some f = slice_get-get_or items last none within in
     let here = seen_there w items last f there in
     let x : Seen = seen_by w (path_at items last) in
-    let deep : f.depth ≡ length x.path = depth_is items last f c.in_ok-space.ensures.kept.1.linked there in
+    let deep : f.depth ≡ length x.path = depth_is items last f c.in_ok-space.ensures.kept.linked there in
     let told : (get_or slice (length slice - 1) none).depth ≡ f.depth = ap (λ (fs : List Found). (get_or fs (length fs - 1) none).depth) value in
     let steps = c.args.bounds.now.steps in
     let few = at_of (λ (y : Seen). length y.path ≤ steps) seen last x c.in_ok-space.ensures.few here in

@@ -1,10 +1,10 @@
-use Rattle.std.proofs.Common.{rules, ◌++◌, ◌≡◌, ◌<◌, ◌≤◌, ◌+◌, ◌∷◌, [], ℕ, zero, suc, List, length, map, drop, slice_get, Option, Some, None, All, refl, sym, ap, ◌∙◌, subst, arith}
-use Rattle.std.specs.Option.{option_to_list}
+use Rattle.std.proofs.Common.{rules, ◌++◌, ◌≡◌, ◌<◌, ◌≤◌, ◌+◌, ◌∷◌, [], ℕ, zero, suc, List, length, map, drop, slice_get, Some, None, All, refl, sym, ap, ◌∙◌, subst, arith}
 use Rattle.std.proofs.lemmas.List.{length-map, length-drop}
 use Rattle.std.proofs.lemmas.Option.{same_Some, none-some, slice_get_within}
 use Rattle.rh_state.specs.StateView.{StateView}
-use Rattle.rh_state.specs.Stored.{Stored, read}
+use Rattle.rh_state.specs.Stored.{read}
 use Rattle.rh_rules.specs.declared.event.Event.{Event}
+use Rattle.rh_explore.specs.declared.front.Front.{Front}
 use Rattle.rh_explore.specs.declared.space.Found.{Found}
 use Rattle.rh_explore.specs.declared.space.Space.{Space}
 use Rattle.rh_explore.specs.Codes.{code}
@@ -13,7 +13,7 @@ use Rattle.rh_explore.specs.Keys.{key_of}
 use Rattle.rh_explore.specs.Exploring.{scope_of}
 use Rattle.rh_explore.specs.Reaching.{Scope}
 use Rattle.rh_explore.specs.Spaces.{Seen, IsSearched, IsNear}
-use Rattle.rh_explore.specs.Kept.{seen_by, seen_of, states_of, AreLinked}
+use Rattle.rh_explore.specs.Kept.{seen_by, seen_of, states_of, AreLinked, parent_by, parents_of, waiting_in}
 use Rattle.rh_explore.proofs.Begun.{base_near, base_few, at_true, at_false}
 use Rattle.rh_explore.proofs.Places.{there_of}
 use Rattle.rh_explore.proofs.PathsTo.{path_at, seen_there, found_stays, depth_is, drop_first, length-seen}
@@ -43,9 +43,9 @@ states-init c =
       kept = record {
         linked = subst AreLinked (sym of.found) base_linked;
         codes = of.keys ∙ ap (λ (s : List Seen). map (λ x. code (key_of x.state)) s) (sym is);
-        front = ap (map read) of.front ∙ ap states_of (sym is);
         failures = subst (λ (s : List Seen). AreFailures space.failures.firsts.items space.failures.left.items c.args.asks.now (states_of s)) (sym is) of.failures;
       };
+      front = record { idle = of.idle; waiting = of.front ∙ ap (parents_of w) (sym is) };
       searched = subst (λ (seen : List Seen). IsSearched w seen 0) (sym is) (base_searched w c.requires);
       near = subst (λ (seen : List Seen). IsNear seen 0) (sym is) (base_near base);
       few = subst (λ (seen : List Seen). All (λ (x : Seen). length x.path ≤ c.args.bounds.now.steps) seen) (sym is) (base_few base c.args.bounds.now.steps);
@@ -53,16 +53,17 @@ states-init c =
     }
 
 -- the state that was taken up
-taken : (w : Scope) (found : List Found) (old new : List Stored) (state : Stored) (next : ℕ) → old ≡ state ∷ new
-    → map read old ≡ drop next (states_of (seen_of w found))
-    → (slice_get (states_of (seen_of w found)) next ≡ Some (read state)) × (map read new ≡ drop (next + 1) (states_of (seen_of w found)))
-taken w found old new state next popped front =
-    drop_first (states_of (seen_of w found)) next (read state) (map read new) (sym (ap (map read) popped) ∙ front)
+taken : (w : Scope) (space : Space) (new : Front) (next : ℕ) → waiting_in space.front ≡ drop next (parents_of w (seen_of w space.found.items))
+    → waiting_in space.front ≡ read new.probe.state ∷ waiting_in new
+    → (slice_get (parents_of w (seen_of w space.found.items)) next ≡ Some (read new.probe.state))
+    × (waiting_in new ≡ drop (next + 1) (parents_of w (seen_of w space.found.items)))
+taken w space new next waiting first =
+    drop_first (parents_of w (seen_of w space.found.items)) next (read new.probe.state) (waiting_in new) (sym first ∙ waiting)
 
-within_of : (w : Scope) (found : List Found) (next : ℕ) (s : StateView) → slice_get (states_of (seen_of w found)) next ≡ Some s → next < length found
+within_of : (w : Scope) (found : List Found) (next : ℕ) (s : StateView) → slice_get (parents_of w (seen_of w found)) next ≡ Some s → next < length found
 within_of w found next s at =
-    let l = slice_get_within (states_of (seen_of w found)) next s at in
-    let long = length-map (seen_of w found) (λ (x : Seen). x.state) in
+    let l = slice_get_within (parents_of w (seen_of w found)) next s at in
+    let long = length-map (seen_of w found) (parent_by w) in
     let all = length-seen w found in
     omega (arith, l, long, all)
 
@@ -72,19 +73,9 @@ index-requires c =
     let found : List Found = c.states.space.found.items in
     let next = c.states.next in
     let k = c.states.invariant.kept in
-    let t = taken w found c.states.space.front.items c.pop_front.new.self.items c.in-Some.state next c.in-Some.ensures.items k.front in
-    let within : next < length found = within_of w found next (read c.in-Some.state) t.0 in
+    let t = taken w c.states.space c.take_up.new.self next c.states.invariant.front.waiting (at_true c.take_up.result _ _ c.states-test.true c.take_up.ensures.waiting) in
+    let within : next < length found = within_of w found next (read c.take_up.new.self.probe.state) t.0 in
     omega (arith, within)
-
-pub returns-then-depth-bounds-clause-kept : goal.returns-then-depth-bounds-clause-kept
-returns-then-depth-bounds-clause-kept c =
-    let w = scope_of c.args.base.now c.args.pick c.args.events.now c.args.bounds.now in
-    let found : List Found = c.states.space.found.items in
-    let next = c.states.next in
-    let k = c.states.invariant.kept in
-    let t = taken w found c.states.space.front.items c.pop_front.new.self.items c.in-Some.state next c.in-Some.ensures.items k.front in
-    let within : next < length found = within_of w found next (read c.in-Some.state) t.0 in
-    (next + 1, record { linked = k.linked; codes = k.codes; front = t.1; failures = k.failures })
 
 pub returns-then-depth-bounds-clause-searched : goal.returns-then-depth-bounds-clause-searched
 returns-then-depth-bounds-clause-searched c =
@@ -92,8 +83,8 @@ returns-then-depth-bounds-clause-searched c =
     let found : List Found = c.states.space.found.items in
     let next = c.states.next in
     let k = c.states.invariant.kept in
-    let t = taken w found c.states.space.front.items c.pop_front.new.self.items c.in-Some.state next c.in-Some.ensures.items k.front in
-    let within : next < length found = within_of w found next (read c.in-Some.state) t.0 in
+    let t = taken w c.states.space c.take_up.new.self next c.states.invariant.front.waiting (at_true c.take_up.result _ _ c.states-test.true c.take_up.ensures.waiting) in
+    let within : next < length found = within_of w found next (read c.take_up.new.self.probe.state) t.0 in
     let f : Found = c.index.result.now in
     let there : slice_get found next ≡ Some f = there_of found next f within c.index.ensures in
     let x : Seen = seen_by w (path_at found next) in
@@ -105,45 +96,35 @@ returns-then-depth-bounds-clause-searched c =
       up_to w (seen_of w found) next x here c.args.bounds.now.steps c.states.invariant.searched (omega (arith, c.if-depth-bounds.true, deep)),
     )
 
-pub expand-requires-clause-kept : goal.expand-requires-clause-kept
-expand-requires-clause-kept c =
+pub visit-requires-clause-short : goal.visit-requires-clause-short
+visit-requires-clause-short c =
     let w = scope_of c.args.base.now c.args.pick c.args.events.now c.args.bounds.now in
     let found : List Found = c.states.space.found.items in
     let next = c.states.next in
     let k = c.states.invariant.kept in
-    let t = taken w found c.states.space.front.items c.pop_front.new.self.items c.in-Some.state next c.in-Some.ensures.items k.front in
-    let within : next < length found = within_of w found next (read c.in-Some.state) t.0 in
-    record { linked = k.linked; codes = k.codes; front = t.1; failures = k.failures }
-
-pub expand-requires-clause-short : goal.expand-requires-clause-short
-expand-requires-clause-short c =
-    let w = scope_of c.args.base.now c.args.pick c.args.events.now c.args.bounds.now in
-    let found : List Found = c.states.space.found.items in
-    let next = c.states.next in
-    let k = c.states.invariant.kept in
-    let t = taken w found c.states.space.front.items c.pop_front.new.self.items c.in-Some.state next c.in-Some.ensures.items k.front in
-    let within : next < length found = within_of w found next (read c.in-Some.state) t.0 in
+    let t = taken w c.states.space c.take_up.new.self next c.states.invariant.front.waiting (at_true c.take_up.result _ _ c.states-test.true c.take_up.ensures.waiting) in
+    let within : next < length found = within_of w found next (read c.take_up.new.self.probe.state) t.0 in
     let f : Found = c.index.result.now in
     (f, there_of found next f within c.index.ensures, omega (arith, c.if-depth-bounds.false))
 
-pub expand-requires-clause-state : goal.expand-requires-clause-state
-expand-requires-clause-state c =
+pub visit-requires-clause-front : goal.visit-requires-clause-front
+visit-requires-clause-front c =
     let w = scope_of c.args.base.now c.args.pick c.args.events.now c.args.bounds.now in
     let found : List Found = c.states.space.found.items in
     let next = c.states.next in
     let k = c.states.invariant.kept in
-    let t = taken w found c.states.space.front.items c.pop_front.new.self.items c.in-Some.state next c.in-Some.ensures.items k.front in
-    let within : next < length found = within_of w found next (read c.in-Some.state) t.0 in
-    t.0
+    let t = taken w c.states.space c.take_up.new.self next c.states.invariant.front.waiting (at_true c.take_up.result _ _ c.states-test.true c.take_up.ensures.waiting) in
+    let within : next < length found = within_of w found next (read c.take_up.new.self.probe.state) t.0 in
+    record { parent = t.0; front = record { idle = c.take_up.ensures.idle; waiting = t.1 } }
 
-pub expand-requires-clause-begun : goal.expand-requires-clause-begun
-expand-requires-clause-begun c =
+pub visit-requires-clause-begun : goal.visit-requires-clause-begun
+visit-requires-clause-begun c =
     let w = scope_of c.args.base.now c.args.pick c.args.events.now c.args.bounds.now in
     let found : List Found = c.states.space.found.items in
     let next = c.states.next in
     let k = c.states.invariant.kept in
-    let t = taken w found c.states.space.front.items c.pop_front.new.self.items c.in-Some.state next c.in-Some.ensures.items k.front in
-    let within : next < length found = within_of w found next (read c.in-Some.state) t.0 in
+    let t = taken w c.states.space c.take_up.new.self next c.states.invariant.front.waiting (at_true c.take_up.result _ _ c.states-test.true c.take_up.ensures.waiting) in
+    let within : next < length found = within_of w found next (read c.take_up.new.self.probe.state) t.0 in
     let f : Found = c.index.result.now in
     let there : slice_get found next ≡ Some f = there_of found next f within c.index.ensures in
     let x : Seen = seen_by w (path_at found next) in
@@ -157,10 +138,10 @@ returns-then-not-all-clause-searched c =
     let found : List Found = c.states.space.found.items in
     let next = c.states.next in
     let k = c.states.invariant.kept in
-    let t = taken w found c.states.space.front.items c.pop_front.new.self.items c.in-Some.state next c.in-Some.ensures.items k.front in
-    let within : next < length found = within_of w found next (read c.in-Some.state) t.0 in
+    let t = taken w c.states.space c.take_up.new.self next c.states.invariant.front.waiting (at_true c.take_up.result _ _ c.states-test.true c.take_up.ensures.waiting) in
+    let within : next < length found = within_of w found next (read c.take_up.new.self.probe.state) t.0 in
     let f : Found = c.index.result.now in
-    let new : List Found = c.expand.new.self.found.items in
+    let new : List Found = c.visit.new.self.found.items in
     let there : slice_get new next ≡ Some f = found_stays found new next f c.in_ok-all.ensures.grown (there_of found next f within c.index.ensures) in
     let seen = seen_of w new in
     let x : Seen = seen_by w (path_at new next) in
@@ -177,10 +158,10 @@ returns-then-not-all-clause-few c =
     let found : List Found = c.states.space.found.items in
     let next = c.states.next in
     let k = c.states.invariant.kept in
-    let t = taken w found c.states.space.front.items c.pop_front.new.self.items c.in-Some.state next c.in-Some.ensures.items k.front in
-    let within : next < length found = within_of w found next (read c.in-Some.state) t.0 in
+    let t = taken w c.states.space c.take_up.new.self next c.states.invariant.front.waiting (at_true c.take_up.result _ _ c.states-test.true c.take_up.ensures.waiting) in
+    let within : next < length found = within_of w found next (read c.take_up.new.self.probe.state) t.0 in
     let f : Found = c.index.result.now in
-    let new : List Found = c.expand.new.self.found.items in
+    let new : List Found = c.visit.new.self.found.items in
     let there : slice_get new next ≡ Some f = found_stays found new next f c.in_ok-all.ensures.grown (there_of found next f within c.index.ensures) in
     let seen = seen_of w new in
     let x : Seen = seen_by w (path_at new next) in
@@ -196,10 +177,10 @@ returns-then-not-all-clause-covers c = λ few below.
     let found : List Found = c.states.space.found.items in
     let next = c.states.next in
     let k = c.states.invariant.kept in
-    let t = taken w found c.states.space.front.items c.pop_front.new.self.items c.in-Some.state next c.in-Some.ensures.items k.front in
-    let within : next < length found = within_of w found next (read c.in-Some.state) t.0 in
+    let t = taken w c.states.space c.take_up.new.self next c.states.invariant.front.waiting (at_true c.take_up.result _ _ c.states-test.true c.take_up.ensures.waiting) in
+    let within : next < length found = within_of w found next (read c.take_up.new.self.probe.state) t.0 in
     let f : Found = c.index.result.now in
-    let new : List Found = c.expand.new.self.found.items in
+    let new : List Found = c.visit.new.self.found.items in
     let there : slice_get new next ≡ Some f = found_stays found new next f c.in_ok-all.ensures.grown (there_of found next f within c.index.ensures) in
     let seen = seen_of w new in
     let x : Seen = seen_by w (path_at new next) in
@@ -215,8 +196,8 @@ overflow_add-next c =
     let found : List Found = c.states.space.found.items in
     let next = c.states.next in
     let k = c.states.invariant.kept in
-    let t = taken w found c.states.space.front.items c.pop_front.new.self.items c.in-Some.state next c.in-Some.ensures.items k.front in
-    let within : next < length found = within_of w found next (read c.in-Some.state) t.0 in
+    let t = taken w c.states.space c.take_up.new.self next c.states.invariant.front.waiting (at_true c.take_up.result _ _ c.states-test.true c.take_up.ensures.waiting) in
+    let within : next < length found = within_of w found next (read c.take_up.new.self.probe.state) t.0 in
     first_of (omega (arith, within), first_of (search (rules, within), grind (arith, within)))
 
 pub states-smaller : goal.states-smaller
@@ -225,8 +206,8 @@ states-smaller c =
     let found : List Found = c.states.space.found.items in
     let next = c.states.next in
     let k = c.states.invariant.kept in
-    let t = taken w found c.states.space.front.items c.pop_front.new.self.items c.in-Some.state next c.in-Some.ensures.items k.front in
-    let within : next < length found = within_of w found next (read c.in-Some.state) t.0 in
+    let t = taken w c.states.space c.take_up.new.self next c.states.invariant.front.waiting (at_true c.take_up.result _ _ c.states-test.true c.take_up.ensures.waiting) in
+    let within : next < length found = within_of w found next (read c.take_up.new.self.probe.state) t.0 in
     let room = c.states.invariant.room in
     omega (arith, within, room)
 
@@ -236,10 +217,10 @@ states-preserved c =
     let found : List Found = c.states.space.found.items in
     let next = c.states.next in
     let k = c.states.invariant.kept in
-    let t = taken w found c.states.space.front.items c.pop_front.new.self.items c.in-Some.state next c.in-Some.ensures.items k.front in
-    let within : next < length found = within_of w found next (read c.in-Some.state) t.0 in
+    let t = taken w c.states.space c.take_up.new.self next c.states.invariant.front.waiting (at_true c.take_up.result _ _ c.states-test.true c.take_up.ensures.waiting) in
+    let within : next < length found = within_of w found next (read c.take_up.new.self.probe.state) t.0 in
     let f : Found = c.index.result.now in
-    let new : List Found = c.expand.new.self.found.items in
+    let new : List Found = c.visit.new.self.found.items in
     let there : slice_get new next ≡ Some f = found_stays found new next f c.in_ok-all.ensures.grown (there_of found next f within c.index.ensures) in
     let seen = seen_of w new in
     let x : Seen = seen_by w (path_at new next) in
@@ -252,6 +233,7 @@ states-preserved c =
     let before = c.states.invariant.room in
     record {
       kept = c.in_ok-all.ensures.kept;
+      front = at_true c.in_ok-all.all _ _ c.if-not-all.false c.in_ok-all.ensures.front;
       searched = done_next w seen next x here so;
       near = near_next w seen next x here count so;
       few = few_more w seen next x here count c.args.bounds.now.steps so short;
@@ -261,15 +243,9 @@ states-preserved c =
 pub returns-clause-searched : goal.returns-clause-searched
 returns-clause-searched c =
     let w = scope_of c.args.base.now c.args.pick c.args.events.now c.args.bounds.now in
-    let found : List Found = c.states.space.found.items in
-    let seen = seen_of w found in
-    let old : List Stored = c.states.space.front.items in
-    let new : List Stored = c.pop_front.new.self.items in
-    let all : old ≡ new = c.pop_front.ensures.items ∙ ap (λ (o : Option Stored). option_to_list o ++ new) c.in_default.is in
-    let long = ap (λ (l : List Stored). length l) (all ∙ c.pop_front.ensures.rest) in
-    let rest = length-drop 1 old in
-    let front = ap (λ (l : List StateView). length l) c.states.invariant.kept.front in
-    let mapped = length-map old read in
-    let left = length-drop c.states.next (states_of seen) in
-    let states = length-map seen (λ (x : Seen). x.state) in
-    (c.states.next, c.states.invariant.searched, c.states.invariant.near, omega (arith, long, rest, front, mapped, left, states))
+    let seen = seen_of w c.states.space.found.items in
+    let none = at_false c.take_up.result _ _ c.states-test.false c.take_up.ensures.waiting in
+    let empty = ap (λ (l : List StateView). length l) (sym none ∙ c.states.invariant.front.waiting) in
+    let left = length-drop c.states.next (parents_of w seen) in
+    let parents = length-map seen (parent_by w) in
+    (c.states.next, c.states.invariant.searched, c.states.invariant.near, omega (arith, empty, left, parents))

@@ -1,12 +1,13 @@
 use Rattle.std.proofs.Common.{◌≤◌, ◌-◌, length, max, All}
 use Rattle.rh_explore.specs.Exploring.{scope_of}
 use Rattle.rh_explore.specs.Spaces.{Seen, IsSearched, IsNear}
-use Rattle.rh_explore.specs.Kept.{IsKept, seen_of}
+use Rattle.rh_explore.specs.Kept.{IsKept, IsFront, seen_of}
 use Rattle.rh_explore.proofs.space.search.Given as goal
 
 abbrev pub invariant-states : goal.invariant-states
 invariant-states l = record {
-  kept : IsKept (scope_of l.base l.pick l.events l.bounds) l.asks l.space l.next;
+  kept : IsKept (scope_of l.base l.pick l.events l.bounds) l.asks l.space;
+  front : IsFront (scope_of l.base l.pick l.events l.bounds) l.space l.next;
   searched : IsSearched (scope_of l.base l.pick l.events l.bounds) (seen_of (scope_of l.base l.pick l.events l.bounds) l.space.found.items) l.next;
   near : IsNear (seen_of (scope_of l.base l.pick l.events l.bounds) l.space.found.items) l.next;
   few : All (λ (x : Seen). length x.path ≤ l.bounds.steps) (seen_of (scope_of l.base l.pick l.events l.bounds) l.space.found.items);

@@ -1,4 +1,4 @@
-use Rattle.std.proofs.Common.{[], ◌∷◌, List, length, ap, subst}
+use Rattle.std.proofs.Common.{[], ◌∷◌, List, length, ap, ◌∙◌, subst}
 use Rattle.rh_state.specs.Stored.{Stored, read}
 use Rattle.rh_explore.specs.declared.space.Found.{Found}
 use Rattle.rh_explore.specs.Failures.{AreFailures}
@@ -7,5 +7,5 @@ use Rattle.rh_explore.proofs.space.Space.of.Goals as goal
 pub returns-clause-failures : goal.returns-clause-failures
 returns-clause-failures c =
     subst (λ (z : Stored). AreFailures c.push.new.self.failures.firsts.items c.push.new.self.failures.left.items c.args.asks.now (read z ∷ []))
-    c.in_ok-copy-2.ensures
+    (c.in_ok-make.ensures.state ∙ c.of-2.ensures.base ∙ c.in_ok-copy.ensures)
     (c.in_ok-push.ensures.failures [] (ap (λ (l : List Found). length l) c.new.ensures.items) c.in_ok-of.ensures)

@@ -8,7 +8,7 @@ use Rattle.rh_state.specs.StateView.{StateView}
 use Rattle.rh_state.specs.Stored.{Stored, read}
 use Rattle.rh_rules.specs.declared.event.Event.{Event}
 use Rattle.rh_settle.proofs.Entries.{both}
-use Rattle.rh_explore.specs.declared.reaching.Probe.{Probe}
+use Rattle.rh_explore.specs.declared.front.Front.{Front}
 use Rattle.rh_explore.specs.declared.reaching.Way.{Way}
 use Rattle.rh_explore.specs.declared.reaching.Way.TheVariants.{To, Nowhere}
 use Rattle.rh_explore.specs.declared.space.Found.{Found}
@@ -20,6 +20,7 @@ use Rattle.rh_explore.specs.Spaces.{Seen, StepsTo, IsExpandedAt}
 use Rattle.rh_explore.specs.Kept.{path_by, paths_of, seen_by, seen_of, states_of, codes_of, bytes_of, AreLinked}
 use Rattle.rh_explore.proofs.PathsTo.{path_at, seen_there, seen_push, linked_push, length-seen}
 use Rattle.rh_explore.proofs.OneMore.{more_is, kept_more}
+use Rattle.rh_explore.proofs.Parents.{family_none, family_one}
 use Rattle.rh_explore.proofs.Places.{at_front, there_of}
 use Rattle.rh_explore.proofs.Reached.{not_there, known, added}
 use Rattle.rh_explore.proofs.space.Space.reach.Goals as goal
@@ -30,7 +31,7 @@ returns-in-Nowhere-clause-made c = λ made is so.
     let seen = seen_of w c.args.self.now.found.items in
     let u = c.requires.untried.here in
     let e : Event = c.args.event.now in
-    let s = read c.args.self.now.probe.state in
+    let s = read c.args.self.now.front.probe.state in
     let t = read c.make.new.self.state in
     not_there w seen c.args.at u.0 u.1 e made is so t
     (subst (λ (z : StateView). StepsTo c.args.pick c.args.bounds.now.down z e Nowhere t) u.2
@@ -42,13 +43,25 @@ returns-then-has_made-clause-made c = λ made is so.
     let seen = seen_of w c.args.self.now.found.items in
     let u = c.requires.untried.here in
     let e : Event = c.args.event.now in
-    let s = read c.args.self.now.probe.state in
+    let s = read c.args.self.now.front.probe.state in
     let t = read c.make.new.self.state in
     known w seen c.args.at u.0 u.1 e made is so t
     (subst (λ (z : StateView). StepsTo c.args.pick c.args.bounds.now.down z e To t) u.2
     (subst (λ (v : Way). StepsTo c.args.pick c.args.bounds.now.down s e v t) c.in-To.is c.in_ok-way.ensures.way))
     (subst (λ (q : List ℕ). Contains (codes_of seen) q) c.in_ok-make.ensures.key
     (subst (λ (l : List (List ℕ)). Contains l c.make-2.new.self.key.bytes.items) c.requires.kept.codes (c.has_made.ensures.0 c.if-has_made.true)))
+
+pub returns-in-Nowhere-clause-family : goal.returns-in-Nowhere-clause-family
+returns-in-Nowhere-clause-family c =
+    family_none (scope_of c.args.base.now c.args.pick c.args.events.now c.args.bounds.now) (read c.args.self.now.front.probe.state) c.args.self.now.found.items
+
+pub returns-in-AtLimit-clause-family : goal.returns-in-AtLimit-clause-family
+returns-in-AtLimit-clause-family c =
+    family_none (scope_of c.args.base.now c.args.pick c.args.events.now c.args.bounds.now) (read c.args.self.now.front.probe.state) c.args.self.now.found.items
+
+pub returns-then-has_made-clause-family : goal.returns-then-has_made-clause-family
+returns-then-has_made-clause-family c =
+    family_none (scope_of c.args.base.now c.args.pick c.args.events.now c.args.bounds.now) (read c.args.self.now.front.probe.state) c.args.self.now.found.items
 
 pub overflow_add-found : goal.overflow_add-found
 overflow_add-found c =
@@ -81,20 +94,16 @@ returns-clause-kept c =
     let x_is : u.0 ≡ x = same_Some u.0 x (sym u.1 ∙ seen_there w found at f there) in
     let t = read c.make.new.self.state in
     let steps = subst (λ (z : StateView). StepsTo c.args.pick c.args.bounds.now.down z e To t) (u.2 ∙ ap (λ (z : Seen). z.state) x_is)
-    (subst (λ (v : Way). StepsTo c.args.pick c.args.bounds.now.down (read c.args.self.now.probe.state) e v t) c.in-To.is c.in_ok-way.ensures.way) in
+    (subst (λ (v : Way). StepsTo c.args.pick c.args.bounds.now.down (read c.args.self.now.front.probe.state) e v t) c.in-To.is c.in_ok-way.ensures.way) in
     let y : Seen = seen_by w (path_by (paths_of found) g.last) in
     let y_state : t ≡ y.state = steps.2 ∙ sym (ap (λ (z : Seen). z.state) (more_is w found at e g refl)) in
-    let copied : read c.in_ok-state.state ≡ t = ap read (c.in_ok-state.ensures ∙ c.in_ok-make.ensures.state) in
-    let k = kept_more w c.args.asks.now c.args.self.now c.push.new.self (at + 1) y c.in_ok-state.state c.requires.kept
+    let told : read c.make-2.new.state ≡ y.state = ap read c.in_ok-make.ensures.state ∙ y_state in
+    kept_more w c.args.asks.now c.args.self.now _ y c.requires.kept
     (subst AreLinked (sym c.in_ok-push.ensures.found) (linked_push found f g at e c.requires.kept.linked there refl refl))
     (ap (seen_of w) c.in_ok-push.ensures.found ∙ seen_push w found g)
     (c.in_ok-push.ensures.keys ∙ ap (λ (k : List ℕ). bytes_of c.args.self.now ++ k ∷ []) (c.in_ok-key.ensures ∙ c.in_ok-make.ensures.key ∙ ap (λ (z : StateView). code (key_of z)) y_state))
-    c.in_ok-push.ensures.front
-    (copied ∙ y_state)
-    (subst (λ (z : StateView). AreFailures c.push.new.self.failures.firsts.items c.push.new.self.failures.left.items c.args.asks.now (states_of seen ++ z ∷ [])) (copied ∙ y_state)
+    (subst (λ (z : StateView). AreFailures c.push.new.self.failures.firsts.items c.push.new.self.failures.left.items c.args.asks.now (states_of seen ++ z ∷ [])) told
     (c.in_ok-push.ensures.failures (states_of seen) (sym (length-map seen (λ (z : Seen). z.state) ∙ length-seen w found)) c.requires.kept.failures))
-    (omega (arith, slice_get_within seen at u.0 u.1)) in
-    record { linked = k.linked; codes = k.codes; front = k.front; failures = k.failures }
 
 pub returns-clause-made : goal.returns-clause-made
 returns-clause-made c = λ made is so.
@@ -112,7 +121,7 @@ returns-clause-made c = λ made is so.
     let x_is : u.0 ≡ x = same_Some u.0 x (sym u.1 ∙ seen_there w found at f there) in
     let t = read c.make.new.self.state in
     let steps = subst (λ (z : StateView). StepsTo c.args.pick c.args.bounds.now.down z e To t) (u.2 ∙ ap (λ (z : Seen). z.state) x_is)
-    (subst (λ (v : Way). StepsTo c.args.pick c.args.bounds.now.down (read c.args.self.now.probe.state) e v t) c.in-To.is c.in_ok-way.ensures.way) in
+    (subst (λ (v : Way). StepsTo c.args.pick c.args.bounds.now.down (read c.args.self.now.front.probe.state) e v t) c.in-To.is c.in_ok-way.ensures.way) in
     let y : Seen = seen_by w (path_by (paths_of found) g.last) in
     subst (λ (items : List Seen). IsExpandedAt w items at (made + 1)) (sym (ap (seen_of w) c.in_ok-push.ensures.found ∙ seen_push w found g))
     (added w seen at x (seen_there w found at f there) e made is so t steps
@@ -120,28 +129,29 @@ returns-clause-made c = λ made is so.
     (subst (λ (q : List ℕ). Contains (codes_of seen) q) (sym c.in_ok-make.ensures.key) has))) c.if-has_made.false)
     y refl (sym (steps.2 ∙ sym (ap (λ (z : Seen). z.state) (more_is w found at e g refl)))))
 
-pub returns-clause-untried : goal.returns-clause-untried
-returns-clause-untried c =
+pub returns-clause-back : goal.returns-clause-back
+returns-clause-back c = record {
+  state = c.take_back-2.ensures.state
+      ∙ ap (λ (p : Front). back exchange p.probe.state p.probe.edits.items) c.in_ok-push.ensures.front
+      ∙ ap (λ (z : Stored). back exchange z c.make.new.self.edits.items) c.in_ok-make.ensures.state
+      ∙ c.in_ok-way.ensures.led.back;
+  none = c.take_back-2.ensures.none;
+}
+
+pub returns-clause-family : goal.returns-clause-family
+returns-clause-family c =
     let w = scope_of c.args.base.now c.args.pick c.args.events.now c.args.bounds.now in
     let at = c.args.at in
     let found : List Found = c.args.self.now.found.items in
-    let seen = seen_of w found in
-    let g : Found = record { last = Some (at, c.args.event.now); depth = c.index.result.now.depth + 1 } in
+    let s = c.requires.short in
+    let f : Found = c.index.result.now in
+    let there : slice_get found at ≡ Some f = there_of found at f (slice_get_within found at s.0 s.1) c.index.ensures in
+    let g : Found = record { last = Some (at, c.args.event.now); depth = f.depth + 1 } in
     let u = c.requires.untried.here in
-    let y : Seen = seen_by w (path_by (paths_of found) g.last) in
-    record {
-      none = c.take_back-2.ensures.none;
-      here = (
-        u.0,
-        ap (λ (items : List Seen). slice_get items at) (ap (seen_of w) c.in_ok-push.ensures.found ∙ seen_push w found g)
-            ∙ at_front seen (y ∷ []) at (slice_get_within seen at u.0 u.1) ∙ u.1,
-        ap read (c.take_back-2.ensures.state
-            ∙ ap (λ (p : Probe). back exchange p.state p.edits.items) c.in_ok-push.ensures.probe
-            ∙ ap (λ (z : Stored). back exchange z c.make.new.self.edits.items) c.in_ok-make.ensures.state
-            ∙ c.in_ok-way.ensures.led.back)
-            ∙ u.2,
-      );
-    }
+    let x : Seen = seen_by w (path_at found at) in
+    let x_is : u.0 ≡ x = same_Some u.0 x (sym u.1 ∙ seen_there w found at f there) in
+    family_one w (read c.args.self.now.front.probe.state) found c.push.new.self.found.items g at c.args.event.now refl
+    (u.2 ∙ ap (λ (z : Seen). z.state) x_is) c.in_ok-push.ensures.found
 
 pub returns-clause-grown : goal.returns-clause-grown
 returns-clause-grown c = (_, c.in_ok-push.ensures.found)
