@@ -3,3 +3,6 @@ pub mod Texts
 pub mod Prefix
 pub mod Crossing
 mod NeedsKept
+mod Marks
+mod TakenMarks
+mod MarksKept

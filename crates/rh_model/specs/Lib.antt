@@ -3,3 +3,4 @@ pub mod ClusterView
 pub mod Limits
 pub mod Names
 pub mod Needs
+pub mod Marks

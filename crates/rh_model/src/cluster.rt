@@ -1,8 +1,11 @@
 //! The cluster, with its readers.
 
+use crate::app_marks::AppMarks;
 use crate::app_settings::AppSettings;
 use crate::groups::{Group, is_in};
+use crate::kept_marks::{locals_in, touched_in};
 use crate::limits::{MAX_APPS, MAX_NODES};
+use crate::mark_rows::MarkRows;
 use crate::names::Names;
 use crate::needs::{Needs, needs_in};
 use crate::node::{App, Node};
@@ -22,12 +25,16 @@ pub struct Cluster {
     apps: Vec<AppSettings>,
     // For each application what it needs, which the settings tell.
     needs: Vec<Needs>,
+    // The applications that aren't distributed, and for each one those that a move of it touches, which the settings tell too.
+    locals: AppMarks,
+    touched: MarkRows,
 }
 
 impl Model for Cluster {
     ghost use Rattle.std.specs.Prelude.{◌≡◌, length};
     ghost use Rattle.rh_model.specs.ClusterView.{ClusterView, IsWithin};
     ghost use Rattle.rh_model.specs.Needs.{needs_in};
+    ghost use Rattle.rh_model.specs.Marks.{MarksLocals, MarksTouched};
 
     ghost Value = { ClusterView };
 
@@ -41,7 +48,7 @@ impl Model for Cluster {
     } };
 
     ghost invariant = { λ c.
-        (length c.nodes.items ≡ length c.names.nodes) × (length c.apps.items ≡ length c.names.apps) × (c.needs.items ≡ needs_in c.nodes.items c.apps.items) × IsWithin (record {
+        (length c.nodes.items ≡ length c.names.nodes) × (length c.apps.items ≡ length c.names.apps) × (c.needs.items ≡ needs_in c.nodes.items c.apps.items) × MarksLocals c.apps.items c.locals × MarksTouched c.apps.items c.touched × IsWithin (record {
           profile = c.profile;
           node_names = c.names.nodes;
           app_names = c.names.apps;
@@ -52,15 +59,18 @@ impl Model for Cluster {
 }
 
 impl Cluster {
-    ghost use Rattle.std.specs.Prelude.{◌≡◌, ◌↔◌, ◌<◌, ◌≤◌, All, length, IfOk, IsTrue, IsSome, Some, slice_get, map};
+    ghost use Rattle.std.specs.Prelude.{◌≡◌, ◌↔◌, ◌<◌, ◌≤◌, All, length, IfOk, IsTrue, IsSome, Some, is_none, slice_get, map};
+    ghost use Rattle.std.specs.List.{range_with_len};
     ghost use Rattle.std.specs.Option.{option_map};
     ghost use Rattle.rh_base.specs.Tree.{tree_of};
     ghost use Rattle.rh_model.specs.TermSymbols.{symbols_of};
-    ghost use Rattle.rh_model.specs.ClusterView.{node_count, app_count, node_of, app_of, dep_name, mandatory_of};
+    ghost use Rattle.rh_model.specs.ClusterView.{app_numbered, node_count, app_count, node_of, app_of, dep_name, mandatory_of};
     ghost use Rattle.rh_model.specs.ClusterView.{optional_of, sync_wait_of, boot_of, is_permitted, is_platform};
     ghost use Rattle.rh_model.specs.ClusterView.{deps_of, start_arg_of, has_phases, spread_of, group_of, IsWithin};
     ghost use Rattle.rh_model.specs.Limits.{IsWithinLimit};
     ghost use Rattle.rh_model.specs.Needs.{is_home, needed_apps, needs_in};
+    ghost use Rattle.rh_model.specs.Marks.{is_marked, touches};
+    ghost use Rattle.rh_model.specs.declared.node.App.{App};
 
     /// The cluster of this profile and these names, with the settings of each node and of each application in the
     /// order of their names.
@@ -90,6 +100,9 @@ impl Cluster {
           apps = apps.items;
         }) }
     {
+        let _few_apps = names.apps();
+        let locals = locals_in(apps.as_slice());
+        let touched = touched_in(apps.as_slice());
         let needs = needs_in(alloc, nodes.as_slice(), apps.as_slice())?;
         Ok(Cluster {
             profile,
@@ -97,6 +110,8 @@ impl Cluster {
             nodes,
             apps,
             needs,
+            locals,
+            touched,
         })
     }
 
@@ -227,6 +242,15 @@ impl Cluster {
         self.parts_of(node).boot()
     }
 
+    /// For each application, whether it may run on the node, as configured (kernel(6), `permissions`).
+    pub fn permissions(&self, node: Node) -> &[bool]
+        requires { node.0 < node_count self.now }
+        ensures { result.now ≡ map (is_permitted self.now node) (map app_numbered (range_with_len 0 (app_count self.now))) }
+    {
+        self.is_within();
+        self.parts_of(node).permissions()
+    }
+
     /// May the application run on the node, as configured (kernel(6), `permissions`)?
     pub fn permitted(&self, node: Node, app: App) -> bool
         requires node { node.0 < node_count self.now }
@@ -272,6 +296,22 @@ impl Cluster {
     {
         self.is_within();
         self.needs_of(app).apps()
+    }
+
+    /// The applications that aren't distributed.
+    pub fn locals(&self) -> AppMarks
+        ensures { (a : App) → a.0 < app_count self.now → is_marked result a ≡ is_none (spread_of self.now a) }
+    {
+        self.locals
+    }
+
+    /// The applications that a move of this one touches: itself, and those that need it.
+    pub fn touched_by(&self, app: App) -> AppMarks
+        requires { app.0 < app_count self.now }
+        ensures { (a : App) → a.0 < app_count self.now → is_marked result a ≡ touches self.now app a }
+    {
+        let _few_apps = self.names.apps();
+        self.touched.of(app)
     }
 
     /// The module and the start argument of the application (app(4), `mod`).
@@ -332,6 +372,8 @@ impl Cluster {
             nodes,
             apps,
             needs,
+            locals: self.locals,
+            touched: self.touched,
         })
     }
 

@@ -1,11 +1,14 @@
 //! A cluster: what its file sets, and the readers of that.
 #![tactic(auto)]
 
+mod app_marks;
 mod app_settings;
 mod cluster;
 mod groups;
+mod kept_marks;
 mod laws;
 mod limits;
+mod mark_rows;
 mod name_set;
 mod names;
 mod needs;
@@ -14,6 +17,7 @@ mod node_settings;
 mod platforms;
 mod settings;
 
+pub use app_marks::{AppMarks, pushed};
 pub use app_settings::{AppSettings, Start, copy_of_spread, copy_of_start};
 pub use cluster::Cluster;
 pub use groups::{Group, Groups, is_in};
