@@ -7,6 +7,7 @@ ghost use Rattle.rh_state.specs.Tables.{row, with_cell};
 use rh_base::{OutOfMemory, Same, are_same};
 use std::alloc::Global;
 use std::marker::Model;
+use std::mem;
 
 /// A table.
 #[derive(Drop)]
@@ -76,20 +77,18 @@ impl<T: Copy> Table<T> {
         self.cells[node as usize * self.width + app as usize]
     }
 
-    /// Writes into a cell, and says what stood there; where there is no such cell, nothing is written, and the value is given back.
-    pub fn exchange(&mut self, node: u8, app: u8, value: T) -> T
-        ensures cells { self.new ≡ with_cell self.old node app value }
-        ensures value { result ≡ unwrap_or (slice_get (row self.old node) app) value }
+    /// Exchanges a value for what stands in a cell; where there is no such cell, nothing changes.
+    pub fn exchange(&mut self, node: u8, app: u8, value: &mut T)
+        ensures cells { self.new ≡ with_cell self.old node app value.old }
+        ensures value { value.new ≡ unwrap_or (slice_get (row self.old node) app) value.old }
     {
         let (node, app) = (node as usize, app as usize);
         // A cell past the end of its row would be one of the next row.
         if node >= self.rows || app >= self.width {
-            return value;
+            return;
         }
         let place = node * self.width + app;
-        let before = self.cells[place];
-        self.cells[place] = value;
-        before
+        mem::swap(&mut self.cells[place], value);
     }
 }
 

@@ -9,6 +9,7 @@ use crate::edit::{Change, Edit};
 use crate::state::State;
 use crate::table::Table;
 use rh_model::{App, Node};
+use std::mem;
 
 #[tactic(auto, unfolding(crate::specs::Edits::exchange, crate::specs::Edits::turned))]
 impl State {
@@ -26,7 +27,7 @@ impl State {
             Edit::Timer(timer) => self.wheel.revert(timer),
             Edit::Part(side, change) => {
                 *side = false;
-                *change = self.exchange_part(*change);
+                self.exchange_part(change);
             }
         }
     }
@@ -45,70 +46,50 @@ impl State {
             Edit::Timer(timer) => self.wheel.reapply(timer),
             Edit::Part(side, change) => {
                 *side = true;
-                *change = self.exchange_part(*change);
+                self.exchange_part(change);
             }
         }
     }
 
-    // Gives a part the value of a change, and says which it had.
-    fn exchange_part(&mut self, change: Change) -> Change
-        requires { IsFormed (put self.old change) }
-        ensures words { self.new ≡ put self.old change }
-        ensures change { result ≡ had self.old change }
+    // Gives a part the value of a change, which has the part's own from then on. Each value is exchanged where it lies, so that
+    // the change is nowhere copied.
+    fn exchange_part(&mut self, change: &mut Change)
+        requires { IsFormed (put self.old change.old) }
+        ensures words { self.new ≡ put self.old change.old }
+        ensures change { change.new ≡ had self.old change.old }
     {
         match change {
-            Change::Now(time) => {
-                let before = self.time;
-                self.time = time;
-                Change::Now(before)
+            Change::Now(time) => mem::swap(&mut self.time, time),
+            Change::Mode(node, mode) => exchange_at(&mut self.modes, node.0 as usize, mode),
+            Change::Incarnation(node, incarnation) => {
+                exchange_at(&mut self.incarnations, node.0 as usize, incarnation)
             }
-            Change::Mode(node, mode) => {
-                Change::Mode(node, exchanged(&mut self.modes, node.0 as usize, mode))
+            Change::Standing(app, standing) => {
+                exchange_at(&mut self.standings, app.0 as usize, standing)
             }
-            Change::Incarnation(node, incarnation) => Change::Incarnation(
-                node,
-                exchanged(&mut self.incarnations, node.0 as usize, incarnation),
-            ),
-            Change::Standing(app, standing) => Change::Standing(
-                app,
-                exchanged(&mut self.standings, app.0 as usize, standing),
-            ),
-            Change::Allowed(node, app, allow) => Change::Allowed(
-                node,
-                app,
-                exchanged_cell(&mut self.allowed, node, app, allow),
-            ),
-            Change::Restart(node, app, restart) => Change::Restart(
-                node,
-                app,
-                exchanged_cell(&mut self.restarts, node, app, restart),
-            ),
-            Change::Kind(node, app, kind) => {
-                Change::Kind(node, app, exchanged_cell(&mut self.kinds, node, app, kind))
-            }
+            Change::Allowed(node, app, allow) => self.allowed.exchange(node.0, app.0, allow),
+            Change::Restart(node, app, restart) => self.restarts.exchange(node.0, app.0, restart),
+            Change::Kind(node, app, kind) => self.kinds.exchange(node.0, app.0, kind),
         }
     }
 }
 
-// Writes a value at a place, and says which stood there (where there is no such place, that value).
-fn exchanged<T: Copy>(values: &mut Vec<T>, place: usize, value: T) -> T
-    ensures values { values.new.items ≡ slice_set values.old.items place value }
-    ensures value { result ≡ unwrap_or (slice_get values.old.items place) value }
+// Exchanges a value for the one at a place (where there is no such place, nothing changes).
+fn exchange_at<T: Copy>(values: &mut Vec<T>, place: usize, value: &mut T)
+    ensures values { values.new.items ≡ slice_set values.old.items place value.old }
+    ensures value { value.new ≡ unwrap_or (slice_get values.old.items place) value.old }
 {
-    match values.get_mut(place) {
-        Some(slot) => {
-            let before = *slot;
-            *slot = value;
-            before
-        }
-        None => value,
+    if let Some(slot) = values.get_mut(place) {
+        mem::swap(slot, value);
     }
 }
 
-// The same for a cell of a table.
+// Writes into a cell, and says what stood there (where there is no such cell, that value).
 pub(crate) fn exchanged_cell<T: Copy>(table: &mut Table<T>, node: Node, app: App, value: T) -> T
     ensures cells { table.new ≡ with_cell table.old node.0 app.0 value }
     ensures value { result ≡ unwrap_or (slice_get (row table.old node.0) app.0) value }
 {
-    table.exchange(node.0, app.0, value)
+    let mut exchanged = value;
+    table.exchange(node.0, app.0, &mut exchanged);
+    exchanged
 }
