@@ -1,5 +1,5 @@
 -- Tables that are kept in one list, row behind row.
-use Rattle.std.proofs.Common.{◌≡◌, ◌<◌, ◌≤◌, ◌+◌, ◌*◌, ◌∷◌, ◌++◌, ℕ, zero, suc, List, [], Some, refl, sym, ap, ◌∙◌, arith}
+use Rattle.std.proofs.Common.{◌≡◌, ◌<◌, ◌≤◌, ◌+◌, ◌-◌, ◌*◌, ◌∷◌, ◌++◌, ℕ, zero, suc, List, [], Some, refl, sym, ap, ◌∙◌, arith}
 use Rattle.std.proofs.Common.{length, get_or, set, take, drop, map, replicate, slice_get, unwrap_or}
 use Rattle.std.specs.List.{flat_map}
 use Rattle.std.proofs.lemmas.List.{length-take-le, length-drop, take-append-drop, take-replicate, drop-replicate, set-get_or, set_past}
@@ -172,3 +172,22 @@ pub value-past_cells : {A : Type 0} (n w i a : ℕ) (xs : List A) (v : A) → le
 value-past_cells n w i a xs v is h le =
     sym (unwrap_or-slice_get (row (cut n w xs) i) a v
     ∙ get_or_past (row (cut n w xs) i) a v (let size = length-row_cut n w i xs is h in omega (arith, size, le)))
+
+-- a row of a table that is kept so, which lies in one part of the list
+pub row_within : {A : Type 0} (n w i : ℕ) (xs : List A) (t : List (List A)) → cut n w xs ≡ t → length xs ≡ n * w → i < length t → i * w + w ≤ length xs
+row_within n w i xs t is size h =
+    let l = length-cut n w xs in
+    let m = ap length is in
+    let rest : suc i * w ≤ n * w = mul-le (suc i) n w (omega (arith, h, l, m)) in
+    let more = suc-mul i w in
+    omega (arith, size, rest, more)
+
+pub row_part : {A : Type 0} (n w i : ℕ) (xs : List A) (t : List (List A)) → cut n w xs ≡ t → i < length t
+    → take (i * w + w - i * w) (drop (i * w) xs) ≡ row t i
+row_part n w i xs t is h =
+    let l = length-cut n w xs in
+    let m = ap length is in
+    let size : i * w + w - i * w ≡ w = omega arith in
+    ap (λ (k : ℕ). take k (drop (i * w) xs)) size
+    ∙ sym (row-cut n w i xs (omega (arith, h, l, m)))
+    ∙ ap (λ u. row u i) is

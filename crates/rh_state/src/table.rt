@@ -77,6 +77,15 @@ impl<T: Copy> Table<T> {
         self.cells[node as usize * self.width + app as usize]
     }
 
+    /// The cells of a row.
+    pub fn row(&self, node: u8) -> &[T]
+        requires { node < length self.now }
+        ensures { result.now ≡ row self.now node }
+    {
+        let start = node as usize * self.width;
+        &self.cells[start..start + self.width]
+    }
+
     /// Exchanges a value for what stands in a cell; where there is no such cell, nothing changes.
     pub fn exchange(&mut self, node: u8, app: u8, value: &mut T)
         ensures cells { self.new ≡ with_cell self.old node app value.old }

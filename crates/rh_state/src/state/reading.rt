@@ -5,6 +5,7 @@ ghost use Rattle.rh_model.specs.ClusterView.{node_count, app_count};
 ghost use Rattle.rh_state.specs.Limits.{time_limit, incarnation_limit};
 ghost use Rattle.rh_state.specs.StateView.{mode_of, incarnation_of, running_at, waiting_at, running_count, place_of, next_in_list, restart_of, kind_of, is_allowed, standing_of};
 ghost use Rattle.rh_state.specs.Shape.{IsAppOf, IsKindOf, IsStandingOf};
+ghost use Rattle.rh_state.specs.Tables.{row};
 ghost use Rattle.rh_state.specs.Stored.{read};
 
 use crate::state::State;
@@ -133,6 +134,14 @@ impl State {
         self.allowed.at(node.0, app.0)
     }
 
+    /// Which applications may run at a node, one answer for each application, in application order.
+    pub fn permissions(&self, node: Node) -> &[bool]
+        requires { node.0 < node_count (read self.now).cluster }
+        ensures { result.now ≡ row (read self.now).allowed node.0 }
+    {
+        self.allowed.row(node.0)
+    }
+
     /// Where an application stands; a local one is always quiet.
     pub fn standing(&self, app: App) -> Standing
         requires { app.0 < app_count (read self.now).cluster }
@@ -140,5 +149,12 @@ impl State {
         ensures number { IsStandingOf (read self.now).cluster result }
     {
         self.standings[app.0 as usize]
+    }
+
+    /// Where each application stands, in application order.
+    pub fn standings(&self) -> &[Standing]
+        ensures { result.now ≡ (read self.now).standings }
+    {
+        self.standings.as_slice()
     }
 }
