@@ -20,7 +20,7 @@ pub neither : (p q : Bool) → p || q ≡ false → (p ≡ false) × (q ≡ fals
 neither true q h = both true refl h
 neither false q h = (refl, h)
 
-behind : {A : Type 0} (p : A → Bool) (x : A) (xs : List A) (r : Option ℕ) (some : Bool) → comes_before (position p xs) r ≡ some
+pub behind : {A : Type 0} (p : A → Bool) (x : A) (xs : List A) (r : Option ℕ) (some : Bool) → comes_before (position p xs) r ≡ some
     → comes_before (position p (x ∷ xs)) (option_map suc r) ≡ (p x || some)
 behind p x xs r some h = ap (λ o. comes_before o (option_map suc r)) (position_cons p x xs) ∙ by (p x)
   where
@@ -28,7 +28,7 @@ behind p x xs r some h = ap (λ o. comes_before o (option_map suc r)) (position_
     by true = first_before r
     by false = before_suc (position p xs) r ∙ h
 
-passed : {A : Type 0} (q : A → Bool) (x : A) (xs : List A) → q x ≡ false → position q (x ∷ xs) ≡ option_map suc (position q xs)
+pub passed : {A : Type 0} (q : A → Bool) (x : A) (xs : List A) → q x ≡ false → position q (x ∷ xs) ≡ option_map suc (position q xs)
 passed q x xs f = position_cons q x xs ∙ ap (λ b. cond b (Some 0) (option_map suc (position q xs))) f
 
 -- what comes before the first group that passes is what stands before it

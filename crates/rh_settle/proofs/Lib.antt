@@ -30,6 +30,7 @@ pub mod TakenMarks
 pub mod Touches
 pub mod Boards
 pub mod GroupWalks
+pub mod Callers
 pub mod Movers
 pub mod Starts
 mod Rows

@@ -1,5 +1,6 @@
 -- Where a local application can start.
 use Rattle.std.proofs.Common.{◌≡◌, ◌<◌, ◌≤◌, ◌+◌, ◌-◌, ℕ, Bool, true, false, cond, ◌&&◌, ◌||◌, List, [], ◌∷◌, refl, sym, ap, ◌∙◌, arith, is_some, None}
+use Rattle.std.specs.List.{list_any}
 use Rattle.rh_model.specs.declared.node.Node.{Node}
 use Rattle.rh_model.specs.declared.node.App.{App}
 use Rattle.rh_model.specs.ClusterView.{app_numbered}
@@ -12,14 +13,17 @@ use Rattle.rh_base.proofs.Lists.{cases}
 use Rattle.rh_rules.specs.Placing.{deps_run}
 use Rattle.rh_rules.specs.Course.{is_local}
 use Rattle.rh_rules.specs.declared.notice.Move.TheVariants.{Local}
+use Rattle.rh_rules.specs.declared.notice.Pair.{Pair}
 use Rattle.rh_rules.specs.Moves.{can_start, local_move, local_moves, placements, takeovers}
 use Rattle.rh_state.specs.Numbers.{nodes_of, apps_of}
 use Rattle.rh_place.specs.Sets.{has}
 use Rattle.rh_rules.specs.declared.pick.Pick.{Pick}
 use Rattle.rh_rules.specs.Placing.{picked}
 use Rattle.rh_rules.specs.Settling.{next_moves}
+use Rattle.rh_settle.specs.Calls.{can_call}
 use Rattle.rh_settle.specs.Boards.{AppMarks, ReadyView, is_marked, MarksLocals, IsReadyOf}
-use Rattle.rh_settle.proofs.Boards.{given_nowhere, no_head, no_callers, unwanted_stays}
+use Rattle.rh_settle.proofs.Boards.{given_nowhere, no_head, unwanted_stays}
+use Rattle.rh_settle.proofs.Callers.{uncalled_stays}
 use Rattle.rh_settle.proofs.Entries.{both, same_number, is_false}
 use Rattle.rh_settle.proofs.Places.{same_refl, or_left, or_right}
 use Rattle.rh_settle.proofs.Shapes.{started_within}
@@ -103,13 +107,14 @@ pushed p old new count i some few limit first others so_far a b of at = up_to b.
     here k j le at = omega (arith, le, at)
 
 -- ---- where nothing moves of itself
--- no local application starts, none is to run, and no pair is fresh
-pub nothing_moves : (s : StateView) (r : ReadyView) (pick : Pick) → IsShaped s → IsReadyOf s r
-    → ((n : Node) → has r.starts n ≡ false) → ((a : App) → is_marked r.wanted a ≡ false) → None ≡ picked pick (next_moves s [])
+-- no local application starts, none is to run, and no fresh pair can call one away
+pub nothing_moves : (s : StateView) (fresh : List Pair) (r : ReadyView) (pick : Pick) → IsShaped s → IsReadyOf s r
+    → ((n : Node) → has r.starts n ≡ false) → ((a : App) → is_marked r.wanted a ≡ false) → list_any (can_call s) fresh ≡ false
+    → None ≡ picked pick (next_moves s fresh)
 unfolding next_moves
-nothing_moves s r pick shape ready starts wanted =
+nothing_moves s fresh r pick shape ready starts wanted none =
     either_none pick (first_given (local_moves s) (nodes_of s.cluster)) _ None
     (none_of_none pick ∙ ap (picked pick) (sym (given_nowhere s.cluster (local_moves s) (λ n. no_head (local_moves s n) (sym (ready.starts n) ∙ starts n)))))
     (either_none pick (first_given (placements s) (apps_of s.cluster)) _ None
     (none_behind pick s.cluster (placements s) (λ a of. unwanted_stays s a (sym (ready.wanted a of) ∙ wanted a)))
-    (none_behind pick s.cluster (takeovers s []) (λ a of. no_callers s [] a shape (λ n of_n. refl))))
+    (none_behind pick s.cluster (takeovers s fresh) (λ a of. uncalled_stays s fresh a none)))

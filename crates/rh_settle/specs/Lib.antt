@@ -1,4 +1,5 @@
 pub mod Traces
+pub mod Calls
 pub mod Counts
 pub mod Ways
 pub mod Making

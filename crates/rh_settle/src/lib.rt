@@ -6,6 +6,7 @@
 mod app_marks;
 mod app_sets;
 mod board;
+mod calls;
 mod laws;
 mod make;
 mod ready;

@@ -12,6 +12,7 @@ ghost use Rattle.rh_rules.specs.Settling.{NoneEnabled, nexts, all_moved, tell_wa
 ghost use Rattle.rh_settle.specs.Validity.{RunsWhereItStands};
 
 use crate::board::Board;
+use crate::calls::may_call;
 use crate::make::make_move;
 use crate::ready::Ready;
 use crate::search::next_on;
@@ -47,8 +48,8 @@ fn make_ready_moves(
     Ok(())
 }
 
-// Makes next moves until there is none. Behind most events nothing is ready: then no board is made, whose tables would have
-// to be zeroed.
+// Makes next moves until there is none. Behind most events nothing is ready, and no fresh pair can call an application away:
+// then no board is made, whose tables would have to be zeroed.
 #[tactic(auto, using(crate::proofs::Ways::goes_none))]
 fn make_moves(state: &mut State, pick: Pick, trace: &mut Trace) -> Result<(), OutOfMemory>
     requires runs { RunsWhereItStands (read state.old) }
@@ -61,7 +62,7 @@ fn make_moves(state: &mut State, pick: Pick, trace: &mut Trace) -> Result<(), Ou
 {
     state.formed();
     let ready = Ready::of(state);
-    if ready.is_idle() && trace.marked().is_empty() && trace.freed().is_empty() {
+    if ready.is_idle() && !may_call(state, trace.marked()) && !may_call(state, trace.freed()) {
         return Ok(());
     }
     make_ready_moves(state, ready, pick, trace)
