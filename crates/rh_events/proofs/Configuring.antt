@@ -54,6 +54,10 @@ first_permissions c n i = map (is_permitted c n) (map app_numbered (range_with_l
 abbrev pub with_first : StateView → Node → ℕ → StateView
 with_first s n i = record s { allowed = slice_set s.allowed n.0 (over (first_permissions s.cluster n i) (row s.allowed n.0)) }
 
+-- a node whose row is as configured is as configured
+pub already_configured : (s : StateView) (n : Node) → row s.allowed n.0 ≡ configured s.cluster n → s ≡ with_configured s n
+already_configured s n is = λ i. record s { allowed = (sym (set_same s.allowed n.0 []) ∙ ap (slice_set s.allowed n.0) is) i }
+
 pub none_written : (s : StateView) (n : Node) → s ≡ with_first s n 0
 none_written s n = λ i. record s { allowed = sym (set_same s.allowed n.0 []) i }
 

@@ -1,9 +1,11 @@
 //! How a node ends.
 
-ghost use Rattle.std.specs.Prelude.{◌≡◌, ◌≤◌, ◌+◌, ◌*◌, ◌↔◌, [], true, IsNone, IfSome, OnOk};
+ghost use Rattle.std.specs.Prelude.{◌≡◌, ◌≤◌, ◌+◌, ◌*◌, ◌↔◌, [], true, IsTrue, IsNone, IfSome, OnOk};
 ghost use Rattle.rh_model.specs.ClusterView.{app_count, is_permitted};
 ghost use Rattle.rh_model.specs.declared.node.App.{App};
 ghost use Rattle.rh_model.specs.Limits.{timeout_limit};
+ghost use Rattle.rh_state.specs.First.{configured};
+ghost use Rattle.rh_state.specs.Tables.{row};
 ghost use Rattle.rh_state.specs.Shape.{IsNodeOf, IsAppOf};
 ghost use Rattle.rh_state.specs.StateView.{running_at, waiting_at, is_started, standing_of, due_of};
 ghost use Rattle.rh_state.specs.Setters.{with_allowed};
@@ -72,7 +74,16 @@ fn configure_app(
     recording::set_allowed(state, node, app, allow, trace)
 }
 
-// What may run at a node is as configured again (kernel(6), `permissions`).
+// Is what may run at a node as configured?
+fn is_configured(state: &State, node: Node) -> bool
+    requires { IsNodeOf (read state.now).cluster node }
+    ensures { IsTrue result ↔ (row (read state.now).allowed node.0 ≡ configured (read state.now).cluster node) }
+{
+    state.permissions(node) == state.cluster().permissions(node)
+}
+
+// What may run at a node is as configured again (kernel(6), `permissions`). Nearly always it is so already, and then no
+// application is asked for alone.
 #[tactic(auto, using(rh_settle::proofs::Ways::goes_none, rh_settle::proofs::Ways::goes_more))]
 fn configure(state: &mut State, node: Node, trace: &mut Trace) -> Result<(), OutOfMemory>
     requires { IsNodeOf (read state.old).cluster node }
@@ -84,6 +95,9 @@ fn configure(state: &mut State, node: Node, trace: &mut Trace) -> Result<(), Out
     ensures few { OnOk result (FewEdits (app_count (read state.old).cluster) trace.old trace.new) }
 {
     state.formed();
+    if is_configured(state, node) {
+        return Ok(());
+    }
     let count = state.cluster().app_count();
     'apps: for number in 0..count {
         configure_app(state, node, App(number as u8), trace)?;

@@ -4,7 +4,7 @@ use Rattle.rh_state.specs.StateView.{StateView}
 use Rattle.rh_state.specs.Setters.{with_allowed}
 use Rattle.rh_state.specs.Stored.{read}
 use Rattle.rh_settle.proofs.Ways.{goes_none, goes_more}
-use Rattle.rh_events.proofs.Configuring.{with_first, none_written, one_written, all_written}
+use Rattle.rh_events.proofs.Configuring.{already_configured, with_first, none_written, one_written, all_written}
 use Rattle.rh_events.proofs.ending.configure.Goals as goal
 
 pub apps-init : goal.apps-init
@@ -40,3 +40,6 @@ pub returns-clause-few : goal.returns-clause-few
 returns-clause-few c =
     let count = c.app_count-count.ensures.count ∙ ap (λ (k : ClusterView). app_count k) c.cluster.ensures in
     omega (arith, count, c.apps.auto.number-end, c.apps.invariant.few)
+
+pub returns-then-is_configured-clause-part : goal.returns-then-is_configured-clause-part
+returns-then-is_configured-clause-part c = already_configured (read c.args.state.now) c.args.node (c.is_configured.ensures.0 c.if-is_configured.true)
