@@ -13,3 +13,4 @@ pub mod Records
 pub mod Tables
 pub mod Cut
 pub mod Twice
+pub mod Waiting

@@ -14,6 +14,7 @@ mod pairs;
 mod reading;
 mod setting;
 mod timers;
+mod waiting;
 
 use crate::status::{Kind, Mode, Standing};
 use crate::table::Table;
