@@ -10,3 +10,4 @@ pub mod RowsReplies
 pub mod RowsReport
 pub mod Crossing
 pub mod Walks
+pub mod Permissions

@@ -2,7 +2,7 @@
 //!
 //! [`Sim`] keeps the trail of the events that were accepted, with what each changed, and one state. [`report`] is a state as
 //! text; [`node_word`], [`app_word`], [`restart_word`], [`push_decimal`], [`push_kind`] and [`push_standing_line`] are parts of
-//! it that other texts have too.
+//! it that other texts have too, and [`forbids_any`] tells which nodes have nothing to tell of what may not run.
 #![tactic(auto)]
 
 mod call;
@@ -17,5 +17,6 @@ pub use laws::calls_are_reversible;
 pub use replies::Replies;
 pub use sim::{AtEnd, AtStart, Sim};
 pub use text::{
-    NO_NAME, app_word, node_word, push_decimal, push_kind, push_standing_line, report, restart_word,
+    NO_NAME, app_word, forbids_any, node_word, push_decimal, push_kind, push_standing_line, report,
+    restart_word,
 };

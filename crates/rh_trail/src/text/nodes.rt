@@ -1,11 +1,11 @@
 //! The lines of a node.
 
-ghost use Rattle.std.specs.Prelude.{◌≡◌, ◌++◌, ◌<◌, OnOk};
-ghost use Rattle.std.specs.List.{flat_map};
+ghost use Rattle.std.specs.Prelude.{◌≡◌, ◌++◌, ◌<◌, not, OnOk};
+ghost use Rattle.std.specs.List.{flat_map, list_any};
 ghost use Rattle.std.specs.String.{string_bytes};
 ghost use Rattle.rh_model.specs.ClusterView.{node_count, app_count};
 ghost use Rattle.rh_state.specs.Numbers.{apps_of};
-ghost use Rattle.rh_state.specs.StateView.{running_at, waiting_at};
+ghost use Rattle.rh_state.specs.StateView.{running_at, waiting_at, is_allowed};
 ghost use Rattle.rh_state.specs.Stored.{read};
 ghost use Rattle.rh_trail.specs.Report.{node_line, running_line, waiting_line, forbidden_line, line_if_forbidden, node_lines};
 
@@ -110,12 +110,35 @@ fn push_waiting_line(
     Ok(())
 }
 
+// Whether there is a no among answers. All are read, without a stop at the first one, so that many are read in one step.
+fn has_no(answers: &[bool]) -> bool
+    ensures { result ≡ list_any not answers.now }
+{
+    let mut found = false;
+    for answer in answers {
+        found |= !*answer;
+    }
+    found
+}
+
+/// Whether there is an application that may not run at a node. At most nodes there is none, and this says so before each is asked for.
+pub fn forbids_any(state: &State, node: Node) -> bool
+    requires { node.0 < node_count (read state.now).cluster }
+    ensures { result ≡ list_any (λ a. not (is_allowed (read state.now) node a)) (apps_of (read state.now).cluster) }
+{
+    state.formed();
+    has_no(state.permissions(node))
+}
+
 // Adds a line for each application that may not run at a node.
 #[tactic(auto, unfolding(rh_state::specs::Numbers::apps_of))]
 fn push_forbidden(text: &mut String, state: &State, node: Node) -> Result<(), OutOfMemory>
     requires { node.0 < node_count (read state.now).cluster }
     ensures { OnOk result (string_bytes text.new ≡ string_bytes text.old ++ flat_map (line_if_forbidden (read state.now) node) (apps_of (read state.now).cluster)) }
 {
+    if !forbids_any(state, node) {
+        return Ok(());
+    }
     let count = state.cluster().app_count();
     for number in 0..count {
         push_line_if_forbidden(text, state, node, App(number as u8))?;

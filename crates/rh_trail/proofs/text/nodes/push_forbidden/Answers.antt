@@ -7,7 +7,12 @@ use Rattle.rh_model.specs.ClusterView.{app_numbered}
 use Rattle.rh_model.specs.declared.node.App.{App}
 use Rattle.rh_state.specs.Stored.{read}
 use Rattle.rh_trail.specs.Report.{line_if_forbidden}
+use Rattle.rh_trail.proofs.Permissions.{nothing_behind}
 use Rattle.rh_trail.proofs.text.nodes.push_forbidden.Goals as goal
+
+pub returns-then-not-forbids_any : goal.returns-then-not-forbids_any
+returns-then-not-forbids_any c =
+    nothing_behind (read c.args.state.now) c.args.node (string_bytes c.args.text.now) (sym c.if-not-forbids_any.ensures)
 
 pub loop-number-preserved : goal.loop-number-preserved
 loop-number-preserved c =
