@@ -27,7 +27,8 @@ use Rattle.rh_place.proofs.Nowhere.{none_chosen}
 use Rattle.rh_rules.specs.declared.notice.Move.{Move}
 use Rattle.rh_rules.specs.declared.notice.Move.TheVariants.{Local, Placement, Takeover}
 use Rattle.rh_rules.specs.declared.notice.Pair.{Pair}
-use Rattle.rh_settle.specs.Boards.{AppSets, AppMarks, BoardView, is_among, is_marked, is_wanted, is_touched, touches_local, matters, is_asked, mover}
+use Rattle.rh_model.specs.Marks.{AppMarks, is_marked}
+use Rattle.rh_settle.specs.Boards.{AppSets, BoardView, is_among, is_wanted, is_touched, touches_local, matters, is_asked, mover}
 use Rattle.rh_settle.specs.Boards.{MarksLocals, IsExactAt, IsBoardOf}
 use Rattle.rh_rules.specs.Course.{is_fresh, is_local}
 use Rattle.rh_rules.specs.Moves.{can_start, local_move, local_moves, comes_before, calls_away, placements, placements_from, takeovers, takeovers_from, moved_state}

@@ -21,7 +21,8 @@ use Rattle.rh_rules.specs.declared.pick.Pick.{Pick}
 use Rattle.rh_rules.specs.Placing.{picked}
 use Rattle.rh_rules.specs.Settling.{next_moves}
 use Rattle.rh_settle.specs.Calls.{can_call}
-use Rattle.rh_settle.specs.Boards.{AppMarks, ReadyView, is_marked, MarksLocals, IsReadyOf}
+use Rattle.rh_model.specs.Marks.{AppMarks, is_marked}
+use Rattle.rh_settle.specs.Boards.{ReadyView, MarksLocals, IsReadyOf}
 use Rattle.rh_settle.proofs.Boards.{given_nowhere, no_head, unwanted_stays}
 use Rattle.rh_settle.proofs.Callers.{uncalled_stays}
 use Rattle.rh_settle.proofs.Entries.{both, same_number, is_false}

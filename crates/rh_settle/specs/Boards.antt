@@ -1,11 +1,11 @@
 -- What settling keeps between its moves, so that no move is searched for from the beginning (ours).
 use Rattle.std.specs.Prelude.{◌≡◌, ◌==◌, ◌&&◌, ◌||◌, ℕ, List, [], ◌∷◌, Bool, true, false, slice_get, unwrap_or, is_some}
-use Rattle.std.specs.Int.{bit_at}
 use Rattle.std.specs.List.{list_any}
 use Rattle.rh_model.specs.declared.node.Node.{Node}
 use Rattle.rh_model.specs.declared.node.App.{App}
 use Rattle.rh_model.specs.ClusterView.{ClusterView, group_of}
 use Rattle.rh_model.specs.Needs.{needed_apps}
+use Rattle.rh_model.specs.Marks.{AppMarks, is_marked}
 use Rattle.rh_state.specs.declared.status.Standing.{Standing}
 use Rattle.rh_state.specs.declared.status.Standing.TheVariants.{Wanted}
 use Rattle.rh_state.specs.Lists.{has_app}
@@ -32,18 +32,6 @@ set_of t a = unwrap_or (slice_get t.sets a.0) (record { bits = 0 })
 -- a node is in the set of an application
 unfoldable pub is_among : AppSets → App → Node → Bool
 is_among t a n = has (set_of t a) n
-
--- for each application, by its number, a mark: bit a is 1 where application a is marked
-pub record AppMarks : Type 0 where
-  pub marks : ℕ
-
--- the marks that the bits of a number are
-abbrev pub marks_of : ℕ → AppMarks
-marks_of marks = record { marks = marks }
-
--- is an application marked?
-unfoldable pub is_marked : AppMarks → App → Bool
-is_marked t a = bit_at t.marks a.0 == 1
 
 -- a set of nodes, and for each application two marks
 pub record ReadyView : Type 0 where

@@ -17,15 +17,15 @@ ghost use Rattle.rh_place.specs.declared.node_set.TheConstants.NodeSet.{LIMIT};
 ghost use Rattle.rh_rules.specs.Placing.{is_operational};
 ghost use Rattle.rh_place.specs.Sets.{has};
 ghost use Rattle.rh_rules.specs.declared.notice.Pair.{Pair};
-ghost use Rattle.rh_settle.specs.Boards.{is_among, is_marked, is_wanted, is_touched, touches_local, matters, is_asked, nodes_changed, mover, MarksLocals, Covers, IsReadyOf, IsBoardOf};
+ghost use Rattle.rh_model.specs.Marks.{is_marked};
+ghost use Rattle.rh_settle.specs.Boards.{is_among, is_wanted, is_touched, touches_local, matters, is_asked, nodes_changed, mover, MarksLocals, Covers, IsReadyOf, IsBoardOf};
 ghost use Rattle.rh_rules.specs.Course.{is_fresh};
 ghost use Rattle.rh_rules.specs.Moves.{local_moves, moved_state};
 
-use crate::app_marks::AppMarks;
 use crate::app_sets::AppSets;
 use crate::ready::{Ready, is_wanted};
 use crate::search::starts_at;
-use rh_model::{App, Cluster, Group, MAX_APPS, Node};
+use rh_model::{App, AppMarks, Cluster, Group, MAX_APPS, Node};
 use rh_place::{NodeSet, operational, operational_among};
 use rh_rules::{Move, Pair};
 use rh_state::{Standing, State};

@@ -3,7 +3,6 @@
 //! [`settle`] makes them, and [`next_move`] is the one that comes next in a state.
 #![tactic(auto)]
 
-mod app_marks;
 mod app_sets;
 mod board;
 mod calls;

@@ -11,11 +11,11 @@ ghost use Rattle.rh_base.specs.Lists.{head};
 ghost use Rattle.rh_place.specs.Sets.{has};
 ghost use Rattle.rh_rules.specs.Course.{is_local};
 ghost use Rattle.rh_rules.specs.Moves.{can_start, local_moves};
-ghost use Rattle.rh_settle.specs.Boards.{is_marked, marks_of, is_wanted, MarksLocals, IsReadyOf};
+ghost use Rattle.rh_model.specs.Marks.{is_marked, marks_of};
+ghost use Rattle.rh_settle.specs.Boards.{is_wanted, MarksLocals, IsReadyOf};
 
-use crate::app_marks::{AppMarks, pushed};
 use crate::search::{is_local, starts, starts_at};
-use rh_model::{App, Node};
+use rh_model::{App, AppMarks, Node, pushed};
 use rh_place::NodeSet;
 use rh_state::{Standing, State};
 use std::marker::Model;

@@ -19,10 +19,9 @@ ghost use Rattle.rh_settle.specs.Boards.{MarksLocals, IsExactAt, IsBoardOf};
 ghost use Rattle.rh_rules.specs.Moves.{can_start, local_moves, placements, comes_before, takeovers, takeovers_from};
 ghost use Rattle.rh_rules.specs.Settling.{next_moves};
 
-use crate::app_marks::AppMarks;
 use crate::board::Board;
 use crate::ready::Ready;
-use rh_model::{App, Cluster, Group, Node};
+use rh_model::{App, AppMarks, Cluster, Group, Node};
 use rh_place::{NodeSet, Pick, best, deps_run};
 use rh_rules::{Move, Pair};
 use rh_state::{Place, Standing, State};

@@ -3,7 +3,8 @@ use Rattle.rh_model.specs.declared.limits.TheConstants.{MAX_APPS}
 use Rattle.rh_model.specs.declared.node.App.{App}
 use Rattle.rh_model.specs.declared.node.Node.{Node}
 use Rattle.rh_place.specs.declared.node_set.TheConstants.NodeSet.{LIMIT}
-use Rattle.rh_settle.specs.Boards.{is_among, is_marked, Covers}
+use Rattle.rh_model.specs.Marks.{is_marked}
+use Rattle.rh_settle.specs.Boards.{is_among, Covers}
 use Rattle.rh_rules.specs.Course.{is_fresh}
 use Rattle.rh_settle.proofs.board.add_fresh.Given as goal
 

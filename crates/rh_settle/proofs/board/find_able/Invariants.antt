@@ -3,7 +3,8 @@ use Rattle.rh_model.specs.declared.node.App.{App}
 use Rattle.rh_model.specs.declared.node.Node.{Node}
 use Rattle.rh_state.specs.Stored.{read}
 use Rattle.rh_rules.specs.Placing.{is_operational}
-use Rattle.rh_settle.specs.Boards.{is_among, is_marked, is_asked}
+use Rattle.rh_model.specs.Marks.{is_marked}
+use Rattle.rh_settle.specs.Boards.{is_among, is_asked}
 use Rattle.rh_settle.proofs.board.find_able.Given as goal
 
 abbrev pub invariant-apps : goal.invariant-apps

@@ -4,7 +4,8 @@ use Rattle.rh_model.specs.declared.node.Node.{Node}
 use Rattle.rh_state.specs.Numbers.{same_node}
 use Rattle.rh_state.specs.Stored.{read}
 use Rattle.rh_rules.specs.Placing.{is_operational}
-use Rattle.rh_settle.specs.Boards.{is_among, is_marked, is_touched, matters}
+use Rattle.rh_model.specs.Marks.{is_marked}
+use Rattle.rh_settle.specs.Boards.{is_among, is_touched, matters}
 use Rattle.rh_settle.proofs.board.look_again_at.Given as goal
 
 abbrev pub invariant-apps : goal.invariant-apps

@@ -3,7 +3,7 @@ use Rattle.std.proofs.lemmas.List.{take_all}
 use Rattle.rh_model.specs.declared.node.App.{App}
 use Rattle.rh_state.specs.Lists.{has_app}
 use Rattle.rh_state.specs.Numbers.{same_app}
-use Rattle.rh_settle.specs.Boards.{is_marked}
+use Rattle.rh_model.specs.Marks.{is_marked}
 use Rattle.rh_settle.proofs.Touches.{touched_is}
 use Rattle.rh_settle.proofs.board.mark_touching.Goals as goal
 

@@ -1,6 +1,6 @@
 use Rattle.std.proofs.Common.{◌<◌, arith, sym, ◌∙◌, refl}
 use Rattle.rh_model.specs.ClusterView.{app_count}
-use Rattle.rh_settle.specs.Boards.{is_marked}
+use Rattle.rh_model.specs.Marks.{is_marked}
 use Rattle.rh_settle.proofs.Touches.{marked_local, marked_past, marked_all}
 use Rattle.rh_settle.proofs.board.touching_apps.Goals as goal
 

@@ -3,7 +3,8 @@ use Rattle.std.specs.List.{list_any}
 use Rattle.rh_model.specs.declared.node.App.{App}
 use Rattle.rh_model.specs.ClusterView.{app_count}
 use Rattle.rh_state.specs.Numbers.{apps_of}
-use Rattle.rh_settle.specs.Boards.{is_marked, is_touched}
+use Rattle.rh_model.specs.Marks.{is_marked}
+use Rattle.rh_settle.specs.Boards.{is_touched}
 use Rattle.rh_rules.specs.Course.{is_local}
 use Rattle.rh_settle.proofs.board.touching_apps.Given as goal
 

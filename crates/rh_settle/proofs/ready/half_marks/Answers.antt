@@ -3,7 +3,8 @@ use Rattle.rh_model.specs.ClusterView.{ClusterView, app_numbered}
 use Rattle.rh_state.specs.StateView.{standing_of}
 use Rattle.rh_state.specs.Stored.{read}
 use Rattle.rh_rules.specs.Course.{is_local}
-use Rattle.rh_settle.specs.Boards.{marks_of, is_wanted}
+use Rattle.rh_model.specs.Marks.{marks_of}
+use Rattle.rh_settle.specs.Boards.{is_wanted}
 use Rattle.rh_settle.proofs.Starts.{pushed}
 use Rattle.rh_settle.proofs.ready.half_marks.Goals as goal
 

@@ -3,7 +3,8 @@ use Rattle.rh_model.specs.declared.node.App.{App}
 use Rattle.rh_state.specs.StateView.{standing_of}
 use Rattle.rh_state.specs.Stored.{read}
 use Rattle.rh_rules.specs.Course.{is_local}
-use Rattle.rh_settle.specs.Boards.{is_marked, marks_of, is_wanted}
+use Rattle.rh_model.specs.Marks.{is_marked, marks_of}
+use Rattle.rh_settle.specs.Boards.{is_wanted}
 use Rattle.rh_settle.proofs.ready.half_marks.Given as goal
 
 -- the applications from this number on have their marks, which are still to move up by so many

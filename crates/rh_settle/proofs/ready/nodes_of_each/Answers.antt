@@ -7,7 +7,7 @@ use Rattle.rh_state.specs.Stored.{read}
 use Rattle.rh_base.proofs.Lists.{cases}
 use Rattle.rh_place.specs.Sets.{has}
 use Rattle.rh_rules.specs.Moves.{can_start}
-use Rattle.rh_settle.specs.Boards.{is_marked}
+use Rattle.rh_model.specs.Marks.{is_marked}
 use Rattle.rh_settle.proofs.GroupWalks.{neither}
 use Rattle.rh_settle.proofs.Starts.{one_starts, none_starts}
 use Rattle.rh_settle.proofs.TakenMarks.{one_taken}

@@ -6,7 +6,7 @@ use Rattle.rh_state.specs.Stored.{read}
 use Rattle.rh_base.specs.Lists.{head}
 use Rattle.rh_place.specs.Sets.{has}
 use Rattle.rh_rules.specs.Moves.{can_start, local_moves}
-use Rattle.rh_settle.specs.Boards.{is_marked}
+use Rattle.rh_model.specs.Marks.{is_marked}
 use Rattle.rh_settle.proofs.ready.nodes_of_each.Given as goal
 
 -- at these nodes a local application can start, and at no other one of those that were asked for

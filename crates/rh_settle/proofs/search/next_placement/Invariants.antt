@@ -3,7 +3,7 @@ use Rattle.rh_model.specs.declared.node.App.{App}
 use Rattle.rh_state.specs.Shape.{IsAppOf}
 use Rattle.rh_rules.specs.Moves.{placements}
 use Rattle.rh_state.specs.Stored.{read}
-use Rattle.rh_settle.specs.Boards.{is_marked}
+use Rattle.rh_model.specs.Marks.{is_marked}
 use Rattle.rh_settle.proofs.search.next_placement.Given as goal
 
 -- the applications so far aren't placed

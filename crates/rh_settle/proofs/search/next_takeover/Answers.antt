@@ -4,7 +4,7 @@ use Rattle.rh_model.specs.ClusterView.{ClusterView, app_count}
 use Rattle.rh_state.specs.Shape.{IsAppOf}
 use Rattle.rh_base.proofs.Lists.{cases}
 use Rattle.rh_rules.specs.Moves.{takeovers}
-use Rattle.rh_settle.specs.Boards.{is_marked}
+use Rattle.rh_model.specs.Marks.{is_marked}
 use Rattle.rh_settle.proofs.Boards.{unmarked_kept}
 use Rattle.rh_settle.proofs.Searches.{found_behind, none_behind, none_picked}
 use Rattle.rh_settle.proofs.TakenMarks.{one_taken}

@@ -3,7 +3,8 @@ use Rattle.rh_model.specs.declared.node.App.{App}
 use Rattle.rh_state.specs.Shape.{IsAppOf}
 use Rattle.rh_state.specs.Stored.{read}
 use Rattle.rh_rules.specs.declared.notice.Pair.{Pair}
-use Rattle.rh_settle.specs.Boards.{is_marked, IsBoardOf}
+use Rattle.rh_model.specs.Marks.{is_marked}
+use Rattle.rh_settle.specs.Boards.{IsBoardOf}
 use Rattle.rh_rules.specs.Moves.{takeovers}
 use Rattle.rh_settle.proofs.search.next_takeover.Given as goal
 

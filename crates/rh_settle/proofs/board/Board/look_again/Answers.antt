@@ -1,7 +1,8 @@
 use Rattle.std.proofs.Common.{cond, ap, ◌∙◌}
 use Rattle.rh_place.specs.Sets.{has}
 use Rattle.rh_settle.specs.declared.board.Board.TheInside.{Inside}
-use Rattle.rh_settle.specs.Boards.{BoardView, is_marked}
+use Rattle.rh_model.specs.Marks.{is_marked}
+use Rattle.rh_settle.specs.Boards.{BoardView}
 use Rattle.rh_settle.proofs.Entries.{both}
 use Rattle.rh_settle.proofs.Places.{same_refl}
 use Rattle.rh_settle.proofs.board.Board.look_again.Goals as goal

@@ -8,7 +8,8 @@ use Rattle.rh_model.specs.declared.limits.TheConstants.{MAX_APPS}
 use Rattle.rh_place.specs.declared.node_set.TheConstants.NodeSet.{LIMIT}
 use Rattle.rh_place.specs.Sets.{has}
 use Rattle.rh_rules.specs.declared.notice.Pair.{Pair}
-use Rattle.rh_settle.specs.Boards.{ReadyView, is_among, is_marked, is_wanted, touches_local, matters}
+use Rattle.rh_model.specs.Marks.{is_marked}
+use Rattle.rh_settle.specs.Boards.{ReadyView, is_among, is_wanted, touches_local, matters}
 use Rattle.rh_rules.specs.Course.{is_fresh, is_local}
 use Rattle.rh_state.specs.StateView.{standing_of}
 use Rattle.rh_state.specs.Stored.{read}
