@@ -1,13 +1,15 @@
 -- Where a local application can start.
-use Rattle.std.proofs.Common.{◌≡◌, ◌<◌, ◌≤◌, ◌+◌, ◌-◌, ℕ, Bool, true, false, cond, ◌&&◌, ◌||◌, List, [], ◌∷◌, refl, sym, ap, ◌∙◌, arith, is_some, None}
+use Rattle.std.proofs.Common.{◌≡◌, ◌<◌, ◌≤◌, ◌+◌, ◌-◌, ℕ, Bool, true, false, cond, ◌&&◌, ◌||◌, List, [], ◌∷◌, refl, sym, ap, ◌∙◌, arith, is_some, Option, None, Some, slice_get, unwrap_or}
 use Rattle.std.specs.List.{list_any}
+use Rattle.std.proofs.lemmas.List.Folds.{list_any_at}
+use Rattle.std.proofs.lemmas.Option.{slice_get_within, get_or_from_slice_get}
 use Rattle.rh_model.specs.declared.node.Node.{Node}
 use Rattle.rh_model.specs.declared.node.App.{App}
 use Rattle.rh_model.specs.ClusterView.{app_numbered}
 use Rattle.rh_state.specs.Numbers.{same_app}
 use Rattle.rh_state.specs.Lists.{has_app}
 use Rattle.rh_state.specs.Shape.{IsShaped, IsAppOf}
-use Rattle.rh_state.specs.StateView.{StateView, waiting_at, waits_at, runs_at, is_allowed}
+use Rattle.rh_state.specs.StateView.{StateView, waiting_at, waits_at, runs_at, is_allowed, standing_of}
 use Rattle.rh_base.specs.Lists.{or_else, first_given, head}
 use Rattle.rh_base.proofs.Lists.{cases}
 use Rattle.rh_rules.specs.Placing.{deps_run}
@@ -22,7 +24,9 @@ use Rattle.rh_rules.specs.Placing.{picked}
 use Rattle.rh_rules.specs.Settling.{next_moves}
 use Rattle.rh_settle.specs.Calls.{can_call}
 use Rattle.rh_model.specs.Marks.{AppMarks, is_marked}
-use Rattle.rh_settle.specs.Boards.{ReadyView, MarksLocals, IsReadyOf}
+use Rattle.rh_state.specs.declared.status.Standing.{Standing}
+use Rattle.rh_state.specs.declared.status.Standing.TheVariants.{Quiet}
+use Rattle.rh_settle.specs.Boards.{is_wanted, ReadyView, MarksLocals, IsReadyOf}
 use Rattle.rh_settle.proofs.Boards.{given_nowhere, no_head, unwanted_stays}
 use Rattle.rh_settle.proofs.Callers.{uncalled_stays}
 use Rattle.rh_settle.proofs.Entries.{both, same_number, is_false}
@@ -119,3 +123,13 @@ nothing_moves s fresh r pick shape ready starts wanted none =
     (either_none pick (first_given (placements s) (apps_of s.cluster)) _ None
     (none_behind pick s.cluster (placements s) (λ a of. unwanted_stays s a (sym (ready.wanted a of) ∙ wanted a)))
     (none_behind pick s.cluster (takeovers s fresh) (λ a of. uncalled_stays s fresh a none)))
+
+-- where none of all standings is that of an application which is to run, no application is to run
+pub none_wanted : (s : StateView) → list_any is_wanted s.standings ≡ false → (a : App) → is_wanted (standing_of s a) ≡ false
+none_wanted s none a = by (slice_get s.standings a.0) refl
+  where
+    by : (o : Option Standing) → slice_get s.standings a.0 ≡ o → is_wanted (standing_of s a) ≡ false
+    by None at = ap (λ (q : Option Standing). is_wanted (unwrap_or q Quiet)) at
+    by (Some x) at = ap (λ (q : Option Standing). is_wanted (unwrap_or q Quiet)) at
+        ∙ is_false (is_wanted x) (λ t. both (list_any is_wanted s.standings)
+        (list_any_at is_wanted s.standings a.0 x (slice_get_within s.standings a.0 x at) (ap is_wanted (get_or_from_slice_get s.standings a.0 x x at) ∙ t)) none)

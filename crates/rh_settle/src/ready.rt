@@ -1,6 +1,7 @@
 //! What can move of itself, whatever pairs are fresh.
 
 ghost use Rattle.std.specs.Prelude.{◌≡◌, ◌<◌, ◌≤◌, ◌+◌, ◌&&◌, ◌||◌, true, false, is_some};
+ghost use Rattle.std.specs.List.{list_any};
 ghost use Rattle.rh_model.specs.ClusterView.{app_count};
 ghost use Rattle.rh_model.specs.declared.node.App.{App};
 ghost use Rattle.rh_model.specs.declared.node.Node.{Node};
@@ -9,12 +10,11 @@ ghost use Rattle.rh_state.specs.StateView.{standing_of, waits_at};
 ghost use Rattle.rh_state.specs.Stored.{read};
 ghost use Rattle.rh_base.specs.Lists.{head};
 ghost use Rattle.rh_place.specs.Sets.{has};
-ghost use Rattle.rh_rules.specs.Course.{is_local};
 ghost use Rattle.rh_rules.specs.Moves.{can_start, local_moves};
 ghost use Rattle.rh_model.specs.Marks.{is_marked, marks_of};
 ghost use Rattle.rh_settle.specs.Boards.{is_wanted, MarksLocals, IsReadyOf};
 
-use crate::search::{is_local, starts, starts_at};
+use crate::search::{starts, starts_at};
 use rh_model::{App, AppMarks, Node, pushed};
 use rh_place::NodeSet;
 use rh_state::{Standing, State};
@@ -44,11 +44,11 @@ impl Ready {
     pub fn of(state: &State) -> Ready
         ensures { IsReadyOf (read state.now) result }
     {
-        let (local, wanted) = all_marks(state);
+        let local = local_marks(state);
         Ready {
             starts: local_nodes(state, &local),
             local,
-            wanted,
+            wanted: wanted_marks(state),
         }
     }
 
@@ -69,42 +69,62 @@ pub(crate) fn is_wanted(state: &State, app: App) -> bool
     matches!(state.standing(app), Standing::Wanted(_))
 }
 
-// The marks of up to 64 applications, those from a number on, that are local, and of those that are to run. It begins at the
-// last one, so that all marks move up by one place each time: to shift a bit to the place of each application costs more.
-fn half_marks(state: &State, from: usize, end: usize) -> (u64, u64)
+// The local applications.
+fn local_marks(state: &State) -> AppMarks
+    ensures { MarksLocals (read state.now).cluster result }
+{
+    state.cluster().locals()
+}
+
+// Is one of these applications to run?
+fn has_wanted(standings: &[Standing]) -> bool
+    ensures { result ≡ list_any is_wanted standings.now }
+{
+    standings
+        .iter()
+        .any(|standing| matches!(*standing, Standing::Wanted(_)))
+}
+
+// The marks of up to 64 applications, those from a number on, that are to run. It begins at the last one, so that all marks
+// move up by one place each time: to shift a bit to the place of each application costs more.
+fn half_marks(state: &State, from: usize, end: usize) -> u64
     requires end { end ≤ app_count (read state.now).cluster }
     requires from { from ≤ end }
     requires few { end ≤ from + 64 }
-    ensures local { (a b : App) → a.0 < end → a.0 ≡ b.0 + from → is_marked (marks_of result.0) b ≡ is_local (read state.now).cluster a }
-    ensures wanted { (a b : App) → a.0 < end → a.0 ≡ b.0 + from → is_marked (marks_of result.1) b ≡ is_wanted (standing_of (read state.now) a) }
+    ensures { (a b : App) → a.0 < end → a.0 ≡ b.0 + from → is_marked (marks_of result) b ≡ is_wanted (standing_of (read state.now) a) }
 {
     let _few_apps = state.cluster().app_count();
-    let mut local = 0;
     let mut wanted = 0;
     let mut number = end;
     'apps: while number > from {
         number -= 1;
         let app = App(number as u8);
-        local = pushed(local, is_local(state.cluster(), app));
         wanted = pushed(wanted, is_wanted(state, app));
     }
-    (local, wanted)
+    wanted
 }
 
-// The applications that are local, and those that are to run. Each half of them has marks in a word of its own on the way: a
-// mark that moves up in a word of twice that size takes twice the instructions.
-fn all_marks(state: &State) -> (AppMarks, AppMarks)
-    ensures local { MarksLocals (read state.now).cluster result.0 }
-    ensures wanted { (a : App) → IsAppOf (read state.now).cluster a → is_marked result.1 a ≡ is_wanted (standing_of (read state.now) a) }
+// The applications of a state that are to run. Each half of them has marks in a word of its own on the way: a mark that moves
+// up in a word of twice that size takes twice the instructions.
+fn all_marks(state: &State) -> AppMarks
+    ensures { (a : App) → IsAppOf (read state.now).cluster a → is_marked result a ≡ is_wanted (standing_of (read state.now) a) }
 {
     let count = state.cluster().app_count();
     let half = if count < 64 { count } else { 64 };
     let low = half_marks(state, 0, half);
     let high = half_marks(state, half, count);
-    (
-        AppMarks::of_halves(low.0, high.0),
-        AppMarks::of_halves(low.1, high.1),
-    )
+    AppMarks::of_halves(low, high)
+}
+
+// The same, where mostly none is to run: to ask that of all of them at once costs less than their marks.
+fn wanted_marks(state: &State) -> AppMarks
+    ensures { (a : App) → IsAppOf (read state.now).cluster a → is_marked result a ≡ is_wanted (standing_of (read state.now) a) }
+{
+    if has_wanted(state.standings()) {
+        all_marks(state)
+    } else {
+        AppMarks::empty()
+    }
 }
 
 // The nodes of a set, and those at which a local application waits and can start.

@@ -26,8 +26,8 @@ use rh_place::{NodeSet, Pick, best, deps_run};
 use rh_rules::{Move, Pair};
 use rh_state::{Place, Standing, State};
 
-/// Isn't the application distributed?
-pub(crate) fn is_local(cluster: &Cluster, app: App) -> bool
+// Isn't the application distributed?
+fn is_local(cluster: &Cluster, app: App) -> bool
     requires { app.0 < app_count cluster.now }
     ensures { result ≡ is_local cluster.now app }
 {

@@ -1,8 +1,6 @@
-use Rattle.std.proofs.Common.{◌-◌, ◌+◌, ◌<◌, ◌≤◌, arith, ap, ◌∙◌}
-use Rattle.rh_model.specs.ClusterView.{ClusterView, app_numbered}
+use Rattle.std.proofs.Common.{◌-◌, ◌+◌, ◌<◌, ◌≤◌, arith, ◌∙◌}
 use Rattle.rh_state.specs.StateView.{standing_of}
 use Rattle.rh_state.specs.Stored.{read}
-use Rattle.rh_rules.specs.Course.{is_local}
 use Rattle.rh_model.specs.Marks.{marks_of}
 use Rattle.rh_settle.specs.Boards.{is_wanted}
 use Rattle.rh_settle.proofs.Starts.{pushed}
@@ -19,9 +17,6 @@ apps-preserved c =
     record {
       few = omega (arith, few);
       above = omega (arith, some);
-      local = pushed (is_local s.cluster) (marks_of c.apps.local) (marks_of c.pushed-local.result) c.args.end i least few limit
-          (λ a first. c.pushed-local.ensures.first a first ∙ c.is_local.ensures ∙ ap (λ (v : ClusterView). is_local v (app_numbered (i - 1))) c.cluster-in-apps.ensures)
-          c.pushed-local.ensures.others c.apps.invariant.local;
       wanted = pushed (λ a. is_wanted (standing_of s a)) (marks_of c.apps.wanted) (marks_of c.pushed-wanted.result) c.args.end i least few limit
           (λ a first. c.pushed-wanted.ensures.first a first ∙ c.is_wanted.ensures)
           c.pushed-wanted.ensures.others c.apps.invariant.wanted;

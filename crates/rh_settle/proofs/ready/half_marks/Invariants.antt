@@ -2,7 +2,6 @@ use Rattle.std.proofs.Common.{◌≡◌, ◌+◌, ◌<◌, ◌≤◌}
 use Rattle.rh_model.specs.declared.node.App.{App}
 use Rattle.rh_state.specs.StateView.{standing_of}
 use Rattle.rh_state.specs.Stored.{read}
-use Rattle.rh_rules.specs.Course.{is_local}
 use Rattle.rh_model.specs.Marks.{is_marked, marks_of}
 use Rattle.rh_settle.specs.Boards.{is_wanted}
 use Rattle.rh_settle.proofs.ready.half_marks.Given as goal
@@ -12,7 +11,6 @@ abbrev pub invariant-apps : goal.invariant-apps
 invariant-apps l = record {
   few : l.number ≤ l.end;
   above : l.from ≤ l.number;
-  local : (a b : App) → a.0 < l.end → a.0 ≡ b.0 + l.number → is_marked (marks_of l.local) b ≡ is_local (read l.state).cluster a;
   wanted : (a b : App) → a.0 < l.end → a.0 ≡ b.0 + l.number → is_marked (marks_of l.wanted) b ≡ is_wanted (standing_of (read l.state) a);
 }
 
