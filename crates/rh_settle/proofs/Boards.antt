@@ -326,16 +326,15 @@ kept_moved s (Takeover x l n) b k shape of h = record {
 -- what a look at a node behind a move of an application leaves, and what it finds
 pub record Looked (t : StateView) (x : App) (b c : BoardView) (n : Node) : Type 0 where
   pub marks : c.local ≡ b.local
-  pub touching : c.touching ≡ b.touching
   pub moving : c.moving ≡ b.moving
   pub fresh : c.fresh ≡ b.fresh
-  pub local : is_marked b.touching x ≡ true → has c.starts n ≡ is_some (head (local_moves t n))
-  pub apart : is_marked b.touching x ≡ false → c.starts ≡ b.starts
+  pub local : touches_local t.cluster x ≡ true → has c.starts n ≡ is_some (head (local_moves t n))
+  pub apart : touches_local t.cluster x ≡ false → c.starts ≡ b.starts
   pub starts : (k : Node) → same_node k n ≡ false → has c.starts k ≡ has b.starts k
   pub here : (a : App) → IsAppOf t.cluster a → is_marked c.moving a ≡ true → is_touched t.cluster x a ≡ true → matters t c.fresh a n ≡ true → is_among c.able a n ≡ is_operational t a n
   pub able : (a : App) (k : Node) → is_touched t.cluster x a && same_node k n ≡ false → is_among c.able a k ≡ is_among b.able a k
 
-module _ (t : StateView) (x : App) (b c : BoardView) (n k : Node) (look : Looked t x b c n) (mark : is_marked b.touching x ≡ touches_local t.cluster x) where
+module _ (t : StateView) (x : App) (b c : BoardView) (n k : Node) (look : Looked t x b c n) where
   mattered_too : (a : App) → matters t c.fresh a k ≡ true → matters t b.fresh a k ≡ true
   mattered_too a m = sym (ap (λ (fresh : AppSets). matters t fresh a k) look.fresh) ∙ m
 
@@ -347,7 +346,7 @@ module _ (t : StateView) (x : App) (b c : BoardView) (n k : Node) (look : Looked
 
   look_kept : IsKeptAt t x b k → IsKeptAt t x c k
   look_kept kept = record {
-    starts = λ u. ap (λ (nodes : NodeBits). has nodes k) (look.apart (mark ∙ u)) ∙ kept.starts u;
+    starts = λ u. ap (λ (nodes : NodeBits). has nodes k) (look.apart u) ∙ kept.starts u;
     moving = λ a of m. marked_too a (kept.moving a of (mattered_too a m));
     able = λ a of u m. look.able a k (ap (λ p. p && same_node k n) u) ∙ kept.able a of u (asked_too a m);
   }
@@ -363,7 +362,7 @@ module _ (t : StateView) (x : App) (b c : BoardView) (n k : Node) (look : Looked
     where
       here : IsKeptAt t x c n → IsExactAt t c n
       here kept = record {
-        starts = cases (touches_local t.cluster x) (λ y. look.local (mark ∙ y)) (λ u. kept.starts u);
+        starts = cases (touches_local t.cluster x) (λ y. look.local y) (λ u. kept.starts u);
         moving = kept.moving;
         able = λ a of m. let mattering = asked_matters (is_wanted (standing_of t a)) (is_some (group_of t.cluster a n)) (is_among c.fresh a n) m in
             cases (is_touched t.cluster x a) (λ y. look.here a of (kept.moving a of mattering) y mattering) (λ u. kept.able a of u m);
@@ -384,10 +383,6 @@ module _ (s t : StateView) (m : Move) (pairs : List Pair) (is : t ≡ moved_stat
   same_cluster : t.cluster ≡ s.cluster
   same_cluster = ap (λ (u : StateView). u.cluster) is ∙ cluster_same s m
 
-  still_marked : (b c : BoardView) → c.touching ≡ b.touching → IsBoardOf s pairs b → (a : App) → is_marked c.touching a ≡ touches_local t.cluster a
-  still_marked b c touching h a =
-      ap (λ (marks : AppMarks). is_marked marks a) touching ∙ h.touching a ∙ ap (λ (v : ClusterView). touches_local v a) (sym same_cluster)
-
   still_local : (b c : BoardView) → c.local ≡ b.local → IsBoardOf s pairs b → MarksLocals t.cluster c.local
   still_local b c marks h = subst (λ (ms : AppMarks). MarksLocals t.cluster ms) (sym marks)
       (subst (λ (v : ClusterView). MarksLocals v b.local) (sym same_cluster) h.local)
@@ -401,22 +396,19 @@ module _ (s t : StateView) (m : Move) (pairs : List Pair) (is : t ≡ moved_stat
   pub followed : (b c : BoardView) (n : Node) → ((k : Node) → k.0 ≢ n.0 → Apart m k) → Looked t (mover m) b c n → IsBoardOf s pairs b → IsBoardOf t pairs c
   followed b c n apart look h = record {
     local = still_local b c look.marks h;
-    touching = still_marked b c look.touching h;
     fresh = still_fresh b c look.fresh h;
-    exact = λ k. looked_at t (mover m) b c n k look (still_marked b b refl h (mover m)) (kept_at b k (h.exact k)) (λ d. still_at b k (apart k d) (h.exact k));
+    exact = λ k. looked_at t (mover m) b c n k look (kept_at b k (h.exact k)) (λ d. still_at b k (apart k d) (h.exact k));
   }
 
   pub followed_twice : (b c d : BoardView) (n l : Node) → ((k : Node) → k.0 ≢ n.0 → k.0 ≢ l.0 → Apart m k) → Looked t (mover m) b c n → Looked t (mover m) c d l
       → IsBoardOf s pairs b → IsBoardOf t pairs d
   followed_twice b c d n l apart look again h = record {
     local = still_local b d (again.marks ∙ look.marks) h;
-    touching = still_marked b d (again.touching ∙ look.touching) h;
     fresh = still_fresh b d (again.fresh ∙ look.fresh) h;
     exact = λ k.
         let kept = kept_at b k (h.exact k) in
-        let mark = still_marked b b refl h (mover m) in
-        looked_at t (mover m) c d l k again (still_marked b c look.touching h (mover m)) (look_kept t (mover m) b c n k look mark kept)
-        (λ e. looked_at t (mover m) b c n k look mark kept (λ f. still_at b k (apart k f e) (h.exact k)));
+        looked_at t (mover m) c d l k again (look_kept t (mover m) b c n k look kept)
+        (λ e. looked_at t (mover m) b c n k look kept (λ f. still_at b k (apart k f e) (h.exact k)));
   }
 
 -- ---- what calls away

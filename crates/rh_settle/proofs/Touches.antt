@@ -1,19 +1,17 @@
 -- What a move that touches no local application leaves of a search for local moves.
-use Rattle.std.proofs.Common.{◌≡◌, ◌+◌, ◌-◌, ◌<◌, ◌≤◌, ℕ, zero, suc, subst, Bool, true, false, not, ◌&&◌, ◌||◌, List, [], ◌∷◌, ◌++◌, All, take, nat_eq, refl, sym, ap, ◌∙◌, arith, length, get_or}
+use Rattle.std.proofs.Common.{◌≡◌, ◌<◌, ◌≤◌, ℕ, suc, Bool, true, false, not, ◌&&◌, List, [], ◌∷◌, ◌++◌, All, refl, sym, ap, ◌∙◌, arith, Option, None, Some, IfSome, IsNone, is_some}
 use Rattle.std.specs.List.{list_any}
-use Rattle.std.proofs.lemmas.List.{take_all}
-use Rattle.std.proofs.lemmas.List.Folds.{list_any_at, list_any_more}
-use Rattle.std.proofs.lemmas.Bool.Decides.{nat_tests}
+use Rattle.std.proofs.lemmas.List.Folds.{list_any_at, list_any_none}
 use Rattle.rh_model.specs.declared.node.App.{App}
 use Rattle.rh_model.specs.ClusterView.{ClusterView, app_count, app_numbered}
-use Rattle.rh_model.specs.Needs.{needed_apps}
+use Rattle.rh_model.specs.Marks.{AppMarks, is_marked, touches}
 use Rattle.rh_state.specs.Numbers.{apps_of, same_app}
 use Rattle.rh_state.specs.Tables.{row}
-use Rattle.rh_state.specs.Lists.{has_app, without_app}
+use Rattle.rh_state.specs.Lists.{without_app}
 use Rattle.rh_state.specs.Shape.{IsAppOf}
 use Rattle.rh_base.specs.Lists.{or_else, first_given}
 use Rattle.rh_base.proofs.Lists.{cases}
-use Rattle.rh_settle.specs.Boards.{is_touched, touches_local}
+use Rattle.rh_settle.specs.Boards.{is_touched, touches_local, MarksLocals}
 use Rattle.rh_rules.specs.Course.{is_local}
 use Rattle.rh_settle.proofs.Entries.{taken, put, both, is_false, same_number}
 use Rattle.rh_settle.proofs.Every.{filter_no, filter_yes}
@@ -63,72 +61,72 @@ none_touched c x a none of here = is_false (is_touched c x a)
     p : App → Bool
     p b = is_local c b && is_touched c x b
 
--- ---- the marks of a cluster
-pub one_more : {A : Type 0} (p : A → Bool) (xs : List A) (i : ℕ) (d : A) (marked before : Bool) → i < length xs
-    → marked ≡ (before || list_any p (take i xs)) → (marked || p (get_or xs i d)) ≡ (before || list_any p (take (i + 1) xs))
-one_more p xs i d marked before lt h =
-    ap (λ b. b || p (get_or xs i d)) h ∙ or_assoc before (list_any p (take i xs)) (p (get_or xs i d)) ∙ ap (λ b. before || b) (sym (list_any_more p xs i d lt))
-  where
-    or_assoc : (p q r : Bool) → (p || q) || r ≡ p || (q || r)
-    or_assoc true q r = refl
-    or_assoc false q r = refl
-
-pub touched_is : (c : ClusterView) (x a : App) (before : Bool) → (before || same_app x a) || has_app (needed_apps c a) x ≡ before || is_touched c x a
-unfolding is_touched
-touched_is c x a true = refl
-touched_is c x a false = ap (λ b. b || has_app (needed_apps c a) x) (same_turned x.0 a.0)
-  where
-    same_turned : (i j : ℕ) → nat_eq i j ≡ nat_eq j i
-    same_turned i j = grind (arith, nat_tests)
-
-module _ (c : ClusterView) (x : App) (i : ℕ) (marked : Bool) (lt : i < app_count c) where
-  abbrev here : App → Bool
-  here a = is_local c a && is_touched c x a
-
-  marked_more : marked ≡ list_any here (take i (apps_of c)) → (marked || here (app_numbered i)) ≡ list_any here (take (i + 1) (apps_of c))
-  marked_more h = let d : App = app_numbered 0 in
-      ap (λ a. marked || here a) (sym (app_there c i d lt))
-      ∙ one_more here (apps_of c) i d marked false (let l = length_apps c in omega (arith, l, lt)) h
-
-  pub marked_local : marked ≡ list_any here (take i (apps_of c)) → is_local c (app_numbered i) ≡ true
-      → (marked || is_touched c x (app_numbered i)) ≡ list_any here (take (i + 1) (apps_of c))
-  marked_local h y = ap (λ b. marked || (b && is_touched c x (app_numbered i))) (sym y) ∙ marked_more h
-
-  pub marked_other : marked ≡ list_any here (take i (apps_of c)) → is_local c (app_numbered i) ≡ false
-      → marked ≡ list_any here (take (i + 1) (apps_of c))
-  marked_other h f = or_none marked ∙ ap (λ b. marked || (b && is_touched c x (app_numbered i))) (sym f) ∙ marked_more h
-    where
-      or_none : (p : Bool) → p ≡ (p || false)
-      or_none true = refl
-      or_none false = refl
-
--- those that aren't local are passed over
-pub marked_past : (c : ClusterView) (x : App) (i j : ℕ) (marked : Bool) → i ≤ j → j ≤ app_count c
-    → ((a : App) → i ≤ a.0 → a.0 < j → is_local c a ≡ false) → marked ≡ list_any (λ a. is_local c a && is_touched c x a) (take i (apps_of c))
-    → marked ≡ list_any (λ a. is_local c a && is_touched c x a) (take j (apps_of c))
-marked_past c x i j marked le few none h = subst (λ k. marked ≡ list_any here (take k (apps_of c))) (there i j le)
-    (by (j - i) (omega (arith, le, few)) (λ a from less. none a from (omega (arith, le, less))))
-  where
-    here : App → Bool
-    here a = is_local c a && is_touched c x a
-
-    there : (i j : ℕ) → i ≤ j → i + (j - i) ≡ j
-    there i j le = omega (arith, le)
-
-    further : (i d : ℕ) → (i + d) + 1 ≡ i + suc d
-    further i d = omega arith
-
-    nothing : (i : ℕ) → i ≡ i + 0
-    nothing i = omega arith
-
-    by : (d : ℕ) → i + d ≤ app_count c → ((a : App) → i ≤ a.0 → a.0 < i + d → is_local c a ≡ false) → marked ≡ list_any here (take (i + d) (apps_of c))
-    by zero few none = subst (λ k. marked ≡ list_any here (take k (apps_of c))) (nothing i) h
-    by (suc d) few none = subst (λ k. marked ≡ list_any here (take k (apps_of c))) (further i d)
-        (marked_other c x (i + d) marked (omega (arith, few)) (by d (omega (arith, few)) (λ a from less. none a from (omega (arith, less))))
-        (none (app_numbered (i + d)) (omega arith) (omega arith)))
-
-pub marked_all : (c : ClusterView) (x : App) (i : ℕ) (marked : Bool) → app_count c ≤ i
-    → marked ≡ list_any (λ a. is_local c a && is_touched c x a) (take i (apps_of c)) → marked ≡ touches_local c x
+-- and where each local one is, none is touched
+none_met : (c : ClusterView) (x : App) → ((a : App) → IsAppOf c a → (is_touched c x a && is_local c a) ≡ false) → touches_local c x ≡ false
 unfolding touches_local
-marked_all c x i marked ge h =
-    h ∙ ap (list_any (λ a. is_local c a && is_touched c x a)) (take_all i (apps_of c) (let l = length_apps c in omega (arith, l, ge)))
+none_met c x none = list_any_none p (apps_of c)
+    (λ k d lt. let inside : k < app_count c = (let l = length_apps c in omega (arith, l, lt)) in
+    ap p (app_there c k d inside) ∙ turned (is_local c (app_numbered k)) (is_touched c x (app_numbered k)) ∙ none (app_numbered k) inside)
+  where
+    p : App → Bool
+    p b = is_local c b && is_touched c x b
+
+    turned : (q r : Bool) → (q && r) ≡ (r && q)
+    turned true true = refl
+    turned true false = refl
+    turned false true = refl
+    turned false false = refl
+
+-- what a cluster keeps of a move is what it touches
+pub touched_is : (c : ClusterView) (x a : App) → touches c x a ≡ is_touched c x a
+unfolding is_touched
+touched_is c x a = refl
+
+-- the marks of the local applications that a move of this one touches
+module _ (c : ClusterView) (x : App) (touched local both : AppMarks)
+    (marks : (a : App) → is_marked both a ≡ (is_marked touched a && is_marked local a))
+    (kept : (a : App) → IsAppOf c a → is_marked touched a ≡ touches c x a) (locals : MarksLocals c local) where
+  met : (a : App) → IsAppOf c a → is_marked both a ≡ (is_touched c x a && is_local c a)
+  met a of = marks a ∙ (λ i. kept a of i && locals a of i) ∙ ap (λ p. p && is_local c a) (touched_is c x a)
+
+  pub meets_none : ((a : App) → IsAppOf c a → is_marked both a ≡ false) → touches_local c x ≡ false
+  meets_none none = none_met c x (λ a of. sym (met a of) ∙ none a of)
+
+  pub meets_one : (a : App) → IsAppOf c a → is_marked both a ≡ true → touches_local c x ≡ true
+  meets_one a of is = cases (touches_local c x) (λ y. y)
+      (λ f. let h = each (is_touched c x a) (is_local c a) (sym (met a of) ∙ is) in clash (is_touched c x a) h.0 (none_touched c x a f of h.1))
+    where
+      each : (p q : Bool) → p && q ≡ true → (p ≡ true) × (q ≡ true)
+      each true q h = (refl, h)
+      each false q h = cc
+
+      clash : {P : Type 0} (p : Bool) → p ≡ true → p ≡ false → P
+      clash p t f = cc
+
+  -- the first of them, if there is one
+  pub meets : (o : Option App) (count : ℕ) → count ≡ app_count c → IfSome o (λ a. is_marked both a ≡ true) → IfSome o (λ a. a.0 < count)
+      → (IsNone o → (b : App) → 0 ≤ b.0 → b.0 < count → is_marked both b ≡ false) → is_some o ≡ touches_local c x
+  meets None count all m l none = sym (meets_none (λ a of. none refl a (omega arith) (omega (arith, all, of))))
+  meets (Some a) count all m l none = sym (meets_one a (omega (arith, all, l)) m)
+
+-- the marks of the moving applications that a move of this one touches
+module _ (c : ClusterView) (x : App) (moving touched rest : AppMarks)
+    (marks : (a : App) → is_marked rest a ≡ (is_marked moving a && is_marked touched a))
+    (kept : (a : App) → IsAppOf c a → is_marked touched a ≡ touches c x a) where
+  left : (a : App) → IsAppOf c a → is_marked rest a ≡ (is_marked moving a && is_touched c x a)
+  left a of = marks a ∙ ap (λ p. is_marked moving a && p) (kept a of ∙ touched_is c x a)
+
+  pub left_touched : (a : App) → IsAppOf c a → is_marked rest a ≡ true → is_touched c x a ≡ true
+  left_touched a of is = second (is_marked moving a) (is_touched c x a) (sym (left a of) ∙ is)
+    where
+      second : (p q : Bool) → p && q ≡ true → q ≡ true
+      second true q h = h
+      second false q h = cc
+
+  pub none_left : {P : Type 0} (a : App) → IsAppOf c a → is_marked rest a ≡ false → is_marked moving a ≡ true → is_touched c x a ≡ true → P
+  none_left a of off m t = neither (is_marked moving a) (is_touched c x a) m t (sym (left a of) ∙ off)
+    where
+      neither : {P : Type 0} (p q : Bool) → p ≡ true → q ≡ true → p && q ≡ false → P
+      neither true true m t off = cc
+      neither true false m t off = cc
+      neither false q m t off = cc

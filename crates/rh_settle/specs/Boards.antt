@@ -1,5 +1,5 @@
 -- What settling keeps between its moves, so that no move is searched for from the beginning (ours).
-use Rattle.std.specs.Prelude.{◌≡◌, ◌==◌, ◌&&◌, ◌||◌, ℕ, List, [], ◌∷◌, Bool, true, false, slice_get, unwrap_or, is_some}
+use Rattle.std.specs.Prelude.{◌≡◌, ◌&&◌, ◌||◌, List, [], ◌∷◌, Bool, true, false, slice_get, unwrap_or, is_some}
 use Rattle.std.specs.List.{list_any}
 use Rattle.rh_model.specs.declared.node.Node.{Node}
 use Rattle.rh_model.specs.declared.node.App.{App}
@@ -39,11 +39,10 @@ pub record ReadyView : Type 0 where
   pub local : AppMarks
   pub wanted : AppMarks
 
--- a set of nodes, and for each application three marks and two sets of nodes
+-- a set of nodes, and for each application two marks and two sets of nodes
 pub record BoardView : Type 0 where
   pub starts : NodeBits
   pub local : AppMarks
-  pub touching : AppMarks
   pub moving : AppMarks
   pub fresh : AppSets
   pub able : AppSets
@@ -90,11 +89,9 @@ pub record IsExactAt (s : StateView) (b : BoardView) (n : Node) : Type 0 where
   pub moving : (a : App) → IsAppOf s.cluster a → matters s b.fresh a n ≡ true → is_marked b.moving a ≡ true
   pub able : (a : App) → IsAppOf s.cluster a → is_asked s b.fresh a n ≡ true → is_among b.able a n ≡ is_operational s a n
 
--- the same of each node, the fresh pairs are these, and those are marked that are local, and those whose moves touch a
--- local application
+-- the same of each node, the fresh pairs are these, and those are marked that are local
 pub record IsBoardOf (s : StateView) (pairs : List Pair) (b : BoardView) : Type 0 where
   pub local : MarksLocals s.cluster b.local
-  pub touching : (a : App) → is_marked b.touching a ≡ touches_local s.cluster a
   pub fresh : (a : App) (n : Node) → IsAppOf s.cluster a → IsNodeOf s.cluster n → is_among b.fresh a n ≡ is_fresh pairs n a
   pub exact : (n : Node) → IsExactAt s b n
 

@@ -6,8 +6,6 @@ ghost use Rattle.rh_model.specs.declared.limits.TheConstants.{MAX_APPS};
 ghost use Rattle.rh_model.specs.declared.node.App.{App};
 ghost use Rattle.rh_model.specs.declared.node.Node.{Node};
 ghost use Rattle.rh_model.specs.ClusterView.{node_count, app_count, group_of, is_in};
-ghost use Rattle.rh_model.specs.Needs.{needed_apps};
-ghost use Rattle.rh_state.specs.Lists.{has_app};
 ghost use Rattle.rh_state.specs.Numbers.{same_app, same_node};
 ghost use Rattle.rh_state.specs.Shape.{IsNodeOf, IsAppOf};
 ghost use Rattle.rh_state.specs.StateView.{StateView, standing_of};
@@ -38,8 +36,6 @@ pub(crate) struct Board {
     starts: NodeSet,
     // The local applications.
     local: AppMarks,
-    // The applications of which a move can change that: the local ones, and those that a local one needs.
-    touching: AppMarks,
     // The applications that can be placed or taken over: those that are to run, and those that have a fresh pair.
     moving: AppMarks,
     // For each application the nodes of its fresh pairs.
@@ -54,7 +50,7 @@ impl Model for Board {
 
     ghost Value = { BoardView };
 
-    ghost view = { λ b. record { starts = b.starts; local = b.local; touching = b.touching; moving = b.moving; fresh = b.fresh; able = b.able } };
+    ghost view = { λ b. record { starts = b.starts; local = b.local; moving = b.moving; fresh = b.fresh; able = b.able } };
 }
 
 impl Board {
@@ -65,11 +61,9 @@ impl Board {
     {
         let _few_apps = state.cluster().app_count();
         let _few_nodes = state.cluster().node_count();
-        let touching = touching_apps(state.cluster(), &ready.local);
         let mut board = Board {
             starts: ready.starts,
             local: ready.local,
-            touching,
             moving: ready.wanted,
             fresh: AppSets::empty(),
             able: AppSets::empty(),
@@ -116,18 +110,17 @@ impl Board {
         requires node { IsNodeOf (read state.now).cluster node }
         requires marks { MarksLocals (read state.now).cluster self.old.local }
         ensures marks { self.new.local ≡ self.old.local }
-        ensures touching { self.new.touching ≡ self.old.touching }
         ensures moving { self.new.moving ≡ self.old.moving }
         ensures fresh { self.new.fresh ≡ self.old.fresh }
-        ensures local { is_marked self.old.touching moved ≡ true → has self.new.starts node ≡ is_some (head (local_moves (read state.now) node)) }
-        ensures apart { is_marked self.old.touching moved ≡ false → self.new.starts ≡ self.old.starts }
+        ensures local { touches_local (read state.now).cluster moved ≡ true → has self.new.starts node ≡ is_some (head (local_moves (read state.now) node)) }
+        ensures apart { touches_local (read state.now).cluster moved ≡ false → self.new.starts ≡ self.old.starts }
         ensures starts { (n : Node) → same_node n node ≡ false → has self.new.starts n ≡ has self.old.starts n }
         ensures here { (a : App) → IsAppOf (read state.now).cluster a → is_marked self.new.moving a ≡ true → is_touched (read state.now).cluster moved a ≡ true → matters (read state.now) self.new.fresh a node ≡ true → is_among self.new.able a node ≡ is_operational (read state.now) a node }
         ensures able { (a : App) (n : Node) → is_touched (read state.now).cluster moved a && same_node n node ≡ false → is_among self.new.able a n ≡ is_among self.old.able a n }
     {
         let _few_apps = state.cluster().app_count();
         let _few_nodes = state.cluster().node_count();
-        if self.touching.has(moved) {
+        if touches_local(state.cluster(), &self.local, moved) {
             self.starts = self.starts.put(node, starts_at(state, &self.local, node));
         }
         look_again_at(
@@ -159,32 +152,15 @@ impl Board {
     }
 }
 
-// Marks an application and those that it needs.
-fn mark_touching(marks: &mut AppMarks, cluster: &Cluster, app: App)
-    requires { IsAppOf cluster.now app }
-    ensures { (a : App) → is_marked marks.new a ≡ (is_marked marks.old a || is_touched cluster.now a app) }
+// Does a move of an application touch a local one?
+fn touches_local(cluster: &Cluster, local: &AppMarks, moved: App) -> bool
+    requires app { IsAppOf cluster.now moved }
+    requires marks { MarksLocals cluster.now local.now }
+    ensures { result ≡ touches_local cluster.now moved }
 {
-    let _few = cluster.app_count();
-    let needs = cluster.needs(app);
-    marks.mark(app);
-    'needs: for need in needs {
-        marks.mark(*need);
-    }
-}
-
-// The applications of which a move touches a local one.
-fn touching_apps(cluster: &Cluster, local: &AppMarks) -> AppMarks
-    requires { MarksLocals cluster.now local.now }
-    ensures { (a : App) → is_marked result a ≡ touches_local cluster.now a }
-{
-    let mut marks = AppMarks::empty();
     let count = cluster.app_count();
-    let mut from = 0;
-    'apps: while let Some(app) = local.next_below(from, count) {
-        mark_touching(&mut marks, cluster, app);
-        from = app.0 + 1;
-    }
-    marks
+    let both = cluster.touched_by(moved).and(local);
+    both.next_below(0, count).is_some()
 }
 
 // Puts a pair to the fresh ones, and marks its application.
@@ -273,23 +249,6 @@ fn find_able(state: &State, moving: &AppMarks, fresh: &AppSets, able: &mut AppSe
     }
 }
 
-// Does an application need another one?
-fn needs(cluster: &Cluster, app: App, other: App) -> bool
-    requires { IsAppOf cluster.now app }
-    ensures { result ≡ has_app (needed_apps cluster.now app) other }
-{
-    cluster.needs(app).iter().any(|need| other.0 == need.0)
-}
-
-// Is this the application that moved, or does it need that one?
-#[tactic(auto, unfolding(crate::specs::Boards::is_touched))]
-fn is_touched(cluster: &Cluster, moved: App, app: App) -> bool
-    requires { IsAppOf cluster.now app }
-    ensures { result ≡ is_touched cluster.now moved app }
-{
-    app.0 == moved.0 || needs(cluster, app, moved)
-}
-
 // Does it matter whether an application can run at a node?
 fn matters(state: &State, fresh: &AppSets, app: App, node: Node) -> bool
     requires { IsAppOf (read state.now).cluster app }
@@ -299,30 +258,21 @@ fn matters(state: &State, fresh: &AppSets, app: App, node: Node) -> bool
     is_wanted(state, app) || fresh.of(app).has(node)
 }
 
-// Looks again whether an application can run at a node, if that matters and a move of this other one touches it. Whether it
-// matters is asked first, which costs least.
-fn look_again_for(
-    state: &State,
-    fresh: &AppSets,
-    moved: App,
-    app: App,
-    node: Node,
-    able: &mut AppSets,
-)
+// Looks again whether an application can run at a node, if that matters.
+fn look_again_for(state: &State, fresh: &AppSets, app: App, node: Node, able: &mut AppSets)
     requires app { IsAppOf (read state.now).cluster app }
     requires node { IsNodeOf (read state.now).cluster node }
-    ensures here { is_touched (read state.now).cluster moved app ≡ true → matters (read state.now) fresh.now app node ≡ true → is_among able.new app node ≡ is_operational (read state.now) app node }
+    ensures here { matters (read state.now) fresh.now app node ≡ true → is_among able.new app node ≡ is_operational (read state.now) app node }
     ensures others { (a : App) (n : Node) → same_app a app && same_node n node ≡ false → is_among able.new a n ≡ is_among able.old a n }
-    ensures untouched { is_touched (read state.now).cluster moved app ≡ false → able.new ≡ able.old }
 {
     let _few = state.cluster().app_count();
     let _nodes = state.cluster().node_count();
-    if matters(state, fresh, app, node) && is_touched(state.cluster(), moved, app) {
+    if matters(state, fresh, app, node) {
         able.put(app, node, operational(state, app, node));
     }
 }
 
-// Looks again so for each of these applications.
+// Looks again so for each of these applications that a move of this one touches.
 fn look_again_at(
     state: &State,
     moving: &AppMarks,
@@ -331,13 +281,14 @@ fn look_again_at(
     node: Node,
     able: &mut AppSets,
 )
-    requires { IsNodeOf (read state.now).cluster node }
+    requires app { IsAppOf (read state.now).cluster moved }
+    requires node { IsNodeOf (read state.now).cluster node }
     ensures here { (a : App) → IsAppOf (read state.now).cluster a → is_marked moving.now a ≡ true → is_touched (read state.now).cluster moved a ≡ true → matters (read state.now) fresh.now a node ≡ true → is_among able.new a node ≡ is_operational (read state.now) a node }
     ensures others { (a : App) (n : Node) → is_touched (read state.now).cluster moved a && same_node n node ≡ false → is_among able.new a n ≡ is_among able.old a n }
 {
     let count = state.cluster().app_count();
-    let mut rest = moving.copy();
+    let mut rest = moving.and(&state.cluster().touched_by(moved));
     'apps: while let Some(app) = rest.take_below(count) {
-        look_again_for(state, fresh, moved, app, node, able);
+        look_again_for(state, fresh, app, node, able);
     }
 }

@@ -1,4 +1,4 @@
-use Rattle.std.proofs.Common.{◌≡◌, ◌<◌, ◌||◌, true, ◌&&◌, ◌==◌, sym, ap, ◌∙◌, arith, subst}
+use Rattle.std.proofs.Common.{◌≡◌, ◌<◌, ◌||◌, true, ◌&&◌, ◌==◌, sym, ap, ◌∙◌, arith}
 use Rattle.std.proofs.lemmas.List.Folds.{list_any-append}
 use Rattle.rh_model.specs.ClusterView.{ClusterView, node_count, app_count}
 use Rattle.rh_model.specs.declared.node.Node.{Node}
@@ -9,8 +9,8 @@ use Rattle.rh_place.specs.declared.node_set.TheConstants.NodeSet.{LIMIT}
 use Rattle.rh_place.specs.Sets.{has}
 use Rattle.rh_rules.specs.declared.notice.Pair.{Pair}
 use Rattle.rh_model.specs.Marks.{is_marked}
-use Rattle.rh_settle.specs.Boards.{ReadyView, is_among, is_wanted, touches_local, matters}
-use Rattle.rh_rules.specs.Course.{is_fresh, is_local}
+use Rattle.rh_settle.specs.Boards.{ReadyView, is_among, is_wanted, matters}
+use Rattle.rh_rules.specs.Course.{is_fresh}
 use Rattle.rh_state.specs.StateView.{standing_of}
 use Rattle.rh_state.specs.Stored.{read}
 use Rattle.rh_settle.proofs.Boards.{asked_matters}
@@ -27,7 +27,6 @@ returns c =
     (c.add_fresh-2.ensures.covered a n) in
     record {
       local = λ a of_a. ap (λ (r : ReadyView). is_marked r.local a) c.ready.view_is ∙ c.requires.local a of_a;
-      touching = λ a. c.touching_apps-touching.ensures a ∙ ap (λ (v : ClusterView). touches_local v a) c.cluster-3.ensures;
       fresh = λ a n of_a of_n.
           let few : a.0 < MAX_APPS = omega (arith, of_a, apps, c.app_count-few_apps.ensures.limit) in
           let low : n.0 < LIMIT = omega (arith, of_n, nodes, c.node_count-few_nodes.ensures.limit) in
@@ -44,8 +43,3 @@ returns c =
 
 pub add_fresh-requires : goal.add_fresh-requires
 add_fresh-requires c = λ a n among. both (is_among c.empty.result a n) among (c.empty.ensures a n)
-
-pub touching_apps-touching-requires : goal.touching_apps-touching-requires
-touching_apps-touching-requires c = λ a of_a.
-    ap (λ (r : ReadyView). is_marked r.local a) c.ready.view_is ∙ c.requires.local a (subst (λ (v : ClusterView). IsAppOf v a) c.cluster-3.ensures of_a)
-    ∙ ap (λ (v : ClusterView). is_local v a) (sym c.cluster-3.ensures)
