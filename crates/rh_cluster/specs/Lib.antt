@@ -8,6 +8,7 @@ pub mod FaultTexts
 pub mod Headers
 pub mod Profile
 pub mod Values
+pub mod Common
 pub mod Agreement
 pub mod ClusterOf
 pub mod Kept

@@ -1,11 +1,13 @@
 //! The entries of `distributed`, as they are kept.
 
-ghost use Rattle.std.specs.Prelude.{◌≡◌, ◌==◌, map, filter_map, unwrap_or, IfOk, IfSome, IsTrue};
+ghost use Rattle.std.specs.Prelude.{◌≡◌, map, filter_map, unwrap_or, IfOk, IfSome, IsTrue};
 ghost use Rattle.std.specs.Option.{option_map};
 ghost use Rattle.rh_base.specs.Tree.{tree_of};
-ghost use Rattle.rh_cluster.specs.Values.{time_or_zero, group_in, elements, share_of, shares_under, shares_in, filled, first_filled};
+ghost use Rattle.rh_cluster.specs.Values.{time_or_zero, group_in, elements, share_of, distributed_in, shares_under, shares_in};
+ghost use Rattle.rh_cluster.specs.Common.{IsNoOther};
 
 use crate::building_nodes::nodes_named;
+use crate::common::is_same_value;
 use crate::descriptions::members;
 use crate::kernel::share;
 use crate::shapes;
@@ -87,55 +89,22 @@ pub fn shares_under(
     }
 }
 
-// Are these the same value, or is there none?
-fn is_same_value(this: Option<&Term>, that: Option<&Term>) -> bool
-    ensures { IsTrue result → option_map (λ t. tree_of t.now) this.entry ≡ option_map (λ t. tree_of t.now) that.entry }
-{
-    match (this, that) {
-        (Some(this), Some(that)) => this.same(that),
-        (None, None) => true,
-        _ => false,
-    }
-}
-
-/// The entries of a configuration's `distributed`, unless it is the common one.
+/// The entries of a configuration's `distributed`, unless it is the common one. Where it is known that the node has no
+/// other one, they aren't compared.
 #[tactic(auto, unfolding(crate::specs::Values::shares_in, crate::specs::Values::elements_under))]
 pub fn own_shares(
     alloc: Global,
     names: &Names,
+    is_alike: bool,
     common: Option<&Term>,
     config: &Term,
 ) -> Result<Option<Shares>, OutOfMemory>
+    requires { IsTrue is_alike → IsNoOther (option_map (λ t. tree_of t.now) common) (distributed_in (tree_of config.now)) }
     ensures { IfOk result (λ own. unwrap_or own (shares_under names.now (option_map (λ t. tree_of t.now) common.entry)) ≡ shares_in names.now (tree_of config.now)) }
 {
     let value = distributed_in(config);
-    if is_same_value(value, common) {
+    if is_same_value(is_alike, value, common) {
         return Ok(None);
     }
     Ok(Some(shares_under(alloc, names, value)?))
-}
-
-// A term's `distributed`, if it has an entry.
-fn filled(term: &Term) -> Option<&Term>
-    ensures { option_map (λ t. tree_of t.now) result ≡ filled (tree_of term.now) }
-{
-    let (_, config) = shapes::node(term)?;
-    let value = distributed_in(config)?;
-    if elements(value).is_empty() {
-        None
-    } else {
-        Some(value)
-    }
-}
-
-/// The first `distributed` that has an entry. Most files give it to all their nodes.
-pub fn first_filled(terms: &[Term]) -> Option<&Term>
-    ensures { option_map (λ t. tree_of t.now) result ≡ first_filled (map tree_of terms.now) }
-{
-    for term in terms {
-        if let Some(value) = filled(term) {
-            return Some(value);
-        }
-    }
-    None
 }

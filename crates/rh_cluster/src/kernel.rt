@@ -5,7 +5,8 @@ ghost use Rattle.std.specs.Option.{option_map};
 ghost use Rattle.rh_base.specs.Tree.{tree_of};
 ghost use Rattle.rh_cluster.specs.Faults.{FindsFirst, list_faults};
 ghost use Rattle.rh_model.specs.Limits.{IsWithinLimit};
-ghost use Rattle.rh_cluster.specs.Sections.{as_share, time_faults, share_faults, IsFaultless, as_truth, permission_faults, as_sync_wait, kernel_key, node_name_faults, kernel_faults, entries_faults};
+ghost use Rattle.rh_cluster.specs.Sections.{as_share, time_faults, share_faults, as_truth, permission_faults, as_sync_wait, kernel_key, node_name_faults, entries_faults};
+ghost use Rattle.rh_cluster.specs.Common.{kernel_faults_left};
 
 use crate::descriptions::check_description;
 use crate::entries::check_entries;
@@ -114,33 +115,21 @@ pub fn kernel_key(key: &str) -> Option<KernelKey>
     }
 }
 
-// Tests the value of `distributed`. Most files give their nodes the same one, so a value that equals one that has
-// passed isn't tested again.
-fn check_distributed(names: &Names, passed: Option<&Term>, value: &Term) -> Result<(), ClusterFault>
-    requires { IsFaultless names.now (option_map (λ t. tree_of t.now) passed) }
-    ensures { FindsFirst result (list_faults (share_faults names.now) (tree_of value.now)) }
-{
-    if let Some(other) = passed {
-        if value.same(other) {
-            return Ok(());
-        }
-    }
-    check_list(value, |earlier, term| check_share(names, earlier, term))
-}
-
-// Tests the value of a parameter; others are skipped.
-#[tactic(auto, unfolding(crate::specs::Sections::kernel_faults))]
+// Tests the value of a parameter; others are skipped, and `distributed` too where it has passed.
+#[tactic(auto, unfolding(crate::specs::Sections::kernel_faults, crate::specs::Common::kernel_faults_left))]
 fn check_kernel_value(
     names: &Names,
-    passed: Option<&Term>,
+    has_passed: bool,
     key: Option<KernelKey>,
     value: &Term,
 ) -> Result<(), ClusterFault>
-    requires { IsFaultless names.now (option_map (λ t. tree_of t.now) passed) }
-    ensures { FindsFirst result (kernel_faults names.now key (tree_of value.now)) }
+    ensures { FindsFirst result (kernel_faults_left has_passed names.now key (tree_of value.now)) }
 {
     match key {
-        Some(KernelKey::Distributed) => check_distributed(names, passed, value),
+        Some(KernelKey::Distributed) if has_passed => Ok(()),
+        Some(KernelKey::Distributed) => check_list(value, |earlier, term| {
+            check_share(names, earlier, term)
+        }),
         Some(KernelKey::Mandatory) => check_node_names(names, value),
         Some(KernelKey::Optional) => check_node_names(names, value),
         Some(KernelKey::Timeout) => check_shape(sync_wait(value).is_some()),
@@ -160,12 +149,11 @@ fn check_node_names(names: &Names, value: &Term) -> Result<(), ClusterFault>
     })
 }
 
-/// Tests the section `kernel`, behind a `distributed` that has passed, if there is one.
-pub fn check_kernel(names: &Names, passed: Option<&Term>, value: &Term) -> Result<(), ClusterFault>
-    requires { IsFaultless names.now (option_map (λ t. tree_of t.now) passed) }
-    ensures { FindsFirst result (entries_faults kernel_key (kernel_faults names.now) (tree_of value.now)) }
+/// Tests the section `kernel`, but not its `distributed` where that has passed.
+pub fn check_kernel(names: &Names, has_passed: bool, value: &Term) -> Result<(), ClusterFault>
+    ensures { FindsFirst result (entries_faults kernel_key (kernel_faults_left has_passed names.now) (tree_of value.now)) }
 {
     check_entries(value, kernel_key, |key, value| {
-        check_kernel_value(names, passed, key, value)
+        check_kernel_value(names, has_passed, key, value)
     })
 }

@@ -6,6 +6,7 @@ mod agreement;
 mod building_apps;
 mod building_nodes;
 mod building_shares;
+mod common;
 mod descriptions;
 mod entries;
 mod fault;

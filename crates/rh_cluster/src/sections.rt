@@ -1,12 +1,13 @@
 //! The third stage: the sections of a node, and each term.
 
-ghost use Rattle.std.specs.Prelude.{◌≡◌, map};
-ghost use Rattle.std.specs.Option.{option_map, option_or};
+ghost use Rattle.std.specs.Prelude.{◌≡◌, map, IfOk, IsTrue};
 ghost use Rattle.rh_base.specs.Tree.{tree_of};
 ghost use Rattle.rh_cluster.specs.Faults.{Finds, FindsFirst};
 ghost use Rattle.rh_cluster.specs.Sections.{IsFaultless, section_key, section_faults, entries_faults, parts_faults, parts_stage};
-ghost use Rattle.rh_cluster.specs.Values.{distributed_of};
+ghost use Rattle.rh_cluster.specs.Values.{distributed_in, distributed_of};
+ghost use Rattle.rh_cluster.specs.Common.{AreAlike, section_faults_left};
 
+use crate::common::{distributed_of, first_filled, is_same_value, is_still_alike};
 use crate::entries::check_entries;
 use crate::fault::ClusterFault;
 use crate::kernel::check_kernel;
@@ -14,7 +15,6 @@ use crate::keys::check_keys;
 use crate::lists::check_shape;
 use crate::rehearse::check_rehearse;
 use crate::shapes;
-use crate::values::distributed_in;
 use rh_base::Term;
 use rh_model::{NameSet, Names};
 use std::alloc::Global;
@@ -37,48 +37,47 @@ pub fn section_key(key: &str) -> Option<SectionKey>
     }
 }
 
-// Tests what a section holds; of the others only that they are lists.
-#[tactic(auto, unfolding(crate::specs::Sections::section_faults))]
+// Tests what a section holds, but not a `distributed` that has passed; of the others only that they are lists.
+#[tactic(auto, unfolding(crate::specs::Sections::section_faults, crate::specs::Common::section_faults_left))]
 fn check_section_value(
     names: &Names,
-    passed: Option<&Term>,
+    has_passed: bool,
     key: Option<SectionKey>,
     value: &Term,
 ) -> Result<(), ClusterFault>
-    requires { IsFaultless names.now (option_map (λ t. tree_of t.now) passed) }
-    ensures { FindsFirst result (section_faults names.now key (tree_of value.now)) }
+    ensures { FindsFirst result (section_faults_left has_passed names.now key (tree_of value.now)) }
 {
     match key {
-        Some(SectionKey::Kernel) => check_kernel(names, passed, value),
+        Some(SectionKey::Kernel) => check_kernel(names, has_passed, value),
         Some(SectionKey::Rehearse) => check_rehearse(names, value),
         None => check_shape(shapes::list(value).is_some()),
     }
 }
 
-// Tests the configuration of a node.
-fn check_sections(names: &Names, passed: Option<&Term>, value: &Term) -> Result<(), ClusterFault>
-    requires { IsFaultless names.now (option_map (λ t. tree_of t.now) passed) }
+// Tests the configuration of a node, of whose `distributed` it may be known that it passes.
+fn check_sections(names: &Names, has_passed: bool, value: &Term) -> Result<(), ClusterFault>
+    requires { IsTrue has_passed → IsFaultless names.now (distributed_in (tree_of value.now)) }
     ensures { FindsFirst result (entries_faults section_key (section_faults names.now) (tree_of value.now)) }
 {
     check_entries(value, section_key, |key, value| {
-        check_section_value(names, passed, key, value)
+        check_section_value(names, has_passed, key, value)
     })
 }
 
-// Tests the parts of a term, behind a `distributed` that has passed, if there is one.
+// Tests the parts of a term, of whose `distributed` it may be known that it passes.
 #[tactic(auto, unfolding(crate::specs::Sections::parts_faults))]
 fn check_term(
     alloc: Global,
     names: &Names,
     platforms: &NameSet,
-    passed: Option<&Term>,
+    has_passed: bool,
     term: &Term,
 ) -> Result<(), ClusterFault>
-    requires { IsFaultless names.now (option_map (λ t. tree_of t.now) passed) }
+    requires { IsTrue has_passed → IsFaultless names.now (distributed_of (tree_of term.now)) }
     ensures { Finds result (parts_faults names.now platforms.now (tree_of term.now)) }
 {
     if let Some((_, config)) = shapes::node(term) {
-        return check_sections(names, passed, config);
+        return check_sections(names, has_passed, config);
     }
     if let Some((own, keys)) = shapes::app(term) {
         return check_keys(alloc, names, platforms, own, keys);
@@ -86,30 +85,31 @@ fn check_term(
     Ok(())
 }
 
-// The `distributed` of a term, or else an earlier one.
-fn latest_distributed<'a>(term: &'a Term, earlier: Option<&'a Term>) -> Option<&'a Term>
-    ensures { option_map (λ t. tree_of t.now) result ≡ option_or (distributed_of (tree_of term.now)) (option_map (λ t. tree_of t.now) earlier.entry) }
-{
-    match shapes::node(term) {
-        Some((_, config)) => distributed_in(config).or(earlier),
-        None => earlier,
-    }
-}
-
-/// Tests the parts of each term.
+/// Tests the parts of each term, and tells how many from the first on are known to have no other `distributed` than the
+/// first one that has an entry. Most files give their nodes the same one, so one that equals one that has passed isn't
+/// tested again.
 #[tactic(auto, unfolding(crate::specs::Sections::parts_stage))]
 pub fn check_parts(
     alloc: Global,
     names: &Names,
     platforms: &NameSet,
     terms: &[Term],
-) -> Result<(), ClusterFault>
-    ensures { Finds result (parts_stage names.now platforms.now (map tree_of terms.now)) }
+) -> Result<usize, ClusterFault>
+    ensures faults { Finds result (parts_stage names.now platforms.now (map tree_of terms.now)) }
+    ensures alike { IfOk result (λ alike. AreAlike alike terms.now) }
 {
+    let common = first_filled(terms);
+    let mut alike = 0;
     let mut passed = None;
-    for term in terms {
-        check_term(alloc, names, platforms, passed, term)?;
-        passed = latest_distributed(term, passed);
+    for (index, term) in terms.iter().enumerate() {
+        let value = distributed_of(term);
+        let is_alike = is_still_alike(alike == index, common, value);
+        let has_passed = is_same_value(is_alike, value, passed);
+        check_term(alloc, names, platforms, has_passed, term)?;
+        passed = value.or(passed);
+        if is_alike {
+            alike = index + 1;
+        }
     }
-    Ok(())
+    Ok(alike)
 }
