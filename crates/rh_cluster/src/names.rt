@@ -21,8 +21,9 @@ pub fn repeats_atom(name: &str, earlier: &[Term]) -> bool
     ensures { result ≡ is_among (atoms (map tree_of earlier.now)) name.now }
 {
     for term in earlier {
-        if shapes::atom(term) == Some(name) {
-            return true;
+        match shapes::atom(term) {
+            Some(other) if name == other => return true,
+            _ => {}
         }
     }
     false
@@ -44,8 +45,9 @@ fn repeats_app(name: &str, earlier: &[Term]) -> bool
     ensures { result ≡ is_among (filter_map app_in (map tree_of earlier.now)) name.now }
 {
     for term in earlier {
-        if app_in(term) == Some(name) {
-            return true;
+        match app_in(term) {
+            Some(other) if name == other => return true,
+            _ => {}
         }
     }
     false
