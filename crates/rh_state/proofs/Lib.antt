@@ -6,6 +6,7 @@ pub mod Pairs
 pub mod PairLists
 pub mod Links
 pub mod Places
+pub mod Walking
 pub mod Formed
 pub mod Crossing
 mod Rows

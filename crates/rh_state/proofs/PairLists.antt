@@ -66,7 +66,7 @@ after_absent p (q ∷ ps) h = elim (eqb_tells q p) [
   | inr e ↦ rw e.0 (after_absent p ps (λ m. h (suc m.0, omega (arith, m.1), m.2)))
 ]
 
-first_is : (P : ℕ → Type 0) (ps : List ℕ) → All P ps → IfSome (slice_get ps 0) P
+pub first_is : (P : ℕ → Type 0) (ps : List ℕ) → All P ps → IfSome (slice_get ps 0) P
 first_is P [] all = tt
 first_is P (q ∷ ps) all = all 0 q (omega arith)
 

@@ -15,6 +15,7 @@ mod reading;
 mod setting;
 mod timers;
 mod waiting;
+mod walking;
 
 use crate::status::{Kind, Mode, Standing};
 use crate::table::Table;
