@@ -3,6 +3,7 @@ pub mod KeyParts
 pub mod KeysApart
 pub mod CodesApart
 pub mod KeyCodes
+pub mod KeyCells
 pub mod TimersOff
 pub mod KeyLists
 pub mod Asked

@@ -1,20 +1,21 @@
 //! The key of a state: the numbers by which states that are alike are found, in bytes.
 
-ghost use Rattle.std.specs.Prelude.{◌≡◌, ◌++◌, [], OnOk, IfOk};
+ghost use Rattle.std.specs.Prelude.{◌≡◌, ◌≤◌, ◌+◌, ◌*◌, ◌++◌, [], length, take, OnOk, IfOk};
 ghost use Rattle.std.specs.List.{flat_map};
+ghost use Rattle.rh_model.specs.ClusterView.{node_count, app_count};
 ghost use Rattle.rh_state.specs.Numbers.{nodes_of, apps_of};
 ghost use Rattle.rh_state.specs.Stored.{read};
 ghost use Rattle.rh_settle.specs.Validity.{IsValid};
 ghost use Rattle.rh_explore.specs.Keys.{timer_numbers, node_numbers, app_numbers, key_of};
-ghost use Rattle.rh_explore.specs.Codes.{code};
+ghost use Rattle.rh_explore.specs.Codes.{code, node_room};
 
 mod code;
 mod parts;
 
 pub(crate) use crate::key::code::Key;
-use crate::key::parts::{push_node, push_standing, push_timer};
+use crate::key::parts::{push_timer, put_node, put_standing};
 use rh_base::OutOfMemory;
-use rh_model::{App, Node};
+use rh_model::{App, Cluster, Node};
 use rh_state::{Edit, State, go_back};
 use std::alloc::Global;
 
@@ -45,35 +46,62 @@ impl KeyMaker {
         ensures state { OnOk result (state.new ≡ state.old) }
     {
         let key = &mut self.key.bytes;
-        key.clear();
-        push_nodes(key, state)?;
-        push_apps(key, state)?;
+        write_parts(key, state)?;
         push_timers(key, state, &mut self.taken)
     }
 }
 
-// Adds what is said of each node.
-#[tactic(auto, unfolding(rh_state::specs::Numbers::nodes_of))]
-fn push_nodes(key: &mut Vec<u8>, state: &State) -> Result<(), OutOfMemory>
-    ensures { OnOk result (key.new.items ≡ key.old.items ++ code (flat_map (node_numbers (read state.now)) (nodes_of (read state.now).cluster))) }
+// Writes all that isn't a timer, in place of what was there. There is room for the longest such parts before they are written, so that
+// their bytes are written without a question each whether they have any; timers are added behind them.
+fn write_parts(key: &mut Vec<u8>, state: &State) -> Result<(), OutOfMemory>
+    ensures { OnOk result (key.new.items ≡ code (flat_map (node_numbers (read state.now)) (nodes_of (read state.now).cluster))
+        ++ code (flat_map (app_numbers (read state.now)) (apps_of (read state.now).cluster))) }
 {
-    let count = state.cluster().node_count();
-    for number in 0..count {
-        push_node(key, state, Node(number as u8))?;
-    }
+    key.resize(room_of(state.cluster()), 0)?;
+    let nodes = put_nodes(key.as_mut_slice(), state);
+    let apps = put_apps(key.as_mut_slice(), nodes, state);
+    key.truncate(apps);
     Ok(())
 }
 
-// Adds where each application stands.
+// How long they are at most: each application stands in one list of a node, and has two bytes as a pair of it.
+fn room_of(cluster: &Cluster) -> usize
+    ensures { result ≡ node_count cluster.now * node_room cluster.now + 2 * app_count cluster.now }
+{
+    let nodes = cluster.node_count();
+    let apps = cluster.app_count();
+    nodes * (3 * apps + 3) + 2 * apps
+}
+
+// Writes what is said of each node, and says where that ends.
+#[tactic(auto, unfolding(rh_state::specs::Numbers::nodes_of))]
+fn put_nodes(cells: &mut [u8], state: &State) -> usize
+    requires { node_count (read state.now).cluster * node_room (read state.now).cluster ≤ length cells.old }
+    ensures length { length cells.new ≡ length cells.old }
+    ensures end { result ≤ node_count (read state.now).cluster * node_room (read state.now).cluster }
+    ensures bytes { take result cells.new ≡ code (flat_map (node_numbers (read state.now)) (nodes_of (read state.now).cluster)) }
+{
+    let count = state.cluster().node_count();
+    let mut end = 0;
+    for number in 0..count {
+        end = put_node(cells, end, state, Node(number as u8));
+    }
+    end
+}
+
+// Writes where each application stands, and says where that ends.
 #[tactic(auto, unfolding(rh_state::specs::Numbers::apps_of))]
-fn push_apps(key: &mut Vec<u8>, state: &State) -> Result<(), OutOfMemory>
-    ensures { OnOk result (key.new.items ≡ key.old.items ++ code (flat_map (app_numbers (read state.now)) (apps_of (read state.now).cluster))) }
+fn put_apps(cells: &mut [u8], at: usize, state: &State) -> usize
+    requires { at + 2 * app_count (read state.now).cluster ≤ length cells.old }
+    ensures length { length cells.new ≡ length cells.old }
+    ensures end { result ≡ at + 2 * app_count (read state.now).cluster }
+    ensures bytes { take result cells.new ≡ take at cells.old ++ code (flat_map (app_numbers (read state.now)) (apps_of (read state.now).cluster)) }
 {
     let count = state.cluster().app_count();
     for number in 0..count {
-        push_standing(key, state, App(number as u8))?;
+        put_standing(cells, at + 2 * number, state, App(number as u8));
     }
-    Ok(())
+    at + 2 * count
 }
 
 // Adds each timer, with how long it has to go. The first one is taken off the state until none is left, and then all are put back:

@@ -1,12 +1,12 @@
 //! The parts of a key.
 
-ghost use Rattle.std.specs.Prelude.{◌≡◌, ◌<◌, ◌∷◌, [], ◌++◌, OnOk};
+ghost use Rattle.std.specs.Prelude.{◌≡◌, ◌<◌, ◌≤◌, ◌+◌, ◌*◌, ◌∷◌, [], ◌++◌, length, take, OnOk};
 ghost use Rattle.std.specs.List.{flat_map};
 ghost use Rattle.rh_model.specs.ClusterView.{node_count, app_count};
 ghost use Rattle.rh_state.specs.Numbers.{apps_of};
 ghost use Rattle.rh_state.specs.StateView.{running_at, waiting_at};
 ghost use Rattle.rh_state.specs.Stored.{read};
-ghost use Rattle.rh_explore.specs.Codes.{code};
+ghost use Rattle.rh_explore.specs.Codes.{code, node_room};
 ghost use Rattle.rh_explore.specs.Keys.{mode_number, restart_number, permission_number, standing_numbers, timer_numbers, app_number, pair_numbers, node_numbers, app_numbers};
 
 use crate::key::code::push_number;
@@ -14,78 +14,92 @@ use rh_base::OutOfMemory;
 use rh_model::{App, Node, Restart};
 use rh_state::{Mode, Standing, State, Timer};
 
-// Adds what is said of a node.
+// Writes what is said of a node from a place on, and says where that ends.
 #[tactic(auto, unfolding(crate::specs::Keys::node_numbers))]
-pub(crate) fn push_node(key: &mut Vec<u8>, state: &State, node: Node) -> Result<(), OutOfMemory>
-    requires { node.0 < node_count (read state.now).cluster }
-    ensures { OnOk result (key.new.items ≡ key.old.items ++ code (node_numbers (read state.now) node)) }
-{
-    push_number(key, mode_number(state.mode(node)))?;
-    push_running(key, state, node)?;
-    push_number(key, 0)?;
-    push_waiting(key, state, node)?;
-    push_number(key, 0)?;
-    push_pairs(key, state, node)
-}
-
-// Adds each application that runs at a node.
-fn push_running(key: &mut Vec<u8>, state: &State, node: Node) -> Result<(), OutOfMemory>
-    requires { node.0 < node_count (read state.now).cluster }
-    ensures { OnOk result (key.new.items ≡ key.old.items ++ code (flat_map app_number (running_at (read state.now) node))) }
+pub(crate) fn put_node(cells: &mut [u8], at: usize, state: &State, node: Node) -> usize
+    requires node { node.0 < node_count (read state.now).cluster }
+    requires room { at + node_room (read state.now).cluster ≤ length cells.old }
+    ensures length { length cells.new ≡ length cells.old }
+    ensures end { result ≤ at + node_room (read state.now).cluster }
+    ensures bytes { take result cells.new ≡ take at cells.old ++ code (node_numbers (read state.now) node) }
 {
     state.formed();
-    let mut next = state.first_running(node);
-    'running: while let Some(app) = next {
-        push_app(key, app)?;
-        next = state.next_in_list(node, app);
-    }
-    Ok(())
+    cells[at] = mode_byte(state.mode(node));
+    let running = put_running(cells, at + 1, state, node);
+    cells[running] = 0;
+    let waiting = put_waiting(cells, running + 1, state, node);
+    cells[waiting] = 0;
+    put_pairs(cells, waiting + 1, state, node)
 }
 
-// Adds each application that waits at a node.
-fn push_waiting(key: &mut Vec<u8>, state: &State, node: Node) -> Result<(), OutOfMemory>
-    requires { node.0 < node_count (read state.now).cluster }
-    ensures { OnOk result (key.new.items ≡ key.old.items ++ code (flat_map app_number (waiting_at (read state.now) node))) }
+// Writes each application that runs at a node.
+fn put_running(cells: &mut [u8], at: usize, state: &State, node: Node) -> usize
+    requires node { node.0 < node_count (read state.now).cluster }
+    requires room { at + length (running_at (read state.now) node) ≤ length cells.old }
+    ensures length { length cells.new ≡ length cells.old }
+    ensures end { result ≡ at + length (running_at (read state.now) node) }
+    ensures bytes { take result cells.new ≡ take at cells.old ++ code (flat_map app_number (running_at (read state.now) node)) }
 {
     state.formed();
-    let mut next = state.first_waiting(node);
-    'waiting: while let Some(app) = next {
-        push_app(key, app)?;
-        next = state.next_in_list(node, app);
+    let _apps = state.cluster().app_count();
+    let before = state.pairs_before(node);
+    let mut next = state.first_running_pair(node);
+    let mut end = at;
+    'running: while let Some(pair) = next {
+        cells[end] = (pair - before) as u8 + 1;
+        end += 1;
+        next = state.next_pair(node, pair);
     }
-    Ok(())
+    end
 }
 
-// Adds an application of a list.
-fn push_app(key: &mut Vec<u8>, app: App) -> Result<(), OutOfMemory>
-    ensures { OnOk result (key.new.items ≡ key.old.items ++ code (app_number app)) }
+// Writes each application that waits at a node.
+fn put_waiting(cells: &mut [u8], at: usize, state: &State, node: Node) -> usize
+    requires node { node.0 < node_count (read state.now).cluster }
+    requires room { at + length (waiting_at (read state.now) node) ≤ length cells.old }
+    ensures length { length cells.new ≡ length cells.old }
+    ensures end { result ≡ at + length (waiting_at (read state.now) node) }
+    ensures bytes { take result cells.new ≡ take at cells.old ++ code (flat_map app_number (waiting_at (read state.now) node)) }
 {
-    push_number(key, u64::from(app.0) + 1)?;
-    Ok(())
+    state.formed();
+    let _apps = state.cluster().app_count();
+    let before = state.pairs_before(node);
+    let mut next = state.first_waiting_pair(node);
+    let mut end = at;
+    'waiting: while let Some(pair) = next {
+        cells[end] = (pair - before) as u8 + 1;
+        end += 1;
+        next = state.next_pair(node, pair);
+    }
+    end
 }
 
-// Adds what is said of each pair of a node, pair by pair.
+// Writes what is said of each pair of a node, pair by pair.
 #[tactic(auto, unfolding(rh_state::specs::Numbers::apps_of))]
-fn push_each_pair(key: &mut Vec<u8>, state: &State, node: Node) -> Result<(), OutOfMemory>
-    requires { node.0 < node_count (read state.now).cluster }
-    ensures { OnOk result (key.new.items ≡ key.old.items ++ code (flat_map (pair_numbers (read state.now) node) (apps_of (read state.now).cluster))) }
+fn put_each_pair(cells: &mut [u8], at: usize, state: &State, node: Node) -> usize
+    requires node { node.0 < node_count (read state.now).cluster }
+    requires room { at + 2 * app_count (read state.now).cluster ≤ length cells.old }
+    ensures length { length cells.new ≡ length cells.old }
+    ensures end { result ≡ at + 2 * app_count (read state.now).cluster }
+    ensures bytes { take result cells.new ≡ take at cells.old ++ code (flat_map (pair_numbers (read state.now) node) (apps_of (read state.now).cluster)) }
 {
     let count = state.cluster().app_count();
     for number in 0..count {
         let app = App(number as u8);
-        key.extend_from_slice(&[
-            restart_byte(state.restart_of(node, app)),
-            permission_byte(state.allowed(node, app)),
-        ])?;
+        cells[at + 2 * number] = restart_byte(state.restart_of(node, app));
+        cells[at + 2 * number + 1] = permission_byte(state.allowed(node, app));
     }
-    Ok(())
+    at + 2 * count
 }
 
-// The same, by way of a row of its own: a key then grows once for a node.
+// The same, by way of a row of its own, which many pairs fill several at a time, and which is copied as a whole.
 #[tactic(auto, unfolding(rh_state::specs::Numbers::apps_of))]
-fn push_row(key: &mut Vec<u8>, state: &State, node: Node) -> Result<(), OutOfMemory>
-    requires { node.0 < node_count (read state.now).cluster }
-    ensures { OnOk result (key.new.items ≡ key.old.items ++ code (flat_map (pair_numbers (read state.now) node) (apps_of (read state.now).cluster))) }
+fn put_row(cells: &mut [u8], at: usize, state: &State, node: Node) -> usize
+    requires node { node.0 < node_count (read state.now).cluster }
+    requires room { at + 2 * app_count (read state.now).cluster ≤ length cells.old }
+    ensures length { length cells.new ≡ length cells.old }
+    ensures end { result ≡ at + 2 * app_count (read state.now).cluster }
+    ensures bytes { take result cells.new ≡ take at cells.old ++ code (flat_map (pair_numbers (read state.now) node) (apps_of (read state.now).cluster)) }
 {
     let count = state.cluster().app_count();
     // They are gathered in a row of its own, which has room for all applications that a cluster may have.
@@ -95,42 +109,55 @@ fn push_row(key: &mut Vec<u8>, state: &State, node: Node) -> Result<(), OutOfMem
         row[2 * number as usize] = restart_byte(state.restart_of(node, app));
         row[2 * number as usize + 1] = permission_byte(state.allowed(node, app));
     }
-    key.extend_from_slice(&row[..2 * count])?;
-    Ok(())
+    let end = at + 2 * count;
+    cells[at..end].copy_from_slice(&row[..2 * count]);
+    end
 }
 
-// So many applications are few: their pairs are pushed one by one. A row is copied as a whole, and that has to wait until its bytes,
-// which were written one by one, can be read again.
+// So many applications are few: their pairs are written one by one. In a row they would be so too, and the copy of it as a whole would
+// have to wait until these bytes can be read again.
 const FEW: usize = 8;
 
-// Adds what is said of each pair of a node: two bytes each, in the cluster's order of applications.
-fn push_pairs(key: &mut Vec<u8>, state: &State, node: Node) -> Result<(), OutOfMemory>
-    requires { node.0 < node_count (read state.now).cluster }
-    ensures { OnOk result (key.new.items ≡ key.old.items ++ code (flat_map (pair_numbers (read state.now) node) (apps_of (read state.now).cluster))) }
+// Writes what is said of each pair of a node: two bytes each, in the cluster's order of applications.
+fn put_pairs(cells: &mut [u8], at: usize, state: &State, node: Node) -> usize
+    requires node { node.0 < node_count (read state.now).cluster }
+    requires room { at + 2 * app_count (read state.now).cluster ≤ length cells.old }
+    ensures length { length cells.new ≡ length cells.old }
+    ensures end { result ≡ at + 2 * app_count (read state.now).cluster }
+    ensures bytes { take result cells.new ≡ take at cells.old ++ code (flat_map (pair_numbers (read state.now) node) (apps_of (read state.now).cluster)) }
 {
     if state.cluster().app_count() <= FEW {
-        push_each_pair(key, state, node)
+        put_each_pair(cells, at, state, node)
     } else {
-        push_row(key, state, node)
+        put_row(cells, at, state, node)
     }
 }
 
-// Adds where an application stands.
+// Writes where an application stands.
 #[tactic(auto, unfolding(crate::specs::Keys::app_numbers))]
-pub(crate) fn push_standing(key: &mut Vec<u8>, state: &State, app: App) -> Result<(), OutOfMemory>
-    requires { app.0 < app_count (read state.now).cluster }
-    ensures { OnOk result (key.new.items ≡ key.old.items ++ code (app_numbers (read state.now) app)) }
+pub(crate) fn put_standing(cells: &mut [u8], at: usize, state: &State, app: App)
+    requires app { app.0 < app_count (read state.now).cluster }
+    requires room { at + 2 ≤ length cells.old }
+    ensures length { length cells.new ≡ length cells.old }
+    ensures bytes { take (at + 2) cells.new ≡ take at cells.old ++ code (app_numbers (read state.now) app) }
 {
-    let (tag, node) = match state.standing(app) {
+    let _nodes = state.cluster().node_count();
+    let (tag, node) = standing_bytes(state.standing(app));
+    cells[at] = tag;
+    cells[at + 1] = node;
+}
+
+// Which standing it is, and which node it names, if it names one.
+fn standing_bytes(standing: Standing) -> (u8, u8)
+    ensures { result.0 ∷ result.1 ∷ [] ≡ standing_numbers standing }
+{
+    match standing {
         Standing::Quiet => (0, 0),
         Standing::Wanted(None) => (1, 0),
         Standing::Wanted(Some(node)) => (2, node.0),
         Standing::Running(node) => (3, node.0),
         Standing::Lost(node) => (4, node.0),
-    };
-    push_number(key, tag)?;
-    push_number(key, u64::from(node))?;
-    Ok(())
+    }
 }
 
 // Adds a timer, with how long it has to go.
@@ -152,7 +179,7 @@ pub(crate) fn push_timer(
 }
 
 // Each mode has its number.
-fn mode_number(mode: Mode) -> u64
+fn mode_byte(mode: Mode) -> u8
     ensures { result ≡ mode_number mode }
 {
     match mode {

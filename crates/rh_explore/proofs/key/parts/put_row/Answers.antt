@@ -9,7 +9,7 @@ use Rattle.rh_state.specs.Stored.{read}
 use Rattle.rh_explore.specs.Codes.{code}
 use Rattle.rh_explore.specs.Keys.{restart_number, permission_number, pair_numbers}
 use Rattle.rh_explore.proofs.KeyCodes.{code_more, pair_code, two_set}
-use Rattle.rh_explore.proofs.key.parts.push_row.Goals as goal
+use Rattle.rh_explore.proofs.key.parts.put_row.Goals as goal
 
 pub loop-number-preserved : goal.loop-number-preserved
 loop-number-preserved c =

@@ -4,7 +4,7 @@ use Rattle.rh_model.specs.ClusterView.{app_numbered}
 use Rattle.rh_state.specs.Stored.{read}
 use Rattle.rh_explore.specs.Codes.{code}
 use Rattle.rh_explore.specs.Keys.{pair_numbers}
-use Rattle.rh_explore.proofs.key.parts.push_row.Given as goal
+use Rattle.rh_explore.proofs.key.parts.put_row.Given as goal
 
 abbrev pub invariant-loop-number : goal.invariant-loop-number
 invariant-loop-number l =
