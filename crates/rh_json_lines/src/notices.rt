@@ -1,34 +1,34 @@
 //! What followed from a step, with the time at which it was told.
 
-ghost use Rattle.std.specs.Prelude.{◌≡◌, ◌++◌, List, ℕ, OnOk, IfOk, map};
+ghost use Rattle.std.specs.Prelude.{◌≡◌, ◌++◌, List, ℕ, codes, OnOk, IfOk, map};
 ghost use Rattle.std.specs.List.{flat_map};
 ghost use Rattle.std.specs.Option.{option_map};
 ghost use Rattle.rh_model.specs.ClusterView.{ClusterView};
 ghost use Rattle.rh_step.specs.Firings.{FiringView};
 ghost use Rattle.rh_script.specs.Answers.{notice_line};
-ghost use Rattle.rh_json_text.specs.Json.{json_array, behind_comma};
+ghost use Rattle.rh_json_text.specs.Json.{json_string, json_array, behind_comma};
 ghost use Rattle.rh_json_lines.specs.Starts.{first_word};
 ghost use Rattle.rh_json_lines.specs.Notices.{pair_json, named_json, time_json, notice_json, timed, timed_notices, fired_by};
 
 use crate::starts::{push_app_at, push_node_at, push_start};
 use rh_base::OutOfMemory;
 use rh_cluster::{App, Cluster, Node};
-use rh_json_text::{close_array, push_number, push_string, push_text};
+use rh_json_text::{close_array, push_number, push_text};
 use rh_step::{Event, FiredTimer, Notice, refusal_of};
 use rh_trail::{Call, Sim};
 use std::alloc::Global;
 
-// The word of a notice.
-#[tactic(auto, unfolding(rh_script::specs::Answers::notice_line))]
-fn notice_word(notice: &Notice) -> &'static str
-    ensures { (c : ClusterView) → result.now ≡ first_word (notice_line c notice.now) }
+// The field of a notice's kind: its word needs no escape.
+#[tactic(auto, unfolding(rh_script::specs::Answers::notice_line, rh_json_text::specs::Json::json_string, rh_json_text::specs::Json::escaped))]
+fn notice_field(notice: &Notice) -> &'static str
+    ensures { (c : ClusterView) → result.now ≡ codes "\"kind\":" ++ json_string (first_word (notice_line c notice.now)) }
 {
     match notice {
-        Notice::Up { .. } => "up",
-        Notice::Ended { .. } => "ended",
-        Notice::Started { .. } => "started",
-        Notice::Stopped { .. } => "stopped",
-        Notice::Waits { .. } => "waits",
+        Notice::Up { .. } => "\"kind\":\"up\"",
+        Notice::Ended { .. } => "\"kind\":\"ended\"",
+        Notice::Started { .. } => "\"kind\":\"started\"",
+        Notice::Stopped { .. } => "\"kind\":\"stopped\"",
+        Notice::Waits { .. } => "\"kind\":\"waits\"",
     }
 }
 
@@ -89,8 +89,7 @@ fn push_notice(
 {
     push_text(out, "{")?;
     push_time(alloc, out, time)?;
-    push_text(out, "\"kind\":")?;
-    push_string(out, notice_word(notice).as_bytes())?;
+    push_text(out, notice_field(notice))?;
     push_named(out, cluster, notice)?;
     push_text(out, "}")
 }

@@ -1,6 +1,6 @@
 //! The report of a state.
 
-ghost use Rattle.std.specs.Prelude.{◌≡◌, ◌<◌, ◌++◌, [], not, if◌then◌else◌, OnOk, All};
+ghost use Rattle.std.specs.Prelude.{◌≡◌, ◌<◌, ◌++◌, [], not, if◌then◌else◌, codes, OnOk, All};
 ghost use Rattle.std.specs.List.{flat_map};
 ghost use Rattle.rh_model.specs.ClusterView.{ClusterView, app_count};
 ghost use Rattle.rh_rules.specs.Course.{is_local};
@@ -8,7 +8,7 @@ ghost use Rattle.rh_state.specs.Numbers.{nodes_of};
 ghost use Rattle.rh_state.specs.Stored.{read};
 ghost use Rattle.rh_state.specs.StateView.{standing_of};
 ghost use Rattle.rh_trail.specs.Report.{standing_words, timer_words};
-ghost use Rattle.rh_json_text.specs.Json.{json_array, behind_comma};
+ghost use Rattle.rh_json_text.specs.Json.{json_string, json_array, behind_comma};
 ghost use Rattle.rh_json_lines.specs.Starts.{first_word};
 ghost use Rattle.rh_json_lines.specs.Reports.{state_json, at_json, standing_json, distributed_in, timed_json, timer_json, place_json, parts_json, report_json};
 
@@ -17,29 +17,31 @@ use crate::starts::{push_app_at, push_node_at};
 use crate::states::push_state;
 use rh_base::OutOfMemory;
 use rh_cluster::{App, Cluster, Node};
-use rh_json_text::{close_array, push_number, push_string, push_text};
+use rh_json_text::{close_array, push_number, push_text};
 use rh_state::{Standing, State, Timer};
 use std::alloc::Global;
 
-// The word of a standing.
-fn standing_word(standing: Standing) -> &'static str
-    ensures { (c : ClusterView) → result.now ≡ first_word (standing_words c standing) }
+// The field of a standing: its word needs no escape.
+#[tactic(auto, unfolding(rh_json_text::specs::Json::json_string, rh_json_text::specs::Json::escaped))]
+fn standing_field(standing: Standing) -> &'static str
+    ensures { (c : ClusterView) → result.now ≡ codes ",\"standing\":" ++ json_string (first_word (standing_words c standing)) }
 {
     match standing {
-        Standing::Quiet => "quiet",
-        Standing::Wanted(_) => "wanted",
-        Standing::Running(_) => "running",
-        Standing::Lost(_) => "lost",
+        Standing::Quiet => ",\"standing\":\"quiet\"",
+        Standing::Wanted(_) => ",\"standing\":\"wanted\"",
+        Standing::Running(_) => ",\"standing\":\"running\"",
+        Standing::Lost(_) => ",\"standing\":\"lost\"",
     }
 }
 
-// The word of a timer.
-fn timer_word(timer: Timer) -> &'static str
-    ensures { (c : ClusterView) → result.now ≡ first_word (timer_words c timer) }
+// The field of a timer's kind, with which its object begins: the word needs no escape.
+#[tactic(auto, unfolding(rh_json_text::specs::Json::json_string, rh_json_text::specs::Json::escaped))]
+fn timer_field(timer: Timer) -> &'static str
+    ensures { (c : ClusterView) → result.now ≡ codes "{\"timer\":" ++ json_string (first_word (timer_words c timer)) }
 {
     match timer {
-        Timer::Sync(_) => "sync",
-        Timer::Failover(_) => "failover",
+        Timer::Sync(_) => "{\"timer\":\"sync\"",
+        Timer::Failover(_) => "{\"timer\":\"failover\"",
     }
 }
 
@@ -67,8 +69,7 @@ pub fn push_standing(
 {
     push_text(out, "{\"name\":")?;
     push_app(out, cluster, app)?;
-    push_text(out, ",\"standing\":")?;
-    push_string(out, standing_word(standing).as_bytes())?;
+    push_text(out, standing_field(standing))?;
     push_at(out, cluster, standing)?;
     push_text(out, "}")
 }
@@ -120,8 +121,7 @@ fn push_timer(
 ) -> Result<(), OutOfMemory>
     ensures { OnOk result (out.new.items ≡ out.old.items ++ timer_json cluster.now entry.now) }
 {
-    push_text(out, "{\"timer\":")?;
-    push_string(out, timer_word(entry.1).as_bytes())?;
+    push_text(out, timer_field(entry.1))?;
     push_timed(out, cluster, entry.1)?;
     push_text(out, ",\"due\":")?;
     push_number(alloc, out, entry.0 as u128)?;

@@ -1,25 +1,27 @@
 //! How an application was started.
 
-ghost use Rattle.std.specs.Prelude.{◌≡◌, ◌++◌, OnOk};
+ghost use Rattle.std.specs.Prelude.{◌≡◌, ◌++◌, codes, OnOk};
 ghost use Rattle.rh_model.specs.ClusterView.{ClusterView};
 ghost use Rattle.rh_trail.specs.Report.{kind_words};
+ghost use Rattle.rh_json_text.specs.Json.{json_string};
 ghost use Rattle.rh_json_lines.specs.ClusterLines.{app_json, node_json};
 ghost use Rattle.rh_json_lines.specs.Starts.{first_word, from_json, start_json};
 
 use crate::clusters::{push_app, push_node};
 use rh_base::OutOfMemory;
 use rh_cluster::{App, Cluster, Node};
-use rh_json_text::{push_string, push_text};
+use rh_json_text::push_text;
 use rh_state::Kind;
 
-// The word of a start kind.
-fn kind_word(kind: Kind) -> &'static str
-    ensures { (c : ClusterView) → result.now ≡ first_word (kind_words c kind) }
+// The field of a start kind: its word needs no escape.
+#[tactic(auto, unfolding(rh_json_text::specs::Json::json_string, rh_json_text::specs::Json::escaped))]
+fn kind_field(kind: Kind) -> &'static str
+    ensures { (c : ClusterView) → result.now ≡ codes ",\"start\":" ++ json_string (first_word (kind_words c kind)) }
 {
     match kind {
-        Kind::Normal => "normal",
-        Kind::Failover(_) => "failover",
-        Kind::Takeover(_) => "takeover",
+        Kind::Normal => ",\"start\":\"normal\"",
+        Kind::Failover(_) => ",\"start\":\"failover\"",
+        Kind::Takeover(_) => ",\"start\":\"takeover\"",
     }
 }
 
@@ -66,7 +68,6 @@ fn push_from(out: &mut Vec<u8>, cluster: &Cluster, kind: Kind) -> Result<(), Out
 pub fn push_start(out: &mut Vec<u8>, cluster: &Cluster, kind: Kind) -> Result<(), OutOfMemory>
     ensures { OnOk result (out.new.items ≡ out.old.items ++ start_json cluster.now kind) }
 {
-    push_text(out, ",\"start\":")?;
-    push_string(out, kind_word(kind).as_bytes())?;
+    push_text(out, kind_field(kind))?;
     push_from(out, cluster, kind)
 }

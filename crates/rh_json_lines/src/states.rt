@@ -1,32 +1,45 @@
 //! A node in a report.
 
-ghost use Rattle.std.specs.Prelude.{◌≡◌, ◌<◌, ◌++◌, [], not, if◌then◌else◌, OnOk, filter};
+ghost use Rattle.std.specs.Prelude.{◌≡◌, ◌<◌, ◌++◌, [], not, if◌then◌else◌, codes, OnOk, filter};
 ghost use Rattle.std.specs.List.{flat_map};
 ghost use Rattle.rh_model.specs.ClusterView.{node_count, app_count};
 ghost use Rattle.rh_state.specs.StateView.{running_at, waiting_at, is_allowed};
 ghost use Rattle.rh_state.specs.Stored.{read};
-ghost use Rattle.rh_trail.specs.Report.{mode_words};
-ghost use Rattle.rh_json_text.specs.Json.{json_array, behind_comma};
+ghost use Rattle.rh_trail.specs.Report.{mode_words, restart_words};
+ghost use Rattle.rh_json_text.specs.Json.{json_string, json_array, behind_comma};
 ghost use Rattle.rh_json_lines.specs.ClusterLines.{app_json};
 ghost use Rattle.rh_json_lines.specs.Reports.{started_json, running_json, waiting_json, forbidden_at, mode_json, running_list, waiting_list, forbidden_list, lists_json, state_json};
 
 use crate::clusters::{push_app, push_node};
 use crate::starts::push_start;
 use rh_base::OutOfMemory;
-use rh_cluster::{App, Node};
-use rh_json_text::{close_array, push_number, push_string, push_text};
+use rh_cluster::{App, Node, Restart};
+use rh_json_text::{close_array, push_number, push_text};
 use rh_state::{Mode, State};
-use rh_trail::restart_word;
 use std::alloc::Global;
 
-// The word of a mode.
-fn mode_word(mode: Mode) -> &'static str
-    ensures { result.now ≡ mode_words mode }
+// The field of a mode, and the key of the field behind it. None of the words has a byte that is escaped, so they stand here as they are
+// written: nothing is left to look for.
+#[tactic(auto, unfolding(rh_json_text::specs::Json::json_string, rh_json_text::specs::Json::escaped))]
+fn mode_field(mode: Mode) -> &'static str
+    ensures { result.now ≡ codes ",\"mode\":" ++ json_string (mode_words mode) ++ codes ",\"starts\":" }
 {
     match mode {
-        Mode::Down => "down",
-        Mode::Waiting => "waiting",
-        Mode::Up => "up",
+        Mode::Down => ",\"mode\":\"down\",\"starts\":",
+        Mode::Waiting => ",\"mode\":\"waiting\",\"starts\":",
+        Mode::Up => ",\"mode\":\"up\",\"starts\":",
+    }
+}
+
+// The field of a restart type.
+#[tactic(auto, unfolding(rh_json_text::specs::Json::json_string, rh_json_text::specs::Json::escaped))]
+fn restart_field(restart: Restart) -> &'static str
+    ensures { result.now ≡ codes ",\"restart\":" ++ json_string (restart_words restart) }
+{
+    match restart {
+        Restart::Permanent => ",\"restart\":\"permanent\"",
+        Restart::Transient => ",\"restart\":\"transient\"",
+        Restart::Temporary => ",\"restart\":\"temporary\"",
     }
 }
 
@@ -39,8 +52,7 @@ fn push_started(out: &mut Vec<u8>, state: &State, node: Node, app: App) -> Resul
 {
     push_text(out, "{\"application\":")?;
     push_app(out, state.cluster(), app)?;
-    push_text(out, ",\"restart\":")?;
-    push_string(out, restart_word(state.restart_of(node, app)).as_bytes())
+    push_text(out, restart_field(state.restart_of(node, app)))
 }
 
 // Adds, behind a comma, an application that runs at a node.
@@ -170,9 +182,7 @@ fn push_mode(alloc: Global, out: &mut Vec<u8>, state: &State, node: Node) -> Res
 {
     push_text(out, "{\"name\":")?;
     push_node(out, state.cluster(), node)?;
-    push_text(out, ",\"mode\":")?;
-    push_string(out, mode_word(state.mode(node)).as_bytes())?;
-    push_text(out, ",\"starts\":")?;
+    push_text(out, mode_field(state.mode(node)))?;
     push_number(alloc, out, state.incarnation(node) as u128)
 }
 
