@@ -16,6 +16,7 @@ use rh_base::OutOfMemory;
 use rh_cluster::{App, Node, Restart};
 use rh_json_text::{close_array, push_number, push_text};
 use rh_state::{Mode, State};
+use rh_trail::forbids_any;
 use std::alloc::Global;
 
 // The field of a mode, and the key of the field behind it. None of the words has a byte that is escaped, so they stand here as they are
@@ -134,6 +135,9 @@ fn push_each_forbidden(out: &mut Vec<u8>, state: &State, node: Node) -> Result<(
     ensures { OnOk result (out.new.items ≡ out.old.items
         ++ flat_map (behind_comma (app_json (read state.now).cluster)) (forbidden_at (read state.now) node)) }
 {
+    if !forbids_any(state, node) {
+        return Ok(());
+    }
     let count = state.cluster().app_count();
     for number in 0..count {
         push_if_forbidden(out, state, node, App(number as u8))?;
