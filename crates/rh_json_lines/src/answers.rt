@@ -1,13 +1,14 @@
 //! The line of a command with its answer.
 
 ghost use Rattle.std.specs.Prelude.{◌≡◌, ◌++◌, OnOk, IfOk, codes};
+ghost use Rattle.std.specs.Fmt.{decimal};
 ghost use Rattle.std.specs.Option.{option_map};
 ghost use Rattle.rh_state.specs.Stored.{read};
 ghost use Rattle.rh_script.specs.Answers.{answer_text};
-ghost use Rattle.rh_json_text.specs.Json.{json_array};
+ghost use Rattle.rh_json_text.specs.Json.{json_string, json_array};
 ghost use Rattle.rh_json_lines.specs.Notices.{notice_json, timed_notices};
 ghost use Rattle.rh_json_lines.specs.Reports.{report_json};
-ghost use Rattle.rh_json_lines.specs.AnswerLines.{first_line, more_json, head_json, reply_line, bad_json};
+ghost use Rattle.rh_json_lines.specs.AnswerLines.{first_line, more_json, reply_line, bad_json};
 
 use crate::notices::push_notices;
 use crate::reports::push_report;
@@ -68,34 +69,58 @@ fn push_more(
     }
 }
 
-// Adds the number of a command's line, the line, and the first line of its answer.
-#[tactic(auto, unfolding(crate::specs::AnswerLines::head_json))]
-fn push_head(
+// Adds the number of a command's line, the line, and the key of its answer.
+fn push_command(
     alloc: Global,
     out: &mut Vec<u8>,
     number: u64,
     command: &[u8],
-    answer: &[u8],
 ) -> Result<(), OutOfMemory>
-    ensures { OnOk result (out.new.items ≡ out.old.items ++ head_json number command.now answer.now) }
+    ensures { OnOk result (out.new.items ≡ out.old.items
+        ++ (codes "{\"line\":" ++ decimal number ++ codes ",\"command\":" ++ json_string command.now ++ codes ",\"answer\":")) }
 {
     push_text(out, "{\"line\":")?;
     push_number(alloc, out, number as u128)?;
     push_text(out, ",\"command\":")?;
     push_string(out, command)?;
-    push_text(out, ",\"answer\":")?;
-    push_string(out, before_first(answer, b'\n'))
+    push_text(out, ",\"answer\":")
 }
 
-// A text with the first line of an answer: nothing else of an answer is written as it is. What may be long, the lines of notices and
-// of a report, isn't made for it.
+// Adds the first line of the answer that a step or a report has: the word needs no escape.
+#[tactic(auto, unfolding(rh_json_text::specs::Json::json_string, rh_json_text::specs::Json::escaped))]
+fn push_ok(out: &mut Vec<u8>) -> Result<(), OutOfMemory>
+    ensures { OnOk result (out.new.items ≡ out.old.items ++ json_string (codes "ok")) }
+{
+    push_text(out, "\"ok\"")
+}
+
+// Adds the first line of an answer that is told as it is.
+fn push_told_answer(
+    alloc: Global,
+    out: &mut Vec<u8>,
+    cluster: &Cluster,
+    reply: &Reply,
+) -> Result<(), OutOfMemory>
+    ensures { OnOk result (out.new.items ≡ out.old.items ++ json_string (first_line (answer_text cluster.now reply.now))) }
+{
+    let answer = answer_text(alloc, cluster, reply)?;
+    push_string(out, before_first(answer.as_slice(), b'\n'))
+}
+
+// Adds the first line of an answer: nothing else of an answer is written as it is. What may be long, the lines of notices and of a
+// report, isn't made for it.
 #[tactic(auto, unfolding(rh_script::specs::Answers::answer_text))]
-fn answer_front(alloc: Global, cluster: &Cluster, reply: &Reply) -> Result<Vec<u8>, OutOfMemory>
-    ensures { IfOk result (λ text. first_line text.items ≡ first_line (answer_text cluster.now reply.now)) }
+fn push_answer(
+    alloc: Global,
+    out: &mut Vec<u8>,
+    cluster: &Cluster,
+    reply: &Reply,
+) -> Result<(), OutOfMemory>
+    ensures { OnOk result (out.new.items ≡ out.old.items ++ json_string (first_line (answer_text cluster.now reply.now))) }
 {
     match reply {
-        Reply::Done(_) | Reply::Seen { .. } => Ok(Vec::from_slice(alloc, b"ok\n".as_slice())?),
-        _ => answer_text(alloc, cluster, reply),
+        Reply::Done(_) | Reply::Seen { .. } => push_ok(out),
+        _ => push_told_answer(alloc, out, cluster, reply),
     }
 }
 
@@ -113,10 +138,10 @@ pub fn reply_line(
     ensures { IfOk result (λ line. line.items
         ≡ reply_line cluster.now number command.now (option_map (λ f. f.items) fired.now) reply.now (read state.now)) }
 {
-    let answer = answer_front(alloc, cluster, reply)?;
     // As much as most lines take.
     let mut line = Vec::with_capacity(alloc, 1_024)?;
-    push_head(alloc, &mut line, number, command, answer.as_slice())?;
+    push_command(alloc, &mut line, number, command)?;
+    push_answer(alloc, &mut line, cluster, reply)?;
     push_more(alloc, &mut line, cluster, state, fired, reply)?;
     push_text(&mut line, "}\n")?;
     Ok(line)
