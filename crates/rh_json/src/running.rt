@@ -1,6 +1,7 @@
 //! The program `run`, as JSON.
 
 ghost use Rattle.std.specs.Prelude.{List, ℕ, ◌≡◌, ◌++◌, map, false, OnOk, IfOk};
+ghost use Rattle.rh_trail.specs.declared.call.Call.TheVariants as call;
 ghost use Rattle.rh_trail.specs.Lone.{opened, served};
 ghost use Rattle.rh_script.specs.Lines.{raw_lines, content};
 ghost use Rattle.rh_app.specs.RunText.{bad_line, lines_asked, run_end, Wrote, Broke};
@@ -14,7 +15,7 @@ use rh_app::{RunFault, Told, ended};
 use rh_base::OutOfMemory;
 use rh_cluster::{Cluster, read_cluster};
 use rh_devices::{Sink, Source, Watched, WriteFault, read_input, write_text};
-use rh_json_lines::{bad_line, fired_by, reply_line};
+use rh_json_lines::{bad_line, fired_by, reply_line, seen_line};
 use rh_script::{Line, content, cut, line_of, split_line};
 use rh_step::Pick;
 use rh_trail::{Call, Sim};
@@ -187,6 +188,21 @@ pub fn answer_call<K: Sink>(
     write_text(writer, text.as_slice())
 }
 
+// The line of a command that asks for the report, with the answer. The report isn't made as text, of which nothing would be told.
+#[tactic(auto, unfolding(rh_json_lines::specs::AnswerLines::answer_line))]
+fn line_of_look(alloc: Global, sim: &Sim, number: u64, line: &[u8]) -> Result<Vec<u8>, OutOfMemory>
+    ensures { IfOk result (λ text. text.items ≡ answer_line sim.now.seen.cluster sim.now.seen number line.now call.Look) }
+{
+    seen_line(
+        alloc,
+        number,
+        line,
+        sim.cursor(),
+        sim.trail().len(),
+        sim.state(),
+    )
+}
+
 // Gives the call of a line to the simulation, and makes the line with the answer.
 #[tactic(auto, unfolding(rh_json_lines::specs::AnswerLines::answer_line), using(rh_app::proofs::Keeping::served_keeps_cluster))]
 fn line_of_call(
@@ -200,6 +216,9 @@ fn line_of_call(
     ensures cluster { OnOk result (sim.new.seen.cluster ≡ sim.old.seen.cluster) }
     ensures text { IfOk result (λ text. text.items ≡ answer_line sim.old.seen.cluster sim.old.seen number line.now call) }
 {
+    if let Call::Look = call {
+        return line_of_look(alloc, sim, number, line);
+    }
     let fired = fired_by(alloc, sim, &call)?;
     let reply = sim.answer(alloc, call)?.into_one();
     reply_line(

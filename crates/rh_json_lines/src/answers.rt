@@ -1,9 +1,11 @@
 //! The line of a command with its answer.
 
-ghost use Rattle.std.specs.Prelude.{◌≡◌, ◌++◌, OnOk, IfOk, codes};
+ghost use Rattle.std.specs.Prelude.{◌≡◌, ◌++◌, List, ℕ, None, OnOk, IfOk, codes};
 ghost use Rattle.std.specs.Fmt.{decimal};
 ghost use Rattle.std.specs.Option.{option_map};
+ghost use Rattle.rh_model.specs.ClusterView.{ClusterView};
 ghost use Rattle.rh_state.specs.Stored.{read};
+ghost use Rattle.rh_trail.specs.declared.call.Reply.TheVariants as reply;
 ghost use Rattle.rh_script.specs.Answers.{answer_text};
 ghost use Rattle.rh_json_text.specs.Json.{json_string, json_array};
 ghost use Rattle.rh_json_lines.specs.Notices.{notice_json, timed_notices};
@@ -143,6 +145,29 @@ pub fn reply_line(
     push_command(alloc, &mut line, number, command)?;
     push_answer(alloc, &mut line, cluster, reply)?;
     push_more(alloc, &mut line, cluster, state, fired, reply)?;
+    push_text(&mut line, "}\n")?;
+    Ok(line)
+}
+
+/// The line of a command of this number that asks for the report, where so many steps stand, of so many. Nothing is told of the
+/// cluster, nor of the report as text, so who has no such text needs to make none.
+#[tactic(auto, unfolding(crate::specs::AnswerLines::reply_line, crate::specs::AnswerLines::head_json, rh_script::specs::Answers::answer_text))]
+pub fn seen_line(
+    alloc: Global,
+    number: u64,
+    command: &[u8],
+    cursor: usize,
+    trail: usize,
+    state: &State,
+) -> Result<Vec<u8>, OutOfMemory>
+    ensures { IfOk result (λ line. (c : ClusterView) (report : List ℕ)
+        → line.items ≡ reply_line c number command.now None (reply.Seen cursor trail report) (read state.now)) }
+{
+    // As much as most lines take.
+    let mut line = Vec::with_capacity(alloc, 1_024)?;
+    push_command(alloc, &mut line, number, command)?;
+    push_ok(&mut line)?;
+    push_seen(alloc, &mut line, cursor, trail, state)?;
     push_text(&mut line, "}\n")?;
     Ok(line)
 }

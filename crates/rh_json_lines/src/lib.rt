@@ -13,7 +13,7 @@ mod standings;
 mod starts;
 mod states;
 
-pub use answers::{bad_line, reply_line};
+pub use answers::{bad_line, reply_line, seen_line};
 pub use clusters::{cluster_line, fault_line};
 pub use notices::fired_by;
 pub use outcomes::{outcome_line, sweep_fault_line};
