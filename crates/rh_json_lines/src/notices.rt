@@ -76,7 +76,7 @@ fn push_time(alloc: Global, out: &mut Vec<u8>, time: Option<u64>) -> Result<(), 
     Ok(())
 }
 
-// Adds a notice, with the time at which it was told, where that is known.
+// Adds, behind a comma, a notice, with the time at which it was told, where that is known.
 #[tactic(auto, unfolding(crate::specs::Notices::notice_json))]
 fn push_notice(
     alloc: Global,
@@ -85,9 +85,9 @@ fn push_notice(
     time: Option<u64>,
     notice: &Notice,
 ) -> Result<(), OutOfMemory>
-    ensures { OnOk result (out.new.items ≡ out.old.items ++ notice_json cluster.now (time, notice.now)) }
+    ensures { OnOk result (out.new.items ≡ out.old.items ++ behind_comma (notice_json cluster.now) (time, notice.now)) }
 {
-    push_text(out, "{")?;
+    push_text(out, ",{")?;
     push_time(alloc, out, time)?;
     push_text(out, notice_field(notice))?;
     push_named(out, cluster, notice)?;
@@ -106,7 +106,6 @@ fn push_each_notice(
         ++ flat_map (behind_comma (notice_json cluster.now)) (map (λ n. (time, n)) notices.now)) }
 {
     for notice in notices {
-        push_text(out, ",")?;
         push_notice(alloc, out, cluster, time, notice)?;
     }
     Ok(())

@@ -44,14 +44,14 @@ fn restart_field(restart: Restart) -> &'static str
     }
 }
 
-// Adds an application that is started at a node, without the end of the object.
+// Adds, behind a comma, an application that is started at a node, without the end of the object.
 #[tactic(auto, unfolding(crate::specs::Reports::started_json))]
 fn push_started(out: &mut Vec<u8>, state: &State, node: Node, app: App) -> Result<(), OutOfMemory>
     requires node { node.0 < node_count (read state.now).cluster }
     requires app { app.0 < app_count (read state.now).cluster }
-    ensures { OnOk result (out.new.items ≡ out.old.items ++ started_json (read state.now) node app) }
+    ensures { OnOk result (out.new.items ≡ out.old.items ++ behind_comma (started_json (read state.now) node) app) }
 {
-    push_text(out, "{\"application\":")?;
+    push_text(out, ",{\"application\":")?;
     push_app(out, state.cluster(), app)?;
     push_text(out, restart_field(state.restart_of(node, app)))
 }
@@ -63,7 +63,6 @@ fn push_running(out: &mut Vec<u8>, state: &State, node: Node, app: App) -> Resul
     requires app { app.0 < app_count (read state.now).cluster }
     ensures { OnOk result (out.new.items ≡ out.old.items ++ behind_comma (running_json (read state.now) node) app) }
 {
-    push_text(out, ",")?;
     push_started(out, state, node, app)?;
     push_start(out, state.cluster(), state.kind_of(node, app))?;
     push_text(out, "}")
@@ -76,7 +75,6 @@ fn push_waiting(out: &mut Vec<u8>, state: &State, node: Node, app: App) -> Resul
     requires app { app.0 < app_count (read state.now).cluster }
     ensures { OnOk result (out.new.items ≡ out.old.items ++ behind_comma (waiting_json (read state.now) node) app) }
 {
-    push_text(out, ",")?;
     push_started(out, state, node, app)?;
     push_text(out, "}")
 }

@@ -25,6 +25,6 @@ returns c =
     let with_name = c.in_ok-push_app.ensures ∙ ap (λ (cluster : ClusterView). c.push_text.new.out.items ++ app_json cluster c.args.app) c.cluster.ensures
     ∙ ap (λ (t : List ℕ). t ++ name) c.in_ok-push_text.ensures in
     let field = c.restart_field.ensures ∙ ap (λ (restart : Restart). codes ",\"restart\":" ++ json_string (restart_words restart)) c.restart_of.ensures in
-    pushed_as_one c.push_text-2.result c.args.out.now.items (codes "{\"application\":") name
+    pushed_as_one c.push_text-2.result c.args.out.now.items (codes ",{\"application\":") name
     (codes ",\"restart\":") (json_string (restart_words (restart_of s c.args.node c.args.app)))
     c.push_app.new.out.items c.push_text-2.new.out.items with_name (rw field at c.push_text-2.ensures)
