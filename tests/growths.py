@@ -33,6 +33,7 @@ NO_GROWTH = {
         "Cluster::app_name", "Cluster::dep_name", "Cluster::node_of", "Cluster::app_of", "Cluster::mandatory", "Cluster::optional",
         "Cluster::sync_wait", "Cluster::boot", "Cluster::permitted", "Cluster::is_platform", "Cluster::deps", "Cluster::start_arg",
         "Cluster::phases", "Cluster::spread", "Cluster::group_of", "Cluster::is_home", "Cluster::needs", "Cluster::same",
+        "Cluster::permissions", "Cluster::locals", "Cluster::touched_by",
         # Linked lists and timers.
         "Lists::push_back", "Lists::remove", "Lists::revert", "Lists::reapply", "Lists::first", "Lists::next", "Lists::prev",
         "Lists::list_of", "Lists::count", "Lists::entry_count", "Lists::list_count", "Lists::same_words",
@@ -41,7 +42,9 @@ NO_GROWTH = {
         # The readers of a state, its setters, and its edits taken back and made again.
         "State::cluster", "State::now", "State::mode", "State::incarnation", "State::allowed", "State::place_of",
         "State::restart_of", "State::kind_of", "State::first_running", "State::first_waiting", "State::next_in_list",
-        "State::running_count", "State::standing", "State::due_of", "State::earliest", "State::same_words",
+        "State::running_count", "State::standing", "State::standings", "State::permissions", "State::waits_somewhere",
+        "State::pairs_before", "State::first_running_pair", "State::first_waiting_pair", "State::due_of", "State::earliest",
+        "State::same_words",
         "State::set_now", "State::set_mode", "State::set_incarnation", "State::set_allowed", "State::set_restart",
         "State::set_kind", "State::set_standing", "State::push_running", "State::push_waiting", "State::unlink",
         "State::arm_timer", "State::cancel_timer", "State::back", "State::forth",
@@ -77,7 +80,8 @@ MADE = {
         "Course::time", "Course::stay", "Course::away", "Course::pieces", "mark", "note_of", "is_told"),
     "rows/story/waits-for": ("why_node_waits", "awaited_text"),
     "rows/verify/report": ("run_verify",),
-    "rows/json/report": ("run_json", "reply_line", "push_string", "push_number", "close_array", "push_text", "push_bytes",
+    "rows/json/report": ("run_json", "reply_line", "seen_line", "forbids_any", "push_string", "push_number", "close_array",
+                         "push_text", "push_bytes",
                          "before_first", "after_first"),
     "rows/json/failover": ("fired_by", "Trace::expect_boot"),
     "rows/json/refused-and-bad": ("bad_line",),
@@ -266,10 +270,12 @@ def many_growths(program):
 SURFACE = {
     "rh_base": ("text", "term"), "rh_terms": ("reading",), "rh_model": ("groups", "cluster"), "rh_cluster": ("reading",),
     "rh_arena": ("lists",), "rh_wheel": ("wheel",), "rh_devices": ("watched",),
-    "rh_state": ("state", "state/reading", "state/setting", "state/timers", "state/exchanging", "state/comparing"),
+    "rh_state": ("state", "state/reading", "state/setting", "state/timers", "state/exchanging", "state/comparing",
+                 "state/waiting", "state/walking"),
     "rh_place": ("choosing", "operating", "starting"), "rh_events": ("refusing",), "rh_plans": ("plan",),
     "rh_step": ("step", "firings", "notices"),
-    "rh_trail": ("sim", "sim/moves", "sim/firings", "text", "call", "replies"), "rh_room": ("room", "opening", "closing", "pass"),
+    "rh_trail": ("sim", "sim/moves", "sim/firings", "text", "text/nodes", "call", "replies"),
+    "rh_room": ("room", "opening", "closing", "pass"),
     "rh_sweep": ("trial", "workers"), "rh_notes": ("notes",), "rh_why": ("apps", "nodes", "text"),
     "rh_courses": ("course", "walk", "text"), "rh_story": ("story",), "rh_verify": ("verifying",), "rh_json_text": ("pieces", "words"),
     "rh_json_lines": ("answers", "clusters", "notices", "outcomes"), "rh_json": ("running", "checking"),
@@ -282,7 +288,7 @@ FACTS = {"Cluster::is_within", "Lists::formed", "Wheel::formed", "State::formed"
 PARTS = {
     "text_of_bytes", "text_of_vec", "read_kept", "is_in", "Cluster::of", "first_state_sharing", "operational_among", "operational_nodes",
     "missing_dep", "deps_run", "Outcome::sharing", "Bytes::same", "Reply::same", "Sim::answer",
-    "Sim::look"}
+    "Sim::look", "State::next_pair"}
 # Readers that no program makes, and that are lent no allocator.
 UNMADE = {"Course::place", "Course::ran"}
 

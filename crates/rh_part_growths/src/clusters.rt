@@ -73,6 +73,8 @@ fn is_of_whole(cluster: &Cluster, name: &str) -> Option<bool> {
         Some(cluster.app_of("side") == Some(SIDE))
     } else if name == "Cluster::same" {
         Some(cluster.same(cluster))
+    } else if name == "Cluster::locals" {
+        Some(cluster.locals().has(SIDE) && !cluster.locals().has(SERVICE))
     } else {
         None
     }
@@ -95,6 +97,8 @@ fn is_of_node(cluster: &Cluster, name: &str) -> Option<bool> {
         Some(cluster.boot(HERE).len() == 2)
     } else if name == "Cluster::permitted" {
         Some(cluster.permitted(HERE, SERVICE))
+    } else if name == "Cluster::permissions" {
+        Some(cluster.permissions(Node(1)) == [false, true].as_slice())
     } else if name == "Cluster::is_platform" {
         Some(cluster.is_platform(HERE, 2))
     } else {
@@ -125,6 +129,8 @@ fn is_of_app(cluster: &Cluster, name: &str) -> Option<bool> {
         Some(cluster.is_home(SERVICE, HERE))
     } else if name == "Cluster::needs" {
         Some(cluster.needs(SERVICE) == [SIDE].as_slice())
+    } else if name == "Cluster::touched_by" {
+        Some(cluster.touched_by(SIDE).has(SERVICE) && !cluster.touched_by(SERVICE).has(SIDE))
     } else {
         None
     }

@@ -1,7 +1,7 @@
 //! The readers of a state.
 
 use crate::made::{HERE, SERVICE, SIDE};
-use rh_cluster::Restart;
+use rh_cluster::{Node, Restart};
 use rh_state::{Kind, Mode, Place, Standing, State, Timer};
 
 /// Whether a reader of this name answers as it has to, if it is one of the lists and the timers.
@@ -49,8 +49,30 @@ pub fn is_of_parts(state: &State, name: &str) -> Option<bool> {
         Some(state.kind_of(HERE, SERVICE) == Kind::Normal)
     } else if name == "State::standing" {
         Some(state.standing(SERVICE) == Standing::Quiet)
+    } else if name == "State::standings" {
+        Some(state.standings() == [Standing::Quiet, Standing::Quiet].as_slice())
+    } else if name == "State::permissions" {
+        Some(state.permissions(Node(1)) == [false, true].as_slice())
     } else if name == "State::same_words" {
         Some(state.same_words(state))
+    } else {
+        None
+    }
+}
+
+/// The same of one that goes along the lists by the numbers of pairs, or through all nodes.
+pub fn is_of_walks(state: &State, name: &str) -> Option<bool> {
+    if state.cluster().node_count() != 3 || state.cluster().app_count() != 2 {
+        return None;
+    }
+    if name == "State::waits_somewhere" {
+        Some(!state.waits_somewhere(SERVICE))
+    } else if name == "State::pairs_before" {
+        Some(state.pairs_before(Node(1)) == 2)
+    } else if name == "State::first_running_pair" {
+        Some(state.first_running_pair(HERE) == Some(1))
+    } else if name == "State::first_waiting_pair" {
+        Some(state.first_waiting_pair(HERE).is_none())
     } else {
         None
     }

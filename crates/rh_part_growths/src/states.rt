@@ -33,6 +33,8 @@ fn is_right(state: &mut State, name: &str) -> Option<bool> {
         Some(is_right)
     } else if let Some(is_right) = readers::is_of_parts(state, name) {
         Some(is_right)
+    } else if let Some(is_right) = readers::is_of_walks(state, name) {
+        Some(is_right)
     } else if let Some(is_right) = places::is_told(state, name) {
         Some(is_right)
     } else if let Some(is_right) = setters::is_part_set(state, name) {
