@@ -60,14 +60,12 @@ pub fn is_of_parts(state: &State, name: &str) -> Option<bool> {
     }
 }
 
-/// The same of one that goes along the lists by the numbers of pairs, or through all nodes.
+/// The same of one that goes along the lists by the numbers of pairs.
 pub fn is_of_walks(state: &State, name: &str) -> Option<bool> {
     if state.cluster().node_count() != 3 || state.cluster().app_count() != 2 {
         return None;
     }
-    if name == "State::waits_somewhere" {
-        Some(!state.waits_somewhere(SERVICE))
-    } else if name == "State::pairs_before" {
+    if name == "State::pairs_before" {
         Some(state.pairs_before(Node(1)) == 2)
     } else if name == "State::first_running_pair" {
         Some(state.first_running_pair(HERE) == Some(1))

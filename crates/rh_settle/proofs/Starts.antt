@@ -1,16 +1,15 @@
 -- Where a local application can start.
-use Rattle.std.proofs.Common.{◌≡◌, ◌<◌, ◌≤◌, ◌+◌, ◌-◌, ℕ, Bool, true, false, cond, ◌&&◌, ◌||◌, List, [], ◌∷◌, refl, sym, ap, ◌∙◌, arith, is_some, Option, None, Some, slice_get, nat_lt, unwrap_or}
+use Rattle.std.proofs.Common.{◌≡◌, ◌<◌, ◌≤◌, ◌+◌, ◌-◌, ℕ, Bool, true, false, cond, ◌&&◌, ◌||◌, List, [], ◌∷◌, refl, sym, ap, ◌∙◌, arith, is_some, Option, None, Some, slice_get, unwrap_or}
 use Rattle.std.specs.List.{list_any}
 use Rattle.std.proofs.lemmas.List.Folds.{list_any_at}
-use Rattle.std.proofs.lemmas.Option.{slice_get_within, slice_get_past, get_or_from_slice_get}
+use Rattle.std.proofs.lemmas.Option.{slice_get_within, get_or_from_slice_get}
 use Rattle.rh_model.specs.declared.node.Node.{Node}
 use Rattle.rh_model.specs.declared.node.App.{App}
-use Rattle.rh_model.specs.ClusterView.{node_count, app_numbered}
+use Rattle.rh_model.specs.ClusterView.{app_numbered}
 use Rattle.rh_state.specs.Numbers.{same_app}
 use Rattle.rh_state.specs.Lists.{has_app}
 use Rattle.rh_state.specs.Shape.{IsShaped, IsAppOf}
 use Rattle.rh_state.specs.StateView.{StateView, waiting_at, waits_at, runs_at, is_allowed, standing_of}
-use Rattle.rh_state.proofs.Waiting.{at_some_node}
 use Rattle.rh_base.specs.Lists.{or_else, first_given, head}
 use Rattle.rh_base.proofs.Lists.{cases}
 use Rattle.rh_rules.specs.Placing.{deps_run}
@@ -30,7 +29,7 @@ use Rattle.rh_state.specs.declared.status.Standing.TheVariants.{Quiet}
 use Rattle.rh_settle.specs.Boards.{is_wanted, ReadyView, MarksLocals, IsReadyOf}
 use Rattle.rh_settle.proofs.Boards.{given_nowhere, no_head, unwanted_stays}
 use Rattle.rh_settle.proofs.Callers.{uncalled_stays}
-use Rattle.rh_settle.proofs.Entries.{both, same_number, is_false, is_below, is_above}
+use Rattle.rh_settle.proofs.Entries.{both, same_number, is_false}
 use Rattle.rh_settle.proofs.Places.{same_refl, or_left, or_right}
 use Rattle.rh_settle.proofs.Shapes.{started_within}
 use Rattle.rh_settle.proofs.Searches.{up_to, either_none, none_of_none, none_behind}
@@ -85,24 +84,6 @@ pub none_local : (s : StateView) (n : Node) → IsShaped s → ((a : App) → Is
 unfolding local_moves
 none_local s n shape none = none_of s n (waiting_at s n)
     (λ a here. no_start s n a (none a (started_within s n a shape (or_right (runs_at s n a) (waits_at s n a) here))))
-
--- ---- an application that waits nowhere
-pub waits_at_none : (s : StateView) (a : App) → IsShaped s → list_any (λ n. waits_at s n a) (nodes_of s.cluster) ≡ false → (n : Node) → waits_at s n a ≡ false
-waits_at_none s a shape none n = cases (nat_lt n.0 (node_count s.cluster))
-    (λ t. is_false (waits_at s n a)
-    (λ h. both (list_any (λ m. waits_at s m a) (nodes_of s.cluster))
-    (at_some_node s.cluster (λ m. waits_at s m a) n (is_below n.0 (node_count s.cluster) t) h) none))
-    (λ f. let past = is_above n.0 (node_count s.cluster) f in
-    ap (λ o. has_app (unwrap_or o []) a) (slice_get_past s.waiting n.0 (let e = shape.waiting in omega arith)))
-
--- starts at no node
-pub starts_at_none : (s : StateView) (a : App) (start : Node → Bool) → IsShaped s → list_any (λ n. waits_at s n a) (nodes_of s.cluster) ≡ false
-    → (among : Bool) (n : Node) → among ≡ (among || (waits_at s n a && start n))
-starts_at_none s a start shape none among n = sym (ap (λ b. among || (b && start n)) (waits_at_none s a shape none n) ∙ or_no among)
-  where
-    or_no : (b : Bool) → (b || false) ≡ b
-    or_no true = refl
-    or_no false = refl
 
 -- ---- marks that move up
 -- the applications from a number on have their marks, which are still to move up by so many; so they do after one step

@@ -127,16 +127,12 @@ fn wanted_marks(state: &State) -> AppMarks
     }
 }
 
-// The nodes of a set, and those at which a local application waits and can start. Mostly it waits nowhere, which is asked
-// first, since that costs least.
+// The nodes of a set, and those at which a local application waits and can start.
 fn with_starts(set: NodeSet, state: &State, app: App) -> NodeSet
     requires { IsAppOf (read state.now).cluster app }
     ensures { (n : Node) → has result n ≡ (has set n || (waits_at (read state.now) n app && can_start (read state.now) n app)) }
 {
     state.formed();
-    if !state.waits_somewhere(app) {
-        return set;
-    }
     let count = state.cluster().node_count();
     let mut nodes = set;
     'nodes: for number in 0..count {

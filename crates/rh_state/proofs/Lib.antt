@@ -14,4 +14,3 @@ pub mod Records
 pub mod Tables
 pub mod Cut
 pub mod Twice
-pub mod Waiting

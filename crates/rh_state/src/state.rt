@@ -14,7 +14,6 @@ mod pairs;
 mod reading;
 mod setting;
 mod timers;
-mod waiting;
 mod walking;
 
 use crate::status::{Kind, Mode, Standing};
