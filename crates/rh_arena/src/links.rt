@@ -15,8 +15,8 @@ use std::marker::Model;
 /// The words.
 #[derive(Drop)]
 pub struct Links {
-    // The three words of an entry stand side by side, and those of a list too: an exchange then tests each place once, and
-    // finds all that it needs there in one line of the cache.
+    // The three words of an entry stand side by side, and those of a list too, so that an exchange finds them together in the
+    // cache. It tests the number of its entry once for all three, and that of its list once for each word that it gives there.
     entries: Vec<EntryWords>,
     lists: Vec<ListWords>,
 }
