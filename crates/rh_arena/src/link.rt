@@ -1,6 +1,6 @@
 //! Links.
 
-ghost use Rattle.std.specs.Prelude.{◌≡◌, ◌<◌, ◌↔◌, ℕ, Some, None, true};
+ghost use Rattle.std.specs.Prelude.{◌≡◌, ◌<◌, ◌↔◌, Some, None, true};
 
 use std::marker::Model;
 
@@ -64,19 +64,6 @@ impl Link {
         match self.get() {
             None => None,
             Some(number) => Some(u32::from(number)),
-        }
-    }
-
-    // One of two links: the first where this one is to one, the second where it is to none.
-    #[inline]
-    pub fn choose(self, first: Link, second: Link) -> Link
-        ensures one { (n : ℕ) → self ≡ Some n → result ≡ first }
-        ensures none { self ≡ None → result ≡ second }
-    {
-        if self.raw == Link::NONE {
-            second
-        } else {
-            first
         }
     }
 
