@@ -25,8 +25,9 @@ pub struct Cluster {
     apps: Vec<AppSettings>,
     // For each application what it needs, which the settings tell.
     needs: Vec<Needs>,
-    // The applications that aren't distributed, and for each one those that a move of it touches, which the settings tell too.
+    // The applications that aren't distributed, which the settings tell too.
     locals: AppMarks,
+    // For each application, distributed or not, those that a move of it touches. The settings tell them as well.
     touched: MarkRows,
 }
 

@@ -29,7 +29,8 @@ pub(crate) fn locals_in(apps: &[AppSettings]) -> AppMarks
     marks
 }
 
-// Marks an application in the row of what it needs, if that is an application.
+// Marks an application in the row of what it needs, if that is an application. A number without a row is no application's, since
+// a cluster has at most as many applications as there are rows.
 fn mark_need(rows: &mut MarkRows, app: App, dep: Dep)
     requires { app.0 < MAX_APPS }
     ensures { (b a : App) → b.0 < MAX_APPS → is_marked_in rows.new b a ≡ (is_marked_in rows.old b a || (a.0 == app.0 && list_any (λ (x : App). b.0 == x.0) (option_to_list (listed dep)))) }
