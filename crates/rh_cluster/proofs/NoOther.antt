@@ -7,7 +7,7 @@ use Rattle.std.proofs.lemmas.List.Elements.{All-nil, All-cons, All-append}
 use Rattle.rh_base.specs.declared.term.Term.{Term}
 use Rattle.rh_base.specs.Tree.{Tree, tree_of}
 use Rattle.rh_cluster.specs.Values.{distributed_of, first_filled}
-use Rattle.rh_cluster.specs.Common.{IsNoOther, NeverDiffer, AreAlike}
+use Rattle.rh_cluster.specs.Common.{IsNoOther, AreAlike}
 
 -- one of the terms that are alike
 pub of_term : (n : ℕ) (ts : List Term) (i : ℕ) (t : Term) → AreAlike n ts → i < n → i < length ts → t ≡ get_or ts i t
@@ -23,18 +23,6 @@ one_more n ts t alike inside is h =
     let P : Term → Type 0 = λ u. IsNoOther (first_filled (map tree_of ts)) (distributed_of (tree_of u)) in
     subst (All P) (sym (take_more ts n t inside))
     (All-append P (take n ts) (get_or ts n t ∷ []) alike (All-cons P (get_or ts n t) [] (subst P is h) (All-nil P)))
-
--- two of them
-pub two_values : (common v w : Option Tree) → IsNoOther common v → IsNoOther common w → NeverDiffer v w
-two_values common None w h k = tt
-two_values common (Some v) None h k = tt
-two_values common (Some v) (Some w) h k = let same : Some v ≡ Some w = sym h ∙ k in cc
-
--- one of them, and the common one
-pub with_common : (common v : Option Tree) → IsNoOther common v → NeverDiffer v common
-with_common common None h = tt
-with_common None (Some v) h = tt
-with_common (Some c) (Some v) h = cc
 
 -- the latest of two
 pub of_latest : (common v w : Option Tree) → IsNoOther common v → IsNoOther common w → IsNoOther common (option_or v w)

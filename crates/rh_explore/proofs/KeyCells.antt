@@ -1,5 +1,5 @@
 -- Bytes of a key that are written into cells, place by place.
-use Rattle.std.proofs.Common.{◌≡◌, ◌≢◌, ◌<◌, ◌≤◌, ◌+◌, ◌*◌, ◌++◌, ℕ, suc, true, cond, List, [], ◌∷◌, Option, Some, None, IfSome, length, take, set, slice_get, refl, sym, ap, ◌∙◌, arith}
+use Rattle.std.proofs.Common.{◌≡◌, ◌<◌, ◌≤◌, ◌+◌, ◌*◌, ◌++◌, ℕ, suc, true, cond, List, [], ◌∷◌, Option, Some, None, IfSome, length, take, set, slice_get, refl, sym, ap, ◌∙◌, arith}
 use Rattle.std.proofs.Common.{append_assoc, subst, nat_lt, lt-ltb, ◌^◌}
 use Rattle.std.specs.List.{flat_map}
 use Rattle.std.specs.Option.{option_map}
@@ -11,16 +11,13 @@ use Rattle.rh_model.specs.declared.node.Node.{Node}
 use Rattle.rh_model.specs.declared.node.App.{App}
 use Rattle.rh_state.specs.declared.status.Mode.{Mode}
 use Rattle.rh_state.specs.declared.status.Mode.TheVariants.{Down, Waiting, Up}
-use Rattle.rh_state.specs.declared.status.Place.TheVariants.{Off}
 use Rattle.rh_state.specs.declared.status.Standing.{Standing}
 use Rattle.rh_state.specs.declared.status.Standing.TheVariants as standing
 use Rattle.rh_state.specs.Lists.{has_app, next_app}
 use Rattle.rh_state.specs.Pairs.{app_of_pair, IsPairOfNode}
 use Rattle.rh_state.specs.Shape.{IsAppOf, IsStandingOf}
-use Rattle.rh_state.specs.StateView.{StateView, runs_at, waits_at, place_of}
 use Rattle.rh_state.proofs.Pairs.{IsAppOf-pair}
 use Rattle.rh_settle.proofs.ListWalks.{left_of, all_left, left_more, once_of}
-use Rattle.rh_settle.proofs.Places.{started_on, or_left, or_right}
 use Rattle.rh_trail.proofs.Walks.{IsWalked, Once, is_there, walk_begins, walk_goes_on, walk_ends, walk_shortens}
 use Rattle.rh_explore.specs.Codes.{number_code, code}
 use Rattle.rh_explore.specs.Keys.{mode_number, standing_numbers, app_number}
@@ -53,13 +50,6 @@ two_put cells at end a b is l =
     ∙ take_more_set (set cells at a) (at + 1) b (omega (arith, l, long))
     ∙ ap (λ (t : List ℕ). t ++ b ∷ []) (take_more_set cells at a (omega (arith, l)))
     ∙ append_assoc (take at cells) (a ∷ []) (b ∷ [])
-
--- ---- an application of a list stands at a node
-pub running_on : (s : StateView) (n : Node) (a : App) → runs_at s n a ≡ true → place_of s n a ≢ Off
-running_on s n a h = started_on s n a (or_left (runs_at s n a) (waits_at s n a) h)
-
-pub waiting_on : (s : StateView) (n : Node) (a : App) → waits_at s n a ≡ true → place_of s n a ≢ Off
-waiting_on s n a h = started_on s n a (or_right (runs_at s n a) (waits_at s n a) h)
 
 -- ---- a walk along a list of a node, by the numbers of pairs
 apps_of_node : (c : ClusterView) (n : Node) (o : Option ℕ) → IfSome o (IsPairOfNode c n) → IfSome (option_map (app_of_pair c n) o) (IsAppOf c)

@@ -5,7 +5,7 @@ use Rattle.std.specs.Int.RustNames.{bit_or}
 use Rattle.std.specs.Int.{w128}
 use Rattle.std.proofs.lemmas.Bool.{cases_lt}
 use Rattle.std.proofs.Math.Nat.{div-le_self}
-use Rattle.std.proofs.lemmas.Nat.{div-add-mod', mod_below, pow_pos, or_lt, and_le_l}
+use Rattle.std.proofs.lemmas.Nat.{div-add-mod', mod_below, pow_pos, or_lt}
 use Rattle.std.proofs.lemmas.Nat.Bits.{shr_and_one, bit_at-lt, bit_at-zero, bit_at_above, bit_at_set_same, bit_at_set_other, bit_at_cat_low, bit_at_cat_high, bit_at-trailing_zeros, same_from_bits}
 use Rattle.std.proofs.lemmas.Nat.Bits.{bit_at_and}
 use Rattle.std.proofs.lemmas.Bool.Decides.{eqb_tells, nat_tests}
@@ -184,6 +184,3 @@ marked_both b c a = ap (λ v. v == 1) (bit_at_and b c a.0) ∙ lesser (bit_at b 
 
         one_min : (w : ℕ) → w < 2 → min 1 w ≡ w
         one_min w q = omega (arith, q)
-
-pub both_few : (b c : ℕ) → b < 2 ^ 128 → bit_and b c < 2 ^ 128
-both_few b c small = let le = and_le_l b c in omega (arith, le, small)

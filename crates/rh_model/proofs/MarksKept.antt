@@ -99,25 +99,6 @@ own_row before b a app = ap (λ p. before || p) (elim (eqb_tells a.0 app.0) [
     turned : (i j : ℕ) → nat_eq i j ≡ nat_eq j i
     turned i j = grind (arith, nat_tests)
 
--- and a dependency that is no application marks nothing
-pub no_need : (before here : Bool) → before ≡ before || (here && false)
-no_need true here = refl
-no_need false true = refl
-no_need false false = refl
-
-pub one_need : (before here : Bool) (b need : App) → before || (b.0 == need.0 && here) ≡ before || (here && (b.0 == need.0 || false))
-one_need true here b need = refl
-one_need false true b need = both_sides (b.0 == need.0)
-  where
-    both_sides : (p : Bool) → p && true ≡ p || false
-    both_sides true = refl
-    both_sides false = refl
-one_need false false b need = neither (b.0 == need.0)
-  where
-    neither : (p : Bool) → p && false ≡ false
-    neither true = refl
-    neither false = refl
-
 -- a node's list of permissions has that of each application
 pub permitted_at : (c : ClusterView) (n : Node) (v : NodeView) → slice_get c.nodes n.0 ≡ Some v → (row : List Bool) → row ≡ v.permissions
     → (k : ℕ) → k < length row → get_or row k false ≡ is_permitted c n (app_numbered k)
