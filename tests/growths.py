@@ -24,8 +24,9 @@ from support import TOP, fault_of, library_of, read, run
 NO_GROWTH = {
     "rh_part_growths": (
         # The types round a list, and devices that are watched.
-        "Str::of", "Str::as_str", "Str::same", "Term::same", "Terms::of", "Terms::as_slice", "Terms::same", "Group::of",
-        "Group::as_slice", "Groups::of", "Groups::as_slice",
+        "Str::of", "Str::as_str", "Str::same", "Term::same", "Terms::of", "Terms::as_slice", "Terms::same",
+        "Terms::into_shared of shared ones", "Terms::share of shared ones",
+        "Group::of", "Group::as_slice", "Groups::of", "Groups::as_slice",
         "Notices::as_slice", "Notices::same", "Notices::share", "Standings::as_slice", "Standings::same", "Standings::share",
         "Watched::new", "Watched::failed", "Watched::into_inner",
         # The readers of a cluster.
@@ -63,8 +64,9 @@ NO_GROWTH = {
 # work.
 GROWTH = {
     "rh_part_growths": (
-        "read_terms", "read_cluster", "Str::copy", "Term::copy", "Terms::copy", "Notices::of", "Standings::of", "Cluster::copy",
-        "Lists::new", "Lists::copy", "Wheel::new", "Wheel::copy", "first_state", "State::copy", "State::timers"),
+        "read_terms", "read_cluster", "Str::copy", "Term::copy", "Terms::copy", "Terms::into_shared", "Terms::share",
+        "Notices::of", "Standings::of", "Cluster::copy", "Lists::new", "Lists::copy", "Wheel::new", "Wheel::copy",
+        "first_state", "State::copy", "State::timers"),
     "rh_growths": (
         "perform", "firings_of", "Sim::firings", "report", "Bytes::of", "Sim::open", "Sim::copy",
         "Sim::step where timers fire", "Sim::step of a boot",
@@ -277,7 +279,8 @@ SURFACE = {
     "rh_trail": ("sim", "sim/moves", "sim/firings", "text", "text/nodes", "call", "replies"),
     "rh_room": ("room", "opening", "closing", "pass"),
     "rh_sweep": ("trial", "workers"), "rh_notes": ("notes",), "rh_why": ("apps", "nodes", "text"),
-    "rh_courses": ("course", "walk", "text"), "rh_story": ("story",), "rh_verify": ("verifying",), "rh_json_text": ("pieces", "words"),
+    "rh_courses": ("course", "walk", "text"), "rh_story": ("story",), "rh_verify": ("verifying",),
+    "rh_json_text": ("pieces", "words"),
     "rh_json_lines": ("answers", "clusters", "notices", "outcomes"), "rh_json": ("running", "checking"),
     "rh_manner": ("running",),
 }
@@ -286,8 +289,8 @@ FACTS = {"Cluster::is_within", "Lists::formed", "Wheel::formed", "State::formed"
          "firings_tell_the_tick", "firings_are_in_time"}
 # Parts of calls that have rows, which crates above make by themselves too.
 PARTS = {
-    "text_of_bytes", "text_of_vec", "read_kept", "is_in", "Cluster::of", "first_state_sharing", "operational_among", "operational_nodes",
-    "missing_dep", "deps_run", "Outcome::sharing", "Bytes::same", "Reply::same", "Sim::answer",
+    "text_of_bytes", "text_of_vec", "read_kept", "is_in", "Cluster::of", "first_state_sharing", "operational_among",
+    "operational_nodes", "missing_dep", "deps_run", "Outcome::sharing", "Bytes::same", "Reply::same", "Sim::answer",
     "Sim::look", "State::next_pair"}
 # Readers that no program makes, and that are lent no allocator.
 UNMADE = {"Course::place", "Course::ran"}

@@ -3,6 +3,8 @@ use Rattle.std.specs.Prelude.{List, [], ◌∷◌, ℕ, ℤ, map}
 use Rattle.rh_base.specs.declared.term.Term.{Term, fold-Term}
 use Rattle.rh_base.specs.declared.term.Terms.{Terms, out-Terms}
 use Rattle.rh_base.specs.declared.term.Term.TheOpen.{Term-F, Terms-F}
+use Rattle.rh_base.specs.declared.held.Held.{Held}
+use Rattle.rh_base.specs.declared.held.Held.TheVariants.{Own, Shared}
 
 -- A term as a tree. Atoms and texts are their bytes, in UTF-8.
 mutual
@@ -27,6 +29,11 @@ abbrev pub list_of_trees : Trees → List Tree
 list_of_trees none = []
 list_of_trees (more t ts) = t ∷ list_of_trees ts
 
+-- the items, wherever they lie
+abbrev pub lying : {A : Type 0} → Held A → List A
+lying (Own items) = items.items
+lying (Shared items) = items.value.items
+
 abbrev pub tree_step : Term-F Tree Trees → Tree
 tree_step (Term-F.Atom s) = atom s
 tree_step (Term-F.Int n) = int n
@@ -35,7 +42,7 @@ tree_step (Term-F.List ts) = list ts
 tree_step (Term-F.Tuple ts) = tuple ts
 
 abbrev pub terms_step : Terms-F Tree Trees → Trees
-terms_step ts = trees_from ts.items.items
+terms_step ts = trees_from (lying ts.items)
 
 -- the tree of a term
 abbrev pub tree_of : Term → Tree
@@ -47,4 +54,4 @@ trees_of ts = trees_from (map tree_of ts)
 
 -- the terms that a `Terms` holds
 abbrev pub items_of : Terms → List Term
-items_of ts = (out-Terms ts).items.items
+items_of ts = lying (out-Terms ts).items

@@ -4,6 +4,7 @@
 #![tactic(auto)]
 
 mod alike;
+mod held;
 mod memory;
 mod term;
 mod text;

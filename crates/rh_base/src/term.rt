@@ -3,9 +3,11 @@
 ghost use Rattle.std.specs.Prelude.{◌≡◌, ◌↔◌, IfOk, IsTrue};
 ghost use Rattle.rh_base.specs.Tree.{tree_of, trees_of, items_of};
 
+use crate::held::Held;
 use crate::memory::OutOfMemory;
 use crate::text::Str;
 use std::alloc::Global;
+use std::sync::Arc;
 
 /// A term of Erlang, as far as files of this project use them.
 #[derive(Drop)]
@@ -27,11 +29,14 @@ pub enum Term {
 #[derive(Drop)]
 #[cycle(term)]
 pub struct Terms {
-    items: Vec<Term>,
+    items: Held<Term>,
 }
 
+// A list takes no more room in a term than a text does, though it may be shared.
+const _: () = prove!(size_of::<Term>() == 40);
+
 impl Term {
-    /// An equal term in memory of its own.
+    /// An equal term in memory of its own, which nothing shares.
     #[cycle(copying)]
     pub fn copy(&self, alloc: Global) -> Result<Term, OutOfMemory>
         ensures { IfOk result (λ t. tree_of t ≡ tree_of self.now) }
@@ -66,26 +71,59 @@ impl Terms {
     pub fn of(items: Vec<Term>) -> Terms
         ensures { items_of result ≡ items.items }
     {
-        Terms { items }
+        Terms {
+            items: Held::Own(items),
+        }
     }
 
     /// The terms, in order.
     pub fn as_slice(&self) -> &[Term]
         ensures { result.now ≡ items_of self.now }
     {
-        self.items.as_slice()
+        match &self.items {
+            Held::Own(items) => items.as_slice(),
+            Held::Shared(items) => items.as_slice(),
+        }
     }
 
-    /// Equal terms in memory of their own.
+    /// The same terms, in memory that others can share with them: one block more, unless they lie so already. Where memory is refused,
+    /// the terms are gone.
+    pub fn into_shared(self, alloc: Global) -> Result<Terms, OutOfMemory>
+        ensures { IfOk result (λ ts. items_of ts ≡ items_of self) }
+    {
+        let items = match self.items {
+            Held::Own(items) => Arc::new(alloc, items)?,
+            Held::Shared(items) => items,
+        };
+        Ok(Terms {
+            items: Held::Shared(items),
+        })
+    }
+
+    /// Equal terms: where they lie in memory that can be shared the same ones, which takes none, and else a copy. The error says that
+    /// memory was refused, or that there are too many who share them.
+    pub fn share(&self, alloc: Global) -> Result<Terms, OutOfMemory>
+        ensures { IfOk result (λ ts. trees_of (items_of ts) ≡ trees_of (items_of self.now)) }
+    {
+        match &self.items {
+            Held::Own(_items) => self.copy(alloc),
+            Held::Shared(items) => Ok(Terms {
+                items: Held::Shared(Arc::try_clone(items)?),
+            }),
+        }
+    }
+
+    /// Equal terms in memory of their own, which nothing shares.
     #[cycle(copying)]
     pub fn copy(&self, alloc: Global) -> Result<Terms, OutOfMemory>
         ensures { IfOk result (λ ts. trees_of (items_of ts) ≡ trees_of (items_of self.now)) }
     {
-        let mut items = Vec::with_capacity(alloc, self.items.len())?;
-        'terms: for term in &self.items {
+        let terms = self.as_slice();
+        let mut items = Vec::with_capacity(alloc, terms.len())?;
+        'terms: for term in terms {
             items.push(term.copy(alloc)?)?;
         }
-        Ok(Terms { items })
+        Ok(Terms::of(items))
     }
 
     /// Are these equal terms in the same order?
@@ -93,11 +131,13 @@ impl Terms {
     pub fn same(&self, other: &Terms) -> bool
         ensures { IsTrue result ↔ (trees_of (items_of self.now) ≡ trees_of (items_of other.now)) }
     {
-        if self.items.len() != other.items.len() {
+        let these = self.as_slice();
+        let those = other.as_slice();
+        if these.len() != those.len() {
             return false;
         }
-        'terms: for (index, term) in self.items.iter().enumerate() {
-            if !term.same(&other.items[index]) {
+        'terms: for (index, term) in these.iter().enumerate() {
+            if !term.same(&those[index]) {
                 return false;
             }
         }

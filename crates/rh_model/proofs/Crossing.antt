@@ -11,10 +11,10 @@ use Rattle.rh_model.specs.contracts.app_settings.AppSettings as AppSettings
 use Rattle.rh_model.specs.contracts.cluster.Cluster as Cluster
 
 app_parts_send : IsSend AppSettings.the_row
-app_parts_send = search (dep.the_send, spread.the_send, text.the_send, crosses, terms.crosses, sendable) depth 60 fits 20000
+app_parts_send = search (dep.the_send, spread.the_send, text.the_send, text.the_sync, crosses, terms.crosses_both, sendable) depth 60 fits 20000
 
 app_parts_sync : IsSync AppSettings.the_row
-app_parts_sync = search (dep.the_sync, spread.the_sync, text.the_sync, crosses, terms.crosses, sendable) depth 60 fits 20000
+app_parts_sync = search (dep.the_sync, spread.the_sync, text.the_send, text.the_sync, crosses, terms.crosses_both, sendable) depth 60 fits 20000
 
 pub cluster_send : IsSend Cluster.the_row
 cluster_send = search (app_parts_send, names.the_send, node_settings.the_send, crosses, sendable) depth 60 fits 20000

@@ -13,10 +13,21 @@ pub fn answer(alloc: Global, name: &str) -> Option<Answer> {
         Some(reading(alloc))
     } else if name == "Terms::of" {
         Some(making(alloc, Vec::new(alloc)))
+    } else if name == "Terms::into_shared" {
+        Some(making_shared(alloc, read_terms(alloc, TERMS.as_bytes()).ok()?))
+    } else if name == "Terms::into_shared of shared ones" {
+        Some(making_shared(alloc, shared_terms(alloc)?))
+    } else if name == "Terms::share of shared ones" {
+        Some(sharing(alloc, &shared_terms(alloc)?))
     } else {
         let terms = read_terms(alloc, TERMS.as_bytes()).ok()?;
         of_read(alloc, &terms, terms.as_slice().first()?, name)
     }
+}
+
+fn shared_terms(alloc: Global) -> Option<Terms> {
+    let terms = read_terms(alloc, TERMS.as_bytes()).ok()?;
+    terms.into_shared(alloc).ok()
 }
 
 fn reading(alloc: Global) -> Answer {
@@ -37,10 +48,33 @@ fn making(alloc: Global, terms: Vec<Term>) -> Answer {
     Answer::done(made.as_slice().is_empty())
 }
 
+fn making_shared(alloc: Global, terms: Terms) -> Answer {
+    begin(alloc);
+    let shared = terms.into_shared(alloc);
+    end(alloc);
+    match shared {
+        Ok(shared) => Answer::done(shared.as_slice().len() == 2),
+        Err(_) => Answer::Refused,
+    }
+}
+
+fn sharing(alloc: Global, terms: &Terms) -> Answer {
+    begin(alloc);
+    let more = terms.share(alloc);
+    end(alloc);
+    match more {
+        Ok(more) => Answer::done(more.same(terms)),
+        Err(_) => Answer::Refused,
+    }
+}
+
 // The calls of terms that were read, and of the first of them.
 fn of_read(alloc: Global, terms: &Terms, first: &Term, name: &str) -> Option<Answer> {
     if name == "Terms::copy" {
         return Some(copying_all(alloc, terms));
+    }
+    if name == "Terms::share" {
+        return Some(sharing(alloc, terms));
     }
     if name == "Term::copy" {
         return Some(copying(alloc, first));

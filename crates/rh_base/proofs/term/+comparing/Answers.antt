@@ -20,18 +20,21 @@ places xs ys i x y inside at_x at_y same =
     ∙ get_or-map tree_of ys i y (tree_of x) (subst (λ n. i < n) (lengths xs ys same) inside)
     ∙ sym (ap tree_of at_y)
 
-pub Terms::same-returns-then-len : goal.Terms::same-returns-then-len
-Terms::same-returns-then-len t c =
-    let these = items_of c.args.self.now in
-    let those = items_of c.args.other.now in
-    (λ e. cc e, λ e. let as_many : length these ≡ length those = lengths these those e in absurd (c.if-len.true (omega arith)))
+pub Terms::same-returns-then-these-those : goal.Terms::same-returns-then-these-those
+Terms::same-returns-then-these-those t c =
+    let these = c.as_slice-these.result.now in
+    let those = c.as_slice-those.result.now in
+    let equal : trees_of (items_of c.args.self.now) ≡ trees_of (items_of c.args.other.now) → trees_of these ≡ trees_of those =
+    λ e. ap trees_of c.as_slice-these.ensures ∙ e ∙ ap trees_of (sym c.as_slice-those.ensures) in
+    (λ e. cc e, λ e. let as_many : length these ≡ length those = lengths these those (equal e) in absurd (c.if-these-those.true (omega (arith, as_many))))
 
 pub Terms::same-returns-then-not-same : goal.Terms::same-returns-then-not-same
 Terms::same-returns-then-not-same t c =
-    let these = items_of c.args.self.now in
-    let those = items_of c.args.other.now in
-    let index = c.terms.index in
-    let this = c.term-item.result in
-    let at_this : this ≡ get_or these index this =
-    c.term-item.is ∙ ap (λ (ts : List Term). get_or ts index this) c.deref-term-items.ensures.value in
-    (λ e. cc e, λ e. c.if-not-same.ensures.1 (places these those index this c.index.result.now (omega arith) at_this c.index.ensures e))
+    let these = c.as_slice-these.result.now in
+    let those = c.as_slice-those.result.now in
+    let equal : trees_of (items_of c.args.self.now) ≡ trees_of (items_of c.args.other.now) → trees_of these ≡ trees_of those =
+    λ e. ap trees_of c.as_slice-these.ensures ∙ e ∙ ap trees_of (sym c.as_slice-those.ensures) in (
+      λ e. cc e,
+      λ e. c.if-not-same.ensures.1
+          (places these those c.terms.index c.index-these-index.result c.index-those-index.result (omega arith) c.index-these-index.is c.index-those-index.is (equal e)),
+    )

@@ -4,6 +4,6 @@ use Rattle.rh_base.proofs.term.+comparing.Given as goal
 
 abbrev pub invariant-Terms::same-terms : goal.invariant-Terms::same-terms
 invariant-Terms::same-terms l = record {
-  same : map tree_of (take l.index l.self.items.items) ≡ map tree_of (take l.index l.other.items.items);
-  lengths : length l.self.items.items ≡ length l.other.items.items;
+  same : map tree_of (take l.index l.these) ≡ map tree_of (take l.index l.those);
+  lengths : length l.these ≡ length l.those;
 }
