@@ -43,4 +43,8 @@ impl Keep for Part {
             Part::Value => Some(Part::Value),
         }
     }
+
+    fn is_whole(self) -> bool {
+        matches!(self, Part::Value)
+    }
 }

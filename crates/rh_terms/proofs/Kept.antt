@@ -1,6 +1,6 @@
 -- What is kept of terms, as they are read one after the other.
 use Rattle.std.proofs.Common.{◌≡◌, ◌<◌, ℕ, List, [], ◌∷◌, ◌++◌, Bool, true, false, Option, Some, Result}
-use Rattle.std.proofs.Common.{Ok, Err, length, drop, refl, sym, ap, ◌∙◌, arith}
+use Rattle.std.proofs.Common.{Ok, Err, length, drop, refl, sym, ap, subst, ◌∙◌, arith}
 use Rattle.std.specs.Prelude.{◌==◌}
 use Rattle.std.specs.Str.{IsUtf8}
 use Rattle.rh_terms.specs.declared.nest.TheConstants.{MAX_DEPTH}
@@ -12,7 +12,7 @@ use Rattle.rh_terms.specs.declared.keep.Next.TheVariants.{Each, First, Skipped}
 use Rattle.rh_base.specs.declared.term.Term.{Term}
 use Rattle.rh_base.specs.Tree.{Tree, Trees, atom, int, text, list, tuple, none, more, tree_of, trees_of}
 use Rattle.rh_terms.specs.Bytes.{past_blank, begins}
-use Rattle.rh_terms.specs.Faults.{◌>>=◌, Read, under, Fails}
+use Rattle.rh_terms.specs.Faults.{◌>>=◌, Read, ReadsAs, under, Fails}
 use Rattle.rh_terms.specs.Grammar.{next_at, term_at, dot_at, dotted, terms_from, word_at, inside}
 use Rattle.rh_terms.specs.Kept.{kept_tree, kept_trees, kept_next, next_behind, each_if, kept_from, kept_of, hollow, behind, elements_at}
 use Rattle.rh_terms.specs.Spelling.{Spells}
@@ -204,6 +204,11 @@ pub whole_of : {K : Type 0} (rule : Rule K) (k : K) → KeepsAll rule k → (rea
 whole_of rule k all (Ok ts) = ap (λ (us : Trees). Ok us) (whole_trees rule k all ts)
 whole_of rule k all (Err f) = refl
 
+-- a term of which all is kept is as it was read
+pub whole_read : {K : Type 0} (rule : Rule K) (k : K) → KeepsAll rule k → (read : Read Tree) → under (kept_tree rule k) read ≡ read
+whole_read rule k all (Ok x) = ap (λ (t : Tree). Ok (t, x.1)) (whole_tree rule k all x.0)
+whole_read rule k all (Err f) = refl
+
 -- ---- a term by its first byte
 
 under_list : {K : Type 0} (rule : Rule K) (k : K) (read : Read Trees)
@@ -221,6 +226,19 @@ under_tuple rule k (Err f) = refl
 pub kept_list_at : {K : Type 0} (rule : Rule K) (k : K) (room : ℕ) (bs : List ℕ) → begins (λ b. b == 91) bs ≡ true
     → under (kept_tree rule k) (term_at room bs) ≡ under list (under (kept_trees rule (Each k)) (inside room 93 (drop 1 bs)))
 kept_list_at rule k room bs h = ap (λ (r : Read Tree). under (kept_tree rule k) r) (list_at room bs h) ∙ under_list rule k (inside room 93 (drop 1 bs))
+
+-- what was answered of a list's elements tells the list
+pub kept_list : {K X : Type 0} (rule : Rule K) (k : K) (room : ℕ) (bs rest : List ℕ) → begins (λ b. b == 91) bs ≡ true → rest ≡ drop 1 bs
+    → (view : X → Trees × List ℕ) (r : Result X ReadError) → ReadsAs view r (under (kept_trees rule (Each k)) (inside room 93 rest))
+    → ReadsAs (λ x. (list (view x).0, (view x).1)) r (under (kept_tree rule k) (term_at room bs))
+kept_list rule k room bs rest h is view (Ok x) read =
+    kept_list_at rule k room bs h
+    ∙ ap (λ (r : Read Trees). under list r) (ap (λ (l : List ℕ). under (kept_trees rule (Each k)) (inside room 93 l)) (sym is) ∙ read)
+kept_list rule k room bs rest h is view (Err e) read =
+    let inner : Read Trees = under (kept_trees rule (Each k)) (inside room 93 rest) in
+    let P : List ℕ → Type 0 = λ l. Fails e (under list (under (kept_trees rule (Each k)) (inside room 93 l))) in
+    let Q : Read Tree → Type 0 = λ r. Fails e r in
+    subst Q (sym (kept_list_at rule k room bs h)) (subst P is (fails_with e inner (λ (x : Trees × List ℕ). (list x.0, x.1)) read))
 
 pub kept_tuple_at : {K : Type 0} (rule : Rule K) (k : K) (room : ℕ) (bs : List ℕ) → begins (λ b. b == 91) bs ≡ false
     → begins (λ b. b == 123) bs ≡ true

@@ -12,6 +12,7 @@ pub mod Ahead
 pub mod Kept
 pub mod Stops
 pub mod Again
+pub mod ListAgain
 pub mod StopsInside
 pub mod StopsText
 pub mod GoesOn

@@ -7,3 +7,4 @@ pub mod Constructs
 pub mod Fronts
 pub mod Kept
 pub mod FaultTexts
+pub mod Repeated

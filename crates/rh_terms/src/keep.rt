@@ -1,6 +1,6 @@
 //! What of a text's terms is kept.
 
-ghost use Rattle.std.specs.Prelude.{◌≡◌, ℕ, List, Option, Some};
+ghost use Rattle.std.specs.Prelude.{◌≡◌, ℕ, List, Option, Some, IsTrue};
 ghost use Rattle.rh_base.specs.Tree.{tree_of};
 ghost use Rattle.rh_terms.specs.Kept.{next_behind};
 
@@ -15,6 +15,14 @@ pub trait Keep: Copy {
     /// What is kept of the parts of a tuple behind its first part, where that is this atom. They are skipped where it is `None`.
     fn behind(self, key: &str) -> Option<Self>
         ensures { result ≡ behind_key self key.now };
+
+    /// Is all of a term kept, whatever keys stand in it? Then a list that is written again, as deep, may be shared in place of being read
+    /// again. `false`, which is answered where this isn't given, is always right, and only slower.
+    fn is_whole(self) -> bool
+        ensures { IsTrue result → (key : List ℕ) → behind_key self key ≡ Some self }
+    {
+        false
+    }
 }
 
 /// All is kept.
@@ -26,6 +34,10 @@ impl Keep for KeepAll {
 
     fn behind(self, _key: &str) -> Option<KeepAll> {
         Some(self)
+    }
+
+    fn is_whole(self) -> bool {
+        true
     }
 }
 

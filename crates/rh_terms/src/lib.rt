@@ -18,6 +18,7 @@ mod laws;
 mod marks;
 mod nest;
 mod reading;
+mod repeats;
 mod shown;
 mod skim;
 mod tokens;

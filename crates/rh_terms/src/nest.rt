@@ -1,16 +1,19 @@
 //! Terms, with the lists and tuples inside each other.
 
-ghost use Rattle.std.specs.Prelude.{◌≡◌, ◌<◌, length, OnOk};
+ghost use Rattle.std.specs.Prelude.{◌≡◌, ◌==◌, ◌<◌, true, length, OnOk};
 ghost use Rattle.std.specs.Str.{IsUtf8};
 ghost use Rattle.rh_terms.specs.Faults.{ReadsAs, under};
 ghost use Rattle.rh_terms.specs.Grammar.{term_at, inside};
 ghost use Rattle.rh_terms.specs.Kept.{kept_tree, kept_trees, kept_next, elements_at};
-ghost use Rattle.rh_base.specs.Tree.{tree_of, trees_of, items_of};
+ghost use Rattle.rh_terms.specs.Bytes.{begins};
+ghost use Rattle.rh_terms.specs.Repeated.{IsRead};
+ghost use Rattle.rh_base.specs.Tree.{list, tree_of, trees_of, items_of};
 
 use crate::bytes::{begins_with, skip_blank};
 use crate::fault::{Fault, ReadError};
 use crate::keep::{Keep, Next, next_behind};
 use crate::marks::next_of;
+use crate::repeats::Again;
 use crate::skim::skipped_term;
 use crate::tokens::word_of;
 use rh_base::{Term, Terms};
@@ -28,23 +31,80 @@ pub const MAX_DEPTH: usize = 64;
 pub fn term_of<'a, K: Keep>(
     alloc: Global,
     stack: &mut Vec<Term>,
+    again: &mut Again<'a>,
     keep: K,
     room: usize,
     bytes: &'a [u8],
 ) -> Result<(Term, &'a [u8]), ReadError>
-    requires { IsUtf8 bytes.now }
+    requires text { IsUtf8 bytes.now }
+    requires known { IsRead again.old }
     ensures read { ReadsAs (λ x. (tree_of x.0, x.1.now)) result (under (kept_tree K.behind_key keep) (term_at room bytes.now)) }
     ensures stack { OnOk result (stack.new.items ≡ stack.old.items) }
+    ensures known { OnOk result (IsRead again.new) }
 {
     if begins_with(bytes, b'[') {
-        let (terms, rest) = terms_inside(alloc, stack, Next::Each(keep), room, b']', &bytes[1..])?;
+        let (terms, rest) = list_of(alloc, stack, again, keep, room, bytes)?;
         Ok((Term::List(terms), rest))
     } else if begins_with(bytes, b'{') {
-        let (terms, rest) = terms_inside(alloc, stack, Next::First(keep), room, b'}', &bytes[1..])?;
+        let (terms, rest) = terms_inside(
+            alloc,
+            stack,
+            again,
+            Next::First(keep),
+            room,
+            b'}',
+            &bytes[1..],
+        )?;
         Ok((Term::Tuple(terms), rest))
     } else {
         word_of(alloc, bytes)
     }
+}
+
+// The elements of a list, and what is behind it. The longest outermost one so far that is kept whole is shared where it is written
+// again, as deep.
+#[cycle(nest)]
+fn list_of<'a, K: Keep>(
+    alloc: Global,
+    stack: &mut Vec<Term>,
+    again: &mut Again<'a>,
+    keep: K,
+    room: usize,
+    bytes: &'a [u8],
+) -> Result<(Terms, &'a [u8]), ReadError>
+    requires text { IsUtf8 bytes.now }
+    requires opens { begins (λ b. b == 91) bytes.now ≡ true }
+    requires known { IsRead again.old }
+    ensures read { ReadsAs (λ x. (list (trees_of (items_of x.0)), x.1.now)) result (under (kept_tree K.behind_key keep) (term_at room bytes.now)) }
+    ensures stack { OnOk result (stack.new.items ≡ stack.old.items) }
+    ensures known { OnOk result (IsRead again.new) }
+{
+    if !again.is_outside || !keep.is_whole() {
+        return terms_inside(
+            alloc,
+            stack,
+            again,
+            Next::Each(keep),
+            room,
+            b']',
+            &bytes[1..],
+        );
+    }
+    if let Some(found) = again.share_at(alloc, room, bytes)? {
+        return Ok(found);
+    }
+    again.is_outside = false;
+    let (terms, rest) = terms_inside(
+        alloc,
+        stack,
+        again,
+        Next::Each(keep),
+        room,
+        b']',
+        &bytes[1..],
+    )?;
+    again.is_outside = true;
+    Ok((again.remember(alloc, room, bytes, terms, rest)?, rest))
 }
 
 // What stands in a list or a tuple, of which the opening byte was read, and what is behind the closing one.
@@ -52,6 +112,7 @@ pub fn term_of<'a, K: Keep>(
 fn terms_inside<'a, K: Keep>(
     alloc: Global,
     stack: &mut Vec<Term>,
+    again: &mut Again<'a>,
     next: Next<K>,
     room: usize,
     close: u8,
@@ -59,8 +120,10 @@ fn terms_inside<'a, K: Keep>(
 ) -> Result<(Terms, &'a [u8]), ReadError>
     requires text { IsUtf8 bytes.now }
     requires ascii { close < 128 }
+    requires known { IsRead again.old }
     ensures read { ReadsAs (λ x. (trees_of (items_of x.0), x.1.now)) result (under (kept_trees K.behind_key next) (inside room close bytes.now)) }
     ensures stack { OnOk result (stack.new.items ≡ stack.old.items) }
+    ensures known { OnOk result (IsRead again.new) }
 {
     if room == 0 {
         return Err(ReadError::Fault(Fault::TooDeep));
@@ -69,7 +132,7 @@ fn terms_inside<'a, K: Keep>(
     if begins_with(first, close) {
         return Ok((Terms::of(Vec::new(alloc)), &first[1..]));
     }
-    elements_of(alloc, stack, next, room - 1, close, first)
+    elements_of(alloc, stack, again, next, room - 1, close, first)
 }
 
 // The elements from the first one on, and what is behind the closing byte. They are read onto the stack, so that how many they
@@ -78,6 +141,7 @@ fn terms_inside<'a, K: Keep>(
 fn elements_of<'a, K: Keep>(
     alloc: Global,
     stack: &mut Vec<Term>,
+    again: &mut Again<'a>,
     next: Next<K>,
     room: usize,
     close: u8,
@@ -85,14 +149,16 @@ fn elements_of<'a, K: Keep>(
 ) -> Result<(Terms, &'a [u8]), ReadError>
     requires text { IsUtf8 bytes.now }
     requires ascii { close < 128 }
+    requires known { IsRead again.old }
     ensures read { ReadsAs (λ x. (trees_of (items_of x.0), x.1.now)) result (under (kept_trees K.behind_key next) (elements_at room close bytes.now)) }
     ensures stack { OnOk result (stack.new.items ≡ stack.old.items) }
+    ensures known { OnOk result (IsRead again.new) }
 {
     let below = stack.len();
     let mut next = next;
     let mut rest = bytes;
     'elements: loop {
-        let (term, after_term) = next_term(alloc, stack, next, room, rest)?;
+        let (term, after_term) = next_term(alloc, stack, again, next, room, rest)?;
         next = next_behind(next, &term);
         stack.push(term)?;
         let (goes_on, after) = next_of(close, skip_blank(after_term))?;
@@ -110,16 +176,19 @@ fn elements_of<'a, K: Keep>(
 fn next_term<'a, K: Keep>(
     alloc: Global,
     stack: &mut Vec<Term>,
+    again: &mut Again<'a>,
     next: Next<K>,
     room: usize,
     bytes: &'a [u8],
 ) -> Result<(Term, &'a [u8]), ReadError>
-    requires { IsUtf8 bytes.now }
+    requires text { IsUtf8 bytes.now }
+    requires known { IsRead again.old }
     ensures read { ReadsAs (λ x. (tree_of x.0, x.1.now)) result (under (kept_next K.behind_key next) (term_at room bytes.now)) }
     ensures stack { OnOk result (stack.new.items ≡ stack.old.items) }
+    ensures known { OnOk result (IsRead again.new) }
 {
     match next {
-        Next::Each(keep) | Next::First(keep) => term_of(alloc, stack, keep, room, bytes),
-        Next::Skipped => skipped_term(alloc, room, bytes),
+        Next::Each(keep) | Next::First(keep) => term_of(alloc, stack, again, keep, room, bytes),
+        Next::Skipped => skipped_term(alloc, again, room, bytes),
     }
 }

@@ -15,6 +15,7 @@ use crate::fault::{Fault, ReadError, TermFault};
 use crate::keep::{Keep, KeepAll};
 use crate::marks::dot_of;
 use crate::nest::{MAX_DEPTH, term_of};
+use crate::repeats::Again;
 use rh_base::{Term, Terms};
 use std::alloc::Global;
 
@@ -25,9 +26,10 @@ fn terms_of_text<K: Keep>(alloc: Global, keep: K, bytes: &[u8]) -> Result<Vec<Te
 {
     let mut terms = Vec::new(alloc);
     let mut stack = Vec::new(alloc);
+    let mut again = Again::new(bytes);
     let mut rest = bytes;
     'bytes: while !rest.is_empty() {
-        let (term, after_term) = term_of(alloc, &mut stack, keep, MAX_DEPTH, rest)?;
+        let (term, after_term) = term_of(alloc, &mut stack, &mut again, keep, MAX_DEPTH, rest)?;
         terms.push(term)?;
         let after = dot_of(skip_blank(after_term))?;
         rest = skip_blank(after);
@@ -79,7 +81,7 @@ fn fault_of(bytes: &[u8], error: ReadError) -> TermFault
 }
 
 /// The terms of a text, as they are kept: as [`read_terms`] reads them, but of those that are skipped is kept only whether they
-/// are lists, `[]` or else `{}`. A fault is answered wherever it stands.
+/// are lists, `[]` or else `{}`. A fault is answered wherever it stands. Lists that are written alike may lie in memory once.
 pub fn read_kept<K: Keep>(alloc: Global, keep: K, bytes: &[u8]) -> Result<Terms, TermFault>
     // Want of memory aside, the answer is the definition's: the terms as they are kept, or the first fault and its line.
     ensures { Tells result (kept_of K.behind_key keep (terms_of bytes.now)) }
@@ -95,7 +97,8 @@ pub fn read_kept<K: Keep>(alloc: Global, keep: K, bytes: &[u8]) -> Result<Terms,
 
 /// The terms of a text: each is followed by a dot, as in a file that Erlang's `file:consult/1` reads.
 ///
-/// A text that holds no such terms is answered by its first fault from left to right.
+/// A text that holds no such terms is answered by its first fault from left to right. Lists that are written alike may lie in
+/// memory once.
 /// `OutOfMemory` is answered only where a growth was refused.
 pub fn read_terms(alloc: Global, bytes: &[u8]) -> Result<Terms, TermFault>
     // Want of memory aside, the answer is the definition's: the terms, or the first fault and its line.

@@ -1,20 +1,21 @@
-use Rattle.std.proofs.Common.{◌≡◌, ◌<◌, ◌-◌, ◌∷◌, [], ◌++◌, ℕ, List, take, drop, length, true, false, Ok, sym, ap, subst, ◌∙◌, arith, rules}
+use Rattle.std.proofs.Common.{◌≡◌, ◌<◌, ◌-◌, ◌∷◌, [], ◌++◌, ℕ, List, take, drop, length, true, false, Bor, Ok, Err, sym, ap, subst, ◌∙◌, arith, rules}
 use Rattle.std.specs.Prelude.{◌==◌}
 use Rattle.std.proofs.lemmas.List.{take_rest}
 use Rattle.std.proofs.lemmas.Bool.Decides.{nat_tests}
 use Rattle.std.proofs.lemmas.Result.{err_from_is_err_and}
-use Rattle.rh_terms.specs.declared.keep.Next.TheVariants.{Each, First}
+use Rattle.rh_terms.specs.declared.keep.Next.TheVariants.{First}
 use Rattle.rh_base.specs.declared.term.Term.{Term}
+use Rattle.rh_base.specs.declared.term.Terms.{Terms}
 use Rattle.rh_base.specs.Tree.{Tree, Trees, list, tuple, none, tree_of, trees_of, items_of}
 use Rattle.rh_base.proofs.Trees.{tree_of-list, tree_of-tuple}
 use Rattle.rh_terms.specs.Bytes.{past_blank, begins}
 use Rattle.rh_terms.specs.Faults.{Read, Fails, under}
-use Rattle.rh_terms.specs.Grammar.{next_at, inside}
+use Rattle.rh_terms.specs.Grammar.{next_at, inside, term_at}
 use Rattle.rh_terms.specs.Kept.{kept_trees, kept_next}
 use Rattle.rh_terms.proofs.Ahead.{fails_with, too_deep, inside_none, inside_some}
 use Rattle.rh_terms.proofs.Cut.{behind_first, blank_text, next_text}
-use Rattle.rh_terms.proofs.Kept.{kept_none, kept_goes_on, kept_closes, kept_fails_term, kept_fails_next, kept_list_at, kept_tuple_at, kept_word}
-use Rattle.rh_terms.proofs.Kept.{kept_text, kept_shorter}
+use Rattle.rh_terms.proofs.Kept.{kept_none, kept_goes_on, kept_closes, kept_fails_term, kept_fails_next, kept_list, kept_tuple_at, kept_word}
+use Rattle.rh_terms.proofs.Kept.{kept_text, kept_shorter, whole_read}
 use Rattle.rh_terms.proofs.Joined.{pushed_above}
 use Rattle.rh_terms.proofs.nest.+nest.Goals as goal
 
@@ -78,6 +79,7 @@ elements_of-elements-preserved g t c =
           above.1 ∙ c.elements.invariant.so_far);
       text = next_text c.args.close (past_blank c.in_ok-term.after_term.now) true c.in_ok-goes_on.after.now c.requires.ascii next
           (blank_text c.in_ok-term.after_term.now text);
+      known = c.in_ok-term.ensures.known;
       below = above.0 ∙ c.elements.invariant.below;
       above = above.2;
     }
@@ -103,7 +105,7 @@ terms_inside-returns-then-begins_with-clause-read g t c =
 
 pub terms_inside-elements_of-requires : goal.terms_inside-elements_of-requires
 terms_inside-elements_of-requires g t c =
-    λ κs h. (search rules, (h, (rw c.skip_blank-first.ensures.behind (blank_text c.args.bytes.now c.requires.text), c.requires.ascii)))
+    λ κs h. (search rules, (h, (rw c.skip_blank-first.ensures.behind (blank_text c.args.bytes.now c.requires.text), (c.requires.ascii, c.requires.known))))
 
 pub terms_inside-returns-clause-read : goal.terms_inside-returns-clause-read
 terms_inside-returns-clause-read g t c =
@@ -112,24 +114,67 @@ terms_inside-returns-clause-read g t c =
     rw c.skip_blank-first.ensures.behind at (sym c.begins_with.ensures.begins ∙ c.if-begins_with.false) in
     rw (inside_some c.args.room c.args.close c.args.bytes.now room test, ← c.skip_blank-first.ensures.behind) c.elements_of.ensures.read
 
+-- ---- a list
+
+-- what is seen of a list's elements that were read
+abbrev elements_seen : Terms × Bor (List ℕ) → Trees × List ℕ
+elements_seen x = (trees_of (items_of x.0), x.1.now)
+
+pub list_of-terms_inside-requires : goal.list_of-terms_inside-requires
+list_of-terms_inside-requires g t c =
+    λ κs h. (search rules, (h, (behind_first c.args.bytes.now 91 c.requires.opens (omega arith) c.requires.text, (omega arith, c.requires.known))))
+
+pub list_of-terms_inside-requires-2 : goal.list_of-terms_inside-requires-2
+list_of-terms_inside-requires-2 g t c =
+    λ κs h. (search rules, (h, (behind_first c.args.bytes.now 91 c.requires.opens (omega arith) c.requires.text, (omega arith, record { kept = c.requires.known.kept; skipped = c.requires.known.skipped }))))
+
+pub list_of-returns-then-not-again-clause-read : goal.list_of-returns-then-not-again-clause-read
+list_of-returns-then-not-again-clause-read g t c =
+    kept_list g.K.Keep.behind_key c.args.keep c.args.room c.args.bytes.now _ c.requires.opens (take_rest c.args.bytes.now 1) elements_seen
+    c.terms_inside.result c.terms_inside.ensures.read
+
+pub list_of-returns-in-Some-clause-read : goal.list_of-returns-in-Some-clause-read
+list_of-returns-in-Some-clause-read g t c =
+    whole_read g.K.Keep.behind_key c.args.keep (c.is_whole.ensures (cc c.if-not-is_whole.false)) (term_at c.args.room c.args.bytes.now)
+    ∙ rw c.in-Some.is at c.in_ok-found.ensures
+
+pub list_of-returns-in_err-terms-clause-read : goal.list_of-returns-in_err-terms-clause-read
+list_of-returns-in_err-terms-clause-read g t c =
+    let p = err_from_is_err_and c.from_residual-in_err-terms.result c.from_residual-in_err-terms.ensures.1 in
+    rw (p.1, p.2) (kept_list g.K.Keep.behind_key c.args.keep c.args.room c.args.bytes.now _ c.requires.opens (take_rest c.args.bytes.now 1) elements_seen
+    (Err c.in_err-terms.field-0.0) c.in_err-terms.ensures.read)
+
+pub list_of-remember-requires-clause-read : goal.list_of-remember-requires-clause-read
+list_of-remember-requires-clause-read g t c =
+    sym (whole_read g.K.Keep.behind_key c.args.keep (c.is_whole.ensures (cc c.if-not-is_whole.false)) (term_at c.args.room c.args.bytes.now))
+    ∙ kept_list g.K.Keep.behind_key c.args.keep c.args.room c.args.bytes.now _ c.requires.opens (take_rest c.args.bytes.now 1) elements_seen
+    (Ok (c.in_ok-terms.terms, c.in_ok-terms.rest)) c.in_ok-terms.ensures.read
+
+pub list_of-returns-clause-read : goal.list_of-returns-clause-read
+list_of-returns-clause-read g t c =
+    kept_list g.K.Keep.behind_key c.args.keep c.args.room c.args.bytes.now _ c.requires.opens (take_rest c.args.bytes.now 1) elements_seen
+    (Ok (c.in_ok-terms.terms, c.in_ok-terms.rest)) c.in_ok-terms.ensures.read
+    ∙ ap (λ (us : Trees). Ok (list us, c.in_ok-terms.rest.now)) (sym c.in_ok-remember.ensures.list)
+
 -- ---- a term
 
 pub term_of-terms_inside-requires : goal.term_of-terms_inside-requires
 term_of-terms_inside-requires g t c =
-    λ κs h. (search rules, (h, (behind_first c.args.bytes.now 91 (sym c.begins_with.ensures.begins ∙ c.if-begins_with.true) (omega arith) c.requires, omega arith)))
-
-pub term_of-terms_inside-requires-then-begins_with-2 : goal.term_of-terms_inside-requires-then-begins_with-2
-term_of-terms_inside-requires-then-begins_with-2 g t c =
-    λ κs h. (search rules, (h, (behind_first c.args.bytes.now 123 (sym c.begins_with-else-begins_with.ensures.begins ∙ c.if-begins_with-2.true) (omega arith) c.requires, omega arith)))
+    λ κs h. (
+      search rules,
+      (
+        h,
+        (
+          behind_first c.args.bytes.now 123 (sym c.begins_with-else-begins_with.ensures.begins ∙ c.if-begins_with-2.true) (omega arith) c.requires.text,
+          (omega arith, c.requires.known),
+        ),
+      ),
+    )
 
 pub term_of-returns-in_err-terms-clause-read : goal.term_of-returns-in_err-terms-clause-read
 term_of-returns-in_err-terms-clause-read g t c =
     let p = err_from_is_err_and c.from_residual.result c.from_residual.ensures.1 in
-    let e = c.in_err-terms.field-0.0 in
-    let here = kept_list_at g.K.Keep.behind_key c.args.keep c.args.room c.args.bytes.now (sym c.begins_with.ensures.begins ∙ c.if-begins_with.true) in
-    let read : Read Trees = under (kept_trees g.K.Keep.behind_key (Each c.args.keep)) (inside c.args.room 93 (drop 1 c.args.bytes.now)) in
-    let inner : Fails e read = rw (take_rest c.args.bytes.now 1) at c.in_err-terms.ensures.read in
-    rw (p.1, p.2, here) (fails_with e read (λ (x : Trees × List ℕ). (list x.0, x.1)) inner)
+    rw (p.1, p.2) c.in_err-terms.ensures.read
 
 pub term_of-returns-in_err-terms-2-clause-read : goal.term_of-returns-in_err-terms-2-clause-read
 term_of-returns-in_err-terms-2-clause-read g t c =
@@ -143,10 +188,7 @@ term_of-returns-in_err-terms-2-clause-read g t c =
 
 pub term_of-returns-in_ok-terms-clause-read : goal.term_of-returns-in_ok-terms-clause-read
 term_of-returns-in_ok-terms-clause-read g t c =
-    let here = kept_list_at g.K.Keep.behind_key c.args.keep c.args.room c.args.bytes.now (sym c.begins_with.ensures.begins ∙ c.if-begins_with.true) in
-    let read : Read Trees = under (kept_trees g.K.Keep.behind_key (Each c.args.keep)) (inside c.args.room 93 (drop 1 c.args.bytes.now)) in
-    let inner : read ≡ Ok (trees_of (items_of c.in_ok-terms.terms), c.in_ok-terms.rest.now) = rw (take_rest c.args.bytes.now 1) at c.in_ok-terms.ensures.read in
-    here ∙ ap (λ (r : Read Trees). under list r) inner ∙ ap (λ (u : Tree). Ok (u, c.in_ok-terms.rest.now)) (sym (tree_of-list c.in_ok-terms.terms))
+    c.in_ok-terms.ensures.read ∙ ap (λ (u : Tree). Ok (u, c.in_ok-terms.rest.now)) (sym (tree_of-list c.in_ok-terms.terms))
 
 pub term_of-returns-in_ok-terms-2-clause-read : goal.term_of-returns-in_ok-terms-2-clause-read
 term_of-returns-in_ok-terms-2-clause-read g t c =

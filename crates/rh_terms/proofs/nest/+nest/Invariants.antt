@@ -3,20 +3,24 @@ use Rattle.std.specs.Str.{IsUtf8}
 use Rattle.rh_base.specs.Tree.{trees_of}
 use Rattle.rh_terms.specs.Faults.{under}
 use Rattle.rh_terms.specs.Kept.{kept_trees, elements_at}
+use Rattle.rh_terms.specs.Repeated.{IsRead}
 use Rattle.rh_terms.proofs.Joined.{with_trees}
 use Rattle.rh_terms.proofs.nest.+nest.Given as goal
 
 abbrev pub decreases-term_of : goal.decreases-term_of
-decreases-term_of g l = 4 * l.room + 1
+decreases-term_of g l = 5 * l.room + 2
+
+abbrev pub decreases-list_of : goal.decreases-list_of
+decreases-list_of g l = 5 * l.room + 1
 
 abbrev pub decreases-terms_inside : goal.decreases-terms_inside
-decreases-terms_inside g l = 4 * l.room
+decreases-terms_inside g l = 5 * l.room
 
 abbrev pub decreases-elements_of : goal.decreases-elements_of
-decreases-elements_of g l = 4 * l.room + 3
+decreases-elements_of g l = 5 * l.room + 4
 
 abbrev pub decreases-next_term : goal.decreases-next_term
-decreases-next_term g l = 4 * l.room + 2
+decreases-next_term g l = 5 * l.room + 3
 
 -- the elements are what lies on the stack above what lay there before
 abbrev pub invariant-elements_of-elements : goal.invariant-elements_of-elements
@@ -24,6 +28,7 @@ invariant-elements_of-elements g l = record {
   so_far : with_trees (trees_of (drop l.below l.stack.items)) (under (kept_trees g.K.Keep.behind_key l.next) (elements_at l.room l.close l.rest)) ≡ under
       (kept_trees g.K.Keep.behind_key l.fn.next) (elements_at l.room l.close l.bytes);
   text : IsUtf8 l.rest;
+  known : IsRead l.again;
   below : take l.below l.stack.items ≡ l.fn.stack.items;
   above : l.below ≤ length l.stack.items;
 }

@@ -13,7 +13,11 @@ use Rattle.rh_terms.proofs.Kept.{text_begins, text_ends, text_kept_goes_on, text
 use Rattle.rh_terms.proofs.reading.terms_of_text.Goals as goal
 
 pub bytes-init : goal.bytes-init
-bytes-init g c = record { so_far = rw c.new-terms.ensures.items (text_begins g.K.Keep.behind_key c.args.keep c.args.bytes.now); text = c.requires }
+bytes-init g c = record {
+  so_far = rw c.new-terms.ensures.items (text_begins g.K.Keep.behind_key c.args.keep c.args.bytes.now);
+  text = c.requires;
+  known = c.new-again.ensures;
+}
 
 pub returns-in_err-term : goal.returns-in_err-term
 returns-in_err-term g c =
@@ -50,6 +54,7 @@ bytes-preserved g c =
           ∙ c.bytes.invariant.so_far);
       text = rw c.skip_blank-rest.ensures.behind (blank_text c.in_ok-after.after.now
           (dot_text (past_blank c.in_ok-term.after_term.now) c.in_ok-after.after.now dot (blank_text c.in_ok-term.after_term.now text)));
+      known = c.in_ok-term.ensures.known;
     }
 
 pub returns : goal.returns
