@@ -27,8 +27,8 @@ use Rattle.rh_place.proofs.Nowhere.{none_chosen}
 use Rattle.rh_rules.specs.declared.notice.Move.{Move}
 use Rattle.rh_rules.specs.declared.notice.Move.TheVariants.{Local, Placement, Takeover}
 use Rattle.rh_rules.specs.declared.notice.Pair.{Pair}
-use Rattle.rh_model.specs.Marks.{AppMarks, is_marked}
-use Rattle.rh_settle.specs.Boards.{AppSets, BoardView, is_among, is_wanted, is_touched, touches_local, matters, is_asked, mover}
+use Rattle.rh_model.specs.Marks.{AppMarks, is_marked, touches}
+use Rattle.rh_settle.specs.Boards.{AppSets, BoardView, is_among, is_wanted, touches_local, matters, is_asked, mover}
 use Rattle.rh_settle.specs.Boards.{MarksLocals, IsExactAt, IsBoardOf}
 use Rattle.rh_rules.specs.Course.{is_fresh, is_local}
 use Rattle.rh_rules.specs.Moves.{can_start, local_move, local_moves, comes_before, calls_away, placements, placements_from, takeovers, takeovers_from, moved_state}
@@ -204,9 +204,8 @@ neither true q h = both true refl h
 neither false q h = (refl, h)
 
 -- one that it doesn't touch is another, and so is each that this one needs
-untouched : (c : ClusterView) (x a : App) → is_touched c x a ≡ false
+untouched : (c : ClusterView) (x a : App) → touches c x a ≡ false
     → (same_app a x ≡ false) × ((b : App) → has_app (needed_apps c a) b ≡ true → same_app b x ≡ false)
-unfolding is_touched
 untouched c x a h =
     let none = neither (same_app a x) (has_app (needed_apps c a) x) h in (
       none.0,
@@ -215,7 +214,7 @@ untouched c x a h =
     )
 
 -- what that one needs runs as before, at the nodes that the move changes too
-needs_moved : (s : StateView) (m : Move) (a : App) (k : Node) → is_touched s.cluster (mover m) a ≡ false → deps_run (moved_state s m) k a ≡ deps_run s k a
+needs_moved : (s : StateView) (m : Move) (a : App) (k : Node) → touches s.cluster (mover m) a ≡ false → deps_run (moved_state s m) k a ≡ deps_run s k a
 needs_moved s (Local n x) a k h =
     let u = untouched s.cluster x a h in
     needs_kept s _ _ _ _ k a (λ b needed. put_taken_apart s.running n.0 k.0 x b (u.1 b needed))
@@ -228,7 +227,7 @@ needs_moved s (Takeover x m n) a k h =
     taken_apart (put (taken s.running n.0 x) n.0 x) m.0 k.0 x b (u.1 b needed) ∙ put_taken_apart s.running n.0 k.0 x b (u.1 b needed))
 
 -- where that one can run stays, at the nodes that the move changes too
-operational_moved : (s : StateView) (m : Move) (a : App) (k : Node) → is_touched s.cluster (mover m) a ≡ false
+operational_moved : (s : StateView) (m : Move) (a : App) (k : Node) → touches s.cluster (mover m) a ≡ false
     → is_operational (moved_state s m) a k ≡ is_operational s a k
 operational_moved s (Local n x) a k h =
     let u = untouched s.cluster x a h in
@@ -251,7 +250,7 @@ operational_moved s (Takeover x m n) a k h =
 -- ---- a move that touches no local application
 -- each local application starts where it could start before
 starts_kept : (s : StateView) (r w : List (List App)) (ks : List (List Kind)) (st : List Standing) (k : Node) (x : App)
-    → ((a : App) → is_touched s.cluster x a ≡ false → deps_run (relisted s r w ks st) k a ≡ deps_run s k a)
+    → ((a : App) → touches s.cluster x a ≡ false → deps_run (relisted s r w ks st) k a ≡ deps_run s k a)
     → touches_local s.cluster x ≡ false → (a : App) → IsAppOf s.cluster a → local_move (relisted s r w ks st) k a ≡ local_move s k a
 unfolding can_start
 starts_kept s r w ks st k x needs none a of =
@@ -269,9 +268,9 @@ starts_moved s (Takeover x m n) k = starts_kept s _ _ _ _ k x (λ a u. needs_mov
 
 -- and the one that moves isn't one
 none_of_mover : (s : StateView) (x : App) (k : Node) → touches_local s.cluster x ≡ false → IsAppOf s.cluster x → local_move s k x ≡ []
-unfolding can_start is_touched
+unfolding can_start
 none_of_mover s x k none of = ap (λ b. cond (b && (is_allowed s k x && deps_run s k x)) (Local k x ∷ []) [])
-    (is_false (is_local s.cluster x) (λ y. both (is_touched s.cluster x x)
+    (is_false (is_local s.cluster x) (λ y. both (touches s.cluster x x)
     (or_left (same_app x x) (has_app (needed_apps s.cluster x) x) (same_refl x.0)) (none_touched s.cluster x x none of y)))
 
 -- so the local moves are those of before, at the nodes that the move changes too
@@ -300,7 +299,7 @@ locals_moved s (Takeover x m n) k shape of none =
 record IsKeptAt (t : StateView) (x : App) (b : BoardView) (k : Node) : Type 0 where
   pub starts : touches_local t.cluster x ≡ false → has b.starts k ≡ is_some (head (local_moves t k))
   pub moving : (a : App) → IsAppOf t.cluster a → matters t b.fresh a k ≡ true → is_marked b.moving a ≡ true
-  pub able : (a : App) → IsAppOf t.cluster a → is_touched t.cluster x a ≡ false → is_asked t b.fresh a k ≡ true → is_among b.able a k ≡ is_operational t a k
+  pub able : (a : App) → IsAppOf t.cluster a → touches t.cluster x a ≡ false → is_asked t b.fresh a k ≡ true → is_among b.able a k ≡ is_operational t a k
 
 kept_moved : (s : StateView) (m : Move) (b : BoardView) (k : Node) → IsShaped (moved_state s m) → IsAppOf (moved_state s m).cluster (mover m) → IsExactAt s b k
     → IsKeptAt (moved_state s m) (mover m) b k
@@ -331,8 +330,8 @@ pub record Looked (t : StateView) (x : App) (b c : BoardView) (n : Node) : Type 
   pub local : touches_local t.cluster x ≡ true → has c.starts n ≡ is_some (head (local_moves t n))
   pub apart : touches_local t.cluster x ≡ false → c.starts ≡ b.starts
   pub starts : (k : Node) → same_node k n ≡ false → has c.starts k ≡ has b.starts k
-  pub here : (a : App) → IsAppOf t.cluster a → is_marked c.moving a ≡ true → is_touched t.cluster x a ≡ true → matters t c.fresh a n ≡ true → is_among c.able a n ≡ is_operational t a n
-  pub able : (a : App) (k : Node) → is_touched t.cluster x a && same_node k n ≡ false → is_among c.able a k ≡ is_among b.able a k
+  pub here : (a : App) → IsAppOf t.cluster a → is_marked c.moving a ≡ true → touches t.cluster x a ≡ true → matters t c.fresh a n ≡ true → is_among c.able a n ≡ is_operational t a n
+  pub able : (a : App) (k : Node) → touches t.cluster x a && same_node k n ≡ false → is_among c.able a k ≡ is_among b.able a k
 
 module _ (t : StateView) (x : App) (b c : BoardView) (n k : Node) (look : Looked t x b c n) where
   mattered_too : (a : App) → matters t c.fresh a k ≡ true → matters t b.fresh a k ≡ true
@@ -357,7 +356,7 @@ module _ (t : StateView) (x : App) (b c : BoardView) (n k : Node) (look : Looked
       (λ f. let h = apart (other_number k.0 n.0 f) in record {
         starts = look.starts k f ∙ h.starts;
         moving = λ a of m. marked_too a (h.moving a of (mattered_too a m));
-        able = λ a of m. look.able a k (ap (λ p. is_touched t.cluster x a && p) f ∙ and_false (is_touched t.cluster x a)) ∙ h.able a of (asked_too a m);
+        able = λ a of m. look.able a k (ap (λ p. touches t.cluster x a && p) f ∙ and_false (touches t.cluster x a)) ∙ h.able a of (asked_too a m);
       })
     where
       here : IsKeptAt t x c n → IsExactAt t c n
@@ -365,7 +364,7 @@ module _ (t : StateView) (x : App) (b c : BoardView) (n k : Node) (look : Looked
         starts = cases (touches_local t.cluster x) (λ y. look.local y) (λ u. kept.starts u);
         moving = kept.moving;
         able = λ a of m. let mattering = asked_matters (is_wanted (standing_of t a)) (is_some (group_of t.cluster a n)) (is_among c.fresh a n) m in
-            cases (is_touched t.cluster x a) (λ y. look.here a of (kept.moving a of mattering) y mattering) (λ u. kept.able a of u m);
+            cases (touches t.cluster x a) (λ y. look.here a of (kept.moving a of mattering) y mattering) (λ u. kept.able a of u m);
       }
 
       and_false : (p : Bool) → p && false ≡ false

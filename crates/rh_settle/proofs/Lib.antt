@@ -33,6 +33,7 @@ pub mod GroupWalks
 pub mod Callers
 pub mod Movers
 pub mod Starts
+pub mod StartsMarked
 mod Rows
 mod RowsReady
 mod RowsOrder

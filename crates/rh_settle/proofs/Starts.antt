@@ -56,7 +56,7 @@ none_of s n (b ∷ apps) none =
     ap (λ p. is_some (head (or_else (cond p (Local n b ∷ []) []) (first_given (local_move s n) apps)))) (none b (or_left (same_app b b) (has_app apps b) (same_refl b.0)))
     ∙ none_of s n apps (λ a here. none a (or_right (same_app a b) (has_app apps a) here))
 
-each_of : (p q : Bool) → p && q ≡ true → (p ≡ true) × (q ≡ true)
+pub each_of : (p q : Bool) → p && q ≡ true → (p ≡ true) × (q ≡ true)
 each_of true q h = (refl, h)
 each_of false q h = both false h refl
 
@@ -66,7 +66,7 @@ unfolding local_moves
 one_starts s n a h = let t = each_of (waits_at s n a) (can_start s n a) h in one_of s n a (waiting_at s n) t.0 t.1
 
 -- one that isn't local can't start
-no_start : (s : StateView) (n : Node) (a : App) → is_local s.cluster a ≡ false → can_start s n a ≡ false
+pub no_start : (s : StateView) (n : Node) (a : App) → is_local s.cluster a ≡ false → can_start s n a ≡ false
 unfolding can_start
 no_start s n a f = ap (λ p. p && (is_allowed s n a && deps_run s n a)) f
 

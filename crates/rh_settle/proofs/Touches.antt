@@ -11,7 +11,7 @@ use Rattle.rh_state.specs.Lists.{without_app}
 use Rattle.rh_state.specs.Shape.{IsAppOf}
 use Rattle.rh_base.specs.Lists.{or_else, first_given}
 use Rattle.rh_base.proofs.Lists.{cases}
-use Rattle.rh_settle.specs.Boards.{is_touched, touches_local, MarksLocals}
+use Rattle.rh_settle.specs.Boards.{touches_local, MarksLocals}
 use Rattle.rh_rules.specs.Course.{is_local}
 use Rattle.rh_settle.proofs.Entries.{taken, put, both, is_false, same_number}
 use Rattle.rh_settle.proofs.Every.{filter_no, filter_yes}
@@ -51,25 +51,25 @@ given_alike f g P alike (a ∷ apps) all =
     λ i. or_else (alike a (all 0 a (omega arith)) i) (rest i)
 
 -- each local application of the cluster is untouched
-pub none_touched : (c : ClusterView) (x a : App) → touches_local c x ≡ false → IsAppOf c a → is_local c a ≡ true → is_touched c x a ≡ false
+pub none_touched : (c : ClusterView) (x a : App) → touches_local c x ≡ false → IsAppOf c a → is_local c a ≡ true → touches c x a ≡ false
 unfolding touches_local
-none_touched c x a none of here = is_false (is_touched c x a)
+none_touched c x a none of here = is_false (touches c x a)
     (λ t. let l = length_apps c in
     both (list_any p (apps_of c))
     (list_any_at p (apps_of c) a.0 a (omega (arith, l, of)) (ap p (app_there c a.0 a of) ∙ λ i. here i && t i)) none)
   where
     p : App → Bool
-    p b = is_local c b && is_touched c x b
+    p b = is_local c b && touches c x b
 
 -- and where each local one is, none is touched
-none_met : (c : ClusterView) (x : App) → ((a : App) → IsAppOf c a → (is_touched c x a && is_local c a) ≡ false) → touches_local c x ≡ false
+none_met : (c : ClusterView) (x : App) → ((a : App) → IsAppOf c a → (touches c x a && is_local c a) ≡ false) → touches_local c x ≡ false
 unfolding touches_local
 none_met c x none = list_any_none p (apps_of c)
     (λ k d lt. let inside : k < app_count c = (let l = length_apps c in omega (arith, l, lt)) in
-    ap p (app_there c k d inside) ∙ turned (is_local c (app_numbered k)) (is_touched c x (app_numbered k)) ∙ none (app_numbered k) inside)
+    ap p (app_there c k d inside) ∙ turned (is_local c (app_numbered k)) (touches c x (app_numbered k)) ∙ none (app_numbered k) inside)
   where
     p : App → Bool
-    p b = is_local c b && is_touched c x b
+    p b = is_local c b && touches c x b
 
     turned : (q r : Bool) → (q && r) ≡ (r && q)
     turned true true = refl
@@ -77,24 +77,19 @@ none_met c x none = list_any_none p (apps_of c)
     turned false true = refl
     turned false false = refl
 
--- what a cluster keeps of a move is what it touches
-pub touched_is : (c : ClusterView) (x a : App) → touches c x a ≡ is_touched c x a
-unfolding is_touched
-touched_is c x a = refl
-
 -- the marks of the local applications that a move of this one touches
 module _ (c : ClusterView) (x : App) (touched local both : AppMarks)
     (marks : (a : App) → is_marked both a ≡ (is_marked touched a && is_marked local a))
     (kept : (a : App) → IsAppOf c a → is_marked touched a ≡ touches c x a) (locals : MarksLocals c local) where
-  met : (a : App) → IsAppOf c a → is_marked both a ≡ (is_touched c x a && is_local c a)
-  met a of = marks a ∙ (λ i. kept a of i && locals a of i) ∙ ap (λ p. p && is_local c a) (touched_is c x a)
+  met : (a : App) → IsAppOf c a → is_marked both a ≡ (touches c x a && is_local c a)
+  met a of = marks a ∙ (λ i. kept a of i && locals a of i)
 
   pub meets_none : ((a : App) → IsAppOf c a → is_marked both a ≡ false) → touches_local c x ≡ false
   meets_none none = none_met c x (λ a of. sym (met a of) ∙ none a of)
 
   pub meets_one : (a : App) → IsAppOf c a → is_marked both a ≡ true → touches_local c x ≡ true
   meets_one a of is = cases (touches_local c x) (λ y. y)
-      (λ f. let h = each (is_touched c x a) (is_local c a) (sym (met a of) ∙ is) in clash (is_touched c x a) h.0 (none_touched c x a f of h.1))
+      (λ f. let h = each (touches c x a) (is_local c a) (sym (met a of) ∙ is) in clash (touches c x a) h.0 (none_touched c x a f of h.1))
     where
       each : (p q : Bool) → p && q ≡ true → (p ≡ true) × (q ≡ true)
       each true q h = (refl, h)
@@ -113,18 +108,18 @@ module _ (c : ClusterView) (x : App) (touched local both : AppMarks)
 module _ (c : ClusterView) (x : App) (moving touched rest : AppMarks)
     (marks : (a : App) → is_marked rest a ≡ (is_marked moving a && is_marked touched a))
     (kept : (a : App) → IsAppOf c a → is_marked touched a ≡ touches c x a) where
-  left : (a : App) → IsAppOf c a → is_marked rest a ≡ (is_marked moving a && is_touched c x a)
-  left a of = marks a ∙ ap (λ p. is_marked moving a && p) (kept a of ∙ touched_is c x a)
+  left : (a : App) → IsAppOf c a → is_marked rest a ≡ (is_marked moving a && touches c x a)
+  left a of = marks a ∙ ap (λ p. is_marked moving a && p) (kept a of)
 
-  pub left_touched : (a : App) → IsAppOf c a → is_marked rest a ≡ true → is_touched c x a ≡ true
-  left_touched a of is = second (is_marked moving a) (is_touched c x a) (sym (left a of) ∙ is)
+  pub left_touched : (a : App) → IsAppOf c a → is_marked rest a ≡ true → touches c x a ≡ true
+  left_touched a of is = second (is_marked moving a) (touches c x a) (sym (left a of) ∙ is)
     where
       second : (p q : Bool) → p && q ≡ true → q ≡ true
       second true q h = h
       second false q h = cc
 
-  pub none_left : {P : Type 0} (a : App) → IsAppOf c a → is_marked rest a ≡ false → is_marked moving a ≡ true → is_touched c x a ≡ true → P
-  none_left a of off m t = neither (is_marked moving a) (is_touched c x a) m t (sym (left a of) ∙ off)
+  pub none_left : {P : Type 0} (a : App) → IsAppOf c a → is_marked rest a ≡ false → is_marked moving a ≡ true → touches c x a ≡ true → P
+  none_left a of off m t = neither (is_marked moving a) (touches c x a) m t (sym (left a of) ∙ off)
     where
       neither : {P : Type 0} (p q : Bool) → p ≡ true → q ≡ true → p && q ≡ false → P
       neither true true m t off = cc

@@ -4,12 +4,10 @@ use Rattle.std.specs.List.{list_any}
 use Rattle.rh_model.specs.declared.node.Node.{Node}
 use Rattle.rh_model.specs.declared.node.App.{App}
 use Rattle.rh_model.specs.ClusterView.{ClusterView, group_of}
-use Rattle.rh_model.specs.Needs.{needed_apps}
-use Rattle.rh_model.specs.Marks.{AppMarks, is_marked}
+use Rattle.rh_model.specs.Marks.{AppMarks, is_marked, touches}
 use Rattle.rh_state.specs.declared.status.Standing.{Standing}
 use Rattle.rh_state.specs.declared.status.Standing.TheVariants.{Wanted}
-use Rattle.rh_state.specs.Lists.{has_app}
-use Rattle.rh_state.specs.Numbers.{same_app, apps_of}
+use Rattle.rh_state.specs.Numbers.{apps_of}
 use Rattle.rh_state.specs.Shape.{IsNodeOf, IsAppOf}
 use Rattle.rh_state.specs.StateView.{StateView, standing_of}
 use Rattle.rh_base.specs.Lists.{head}
@@ -74,13 +72,9 @@ matters s fresh a n = is_wanted (standing_of s a) || is_among fresh a n
 abbrev pub is_asked : StateView → AppSets → App → Node → Bool
 is_asked s fresh a n = (is_wanted (standing_of s a) && is_some (group_of s.cluster a n)) || is_among fresh a n
 
--- a move of an application can change where this one can run: it is the one that moves, or it needs that one
-unfoldable pub is_touched : ClusterView → App → App → Bool
-is_touched c moved a = same_app a moved || has_app (needed_apps c a) moved
-
 -- a move of an application can change which local application can start: it touches one of them
 unfoldable pub touches_local : ClusterView → App → Bool
-touches_local c moved = list_any (λ a. is_local c a && is_touched c moved a) (apps_of c)
+touches_local c moved = list_any (λ a. is_local c a && touches c moved a) (apps_of c)
 
 -- at a node: a local application can start there, and an application can run there, wherever that is asked; and where it
 -- matters the application is marked

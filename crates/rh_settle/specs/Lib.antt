@@ -4,5 +4,6 @@ pub mod Counts
 pub mod Ways
 pub mod Making
 pub mod Boards
+pub mod Starting
 pub mod Validity
 pub mod Laws

@@ -15,8 +15,8 @@ ghost use Rattle.rh_place.specs.declared.node_set.TheConstants.NodeSet.{LIMIT};
 ghost use Rattle.rh_rules.specs.Placing.{is_operational};
 ghost use Rattle.rh_place.specs.Sets.{has};
 ghost use Rattle.rh_rules.specs.declared.notice.Pair.{Pair};
-ghost use Rattle.rh_model.specs.Marks.{is_marked};
-ghost use Rattle.rh_settle.specs.Boards.{is_among, is_wanted, is_touched, touches_local, matters, is_asked, nodes_changed, mover, MarksLocals, Covers, IsReadyOf, IsBoardOf};
+ghost use Rattle.rh_model.specs.Marks.{is_marked, touches};
+ghost use Rattle.rh_settle.specs.Boards.{is_among, is_wanted, touches_local, matters, is_asked, nodes_changed, mover, MarksLocals, Covers, IsReadyOf, IsBoardOf};
 ghost use Rattle.rh_rules.specs.Course.{is_fresh};
 ghost use Rattle.rh_rules.specs.Moves.{local_moves, moved_state};
 
@@ -115,8 +115,8 @@ impl Board {
         ensures local { touches_local (read state.now).cluster moved ≡ true → has self.new.starts node ≡ is_some (head (local_moves (read state.now) node)) }
         ensures apart { touches_local (read state.now).cluster moved ≡ false → self.new.starts ≡ self.old.starts }
         ensures starts { (n : Node) → same_node n node ≡ false → has self.new.starts n ≡ has self.old.starts n }
-        ensures here { (a : App) → IsAppOf (read state.now).cluster a → is_marked self.new.moving a ≡ true → is_touched (read state.now).cluster moved a ≡ true → matters (read state.now) self.new.fresh a node ≡ true → is_among self.new.able a node ≡ is_operational (read state.now) a node }
-        ensures able { (a : App) (n : Node) → is_touched (read state.now).cluster moved a && same_node n node ≡ false → is_among self.new.able a n ≡ is_among self.old.able a n }
+        ensures here { (a : App) → IsAppOf (read state.now).cluster a → is_marked self.new.moving a ≡ true → touches (read state.now).cluster moved a ≡ true → matters (read state.now) self.new.fresh a node ≡ true → is_among self.new.able a node ≡ is_operational (read state.now) a node }
+        ensures able { (a : App) (n : Node) → touches (read state.now).cluster moved a && same_node n node ≡ false → is_among self.new.able a n ≡ is_among self.old.able a n }
     {
         let _few_apps = state.cluster().app_count();
         let _few_nodes = state.cluster().node_count();
@@ -283,8 +283,8 @@ fn look_again_at(
 )
     requires app { IsAppOf (read state.now).cluster moved }
     requires node { IsNodeOf (read state.now).cluster node }
-    ensures here { (a : App) → IsAppOf (read state.now).cluster a → is_marked moving.now a ≡ true → is_touched (read state.now).cluster moved a ≡ true → matters (read state.now) fresh.now a node ≡ true → is_among able.new a node ≡ is_operational (read state.now) a node }
-    ensures others { (a : App) (n : Node) → is_touched (read state.now).cluster moved a && same_node n node ≡ false → is_among able.new a n ≡ is_among able.old a n }
+    ensures here { (a : App) → IsAppOf (read state.now).cluster a → is_marked moving.now a ≡ true → touches (read state.now).cluster moved a ≡ true → matters (read state.now) fresh.now a node ≡ true → is_among able.new a node ≡ is_operational (read state.now) a node }
+    ensures others { (a : App) (n : Node) → touches (read state.now).cluster moved a && same_node n node ≡ false → is_among able.new a n ≡ is_among able.old a n }
 {
     let count = state.cluster().app_count();
     let mut rest = moving.and(&state.cluster().touched_by(moved));

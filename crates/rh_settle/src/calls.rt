@@ -27,7 +27,7 @@ fn comes_before(groups: &[Group], node: Node, other: Node) -> bool
     false
 }
 
-// Does it in the list of an application?
+// Does the group of a node come before that of another one in an application's node list?
 fn is_earlier(cluster: &Cluster, app: App, node: Node, other: Node) -> bool
     requires { IsAppOf cluster.now app }
     ensures { result ≡ comes_before (group_of cluster.now app node) (group_of cluster.now app other) }

@@ -1,6 +1,7 @@
 //! The moves of applications that follow of themselves after an event, one after the other until none is left.
 //!
-//! [`settle`] makes them, and [`next_move`] is the one that comes next in a state.
+//! [`settle`] makes them, as does [`settle_marked`] where local applications can start at marked pairs alone, and [`next_move`]
+//! is the one that comes next in a state.
 #![tactic(auto)]
 
 mod app_sets;
@@ -22,5 +23,5 @@ pub use laws::{
 pub use make::make_move;
 pub use rh_rules::{Move, Notice, Pair};
 pub use search::next_move;
-pub use settling::settle;
+pub use settling::{settle, settle_marked};
 pub use trace::Trace;

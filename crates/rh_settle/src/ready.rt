@@ -1,22 +1,27 @@
 //! What can move of itself, whatever pairs are fresh.
 
-ghost use Rattle.std.specs.Prelude.{◌≡◌, ◌<◌, ◌≤◌, ◌+◌, ◌&&◌, ◌||◌, true, false, is_some};
+ghost use Rattle.std.specs.Prelude.{◌≡◌, ◌<◌, ◌≤◌, ◌+◌, ◌&&◌, ◌||◌, [], All, true, false, is_some};
 ghost use Rattle.std.specs.List.{list_any};
 ghost use Rattle.rh_model.specs.ClusterView.{app_count};
 ghost use Rattle.rh_model.specs.declared.node.App.{App};
 ghost use Rattle.rh_model.specs.declared.node.Node.{Node};
+ghost use Rattle.rh_state.specs.Numbers.{same_node};
 ghost use Rattle.rh_state.specs.Shape.{IsAppOf};
 ghost use Rattle.rh_state.specs.StateView.{standing_of, waits_at};
 ghost use Rattle.rh_state.specs.Stored.{read};
 ghost use Rattle.rh_base.specs.Lists.{head};
 ghost use Rattle.rh_place.specs.Sets.{has};
+ghost use Rattle.rh_rules.specs.Course.{course_of};
 ghost use Rattle.rh_rules.specs.Moves.{can_start, local_moves};
 ghost use Rattle.rh_model.specs.Marks.{is_marked, marks_of};
 ghost use Rattle.rh_settle.specs.Boards.{is_wanted, MarksLocals, IsReadyOf};
+ghost use Rattle.rh_settle.specs.Starting.{StartsAreMarked};
+ghost use Rattle.rh_settle.specs.Traces.{IsPairOf};
 
 use crate::search::{starts, starts_at};
 use rh_model::{App, AppMarks, Node, pushed};
 use rh_place::NodeSet;
+use rh_rules::Pair;
 use rh_state::{Standing, State};
 use std::marker::Model;
 
@@ -47,6 +52,20 @@ impl Ready {
         let local = local_marks(state);
         Ready {
             starts: local_nodes(state, &local),
+            local,
+            wanted: wanted_marks(state),
+        }
+    }
+
+    /// What can move in a state in which local applications can start at these pairs alone.
+    pub fn of_marked(state: &State, pairs: &[Pair]) -> Ready
+        requires pairs { All (IsPairOf (read state.now).cluster) pairs.now }
+        requires starts { StartsAreMarked (course_of (read state.now) [] pairs.now) }
+        ensures { IsReadyOf (read state.now) result }
+    {
+        let local = local_marks(state);
+        Ready {
+            starts: nodes_of_pairs(state, &local, pairs),
             local,
             wanted: wanted_marks(state),
         }
@@ -177,6 +196,38 @@ fn local_nodes(state: &State, local: &AppMarks) -> NodeSet
     'nodes: for number in 0..count {
         let node = Node(number as u8);
         nodes = nodes.put(node, starts_at(state, local, node));
+    }
+    nodes
+}
+
+// The nodes of a set, and that of a pair if its application is local, waits there and can start.
+fn with_pair(set: NodeSet, state: &State, local: &AppMarks, pair: Pair) -> NodeSet
+    requires local { MarksLocals (read state.now).cluster local.now }
+    requires pair { IsPairOf (read state.now).cluster pair }
+    ensures { (n : Node) → has result n ≡ (has set n || (same_node n pair.node && (waits_at (read state.now) pair.node pair.app && can_start (read state.now) pair.node pair.app))) }
+{
+    state.formed();
+    let _few_apps = state.cluster().app_count();
+    let _few_nodes = state.cluster().node_count();
+    if local.has(pair.app) && !set.has(pair.node) && starts(state, pair.node, pair.app) {
+        return set.with(pair.node);
+    }
+    set
+}
+
+// The nodes at which a local application can start, where that is so at these pairs alone.
+fn nodes_of_pairs(state: &State, local: &AppMarks, pairs: &[Pair]) -> NodeSet
+    requires local { MarksLocals (read state.now).cluster local.now }
+    requires pairs { All (IsPairOf (read state.now).cluster) pairs.now }
+    requires starts { StartsAreMarked (course_of (read state.now) [] pairs.now) }
+    ensures { (n : Node) → has result n ≡ is_some (head (local_moves (read state.now) n)) }
+{
+    state.formed();
+    let mut nodes = NodeSet::empty();
+    if !local.is_empty() {
+        'pairs: for pair in pairs {
+            nodes = with_pair(nodes, state, local, *pair);
+        }
     }
     nodes
 }

@@ -6,6 +6,7 @@ ghost use Rattle.rh_state.specs.Stored.{read};
 ghost use Rattle.rh_rules.specs.Course.{Course, fresh_of};
 ghost use Rattle.rh_settle.specs.Traces.{IsPairOf, course};
 ghost use Rattle.rh_settle.specs.Boards.{IsReadyOf};
+ghost use Rattle.rh_settle.specs.Starting.{StartsAreMarked};
 ghost use Rattle.rh_settle.specs.Counts.{FewEdits};
 ghost use Rattle.rh_settle.specs.Ways.{Goes};
 ghost use Rattle.rh_rules.specs.Settling.{NoneEnabled, nexts, all_moved, tell_waiting, waits_told, settled, Settles, pair_count};
@@ -48,10 +49,16 @@ fn make_ready_moves(
     Ok(())
 }
 
-// Makes next moves until there is none. Behind most events nothing is ready, and no fresh pair can call an application away:
-// then no board is made, whose tables would have to be zeroed.
+// Makes next moves, of which these are ready, until there is none. Behind most events nothing is ready, and no fresh pair can
+// call an application away: then no board is made, whose tables would have to be zeroed.
 #[tactic(auto, using(crate::proofs::Ways::goes_none))]
-fn make_moves(state: &mut State, pick: Pick, trace: &mut Trace) -> Result<(), OutOfMemory>
+fn make_moves(
+    state: &mut State,
+    ready: Ready,
+    pick: Pick,
+    trace: &mut Trace,
+) -> Result<(), OutOfMemory>
+    requires ready { IsReadyOf (read state.old) ready }
     requires runs { RunsWhereItStands (read state.old) }
     ensures moved { OnOk result (course (read state.new) trace.new ≡ all_moved pick (course (read state.old) trace.old)) }
     ensures still { OnOk result (nexts (course (read state.new) trace.new) ≡ []) }
@@ -61,7 +68,6 @@ fn make_moves(state: &mut State, pick: Pick, trace: &mut Trace) -> Result<(), Ou
     ensures few { FewEdits 0 trace.old trace.new }
 {
     state.formed();
-    let ready = Ready::of(state);
     if ready.is_idle() && !may_call(state, trace.marked()) && !may_call(state, trace.freed()) {
         return Ok(());
     }
@@ -109,6 +115,30 @@ fn tell_waiting(state: &State, trace: &mut Trace) -> Result<(), OutOfMemory>
     Ok(())
 }
 
+// Settles a state in which these are ready: see [`settle`].
+fn settle_ready(
+    state: &mut State,
+    ready: Ready,
+    pick: Pick,
+    trace: &mut Trace,
+) -> Result<(), OutOfMemory>
+    requires ready { IsReadyOf (read state.old) ready }
+    requires marked { All (IsPairOf (read state.old).cluster) trace.old.marked }
+    requires runs { RunsWhereItStands (read state.old) }
+    ensures settled { OnOk result (course (read state.new) trace.new ≡ settled pick (course (read state.old) trace.old)) }
+    ensures allowed { OnOk result (Settles (course (read state.old) trace.old) (course (read state.new) trace.new)) }
+    ensures few { (p : Course) (run : Settles (course (read state.old) trace.old) p) → length run.moves ≤ 2 * pair_count (read state.old).cluster }
+    ensures still { OnOk result (NoneEnabled (read state.new) (fresh_of (course (read state.new) trace.new))) }
+    ensures cluster { (read state.new).cluster ≡ (read state.old).cluster }
+    ensures runs { OnOk result (RunsWhereItStands (read state.new)) }
+    ensures way { Goes state.old trace.old state.new trace.new }
+    ensures edits { FewEdits 0 trace.old trace.new }
+{
+    state.formed();
+    make_moves(state, ready, pick, trace)?;
+    tell_waiting(state, trace)
+}
+
 /// Makes the [`next_move`](crate::next_move), one after the other, until there is none; then tells which of the marked pairs wait, in marking
 /// order. Where memory is refused, the state is one on the way.
 pub fn settle(state: &mut State, pick: Pick, trace: &mut Trace) -> Result<(), OutOfMemory>
@@ -123,7 +153,25 @@ pub fn settle(state: &mut State, pick: Pick, trace: &mut Trace) -> Result<(), Ou
     ensures way { Goes state.old trace.old state.new trace.new }
     ensures edits { FewEdits 0 trace.old trace.new }
 {
-    state.formed();
-    make_moves(state, pick, trace)?;
-    tell_waiting(state, trace)
+    let ready = Ready::of(state);
+    settle_ready(state, ready, pick, trace)
+}
+
+/// As [`settle`], where local applications can start at marked pairs alone, as behind most events: before the first move no other pair
+/// is asked whether its local application can start. Behind a move, and for takeovers, what [`settle`] asks is asked here too.
+pub fn settle_marked(state: &mut State, pick: Pick, trace: &mut Trace) -> Result<(), OutOfMemory>
+    requires marked { All (IsPairOf (read state.old).cluster) trace.old.marked }
+    requires runs { RunsWhereItStands (read state.old) }
+    requires starts { StartsAreMarked (course (read state.old) trace.old) }
+    ensures settled { OnOk result (course (read state.new) trace.new ≡ settled pick (course (read state.old) trace.old)) }
+    ensures allowed { OnOk result (Settles (course (read state.old) trace.old) (course (read state.new) trace.new)) }
+    ensures few { (p : Course) (run : Settles (course (read state.old) trace.old) p) → length run.moves ≤ 2 * pair_count (read state.old).cluster }
+    ensures still { OnOk result (NoneEnabled (read state.new) (fresh_of (course (read state.new) trace.new))) }
+    ensures cluster { (read state.new).cluster ≡ (read state.old).cluster }
+    ensures runs { OnOk result (RunsWhereItStands (read state.new)) }
+    ensures way { Goes state.old trace.old state.new trace.new }
+    ensures edits { FewEdits 0 trace.old trace.new }
+{
+    let ready = Ready::of_marked(state, trace.marked());
+    settle_ready(state, ready, pick, trace)
 }

@@ -7,7 +7,7 @@ use Rattle.rh_state.specs.Shape.{IsAppOf}
 use Rattle.rh_state.specs.Stored.{read}
 use Rattle.rh_base.proofs.Lists.{cases}
 use Rattle.rh_rules.specs.Placing.{is_operational}
-use Rattle.rh_settle.specs.Boards.{is_among, is_touched, matters}
+use Rattle.rh_settle.specs.Boards.{is_among, matters}
 use Rattle.rh_settle.proofs.Entries.{same_number}
 use Rattle.rh_settle.proofs.TakenMarks.{one_taken}
 use Rattle.rh_settle.proofs.Touches.{left_touched, none_left}
@@ -35,7 +35,7 @@ apps-preserved c =
     let of_app : IsAppOf s.cluster app = (let b = c.in-Some.ensures.below in omega (arith, e, b)) in
     record {
       touched = λ a of h. old.touched a of (first (is_marked c.apps.rest a) _ (sym (c.in-Some.ensures.taken a) ∙ h));
-      here = one_taken (λ (a : App). IsAppOf s.cluster a → is_marked c.args.moving.now a ≡ true → is_touched s.cluster c.args.moved a ≡ true
+      here = one_taken (λ (a : App). IsAppOf s.cluster a → is_marked c.args.moving.now a ≡ true → touches s.cluster c.args.moved a ≡ true
           → matters s c.args.fresh.now a c.args.node ≡ true → is_among new a c.args.node ≡ is_operational s a c.args.node)
           c.apps.rest c.take_below.new.self app c.in-Some.ensures.taken
           (λ b off of m t mattering. cases (same_app b app)
@@ -45,7 +45,7 @@ apps-preserved c =
           (λ of m t mattering. found.here mattering);
       others = λ a n h. found.others a n (cases (same_app a app)
           (λ y. both_sides (same_app a app) (same_node n c.args.node) (sym (ap (λ p. p && same_node n c.args.node)
-          (ap (λ (j : ℕ). is_touched s.cluster c.args.moved (app_numbered j)) (same_number a.0 app.0 y) ∙ old.touched app of_app c.in-Some.ensures.marked)) ∙ h))
+          (ap (λ (j : ℕ). touches s.cluster c.args.moved (app_numbered j)) (same_number a.0 app.0 y) ∙ old.touched app of_app c.in-Some.ensures.marked)) ∙ h))
           (λ f. ap (λ p. p && same_node n c.args.node) f))
           ∙ old.others a n h;
     }

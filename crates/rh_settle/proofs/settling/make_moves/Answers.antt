@@ -17,7 +17,7 @@ nothing c =
     let s = read c.args.state.now in
     let marked = ap (list_any (can_call s)) (sym c.marked.ensures) ∙ (neither _ _ (sym c.may_call.ensures ∙ c.if-not-may_call.true)).1 in
     let freed = ap (list_any (can_call s)) (sym c.freed.ensures) ∙ (neither _ _ (sym c.may_call-then-not-may_call.ensures ∙ c.if-not-may_call-2.true)).1 in
-    nothing_moves s _ c.of-ready.result c.args.pick c.formed.ensures.shape c.of-ready.ensures
+    nothing_moves s _ c.args.ready c.args.pick c.formed.ensures.shape c.requires.ready
     (c.is_idle.ensures.starts c.if-is_idle.true) (c.is_idle.ensures.wanted c.if-is_idle.true)
     (none_in_both (can_call s) c.args.trace.now.freed c.args.trace.now.marked freed marked)
 

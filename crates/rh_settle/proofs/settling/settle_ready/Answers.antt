@@ -10,7 +10,7 @@ use Rattle.rh_settle.proofs.NextFirsts.{still_if_none_enabled}
 use Rattle.rh_settle.proofs.SettlingLaws.{settles_by_pick, few_moves}
 use Rattle.rh_settle.proofs.Unchanged.{all_moved_marked, waits_told_fresh}
 use Rattle.rh_settle.proofs.Ways.{goes_more}
-use Rattle.rh_settle.proofs.settling.settle.Goals as goal
+use Rattle.rh_settle.proofs.settling.settle_ready.Goals as goal
 
 pub tell_waiting-requires : goal.tell_waiting-requires
 tell_waiting-requires c =
