@@ -48,12 +48,12 @@ pub record IsSoundBut (n : Node) (rest : List App) (s : StateView) : Type 0 wher
 
 -- ---- the node is cleared
 -- a list of it is empty
-emptied_row : (table : List (List App)) (n : ℕ) → row (slice_set table n []) n ≡ []
+pub emptied_row : (table : List (List App)) (n : ℕ) → row (slice_set table n []) n ≡ []
 emptied_row [] n = refl
 emptied_row (xs ∷ table) zero = refl
 emptied_row (xs ∷ table) (suc n) = emptied_row table n
 
-emptied_has : (table : List (List App)) (n m : ℕ) (a : App) → has (slice_set table n []) m a ≡ true → has table m a ≡ true
+pub emptied_has : (table : List (List App)) (n m : ℕ) (a : App) → has (slice_set table n []) m a ≡ true → has table m a ≡ true
 emptied_has table n m a h = at_set table n m [] []
     (λ e. sym (ap (λ xs. has_app xs a) e) ∙ h)
     (λ e v. both (has (slice_set table n []) m a) h (ap (λ xs. has_app xs a) v))

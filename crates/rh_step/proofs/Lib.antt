@@ -15,6 +15,7 @@ pub mod Outcomes
 pub mod Counts
 pub mod NextAfter
 pub mod Performing
+pub mod Following
 pub mod Firing
 mod Rows
 mod RowsElsewhere
@@ -31,3 +32,5 @@ pub mod StartedStays
 pub mod Everywhere
 pub mod PullsBack
 pub mod FiringsTold
+pub mod StartsFewer
+pub mod StartsKept

@@ -32,7 +32,7 @@ comes_valid pick o sound =
     }
 
 -- so behind a firing
-fired_valid : (pick : Pick) (limit : ℕ) (o : Course) (entry : ℕ × Timer) → limit ≤ time_limit → IsValid o.state → due_by limit (earliest o.state) ≡ Some entry
+pub fired_valid : (pick : Pick) (limit : ℕ) (o : Course) (entry : ℕ × Timer) → limit ≤ time_limit → IsValid o.state → due_by limit (earliest o.state) ≡ Some entry
     → IsValid (fired pick o entry).state
 unfolding fired
 fired_valid pick limit o entry within valid is =

@@ -1,3 +1,4 @@
 pub mod Firings
 pub mod Laws
 pub mod Counts
+pub mod Starting

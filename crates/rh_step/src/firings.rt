@@ -6,7 +6,7 @@ ghost use Rattle.rh_state.specs.Records.{Grows};
 ghost use Rattle.rh_state.specs.Shape.{IsTimerOf};
 ghost use Rattle.rh_state.specs.StateView.{earliest};
 ghost use Rattle.rh_state.specs.Stored.{read};
-ghost use Rattle.rh_settle.specs.Validity.{IsSound, IsValid};
+ghost use Rattle.rh_settle.specs.Validity.{IsValid};
 ghost use Rattle.rh_rules.specs.declared.event.Event.TheVariants.{Tick};
 ghost use Rattle.rh_rules.specs.Refusals.{refused};
 ghost use Rattle.rh_step.specs.Firings.{firing, fired_in, firings_by, firings, FiringsTellTheTick, FiringsAreInTime};
@@ -80,7 +80,7 @@ fn fire_each(
     edits: &mut Vec<Edit>,
 ) -> Result<Vec<FiredTimer>, OutOfMemory>
     requires limit { limit ≤ time_limit }
-    requires sound { IsSound (read state.old) }
+    requires valid { IsValid (read state.old) }
     ensures firings { IfOk result (λ fired. fired.items ≡ firings_by pick (length (read state.old).timers) limit (read state.old)) }
     ensures edits { Grows state.old edits.old.items state.new edits.new.items }
 {
@@ -104,7 +104,7 @@ fn fire_alone(
     requires due { due ≤ time_limit }
     requires timer { IsTimerOf (read state.old).cluster timer }
     requires first { earliest (read state.old) ≡ Some (due, timer) }
-    requires sound { IsSound (read state.old) }
+    requires valid { IsValid (read state.old) }
     ensures firing { IfOk result (λ f. f ≡ firing due (fired_in pick (read state.old) (due, timer)).notices) }
     ensures state { OnOk result (read state.new ≡ (fired_in pick (read state.old) (due, timer)).state) }
     ensures edits { Grows state.old edits.old.items state.new edits.new.items }

@@ -9,6 +9,7 @@ ghost use Rattle.rh_rules.specs.declared.notice.Notice.{Notice};
 ghost use Rattle.rh_settle.specs.Traces.{IsPairOf, course};
 ghost use Rattle.rh_rules.specs.Settling.{settled};
 ghost use Rattle.rh_settle.specs.Validity.{IsSound, IsValid};
+ghost use Rattle.rh_settle.specs.Starting.{StartsAreMarked};
 ghost use Rattle.rh_settle.specs.Counts.{FewWeighed};
 ghost use Rattle.rh_settle.specs.Ways.{Goes};
 ghost use Rattle.rh_rules.specs.declared.event.Event.TheVariants.{Tick};
@@ -17,12 +18,13 @@ ghost use Rattle.rh_events.specs.Counts.{own_edits};
 ghost use Rattle.rh_rules.specs.Refusals.{refused};
 ghost use Rattle.rh_rules.specs.Steps.{outcome, followed, next_from, next, Allowed};
 ghost use Rattle.rh_step.specs.Counts.{step_edits, most_edits};
+ghost use Rattle.rh_step.specs.Starting.{may_let_start};
 
 use crate::ticks::pass_time;
 use rh_base::OutOfMemory;
 use rh_events::{Event, change, let_ready_come_up};
 use rh_rules::Pick;
-use rh_settle::{Notice, Trace, settle};
+use rh_settle::{Notice, Trace, settle, settle_marked};
 use rh_state::{Edit, State, go_back};
 use std::alloc::Global;
 use std::mem;
@@ -102,7 +104,7 @@ fn take_back(state: &mut State, edits: &mut Vec<Edit>, kept: usize)
 // The event, and what follows from it.
 fn make(state: &mut State, event: &Event, pick: Pick, trace: &mut Trace) -> Result<(), OutOfMemory>
     requires accepted { refused (read state.old) event.now ≡ None }
-    requires sound { IsSound (read state.old) }
+    requires valid { IsValid (read state.old) }
     requires marked { All (IsPairOf (read state.old).cluster) trace.old.marked }
     ensures course { OnOk result (course (read state.new) trace.new ≡ next_from (course (read state.old) trace.old) event.now pick) }
     ensures way { Goes state.old trace.old state.new trace.new }
@@ -123,18 +125,33 @@ fn happen(
     trace: &mut Trace,
 ) -> Result<(), OutOfMemory>
     requires accepted { refused (read state.old) event.now ≡ None }
-    requires sound { IsSound (read state.old) }
+    requires valid { IsValid (read state.old) }
     requires marked { All (IsPairOf (read state.old).cluster) trace.old.marked }
     ensures course { OnOk result (course (read state.new) trace.new ≡ followed pick (course (read state.old) trace.old) event.now) }
     ensures way { Goes state.old trace.old state.new trace.new }
     ensures few { OnOk result (FewWeighed (read state.old).cluster (own_edits (read state.old).cluster event.now) trace.old trace.new) }
 {
     change(state, event, trace)?;
-    follow(state, pick, trace)
+    if may_let_start(event) {
+        follow(state, pick, trace)
+    } else {
+        follow_marked(state, pick, trace)
+    }
 }
 
-/// What follows of itself: the ready nodes come up, and the applications settle.
-pub fn follow(state: &mut State, pick: Pick, trace: &mut Trace) -> Result<(), OutOfMemory>
+// Whether the event itself, before any application moves, may let a local application start at a pair that it doesn't mark.
+fn may_let_start(event: &Event) -> bool
+    ensures { result ≡ may_let_start event.now }
+{
+    match *event {
+        Event::Permit { allow, .. } => allow,
+        Event::Takeover { .. } => true,
+        _ => false,
+    }
+}
+
+// What follows of itself: the ready nodes come up, and the applications settle.
+fn follow(state: &mut State, pick: Pick, trace: &mut Trace) -> Result<(), OutOfMemory>
     requires sound { IsSound (read state.old) }
     requires marked { All (IsPairOf (read state.old).cluster) trace.old.marked }
     ensures course { OnOk result (course (read state.new) trace.new ≡ settled pick (ready_come_up (course (read state.old) trace.old))) }
@@ -143,4 +160,17 @@ pub fn follow(state: &mut State, pick: Pick, trace: &mut Trace) -> Result<(), Ou
 {
     let_ready_come_up(state, trace)?;
     settle(state, pick, trace)
+}
+
+/// What follows of itself where local applications can start at marked pairs alone: the ready nodes come up, and the applications settle.
+pub fn follow_marked(state: &mut State, pick: Pick, trace: &mut Trace) -> Result<(), OutOfMemory>
+    requires sound { IsSound (read state.old) }
+    requires marked { All (IsPairOf (read state.old).cluster) trace.old.marked }
+    requires starts { StartsAreMarked (course (read state.old) trace.old) }
+    ensures course { OnOk result (course (read state.new) trace.new ≡ settled pick (ready_come_up (course (read state.old) trace.old))) }
+    ensures way { Goes state.old trace.old state.new trace.new }
+    ensures few { OnOk result (FewWeighed (read state.old).cluster 0 trace.old trace.new) }
+{
+    let_ready_come_up(state, trace)?;
+    settle_marked(state, pick, trace)
 }

@@ -11,13 +11,13 @@ ghost use Rattle.rh_state.specs.Stored.{read};
 ghost use Rattle.rh_state.specs.declared.status.Standing.TheVariants.{Running};
 ghost use Rattle.rh_state.specs.declared.status.Timer.TheVariants.{Sync, Failover};
 ghost use Rattle.rh_settle.specs.Traces.{course};
-ghost use Rattle.rh_settle.specs.Validity.{IsSound};
+ghost use Rattle.rh_settle.specs.Validity.{IsValid};
 ghost use Rattle.rh_settle.specs.Counts.{FewEdits, FewWeighed};
 ghost use Rattle.rh_settle.specs.Ways.{Goes};
 ghost use Rattle.rh_rules.specs.Time.{due_by, effect, taken_off, fired, all_fired, ticked};
 ghost use Rattle.rh_rules.specs.NodesEnd.{wanted_if_lost};
 
-use crate::step::follow;
+use crate::step::follow_marked;
 use rh_base::OutOfMemory;
 use rh_events::{all_alive, cancel_if_set, come_up, end};
 use rh_model::{App, Node};
@@ -34,7 +34,7 @@ pub fn pass_time(
     trace: &mut Trace,
 ) -> Result<(), OutOfMemory>
     requires end { (read state.old).time + ms ≤ time_limit }
-    requires sound { IsSound (read state.old) }
+    requires valid { IsValid (read state.old) }
     ensures course { OnOk result (course (read state.new) trace.new ≡ ticked pick (course (read state.old) trace.old) ms) }
     ensures way { Goes state.old trace.old state.new trace.new }
     ensures few { OnOk result (FewWeighed (read state.old).cluster (1 + 3 * (length (read state.old).timers - length (read state.new).timers)) trace.old trace.new) }
@@ -48,7 +48,7 @@ pub fn pass_time(
 #[tactic(auto, using(rh_settle::proofs::Ways::goes_none))]
 fn fire_due(state: &mut State, limit: u64, pick: Pick, trace: &mut Trace) -> Result<(), OutOfMemory>
     requires limit { limit ≤ time_limit }
-    requires sound { IsSound (read state.old) }
+    requires valid { IsValid (read state.old) }
     ensures course { OnOk result (course (read state.new) trace.new ≡ all_fired pick limit (course (read state.old) trace.old)) }
     ensures way { Goes state.old trace.old state.new trace.new }
     ensures few { OnOk result (FewWeighed (read state.old).cluster (3 * (length (read state.old).timers - length (read state.new).timers)) trace.old trace.new) }
@@ -98,14 +98,14 @@ pub(crate) fn fire(
     requires due { due ≤ time_limit }
     requires timer { IsTimerOf (read state.old).cluster timer }
     requires first { earliest (read state.old) ≡ Some (due, timer) }
-    requires sound { IsSound (read state.old) }
+    requires valid { IsValid (read state.old) }
     ensures course { OnOk result (course (read state.new) trace.new ≡ fired pick (course (read state.old) trace.old) (due, timer)) }
     ensures way { Goes state.old trace.old state.new trace.new }
     ensures few { OnOk result (FewWeighed (read state.old).cluster 3 trace.old trace.new) }
 {
     take_off(state, due, timer, trace)?;
     take_effect(state, timer, trace)?;
-    follow(state, pick, trace)
+    follow_marked(state, pick, trace)
 }
 
 // What a timer does.

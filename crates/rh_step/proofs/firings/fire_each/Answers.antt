@@ -4,11 +4,12 @@ use Rattle.rh_state.specs.declared.status.Timer.{Timer}
 use Rattle.rh_state.specs.StateView.{StateView, earliest}
 use Rattle.rh_state.specs.Stored.{read}
 use Rattle.rh_rules.specs.Course.{course_of}
-use Rattle.rh_settle.specs.Validity.{IsSound}
+use Rattle.rh_settle.specs.Validity.{IsValid}
 use Rattle.rh_rules.specs.Time.{due_by}
 use Rattle.rh_step.specs.Firings.{firings_by}
-use Rattle.rh_step.proofs.Fuel.{fired_fewer, sound_fired}
+use Rattle.rh_step.proofs.Fuel.{fired_fewer}
 use Rattle.rh_step.proofs.FiringsTold.{one_and_others, none_fired}
+use Rattle.rh_step.proofs.TickedValid.{fired_valid}
 use Rattle.rh_step.proofs.firings.fire_each.Goals as goal
 
 pub returns-in_err-firing-clause-edits : goal.returns-in_err-firing-clause-edits
@@ -18,7 +19,7 @@ pub timers-smaller : goal.timers-smaller
 timers-smaller c =
     let s = read c.timers.state in
     subst (λ (p : StateView). length p.timers < length s.timers) (sym c.in_ok-firing.ensures.state)
-    (fired_fewer c.args.pick c.args.limit (course_of s [] []) (c.in-Some.due, c.in-Some.timer) c.timers.invariant.sound (sym c.in-Some.ensures.next))
+    (fired_fewer c.args.pick c.args.limit (course_of s [] []) (c.in-Some.due, c.in-Some.timer) c.timers.invariant.valid.sound (sym c.in-Some.ensures.next))
 
 pub timers-preserved : goal.timers-preserved
 timers-preserved c =
@@ -32,10 +33,10 @@ timers-preserved c =
           ∙ append_assoc c.timers.fired.items (c.in_ok-firing.firing ∷ []) (rest (read c.fire_alone.new.state))
           ∙ (λ i. c.timers.fired.items ++ c.in_ok-firing.ensures.firing i ∷ rest (made i))
           ∙ ap (λ fired. c.timers.fired.items ++ fired)
-          (sym (one_and_others c.args.pick c.args.limit s entry c.requires.limit c.timers.invariant.sound due))
+          (sym (one_and_others c.args.pick c.args.limit s entry c.requires.limit c.timers.invariant.valid.sound due))
           ∙ c.timers.invariant.so_far;
-      sound = subst IsSound (sym made)
-          (sound_fired c.args.pick c.args.limit (course_of s [] []) entry c.requires.limit c.timers.invariant.sound due);
+      valid = subst IsValid (sym made)
+          (fired_valid c.args.pick c.args.limit (course_of s [] []) entry c.requires.limit c.timers.invariant.valid due);
       edits = grows_more _ _ _ _ _ _ c.timers.invariant.edits c.fire_alone.ensures.edits;
     }
 

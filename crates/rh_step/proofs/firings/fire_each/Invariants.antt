@@ -1,7 +1,7 @@
 use Rattle.std.proofs.Common.{◌≡◌, ◌++◌, length}
 use Rattle.rh_state.specs.Records.{Grows}
 use Rattle.rh_state.specs.Stored.{read}
-use Rattle.rh_settle.specs.Validity.{IsSound}
+use Rattle.rh_settle.specs.Validity.{IsValid}
 use Rattle.rh_step.specs.Firings.{firings_by}
 use Rattle.rh_step.proofs.firings.fire_each.Given as goal
 
@@ -9,7 +9,7 @@ abbrev pub invariant-timers : goal.invariant-timers
 invariant-timers l = record {
   so_far : l.fired.items ++ firings_by l.pick (length (read l.state).timers) l.limit (read l.state)
       ≡ firings_by l.pick (length (read l.fn.state).timers) l.limit (read l.fn.state);
-  sound : IsSound (read l.state);
+  valid : IsValid (read l.state);
   edits : Grows l.fn.state l.fn.edits.items l.state l.edits.items;
 }
 

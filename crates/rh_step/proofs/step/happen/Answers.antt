@@ -1,38 +1,54 @@
-use Rattle.std.proofs.Common.{arith, List, All, sym, ap, ◌∙◌, subst}
-use Rattle.rh_model.specs.ClusterView.{ClusterView}
-use Rattle.rh_state.specs.Stored.{read}
-use Rattle.rh_rules.specs.declared.notice.Pair.{Pair}
-use Rattle.rh_rules.specs.Course.{Course}
-use Rattle.rh_settle.specs.Traces.{IsPairOf, course}
-use Rattle.rh_settle.specs.Validity.{IsSound}
-use Rattle.rh_events.proofs.EachEvent.{change_cluster, sound_changed, marked_changed}
+use Rattle.std.proofs.Common.{sym, ◌∙◌, subst}
 use Rattle.std.proofs.lemmas.Result.{on_ok_weaker}
+use Rattle.rh_state.specs.Stored.{read}
+use Rattle.rh_settle.specs.Starting.{StartsAreMarked}
+use Rattle.rh_settle.specs.Traces.{course}
 use Rattle.rh_settle.proofs.Ways.{goes_more, goes_cluster}
-use Rattle.rh_settle.specs.Counts.{FewWeighed}
+use Rattle.rh_events.specs.Counts.{own_edits}
+use Rattle.rh_step.proofs.Following.{changed_sound, changed_pairs, few_followed}
+use Rattle.rh_step.proofs.StartsKept.{none_starts, starts_changed}
 use Rattle.rh_step.proofs.step.happen.Goals as goal
 
 pub follow-requires-clause-sound : goal.follow-requires-clause-sound
 follow-requires-clause-sound c =
-    let o = course (read c.args.state.now) c.args.trace.now in
-    subst (λ (p : Course). IsSound p.state) (sym c.in_ok-change.ensures.course) (sound_changed o c.args.event.now c.requires.sound c.requires.accepted)
+    changed_sound (course (read c.args.state.now) c.args.trace.now) _ c.args.event.now c.in_ok-change.ensures.course c.requires.valid.sound c.requires.accepted
 
 pub follow-requires-clause-marked : goal.follow-requires-clause-marked
 follow-requires-clause-marked c =
+    changed_pairs (course (read c.args.state.now) c.args.trace.now) _ c.args.event.now c.in_ok-change.ensures.course c.requires.accepted c.requires.marked
+
+pub follow_marked-requires-clause-sound : goal.follow_marked-requires-clause-sound
+follow_marked-requires-clause-sound c =
+    changed_sound (course (read c.args.state.now) c.args.trace.now) _ c.args.event.now c.in_ok-change.ensures.course c.requires.valid.sound c.requires.accepted
+
+pub follow_marked-requires-clause-marked : goal.follow_marked-requires-clause-marked
+follow_marked-requires-clause-marked c =
+    changed_pairs (course (read c.args.state.now) c.args.trace.now) _ c.args.event.now c.in_ok-change.ensures.course c.requires.accepted c.requires.marked
+
+pub follow_marked-requires-clause-starts : goal.follow_marked-requires-clause-starts
+follow_marked-requires-clause-starts c =
     let o = course (read c.args.state.now) c.args.trace.now in
-    let made = c.in_ok-change.ensures.course in
-    let cluster = ap (λ (p : Course). p.state.cluster) made ∙ change_cluster o c.args.event.now in
-    subst (λ (v : ClusterView). All (IsPairOf v) c.change.new.trace.marked) (sym cluster)
-    (subst (λ (ps : List Pair). All (IsPairOf o.state.cluster) ps) (sym (ap (λ (p : Course). p.marked) made))
-    (marked_changed o c.args.event.now c.requires.accepted c.requires.marked))
+    subst StartsAreMarked (sym c.in_ok-change.ensures.course)
+    (starts_changed o c.args.event.now (sym c.may_let_start.ensures ∙ c.if-may_let_start.false) (none_starts o c.requires.valid))
 
-pub returns-clause-way : goal.returns-clause-way
-returns-clause-way c = goes_more _ _ _ _ _ _ c.change.ensures.way c.follow.ensures.way
+pub returns-then-may_let_start-clause-way : goal.returns-then-may_let_start-clause-way
+returns-then-may_let_start-clause-way c = goes_more _ _ _ _ _ _ c.change.ensures.way c.follow.ensures.way
 
-pub returns-clause-few : goal.returns-clause-few
-returns-clause-few c =
+pub returns-then-may_let_start-clause-few : goal.returns-then-may_let_start-clause-few
+returns-then-may_let_start-clause-few c =
     let s = read c.args.state.now in
     on_ok_weaker c.follow.result
-    (λ few. let here = subst (λ (v : ClusterView). FewWeighed v 0 c.change.new.trace c.follow.new.trace)
-    (goes_cluster _ _ _ _ c.in_ok-change.ensures.way) few in
-    omega (arith, here, c.in_ok-change.ensures.few))
+    (few_followed s.cluster (read c.change.new.state).cluster (own_edits s.cluster c.args.event.now) c.args.trace.now c.change.new.trace c.follow.new.trace
+    (goes_cluster _ _ _ _ c.in_ok-change.ensures.way) c.in_ok-change.ensures.few)
     c.follow.ensures.few
+
+pub returns-else-may_let_start-clause-way : goal.returns-else-may_let_start-clause-way
+returns-else-may_let_start-clause-way c = goes_more _ _ _ _ _ _ c.change.ensures.way c.follow_marked.ensures.way
+
+pub returns-else-may_let_start-clause-few : goal.returns-else-may_let_start-clause-few
+returns-else-may_let_start-clause-few c =
+    let s = read c.args.state.now in
+    on_ok_weaker c.follow_marked.result
+    (few_followed s.cluster (read c.change.new.state).cluster (own_edits s.cluster c.args.event.now) c.args.trace.now c.change.new.trace c.follow_marked.new.trace
+    (goes_cluster _ _ _ _ c.in_ok-change.ensures.way) c.in_ok-change.ensures.few)
+    c.follow_marked.ensures.few

@@ -1,7 +1,7 @@
 use Rattle.std.proofs.Common.{◌≡◌, ◌≤◌, ◌+◌, ◌*◌, length}
 use Rattle.rh_state.specs.Stored.{read}
 use Rattle.rh_settle.specs.Traces.{course}
-use Rattle.rh_settle.specs.Validity.{IsSound}
+use Rattle.rh_settle.specs.Validity.{IsValid}
 use Rattle.rh_settle.specs.Counts.{weights}
 use Rattle.rh_settle.specs.Ways.{Goes}
 use Rattle.rh_rules.specs.Time.{all_fired}
@@ -10,7 +10,7 @@ use Rattle.rh_step.proofs.ticks.fire_due.Given as goal
 abbrev pub invariant-timers : goal.invariant-timers
 invariant-timers l = record {
   same : all_fired l.pick l.limit (course (read l.state) l.trace) ≡ all_fired l.pick l.limit (course (read l.fn.state) l.fn.trace);
-  sound : IsSound (read l.state);
+  valid : IsValid (read l.state);
   way : Goes l.fn.state l.fn.trace l.state l.trace;
   fewer : length (read l.state).timers ≤ length (read l.fn.state).timers;
   few : length l.trace.edits + 4 * weights (read l.fn.state).cluster l.fn.trace.notices + 3 * length (read l.state).timers
