@@ -2,8 +2,8 @@
 """The inputs of the benchmark's crate (crates/rh_bench), made apart from it: bench_inputs.py JOB SEED COUNT SIZE PROGRAM
 
 Makes the inputs that `rh_bench JOB SEED COUNT SIZE` makes, gives each to PROGRAM on the command line, and prints the lines that
-rh_bench prints. crates/rh_bench/stdout is what this prints with the program that was shipped before any change for speed
-(docs/PERF.md). With a folder as a sixth word it leaves the inputs there.
+rh_bench prints. crates/rh_bench/stdout is what this prints, for the words of crates/rh_bench/args, with the program that was shipped
+before any change for speed (docs/PERF.md). With a folder as a sixth word it leaves the inputs there.
 """
 import struct
 import subprocess
@@ -13,6 +13,7 @@ from typing import Iterator, NamedTuple, Optional
 
 MASK = (1 << 64) - 1
 MOST_DOWN = 8
+HUBS = 4
 
 
 class Chance:
@@ -38,13 +39,17 @@ class Shape(NamedTuple):
     groups: list[int]
     second: bool = False
     waits: bool = False
+    delays: bool = False
 
 
-WAITING = Shape(6, 3, 0, [1, 2, 1], waits=True)
+FEW = Shape(6, 3, 0, [1, 2, 1], waits=True)
+WAITING = Shape(6, 5, 0, [1, 2, 1], waits=True, delays=True)
 MIDDLE = Shape(12, 16, 0, [1, 2, 1])
 PLAIN = Shape(32, 64, 0, [2] * 4)
 MIXED = Shape(32, 60, 4, [2] * 4)
 LARGEST = Shape(64, 128, 0, [4] * 8, second=True)
+FIVE = Shape(5, 5, 40, [1, 2, 2])
+SIXTEEN = Shape(16, 5, 40, [1, 2, 2])
 
 
 class Made:
@@ -68,19 +73,36 @@ class Made:
             listed = [app for app, nodes in zip(self.apps, self.lists) if number in nodes]
             boot = ", ".join(f"{{{app}, temporary}}" for app in self.locals + listed)
             text += f"{{node, {name}, [{{kernel, [{{distributed, [{entries}]}}{wait}]}}, {{rehearse, [{{boot, [{boot}]}}]}}]}}.\n"
-        text += "".join(f"{{application, {name}, [{{applications, [kernel, stdlib]}}]}}.\n" for name in self.locals)
+        for number, name in enumerate(self.locals):
+            needs = "".join(f", {need}" for need in self.needs(chance, number))
+            text += f"{{application, {name}, [{{applications, [kernel, stdlib{needs}]}}]}}.\n"
         for name in self.apps:
-            need = f", {self.locals[chance.below(shape.locals)]}" if shape.locals and chance.comes(33) else ""
+            need = f", {self.locals[chance.below(min(shape.locals, HUBS))]}" if shape.locals and chance.comes(33) else ""
             text += f"{{application, {name}, [{{applications, [kernel, stdlib{need}]}}]}}.\n"
         self.text = text + "===\n" + "".join(f"boot {name}\n" for name in self.nodes)
 
     def entry(self, chance: Chance, shape: Shape, number: int) -> str:
-        timeout = (0, 500, 1000, 3000)[chance.below(4)]
+        timeout = (500, 1000, 3000)[chance.below(3)] if shape.delays else (0, 500, 1000, 3000)[chance.below(4)]
         rest, groups = [self.nodes[node] for node in self.lists[number]], []
         for count in shape.groups:
             group, rest = rest[:count], rest[count:]
             groups.append("{" + ", ".join(group) + "}" if count > 1 else group[0])
         return f"{{{self.apps[number]}, {timeout}, [{', '.join(groups)}]}}"
+
+    def needs(self, chance: Chance, number: int) -> list[str]:
+        """What a local application needs of the others."""
+        if number <= HUBS:
+            return []
+        before = [self.locals[number - 1]]
+        kind = chance.below(8)
+        if kind == 0:
+            return []
+        if kind <= 3:
+            return before
+        if kind == 4:
+            return [self.apps[chance.below(len(self.apps))]]
+        star = [self.locals[chance.below(HUBS)]]
+        return star + before if kind == 5 else star
 
 
 def taken(chance: Chance, numbers: list[int]) -> int:
@@ -142,6 +164,43 @@ def plans(chance: Chance, made: Made, count: int) -> str:
     return "".join(lines)
 
 
+def listed(chance: Chance, made: Made) -> tuple[str, list[str]]:
+    """A distributed application, and the nodes of its list."""
+    number = chance.below(len(made.apps))
+    return made.apps[number], [made.nodes[node] for node in made.lists[number]]
+
+
+def failover(chance: Chance, made: Made) -> list[str]:
+    """The first node of a list ends and comes back, or the first two."""
+    gone = listed(chance, made)[1][:1 + chance.below(2)]
+    return [f"crash {node}" for node in gone] + [f"tick {1 + chance.below(4000)}"] + [f"boot {node}" for node in gone]
+
+
+def change(chance: Chance, made: Made) -> list[str]:
+    """What an operator changes, until it is as it was."""
+    kind = chance.below(4)
+    if kind == 0:
+        number, app = chance.below(len(made.nodes)), made.locals[chance.below(len(made.locals))]
+        node, after = made.nodes[number], made.nodes[(number + 1) % len(made.nodes)]
+        return [f"permit {node} {app} false", f"permit {node} {app} true", f"permit {after} {app} true"]
+    app, (first, *others) = listed(chance, made)
+    if kind == 1:
+        return [f"permit {first} {app} false", f"permit {first} {app} true", f"takeover {first} {app} temporary"]
+    return [f"takeover {others[chance.below(len(others))]} {app} temporary", f"takeover {first} {app} temporary"]
+
+
+def changes(chance: Chance, made: Made, count: int) -> str:
+    return "".join(f"{line}\n" for _ in range(count) for line in change(chance, made))
+
+
+def episodes(chance: Chance, made: Made, count: int) -> str:
+    return "".join(f"{line}\n" for _ in range(count) for line in (failover if chance.comes(6) else change)(chance, made))
+
+
+def episode_plans(chance: Chance, made: Made, count: int) -> str:
+    return "".join(f"plan p{number}\n" + episodes(chance, made, 4 + chance.below(5)) for number in range(count))
+
+
 def rounds(made: Made, count: int) -> str:
     return "".join(f"{('crash', 'boot')[number % 2]} {made.nodes[number // 2 % len(made.nodes)]}\n" for number in range(count))
 
@@ -155,10 +214,11 @@ def calls(job: str, chance: Chance, number: int, size: int) -> Iterator[tuple[st
     """Each call's name, its words and its input; no input is what the call before wrote."""
     large = MIXED if number % 2 else PLAIN
     if job == "every":
-        for each in ("explore", "lint", "sweep", "run", "tell", "largest"):
+        for each in ("explore-few", "lint", "sweep", "run", "tell", "largest", "explore", "local"):
             yield from calls(each, chance, number, size)
-    elif job == "explore":
-        for name, shape, down, states in (("explore", WAITING, 6, size), ("explore more", MIDDLE, 3, size // 8)):
+    elif job in ("explore", "explore-few"):
+        small = WAITING if job == "explore" else FEW
+        for name, shape, down, states in (("explore", small, 6, size), ("explore more", MIDDLE, 3, size // 8)):
             made = Made(chance, shape)
             yield name, ["explore", "--states", str(states)], made.text + search(made, down)
     elif job == "lint":
@@ -176,6 +236,14 @@ def calls(job: str, chance: Chance, number: int, size: int) -> Iterator[tuple[st
         yield "story", ["story", "--whole"], text
         yield "verify", ["verify"], None
         yield "json", ["run", "--json"], text
+    elif job == "local":
+        shape = SIXTEEN if number % 2 else FIVE
+        made = Made(chance, shape)
+        yield "sweep", ["sweep", "--workers", "1"], made.text + episode_plans(chance, made, size // 4)
+        made = Made(chance, shape)
+        yield "run", ["run"], made.text + changes(chance, made, size)
+        made = Made(chance, shape)
+        yield "story", ["story", "--whole"], made.text + episodes(chance, made, size)
     else:
         yield from largest(chance, size)
 
@@ -220,4 +288,5 @@ def main() -> None:
             print(f"{name}: status {done.returncode}, {len(written)} bytes, digest {digest_of(written)}", flush=True)
 
 
-main()
+if __name__ == "__main__":
+    main()

@@ -10,7 +10,7 @@ profiles (profiles.py), random scripts beside a model (random_scripts.py), searc
 JSON (json_lines.py), what lint owes for the examples and for mistaken inputs (linted.py), what it tells of random rehearsals, by a
 second way and beside live nodes (lint_measure.py), stories of the examples (stories.py), rows by pytest (pytest_items.py), the scripts
 that run, build and ship the program (shipped.py), what ./rehearse does in front of it (front.py) and tells of refused files
-(places.py), the packages of it (package.py), one of them installed (own_root.py), and the documents (check_docs.py). Calls that the
+(places.py), the packages of it (package.py), one of them installed (own_root.py), the benchmark's inputs (benched.py) and the documents (check_docs.py). Calls that the
 programs `rh_growths` and `rh_part_growths` beside PROGRAM make have their growths of memory counted and refused, and have to leave all
 as it was (growths.py). All of it runs side by side on all processors (groups.py).
 The last line is 'N passed, M failed'. Where paths of rows are given, these alone are run.
@@ -24,6 +24,7 @@ import traceback
 
 # No file is left behind.
 sys.dont_write_bytecode = True
+import benched  # noqa: E402
 import check_docs  # noqa: E402
 import explored  # noqa: E402
 import failing_calls  # noqa: E402
@@ -266,8 +267,8 @@ QUICK = (*made_pages.TESTS, *refused_memory.TESTS, *failing_calls.TESTS, *hostil
          Group(no_threads, needs=("cc",)), *shipped.TESTS, *front.TESTS, *places.TESTS, *stories.TESTS, *linted.TESTS,
          *pytest_items.TESTS)
 # Those that take longest begin first.
-ALL = (*prefixes.TESTS, *growths.TESTS, *lint_measure.TESTS, *random_scripts.TESTS, *explored.TESTS, *json_lines.TESTS, *check_docs.TESTS,
-       *package.TESTS, *own_root.TESTS, *QUICK, *MADE, *map(profiles.under_profile_1, MADE), *profiles.TESTS, cluster_limits,
+ALL = (*prefixes.TESTS, *growths.TESTS, *lint_measure.TESTS, *random_scripts.TESTS, *explored.TESTS, *benched.TESTS, *json_lines.TESTS,
+       *check_docs.TESTS, *package.TESTS, *own_root.TESTS, *QUICK, *MADE, *map(profiles.under_profile_1, MADE), *profiles.TESTS, cluster_limits,
        command_lines, full_inputs, several_sessions)
 
 

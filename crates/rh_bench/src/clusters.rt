@@ -1,9 +1,12 @@
 //! Cluster files.
 
 use crate::chance::Chance;
-use crate::names::{Names, name_at, names_of};
+use crate::names::{Names, any_of, name_at, names_of};
 use rh_base::OutOfMemory;
 use std::alloc::Global;
+
+/// So many local applications, the first ones, are the hubs of stars: many others need one of them.
+const HUBS: usize = 4;
 
 /// What a cluster is like.
 #[derive(Clone, Copy)]
@@ -12,7 +15,7 @@ pub struct Shape {
     pub nodes: usize,
     /// How many distributed applications.
     pub apps: usize,
-    /// How many local ones, which each node boots.
+    /// How many local ones, which each node boots. Where they are more than five, most need others.
     pub locals: usize,
     /// How many nodes stand in each group of an application's list.
     pub groups: &'static [usize],
@@ -20,6 +23,8 @@ pub struct Shape {
     pub second: bool,
     /// Whether each node waits for the next one as it starts.
     pub waits: bool,
+    /// Whether time passes before any application fails over.
+    pub delays: bool,
 }
 
 /// A cluster.
@@ -43,7 +48,7 @@ pub fn cluster_of(alloc: Global, chance: &mut Chance, shape: &Shape) -> Result<M
         text.push_str("{profile, 2}.\n")?;
     }
     push_nodes(&mut text, shape, &names, lists.as_slice(), entries.as_str())?;
-    push_locals(&mut text, &names)?;
+    push_locals(&mut text, chance, &names)?;
     push_apps(&mut text, chance, &names)?;
     text.push_str("===\n")?;
     Ok(Made { names, lists, text })
@@ -97,7 +102,11 @@ fn push_entries(
         }
         text.push_str("{")?;
         text.push_str(name_at(names.apps.as_slice(), number))?;
-        text.push_str(timeout_of(chance.below(4)))?;
+        text.push_str(if shape.delays {
+            timeout_of(1 + chance.below(3))
+        } else {
+            timeout_of(chance.below(4))
+        })?;
         push_groups(text, shape.groups, names, list.as_slice())?;
         text.push_str("}")?;
     }
@@ -211,25 +220,55 @@ fn push_boot(text: &mut String, is_first: &mut bool, name: &str) -> Result<(), O
 }
 
 // The local applications.
-fn push_locals(text: &mut String, names: &Names) -> Result<(), OutOfMemory> {
-    for name in names.locals.iter() {
+fn push_locals(text: &mut String, chance: &mut Chance, names: &Names) -> Result<(), OutOfMemory> {
+    for (number, name) in names.locals.iter().enumerate() {
         text.push_str("{application, ")?;
         text.push_str(name.as_str())?;
-        text.push_str(", [{applications, [kernel, stdlib]}]}.\n")?;
+        text.push_str(", [{applications, [kernel, stdlib")?;
+        push_needs(text, chance, names, number)?;
+        text.push_str("]}]}.\n")?;
     }
     Ok(())
 }
 
-// The distributed ones. Where there are local ones, each third needs one of them.
+// What a local application needs of the others. The hubs and the one behind them need nothing, nor does each eighth of the rest.
+fn push_needs(
+    text: &mut String,
+    chance: &mut Chance,
+    names: &Names,
+    number: usize,
+) -> Result<(), OutOfMemory> {
+    if number <= HUBS {
+        return Ok(());
+    }
+    let before = name_at(names.locals.as_slice(), number - 1);
+    match chance.below(8) {
+        0 => Ok(()),
+        1 | 2 | 3 => push_need(text, before),
+        4 => push_need(text, any_of(names.apps.as_slice(), chance)),
+        5 => {
+            push_need(text, name_at(names.locals.as_slice(), chance.below(HUBS)))?;
+            push_need(text, before)
+        }
+        _ => push_need(text, name_at(names.locals.as_slice(), chance.below(HUBS))),
+    }
+}
+
+fn push_need(text: &mut String, name: &str) -> Result<(), OutOfMemory> {
+    text.push_str(", ")?;
+    text.push_str(name)?;
+    Ok(())
+}
+
+// The distributed ones. Where there are local ones, each third needs a hub.
 fn push_apps(text: &mut String, chance: &mut Chance, names: &Names) -> Result<(), OutOfMemory> {
-    let locals = names.locals.len();
+    let hubs = names.locals.len().min(HUBS);
     for name in names.apps.iter() {
         text.push_str("{application, ")?;
         text.push_str(name.as_str())?;
         text.push_str(", [{applications, [kernel, stdlib")?;
-        if locals > 0 && chance.comes(33) {
-            text.push_str(", ")?;
-            text.push_str(name_at(names.locals.as_slice(), chance.below(locals)))?;
+        if hubs > 0 && chance.comes(33) {
+            push_need(text, name_at(names.locals.as_slice(), chance.below(hubs)))?;
         }
         text.push_str("]}]}.\n")?;
     }

@@ -2,20 +2,34 @@
 
 use crate::chance::Chance;
 use crate::clusters::{Made, Shape, cluster_of};
+use crate::episodes::{push_changes, push_episode_plans, push_episodes};
 use crate::scripts::{
     push_boots, push_looks, push_plans, push_rounds, push_search, push_steps, push_turns,
 };
 use rh_base::OutOfMemory;
 use std::alloc::Global;
 
-/// Three applications at six nodes, each of which waits for the next one.
+/// Five applications at six nodes, each of which waits for the next one. Time passes before any fails over, so that they are in more
+/// than 100,000 states.
 pub static WAITING: Shape = Shape {
+    nodes: 6,
+    apps: 5,
+    locals: 0,
+    groups: &[1, 2, 1],
+    second: false,
+    waits: true,
+    delays: true,
+};
+
+/// Three applications, some of which may fail over at once: how many states they are in goes by the seed, from 5,000 on.
+pub static FEW: Shape = Shape {
     nodes: 6,
     apps: 3,
     locals: 0,
     groups: &[1, 2, 1],
     second: false,
     waits: true,
+    delays: false,
 };
 
 /// Twelve nodes, and sixteen applications.
@@ -26,6 +40,7 @@ pub static MIDDLE: Shape = Shape {
     groups: &[1, 2, 1],
     second: false,
     waits: false,
+    delays: false,
 };
 
 /// As many nodes and distributed applications as the first profile allows.
@@ -36,6 +51,7 @@ pub static PLAIN: Shape = Shape {
     groups: &[2, 2, 2, 2],
     second: false,
     waits: false,
+    delays: false,
 };
 
 /// The same, and four of the applications are local.
@@ -46,6 +62,29 @@ pub static MIXED: Shape = Shape {
     groups: &[2, 2, 2, 2],
     second: false,
     waits: false,
+    delays: false,
+};
+
+/// Five nodes as real ones are: most of their applications are local, and most of these need others.
+pub static FIVE: Shape = Shape {
+    nodes: 5,
+    apps: 5,
+    locals: 40,
+    groups: &[1, 2, 2],
+    second: false,
+    waits: false,
+    delays: false,
+};
+
+/// Sixteen such nodes.
+pub static SIXTEEN: Shape = Shape {
+    nodes: 16,
+    apps: 5,
+    locals: 40,
+    groups: &[1, 2, 2],
+    second: false,
+    waits: false,
+    delays: false,
 };
 
 /// As many as the second profile allows, and each application may run at 32 of 64 nodes.
@@ -56,6 +95,7 @@ pub static LARGEST: Shape = Shape {
     groups: &[4, 4, 4, 4, 4, 4, 4, 4],
     second: true,
     waits: false,
+    delays: false,
 };
 
 // A cluster at whose end all nodes have booted.
@@ -85,6 +125,11 @@ pub fn search_text(
 /// A cluster of this kind; the second of two has local applications.
 pub fn large(number: u64) -> &'static Shape {
     if number % 2 == 0 { &PLAIN } else { &MIXED }
+}
+
+/// A cluster whose applications are mostly local; the second of two has sixteen nodes.
+pub fn real(number: u64) -> &'static Shape {
+    if number % 2 == 0 { &FIVE } else { &SIXTEEN }
 }
 
 /// So many steps.
@@ -145,5 +190,41 @@ pub fn rounds_text(
 ) -> Result<String, OutOfMemory> {
     let (made, mut text) = booted(alloc, chance, shape)?;
     push_rounds(&mut text, &made, count)?;
+    Ok(text)
+}
+
+/// So many plans of episodes.
+pub fn episode_plans_text(
+    alloc: Global,
+    chance: &mut Chance,
+    shape: &Shape,
+    count: usize,
+) -> Result<String, OutOfMemory> {
+    let (made, mut text) = booted(alloc, chance, shape)?;
+    push_episode_plans(&mut text, chance, &made, count)?;
+    Ok(text)
+}
+
+/// So many changes by hand.
+pub fn changes_text(
+    alloc: Global,
+    chance: &mut Chance,
+    shape: &Shape,
+    count: usize,
+) -> Result<String, OutOfMemory> {
+    let (made, mut text) = booted(alloc, chance, shape)?;
+    push_changes(&mut text, chance, &made, count)?;
+    Ok(text)
+}
+
+/// So many episodes.
+pub fn episodes_text(
+    alloc: Global,
+    chance: &mut Chance,
+    shape: &Shape,
+    count: usize,
+) -> Result<String, OutOfMemory> {
+    let (made, mut text) = booted(alloc, chance, shape)?;
+    push_episodes(&mut text, chance, &made, count)?;
     Ok(text)
 }

@@ -17,11 +17,15 @@ pub enum Job {
     Tell,
     /// All of that with the largest clusters, in which each application may run everywhere.
     Largest,
+    /// Where most applications are local: plans are tried, a script of changes by hand is answered, and one of episodes is told.
+    Local,
+    /// As `Explore`, but with fewer applications, so that the states are more or fewer by the seed.
+    ExploreFew,
 }
 
 impl Job {
     /// The words for jobs.
-    pub const NAMES: &'static str = "explore|lint|sweep|run|tell|largest|every";
+    pub const NAMES: &'static str = "explore|lint|sweep|run|tell|largest|local|explore-few|every";
 }
 
 /// What the command line asks.
@@ -46,6 +50,8 @@ fn job_named(name: &str) -> Option<Option<Job>> {
         "run" => Some(Some(Job::Run)),
         "tell" => Some(Some(Job::Tell)),
         "largest" => Some(Some(Job::Largest)),
+        "local" => Some(Some(Job::Local)),
+        "explore-few" => Some(Some(Job::ExploreFew)),
         "every" => Some(None),
         _ => None,
     }

@@ -8,6 +8,7 @@
 mod chance;
 mod clusters;
 mod digest;
+mod episodes;
 mod inputs;
 mod jobs;
 mod names;

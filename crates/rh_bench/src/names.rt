@@ -1,5 +1,6 @@
 //! The names of nodes and applications.
 
+use crate::chance::Chance;
 use rh_base::OutOfMemory;
 use std::alloc::Global;
 
@@ -45,4 +46,13 @@ pub fn name_at(names: &[String], number: usize) -> &str {
         Some(name) => name.as_str(),
         None => "",
     }
+}
+
+/// Any of these names; none where there are none.
+pub fn any_of<'a>(names: &'a [String], chance: &mut Chance) -> &'a str {
+    let count = names.len();
+    if count == 0 {
+        return "";
+    }
+    name_at(names, chance.below(count))
 }

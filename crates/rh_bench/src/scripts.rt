@@ -53,12 +53,26 @@ impl Stage {
     }
 }
 
-// Adds a command with one word.
-fn push_line(text: &mut String, command: &str, word: &str) -> Result<(), OutOfMemory> {
+/// Adds a command with one word.
+pub fn push_line(text: &mut String, command: &str, word: &str) -> Result<(), OutOfMemory> {
     text.push_str(command)?;
     text.push_str(word)?;
     text.push_str("\n")?;
     Ok(())
+}
+
+/// Adds a command for an application at a node, and a word behind it.
+pub fn push_at(
+    text: &mut String,
+    command: &str,
+    node: &str,
+    app: &str,
+    back: &str,
+) -> Result<(), OutOfMemory> {
+    text.push_str(command)?;
+    text.push_str(node)?;
+    text.push_str(" ")?;
+    push_line(text, app, back)
 }
 
 /// Adds the boots of all nodes.
@@ -96,10 +110,9 @@ fn push_pair(
         }
         _ => 0,
     };
-    text.push_str(command)?;
-    text.push_str(name_at(made.names.nodes.as_slice(), node))?;
-    text.push_str(" ")?;
-    push_line(text, name_at(made.names.apps.as_slice(), app), back)
+    let node = name_at(made.names.nodes.as_slice(), node);
+    let app = name_at(made.names.apps.as_slice(), app);
+    push_at(text, command, node, app, back)
 }
 
 // Adds a command for an application at all nodes.

@@ -1,10 +1,11 @@
 //! What the programs answer to the inputs of a job.
 
 use crate::chance::Chance;
+use crate::clusters::Shape;
 use crate::digest::digest_of;
 use crate::inputs::{
-    LARGEST, MIDDLE, WAITING, large, looks_text, plans_text, rounds_text, search_text, steps_text,
-    turns_text,
+    FEW, LARGEST, MIDDLE, WAITING, changes_text, episode_plans_text, episodes_text, large,
+    looks_text, plans_text, real, rounds_text, search_text, steps_text, turns_text,
 };
 use crate::jobs::{Asked, Job};
 use rh_base::OutOfMemory;
@@ -104,10 +105,10 @@ impl<'a, T: Runtime<A = Global>> Teller<'a, T> {
         }
     }
 
-    // Two searches, of a small cluster that waits and of a larger one.
-    fn tell_searches(&self, chance: &mut Chance, size: usize) -> Result<(), Untold> {
+    // Two searches, of this small cluster, that waits, and of a larger one.
+    fn tell_searches(&self, chance: &mut Chance, shape: &Shape, size: usize) -> Result<(), Untold> {
         let alloc = self.rt.alloc();
-        let waiting = search_text(alloc, chance, &WAITING, 6)?;
+        let waiting = search_text(alloc, chance, shape, 6)?;
         let small = Program::Explore(Pick::First, size);
         let _ = self.tell("explore", small, waiting.as_str())?;
         let middle = search_text(alloc, chance, &MIDDLE, 3)?;
@@ -141,6 +142,20 @@ impl<'a, T: Runtime<A = Global>> Teller<'a, T> {
         Ok(())
     }
 
+    // Clusters whose applications are mostly local.
+    fn tell_local(&self, chance: &mut Chance, number: u64, size: usize) -> Result<(), Untold> {
+        let alloc = self.rt.alloc();
+        let shape = real(number);
+        let plans = episode_plans_text(alloc, chance, shape, size / 4)?;
+        let _ = self.tell("sweep", Program::Sweep(Pick::First, 1), plans.as_str())?;
+        let changes = changes_text(alloc, chance, shape, size)?;
+        let _ = self.tell("run", Program::Run(Pick::First), changes.as_str())?;
+        let episodes = episodes_text(alloc, chance, shape, size)?;
+        let story = Program::Story(Pick::First, true);
+        let _ = self.tell("story", story, episodes.as_str())?;
+        Ok(())
+    }
+
     // What a job does with the input of this number.
     fn tell_job(
         &self,
@@ -151,7 +166,8 @@ impl<'a, T: Runtime<A = Global>> Teller<'a, T> {
     ) -> Result<(), Untold> {
         let alloc = self.rt.alloc();
         match job {
-            Job::Explore => self.tell_searches(chance, size),
+            Job::Explore => self.tell_searches(chance, &WAITING, size),
+            Job::ExploreFew => self.tell_searches(chance, &FEW, size),
             Job::Lint => {
                 let text = steps_text(alloc, chance, large(number), size)?;
                 let _ = self.tell("lint", Program::Lint(Pick::First, LINT), text.as_str())?;
@@ -169,6 +185,7 @@ impl<'a, T: Runtime<A = Global>> Teller<'a, T> {
             }
             Job::Tell => self.tell_tale(chance, number, size),
             Job::Largest => self.tell_largest(chance, size),
+            Job::Local => self.tell_local(chance, number, size),
         }
     }
 
@@ -181,13 +198,15 @@ impl<'a, T: Runtime<A = Global>> Teller<'a, T> {
     }
 }
 
-static JOBS: [Job; 6] = [
-    Job::Explore,
+static JOBS: [Job; 8] = [
+    Job::ExploreFew,
     Job::Lint,
     Job::Sweep,
     Job::Run,
     Job::Tell,
     Job::Largest,
+    Job::Explore,
+    Job::Local,
 ];
 
 /// Prints what comes of the inputs that were asked for: each has a seed of its own.
