@@ -1,12 +1,15 @@
 """What the benchmark's inputs (bench_inputs.py) are made for: each seed's searches find as many states as they may, and clusters whose
-applications are mostly local refuse next to nothing, since a refused command costs nothing."""
+applications are mostly local refuse next to nothing, since a refused command costs nothing. And what bench/run says of a seed that is none."""
+import os
 import re
+import subprocess
+import sys
 from collections.abc import Iterator
 from typing import Optional
 
 from bench_inputs import Chance, calls
 from groups import Group, Test
-from support import fault_of, run
+from support import LONGEST_RUN, TOP, fault_of, run
 
 SEEDS = 30
 # What the line of `explore` in bench/workloads.txt has.
@@ -57,4 +60,13 @@ def refusal_fault(done, name: str, text: bytes) -> Optional[str]:
     return None if all(count > len(commands) // 100 for count in moves.values()) else f"of {len(commands)} commands came {moves}"
 
 
-TESTS = (Group(searches, [range(begin, begin + 5) for begin in range(1, SEEDS + 1, 5)]), Group(refusals, [range(1, 4)]))
+def no_seeds(_program: str) -> Iterator[Test]:
+    """What is no seed is told by a line."""
+    command = [sys.executable, os.path.join(TOP, "bench", "run"), TOP, TOP]
+    for word in (str(2 ** 32), "9" * 5_000, "seven", "-1", ""):
+        done = subprocess.run([*command, word], capture_output=True, timeout=LONGEST_RUN, check=False)
+        is_line = re.fullmatch(rb"bench/run: a seed is a number from 0 to 4294967295, and [^\n]* isn't one\n", done.stderr)
+        yield f"bench/run, seed {word[:20]!r}", fault_of(done, 1, b"") or (None if is_line else f"standard error: {done.stderr!r}")
+
+
+TESTS = (Group(searches, [range(begin, begin + 5) for begin in range(1, SEEDS + 1, 5)]), Group(refusals, [range(1, 4)]), Group(no_seeds))
