@@ -69,8 +69,8 @@ impl Course {
         let place = place_in(state, self.app);
         if !same_place(self.place, place) {
             self.changes.push(Change { time, place })?;
-            self.place = place;
         }
+        self.place = place;
         self.time = time;
         Ok(())
     }
