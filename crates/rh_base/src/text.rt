@@ -66,15 +66,7 @@ impl Str {
     pub fn copy(&self, alloc: Global) -> Result<Str, OutOfMemory>
         ensures { IfOk result (λ s. s ≡ self.now) }
     {
-        match &self.letters {
-            // The copy takes all 16 places, which needs no test of how many bytes are used.
-            Letters::Short(short) => {
-                let letters = Letters::Short(*short);
-                Ok(Str { letters })
-            }
-            // The copy of a text of at most 16 bytes lies in the value, even where the text lies in a `String`.
-            Letters::Long(long) => Ok(Str::from_str(alloc, long.as_str())?),
-        }
+        Ok(Str::from_str(alloc, self.as_str())?)
     }
 
     /// Are the texts equal?
