@@ -1,6 +1,6 @@
 //! Terms.
 
-ghost use Rattle.std.specs.Prelude.{◌≡◌, ◌↔◌, IfOk, IsTrue};
+ghost use Rattle.std.specs.Prelude.{◌≡◌, ◌↔◌, IfOk, IfErr, IsTrue};
 ghost use Rattle.rh_base.specs.Tree.{tree_of, trees_of, items_of};
 
 use crate::held::Held;
@@ -86,18 +86,23 @@ impl Terms {
         }
     }
 
-    /// The same terms, in memory that others can share with them: one block more, unless they lie so already. Where memory is refused,
-    /// the terms are gone.
-    pub fn into_shared(self, alloc: Global) -> Result<Terms, OutOfMemory>
-        ensures { IfOk result (λ ts. items_of ts ≡ items_of self) }
+    /// The same terms, in memory that others can share with them: one block more, unless they lie so already. Where memory is refused
+    /// they come back as they were: `Err` has the same terms.
+    pub fn into_shared(self, alloc: Global) -> Result<Terms, Terms>
+        ensures shared { IfOk result (λ ts. items_of ts ≡ items_of self) }
+        ensures refused { IfErr result (λ ts. items_of ts ≡ items_of self) }
     {
-        let items = match self.items {
-            Held::Own(items) => Arc::new(alloc, items)?,
-            Held::Shared(items) => items,
-        };
-        Ok(Terms {
-            items: Held::Shared(items),
-        })
+        match self.items {
+            Held::Own(items) => match Arc::new(alloc, items) {
+                Ok(shared) => Ok(Terms {
+                    items: Held::Shared(shared),
+                }),
+                Err(refused) => Err(Terms::of(refused.value)),
+            },
+            Held::Shared(items) => Ok(Terms {
+                items: Held::Shared(items),
+            }),
+        }
     }
 
     /// Equal terms: where they lie in memory that can be shared the same ones, which takes none, and else a copy. The error says that

@@ -54,7 +54,8 @@ fn making_shared(alloc: Global, terms: Terms) -> Answer {
     end(alloc);
     match shared {
         Ok(shared) => Answer::done(shared.as_slice().len() == 2),
-        Err(_) => Answer::Refused,
+        Err(terms) if terms.as_slice().len() == 2 => Answer::Refused,
+        Err(_) => Answer::Changed("terms"),
     }
 }
 

@@ -7,7 +7,7 @@ use Rattle.rh_terms.specs.declared.fault.Fault.{Fault}
 use Rattle.rh_terms.specs.declared.fault.Fault.TheVariants.{TooDeep}
 use Rattle.rh_terms.specs.declared.fault.ReadError.{ReadError}
 use Rattle.rh_terms.specs.declared.fault.ReadError.TheVariants as errors
-use Rattle.rh_terms.specs.Bytes.{past_blank, begins}
+use Rattle.rh_terms.specs.Bytes.{past, past_blank, begins, is_white}
 use Rattle.rh_terms.specs.Faults.{◌>>=◌, Read, under, Fails, stuck}
 use Rattle.rh_base.specs.Tree.{Tree, Trees, list, tuple, none, more}
 use Rattle.rh_terms.specs.Grammar.{word_at, term_by, next_at, some_terms, terms_up_to, inside, term_at, dot_at, dotted, terms_from}
@@ -63,6 +63,33 @@ inside_some zero close bs some test = absurd (omega arith)
 inside_some (suc room) close bs some test =
     let inner : suc room - 1 ≡ room = omega arith in
     rw (test, inner) refl
+
+-- behind white space and comments stands neither
+past_true : (v : Bool) (bs : List ℕ) → past_blank (past false bs) ≡ past false bs → past_blank (past true bs) ≡ past true bs
+    → past_blank (cond v (past false bs) (past true bs)) ≡ cond v (past false bs) (past true bs)
+past_true true bs here there = here
+past_true false bs here there = there
+
+past_false : (v w : Bool) (b : ℕ) (bs : List ℕ) → (b == 37) ≡ v → is_white b ≡ w
+    → past_blank (past false bs) ≡ past false bs → past_blank (past true bs) ≡ past true bs
+    → past_blank (cond v (past true bs) (cond w (past false bs) (b ∷ bs))) ≡ cond v (past true bs) (cond w (past false bs) (b ∷ bs))
+unfolding past
+past_false true w b bs e k here there = there
+past_false false true b bs e k here there = here
+past_false false false b bs e k here there = rw (e, k) refl
+
+pub past_twice : (in_comment : Bool) (bs : List ℕ) → past_blank (past in_comment bs) ≡ past in_comment bs
+unfolding past
+past_twice true [] = refl
+past_twice false [] = refl
+past_twice true (b ∷ bs) = past_true (b == 10) bs (past_twice false bs) (past_twice true bs)
+past_twice false (b ∷ bs) = past_false (b == 37) (is_white b) b bs refl refl (past_twice false bs) (past_twice true bs)
+
+-- so a list or a tuple may be read from there on
+pub inside_past : (room close : ℕ) (bs : List ℕ) → inside room close (past_blank bs) ≡ inside room close bs
+unfolding inside terms_up_to
+inside_past zero close bs = refl
+inside_past (suc room) close bs = rw (past_twice false bs) refl
 
 -- ---- the next element
 

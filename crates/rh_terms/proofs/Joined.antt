@@ -4,16 +4,8 @@ use Rattle.std.proofs.lemmas.List.{take-append-le, drop-append-le, length-append
 use Rattle.rh_terms.specs.declared.fault.Fault.{Fault}
 use Rattle.rh_base.specs.declared.term.Term.{Term}
 use Rattle.rh_terms.specs.Faults.{◌>>=◌, Read, under}
+use Rattle.rh_terms.specs.Kept.{join, with_trees}
 use Rattle.rh_base.specs.Tree.{Tree, Trees, none, more, trees_of, tree_of}
-
--- the first trees, then the others
-abbrev pub join : Trees → Trees → Trees
-join none ys = ys
-join (more x xs) ys = more x (join xs ys)
-
--- what was read, behind these trees
-abbrev pub with_trees : Trees → Read Trees → Read Trees
-with_trees front read = under (join front) read
 
 abbrev pub after_trees : Trees → Result Trees Fault → Result Trees Fault
 after_trees front read = read >>= λ ts. Ok (join front ts)

@@ -14,13 +14,13 @@ use Rattle.rh_base.specs.Tree.{Tree, Trees, atom, int, text, list, tuple, none, 
 use Rattle.rh_terms.specs.Bytes.{past_blank, begins}
 use Rattle.rh_terms.specs.Faults.{◌>>=◌, Read, ReadsAs, under, Fails}
 use Rattle.rh_terms.specs.Grammar.{next_at, term_at, dot_at, dotted, terms_from, word_at, inside}
-use Rattle.rh_terms.specs.Kept.{kept_tree, kept_trees, kept_next, next_behind, each_if, kept_from, kept_of, hollow, behind, elements_at}
+use Rattle.rh_terms.specs.Kept.{kept_tree, kept_trees, kept_next, next_behind, each_if, kept_from, kept_of, hollow, behind, elements_at, join, with_trees}
 use Rattle.rh_terms.specs.Spelling.{Spells}
 use Rattle.rh_terms.proofs.Ahead.{fails_with, fails_without, list_at, tuple_at, word_term, goes_on, closes, fails_next, fails_term, next_shorter}
 use Rattle.rh_terms.proofs.Ahead.{text_goes_on, text_fails_term, text_fails_dot, behind_is}
 use Rattle.rh_terms.proofs.Cut.{term_text}
 use Rattle.rh_terms.proofs.Enough.{term_length, dot_length, blank_length}
-use Rattle.rh_terms.proofs.Joined.{join, with_trees, after_trees, join-none, trees-push, with-trees-more, after-trees-more}
+use Rattle.rh_terms.proofs.Joined.{after_trees, join-none, trees-push, with-trees-more, after-trees-more}
 use Rattle.rh_terms.proofs.Spelled.{under_is, term_spelled, ok_is}
 
 -- what tells what is kept behind a key
@@ -228,15 +228,16 @@ pub kept_list_at : {K : Type 0} (rule : Rule K) (k : K) (room : ℕ) (bs : List 
 kept_list_at rule k room bs h = ap (λ (r : Read Tree). under (kept_tree rule k) r) (list_at room bs h) ∙ under_list rule k (inside room 93 (drop 1 bs))
 
 -- what was answered of a list's elements tells the list
-pub kept_list : {K X : Type 0} (rule : Rule K) (k : K) (room : ℕ) (bs rest : List ℕ) → begins (λ b. b == 91) bs ≡ true → rest ≡ drop 1 bs
+pub kept_list : {K X : Type 0} (rule : Rule K) (k : K) (room : ℕ) (bs rest : List ℕ) → begins (λ b. b == 91) bs ≡ true
+    → inside room 93 rest ≡ inside room 93 (drop 1 bs)
     → (view : X → Trees × List ℕ) (r : Result X ReadError) → ReadsAs view r (under (kept_trees rule (Each k)) (inside room 93 rest))
     → ReadsAs (λ x. (list (view x).0, (view x).1)) r (under (kept_tree rule k) (term_at room bs))
 kept_list rule k room bs rest h is view (Ok x) read =
     kept_list_at rule k room bs h
-    ∙ ap (λ (r : Read Trees). under list r) (ap (λ (l : List ℕ). under (kept_trees rule (Each k)) (inside room 93 l)) (sym is) ∙ read)
+    ∙ ap (λ (r : Read Trees). under list r) (ap (λ (r : Read Trees). under (kept_trees rule (Each k)) r) (sym is) ∙ read)
 kept_list rule k room bs rest h is view (Err e) read =
     let inner : Read Trees = under (kept_trees rule (Each k)) (inside room 93 rest) in
-    let P : List ℕ → Type 0 = λ l. Fails e (under list (under (kept_trees rule (Each k)) (inside room 93 l))) in
+    let P : Read Trees → Type 0 = λ r. Fails e (under list (under (kept_trees rule (Each k)) r)) in
     let Q : Read Tree → Type 0 = λ r. Fails e r in
     subst Q (sym (kept_list_at rule k room bs h)) (subst P is (fails_with e inner (λ (x : Trees × List ℕ). (list x.0, x.1)) read))
 

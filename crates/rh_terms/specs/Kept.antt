@@ -4,7 +4,7 @@ use Rattle.rh_terms.specs.declared.fault.Fault.{Fault}
 use Rattle.rh_terms.specs.declared.fault.TermFault.{TermFault}
 use Rattle.rh_terms.specs.declared.keep.Next.{Next}
 use Rattle.rh_terms.specs.declared.keep.Next.TheVariants.{Each, First, Skipped}
-use Rattle.rh_terms.specs.Faults.{◌>>=◌, Read}
+use Rattle.rh_terms.specs.Faults.{◌>>=◌, Read, under}
 use Rattle.rh_base.specs.Tree.{Tree, Trees, atom, list, tuple, none, more}
 use Rattle.rh_terms.specs.Grammar.{some_terms, term_at, terms_from}
 
@@ -58,3 +58,12 @@ behind read = read >>= λ x. Ok x.1
 -- the elements of a list or a tuple from here on, up to the closing byte
 abbrev pub elements_at : ℕ → ℕ → List ℕ → Read Trees
 elements_at room close bs = some_terms (term_at room) close (length bs) bs
+
+-- the first trees, then the others
+abbrev pub join : Trees → Trees → Trees
+join none ys = ys
+join (more x xs) ys = more x (join xs ys)
+
+-- what was read, behind these trees
+abbrev pub with_trees : Trees → Read Trees → Read Trees
+with_trees front read = under (join front) read

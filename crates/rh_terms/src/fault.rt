@@ -50,15 +50,6 @@ pub enum ReadError {
     Fault(Fault),
 }
 
-impl From<OutOfMemory> for ReadError {
-    ghost from_gives = { λ _ e. e ≡ Memory };
-
-    // Memory was refused to a list that is shared.
-    fn from(_error: OutOfMemory) -> ReadError {
-        ReadError::Memory
-    }
-}
-
 impl From<AllocError> for ReadError {
     ghost from_gives = { λ _ e. e ≡ Memory };
 

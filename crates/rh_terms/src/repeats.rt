@@ -8,7 +8,7 @@ ghost use Rattle.rh_terms.specs.Grammar.{term_at};
 ghost use Rattle.rh_terms.specs.Kept.{behind};
 ghost use Rattle.rh_terms.specs.Repeated.{IsRead};
 
-use rh_base::{OutOfMemory, Terms};
+use rh_base::Terms;
 use std::alloc::Global;
 
 /// The longest list so far that was read and is kept whole, to be shared where it is written again, and the longest
@@ -40,26 +40,25 @@ impl<'a> Again<'a> {
         }
     }
 
-    /// The same list, and what is behind it, where the bytes begin with its text and there is as much room as there was.
-    pub fn share_at(
-        &self,
-        alloc: Global,
-        room: usize,
-        bytes: &'a [u8],
-    ) -> Result<Option<(Terms, &'a [u8])>, OutOfMemory>
+    /// The same list, and what is behind it, where the bytes begin with its text and there is as much room as there was. `None` too
+    /// where it can't be shared once more: the list is read again then.
+    pub fn share_at(&self, alloc: Global, room: usize, bytes: &'a [u8]) -> Option<(Terms, &'a [u8])>
         requires { IsRead self.now }
-        ensures { IfOk result (λ found. IfSome found (λ x. term_at room bytes.now ≡ Ok (tree.list (trees_of (items_of x.0)), x.1.now))) }
+        ensures { IfSome result (λ x. term_at room bytes.now ≡ Ok (tree.list (trees_of (items_of x.0)), x.1.now)) }
     {
         match &self.list {
             Some(list) if self.room == room && bytes.starts_with(self.text) => {
-                Ok(Some((list.share(alloc)?, &bytes[self.text.len()..])))
+                match list.share(alloc) {
+                    Ok(same) => Some((same, &bytes[self.text.len()..])),
+                    Err(_) => None,
+                }
             }
-            _ => Ok(None),
+            _ => None,
         }
     }
 
-    /// A list that was read here, and this is behind it. It is remembered, and shares its memory from now on, if it is longer than
-    /// the one that was.
+    /// A list that was read here, and this is behind it. If it is longer than the one that is remembered, it is remembered in its
+    /// place, and shares its memory from now on. Where memory for that is refused it stays as it is, and isn't remembered.
     pub fn remember(
         &mut self,
         alloc: Global,
@@ -67,22 +66,28 @@ impl<'a> Again<'a> {
         bytes: &'a [u8],
         list: Terms,
         rest: &[u8],
-    ) -> Result<Terms, OutOfMemory>
+    ) -> Terms
         requires known { IsRead self.old }
         requires opens { begins (λ b. b == 91) bytes.now ≡ true }
         requires read { term_at room bytes.now ≡ Ok (tree.list (trees_of (items_of list)), rest.now) }
-        ensures known { IfOk result (λ _. IsRead self.new) }
-        ensures list { IfOk result (λ terms. trees_of (items_of terms) ≡ trees_of (items_of list)) }
+        ensures known { IsRead self.new }
+        ensures list { trees_of (items_of result) ≡ trees_of (items_of list) }
     {
         let text = &bytes[..bytes.len() - rest.len()];
         if text.len() <= self.text.len() {
-            return Ok(list);
+            return list;
         }
-        let list = list.into_shared(alloc)?;
-        self.list = Some(list.share(alloc)?);
-        self.text = text;
-        self.room = room;
-        Ok(list)
+        match list.into_shared(alloc) {
+            Ok(shared) => {
+                if let Ok(same) = shared.share(alloc) {
+                    self.list = Some(same);
+                    self.text = text;
+                    self.room = room;
+                }
+                shared
+            }
+            Err(list) => list,
+        }
     }
 
     /// What is behind the list that was skipped, where the bytes begin with its text and there is as much room as there was.

@@ -10,11 +10,11 @@ use Rattle.rh_terms.proofs.repeats.Again.remember.Goals as goal
 pub slice_bounds-text-count : goal.slice_bounds-text-count
 slice_bounds-text-count c = omega (arith, term_length c.args.room c.args.bytes.now _ c.args.rest.now c.requires.read)
 
-pub returns-clause-known : goal.returns-clause-known
-returns-clause-known c =
-    let kept : (ts : Terms) → c.in_ok-share.field-0 ≡ ts → (rest : List ℕ) → term_at c.args.room (take (length c.args.bytes.now - length c.args.rest.now) c.args.bytes.now ++ rest) ≡ Ok (tree.list (trees_of (items_of ts)), rest) = λ ts is rest.
+pub returns-in-Ok-share-clause-known : goal.returns-in-Ok-share-clause-known
+returns-in-Ok-share-clause-known c =
+    let kept : (ts : Terms) → c.in-Ok-share.same ≡ ts → (rest : List ℕ) → term_at c.args.room (take (length c.args.bytes.now - length c.args.rest.now) c.args.bytes.now ++ rest) ≡ Ok (tree.list (trees_of (items_of ts)), rest) = λ ts is rest.
     let read = list_again c.args.room c.args.bytes.now (tree.list (trees_of (items_of c.args.list))) c.args.rest.now c.requires.read c.requires.opens rest in
     let same : trees_of (items_of c.args.list) ≡ trees_of (items_of ts) =
-    sym (c.in_ok-share.ensures ∙ ap trees_of c.in_ok-list.ensures) ∙ ap (λ (us : Terms). trees_of (items_of us)) is in
+    sym (c.in-Ok-share.ensures ∙ ap trees_of c.in-Ok.ensures.shared) ∙ ap (λ (us : Terms). trees_of (items_of us)) is in
     read ∙ ap (λ (us : Trees). Ok (tree.list us, rest)) same in
     record { kept = λ ts is. kept ts (cc is); skipped = c.requires.known.skipped }

@@ -5,8 +5,8 @@ use Rattle.rh_base.specs.Tree as tree
 use Rattle.rh_terms.specs.Grammar.{term_at}
 use Rattle.rh_terms.proofs.repeats.Again.share_at.Goals as goal
 
-pub returns-in_ok-share-in-Some : goal.returns-in_ok-share-in-Some
-returns-in_ok-share-in-Some c =
+pub returns-in-Ok : goal.returns-in-Ok
+returns-in-Ok c =
     let text : List ℕ = c.args.self.now.text.now in
     let bytes : List ℕ = c.args.bytes.now in
     let behind : List ℕ = drop (length text) bytes in
@@ -14,5 +14,5 @@ returns-in_ok-share-in-Some c =
     let parts : bytes ≡ text ++ behind = sym (take-append-drop (length text) bytes) ∙ ap (λ (l : List ℕ). l ++ behind) front in
     let read : term_at c.args.room (text ++ behind) ≡ Ok (tree.list (trees_of (items_of c.in-Some.list)), behind) = search rules in
     ap (λ (l : List ℕ). term_at c.args.room l) parts ∙ read
-    ∙ ap (λ (ts : Trees). Ok (tree.list ts, behind)) (sym c.in_ok-share-in-Some.ensures)
-    ∙ ap (λ (l : List ℕ). Ok (tree.list (trees_of (items_of c.in_ok-share-in-Some.field-0)), l)) (sym (take_rest bytes (length text)))
+    ∙ ap (λ (ts : Trees). Ok (tree.list ts, behind)) (sym c.in-Ok.ensures)
+    ∙ ap (λ (l : List ℕ). Ok (tree.list (trees_of (items_of c.in-Ok.same)), l)) (sym (take_rest bytes (length text)))
