@@ -21,9 +21,8 @@ pub fn repeats_atom(name: &str, earlier: &[Term]) -> bool
     ensures { result ≡ is_among (atoms (map tree_of earlier.now)) name.now }
 {
     for term in earlier {
-        match shapes::atom(term) {
-            Some(other) if name == other => return true,
-            _ => {}
+        if shapes::atom(term) == Some(name) {
+            return true;
         }
     }
     false
@@ -45,9 +44,8 @@ fn repeats_app(name: &str, earlier: &[Term]) -> bool
     ensures { result ≡ is_among (filter_map app_in (map tree_of earlier.now)) name.now }
 {
     for term in earlier {
-        match app_in(term) {
-            Some(other) if name == other => return true,
-            _ => {}
+        if app_in(term) == Some(name) {
+            return true;
         }
     }
     false
