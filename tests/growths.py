@@ -64,8 +64,8 @@ NO_GROWTH = {
 # work.
 GROWTH = {
     "rh_part_growths": (
-        "read_terms", "read_cluster", "Str::copy", "Term::copy", "Terms::copy", "Terms::into_shared", "Terms::share",
-        "Notices::of", "Standings::of", "Cluster::copy", "Lists::new", "Lists::copy", "Wheel::new", "Wheel::copy",
+        "read_terms", "read_terms of a long list", "read_cluster", "Str::copy", "Term::copy", "Terms::copy", "Terms::into_shared",
+        "Terms::share", "Notices::of", "Standings::of", "Cluster::copy", "Lists::new", "Lists::copy", "Wheel::new", "Wheel::copy",
         "first_state", "State::copy", "State::timers"),
     "rh_growths": (
         "perform", "firings_of", "Sim::firings", "report", "Bytes::of", "Sim::open", "Sim::copy",
@@ -95,9 +95,11 @@ MADE = {
 }
 # Those that are made five thousand times, of a cluster of the second profile with 128 applications: none wants memory.
 MANY = ("Sim::step", "Room::serve", "try_plan")
-# Blocks that a call can do without: one for each thread that isn't made then, whose work is done by another, and one for a report
-# or for a list of notices, which keep spare memory then.
-SPARED = {"sweep": 1, "Room::serve of a step": 1, "Room::serve of a look": 1}
+# Blocks that a call can do without: one for each thread that isn't made then, whose work is done by another; one for a report or
+# for a list of notices, which keep spare memory then; one for each list of a text that is longer than all before it, which can't be
+# shared then where it is written again; and one where a list of more than a thousand elements closes, which keeps spare memory.
+SPARED = {"sweep": 1, "read_terms": 1, "read_terms of a long list": 2, "read_cluster": 2, "Room::serve of a step": 1,
+          "Room::serve of a look": 1}
 # The most growths that a call may ask for. A copy of a state shares the cluster.
 MOST = {"State::copy": 11, "Sim::copy": 14, "Room::fork": 14}
 # The most growths for a plan more in a sweep: a worker copies the base's state once, and not for each plan.

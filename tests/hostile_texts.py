@@ -37,6 +37,11 @@ def argument(piece, back, script):
     return filled(b"{node, a@x, []}. {application, p, [{mod, {m, [", piece, back + b"]}}]}.\n===\n" + script)
 
 
+def tuples(piece, back):
+    """The same of a tuple, so that each list in it is an outermost one."""
+    return filled(b"{node, a@x, []}. {application, p, [{mod, {m, {", piece, back + b"}}}]}.\n")
+
+
 def dense(count):
     """A list of so many atoms."""
     return b"[" + b",".join([b"a"] * count) + b"],"
@@ -66,6 +71,11 @@ def checks():
     yield "1.5 million platform names", lambda: b"{node, a@x, [{rehearse, [{platform, %s}]}]}." % listing(
         [b"p%d" % number for number in range(1_500_000)])
     yield "a start argument of lists of 33 atoms", lambda: argument(dense(33), b"a", b"")
+    yield "a start argument of 8 million atoms", lambda: argument(b"a,", b"a", b"")
+    yield "a start argument of 60 lists inside each other, again and again", lambda: argument(nest, b"a", b"")
+    yield "a start argument of 5 million empty lists", lambda: tuples(b"[],", b"a")
+    yield "a start argument of 4 million lists of one atom", lambda: tuples(b"[a],", b"a")
+    yield "a start argument of lists of two atoms, each unlike the one before", lambda: tuples(b"[a,b],[a,c],", b"a")
     yield "64 start arguments of lists of 33 atoms", start_arguments
     yield "128 start arguments of lists of 33 atoms", lambda: SECOND + start_arguments(MORE_APPS)
     yield "64 nodes and 128 applications", lambda: everywhere_twice()

@@ -31,7 +31,7 @@ fn call(alloc: Global, name: &str) -> Option<Answer> {
         clusters::answer(alloc, name)
     } else if name.starts_with("Str::") || name.starts_with("Group") {
         texts::answer(alloc, name)
-    } else if name.starts_with("Term") || name == "read_terms" {
+    } else if name.starts_with("Term") || name.starts_with("read_terms") {
         terms::answer(alloc, name)
     } else if name.starts_with("Notices::") || name.starts_with("Standings::") {
         told::answer(alloc, name)

@@ -10,7 +10,9 @@ static TERMS: &str = "{node, 'n1@lab', [\"one\", [-7]]}. second.";
 /// What comes of the call of this name, if it is here.
 pub fn answer(alloc: Global, name: &str) -> Option<Answer> {
     if name == "read_terms" {
-        Some(reading(alloc))
+        Some(reading(alloc, TERMS, 2))
+    } else if name == "read_terms of a long list" {
+        Some(reading(alloc, long_list(alloc)?.as_str(), 1))
     } else if name == "Terms::of" {
         Some(making(alloc, Vec::new(alloc)))
     } else if name == "Terms::into_shared" {
@@ -30,12 +32,22 @@ fn shared_terms(alloc: Global) -> Option<Terms> {
     terms.into_shared(alloc).ok()
 }
 
-fn reading(alloc: Global) -> Answer {
+// A list of more elements than lie on the reader's stack.
+fn long_list(alloc: Global) -> Option<String> {
+    let mut text = String::from_str(alloc, "[a").ok()?;
+    for _ in 0..1_100 {
+        text.push_str(",a").ok()?;
+    }
+    text.push_str("].").ok()?;
+    Some(text)
+}
+
+fn reading(alloc: Global, text: &str, count: usize) -> Answer {
     begin(alloc);
-    let read = read_terms(alloc, TERMS.as_bytes());
+    let read = read_terms(alloc, text.as_bytes());
     end(alloc);
     match read {
-        Ok(terms) => Answer::done(terms.as_slice().len() == 2),
+        Ok(terms) => Answer::done(terms.as_slice().len() == count),
         Err(TermFault::OutOfMemory) => Answer::Refused,
         Err(_) => Answer::Changed("fault"),
     }
