@@ -1,12 +1,11 @@
 -- A mark for each application, as a bit of a number.
-use Rattle.std.proofs.Common.{◌≡◌, ◌≢◌, ℕ, ◌+◌, ◌-◌, ◌*◌, ◌/◌, ◌%◌, ◌^◌, ◌==◌, ◌<◌, ◌≤◌, ◌||◌, ◌&&◌, Bool, true, false, IsTrue, nat_eq, min, refl, sym, ap, ◌∙◌, inl, inr, arith, bit_and}
-use Rattle.std.specs.Int.{bit_at, trailing_zeros, from_bool}
+use Rattle.std.proofs.Common.{◌≡◌, ℕ, ◌+◌, ◌-◌, ◌*◌, ◌/◌, ◌%◌, ◌^◌, ◌==◌, ◌<◌, ◌||◌, ◌&&◌, Bool, true, false, IsTrue, nat_eq, min, refl, sym, ap, ◌∙◌, inl, inr, arith, bit_and}
+use Rattle.std.specs.Int.{bit_at, from_bool}
 use Rattle.std.specs.Int.RustNames.{bit_or}
 use Rattle.std.specs.Int.{w128}
 use Rattle.std.proofs.lemmas.Bool.{cases_lt}
-use Rattle.std.proofs.Math.Nat.{div-le_self}
-use Rattle.std.proofs.lemmas.Nat.{div-add-mod', mod_below, pow_pos, or_lt}
-use Rattle.std.proofs.lemmas.Nat.Bits.{shr_and_one, bit_at-lt, bit_at-zero, bit_at_above, bit_at_set_same, bit_at_set_other, bit_at_cat_low, bit_at_cat_high, bit_at-trailing_zeros, same_from_bits}
+use Rattle.std.proofs.lemmas.Nat.{div-add-mod', or_lt}
+use Rattle.std.proofs.lemmas.Nat.Bits.{shr_and_one, bit_at-lt, bit_at-zero, bit_at_set_same, bit_at_set_other, bit_at_cat_low, bit_at_cat_high, same_from_bits}
 use Rattle.std.proofs.lemmas.Nat.Bits.{bit_at_and}
 use Rattle.std.proofs.lemmas.Bool.Decides.{eqb_tells, nat_tests}
 use Rattle.rh_model.specs.declared.node.App.{App}
@@ -107,62 +106,6 @@ marks_zero marks none = same_from_bits marks 0 (λ i. not_one (bit_at marks i) (
 
 pub zero_marks : (marks : ℕ) → marks ≡ 0 → (a : App) → is_marked (record { marks = marks }) a ≡ false
 zero_marks marks zero a = ap (λ m. is_marked (record { marks = m }) a) zero ∙ marked_none a
-
--- the marks from a number on
-shifted : (n k i : ℕ) → bit_at (n / 2 ^ k) i ≡ bit_at n (k + i)
-shifted n k i = sym (
-    ap (λ m. bit_at m (k + i)) (sym (div-add-mod' n (2 ^ k)))
-    ∙ bit_at_cat_high (n / 2 ^ k) k (n % 2 ^ k) (k + i) (mod_below n (2 ^ k) (pow_pos k)) (omega arith)
-    ∙ ap (bit_at (n / 2 ^ k)) (back k i))
-  where
-    back : (k i : ℕ) → (k + i) - k ≡ i
-    back k i = omega arith
-
--- a number from k on is so far behind it
-marked_from : (marks k : ℕ) (b : App) → k ≤ b.0 → is_marked (record { marks = marks }) b ≡ (bit_at (marks / 2 ^ k) (b.0 - k) == 1)
-unfolding is_marked
-marked_from marks k b le = ap (λ v. v == 1) (ap (bit_at marks) (there k b.0 le) ∙ sym (shifted marks k (b.0 - k)))
-  where
-    there : (k i : ℕ) → k ≤ i → i ≡ k + (i - k)
-    there k i le = omega arith
-
--- no application has a mark behind the word
-pub none_above : (marks from : ℕ) (b : App) → marks < 2 ^ 128 → 128 ≤ from → from ≤ b.0 → is_marked (record { marks = marks }) b ≡ false
-unfolding is_marked
-none_above marks from b small above le = ap (λ v. v == 1) (bit_at_above marks 128 b.0 small (omega (arith, above, le)))
-
-pub none_from : (marks k : ℕ) → marks / 2 ^ k ≡ 0 → (b : App) → k ≤ b.0 → is_marked (record { marks = marks }) b ≡ false
-none_from marks k zero b le = marked_from marks k b le ∙ ap (λ m. bit_at m (b.0 - k) == 1) zero ∙ ap (λ v. v == 1) (bit_at-zero (b.0 - k))
-
-module _ (marks k : ℕ) (small : marks < 2 ^ 128) (some : marks / 2 ^ k ≢ 0) where
-  abbrev rest : ℕ
-  rest = marks / 2 ^ k
-
-  lowest : (trailing_zeros w128 rest < 128) × (bit_at rest (trailing_zeros w128 rest) ≡ 1) × ((i : ℕ) → i < trailing_zeros w128 rest → bit_at rest i ≡ 0)
-  lowest = bit_at-trailing_zeros w128 rest (omega (arith, some)) (less marks (2 ^ k) small)
-    where
-      less : (m d : ℕ) → m < 2 ^ 128 → m / d < 2 ^ 128
-      less m d h = let l = div-le_self m d in omega arith
-
-  pub first_below : trailing_zeros w128 rest < 128
-  first_below = lowest.0
-
-  pub first_marked : is_marked (record { marks = marks }) (record { 0 = k + trailing_zeros w128 rest }) ≡ true
-  unfolding is_marked
-  first_marked = ap (λ v. v == 1) (sym (shifted marks k (trailing_zeros w128 rest)) ∙ lowest.1)
-
-  pub first_few : k + trailing_zeros w128 rest < 128
-  first_few = elim (cases_lt (k + trailing_zeros w128 rest) 128) [
-    | inl lt ↦ lt
-    | inr ge ↦ clash (bit_at marks (k + trailing_zeros w128 rest)) (bit_at_above marks 128 (k + trailing_zeros w128 rest) small ge)
-        (sym (shifted marks k (trailing_zeros w128 rest)) ∙ lowest.1)
-  ]
-    where
-      clash : {P : Type 0} (b : ℕ) → b ≡ 0 → b ≡ 1 → P
-      clash b zero one = absurd (omega (arith, zero, one))
-
-  pub none_before : (b : App) → k ≤ b.0 → b.0 < k + trailing_zeros w128 rest → is_marked (record { marks = marks }) b ≡ false
-  none_before b le lt = marked_from marks k b le ∙ ap (λ v. v == 1) (lowest.2 (b.0 - k) (omega (arith, le, lt)))
 
 -- the test for 0
 pub is_zero : (b : ℕ) → IsTrue (nat_eq b 0) → b ≡ 0

@@ -1,5 +1,5 @@
 -- A mark for each application, and which ones a cluster keeps marked (ours).
-use Rattle.std.specs.Prelude.{◌≡◌, ◌<◌, ◌==◌, ◌||◌, ℕ, List, [], Bool, length, slice_get, filter_map, unwrap_or, is_none}
+use Rattle.std.specs.Prelude.{◌≡◌, ◌<◌, ◌≤◌, ◌==◌, ◌||◌, ℕ, List, [], Bool, false, length, slice_get, filter_map, unwrap_or, is_none}
 use Rattle.std.specs.Int.{bit_at}
 use Rattle.std.specs.List.{list_any}
 use Rattle.std.specs.Option.{option_map, option_and_then}
@@ -37,13 +37,13 @@ is_marked_in t b a = is_marked (unwrap_or (slice_get t.rows b.0) (marks_of 0)) a
 abbrev pub is_touched_by : App → App → List Dep → Bool
 is_touched_by moved a deps = a.0 == moved.0 || list_any (λ (b : App). moved.0 == b.0) (filter_map listed deps)
 
--- of these applications those that aren't distributed are marked
-abbrev pub MarksLocals : List AppView → AppMarks → Type 0
-MarksLocals apps marks =
-    (a : App) → a.0 < length apps → is_marked marks a ≡ is_none (option_and_then (λ (v : AppView). v.spread) (slice_get apps a.0))
+-- of these applications those that aren't distributed are marked, and no other number is
+pub record MarksLocals (apps : List AppView) (marks : AppMarks) : Type 0 where
+  pub these : (a : App) → a.0 < length apps → is_marked marks a ≡ is_none (option_and_then (λ (v : AppView). v.spread) (slice_get apps a.0))
+  pub others : (a : App) → length apps ≤ a.0 → is_marked marks a ≡ false
 
--- in the row of each application those of these are marked that a move of it touches
-abbrev pub MarksTouched : List AppView → MarkRows → Type 0
-MarksTouched apps t =
-    (b a : App) → b.0 < MAX_APPS → a.0 < length apps
-    → is_marked_in t b a ≡ is_touched_by b a (unwrap_or (option_map (λ (v : AppView). v.deps) (slice_get apps a.0)) [])
+-- in the row of each application those of these are marked that a move of it touches, and no other number is
+pub record MarksTouched (apps : List AppView) (t : MarkRows) : Type 0 where
+  pub these : (b a : App) → b.0 < MAX_APPS → a.0 < length apps
+      → is_marked_in t b a ≡ is_touched_by b a (unwrap_or (option_map (λ (v : AppView). v.deps) (slice_get apps a.0)) [])
+  pub others : (b a : App) → b.0 < MAX_APPS → length apps ≤ a.0 → is_marked_in t b a ≡ false

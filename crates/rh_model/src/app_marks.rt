@@ -80,40 +80,6 @@ impl AppMarks {
         self.marks |= 1 << app.0;
     }
 
-    // The first marked application from this number on.
-    fn next_from(&self, from: u8) -> Option<App>
-        ensures marked { IfSome result (λ a. is_marked self.now a ≡ true) }
-        ensures from { IfSome result (λ a. from ≤ a.0) }
-        ensures first { IfSome result (λ a. (b : App) → from ≤ b.0 → b.0 < a.0 → is_marked self.now b ≡ false) }
-        ensures few { IfSome result (λ a. a.0 < MAX_APPS) }
-        ensures none { IsNone result → (b : App) → from ≤ b.0 → is_marked self.now b ≡ false }
-    {
-        let marks = self.marks;
-        if from as usize >= MAX_APPS {
-            return None;
-        }
-        let rest = marks >> from;
-        if rest == 0 {
-            return None;
-        }
-        Some(App(from + rest.trailing_zeros() as u8))
-    }
-
-    /// The first one below the count.
-    pub fn next_below(&self, from: u8, count: usize) -> Option<App>
-        ensures marked { IfSome result (λ a. is_marked self.now a ≡ true) }
-        ensures from { IfSome result (λ a. from ≤ a.0) }
-        ensures first { IfSome result (λ a. (b : App) → from ≤ b.0 → b.0 < a.0 → is_marked self.now b ≡ false) }
-        ensures few { IfSome result (λ a. a.0 < MAX_APPS) }
-        ensures below { IfSome result (λ a. a.0 < count) }
-        ensures none { IsNone result → (b : App) → from ≤ b.0 → b.0 < count → is_marked self.now b ≡ false }
-    {
-        match self.next_from(from) {
-            Some(app) if (app.0 as usize) < count => Some(app),
-            _ => None,
-        }
-    }
-
     /// The applications that are marked in both.
     pub fn and(&self, other: &AppMarks) -> AppMarks
         ensures { (a : App) → is_marked result a ≡ (is_marked self.now a && is_marked other.now a) }
@@ -130,7 +96,7 @@ impl AppMarks {
         AppMarks { marks: self.marks }
     }
 
-    /// Takes away the first mark, if it is below the count, and says whose it was.
+    /// Takes away the first mark, if it is below the count, and says whose it was. Else the marks stay.
     pub fn take_below(&mut self, count: usize) -> Option<App>
         ensures marked { IfSome result (λ a. is_marked self.old a ≡ true) }
         ensures first { IfSome result (λ a. (b : App) → b.0 < a.0 → is_marked self.old b ≡ false) }
@@ -139,6 +105,7 @@ impl AppMarks {
         ensures taken { IfSome result (λ a. (b : App) → is_marked self.new b ≡ (is_marked self.old b && not (b.0 == a.0))) }
         ensures fewer { IfSome result (λ a. self.new.marks < self.old.marks) }
         ensures none { IsNone result → (b : App) → b.0 < count → is_marked self.old b ≡ false }
+        ensures kept { IsNone result → self.new ≡ self.old }
     {
         let marks = self.marks;
         if marks == 0 {

@@ -60,7 +60,7 @@ impl Model for Cluster {
 }
 
 impl Cluster {
-    ghost use Rattle.std.specs.Prelude.{◌≡◌, ◌↔◌, ◌<◌, ◌≤◌, All, length, IfOk, IsTrue, IsSome, Some, is_none, slice_get, map};
+    ghost use Rattle.std.specs.Prelude.{◌≡◌, ◌↔◌, ◌<◌, ◌≤◌, All, length, IfOk, IsTrue, IsSome, Some, is_none, slice_get, map, false};
     ghost use Rattle.std.specs.List.{range_with_len};
     ghost use Rattle.std.specs.Option.{option_map};
     ghost use Rattle.rh_base.specs.Tree.{tree_of};
@@ -301,7 +301,8 @@ impl Cluster {
 
     /// The applications that aren't distributed.
     pub fn locals(&self) -> AppMarks
-        ensures { (a : App) → a.0 < app_count self.now → is_marked result a ≡ is_none (spread_of self.now a) }
+        ensures marks { (a : App) → a.0 < app_count self.now → is_marked result a ≡ is_none (spread_of self.now a) }
+        ensures others { (a : App) → app_count self.now ≤ a.0 → is_marked result a ≡ false }
     {
         self.locals
     }
@@ -309,7 +310,8 @@ impl Cluster {
     /// The applications that a move of this one touches: itself, and those that need it.
     pub fn touched_by(&self, app: App) -> AppMarks
         requires { app.0 < app_count self.now }
-        ensures { (a : App) → a.0 < app_count self.now → is_marked result a ≡ touches self.now app a }
+        ensures marks { (a : App) → a.0 < app_count self.now → is_marked result a ≡ touches self.now app a }
+        ensures others { (a : App) → app_count self.now ≤ a.0 → is_marked result a ≡ false }
     {
         let _few_apps = self.names.apps();
         self.touched.of(app)

@@ -1,6 +1,7 @@
 -- What a move that touches no local application leaves of a search for local moves.
-use Rattle.std.proofs.Common.{◌≡◌, ◌<◌, ◌≤◌, ℕ, suc, Bool, true, false, not, ◌&&◌, List, [], ◌∷◌, ◌++◌, All, refl, sym, ap, ◌∙◌, arith, Option, None, Some, IfSome, IsNone, is_some}
+use Rattle.std.proofs.Common.{◌≡◌, ◌<◌, ◌≤◌, ℕ, suc, Bool, true, false, not, ◌&&◌, List, [], ◌∷◌, ◌++◌, All, refl, sym, ap, ◌∙◌, arith, nat_lt}
 use Rattle.std.specs.List.{list_any}
+use Rattle.std.proofs.Math.Bool.{and-false}
 use Rattle.std.proofs.lemmas.List.Folds.{list_any_at, list_any_none}
 use Rattle.rh_model.specs.declared.node.App.{App}
 use Rattle.rh_model.specs.ClusterView.{ClusterView, app_count, app_numbered}
@@ -13,7 +14,7 @@ use Rattle.rh_base.specs.Lists.{or_else, first_given}
 use Rattle.rh_base.proofs.Lists.{cases}
 use Rattle.rh_settle.specs.Boards.{touches_local, MarksLocals}
 use Rattle.rh_rules.specs.Course.{is_local}
-use Rattle.rh_settle.proofs.Entries.{taken, put, both, is_false, same_number}
+use Rattle.rh_settle.proofs.Entries.{taken, put, both, is_false, same_number, is_below, is_above}
 use Rattle.rh_settle.proofs.Every.{filter_no, filter_yes}
 use Rattle.rh_settle.proofs.Places.{at_set}
 use Rattle.rh_settle.proofs.Searches.{length_apps, app_there}
@@ -80,29 +81,28 @@ none_met c x none = list_any_none p (apps_of c)
 -- the marks of the local applications that a move of this one touches
 module _ (c : ClusterView) (x : App) (touched local both : AppMarks)
     (marks : (a : App) → is_marked both a ≡ (is_marked touched a && is_marked local a))
-    (kept : (a : App) → IsAppOf c a → is_marked touched a ≡ touches c x a) (locals : MarksLocals c local) where
+    (kept : (a : App) → IsAppOf c a → is_marked touched a ≡ touches c x a)
+    (others : (a : App) → app_count c ≤ a.0 → is_marked touched a ≡ false) (locals : MarksLocals c local) where
   met : (a : App) → IsAppOf c a → is_marked both a ≡ (touches c x a && is_local c a)
   met a of = marks a ∙ (λ i. kept a of i && locals a of i)
 
-  pub meets_none : ((a : App) → IsAppOf c a → is_marked both a ≡ false) → touches_local c x ≡ false
-  meets_none none = none_met c x (λ a of. sym (met a of) ∙ none a of)
+  -- where no local one is touched, none is marked
+  unmet : touches_local c x ≡ false → (a : App) → is_marked both a ≡ false
+  unmet f a = cases (nat_lt a.0 (app_count c))
+      (λ t. let of : IsAppOf c a = is_below a.0 (app_count c) t in met a of ∙ cases (is_local c a)
+      (λ y. ap (λ p. p && is_local c a) (none_touched c x a f of y))
+      (λ n. ap (λ p. touches c x a && p) n ∙ and-false (touches c x a)))
+      (λ g. marks a ∙ ap (λ p. p && is_marked local a) (others a (is_above a.0 (app_count c) g)))
 
-  pub meets_one : (a : App) → IsAppOf c a → is_marked both a ≡ true → touches_local c x ≡ true
-  meets_one a of is = cases (touches_local c x) (λ y. y)
-      (λ f. let h = each (touches c x a) (is_local c a) (sym (met a of) ∙ is) in clash (touches c x a) h.0 (none_touched c x a f of h.1))
+  -- whether there is one
+  pub meets : (empty : Bool) → (empty ≡ true → (a : App) → is_marked both a ≡ false) → (((a : App) → is_marked both a ≡ false) → empty ≡ true)
+      → not empty ≡ touches_local c x
+  meets true none is = sym (none_met c x (λ a of. sym (met a of) ∙ none refl a))
+  meets false none is = sym (is_true (touches_local c x) (λ f. is (unmet f)))
     where
-      each : (p q : Bool) → p && q ≡ true → (p ≡ true) × (q ≡ true)
-      each true q h = (refl, h)
-      each false q h = cc
-
-      clash : {P : Type 0} (p : Bool) → p ≡ true → p ≡ false → P
-      clash p t f = cc
-
-  -- the first of them, if there is one
-  pub meets : (o : Option App) (count : ℕ) → count ≡ app_count c → IfSome o (λ a. is_marked both a ≡ true) → IfSome o (λ a. a.0 < count)
-      → (IsNone o → (b : App) → 0 ≤ b.0 → b.0 < count → is_marked both b ≡ false) → is_some o ≡ touches_local c x
-  meets None count all m l none = sym (meets_none (λ a of. none refl a (omega arith) (omega (arith, all, of))))
-  meets (Some a) count all m l none = sym (meets_one a (omega (arith, all, l)) m)
+      is_true : (p : Bool) → (p ≡ false → false ≡ true) → p ≡ true
+      is_true true h = refl
+      is_true false h = h refl
 
 -- the marks of the moving applications that a move of this one touches
 module _ (c : ClusterView) (x : App) (moving touched rest : AppMarks)

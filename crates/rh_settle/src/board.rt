@@ -158,9 +158,7 @@ fn touches_local(cluster: &Cluster, local: &AppMarks, moved: App) -> bool
     requires marks { MarksLocals cluster.now local.now }
     ensures { result ≡ touches_local cluster.now moved }
 {
-    let count = cluster.app_count();
-    let both = cluster.touched_by(moved).and(local);
-    both.next_below(0, count).is_some()
+    !cluster.touched_by(moved).and(local).is_empty()
 }
 
 // Puts a pair to the fresh ones, and marks its application.

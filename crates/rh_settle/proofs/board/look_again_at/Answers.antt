@@ -17,7 +17,7 @@ pub apps-init : goal.apps-init
 apps-init c =
     let v = (read c.args.state.now).cluster in
     let x = c.args.moved in
-    let kept = subst (λ (w : ClusterView). (a : App) → IsAppOf w a → is_marked c.touched_by.result a ≡ touches w x a) c.cluster-2.ensures c.touched_by.ensures in
+    let kept = subst (λ (w : ClusterView). (a : App) → IsAppOf w a → is_marked c.touched_by.result a ≡ touches w x a) c.cluster-2.ensures c.touched_by.ensures.marks in
     record {
       touched = left_touched v x c.args.moving.now c.touched_by.result c.and-rest.result c.and-rest.ensures kept;
       here = λ a off of m t mattering. none_left v x c.args.moving.now c.touched_by.result c.and-rest.result c.and-rest.ensures kept a of off m t;

@@ -5,5 +5,5 @@ use Rattle.rh_rules.specs.Course.{is_local}
 use Rattle.rh_settle.proofs.ready.local_marks.Goals as goal
 
 pub returns : goal.returns
-returns c = λ a of. c.locals.ensures a (subst (λ (v : ClusterView). IsAppOf v a) (sym c.cluster.ensures) of)
+returns c = λ a of. c.locals.ensures.marks a (subst (λ (v : ClusterView). IsAppOf v a) (sym c.cluster.ensures) of)
     ∙ ap (λ (v : ClusterView). is_local v a) c.cluster.ensures
