@@ -1,6 +1,6 @@
 //! A mark for each application.
 
-ghost use Rattle.std.specs.Prelude.{◌≡◌, ◌+◌, ◌<◌, ◌≤◌, ◌&&◌, ◌||◌, ◌==◌, ◌↔◌, false, true, not, count_ones, IsTrue, IsNone, IfSome};
+ghost use Rattle.std.specs.Prelude.{◌≡◌, ◌+◌, ◌<◌, ◌&&◌, ◌||◌, ◌==◌, ◌↔◌, false, true, not, count_ones, IsTrue, IsNone, IfSome};
 ghost use Rattle.rh_model.specs.declared.limits.TheConstants.{MAX_APPS};
 ghost use Rattle.rh_model.specs.declared.node.App.{App};
 ghost use Rattle.rh_model.specs.Marks.{is_marked, marks_of};
@@ -65,11 +65,11 @@ impl AppMarks {
         self.marks == 0
     }
 
-    /// Are eight applications marked at most?
-    pub fn are_few(&self) -> bool
-        ensures { IsTrue result ↔ (count_ones self.now.marks ≤ 8) }
+    /// How many applications are marked?
+    pub fn count(&self) -> u32
+        ensures { result ≡ count_ones self.now.marks }
     {
-        self.marks.count_ones() <= 8
+        self.marks.count_ones()
     }
 
     /// Marks an application.

@@ -34,6 +34,13 @@ use Rattle.rh_settle.proofs.Places.{same_refl, or_left, or_right}
 use Rattle.rh_settle.proofs.Shapes.{started_within}
 use Rattle.rh_settle.proofs.Searches.{up_to, either_none, none_of_none, none_behind}
 
+-- an application that can start gives its move, and another gives none
+pub move_of : (s : StateView) (n : Node) (a : App) → can_start s n a ≡ true → local_move s n a ≡ Local n a ∷ []
+move_of s n a h = ap (λ b. cond b (Local n a ∷ []) []) h
+
+pub no_move_of : (s : StateView) (n : Node) (a : App) → can_start s n a ≡ false → local_move s n a ≡ []
+no_move_of s n a h = ap (λ b. cond b (Local n a ∷ []) []) h
+
 -- where an application of a list can start, a move is given
 one_of : (s : StateView) (n : Node) (a : App) (apps : List App) → has_app apps a ≡ true → can_start s n a ≡ true
     → is_some (head (first_given (local_move s n) apps)) ≡ true

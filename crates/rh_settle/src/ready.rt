@@ -146,39 +146,6 @@ fn wanted_marks(state: &State) -> AppMarks
     }
 }
 
-// The nodes of a set, and those at which a local application waits and can start.
-fn with_starts(set: NodeSet, state: &State, app: App) -> NodeSet
-    requires { IsAppOf (read state.now).cluster app }
-    ensures { (n : Node) → has result n ≡ (has set n || (waits_at (read state.now) n app && can_start (read state.now) n app)) }
-{
-    state.formed();
-    let count = state.cluster().node_count();
-    let mut nodes = set;
-    'nodes: for number in 0..count {
-        let node = Node(number as u8);
-        if starts(state, node, app) {
-            nodes = nodes.with(node);
-        }
-    }
-    nodes
-}
-
-// The nodes at which a local application can start, found by asking each node for each local one. Where few are local this
-// costs less than a walk over their marks at each node.
-fn nodes_of_each(state: &State, local: &AppMarks) -> NodeSet
-    requires { MarksLocals (read state.now).cluster local.now }
-    ensures { (n : Node) → has result n ≡ is_some (head (local_moves (read state.now) n)) }
-{
-    state.formed();
-    let count = state.cluster().app_count();
-    let mut nodes = NodeSet::empty();
-    let mut rest = local.copy();
-    'apps: while let Some(app) = rest.take_below(count) {
-        nodes = with_starts(nodes, state, app);
-    }
-    nodes
-}
-
 // The nodes at which a local application can start.
 fn local_nodes(state: &State, local: &AppMarks) -> NodeSet
     requires { MarksLocals (read state.now).cluster local.now }
@@ -188,9 +155,6 @@ fn local_nodes(state: &State, local: &AppMarks) -> NodeSet
     let mut nodes = NodeSet::empty();
     if local.is_empty() {
         return nodes;
-    }
-    if local.are_few() {
-        return nodes_of_each(state, local);
     }
     let count = state.cluster().node_count();
     'nodes: for number in 0..count {

@@ -70,13 +70,8 @@ pub(crate) fn starts(state: &State, node: Node, app: App) -> bool
     matches!(state.place_of(node, app), Place::InWaiting) && can_start(state, node, app)
 }
 
-// How many local applications are asked for each step along a list.
-const ASKED: u8 = 8;
-
-// Can a local application start at a node? These are the marks of the local ones. The list of what waits there can be long
-// where few applications are local, and short where many are: so this asks the local ones, goes along the list meanwhile, a
-// step for so many of them, since a step costs more than an answer, and whichever ends first tells.
-pub(crate) fn starts_at(state: &State, local: &AppMarks, node: Node) -> bool
+// Can one of the local applications start at a node? These are their marks, and each is asked.
+fn any_starts(state: &State, local: &AppMarks, node: Node) -> bool
     requires node { node.0 < node_count (read state.now).cluster }
     requires marks { MarksLocals (read state.now).cluster local.now }
     ensures { result ≡ is_some (head (local_moves (read state.now) node)) }
@@ -84,22 +79,36 @@ pub(crate) fn starts_at(state: &State, local: &AppMarks, node: Node) -> bool
     state.formed();
     let count = state.cluster().app_count();
     let mut rest = local.copy();
-    let mut left = ASKED;
-    let mut waiting = state.first_waiting(node);
-    'waiting: while let Some(behind) = waiting {
-        let Some(app) = rest.take_below(count) else {
-            return false;
-        };
+    'apps: while let Some(app) = rest.take_below(count) {
         if starts(state, node, app) {
             return true;
         }
-        left -= 1;
-        if left == 0 {
-            left = ASKED;
-            waiting = state.next_in_list(node, behind);
-        }
     }
-    local_at(state, node).is_some()
+    false
+}
+
+// Can a local application start at a node? These are the marks of the local ones. The walk along what waits there ends at the
+// first that can. But where few applications are local and none of them can start, the list of distributed ones can be long: so
+// the walk takes no more steps than applications are local, and behind that the local ones are asked.
+pub(crate) fn starts_at(state: &State, local: &AppMarks, node: Node) -> bool
+    requires node { node.0 < node_count (read state.now).cluster }
+    requires marks { MarksLocals (read state.now).cluster local.now }
+    ensures { result ≡ is_some (head (local_moves (read state.now) node)) }
+{
+    state.formed();
+    let mut left = local.count();
+    let mut waiting = state.first_waiting(node);
+    'waiting: while let Some(app) = waiting {
+        if left == 0 {
+            return any_starts(state, local, node);
+        }
+        if can_start(state, node, app) {
+            return true;
+        }
+        left -= 1;
+        waiting = state.next_in_list(node, app);
+    }
+    false
 }
 
 // The local move that comes next.

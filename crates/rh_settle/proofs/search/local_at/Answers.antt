@@ -1,8 +1,7 @@
-use Rattle.std.proofs.Common.{◌≡◌, ◌<◌, ℕ, sym, ap, ◌∙◌, cond, true, false, List, [], ◌∷◌, Some, IfSome, length, refl, subst, arith}
-use Rattle.rh_model.specs.declared.node.Node.{Node}
+use Rattle.std.proofs.Common.{◌≡◌, ◌<◌, ℕ, sym, ap, ◌∙◌, true, List, [], ◌∷◌, Some, IfSome, length, refl, subst, arith}
 use Rattle.rh_model.specs.declared.node.App.{App}
 use Rattle.rh_state.specs.Lists.{has_app, next_app}
-use Rattle.rh_state.specs.StateView.{StateView, waiting_at}
+use Rattle.rh_state.specs.StateView.{waiting_at}
 use Rattle.rh_state.specs.Stored.{read}
 use Rattle.rh_rules.specs.declared.pick.Pick.{Pick}
 use Rattle.rh_rules.specs.declared.pick.Pick.TheVariants.{First, Last}
@@ -10,22 +9,16 @@ use Rattle.rh_rules.specs.Placing.{picked}
 use Rattle.rh_base.specs.Lists.{first_given}
 use Rattle.rh_rules.specs.declared.notice.Move.{Move}
 use Rattle.rh_rules.specs.declared.notice.Move.TheVariants.{Local}
-use Rattle.rh_rules.specs.Moves.{can_start, local_move, local_moves}
+use Rattle.rh_rules.specs.Moves.{local_move, local_moves}
 use Rattle.rh_settle.proofs.Searches.{none_of_none}
 use Rattle.rh_settle.proofs.ListWalks.{once_of, left_of, all_left, first_is_next, next_is_next, found_on_walk, later_on_walk, end_of_walk, shorter_walk}
 use Rattle.rh_settle.proofs.ListWalks.{is_in_list, behind_waiting}
+use Rattle.rh_settle.proofs.Starts.{move_of, no_move_of}
 use Rattle.rh_settle.proofs.search.local_at.Goals as goal
 
 single : (pick : Pick) (m : Move) → Some m ≡ picked pick (m ∷ [])
 single First m = refl
 single Last m = refl
-
--- an application that can start gives its move, and another gives none
-move_of : (s : StateView) (n : Node) (a : App) → can_start s n a ≡ true → local_move s n a ≡ Local n a ∷ []
-move_of s n a h = ap (λ b. cond b (Local n a ∷ []) []) h
-
-no_move_of : (s : StateView) (n : Node) (a : App) → can_start s n a ≡ false → local_move s n a ≡ []
-no_move_of s n a h = ap (λ b. cond b (Local n a ∷ []) []) h
 
 pub waiting-init : goal.waiting-init
 waiting-init c =

@@ -1,19 +1,20 @@
-use Rattle.std.proofs.Common.{◌≡◌, ◌<◌, ◌&&◌, true, false, IfSome}
-use Rattle.rh_model.specs.declared.node.App.{App}
+use Rattle.std.proofs.Common.{◌≡◌, true, length, IfSome}
+use Rattle.rh_state.specs.Lists.{has_app}
 use Rattle.rh_state.specs.Shape.{IsAppOf}
-use Rattle.rh_state.specs.StateView.{waits_at}
+use Rattle.rh_state.specs.StateView.{waiting_at}
 use Rattle.rh_state.specs.Stored.{read}
-use Rattle.rh_model.specs.Marks.{is_marked}
-use Rattle.rh_rules.specs.Moves.{can_start}
+use Rattle.rh_base.specs.Lists.{first_given}
+use Rattle.rh_rules.specs.Moves.{local_move}
+use Rattle.rh_settle.proofs.ListWalks.{left_of}
 use Rattle.rh_settle.proofs.search.starts_at.Given as goal
 
--- none of the local ones that were asked waits there and can start
 abbrev pub invariant-waiting : goal.invariant-waiting
 invariant-waiting l = record {
-  none : (a : App) → is_marked l.rest a ≡ false → is_marked l.local a ≡ true → (waits_at (read l.state) l.node a && can_start (read l.state) l.node a) ≡ false;
-  left : 0 < l.left;
+  same : first_given (local_move (read l.state) l.node) (left_of (waiting_at (read l.state) l.node) l.waiting)
+      ≡ first_given (local_move (read l.state) l.node) (waiting_at (read l.state) l.node);
+  next : IfSome l.waiting (λ a. has_app (waiting_at (read l.state) l.node) a ≡ true);
   number : IfSome l.waiting (λ a. IsAppOf (read l.state).cluster a);
 }
 
 abbrev pub decreases-waiting : goal.decreases-waiting
-decreases-waiting l = l.rest.marks
+decreases-waiting l = length (left_of (waiting_at (read l.state) l.node) l.waiting)
