@@ -1,9 +1,11 @@
-use Rattle.std.proofs.Common.{◌≤◌, ◌&&◌, ap, ◌∙◌, sym, subst, position}
+use Rattle.std.proofs.Common.{◌≡◌, ◌≤◌, Bool, false, ◌&&◌, ap, ◌∙◌, sym, subst, position}
 use Rattle.rh_model.specs.ClusterView.{ClusterView, node_count, is_in}
-use Rattle.rh_place.specs.Sets.{has}
 use Rattle.rh_rules.specs.Moves.{comes_before}
 use Rattle.rh_settle.proofs.GroupWalks.{nowhere}
 use Rattle.rh_settle.proofs.search.earlier.Goals as goal
+
+first_false : (p q : Bool) → p ≡ false → p && q ≡ false
+first_false p q none = ap (λ b. b && q) none
 
 pub returns-in-Some-clause-others : goal.returns-in-Some-clause-others
 returns-in-Some-clause-others c = λ n past.
@@ -11,6 +13,6 @@ returns-in-Some-clause-others c = λ n past.
     let spread = c.in-Some.spread.now in
     let within = c.is_within.ensures.groups c.args.app spread (sym c.in-Some.ensures) in
     c.and.ensures n
-    ∙ ap (λ b. b && has c.args.set n) (c.nodes_before.ensures n
+    ∙ first_false _ _ (c.nodes_before.ensures n
     ∙ ap (λ o. comes_before o (position (is_in c.args.from) c.as_slice.result.now)) (ap (position (is_in n)) c.as_slice.ensures
     ∙ nowhere (node_count v) spread.groups n within (subst (λ (u : ClusterView). node_count u ≤ n.0) (sym c.cluster-cluster.ensures) past)))
