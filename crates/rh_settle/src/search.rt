@@ -1,12 +1,12 @@
 //! Which move comes next.
 
-ghost use Rattle.std.specs.Prelude.{◌≡◌, ◌<◌, ◌≤◌, ◌&&◌, ◌||◌, List, All, true, false, is_some, position, IsNone, IfSome};
+ghost use Rattle.std.specs.Prelude.{◌≡◌, ◌<◌, ◌≤◌, ◌&&◌, ◌||◌, List, All, true, false, is_some, length, position, IsNone, IfSome};
 ghost use Rattle.rh_model.specs.ClusterView.{node_count, app_count};
 ghost use Rattle.rh_model.specs.ClusterView.{group_of, is_in};
 ghost use Rattle.rh_model.specs.declared.node.Node.{Node};
 ghost use Rattle.rh_state.specs.declared.status.Standing.TheVariants.{Running};
 ghost use Rattle.rh_state.specs.Numbers.{nodes_of, apps_of};
-ghost use Rattle.rh_state.specs.StateView.{waits_at};
+ghost use Rattle.rh_state.specs.StateView.{waiting_at, waits_at};
 ghost use Rattle.rh_state.specs.Stored.{read};
 ghost use Rattle.rh_rules.specs.declared.pick.Pick.{Pick};
 ghost use Rattle.rh_base.specs.Lists.{first_given, head};
@@ -87,16 +87,26 @@ fn any_starts(state: &State, local: &AppMarks, node: Node) -> bool
     false
 }
 
+// How many steps a walk along what waits at a node may take, where so many applications are local: as many as wait, unless these are
+// more than twice as many. Then so few steps and a question to each local one, which costs about what a step does, come to less.
+fn most_steps(state: &State, local: usize, node: Node) -> usize
+    requires { node.0 < node_count (read state.now).cluster }
+    ensures { result ≤ length (waiting_at (read state.now) node) }
+{
+    let waiting = state.waiting_count(node);
+    if waiting / 2 > local { local } else { waiting }
+}
+
 // Can a local application start at a node? These are the marks of the local ones. The walk along what waits there ends at the
-// first that can. But where few applications are local and none of them can start, the list of distributed ones can be long: so
-// the walk takes no more steps than applications are local, and behind that the local ones are asked.
+// first that can. But where few are local, many distributed ones can wait and none of the local ones be able to start: so the
+// walk takes few steps then, and behind them the local ones are asked.
 pub(crate) fn starts_at(state: &State, local: &AppMarks, node: Node) -> bool
     requires node { node.0 < node_count (read state.now).cluster }
     requires marks { MarksLocals (read state.now).cluster local.now }
     ensures { result ≡ is_some (head (local_moves (read state.now) node)) }
 {
     state.formed();
-    let mut left = local.count();
+    let mut left = most_steps(state, local.count() as usize, node);
     let mut waiting = state.first_waiting(node);
     'waiting: while let Some(app) = waiting {
         if left == 0 {

@@ -1,6 +1,6 @@
 //! The readers of a state.
 
-ghost use Rattle.std.specs.Prelude.{◌≡◌, ◌<◌, ◌≤◌, IfSome, slice_get};
+ghost use Rattle.std.specs.Prelude.{◌≡◌, ◌<◌, ◌≤◌, IfSome, length, slice_get};
 ghost use Rattle.rh_model.specs.ClusterView.{node_count, app_count};
 ghost use Rattle.rh_state.specs.Limits.{time_limit, incarnation_limit};
 ghost use Rattle.rh_state.specs.StateView.{mode_of, incarnation_of, running_at, waiting_at, running_count, place_of, next_in_list, restart_of, kind_of, is_allowed, standing_of};
@@ -103,6 +103,14 @@ impl State {
         ensures { result ≡ running_count (read self.now) node }
     {
         self.links.count(node.0 as u32) as usize
+    }
+
+    /// How many applications wait at a node.
+    pub fn waiting_count(&self, node: Node) -> usize
+        requires { node.0 < node_count (read self.now).cluster }
+        ensures { result ≡ length (waiting_at (read self.now) node) }
+    {
+        self.links.count(self.waiting_list(node)) as usize
     }
 
     /// The restart type that an application was last given at a node, also where it isn't started: temporary at first
