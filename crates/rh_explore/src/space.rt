@@ -22,6 +22,7 @@ use rh_base::OutOfMemory;
 use rh_state::State;
 use rh_step::{Event, Pick};
 use std::alloc::Global;
+use std::hash::{BuildHasherDefault, DefaultHasher};
 
 /// How a state was found.
 #[derive(Clone, Copy, Debug, PartialEq, Eq)]
@@ -37,8 +38,11 @@ pub(crate) struct Found {
 pub(crate) struct Space {
     pub(crate) found: Vec<Found>,
     pub(crate) failures: Failures,
-    // Their keys, in the same order.
-    keys: IndexSet<Key>,
+    // Their keys, in the same order. Whoever writes a cluster's file chooses a part of each key, and the table's usual hash of a key is
+    // one number of 64 bits that takes in 16 bytes at a time: eight bytes that are equal to it make it 0, and a file can keep it there,
+    // so that the keys of 2^40 states have one hash and each is compared with all before it. This one takes in 8 bytes at a time to four
+    // such numbers, and no way is known to find many keys that it doesn't tell apart.
+    keys: IndexSet<Key, BuildHasherDefault<DefaultHasher>>,
     // Those whose events weren't made yet. The others aren't needed any more, and a state takes much more memory than its key.
     front: Front,
     maker: KeyMaker,
@@ -57,7 +61,7 @@ impl Space {
         let mut space = Space {
             found: Vec::new(alloc),
             failures: Failures::of(alloc, asks)?,
-            keys: IndexSet::new(alloc),
+            keys: IndexSet::with_hasher(alloc, BuildHasherDefault::new()),
             front: Front::of(alloc, base.copy(alloc)?),
             maker: KeyMaker::new(alloc),
         };
