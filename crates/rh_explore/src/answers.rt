@@ -64,8 +64,9 @@ pub fn explore(
         → CoversAll bounds.now.steps x.covered) }
 {
     let (space, covered) = search(alloc, base, pick, events, bounds, asks)?;
-    let found = space.found.as_slice();
-    let verdicts = verdicts_on(alloc, found, space.failures.firsts.as_slice())?;
+    let (all, firsts) = space.into_found();
+    let found = all.as_slice();
+    let verdicts = verdicts_on(alloc, found, firsts.as_slice())?;
     let states = found.len();
     let deepest = found[states - 1].depth as usize;
     Ok(Explored {

@@ -34,6 +34,13 @@ impl Failures {
         Ok(Failures { firsts, left })
     }
 
+    /// Of each ask the first state in which it doesn't hold. The list of those that are left is freed.
+    pub(crate) fn into_firsts(self) -> Vec<Option<usize>>
+        ensures { result ≡ self.firsts }
+    {
+        self.firsts
+    }
+
     /// Asks in the state that was found behind so many others.
     pub(crate) fn ask(&mut self, asks: &[Ask], number: usize, state: &State)
         requires { (states : List StateView) × (number ≡ length states) × AreFailures self.old.firsts.items self.old.left.items asks.now states }

@@ -75,6 +75,20 @@ impl Space {
         Ok(space)
     }
 
+    /// What was found, and of each ask the first state in which it doesn't hold. The keys and all else are freed, so that the answers can
+    /// take their place.
+    pub(crate) fn into_found(self) -> (Vec<Found>, Vec<Option<usize>>)
+        ensures found { result.0 ≡ self.found }
+        ensures firsts { result.1 ≡ self.failures.firsts }
+    {
+        let Space {
+            found,
+            failures,
+            ..
+        } = self;
+        (found, failures.into_firsts())
+    }
+
     // Adds the state of the probe with its key, which isn't there.
     fn push(&mut self, key: Key, found: Found, asks: &[Ask]) -> Result<(), OutOfMemory>
         requires new { Contains (bytes_of self.old) key.bytes.items → ⊥ }

@@ -16,7 +16,7 @@ use Rattle.rh_explore.proofs.answers.explore.Goals as goal
 
 pub verdicts_on-requires-clause-linked : goal.verdicts_on-requires-clause-linked
 verdicts_on-requires-clause-linked c =
-    subst AreLinked (sym c.as_slice-found.ensures.value) c.in_ok-space.ensures.kept.linked
+    subst AreLinked (sym (c.as_slice-found.ensures.value ∙ (λ i. (c.into_found-all.ensures.found i).items))) c.in_ok-space.ensures.kept.linked
 
 pub verdicts_on-requires-clause-within : goal.verdicts_on-requires-clause-within
 verdicts_on-requires-clause-within c = λ j i at.
@@ -24,8 +24,8 @@ verdicts_on-requires-clause-within c = λ j i at.
     let space = c.in_ok-space.space in
     let k = c.in_ok-space.ensures.kept in
     let l = failure_within space.failures.firsts.items space.failures.left.items c.args.asks.now (seen_of w space.found.items) k.failures j i
-    (ap (λ (fs : List (Option ℕ)). slice_get fs j) (sym c.as_slice.ensures.value) ∙ at) in
-    omega (arith, l, length-seen w space.found.items, ap (λ (fs : List Found). length fs) c.as_slice-found.ensures.value)
+    (ap (λ (fs : List (Option ℕ)). slice_get fs j) (sym (c.as_slice.ensures.value ∙ (λ i. (c.into_found-all.ensures.firsts i).items))) ∙ at) in
+    omega (arith, l, length-seen w space.found.items, ap (λ (fs : List Found). length fs) (c.as_slice-found.ensures.value ∙ (λ i. (c.into_found-all.ensures.found i).items)))
 
 pub returns-clause-verdicts : goal.returns-clause-verdicts
 returns-clause-verdicts c =
@@ -41,8 +41,10 @@ returns-clause-verdicts c =
     (λ j first ask v at there told.
     verdict_so w (seen_of w items) s.0 s.1 s.2 steps c.in_ok-space.ensures.few covered s.3 ask v
     (told_first w items firsts space.failures.left.items c.args.asks.now k.failures j first ask v at there told))
-    (subst (λ (fs : List (Option ℕ)). AllZip (IsTold items) fs c.in_ok-verdicts.verdicts.items) c.as_slice.ensures.value
-    (subst (λ (found : List Found). AllZip (IsTold found) c.as_slice.result.now c.in_ok-verdicts.verdicts.items) c.as_slice-found.ensures.value c.in_ok-verdicts.ensures))
+    (subst (λ (fs : List (Option ℕ)). AllZip (IsTold items) fs c.in_ok-verdicts.verdicts.items)
+    (c.as_slice.ensures.value ∙ (λ i. (c.into_found-all.ensures.firsts i).items))
+    (subst (λ (found : List Found). AllZip (IsTold found) c.as_slice.result.now c.in_ok-verdicts.verdicts.items)
+    (c.as_slice-found.ensures.value ∙ (λ i. (c.into_found-all.ensures.found i).items)) c.in_ok-verdicts.ensures))
 
 abbrev none : Found
 none = record { last = None; depth = 0 }
@@ -52,7 +54,7 @@ returns-clause-states c =
     let w = scope_of c.args.base.now c.args.pick c.args.events.now c.args.bounds.now in
     let items : List Found = c.in_ok-space.space.found.items in
     let slice : List Found = c.as_slice-found.result.now in
-    let value : slice ≡ items = c.as_slice-found.ensures.value in
+    let value : slice ≡ items = c.as_slice-found.ensures.value ∙ (λ i. (c.into_found-all.ensures.found i).items) in
     let s = c.in_ok-space.ensures.searched in
     let seen = seen_of w items in
     let long = length-seen w items in
@@ -77,7 +79,7 @@ returns-clause-deepest c =
     let w = scope_of c.args.base.now c.args.pick c.args.events.now c.args.bounds.now in
     let items : List Found = c.in_ok-space.space.found.items in
     let slice : List Found = c.as_slice-found.result.now in
-    let value : slice ≡ items = c.as_slice-found.ensures.value in
+    let value : slice ≡ items = c.as_slice-found.ensures.value ∙ (λ i. (c.into_found-all.ensures.found i).items) in
     let s = c.in_ok-space.ensures.searched in
     let seen = seen_of w items in
     let long = length-seen w items in
