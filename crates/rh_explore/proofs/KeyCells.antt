@@ -19,14 +19,21 @@ use Rattle.rh_state.specs.Shape.{IsAppOf, IsStandingOf}
 use Rattle.rh_state.proofs.Pairs.{IsAppOf-pair}
 use Rattle.rh_settle.proofs.ListWalks.{left_of, all_left, left_more, once_of}
 use Rattle.rh_trail.proofs.Walks.{IsWalked, Once, is_there, walk_begins, walk_goes_on, walk_ends, walk_shortens}
+use Rattle.rh_state.specs.StateView.{StateView, restart_of, is_allowed}
 use Rattle.rh_explore.specs.Codes.{number_code, code}
+use Rattle.rh_explore.specs.Packed.{pair_number, packed_pair}
 use Rattle.rh_explore.specs.Keys.{mode_number, standing_numbers, app_number}
 use Rattle.rh_explore.proofs.KeyCodes.{app_code, code-append, code_each}
+use Rattle.rh_explore.proofs.KeyParts.{pair_small}
 
 -- ---- a small number is a byte
 pub one_code : (n : ℕ) → n < 255 → number_code n ≡ n ∷ []
 unfolding number_code
 one_code n h = ap (λ b. cond b (n ∷ []) (cond (nat_lt n (2 ^ 64)) (255 ∷ to_le_bytes w64 n) (256 ∷ n ∷ []))) (lt-ltb n 255 h)
+
+pub pair_code : (s : StateView) (n : Node) (a : App) → code (packed_pair s n a) ≡ pair_number (restart_of s n a) (is_allowed s n a) ∷ []
+unfolding packed_pair
+pair_code s n a = ap (λ (l : List ℕ). l ++ []) (one_code (pair_number (restart_of s n a) (is_allowed s n a)) (pair_small (restart_of s n a) (is_allowed s n a)))
 
 pub two_code : (a b : ℕ) → a < 255 → b < 255 → code (a ∷ b ∷ []) ≡ a ∷ b ∷ []
 two_code a b h k = ap (λ (l : List ℕ). l ++ (number_code b ++ [])) (one_code a h) ∙ ap (λ (l : List ℕ). a ∷ (l ++ [])) (one_code b k)

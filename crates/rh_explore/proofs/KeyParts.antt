@@ -1,5 +1,5 @@
 -- The parts of a key, each of which tells what it is of.
-use Rattle.std.proofs.Common.{◌≡◌, ◌+◌, ◌-◌, ◌++◌, ℕ, Bool, true, false, cond, nat_eq, List, [], ◌∷◌, map, flat_map, Some, None, All, refl, sym, ap, ◌∙◌, append_assoc, arith}
+use Rattle.std.proofs.Common.{◌≡◌, ◌<◌, ◌≤◌, ◌+◌, ◌-◌, ◌++◌, ℕ, Bool, true, false, cond, nat_eq, List, [], ◌∷◌, map, flat_map, Some, None, All, refl, sym, ap, ◌∙◌, append_assoc, arith}
 use Rattle.std.proofs.lemmas.List.Elements.{All-nil, All-cons}
 use Rattle.rh_model.specs.ClusterView.{ClusterView, numbered, app_numbered}
 use Rattle.rh_model.specs.declared.node.Node.{Node}
@@ -15,6 +15,7 @@ use Rattle.rh_state.specs.declared.status.Timer.TheVariants as timer
 use Rattle.rh_state.specs.Numbers.{apps_of}
 use Rattle.rh_state.specs.StateView.{StateView, mode_of, running_at, waiting_at, restart_of, is_allowed, standing_of}
 use Rattle.rh_shifts.specs.Shifts.{seen_from}
+use Rattle.rh_explore.specs.Packed.{pair_number, packed_pair, packed_node}
 use Rattle.rh_explore.specs.Keys.{mode_number, restart_number, permission_number, standing_numbers, timer_numbers, app_number, pair_numbers, node_numbers, app_numbers}
 
 -- ---- the first numbers of a list
@@ -211,30 +212,73 @@ pub record SameNode (s t : StateView) (n : Node) : Type 0 where
 regrouped : (a b p r : List ℕ) → ((a ++ 0 ∷ b) ++ 0 ∷ p) ++ r ≡ a ++ 0 ∷ (b ++ 0 ∷ (p ++ r))
 regrouped a b p r = append_assoc (a ++ 0 ∷ b) (0 ∷ p) r ∙ append_assoc a (0 ∷ b) (0 ∷ (p ++ r))
 
+-- two numbers in one
+restart_small : (r : Restart) → restart_number r ≤ 2
+restart_small Permanent = omega arith
+restart_small Transient = omega arith
+restart_small Temporary = omega arith
+
+permission_small : (p : Bool) → permission_number p ≤ 1
+permission_small true = omega arith
+permission_small false = omega arith
+
+pub pair_small : (r : Restart) (p : Bool) → pair_number r p < 255
+pair_small r p = let a = restart_small r in let b = permission_small p in omega (arith, a, b)
+
+packed_split : (s t : StateView) (n : Node) (a : App) (r q : List ℕ) → packed_pair s n a ++ r ≡ packed_pair t n a ++ q → SamePair s t n a × (r ≡ q)
+unfolding packed_pair
+packed_split s t n a r q e =
+    let parts = first_one (pair_number (restart_of s n a) (is_allowed s n a)) (pair_number (restart_of t n a) (is_allowed t n a)) r q e in
+    let one = parts.0 in
+    let x = restart_small (restart_of s n a) in
+    let y = restart_small (restart_of t n a) in
+    let v = permission_small (is_allowed s n a) in
+    let w = permission_small (is_allowed t n a) in (
+      record {
+        restart = restart_same (restart_of s n a) (restart_of t n a) (omega (arith, one, x, y, v, w));
+        permission = permission_same (is_allowed s n a) (is_allowed t n a) (omega (arith, one, x, y, v, w));
+      },
+      parts.1,
+    )
+
+-- a node, whatever numbers tell what is said of a pair
+abbrev pub node_by : StateView → Node → (App → List ℕ) → List ℕ
+node_by s n pair = mode_number (mode_of s n) ∷ flat_map app_number (running_at s n) ++ 0 ∷ flat_map app_number (waiting_at s n)
+    ++ 0 ∷ flat_map pair (apps_of s.cluster)
+
+module _ (s t : StateView) (c : t.cluster ≡ s.cluster) (n : Node) (pair_s pair_t : App → List ℕ)
+    (one : (a : App) (r q : List ℕ) → pair_s a ++ r ≡ pair_t a ++ q → SamePair s t n a × (r ≡ q)) where
+  split_by : (r q : List ℕ) → node_by s n pair_s ++ r ≡ node_by t n pair_t ++ q → SameNode s t n × (r ≡ q)
+  split_by r q e =
+      let run_s = flat_map app_number (running_at s n) in
+      let run_t = flat_map app_number (running_at t n) in
+      let wait_s = flat_map app_number (waiting_at s n) in
+      let wait_t = flat_map app_number (waiting_at t n) in
+      let pairs_s = flat_map pair_s (apps_of s.cluster) in
+      let pairs_t = flat_map pair_t (apps_of t.cluster) in
+      let parts = first_one (mode_number (mode_of s n)) (mode_number (mode_of t n))
+      (((run_s ++ 0 ∷ wait_s) ++ 0 ∷ pairs_s) ++ r) (((run_t ++ 0 ∷ wait_t) ++ 0 ∷ pairs_t) ++ q) e in
+      let runs = apps_split (running_at s n) (running_at t n) (wait_s ++ 0 ∷ (pairs_s ++ r)) (wait_t ++ 0 ∷ (pairs_t ++ q))
+      (sym (regrouped run_s wait_s pairs_s r) ∙ parts.1 ∙ regrouped run_t wait_t pairs_t q) in
+      let waits = apps_split (waiting_at s n) (waiting_at t n) (pairs_s ++ r) (pairs_t ++ q) runs.1 in
+      let pairs = each_split pair_s pair_t (SamePair s t n) (apps_of s.cluster) one r q
+      (waits.1 ∙ ap (λ (d : ClusterView). flat_map pair_t (apps_of d) ++ q) c) in (
+        record {
+          mode = mode_same (mode_of s n) (mode_of t n) parts.0;
+          running = runs.0;
+          waiting = waits.0;
+          pairs = pairs.0;
+        },
+        pairs.1,
+      )
+
 pub node_split : (s t : StateView) → t.cluster ≡ s.cluster → (n : Node) (r q : List ℕ) → node_numbers s n ++ r ≡ node_numbers t n ++ q → SameNode s t n × (r ≡ q)
 unfolding node_numbers
-node_split s t c n r q e =
-    let run_s = flat_map app_number (running_at s n) in
-    let run_t = flat_map app_number (running_at t n) in
-    let wait_s = flat_map app_number (waiting_at s n) in
-    let wait_t = flat_map app_number (waiting_at t n) in
-    let pairs_s = flat_map (pair_numbers s n) (apps_of s.cluster) in
-    let pairs_t = flat_map (pair_numbers t n) (apps_of t.cluster) in
-    let parts = first_one (mode_number (mode_of s n)) (mode_number (mode_of t n))
-    (((run_s ++ 0 ∷ wait_s) ++ 0 ∷ pairs_s) ++ r) (((run_t ++ 0 ∷ wait_t) ++ 0 ∷ pairs_t) ++ q) e in
-    let runs = apps_split (running_at s n) (running_at t n) (wait_s ++ 0 ∷ (pairs_s ++ r)) (wait_t ++ 0 ∷ (pairs_t ++ q))
-    (sym (regrouped run_s wait_s pairs_s r) ∙ parts.1 ∙ regrouped run_t wait_t pairs_t q) in
-    let waits = apps_split (waiting_at s n) (waiting_at t n) (pairs_s ++ r) (pairs_t ++ q) runs.1 in
-    let pairs = each_split (pair_numbers s n) (pair_numbers t n) (SamePair s t n) (apps_of s.cluster) (pair_split s t n) r q
-    (waits.1 ∙ ap (λ (d : ClusterView). flat_map (pair_numbers t n) (apps_of d) ++ q) c) in (
-      record {
-        mode = mode_same (mode_of s n) (mode_of t n) parts.0;
-        running = runs.0;
-        waiting = waits.0;
-        pairs = pairs.0;
-      },
-      pairs.1,
-    )
+node_split s t c n r q e = split_by s t c n (pair_numbers s n) (pair_numbers t n) (pair_split s t n) r q e
+
+pub packed_node_split : (s t : StateView) → t.cluster ≡ s.cluster → (n : Node) (r q : List ℕ) → packed_node s n ++ r ≡ packed_node t n ++ q → SameNode s t n × (r ≡ q)
+unfolding packed_node
+packed_node_split s t c n r q e = split_by s t c n (packed_pair s n) (packed_pair t n) (packed_split s t n) r q e
 
 -- ---- an application
 pub app_split : (s t : StateView) (a : App) (r q : List ℕ) → app_numbers s a ++ r ≡ app_numbers t a ++ q → (standing_of s a ≡ standing_of t a) × (r ≡ q)

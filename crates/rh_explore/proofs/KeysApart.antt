@@ -15,7 +15,8 @@ use Rattle.rh_state.specs.StateView.{StateView, standing_of}
 use Rattle.rh_state.specs.Tables.{row, cell}
 use Rattle.rh_settle.proofs.Searches.{length_nodes, length_apps, node_there, app_there}
 use Rattle.rh_explore.specs.Keys.{timer_numbers, pair_numbers, node_numbers, app_numbers, key_of}
-use Rattle.rh_explore.proofs.KeyParts.{each_split, node_split, app_split, timers_same, timers_seen, SameNode, SamePair}
+use Rattle.rh_explore.specs.Packed.{packed_pair, packed_node, packed_key}
+use Rattle.rh_explore.proofs.KeyParts.{each_split, node_split, packed_node_split, app_split, timers_same, timers_seen, SameNode, SamePair}
 use Rattle.rh_shifts.specs.Shifts.{seen_from, timeless, Alike}
 
 -- ---- lists and tables with equal elements
@@ -40,6 +41,10 @@ node_of_all c P all k l = let long = length_nodes c in subst P (node_there c k (
 
 app_of_all : (c : ClusterView) (P : App → Type 0) → All P (apps_of c) → (k : ℕ) → k < app_count c → P (app_numbered k)
 app_of_all c P all k l = let long = length_apps c in subst P (app_there c k (app_numbered k) l) (all k (app_numbered k) (omega (arith, long, l)))
+
+-- ---- a key, whatever numbers tell what is said of a node
+abbrev key_by : StateView → (Node → List ℕ) → List ℕ
+key_by s node = flat_map node (nodes_of s.cluster) ++ flat_map (app_numbers s) (apps_of s.cluster) ++ flat_map (timer_numbers s.time) s.timers
 
 -- ---- states with equal parts
 module _ (s t : StateView) (shaped_s : IsShaped s) (shaped_t : IsShaped t) (c : t.cluster ≡ s.cluster) where
@@ -86,21 +91,30 @@ module _ (s t : StateView) (shaped_s : IsShaped s) (shaped_t : IsShaped t) (c : 
         timers = timers i;
       }
 
-  pub keys_apart : key_of s ≡ key_of t → Alike s t
-  unfolding key_of
-  keys_apart e =
+  -- whatever numbers tell what is said of a node
+  apart_by : (node_s node_t : Node → List ℕ) → ((n : Node) (r q : List ℕ) → node_s n ++ r ≡ node_t n ++ q → SameNode s t n × (r ≡ q))
+      → key_by s node_s ≡ key_by t node_t → Alike s t
+  apart_by node_s node_t one e =
       let apps_s = flat_map (app_numbers s) (apps_of s.cluster) in
       let apps_t = flat_map (app_numbers t) (apps_of t.cluster) in
       let timers_s = flat_map (timer_numbers s.time) s.timers in
       let timers_t = flat_map (timer_numbers t.time) t.timers in
-      let nodes_s = flat_map (node_numbers s) (nodes_of s.cluster) in
-      let nodes_t = flat_map (node_numbers t) (nodes_of t.cluster) in
+      let nodes_s = flat_map node_s (nodes_of s.cluster) in
+      let nodes_t = flat_map node_t (nodes_of t.cluster) in
       let rest = sym (append_assoc nodes_s apps_s timers_s) ∙ e ∙ append_assoc nodes_t apps_t timers_t in
-      let nodes = each_split (node_numbers s) (node_numbers t) (SameNode s t) (nodes_of s.cluster) (node_split s t c) (apps_s ++ timers_s) (apps_t ++ timers_t)
-      (rest ∙ ap (λ (d : ClusterView). flat_map (node_numbers t) (nodes_of d) ++ (apps_t ++ timers_t)) c) in
+      let nodes = each_split node_s node_t (SameNode s t) (nodes_of s.cluster) one (apps_s ++ timers_s) (apps_t ++ timers_t)
+      (rest ∙ ap (λ (d : ClusterView). flat_map node_t (nodes_of d) ++ (apps_t ++ timers_t)) c) in
       let apps = each_split (app_numbers s) (app_numbers t) (λ a. standing_of s a ≡ standing_of t a) (apps_of s.cluster) (app_split s t) timers_s timers_t
       (nodes.1 ∙ ap (λ (d : ClusterView). flat_map (app_numbers t) (apps_of d) ++ timers_t) c) in
       same_parts nodes.0 apps.0 (timers_same s.time t.time s.timers t.timers apps.1)
+
+  pub keys_apart : key_of s ≡ key_of t → Alike s t
+  unfolding key_of
+  keys_apart e = apart_by (node_numbers s) (node_numbers t) (node_split s t c) e
+
+  pub packed_apart : packed_key s ≡ packed_key t → Alike s t
+  unfolding packed_key
+  packed_apart e = apart_by (packed_node s) (packed_node t) (packed_node_split s t c) e
 
 -- ---- and states that are alike have one key
 key_timeless : (s : StateView) → key_of (timeless s) ≡ key_of s
@@ -109,3 +123,10 @@ key_timeless s = ap (λ (l : List ℕ). flat_map (node_numbers s) (nodes_of s.cl
 
 pub keys_alike : (s t : StateView) → Alike s t → key_of s ≡ key_of t
 keys_alike s t alike = sym (key_timeless s) ∙ ap key_of alike ∙ key_timeless t
+
+packed_timeless : (s : StateView) → packed_key (timeless s) ≡ packed_key s
+unfolding packed_key packed_node packed_pair app_numbers
+packed_timeless s = ap (λ (l : List ℕ). flat_map (packed_node s) (nodes_of s.cluster) ++ flat_map (app_numbers s) (apps_of s.cluster) ++ l) (timers_seen s.time s.timers)
+
+pub packed_alike : (s t : StateView) → Alike s t → packed_key s ≡ packed_key t
+packed_alike s t alike = sym (packed_timeless s) ∙ ap packed_key alike ∙ packed_timeless t

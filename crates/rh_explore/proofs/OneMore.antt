@@ -9,7 +9,7 @@ use Rattle.rh_explore.specs.declared.space.Found.{Found}
 use Rattle.rh_explore.specs.declared.space.Space.{Space}
 use Rattle.rh_explore.specs.Codes.{code}
 use Rattle.rh_explore.specs.Failures.{AreFailures}
-use Rattle.rh_explore.specs.Keys.{key_of}
+use Rattle.rh_explore.specs.Packed.{packed_key}
 use Rattle.rh_explore.specs.Reaching.{Scope, behind}
 use Rattle.rh_explore.specs.Spaces.{Seen}
 use Rattle.rh_explore.specs.Kept.{path_by, paths_of, seen_by, seen_of, states_of, code_in, codes_of, bytes_of, AreLinked, IsKept}
@@ -26,7 +26,7 @@ more_is w found at e g last =
 pub kept_more : (w : Scope) (asks : List Ask) (old new : Space) (y : Seen) → IsKept w asks old
     → AreLinked new.found.items
     → seen_of w new.found.items ≡ seen_of w old.found.items ++ y ∷ []
-    → bytes_of new ≡ bytes_of old ++ code (key_of y.state) ∷ []
+    → bytes_of new ≡ bytes_of old ++ code (packed_key y.state) ∷ []
     → AreFailures new.failures.firsts.items new.failures.left.items asks (states_of (seen_of w old.found.items) ++ y.state ∷ [])
     → IsKept w asks new
 kept_more w asks old new y kept linked more bytes failures =
@@ -34,7 +34,7 @@ kept_more w asks old new y kept linked more bytes failures =
     let state_in = λ (x : Seen). x.state in
     record {
       linked = linked;
-      codes = bytes ∙ ap (λ (l : List (List ℕ)). l ++ code (key_of y.state) ∷ []) kept.codes ∙ sym (map_push code_in seen y) ∙ ap codes_of (sym more);
+      codes = bytes ∙ ap (λ (l : List (List ℕ)). l ++ code (packed_key y.state) ∷ []) kept.codes ∙ sym (map_push code_in seen y) ∙ ap codes_of (sym more);
       failures = subst (λ (l : List StateView). AreFailures new.failures.firsts.items new.failures.left.items asks l)
           (sym (ap states_of more ∙ map_push state_in seen y)) failures;
     }

@@ -1,5 +1,5 @@
 -- The states from which others were found.
-use Rattle.std.proofs.Common.{◌≡◌, ◌≤◌, ◌<◌, ◌+◌, ◌-◌, ℕ, zero, suc, List, [], ◌∷◌, ◌++◌, take, drop, replicate, length, get_or, slice_get, Option, Some, None, All, refl, sym, ap, ◌∙◌, append_assoc, subst, arith}
+use Rattle.std.proofs.Common.{◌≡◌, ◌<◌, ◌+◌, ◌-◌, ℕ, zero, suc, List, [], ◌∷◌, ◌++◌, take, drop, replicate, length, get_or, slice_get, Option, Some, None, All, refl, sym, ap, ◌∙◌, append_assoc, subst, arith}
 use Rattle.std.specs.List.{flat_map}
 use Rattle.std.specs.Option.{option_map}
 use Rattle.std.proofs.lemmas.List.{flat_map_more, append-nil, length_push, length-map, map_push, take_at, drop-append-le, replicate-append-replicate}
@@ -16,7 +16,7 @@ use Rattle.rh_explore.specs.declared.space.Found.{Found}
 use Rattle.rh_explore.specs.declared.space.Space.{Space}
 use Rattle.rh_explore.specs.Reaching.{Scope, MayCome, MayAllCome, behind}
 use Rattle.rh_explore.specs.Spaces.{Seen, IsSeen}
-use Rattle.rh_explore.specs.Kept.{path_by, paths_of, seen_by, seen_of, AreLinked, parent_by, parents_of, child_by, repeated, waiting_in, IsIdle, IsFront, IsTakenUp, IsTakenBack, IsUntried, IsFamily, GoesOnFrom}
+use Rattle.rh_explore.specs.Kept.{path_by, paths_of, seen_by, seen_of, AreLinked, parent_by, parents_of, child_by, repeated, IsIdle, IsFront, IsTakenUp, IsTakenBack, IsUntried, IsFamily, GoesOnFrom}
 use Rattle.rh_explore.proofs.Places.{at_of}
 use Rattle.rh_explore.proofs.PathsTo.{path_at, path_is, path_stays, seen_there, seen_push, found_stays, length-seen}
 use Rattle.rh_explore.proofs.Searched.{behind_push}

@@ -13,14 +13,14 @@ use Rattle.rh_rules.specs.declared.event.Event.{Event}
 use Rattle.rh_explore.specs.declared.reaching.Way.TheVariants.{To, Nowhere, AtLimit}
 use Rattle.rh_explore.specs.declared.bounds.Covered.TheVariants as covered
 use Rattle.rh_explore.specs.Codes.{code}
-use Rattle.rh_explore.specs.Keys.{key_of}
+use Rattle.rh_explore.specs.Packed.{packed_key}
 use Rattle.rh_explore.proofs.CodesApart.{code_same}
 use Rattle.rh_explore.specs.Reaching.{Scope, MayCome}
 use Rattle.rh_explore.specs.Spaces.{Seen, StepsTo, IsSeen, IsSearched, IsNear, IsExpanded, IsExpandedAt, IsAtLimit, IsCut, IsEnd}
 use Rattle.rh_explore.specs.Kept.{code_in, codes_of}
 use Rattle.rh_explore.proofs.Places.{at_of}
 use Rattle.rh_explore.proofs.Alikes.{accepted_alike, few_alike}
-use Rattle.rh_explore.proofs.KeysApart.{keys_apart, keys_alike}
+use Rattle.rh_explore.proofs.KeysApart.{packed_apart, packed_alike}
 use Rattle.rh_explore.proofs.Searched.{one_left_out, one_known, one_new, expand_begins, expand_ends, expand_near, ordered_at}
 
 module _ (w : Scope) (seen : List Seen) (at : ℕ) (x : Seen) (here : slice_get seen at ≡ Some x) where
@@ -61,32 +61,32 @@ module _ (w : Scope) (seen : List Seen) (at : ℕ) (x : Seen) (here : slice_get 
       is_seen k y there = at_of (IsSeen w) seen k y (it_is made so).searched.each there
 
       -- a state with its key is alike
-      same_key : (k : ℕ) (y : Seen) → slice_get seen k ≡ Some y → key_of y.state ≡ key_of t → Alike y.state t
+      same_key : (k : ℕ) (y : Seen) → slice_get seen k ≡ Some y → packed_key y.state ≡ packed_key t → Alike y.state t
       same_key k y there keys =
           let that = is_seen k y there in
-          keys_apart y.state t that.valid.sound.shaped steps.3.sound.shaped (steps.4 ∙ is_here.cluster ∙ sym that.cluster) keys
+          packed_apart y.state t that.valid.sound.shaped steps.3.sound.shaped (steps.4 ∙ is_here.cluster ∙ sym that.cluster) keys
 
-      pub known : Contains (codes_of seen) (code (key_of t)) → IsExpandedAt w seen at (made + 1)
+      pub known : Contains (codes_of seen) (code (packed_key t)) → IsExpandedAt w seen at (made + 1)
       known has =
           let k = has.0 in
           let k_in : k < length seen = omega (arith, has.1, length-map seen code_in) in
           let y = get_or seen k x in
           let there : slice_get seen k ≡ Some y = slice_get-get_or seen k x k_in in
-          let codes : code (key_of y.state) ≡ code (key_of t) = sym (get_or-map code_in seen k x (code (key_of t)) k_in) ∙ has.2 in
-          let keys : key_of y.state ≡ key_of t = code_same (key_of y.state) (key_of t) codes in
+          let codes : code (packed_key y.state) ≡ code (packed_key t) = sym (get_or-map code_in seen k x (code (packed_key t)) k_in) ∙ has.2 in
+          let keys : packed_key y.state ≡ packed_key t = code_same (packed_key y.state) (packed_key t) codes in
           let near = at_of (λ (z : Seen). length z.path ≤ length x.path + 1) seen k y (it_is made so).near there in (
             x,
             one_known w seen at x made e is (it_is made so)
                 (k, y, there, sym (same_key k y there keys ∙ ap timeless steps.2), near),
           )
 
-      module _ (new : Contains (codes_of seen) (code (key_of t)) → ⊥) where
+      module _ (new : Contains (codes_of seen) (code (packed_key t)) → ⊥) where
         fresh : All (λ (y : Seen). Alike y.state t → ⊥) seen
         fresh = λ k d l same.
             new (
               k,
               omega (arith, l, length-map seen code_in),
-              get_or-map code_in seen k d (code (key_of t)) l ∙ ap code (keys_alike (get_or seen k d).state t same),
+              get_or-map code_in seen k d (code (packed_key t)) l ∙ ap code (packed_alike (get_or seen k d).state t same),
             )
 
         pub added : (y : Seen) → y.path ≡ x.path ++ e ∷ [] → y.state ≡ t → IsExpandedAt w (seen ++ y ∷ []) at (made + 1)

@@ -16,6 +16,7 @@ use Rattle.rh_explore.specs.declared.bounds.Covered.TheVariants as covered
 use Rattle.rh_explore.specs.Asking.{has_timer, is_so}
 use Rattle.rh_explore.specs.Exploring.{CoversAll}
 use Rattle.rh_explore.specs.Keys.{key_of, node_numbers, pair_numbers, app_numbers}
+use Rattle.rh_explore.specs.Packed.{packed_key, packed_node, packed_pair}
 use Rattle.rh_explore.specs.Reaching.{not_up_count}
 
 abbrev n1 : Node
@@ -124,6 +125,16 @@ row_key : key_of lost
     ∷ 500 ∷ 0 ∷ 1 ∷ 4900 ∷ 1 ∷ 0 ∷ []
 unfolding key_of node_numbers pair_numbers app_numbers nodes_of apps_of
 row_key = refl
+
+-- ---- as it is kept: the restart type and the permission of a pair are one number
+row_packed : packed_key lost
+    ≡ 0 ∷ 0 ∷ 0 ∷ 6
+    ∷ 1 ∷ 0 ∷ 0 ∷ 2
+    ∷ 2 ∷ 0 ∷ 1 ∷ 0 ∷ 6
+    ∷ 4 ∷ 0
+    ∷ 500 ∷ 0 ∷ 1 ∷ 4900 ∷ 1 ∷ 0 ∷ []
+unfolding packed_key packed_node packed_pair app_numbers nodes_of apps_of
+row_packed = refl
 
 -- ---- what is covered
 row_all_covered : CoversAll 12 covered.All

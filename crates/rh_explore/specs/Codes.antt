@@ -13,6 +13,6 @@ number_code n = if nat_lt n 255 then n ∷ [] else (if nat_lt n (2 ^ 64) then 25
 abbrev pub code : List ℕ → List ℕ
 code ns = flat_map number_code ns
 
--- how many bytes say what is said of a node, at most: its mode, each application in a list, the ends of two lists, and two of each pair
+-- how many bytes say what is said of a node, at most: its mode, each application in a list, the ends of two lists, and one of each pair
 abbrev pub node_room : ClusterView → ℕ
-node_room c = 3 * app_count c + 3
+node_room c = 2 * app_count c + 3

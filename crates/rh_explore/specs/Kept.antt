@@ -15,7 +15,7 @@ use Rattle.rh_explore.specs.declared.space.Found.{Found}
 use Rattle.rh_explore.specs.declared.space.Space.{Space}
 use Rattle.rh_explore.specs.Codes.{code}
 use Rattle.rh_explore.specs.Failures.{AreFailures}
-use Rattle.rh_explore.specs.Keys.{key_of}
+use Rattle.rh_explore.specs.Packed.{packed_key}
 use Rattle.rh_explore.specs.Reaching.{Scope, behind}
 use Rattle.rh_explore.specs.Spaces.{Seen}
 
@@ -48,7 +48,7 @@ pub record AreLinked (found : List Found) : Type 0 where
 
 -- the keys of states, as they are kept
 abbrev pub code_in : Seen → List ℕ
-code_in x = code (key_of x.state)
+code_in x = code (packed_key x.state)
 
 abbrev pub codes_of : List Seen → List (List ℕ)
 codes_of seen = map code_in seen

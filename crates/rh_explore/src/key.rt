@@ -6,7 +6,8 @@ ghost use Rattle.rh_model.specs.ClusterView.{node_count, app_count};
 ghost use Rattle.rh_state.specs.Numbers.{nodes_of, apps_of};
 ghost use Rattle.rh_state.specs.Stored.{read};
 ghost use Rattle.rh_settle.specs.Validity.{IsValid};
-ghost use Rattle.rh_explore.specs.Keys.{timer_numbers, node_numbers, app_numbers, key_of};
+ghost use Rattle.rh_explore.specs.Keys.{timer_numbers, app_numbers};
+ghost use Rattle.rh_explore.specs.Packed.{packed_node, packed_key};
 ghost use Rattle.rh_explore.specs.Codes.{code, node_room};
 
 mod code;
@@ -39,10 +40,10 @@ impl KeyMaker {
 
     /// Makes the key of a state, which is again as it was. Two states of a cluster are alike, as they are read, exactly if their keys
     /// are equal: the clock, the starts of nodes and the start kinds have no part in it, and timers are counted from now.
-    #[tactic(auto, unfolding(crate::specs::Keys::key_of))]
+    #[tactic(auto, unfolding(crate::specs::Packed::packed_key))]
     pub(crate) fn make(&mut self, state: &mut State) -> Result<(), OutOfMemory>
         requires { IsValid (read state.old) }
-        ensures key { OnOk result (self.new.key.bytes.items ≡ code (key_of (read state.old))) }
+        ensures key { OnOk result (self.new.key.bytes.items ≡ code (packed_key (read state.old))) }
         ensures state { OnOk result (state.new ≡ state.old) }
     {
         let key = &mut self.key.bytes;
@@ -54,7 +55,7 @@ impl KeyMaker {
 // Writes all that isn't a timer, in place of what was there. There is room for the longest such parts before they are written, so that
 // their bytes are written without a question each whether they have any; timers are added behind them.
 fn write_parts(key: &mut Vec<u8>, state: &State) -> Result<(), OutOfMemory>
-    ensures { OnOk result (key.new.items ≡ code (flat_map (node_numbers (read state.now)) (nodes_of (read state.now).cluster))
+    ensures { OnOk result (key.new.items ≡ code (flat_map (packed_node (read state.now)) (nodes_of (read state.now).cluster))
         ++ code (flat_map (app_numbers (read state.now)) (apps_of (read state.now).cluster))) }
 {
     key.resize(room_of(state.cluster()), 0)?;
@@ -64,13 +65,13 @@ fn write_parts(key: &mut Vec<u8>, state: &State) -> Result<(), OutOfMemory>
     Ok(())
 }
 
-// How long they are at most: each application stands in one list of a node, and has two bytes as a pair of it.
+// How long they are at most: each application stands in one list of a node, and has a byte as a pair of it.
 fn room_of(cluster: &Cluster) -> usize
     ensures { result ≡ node_count cluster.now * node_room cluster.now + 2 * app_count cluster.now }
 {
     let nodes = cluster.node_count();
     let apps = cluster.app_count();
-    nodes * (3 * apps + 3) + 2 * apps
+    nodes * (2 * apps + 3) + 2 * apps
 }
 
 // Writes what is said of each node, and says where that ends.
@@ -79,7 +80,7 @@ fn put_nodes(cells: &mut [u8], state: &State) -> usize
     requires { node_count (read state.now).cluster * node_room (read state.now).cluster ≤ length cells.old }
     ensures length { length cells.new ≡ length cells.old }
     ensures end { result ≤ node_count (read state.now).cluster * node_room (read state.now).cluster }
-    ensures bytes { take result cells.new ≡ code (flat_map (node_numbers (read state.now)) (nodes_of (read state.now).cluster)) }
+    ensures bytes { take result cells.new ≡ code (flat_map (packed_node (read state.now)) (nodes_of (read state.now).cluster)) }
 {
     let count = state.cluster().node_count();
     let mut end = 0;

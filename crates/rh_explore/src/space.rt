@@ -6,7 +6,7 @@ ghost use Rattle.rh_state.specs.Stored.{read};
 ghost use Rattle.rh_settle.specs.Validity.{IsValid};
 ghost use Rattle.rh_explore.specs.Failures.{AreFailures};
 ghost use Rattle.rh_explore.specs.Codes.{code};
-ghost use Rattle.rh_explore.specs.Keys.{key_of};
+ghost use Rattle.rh_explore.specs.Packed.{packed_key};
 ghost use Rattle.rh_explore.specs.Exploring.{scope_of, StaysBelowLimits, CoversAll};
 ghost use Rattle.rh_explore.specs.Spaces.{Seen, IsSearched, IsNear, IsEnd, IsCut, IsExpandedAt};
 ghost use Rattle.rh_explore.specs.Kept.{seen_of, bytes_of, waiting_in, IsKept, IsShort, IsUntried, IsIdle, IsFront, IsTakenUp, IsSameFront, IsTakenBack, IsFamily, GoesOnFrom};
@@ -53,7 +53,7 @@ impl Space {
     fn of(alloc: Global, base: &State, asks: &[Ask]) -> Result<Space, OutOfMemory>
         requires { IsValid (read base.now) }
         ensures found { IfOk result (λ space. space.found.items ≡ record { last = None; depth = 0 } ∷ []) }
-        ensures keys { IfOk result (λ space. bytes_of space ≡ code (key_of (read base.now)) ∷ []) }
+        ensures keys { IfOk result (λ space. bytes_of space ≡ code (packed_key (read base.now)) ∷ []) }
         ensures idle { IfOk result (λ space. IsIdle space.front.probe) }
         ensures front { IfOk result (λ space. waiting_in space.front ≡ read base.now ∷ []) }
         ensures failures { IfOk result (λ space. AreFailures space.failures.firsts.items space.failures.left.items asks.now (read base.now ∷ [])) }

@@ -7,7 +7,8 @@ ghost use Rattle.rh_state.specs.Numbers.{apps_of};
 ghost use Rattle.rh_state.specs.StateView.{running_at, waiting_at};
 ghost use Rattle.rh_state.specs.Stored.{read};
 ghost use Rattle.rh_explore.specs.Codes.{code, node_room};
-ghost use Rattle.rh_explore.specs.Keys.{mode_number, restart_number, permission_number, standing_numbers, timer_numbers, app_number, pair_numbers, node_numbers, app_numbers};
+ghost use Rattle.rh_explore.specs.Keys.{mode_number, restart_number, permission_number, standing_numbers, timer_numbers, app_number, app_numbers};
+ghost use Rattle.rh_explore.specs.Packed.{pair_number, packed_pair, packed_node};
 
 use crate::key::code::push_number;
 use rh_base::OutOfMemory;
@@ -15,13 +16,13 @@ use rh_model::{App, Node, Restart};
 use rh_state::{Mode, Standing, State, Timer};
 
 // Writes what is said of a node from a place on, and says where that ends.
-#[tactic(auto, unfolding(crate::specs::Keys::node_numbers))]
+#[tactic(auto, unfolding(crate::specs::Packed::packed_node))]
 pub(crate) fn put_node(cells: &mut [u8], at: usize, state: &State, node: Node) -> usize
     requires node { node.0 < node_count (read state.now).cluster }
     requires room { at + node_room (read state.now).cluster ≤ length cells.old }
     ensures length { length cells.new ≡ length cells.old }
     ensures end { result ≤ at + node_room (read state.now).cluster }
-    ensures bytes { take result cells.new ≡ take at cells.old ++ code (node_numbers (read state.now) node) }
+    ensures bytes { take result cells.new ≡ take at cells.old ++ code (packed_node (read state.now) node) }
 {
     state.formed();
     cells[at] = mode_byte(state.mode(node));
@@ -78,39 +79,37 @@ fn put_waiting(cells: &mut [u8], at: usize, state: &State, node: Node) -> usize
 #[tactic(auto, unfolding(rh_state::specs::Numbers::apps_of))]
 fn put_each_pair(cells: &mut [u8], at: usize, state: &State, node: Node) -> usize
     requires node { node.0 < node_count (read state.now).cluster }
-    requires room { at + 2 * app_count (read state.now).cluster ≤ length cells.old }
+    requires room { at + app_count (read state.now).cluster ≤ length cells.old }
     ensures length { length cells.new ≡ length cells.old }
-    ensures end { result ≡ at + 2 * app_count (read state.now).cluster }
-    ensures bytes { take result cells.new ≡ take at cells.old ++ code (flat_map (pair_numbers (read state.now) node) (apps_of (read state.now).cluster)) }
+    ensures end { result ≡ at + app_count (read state.now).cluster }
+    ensures bytes { take result cells.new ≡ take at cells.old ++ code (flat_map (packed_pair (read state.now) node) (apps_of (read state.now).cluster)) }
 {
     let count = state.cluster().app_count();
     for number in 0..count {
         let app = App(number as u8);
-        cells[at + 2 * number] = restart_byte(state.restart_of(node, app));
-        cells[at + 2 * number + 1] = permission_byte(state.allowed(node, app));
+        cells[at + number] = pair_byte(state.restart_of(node, app), state.allowed(node, app));
     }
-    at + 2 * count
+    at + count
 }
 
 // The same, by way of a row of its own, which many pairs fill several at a time, and which is copied as a whole.
 #[tactic(auto, unfolding(rh_state::specs::Numbers::apps_of))]
 fn put_row(cells: &mut [u8], at: usize, state: &State, node: Node) -> usize
     requires node { node.0 < node_count (read state.now).cluster }
-    requires room { at + 2 * app_count (read state.now).cluster ≤ length cells.old }
+    requires room { at + app_count (read state.now).cluster ≤ length cells.old }
     ensures length { length cells.new ≡ length cells.old }
-    ensures end { result ≡ at + 2 * app_count (read state.now).cluster }
-    ensures bytes { take result cells.new ≡ take at cells.old ++ code (flat_map (pair_numbers (read state.now) node) (apps_of (read state.now).cluster)) }
+    ensures end { result ≡ at + app_count (read state.now).cluster }
+    ensures bytes { take result cells.new ≡ take at cells.old ++ code (flat_map (packed_pair (read state.now) node) (apps_of (read state.now).cluster)) }
 {
     let count = state.cluster().app_count();
     // They are gathered in a row of its own, which has room for all applications that a cluster may have.
-    let mut row = [0; 256];
+    let mut row = [0; 128];
     for number in 0..count as u8 {
         let app = App(number);
-        row[2 * number as usize] = restart_byte(state.restart_of(node, app));
-        row[2 * number as usize + 1] = permission_byte(state.allowed(node, app));
+        row[number as usize] = pair_byte(state.restart_of(node, app), state.allowed(node, app));
     }
-    let end = at + 2 * count;
-    cells[at..end].copy_from_slice(&row[..2 * count]);
+    let end = at + count;
+    cells[at..end].copy_from_slice(&row[..count]);
     end
 }
 
@@ -118,13 +117,13 @@ fn put_row(cells: &mut [u8], at: usize, state: &State, node: Node) -> usize
 // have to wait until these bytes can be read again.
 const FEW: usize = 8;
 
-// Writes what is said of each pair of a node: two bytes each, in the cluster's order of applications.
+// Writes what is said of each pair of a node: a byte each, in the cluster's order of applications.
 fn put_pairs(cells: &mut [u8], at: usize, state: &State, node: Node) -> usize
     requires node { node.0 < node_count (read state.now).cluster }
-    requires room { at + 2 * app_count (read state.now).cluster ≤ length cells.old }
+    requires room { at + app_count (read state.now).cluster ≤ length cells.old }
     ensures length { length cells.new ≡ length cells.old }
-    ensures end { result ≡ at + 2 * app_count (read state.now).cluster }
-    ensures bytes { take result cells.new ≡ take at cells.old ++ code (flat_map (pair_numbers (read state.now) node) (apps_of (read state.now).cluster)) }
+    ensures end { result ≡ at + app_count (read state.now).cluster }
+    ensures bytes { take result cells.new ≡ take at cells.old ++ code (flat_map (packed_pair (read state.now) node) (apps_of (read state.now).cluster)) }
 {
     if state.cluster().app_count() <= FEW {
         put_each_pair(cells, at, state, node)
@@ -189,9 +188,17 @@ fn mode_byte(mode: Mode) -> u8
     }
 }
 
-// So has each restart type.
+// A restart type and a permission, in a byte.
+fn pair_byte(restart: Restart, allowed: bool) -> u8
+    ensures { result ≡ pair_number restart allowed }
+{
+    restart_byte(restart) + 4 * permission_byte(allowed)
+}
+
+// Each restart type has its number.
 fn restart_byte(restart: Restart) -> u8
-    ensures { result ≡ restart_number restart }
+    ensures number { result ≡ restart_number restart }
+    ensures small { result ≤ 2 }
 {
     match restart {
         Restart::Permanent => 0,
@@ -202,7 +209,8 @@ fn restart_byte(restart: Restart) -> u8
 
 // And so has a permission.
 fn permission_byte(allowed: bool) -> u8
-    ensures { result ≡ permission_number allowed }
+    ensures number { result ≡ permission_number allowed }
+    ensures small { result ≤ 1 }
 {
     u8::from(allowed)
 }

@@ -5,7 +5,7 @@ use Rattle.rh_model.specs.ClusterView.{numbered}
 use Rattle.rh_model.specs.declared.node.Node.{Node}
 use Rattle.rh_state.specs.Stored.{read}
 use Rattle.rh_explore.specs.Codes.{code, node_room}
-use Rattle.rh_explore.specs.Keys.{node_numbers}
+use Rattle.rh_explore.specs.Packed.{packed_node}
 use Rattle.rh_explore.proofs.KeyCodes.{code_more}
 use Rattle.rh_explore.proofs.KeyCells.{more_room}
 use Rattle.rh_explore.proofs.key.put_nodes.Goals as goal
@@ -17,7 +17,7 @@ loop-number-preserved c =
       c.put_node-end.ensures.length ∙ c.loop-number.invariant.0,
       more_room i c.loop-number.end c.put_node-end.result (node_room s.cluster) c.loop-number.invariant.1 c.put_node-end.ensures.end,
       c.put_node-end.ensures.bytes
-          ∙ ap (λ (t : List ℕ). t ++ code (node_numbers s (numbered i))) c.loop-number.invariant.2
-          ∙ code_more (node_numbers s) [] (map numbered (range_with_len 0 i)) (numbered i)
-          ∙ ap (λ (all : List Node). code (flat_map (node_numbers s) all)) (sym (map-range_with_len_more numbered 0 i i (omega arith))),
+          ∙ ap (λ (t : List ℕ). t ++ code (packed_node s (numbered i))) c.loop-number.invariant.2
+          ∙ code_more (packed_node s) [] (map numbered (range_with_len 0 i)) (numbered i)
+          ∙ ap (λ (all : List Node). code (flat_map (packed_node s) all)) (sym (map-range_with_len_more numbered 0 i i (omega arith))),
     )

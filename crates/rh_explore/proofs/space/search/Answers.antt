@@ -1,4 +1,4 @@
-use Rattle.std.proofs.Common.{rules, ◌++◌, ◌≡◌, ◌<◌, ◌≤◌, ◌+◌, ◌∷◌, [], ℕ, zero, suc, List, length, map, drop, slice_get, Some, None, All, refl, sym, ap, ◌∙◌, subst, arith}
+use Rattle.std.proofs.Common.{rules, ◌≡◌, ◌<◌, ◌≤◌, ◌+◌, ◌∷◌, [], ℕ, zero, suc, List, length, map, drop, slice_get, Some, None, All, refl, sym, ap, ◌∙◌, subst, arith}
 use Rattle.std.proofs.lemmas.List.{length-map, length-drop}
 use Rattle.std.proofs.lemmas.Option.{same_Some, none-some, slice_get_within}
 use Rattle.rh_state.specs.StateView.{StateView}
@@ -9,7 +9,7 @@ use Rattle.rh_explore.specs.declared.space.Found.{Found}
 use Rattle.rh_explore.specs.declared.space.Space.{Space}
 use Rattle.rh_explore.specs.Codes.{code}
 use Rattle.rh_explore.specs.Failures.{AreFailures}
-use Rattle.rh_explore.specs.Keys.{key_of}
+use Rattle.rh_explore.specs.Packed.{packed_key}
 use Rattle.rh_explore.specs.Exploring.{scope_of}
 use Rattle.rh_explore.specs.Reaching.{Scope}
 use Rattle.rh_explore.specs.Spaces.{Seen, IsSearched, IsNear}
@@ -42,7 +42,7 @@ states-init c =
     record {
       kept = record {
         linked = subst AreLinked (sym of.found) base_linked;
-        codes = of.keys ∙ ap (λ (s : List Seen). map (λ x. code (key_of x.state)) s) (sym is);
+        codes = of.keys ∙ ap (λ (s : List Seen). map (λ x. code (packed_key x.state)) s) (sym is);
         failures = subst (λ (s : List Seen). AreFailures space.failures.firsts.items space.failures.left.items c.args.asks.now (states_of s)) (sym is) of.failures;
       };
       front = record { idle = of.idle; waiting = of.front ∙ ap (parents_of w) (sym is) };

@@ -1,4 +1,4 @@
-use Rattle.std.proofs.Common.{◌≡◌, ◌-◌, ap, ◌∙◌, refl, arith}
+use Rattle.std.proofs.Common.{◌-◌, ap, ◌∙◌, refl, arith}
 use Rattle.std.specs.List.{flat_map}
 use Rattle.rh_state.specs.Stored.{read}
 use Rattle.rh_explore.specs.Kept.{repeated}

@@ -6,7 +6,8 @@ use Rattle.rh_state.specs.Numbers.{apps_of}
 use Rattle.rh_state.specs.StateView.{running_at, waiting_at, mode_of}
 use Rattle.rh_state.specs.Stored.{read}
 use Rattle.rh_explore.specs.Codes.{code}
-use Rattle.rh_explore.specs.Keys.{mode_number, app_number, pair_numbers, node_numbers}
+use Rattle.rh_explore.specs.Keys.{mode_number, app_number}
+use Rattle.rh_explore.specs.Packed.{packed_pair, packed_node}
 use Rattle.rh_explore.proofs.KeyCells.{mode_small, node_code, node_put}
 use Rattle.rh_explore.proofs.key.parts.put_node.Goals as goal
 
@@ -91,14 +92,14 @@ returns-clause-end c =
     omega (arith, apps, end, last, pairs)
 
 pub returns-clause-bytes : goal.returns-clause-bytes
-unfolding node_numbers
+unfolding packed_node
 returns-clause-bytes c =
     let s = read c.args.state.now in
     let n = c.args.node in
     let head : List ℕ = take c.args.at c.args.cells.now in
     let runs : List ℕ = flat_map app_number (running_at s n) in
     let waits : List ℕ = flat_map app_number (waiting_at s n) in
-    let pairs : List ℕ = flat_map (pair_numbers s n) (apps_of s.cluster) in
+    let pairs : List ℕ = flat_map (packed_pair s n) (apps_of s.cluster) in
     let apps = few_started s n c.formed.ensures.shape c.formed.ensures.once in
     let room = c.requires.room in
     let same = length-set c.args.cells.now c.args.at c.mode_byte.result in

@@ -1,4 +1,4 @@
-use Rattle.std.proofs.Common.{◌≤◌, ◌+◌, length, max}
+use Rattle.std.proofs.Common.{◌≤◌, length, max}
 use Rattle.rh_state.specs.Stored.{read}
 use Rattle.rh_explore.specs.Exploring.{scope_of}
 use Rattle.rh_explore.specs.Spaces.{IsExpandedAt}

@@ -15,13 +15,13 @@ use Rattle.rh_explore.specs.declared.space.Found.{Found}
 use Rattle.rh_explore.specs.Codes.{code}
 use Rattle.rh_explore.specs.Exploring.{scope_of}
 use Rattle.rh_explore.specs.Failures.{AreFailures}
-use Rattle.rh_explore.specs.Keys.{key_of}
+use Rattle.rh_explore.specs.Packed.{packed_key}
 use Rattle.rh_explore.specs.Spaces.{Seen, StepsTo, IsExpandedAt}
 use Rattle.rh_explore.specs.Kept.{path_by, paths_of, seen_by, seen_of, states_of, codes_of, bytes_of, AreLinked}
 use Rattle.rh_explore.proofs.PathsTo.{path_at, seen_there, seen_push, linked_push, length-seen}
 use Rattle.rh_explore.proofs.OneMore.{more_is, kept_more}
 use Rattle.rh_explore.proofs.Parents.{family_none, family_one}
-use Rattle.rh_explore.proofs.Places.{at_front, there_of}
+use Rattle.rh_explore.proofs.Places.{there_of}
 use Rattle.rh_explore.proofs.Reached.{not_there, known, added}
 use Rattle.rh_explore.proofs.space.Space.reach.Goals as goal
 
@@ -101,7 +101,7 @@ returns-clause-kept c =
     kept_more w c.args.asks.now c.args.self.now _ y c.requires.kept
     (subst AreLinked (sym c.in_ok-push.ensures.found) (linked_push found f g at e c.requires.kept.linked there refl refl))
     (ap (seen_of w) c.in_ok-push.ensures.found ∙ seen_push w found g)
-    (c.in_ok-push.ensures.keys ∙ ap (λ (k : List ℕ). bytes_of c.args.self.now ++ k ∷ []) (c.in_ok-key.ensures ∙ c.in_ok-make.ensures.key ∙ ap (λ (z : StateView). code (key_of z)) y_state))
+    (c.in_ok-push.ensures.keys ∙ ap (λ (k : List ℕ). bytes_of c.args.self.now ++ k ∷ []) (c.in_ok-key.ensures ∙ c.in_ok-make.ensures.key ∙ ap (λ (z : StateView). code (packed_key z)) y_state))
     (subst (λ (z : StateView). AreFailures c.push.new.self.failures.firsts.items c.push.new.self.failures.left.items c.args.asks.now (states_of seen ++ z ∷ [])) told
     (c.in_ok-push.ensures.failures (states_of seen) (sym (length-map seen (λ (z : Seen). z.state) ∙ length-seen w found)) c.requires.kept.failures))
 
