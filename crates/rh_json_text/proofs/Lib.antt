@@ -1,4 +1,3 @@
 pub mod Arrays
 pub mod Looks
 pub mod Rows
-pub mod Runs

@@ -8,7 +8,6 @@ use Rattle.std.specs.List.{flat_map}
 use lib.Lanes.{chunk, mask_l, zip2, top}
 use Rattle.rh_json_text.specs.Json.{is_escaped, escaped}
 use Rattle.rh_json_text.specs.Plain.{PlainBetween}
-use Rattle.rh_json_text.proofs.Runs.{stands}
 
 -- a lane where two bytes are the same, and one where the first is below the other
 abbrev hit : ℕ → ℕ → ℕ
@@ -66,6 +65,11 @@ plain_from_lanes d i n room few =
     let tests = ap (map (top 7)) joined ∙ map-map (top 7) (λ (b : ℕ). bit_or (below b 32) (bit_or (hit b 34) (hit b 92))) v ∙ each_test v in
     let mask = ap (λ (ms : List Bool). mask_l ms % 2 ^ 64) tests ∙ mask_l-mod (map is_escaped v) 64 (omega (arith, long, length-map v is_escaped)) in
     on_true _ _ (λ e. plain_from_mask d i n room (sym mask ∙ eqb-true _ 0 e))
+
+-- a byte that can stand in a string does
+stands : (b : ℕ) → is_escaped b ≡ false → escaped b ≡ b ∷ []
+unfolding is_escaped escaped
+stands b clean = grind arith
 
 -- a text of which no byte is escaped
 stands_whole : (d : List ℕ) → PlainBetween d 0 (length d) → flat_map escaped d ≡ d

@@ -4,9 +4,9 @@
 ghost use Rattle.std.specs.Prelude.{◌≡◌, ◌<◌, ◌≤◌, ◌++◌, length, take, drop, codes, IsTrue, OnOk};
 ghost use Rattle.std.specs.List.{flat_map};
 ghost use Rattle.std.specs.Fmt.{decimal};
-ghost use Rattle.rh_json_text.specs.Json.{hex_digit, is_escaped, escaped, json_string, bracketed};
+ghost use Rattle.rh_json_text.specs.Json.{hex_digit, escaped, json_string, bracketed};
 
-use crate::plain::{is_escaped, is_plain};
+use crate::plain::is_plain;
 use itoa::Buffer;
 use rh_base::OutOfMemory;
 use std::alloc::Global;
@@ -46,40 +46,38 @@ fn hex_digit(digit: u8) -> u8
     }
 }
 
-// Adds a byte that can't stand in a string as it is.
-#[tactic(auto, unfolding(crate::specs::Json::escaped, crate::specs::Json::is_escaped))]
-fn push_escape(out: &mut Vec<u8>, byte: u8) -> Result<(), OutOfMemory>
-    requires { IsTrue (is_escaped byte) }
+// Adds a byte of a string.
+#[tactic(auto, unfolding(crate::specs::Json::escaped))]
+fn push_escaped(out: &mut Vec<u8>, byte: u8) -> Result<(), OutOfMemory>
     ensures { OnOk result (out.new.items ≡ out.old.items ++ escaped byte) }
 {
     if byte < 32 {
         push_text(out, "\\u00")?;
         return push_bytes(out, &[hex_digit(byte / 16), hex_digit(byte % 16)]);
     }
-    push_bytes(out, &[b'\\', byte])
+    if byte == b'"' || byte == b'\\' {
+        out.push(b'\\')?;
+    }
+    out.push(byte)?;
+    Ok(())
 }
 
-// Adds the bytes of a string: those between two that are escaped at once, since most strings have none.
+// Adds the bytes of a string, one by one.
 fn push_each_escaped(out: &mut Vec<u8>, text: &[u8]) -> Result<(), OutOfMemory>
     ensures { OnOk result (out.new.items ≡ out.old.items ++ flat_map escaped text.now) }
 {
-    let mut pushed = 0;
-    for place in 0..text.len() {
-        let byte = text[place];
-        if is_escaped(byte) {
-            push_bytes(out, &text[pushed..place])?;
-            push_escape(out, byte)?;
-            pushed = place + 1;
-        }
+    for byte in text {
+        push_escaped(out, *byte)?;
     }
-    push_bytes(out, &text[pushed..])
+    Ok(())
 }
 
-// Adds the bytes of a string. Most strings have none that is escaped, and are added as they are.
+// Adds the bytes of a string. Most strings have none that is escaped, and are added as they are. Fewer than 4 bytes are added one by one
+// sooner than looked at.
 fn push_inside(out: &mut Vec<u8>, text: &[u8]) -> Result<(), OutOfMemory>
     ensures { OnOk result (out.new.items ≡ out.old.items ++ flat_map escaped text.now) }
 {
-    if is_plain(text) {
+    if text.len() >= 4 && is_plain(text) {
         return push_bytes(out, text);
     }
     push_each_escaped(out, text)

@@ -1,22 +1,13 @@
-//! Whether a text can stand in a string as it is. Several bytes are looked at in one step, and two looks that overlap cover a short text:
-//! a name has mostly 4 to 16 bytes.
+//! Whether a text of 4 bytes or more can stand in a string as it is. Several bytes are looked at in one step, and two looks that overlap
+//! cover a short text: a name has mostly 4 to 16 bytes.
 
 ghost use Rattle.std.specs.Prelude.{◌≡◌, ◌+◌, ◌≤◌, length};
 ghost use Rattle.std.specs.Bool.{OnTrue};
 ghost use Rattle.std.specs.List.{flat_map};
-ghost use Rattle.rh_json_text.specs.Json.{is_escaped, escaped};
+ghost use Rattle.rh_json_text.specs.Json.{escaped};
 ghost use Rattle.rh_json_text.specs.Plain.{PlainBetween};
 
 use std::simd::prelude::*;
-
-// Whether a byte can't stand in a string as it is.
-#[inline(always)]
-#[tactic(auto, unfolding(crate::specs::Json::is_escaped))]
-pub fn is_escaped(byte: u8) -> bool
-    ensures { result ≡ is_escaped byte }
-{
-    byte < 32 || byte == b'"' || byte == b'\\'
-}
 
 // Whether the 4 bytes from a place on can stand in a string. What passes does; the other answer says nothing.
 #[inline(always)]
@@ -54,19 +45,6 @@ fn plain_16(text: &[u8], at: usize) -> bool
         == 0
 }
 
-// The same of a text, byte by byte.
-#[inline(always)]
-fn plain_few(text: &[u8]) -> bool
-    ensures { OnTrue result (PlainBetween text.now 0 (length text.now)) }
-{
-    for byte in text {
-        if is_escaped(*byte) {
-            return false;
-        }
-    }
-    true
-}
-
 // The same of a text of 16 bytes or more.
 #[inline(always)]
 fn plain_long(text: &[u8]) -> bool
@@ -83,9 +61,10 @@ fn plain_long(text: &[u8]) -> bool
     plain_16(text, text.len() - 16)
 }
 
-// The same of a text of any length.
+// The same of a text of 4 bytes or more.
 #[inline(always)]
 fn plain_bytes(text: &[u8]) -> bool
+    requires { 4 ≤ length text.now }
     ensures { OnTrue result (PlainBetween text.now 0 (length text.now)) }
 {
     let len = text.len();
@@ -93,16 +72,15 @@ fn plain_bytes(text: &[u8]) -> bool
         plain_long(text)
     } else if len >= 8 {
         plain_8(text, 0) && plain_8(text, len - 8)
-    } else if len >= 4 {
-        plain_4(text, 0) && plain_4(text, len - 4)
     } else {
-        plain_few(text)
+        plain_4(text, 0) && plain_4(text, len - 4)
     }
 }
 
-// Whether a text can stand in a string as it is. What this passes does; nothing is said of what it doesn't pass.
+// Whether such a text can stand in a string as it is. What this passes does; nothing is said of what it doesn't pass.
 #[inline(always)]
 pub fn is_plain(text: &[u8]) -> bool
+    requires { 4 ≤ length text.now }
     ensures { OnTrue result (flat_map escaped text.now ≡ text.now) }
 {
     plain_bytes(text)

@@ -1,5 +1,0 @@
-use Rattle.rh_json_text.specs.Plain.{PlainBetween}
-use Rattle.rh_json_text.proofs.plain.plain_few.Given as goal
-
-abbrev pub invariant-loop-byte : goal.invariant-loop-byte
-invariant-loop-byte l = PlainBetween l.text 0 l.byte-index
