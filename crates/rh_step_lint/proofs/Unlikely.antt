@@ -14,8 +14,8 @@ use Rattle.rh_model.specs.declared.settings.Spread.{Spread}
 use Rattle.rh_state.specs.Numbers.{same_node, nodes_of, apps_of}
 use Rattle.rh_state.specs.StateView.{StateView}
 use Rattle.rh_rules.specs.declared.event.Event.{Event}
-use Rattle.rh_step_lint.specs.After.{is_started_after, is_permitted_after}
-use Rattle.rh_step_lint.specs.Candidates.{ranks_before, share_group, is_available, is_best, asks_all, is_idle, holds_up}
+use Rattle.rh_step_lint.specs.After.{is_up_after, is_started_after, is_permitted_after}
+use Rattle.rh_step_lint.specs.Candidates.{ranks_before, share_group, is_available, is_outranked, is_best, asks_all, is_idle, holds_up}
 use Rattle.rh_step_lint.specs.Tries.{runner, tries, is_open_from, asks_others}
 use Rattle.rh_step_lint.specs.Others.{stands_so, other_so}
 use Rattle.rh_step_lint.specs.Lacks.{lacks_so, lacking_so}
@@ -152,15 +152,33 @@ module _ (s : StateView) (e : Event) (n : Node) (a : App) where
   open_is None = refl
   open_is (Some r) = refl
 
-  pub trial_is : tries s e n a ≡ true → trial_of s e n a ≡ record {
-    waits = (is_available s e a n && (is_none (runner s e a) || (is_best s e a n && is_behind s e a (runner s e a)))) && has_spare s e a;
-    forbidden = not (is_permitted_after s e n a) && is_none (runner s e a);
-    below = (is_available s e a n && not (is_best s e a n)) && is_behind s e a (runner s e a);
-    back = is_best s e a n && is_behind s e a (runner s e a);
-    weighs = is_best s e a n && (is_none (runner s e a) && is_behind_tuple s a n);
+  permitted_there : is_available s e a n ≡ true → is_permitted_after s e n a ≡ true
+  unfolding is_available
+  permitted_there there =
+      let free = (and_parts (is_some (group_of s.cluster a n)) (is_free s e a n) there).1 in
+      (and_parts (is_up_after s e n) (is_permitted_after s e n a) free).1
+
+  -- at a node that may run it
+  pub trial_there_is : tries s e n a ≡ true → is_available s e a n ≡ true → trial_of s e n a ≡ record {
+    waits = (is_none (runner s e a) || (not (is_outranked s e a n) && is_behind s e a (runner s e a))) && has_spare s e a;
+    forbidden = false;
+    below = not (not (is_outranked s e a n)) && is_behind s e a (runner s e a);
+    back = not (is_outranked s e a n) && is_behind s e a (runner s e a);
+    weighs = not (is_outranked s e a n) && (is_none (runner s e a) && is_behind_tuple s a n);
   }
-  unfolding asks_others starts_forbidden starts_below takes_back is_placed_behind_tuple
-  trial_is holds = rw (holds, open_is (runner s e a))
+  unfolding asks_others starts_forbidden starts_below takes_back is_placed_behind_tuple is_best
+  trial_there_is holds there = rw (holds, open_is (runner s e a), there, permitted_there there)
+
+  -- and at one that may not
+  pub trial_nowhere_is : tries s e n a ≡ true → is_available s e a n ≡ false → trial_of s e n a ≡ record {
+    waits = false;
+    forbidden = not (is_permitted_after s e n a) && is_none (runner s e a);
+    below = false;
+    back = false;
+    weighs = false;
+  }
+  unfolding asks_others starts_forbidden starts_below takes_back is_placed_behind_tuple is_best
+  trial_nowhere_is holds fails = rw (holds, fails)
 
 -- ---- each of those that are touched is as it is told
 module _ (s : StateView) (e : Event) where

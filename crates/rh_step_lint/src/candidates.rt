@@ -69,9 +69,9 @@ impl<'a> Step<'a> {
             && self.is_permitted_after(node, app)
     }
 
-    // Is one of an earlier group? The place of the best group tells it: to ask all nodes takes many times as long.
+    /// Is one of an earlier group? The place of the best group tells it: to ask all nodes takes many times as long.
     #[tactic(auto, using(crate::proofs::Ranks::outranked_by_place))]
-    fn is_outranked(&self, app: App, node: Node) -> bool
+    pub(crate) fn is_outranked(&self, app: App, node: Node) -> bool
         ensures { result ≡ is_outranked self.now.state self.now.event app node }
     {
         self.within();

@@ -1,6 +1,7 @@
 //! What comes of it where a live OTP looks for the node of an application.
 
 ghost use Rattle.std.specs.Prelude.{◌≡◌, true};
+ghost use Rattle.rh_step_lint.specs.Candidates.{is_available};
 ghost use Rattle.rh_step_lint.specs.Tries.{tries};
 ghost use Rattle.rh_step_lint.specs.Touched.{trial_of};
 
@@ -9,25 +10,41 @@ use crate::touch::Trial;
 use rh_model::{App, Node};
 
 impl<'a> Step<'a> {
-    // What comes of a trial. Each answer that several kinds ask for is looked for once.
-    #[tactic(auto, using(crate::proofs::Unlikely::trial_is))]
+    // What comes of a trial at a node that may run the application. Each answer that several kinds ask for is looked for once.
+    #[tactic(auto, using(crate::proofs::Unlikely::trial_there_is))]
+    fn trial_there(&self, node: Node, app: App) -> Trial
+        requires tried { tries self.now.state self.now.event node app ≡ true }
+        requires available { is_available self.now.state self.now.event app node ≡ true }
+        ensures { result ≡ trial_of self.now.state self.now.event node app }
+    {
+        let homeless = self.runner(app).is_none();
+        let best = !self.is_outranked(app, node);
+        let behind = self.is_behind(app);
+        Trial {
+            waits: (homeless || best && behind) && self.has_spare(app),
+            forbidden: false,
+            below: !best && behind,
+            back: best && behind,
+            weighs: best && homeless && self.is_behind_tuple(app, node),
+        }
+    }
+
+    // What comes of a trial. Of a node that may not run it one kind alone speaks: who ranks before it is asked only where that matters.
+    #[tactic(auto, using(crate::proofs::Unlikely::trial_nowhere_is))]
     fn trial_made(&self, node: Node, app: App) -> Trial
         requires { tries self.now.state self.now.event node app ≡ true }
         ensures { result ≡ trial_of self.now.state self.now.event node app }
     {
-        let homeless = self.runner(app).is_none();
-        let available = self.is_available(app, node);
-        let best = self.is_best(app, node);
-        let behind = self.is_behind(app);
-        let waits = available && (homeless || best && behind) && self.has_spare(app);
-        let forbidden = !self.is_permitted_after(node, app) && homeless;
-        let weighs = best && homeless && self.is_behind_tuple(app, node);
-        Trial {
-            waits,
-            forbidden,
-            below: available && !best && behind,
-            back: best && behind,
-            weighs,
+        if self.is_available(app, node) {
+            self.trial_there(node, app)
+        } else {
+            Trial {
+                waits: false,
+                forbidden: !self.is_permitted_after(node, app) && self.runner(app).is_none(),
+                below: false,
+                back: false,
+                weighs: false,
+            }
         }
     }
 
