@@ -43,7 +43,7 @@ NO_GROWTH = {
         # The readers of a state, its setters, and its edits taken back and made again.
         "State::cluster", "State::now", "State::mode", "State::incarnation", "State::allowed", "State::place_of",
         "State::restart_of", "State::kind_of", "State::first_running", "State::first_waiting", "State::next_in_list",
-        "State::running_count", "State::standing", "State::standings", "State::permissions", "State::pairs_before",
+        "State::running_count", "State::waiting_count", "State::standing", "State::standings", "State::permissions", "State::pairs_before",
         "State::first_running_pair", "State::first_waiting_pair", "State::due_of", "State::earliest",
         "State::same_words",
         "State::set_now", "State::set_mode", "State::set_incarnation", "State::set_allowed", "State::set_restart",

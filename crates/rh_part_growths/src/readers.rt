@@ -19,6 +19,8 @@ pub fn is_of_lists(state: &State, name: &str) -> Option<bool> {
         Some(state.next_in_list(HERE, SIDE) == Some(SERVICE))
     } else if name == "State::running_count" {
         Some(state.running_count(HERE) == 2)
+    } else if name == "State::waiting_count" {
+        Some(state.waiting_count(HERE) == 0)
     } else if name == "State::due_of" {
         Some(state.due_of(Timer::Failover(SERVICE)) == Some(36))
     } else if name == "State::earliest" {
