@@ -72,7 +72,8 @@ def checks():
         [b"p%d" % number for number in range(1_500_000)])
     yield "a start argument of lists of 33 atoms", lambda: argument(dense(33), b"a", b"")
     yield "a start argument of 8 million atoms", lambda: argument(b"a,", b"a", b"")
-    yield "a start argument of 60 lists inside each other, again and again", lambda: argument(nest, b"a", b"")
+    # The argument stands inside five lists and tuples itself.
+    yield "a start argument of 50 lists inside each other, again and again", lambda: argument(b"[" * 50 + b"]" * 50 + b",", b"a", b"")
     yield "a start argument of 5 million empty lists", lambda: tuples(b"[],", b"a")
     yield "a start argument of 4 million lists of one atom", lambda: tuples(b"[a],", b"a")
     yield "a start argument of lists of two atoms, each unlike the one before", lambda: tuples(b"[a,b],[a,c],", b"a")
