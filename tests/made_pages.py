@@ -16,7 +16,7 @@ BESIDE = ("companions", "tests", "wrong-bodies", "README.md", "rehearse", "build
 # A file, a text that stands in it, one that takes the place of the first such, and what is told then.
 CHANGES = [
     ("crates/rh_step/src/step.rt", "    ensures ", "    ensures another_", "docs/CONTRACTS.md line"),
-    ("crates/rh_settle/specs/Validity.antt", "\n-- ", "\n-- changed: ", "docs/DEFINITIONS.md line"),
+    ("crates/rh_trace/specs/Validity.antt", "\n-- ", "\n-- changed: ", "docs/DEFINITIONS.md line"),
     ("crates.txt", "\nrh_plans: ", "\nrh_plans: rh_trail ", "docs/ARCHITECTURE.md line"),
     ("crates/rh_script/src/forms.rt", '"boot"', '"reboot"', "companions/rehearse_tools/commands.json line"),
     ("docs/help/run.txt", "\n  boot N ", "\n  reboot N ", "docs/help/run.txt line"),
@@ -26,7 +26,7 @@ CHANGES = [
     ("docs/parts/notes.md", "\n- `", "\n- `served`: nothing\n- `", "tells of definitions that aren't there"),
     ("crates/rh_settle/must-fail/same_group_calls_away.edit", "# A takeover", "# Another takeover", "docs/GUARDS.md line"),
     ("crates/rh_settle/must-fail/same_group_calls_away.edit", "# Refused by", "# Told by", "same_group_calls_away.edit doesn't begin with"),
-    ("crates/rh_step_lint/specs/Levels.antt", "is_warning (OwnEnd n a) = false\n", "", "docs/LINT.md line"),
+    ("crates/rh_step_findings/specs/Levels.antt", "is_warning (OwnEnd n a) = false\n", "", "docs/LINT.md line"),
     ("docs/parts/lint.md", "| `own_end` ", "| `kind_after_loss` ", "docs/parts/lint.md hasn't one row for own_end, kind_after_loss"),
 ]
 

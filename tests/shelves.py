@@ -17,11 +17,13 @@ from support import TOP
 CRATES = Path(TOP, "crates")
 WRONG_BODIES = Path(TOP, "wrong-bodies")
 TESTED = WRONG_BODIES / "tests"
-# How many edits there may be for rt ci to try: with twice as many they took as long as all proofs together.
-MOST_IN_GATE = 150
-# Crates that have edits, and none that rt ci tries: the first edit of a crate costs a proof of the whole crate, and of those that
-# write texts alone these are the dearest.
-NONE_IN_GATE = {"rh_json_lines", "rh_sweep_json", "rh_explore_text"}
+# The crates whose edits rt ci tries: those on which most stands, and which aren't dear. The first edit of a crate costs a proof of the
+# whole crate again, so each of them has several, and the other crates have none in the gate.
+IN_GATE = {"rh_arena", "rh_wheel", "rh_terms", "rh_model", "rh_state", "rh_trace", "rh_settle", "rh_events", "rh_step", "rh_trail",
+           "rh_room", "rh_sweep", "rh_keys"}
+LEAST_OF_A_CRATE = 3
+# How many edits there may be for rt ci to try: with 150 in some fifty crates they took as long as all proofs together.
+MOST_IN_GATE = 80
 
 # A test's name, and what is wrong, or None.
 Test = tuple[str, str | None]
@@ -130,10 +132,12 @@ def gate_is_small(_program: str) -> Iterator[Test]:
     yield f"at most {MOST_IN_GATE} wrong bodies are tried by rt ci", wrong
 
 
-def crates_are_tried(_program: str) -> Iterator[Test]:
-    """Of each crate that has edits rt ci tries some."""
-    wrong = [crate for crate in crates_on_other_shelf() if not files_on(gate_shelf(crate)) and crate not in NONE_IN_GATE]
-    yield "rt ci tries wrong bodies of each crate", f"none of {', '.join(wrong)}" if wrong else None
+def gate_has_its_crates(_program: str) -> Iterator[Test]:
+    """rt ci tries several edits of each of these crates, and none of others."""
+    counts = {crate.name: len(files_on(gate_shelf(crate.name))) for crate in CRATES.iterdir()}
+    wrong = [f"{crate} has {counts.get(crate, 0)}" for crate in sorted(IN_GATE) if counts.get(crate, 0) < LEAST_OF_A_CRATE]
+    wrong += [f"{crate} has {count}, and isn't one of them" for crate, count in sorted(counts.items()) if count and crate not in IN_GATE]
+    yield f"rt ci tries {LEAST_OF_A_CRATE} or more wrong bodies of each of {len(IN_GATE)} crates", "; ".join(wrong) or None
 
 
-TESTS = (edits_apply, gate_is_small, crates_are_tried)
+TESTS = (edits_apply, gate_is_small, gate_has_its_crates)

@@ -1,5 +1,5 @@
 """The table of commands, as rh_script/src/forms.rt has it: a row for each command with its word, what stands behind it, and what
-is said of it. The reasons for which an event is refused stand in a definition of rh_events."""
+is said of it. The reasons for which an event is refused stand in a definition of rh_rules."""
 import json
 import re
 from collections.abc import Iterator
@@ -10,7 +10,7 @@ from tree import CRATES, TOP, BadSource, read, shown
 
 FORMS = CRATES / "rh_script" / "src" / "forms.rt"
 REFUSALS = CRATES / "rh_rules" / "specs" / "Refusals.antt"
-HELP_SOURCE, HELP_PAGE = CRATES / "rehearse" / "src" / "help.rt", TOP / "docs" / "help" / "run.txt"
+HELP_SOURCE, HELP_PAGE = CRATES / "rh_command_line" / "src" / "help.rt", TOP / "docs" / "help" / "run.txt"
 JSON = TOP / "companions" / "rehearse_tools" / "commands.json"
 # How an argument of each kind is written in texts of help.
 LETTERS = {"Node": "N", "App": "A", "Restart": "T", "Truth": "B", "Ending": "R", "Milliseconds": "D"}

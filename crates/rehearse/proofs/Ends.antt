@@ -1,13 +1,14 @@
 -- How the process ends, by what became of its parts.
 use Rattle.std.proofs.Common.{◌≡◌, ℕ, List, subst}
 use Rattle.rh_devices.specs.declared.watched.Watched.{Watched}
-use Rattle.rh_programs.specs.declared.status.Program.{Program}
-use Rattle.rh_programs.specs.Status.{IsDone, IsStaffed, StatusGives}
-use Rattle.rehearse.specs.Asking.{IsAsked}
+use Rattle.rh_asked.specs.declared.program.Program.{Program}
+use Rattle.rh_asked.specs.Programs.{IsStaffed}
+use Rattle.rh_programs.specs.Status.{IsDone, StatusGives}
+use Rattle.rh_command_line.specs.Asking.{IsAsked}
 use Rattle.rehearse.specs.Process.{EndsOver, unused}
-use Rattle.rehearse.specs.declared.command_line.Asked.TheVariants as asked
-use Rattle.rehearse.specs.declared.command_line.Words.{Words}
-use Rattle.rehearse.specs.declared.command_line.Words.TheVariants as words
+use Rattle.rh_command_line.specs.declared.command_line.Asked.TheVariants as asked
+use Rattle.rh_command_line.specs.declared.command_line.Words.{Words}
+use Rattle.rh_command_line.specs.declared.command_line.Words.TheVariants as words
 
 -- a sweep that is asked for has a number of workers that there may be
 pub staffed : (it : Words) (program : Program) → IsAsked it (asked.For program) → IsStaffed program

@@ -1,5 +1,1 @@
-pub mod Asking
-pub mod Commands
-pub mod Matches
 pub mod Ends
-pub mod RowsCommandLine

@@ -1,4 +1,1 @@
-pub mod Table
-pub mod CommandLine
-pub mod Asking
 pub mod Process

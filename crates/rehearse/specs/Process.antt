@@ -3,12 +3,12 @@ use Rattle.std.specs.Prelude.{◌≡◌, ℕ, List, Result, Ok, Err, false}
 use Rattle.clap.specs.declared.error.Error.{Error}
 use Rattle.rh_devices.specs.declared.device.Failed.{Failed}
 use Rattle.rh_devices.specs.declared.watched.Watched.{Watched}
-use Rattle.rh_programs.specs.declared.status.Program.{Program}
+use Rattle.rh_asked.specs.declared.program.Program.{Program}
 use Rattle.rh_programs.specs.Status.{StatusGives, IsDone}
-use Rattle.rehearse.specs.Asking.{IsAsked}
-use Rattle.rehearse.specs.declared.command_line.Asked.{Asked}
-use Rattle.rehearse.specs.declared.command_line.Asked.TheVariants as asked
-use Rattle.rehearse.specs.declared.command_line.Words.{Words}
+use Rattle.rh_command_line.specs.Asking.{IsAsked}
+use Rattle.rh_command_line.specs.declared.command_line.Asked.{Asked}
+use Rattle.rh_command_line.specs.declared.command_line.Asked.TheVariants as asked
+use Rattle.rh_command_line.specs.declared.command_line.Words.{Words}
 
 -- a device before its first call
 abbrev pub unused : {D : Type 0} → D → Watched D

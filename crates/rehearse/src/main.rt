@@ -1,17 +1,12 @@
 //! The program: what the command line asks, over standard input and output.
 #![tactic(auto)]
 
-mod building;
-mod command_line;
-mod help;
 mod process;
-mod reading;
 mod standard;
-mod table;
 
-use command_line::Words;
 use process::process;
-use rh_app::{Buffered, Reader};
+use rh_command_line::Words;
+use rh_devices::{Buffered, Reader};
 use standard::{HostThreads, StandardError};
 use std::process::ExitCode;
 use std::{env, io};

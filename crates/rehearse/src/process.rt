@@ -2,13 +2,15 @@
 
 ghost use Rattle.std.specs.Prelude.{◌≡◌, false};
 ghost use Rattle.clap.specs.declared.error.Error.{Error};
-ghost use Rattle.rh_programs.specs.Status.{IsStaffed, IsDone, StatusGives, is_alone};
+ghost use Rattle.rh_asked.specs.Programs.{IsStaffed, is_alone};
+ghost use Rattle.rh_programs.specs.Status.{IsDone, StatusGives};
 ghost use Rattle.rehearse.specs.Process.{EndsOver, ProcessGives};
 
-use crate::command_line::{Asked, Words, asked_of};
 use clap::Error;
-use rh_app::{Failed, Sink, Source, Watched};
-use rh_programs::{Program, rehearse_alone};
+use rh_asked::Program;
+use rh_command_line::{Asked, Words, asked_of};
+use rh_devices::{Failed, Sink, Source, Watched};
+use rh_programs::rehearse_alone;
 use std::alloc::Global;
 
 // The status of a command line that is refused, or asks for help.

@@ -2,12 +2,14 @@
 
 ghost use denote.Param.Send.{IsSync};
 ghost use Rattle.std.specs.Prelude.{◌≡◌, ⊤, false};
-ghost use Rattle.rh_programs.specs.Status.{IsStaffed, IsDone, StatusGives, is_alone};
+ghost use Rattle.rh_asked.specs.Programs.{IsStaffed, is_alone};
+ghost use Rattle.rh_programs.specs.Status.{IsDone, StatusGives};
 
 use crate::process::{Complain, Together};
 use clap::Error;
-use rh_app::{Sink, Source, Watched};
-use rh_programs::{Program, rehearse_together};
+use rh_asked::Program;
+use rh_devices::{Sink, Source, Watched};
+use rh_programs::rehearse_together;
 use std::alloc::Global;
 use std::sync::Wait;
 use std::thread::Threads;

@@ -1,58 +1,27 @@
--- How a program ends, by what became of its parts.
-use Rattle.std.proofs.Common.{◌≡◌, ◌≤◌, ◌⊎◌, ℕ, List, length, Bool, false, Option, Some, None, Result, Ok, Err, inl, inr, refl, subst}
-use Rattle.rh_devices.specs.declared.fault.ReadFault.{ReadFault}
-use Rattle.rh_devices.specs.declared.fault.ReadFault.TheVariants as reading
+-- How sessions end, whose text is one of several.
+use Rattle.std.proofs.Common.{◌≡◌, ℕ, List, Bool, Option, Result, Ok, Err, subst}
 use Rattle.rh_devices.specs.declared.fault.WriteFault.{WriteFault}
-use Rattle.rh_devices.specs.declared.fault.WriteFault.TheVariants as writing
-use Rattle.rh_app.specs.declared.fault.Told.{Told}
-use Rattle.rh_app.specs.declared.fault.Told.TheVariants as told
+use Rattle.rh_run.specs.declared.fault.Told.{Told}
 use Rattle.rh_app.specs.declared.fault.SessionsFault.{SessionsFault}
 use Rattle.rh_app.specs.declared.fault.SessionsFault.TheVariants as sessions
 use Rattle.rh_devices.specs.declared.watched.Watched.{Watched}
-use Rattle.rh_devices.specs.Devices.{Passed, WhyUnread, WroteFront}
-use Rattle.rh_app.specs.Faults.{ended, reading_fault, writing_fault, sessions_fault}
-use Rattle.rh_app.specs.Programs.{IsInput, Owing, Answers, IsWritten, ProgramGives}
-use Rattle.rh_app.specs.RunText.{Wrote}
+use Rattle.rh_run.specs.Faults.{ended}
+use Rattle.rh_app.specs.Faults.{sessions_fault}
+use Rattle.rh_run.specs.Programs.{IsInput, Owing, ProgramGives}
+use Rattle.rh_run.proofs.Ending.{not_written, is_written}
 use Rattle.rh_app.specs.Sessions.{OneWritten, WroteOne}
 
 module _ {S K : Type 0} (gives : S → S → List ℕ → Type 0) (unread : S → S → Type 0) (takes : K → K → List ℕ → Type 0) (unwritten : K → K → Type 0)
     (owes : Owing) (torn : List ℕ → Type 0) (old new : Watched S) where
-  -- the input was not read
-  pub not_read : (f : ReadFault) (writer : Watched K) → writer.failed ≡ false → WhyUnread gives unread old new f
-      → ProgramGives gives unread takes unwritten owes torn (Err (reading_fault f)) old new writer writer
-  not_read reading.Failed writer well why = (inl why, refl)
-  not_read reading.TooLong writer well why = (inr why, refl)
-  not_read reading.OutOfMemory writer well why = (why, well, inl refl)
-
-  -- the text was not written whole
-  pub not_written : (f : WriteFault) (bytes text : List ℕ) (owed : Option Told) (before after : Watched K)
-      → IsInput gives old new bytes → owes bytes text owed → WroteFront takes unwritten f text before after
-      → ProgramGives gives unread takes unwritten owes torn (Err (writing_fault f)) old new before after
-  not_written writing.Failed bytes text owed before after input is wrote = (text, owed, (bytes, input, is), wrote.0, wrote.1)
-  not_written writing.OutOfMemory bytes text owed before after input is wrote =
-      (input.2, wrote.1, inr (text, owed, (bytes, input, is), wrote.0))
-
-  -- it was
-  pub is_written : (owed : Option Told) (bytes text : List ℕ) (before after : Watched K)
-      → IsInput gives old new bytes → owes bytes text owed → IsWritten takes before after text
-      → ProgramGives gives unread takes unwritten owes torn (ended owed) old new before after
-  is_written None bytes text before after input is wrote = (text, None, (bytes, input, is), wrote, refl)
-  is_written (Some (told.Cluster f)) bytes text before after input is wrote = (text, Some (told.Cluster f), (bytes, input, is), wrote, refl)
-  is_written (Some (told.BadLine k)) bytes text before after input is wrote = (text, Some (told.BadLine k), (bytes, input, is), wrote, refl)
-  is_written (Some (told.Sweep f)) bytes text before after input is wrote = (text, Some (told.Sweep f), (bytes, input, is), wrote, refl)
-  is_written (Some told.Refused) bytes text before after input is wrote = (text, Some told.Refused, (bytes, input, is), wrote, refl)
-  is_written (Some told.Differs) bytes text before after input is wrote = (text, Some told.Differs, (bytes, input, is), wrote, refl)
-  is_written (Some told.Unfinished) bytes text before after input is wrote = (text, Some told.Unfinished, (bytes, input, is), wrote, refl)
-
   -- the text was one of several
   pub not_shared : (f : SessionsFault) (bytes : List ℕ) (before after : Watched K)
       → IsInput gives old new bytes → WroteOne takes unwritten (owes bytes) (torn bytes) (Err f) before after
       → ProgramGives gives unread takes unwritten owes torn (Err (sessions_fault f)) old new before after
   not_shared sessions.Room bytes before after input wrote = (bytes, input, wrote.0, wrote.1)
-  not_shared (sessions.Write f) bytes before after input wrote = not_written f bytes wrote.0 wrote.1 before after input wrote.2 wrote.3
+  not_shared (sessions.Write f) bytes before after input wrote = not_written gives unread takes unwritten owes torn old new f bytes wrote.0 wrote.1 before after input wrote.2 wrote.3
 
   pub is_shared : (owed : Option Told) (bytes : List ℕ) (before after : Watched K)
       → IsInput gives old new bytes → OneWritten takes unwritten (owes bytes) (Ok owed) before after
       → ProgramGives gives unread takes unwritten owes torn (ended owed) old new before after
   is_shared owed bytes before after input wrote =
-      is_written owed bytes wrote.0 before after input (subst (λ o. owes bytes wrote.0 o) wrote.3.0 wrote.2) (wrote.3.1, wrote.3.2)
+      is_written gives unread takes unwritten owes torn old new owed bytes wrote.0 before after input (subst (λ o. owes bytes wrote.0 o) wrote.3.0 wrote.2) (wrote.3.1, wrote.3.2)

@@ -4,15 +4,15 @@ use Rattle.std.proofs.Common.{append-nil, append_assoc, arith}
 use Rattle.std.proofs.lemmas.List.{length-append}
 use Rattle.std.specs.List.{flat_map}
 use Rattle.rh_rules.specs.declared.pick.Pick.{Pick}
-use Rattle.rh_app.specs.declared.fault.RunFault.{RunFault}
-use Rattle.rh_app.specs.declared.fault.RunFault.TheVariants as end
-use Rattle.rh_app.specs.declared.fault.Told.{Told}
+use Rattle.rh_run.specs.declared.fault.RunFault.{RunFault}
+use Rattle.rh_run.specs.declared.fault.RunFault.TheVariants as end
+use Rattle.rh_run.specs.declared.fault.Told.{Told}
 use Rattle.rh_devices.specs.declared.watched.Watched.{Watched}
 use Rattle.rh_devices.specs.Devices.{input_limit, InTurn, Passed, PassedAll}
-use Rattle.rh_app.specs.Faults.{ended}
+use Rattle.rh_run.specs.Faults.{ended}
 use Rattle.rh_devices.specs.Memory.{GivesFront, Holds}
-use Rattle.rh_app.specs.Programs.{ProgramGives, NoThreads}
-use Rattle.rh_app.specs.RunText.{run_text, run_end, OwesRun}
+use Rattle.rh_run.specs.Programs.{ProgramGives, NoThreads}
+use Rattle.rh_run.specs.RunText.{run_text, run_end, OwesRun}
 
 module _ {D : Type 0} (left : D → List ℕ) where
   front : (a b : D) (ps : List (List ℕ)) → InTurn (λ x y p. GivesFront (left x) (left y) p) a b ps → left a ≡ flat_map (λ p. p) ps ++ left b

@@ -7,10 +7,10 @@ use Rattle.rh_rules.specs.declared.event.Event.{Event}
 use Rattle.rh_rules.specs.declared.notice.Notice.{Notice}
 use Rattle.rh_state.specs.Stored.{read}
 use Rattle.rh_rules.specs.Steps.{Allowed, outcome, next}
-use Rattle.rh_trail.specs.declared.call.Call.{Call}
-use Rattle.rh_trail.specs.declared.call.Call.TheVariants as call
-use Rattle.rh_trail.specs.declared.call.Reply.{Reply}
-use Rattle.rh_trail.specs.declared.call.Reply.TheVariants as reply
+use Rattle.rh_calls.specs.declared.call.Call.{Call}
+use Rattle.rh_calls.specs.declared.call.Call.TheVariants as call
+use Rattle.rh_calls.specs.declared.call.Reply.{Reply}
+use Rattle.rh_calls.specs.declared.call.Reply.TheVariants as reply
 use Rattle.rh_trail.specs.declared.sim.AtStart.{AtStart}
 use Rattle.rh_trail.specs.declared.sim.AtEnd.{AtEnd}
 use Rattle.rh_trail.specs.Chain.{chain, kept_to, IsChain}

@@ -9,13 +9,13 @@ use Rattle.rh_room.specs.declared.pass.Entry.{Entry}
 use Rattle.rh_script.specs.declared.session_lines.Command.{Command}
 use Rattle.rh_script.specs.Lines.{cluster_text, script_lines}
 use Rattle.rh_script.specs.Answers.{fault_text, bad_text}
-use Rattle.rh_app.specs.declared.fault.Told.{Told}
-use Rattle.rh_app.specs.declared.fault.Told.TheVariants as told
+use Rattle.rh_run.specs.declared.fault.Told.{Told}
+use Rattle.rh_run.specs.declared.fault.Told.TheVariants as told
 use Rattle.rh_devices.specs.declared.fault.WriteFault.{WriteFault}
 use Rattle.rh_app.specs.declared.fault.SessionsFault.{SessionsFault}
 use Rattle.rh_app.specs.declared.fault.SessionsFault.TheVariants as sessions
 use Rattle.rh_devices.specs.declared.watched.Watched.{Watched}
-use Rattle.rh_app.specs.RunText.{Wrote}
+use Rattle.rh_run.specs.RunText.{Wrote}
 use Rattle.rh_app.specs.Histories.{session_lines_asked, commands_of, bad_session_line, IsHistory, history_text, last_state}
 
 -- a bad line alone is told; else the text is that of some history of the commands

@@ -15,7 +15,7 @@ ghost use Rattle.rh_rules.specs.declared.notice.Notice.{Notice};
 ghost use Rattle.rh_state.specs.First.{first_words};
 ghost use Rattle.rh_state.specs.Stored.{read};
 ghost use Rattle.rh_rules.specs.Steps.{Allowed, outcome};
-ghost use Rattle.rh_trail.specs.declared.call.Call.TheVariants as call;
+ghost use Rattle.rh_calls.specs.declared.call.Call.TheVariants as call;
 ghost use Rattle.rh_trail.specs.Chain.{chain};
 ghost use Rattle.rh_trail.specs.Laws.{Accepts};
 ghost use Rattle.rh_trail.specs.Lone.{opened, sim_after};
@@ -23,9 +23,10 @@ ghost use Rattle.rh_room.specs.Serving.{receipt_of};
 ghost use Rattle.rh_app.specs.Laws.{KeepsTo, RehearsalsAreReversible, SessionsAreReversible};
 
 use rh_base::OutOfMemory;
+use rh_calls::{Call, Reply};
 use rh_room::{Pass, Receipt, Room, RoomFault};
 use rh_rules::{Event, Notice, Refusal};
-use rh_trail::{Call, Reply, Sim};
+use rh_trail::Sim;
 use std::alloc::Global;
 
 /// Makes an event, and takes it back: every word is then as it was before, each link of a list and each due of a timer among

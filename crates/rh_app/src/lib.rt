@@ -12,16 +12,12 @@
 //! [`Bytes`] and [`Text`] are memory. [`run_in_memory`] is a run over memory.
 #![tactic(auto)]
 
-mod checking;
 mod fault;
 mod laws;
 mod memory;
-mod running;
 mod sessions;
 mod sweeping;
 
-pub use checking::run_check;
-pub use fault::{RunFault, Told, ended};
 pub use laws::{
     answer_all, open_and_undo_all, redo_and_undo, rehearsals_are_reversible,
     serve_step_and_own_undo, serve_step_and_undo, sessions_are_reversible, step_and_undo,
@@ -32,7 +28,7 @@ pub use rh_devices::{
     Buffered, Bytes, Failed, ReadFault, Reader, Sink, Source, Text, Watched, WriteFault, Writer,
     read_input, write_text,
 };
-pub use rh_trail::report;
-pub use running::{answer_bad, answer_call, run, write_fault};
+pub use rh_report::report;
+pub use rh_run::{RunFault, Told, answer_bad, answer_call, ended, run, run_check, write_fault};
 pub use sessions::run_sessions;
 pub use sweeping::{run_sweep, run_sweep_alone};

@@ -2,14 +2,13 @@
 
 ghost use Rattle.std.specs.Prelude.{◌≡◌, ◌≤◌, ◌<◌, length, [], IfOk, Err};
 ghost use Rattle.rh_devices.specs.Devices.{input_limit};
-ghost use Rattle.rh_app.specs.Faults.{ended};
-ghost use Rattle.rh_app.specs.RunText.{run_text, run_end};
+ghost use Rattle.rh_run.specs.Faults.{ended};
+ghost use Rattle.rh_run.specs.RunText.{run_text, run_end};
 
-use crate::fault::RunFault;
-use crate::running::run;
 use rh_base::OutOfMemory;
 use rh_devices::{Bytes, Text, Watched};
 use rh_rules::Pick;
+use rh_run::{RunFault, run};
 use std::alloc::Global;
 
 /// What a run over memory wrote, and how it ended.

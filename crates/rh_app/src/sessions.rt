@@ -9,21 +9,21 @@ ghost use Rattle.rh_trail.specs.Lone.{opened};
 ghost use Rattle.rh_room.specs.Legal.{IsSession, session_limit};
 ghost use Rattle.rh_script.specs.Lines.{raw_lines, content};
 ghost use Rattle.rh_app.specs.Histories.{session_lines_asked, commands_of, bad_session_line, IsHistory, history_text, last_state};
-ghost use Rattle.rh_app.specs.Programs.{ProgramGives};
+ghost use Rattle.rh_run.specs.Programs.{ProgramGives};
 ghost use Rattle.rh_app.specs.Sessions.{ScriptMayGive, MayGive, AskHistory, WroteOne};
 
 mod commands;
 mod history;
 mod threads;
 
-use crate::fault::{RunFault, SessionsFault, Told, ended};
-use crate::running::{answer_bad, write_fault};
+use crate::fault::SessionsFault;
 use crate::sessions::commands::{Script, commands_in};
 use crate::sessions::history::write_history;
 use crate::sessions::threads::history_of;
 use rh_cluster::{Cluster, read_cluster};
 use rh_devices::{Sink, Source, Watched, WriteFault, read_input};
 use rh_rules::Pick;
+use rh_run::{RunFault, Told, answer_bad, ended, write_fault};
 use rh_script::{Command, cut};
 use std::alloc::Global;
 use std::sync::Wait;

@@ -2,7 +2,8 @@
 
 use crate::devices::{Failure, Sink, Source};
 use crate::rehearsals::said;
-use rh_app::{Reader, Watched, Writer, run_check};
+use rh_devices::{Reader, Watched, Writer};
+use rh_run::run_check;
 use std::alloc::Global;
 use std::process::Abort;
 

@@ -1,7 +1,9 @@
 //! Whole runs over memory, with devices that give or take a little at a time, and devices that fail.
 
 use crate::devices::{Failure, Sink, Source};
-use rh_app::{Reader, RunFault, Sink as _, Watched, Writer, run, run_in_memory};
+use rh_app::run_in_memory;
+use rh_devices::{Reader, Sink as _, Watched, Writer};
+use rh_run::{RunFault, run};
 use rh_step::Pick;
 use std::alloc::Global;
 use std::process::Abort;

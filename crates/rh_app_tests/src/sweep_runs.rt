@@ -2,7 +2,8 @@
 
 use crate::devices::{Failure, Sink, Source};
 use crate::rehearsals::said;
-use rh_app::{Reader, Watched, Writer, run_sweep};
+use rh_app::run_sweep;
+use rh_devices::{Reader, Watched, Writer};
 use rh_step::Pick;
 use std::alloc::Global;
 use std::rt::Runtime;

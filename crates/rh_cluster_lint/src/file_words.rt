@@ -8,7 +8,6 @@ ghost use Rattle.rh_cluster_lint.specs.FileWords.{dep_word, words, names, words_
 use rh_cluster::{Cluster, Dep};
 use rh_file_lint::FileFinding;
 use rh_findings::{Names, Words};
-use rh_trail::{NO_NAME, app_word, node_word};
 
 const NO_DISTRIBUTED_APPLICATION: Words = Words {
     begin: "no_distributed_application: no application is distributed, so none fails over",
@@ -128,6 +127,8 @@ const LOST_TOGETHER: Words = Words {
     second: " may be lost with one node, and then can wait for one another for ever",
     third: "",
 };
+
+use rh_report::{NO_NAME, app_word, node_word};
 
 /// The words of a finding.
 pub fn words_of(finding: &FileFinding) -> Words

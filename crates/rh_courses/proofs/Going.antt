@@ -3,11 +3,11 @@ use Rattle.std.proofs.Common.{◌≡◌, ◌+◌, ℕ, List, [], length, Option,
 use Rattle.std.proofs.lemmas.List.Sums.{fold_push}
 use Rattle.rh_state.specs.StateView.{StateView}
 use Rattle.rh_state.specs.Stored.{Stored, read}
-use Rattle.rh_settle.specs.Validity.{IsSound}
+use Rattle.rh_trace.specs.Validity.{IsSound}
 use Rattle.rh_rules.specs.declared.event.Event.{Event}
 use Rattle.rh_rules.specs.declared.event.Event.TheVariants.{Tick}
 use Rattle.rh_rules.specs.declared.pick.Pick.{Pick}
-use Rattle.rh_trail.specs.Runs.{step}
+use Rattle.rh_step.specs.Runs.{step}
 use Rattle.rh_courses.specs.Moments.{behind_timers, behind_firings, passed_in}
 use Rattle.rh_courses.specs.Courses.{CourseView}
 use Rattle.rh_courses.specs.Working.{all_noted, noted_along, behind_in, AreOf}

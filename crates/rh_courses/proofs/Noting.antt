@@ -12,7 +12,7 @@ use Rattle.rh_state.specs.First.{first}
 use Rattle.rh_state.specs.StateView.{StateView}
 use Rattle.rh_rules.specs.declared.event.Event.{Event}
 use Rattle.rh_rules.specs.declared.pick.Pick.{Pick}
-use Rattle.rh_trail.specs.Runs.{step}
+use Rattle.rh_step.specs.Runs.{step}
 use Rattle.rh_trail.specs.SimView.{SimView}
 use Rattle.rh_courses.specs.declared.course.Change.{Change}
 use Rattle.rh_courses.specs.Moments.{behind_firings, passed_in, passed, states_of}

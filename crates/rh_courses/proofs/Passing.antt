@@ -19,10 +19,10 @@ use Rattle.rh_settle.proofs.Unchanged.{settled_cluster}
 use Rattle.rh_events.proofs.SoundComingUp.{ready_come_up_cluster}
 use Rattle.rh_events.proofs.EachEvent.{change_cluster}
 use Rattle.rh_step.proofs.Firing.{effect_cluster}
-use Rattle.rh_settle.specs.Validity.{IsSound}
+use Rattle.rh_trace.specs.Validity.{IsSound}
 use Rattle.rh_step.specs.Firings.{fired_in}
 use Rattle.rh_step.proofs.Fuel.{by_found, by_firing, nothing_due, fired_fewer, sound_fired}
-use Rattle.rh_trail.specs.Runs.{step, after}
+use Rattle.rh_step.specs.Runs.{step, after}
 use Rattle.rh_trail.specs.SimView.{SimView, state_of}
 use Rattle.rh_courses.specs.Moments.{if_found, behind_timers, behind_firings, passed_in, passed, states_of}
 

@@ -8,7 +8,7 @@ use Rattle.rh_rules.specs.declared.event.Event.TheVariants.{Tick}
 use Rattle.rh_rules.specs.declared.pick.Pick.{Pick}
 use Rattle.rh_rules.specs.Time.{due_by}
 use Rattle.rh_step.specs.Firings.{fired_in}
-use Rattle.rh_trail.specs.Runs.{step}
+use Rattle.rh_step.specs.Runs.{step}
 use Rattle.rh_trail.specs.SimView.{SimView}
 
 -- no state is passed where no timer is due

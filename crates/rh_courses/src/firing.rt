@@ -10,8 +10,8 @@ ghost use Rattle.rh_state.specs.StateView.{earliest, standing_of, running_at, wa
 ghost use Rattle.rh_state.specs.Stored.{read};
 ghost use Rattle.rh_state.specs.declared.status.Standing.TheVariants.{Running};
 ghost use Rattle.rh_state.specs.declared.status.Timer.TheVariants.{Sync, Failover};
-ghost use Rattle.rh_settle.specs.Traces.{course};
-ghost use Rattle.rh_settle.specs.Validity.{IsSound};
+ghost use Rattle.rh_trace.specs.Traces.{course};
+ghost use Rattle.rh_trace.specs.Validity.{IsSound};
 ghost use Rattle.rh_rules.specs.Time.{due_by, effect, taken_off};
 ghost use Rattle.rh_rules.specs.NodesEnd.{wanted_if_lost};
 ghost use Rattle.rh_step.specs.Firings.{fired_in};
@@ -19,9 +19,10 @@ ghost use Rattle.rh_step.specs.Firings.{fired_in};
 use rh_base::OutOfMemory;
 use rh_events::{all_alive, cancel_if_set, come_up, end, let_ready_come_up};
 use rh_model::{App, Node};
-use rh_settle::{Trace, recording, settle};
+use rh_settle::settle;
 use rh_state::{Standing, State, Timer};
 use rh_step::Pick;
+use rh_trace::{Trace, recording};
 use std::alloc::Global;
 
 // The timer that fires next, if it is due by the limit.

@@ -5,7 +5,7 @@ ghost use Rattle.rh_model.specs.ClusterView.{ClusterView, app_count};
 ghost use Rattle.rh_state.specs.Limits.{time_limit};
 ghost use Rattle.rh_state.specs.StateView.{earliest};
 ghost use Rattle.rh_state.specs.Stored.{read};
-ghost use Rattle.rh_settle.specs.Validity.{IsSound};
+ghost use Rattle.rh_trace.specs.Validity.{IsSound};
 ghost use Rattle.rh_rules.specs.Course.{is_local};
 ghost use Rattle.rh_rules.specs.declared.event.Event.{Event};
 ghost use Rattle.rh_rules.specs.declared.event.Event.TheVariants.{Tick};

@@ -4,9 +4,9 @@ use Rattle.rh_rules.specs.declared.pick.Pick.{Pick}
 use Rattle.rh_devices.specs.declared.fault.WriteFault.{WriteFault}
 use Rattle.rh_devices.specs.declared.watched.Watched.{Watched}
 use Rattle.rh_devices.specs.Devices.{Passed, WroteFront}
-use Rattle.rh_app.specs.declared.fault.Told.{Told}
-use Rattle.rh_app.specs.RunText.{Wrote}
-use Rattle.rh_app.proofs.Turns.{wrote_behind}
+use Rattle.rh_run.specs.declared.fault.Told.{Told}
+use Rattle.rh_run.specs.RunText.{Wrote}
+use Rattle.rh_run.proofs.Turns.{wrote_behind}
 use Rattle.rh_dialogue.specs.declared.stage.Stage.{Stage}
 use Rattle.rh_dialogue.specs.declared.stage.Turn.TheVariants as turn
 use Rattle.rh_dialogue.specs.Stages.{Takes, text_from, end_from}

@@ -7,10 +7,10 @@ use Rattle.rh_devices.specs.declared.fault.WriteFault.TheVariants as writing
 use Rattle.rh_devices.specs.declared.watched.Watched.{Watched}
 use Rattle.rh_devices.specs.Devices.{WroteFront}
 use Rattle.rh_script.specs.Lines.{raw_lines}
-use Rattle.rh_app.specs.declared.fault.Told.{Told}
-use Rattle.rh_app.specs.declared.fault.Told.TheVariants as told
-use Rattle.rh_app.specs.Faults.{ended}
-use Rattle.rh_app.specs.RunText.{run_text, Wrote}
+use Rattle.rh_run.specs.declared.fault.Told.{Told}
+use Rattle.rh_run.specs.declared.fault.Told.TheVariants as told
+use Rattle.rh_run.specs.Faults.{ended}
+use Rattle.rh_run.specs.RunText.{run_text, Wrote}
 use Rattle.rh_dialogue.specs.declared.ear.Ear.{Ear}
 use Rattle.rh_dialogue.specs.declared.fault.DialogueFault.{DialogueFault}
 use Rattle.rh_dialogue.specs.declared.fault.DialogueFault.TheVariants as fault

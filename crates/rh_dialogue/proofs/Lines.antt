@@ -9,7 +9,7 @@ use Rattle.rh_script.specs.declared.script.Line.{Line}
 use Rattle.rh_script.specs.declared.script.Line.TheVariants.{Nothing, Asks, Bad}
 use Rattle.rh_script.specs.Answers.{answer_text}
 use Rattle.rh_script.specs.Commands.{line_of, calls_of}
-use Rattle.rh_app.specs.RunText.{bad_line, end_text, script_text, lines_asked}
+use Rattle.rh_run.specs.RunText.{bad_line, end_text, script_text, lines_asked}
 use Rattle.rh_dialogue.specs.Stages.{line_said, line_made, is_bad, script_from, bad_from}
 
 pub no_bytes : (bytes : List ℕ) → length bytes ≡ 0 → bytes ≡ []

@@ -10,7 +10,7 @@ use Rattle.rh_rules.specs.declared.pick.Pick.{Pick}
 use Rattle.rh_devices.specs.declared.fault.WriteFault.{WriteFault}
 use Rattle.rh_devices.specs.declared.watched.Watched.{Watched}
 use Rattle.rh_script.specs.Lines.{raw_lines, content, is_separator, lines_before, lines_behind, cluster_text, script_lines}
-use Rattle.rh_app.specs.RunText.{text_over, end_over}
+use Rattle.rh_run.specs.RunText.{text_over, end_over}
 use Rattle.rh_dialogue.specs.declared.stage.Stage.{Stage}
 use Rattle.rh_dialogue.specs.declared.stage.Turn.{Turn}
 use Rattle.rh_dialogue.specs.declared.stage.Turn.TheVariants as turn

@@ -6,9 +6,9 @@ use Rattle.std.proofs.lemmas.List.Folds.{list_any-append}
 use Rattle.rh_rules.specs.declared.pick.Pick.{Pick}
 use Rattle.rh_devices.specs.Devices.{input_limit}
 use Rattle.rh_script.specs.Lines.{raw_lines, is_separator}
-use Rattle.rh_app.specs.declared.fault.Told.{Told}
-use Rattle.rh_app.specs.Faults.{ended}
-use Rattle.rh_app.specs.RunText.{run_text, run_end}
+use Rattle.rh_run.specs.declared.fault.Told.{Told}
+use Rattle.rh_run.specs.Faults.{ended}
+use Rattle.rh_run.specs.RunText.{run_text, run_end}
 use Rattle.rh_dialogue.specs.declared.ear.Ear.{Ear}
 use Rattle.rh_dialogue.specs.declared.stage.Stage.{Stage}
 use Rattle.rh_dialogue.specs.declared.stage.Stage.TheVariants.{Cluster, Script}

@@ -6,7 +6,7 @@ use Rattle.rh_devices.specs.declared.fault.WriteFault.{WriteFault}
 use Rattle.rh_devices.specs.declared.watched.Watched.{Watched}
 use Rattle.rh_devices.specs.Devices.{input_limit}
 use Rattle.rh_script.specs.Lines.{raw_lines}
-use Rattle.rh_app.specs.declared.fault.Told.{Told}
+use Rattle.rh_run.specs.declared.fault.Told.{Told}
 use Rattle.rh_dialogue.specs.declared.ear.Ear.{Ear}
 use Rattle.rh_dialogue.specs.declared.stage.Stage.{Stage}
 use Rattle.rh_dialogue.specs.declared.stage.Turn.TheVariants as turn

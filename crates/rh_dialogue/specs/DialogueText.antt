@@ -5,10 +5,10 @@ use Rattle.rh_rules.specs.declared.pick.Pick.{Pick}
 use Rattle.rh_devices.specs.declared.watched.Watched.{Watched}
 use Rattle.rh_devices.specs.Devices.{input_limit}
 use Rattle.rh_script.specs.Lines.{raw_lines, ends_with, is_separator}
-use Rattle.rh_app.specs.declared.fault.RunFault.{RunFault}
-use Rattle.rh_app.specs.declared.fault.RunFault.TheVariants as end
-use Rattle.rh_app.specs.Faults.{ended}
-use Rattle.rh_app.specs.RunText.{run_text, run_end}
+use Rattle.rh_run.specs.declared.fault.RunFault.{RunFault}
+use Rattle.rh_run.specs.declared.fault.RunFault.TheVariants as end
+use Rattle.rh_run.specs.Faults.{ended}
+use Rattle.rh_run.specs.RunText.{run_text, run_end}
 use Rattle.rh_dialogue.specs.Deeds.{Deed, Gave, Took, Flushed, given, taken, is_flushed, is_ended, Goes}
 
 -- the lines that have come whole: each with its LF

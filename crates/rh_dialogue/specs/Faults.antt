@@ -1,8 +1,8 @@
 -- The faults of a dialogue's parts as those of the program (ours).
 use Rattle.rh_devices.specs.declared.fault.WriteFault.{WriteFault}
 use Rattle.rh_devices.specs.declared.fault.WriteFault.TheVariants as writing
-use Rattle.rh_app.specs.declared.fault.RunFault.{RunFault}
-use Rattle.rh_app.specs.declared.fault.RunFault.TheVariants as end
+use Rattle.rh_run.specs.declared.fault.RunFault.{RunFault}
+use Rattle.rh_run.specs.declared.fault.RunFault.TheVariants as end
 use Rattle.rh_dialogue.specs.declared.fault.DialogueFault.{DialogueFault}
 use Rattle.rh_dialogue.specs.declared.fault.DialogueFault.TheVariants as fault
 

@@ -14,8 +14,8 @@ use Rattle.rh_script.specs.Lines.{content, is_separator, lines_before, lines_beh
 use Rattle.rh_script.specs.declared.script.Line.{Line}
 use Rattle.rh_script.specs.declared.script.Line.TheVariants.{Nothing, Asks, Bad}
 use Rattle.rh_script.specs.Answers.{answer_text, bad_text, fault_text}
-use Rattle.rh_app.specs.declared.fault.Told.{Told}
-use Rattle.rh_app.specs.RunText.{bad_line, script_text, script_end, text_over, end_over, lines_asked}
+use Rattle.rh_run.specs.declared.fault.Told.{Told}
+use Rattle.rh_run.specs.RunText.{bad_line, script_text, script_end, text_over, end_over, lines_asked}
 use Rattle.rh_dialogue.specs.declared.stage.Opened.{Opened}
 use Rattle.rh_dialogue.specs.declared.stage.Opened.TheVariants as opened
 use Rattle.rh_dialogue.specs.declared.stage.Stage.{Stage}

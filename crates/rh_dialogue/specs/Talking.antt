@@ -5,8 +5,8 @@ use Rattle.rh_rules.specs.declared.pick.Pick.{Pick}
 use Rattle.rh_devices.specs.declared.watched.Watched.{Watched}
 use Rattle.rh_devices.specs.Devices.{input_limit}
 use Rattle.rh_script.specs.Lines.{raw_lines, is_separator}
-use Rattle.rh_app.specs.declared.fault.Told.{Told}
-use Rattle.rh_app.specs.Faults.{ended}
+use Rattle.rh_run.specs.declared.fault.Told.{Told}
+use Rattle.rh_run.specs.Faults.{ended}
 use Rattle.rh_dialogue.specs.declared.ear.Ear.{Ear}
 use Rattle.rh_dialogue.specs.declared.fault.DialogueFault.{DialogueFault}
 use Rattle.rh_dialogue.specs.declared.stage.Stage.{Stage}

@@ -7,8 +7,9 @@ ghost use Rattle.rh_dialogue.specs.Talking.{TalkGives};
 use crate::ear::{Ear, Hearing};
 use crate::fault::DialogueFault;
 use crate::stage::{Stage, Turn, finish, take};
-use rh_app::{RunFault, Sink, Source, Told, Watched, ended};
+use rh_devices::{Sink, Source, Watched};
 use rh_rules::Pick;
+use rh_run::{RunFault, Told, ended};
 use std::alloc::Global;
 
 /// Reads a cluster file, a line `===` and a script, and writes the answer to each command, as `run` of `rh_app` does, before it

@@ -4,7 +4,8 @@ ghost use Rattle.std.specs.Prelude.{◌≡◌};
 ghost use Rattle.rh_dialogue.specs.declared.fault.DialogueFault.TheVariants as fault;
 ghost use Rattle.rh_dialogue.specs.Faults.{dialogue_fault, unwritten};
 
-use rh_app::{RunFault, WriteFault};
+use rh_devices::WriteFault;
+use rh_run::RunFault;
 use std::alloc::AllocError;
 
 /// Why a dialogue broke off.

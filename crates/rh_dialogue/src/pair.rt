@@ -2,7 +2,7 @@
 
 ghost use Rattle.std.specs.Prelude.{◌≡◌};
 
-use rh_app::{Failed, Sink, Source};
+use rh_devices::{Failed, Sink, Source};
 
 /// A reader and a writer as one device with both directions. A call of one of them leaves the other as it is.
 #[derive(Drop)]

@@ -4,13 +4,14 @@ ghost use Rattle.std.specs.Prelude.{◌≡◌, ◌+◌, ◌<◌, ◌^◌, ◌++�
 ghost use Rattle.rh_script.specs.Lines.{content, raw_lines};
 ghost use Rattle.rh_script.specs.Commands.{line_of};
 ghost use Rattle.rh_dialogue.specs.declared.stage.Stage.TheVariants as stage;
-ghost use Rattle.rh_app.specs.RunText.{Wrote};
+ghost use Rattle.rh_run.specs.RunText.{Wrote};
 ghost use Rattle.rh_dialogue.specs.Stages.{NumbersWithin, Opens, Takes, WroteLine, end_from, is_bad, line_made, line_said, next_number, text_from};
 
-use rh_app::{Sink, Told, Watched, WriteFault, answer_bad, answer_call, write_fault};
 use rh_base::OutOfMemory;
 use rh_cluster::{ClusterFault, read_cluster};
+use rh_devices::{Sink, Watched, WriteFault};
 use rh_rules::Pick;
+use rh_run::{Told, answer_bad, answer_call, write_fault};
 use rh_script::{Line, content, cut, line_of, split_line};
 use rh_trail::Sim;
 use std::alloc::Global;

@@ -1,9 +1,10 @@
 //! Dialogues over one device.
 
 use crate::partner::Partner;
-use rh_app::{RunFault, Watched};
+use rh_devices::Watched;
 use rh_dialogue::run_dialogue;
 use rh_rules::Pick;
+use rh_run::RunFault;
 use std::alloc::Global;
 use std::process::Abort;
 

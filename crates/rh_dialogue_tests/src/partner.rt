@@ -2,7 +2,7 @@
 
 ghost use Rattle.std.specs.Prelude.{⊤};
 
-use rh_app::{Failed, Sink, Source};
+use rh_devices::{Failed, Sink, Source};
 use std::alloc::Global;
 
 /// Gives at most so many bytes a call, and no more than one line; takes three bytes a call; and fails at one of the calls.

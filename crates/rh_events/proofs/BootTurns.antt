@@ -9,7 +9,7 @@ use Rattle.rh_model.specs.ClusterView.{ClusterView, IsWithin, app_count, boot_of
 use Rattle.rh_state.specs.declared.status.Place.TheVariants.{Off}
 use Rattle.rh_state.specs.StateView.{StateView, runs_at, waits_at, is_started, place_of}
 use Rattle.rh_rules.specs.Course.{Course}
-use Rattle.rh_settle.proofs.Places.{off_of}
+use Rattle.rh_trace.proofs.Places.{off_of}
 use Rattle.rh_rules.specs.Marking.{with_mark, mark, mark_booted, mark_all}
 use Rattle.rh_events.proofs.Marks.{mark_cluster, mark_starts_no_other}
 use Rattle.rh_events.proofs.SoundMarks.{not_started}

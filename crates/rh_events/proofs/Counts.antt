@@ -5,11 +5,11 @@ use Rattle.rh_model.specs.declared.node.Node.{Node}
 use Rattle.rh_model.specs.declared.node.App.{App}
 use Rattle.rh_model.specs.declared.settings.Restart.{Restart}
 use Rattle.rh_rules.specs.declared.notice.Notice.{Notice}
-use Rattle.rh_settle.specs.Counts.{FewEdits, FewWeighed, weight, weights}
+use Rattle.rh_trace.specs.Counts.{FewEdits, FewWeighed, weight, weights}
 use Rattle.rh_rules.specs.Course.{Course}
-use Rattle.rh_settle.specs.Traces.{TraceView}
-use Rattle.rh_settle.specs.Ways.{Tells}
-use Rattle.rh_settle.proofs.Counts.{weights_told, weighed}
+use Rattle.rh_trace.specs.Traces.{TraceView}
+use Rattle.rh_trace.specs.Ways.{Tells}
+use Rattle.rh_trace.proofs.Counts.{weights_told, weighed}
 use Rattle.rh_rules.specs.declared.event.Event.{Event}
 use Rattle.rh_events.specs.Counts.{own_edits}
 use Rattle.rh_rules.specs.Marking.{mark_booted, mark_all}

@@ -11,9 +11,9 @@ use Rattle.rh_base.proofs.Lists.{cases}
 use Rattle.rh_rules.specs.declared.notice.Notice.{Notice}
 use Rattle.rh_rules.specs.declared.notice.Pair.{Pair}
 use Rattle.rh_rules.specs.Course.{Course, course_of}
-use Rattle.rh_settle.specs.Traces.{IsPairOf}
-use Rattle.rh_settle.specs.Validity.{IsSound}
-use Rattle.rh_settle.proofs.Behind.{after_notices}
+use Rattle.rh_trace.specs.Traces.{IsPairOf}
+use Rattle.rh_trace.specs.Validity.{IsSound}
+use Rattle.rh_trace.proofs.Behind.{after_notices}
 use Rattle.rh_rules.specs.declared.event.Event.{Event}
 use Rattle.rh_rules.specs.declared.event.Event.TheVariants.{Boot, Crash, Tick, Start, Stop, Permit, Takeover, Exit, StartAll, StopAll}
 use Rattle.rh_rules.specs.Marking.{pair, with_mark}
@@ -21,8 +21,8 @@ use Rattle.rh_rules.specs.NodesEnd.{ended}
 use Rattle.rh_rules.specs.ByHand.{stopped, left_waiting, forbidden, permitted, permission_set, taken_from, taken_over, ends_node, exited}
 use Rattle.rh_rules.specs.Steps.{change}
 use Rattle.rh_rules.specs.Refusals.{refused}
-use Rattle.rh_events.proofs.Accepted.{same_standing, accepted_boot, accepted_crash, accepted_start, accepted_stop, accepted_permit, accepted_takeover}
-use Rattle.rh_events.proofs.Accepted.{accepted_exit, accepted_start_all, accepted_stop_all}
+use Rattle.rh_refusals.proofs.Accepted.{same_standing, accepted_boot, accepted_crash, accepted_start, accepted_stop, accepted_permit, accepted_takeover}
+use Rattle.rh_refusals.proofs.Accepted.{accepted_exit, accepted_start_all, accepted_stop_all}
 use Rattle.rh_events.proofs.Fields.{SameTime, in_time, booted_same, ended_same, marked_same, stopped_same, left_waiting_same, permitted_same}
 use Rattle.rh_events.proofs.Fields.{taken_over_same, exited_same}
 use Rattle.rh_events.proofs.Notices.{mark_after, ended_after, stopped_after, left_waiting_after, permitted_after, taken_over_after, exited_after}

@@ -9,9 +9,9 @@ use Rattle.rh_state.specs.Lists.{has_app, without_app}
 use Rattle.rh_state.specs.StateView.{StateView, running_at, waiting_at, runs_at, waits_at, is_started}
 use Rattle.rh_state.specs.Setters.{unlisted}
 use Rattle.rh_base.proofs.Lists.{cases}
-use Rattle.rh_settle.proofs.Every.{filter_no, filter_yes}
-use Rattle.rh_settle.proofs.Places.{or_left, or_right}
-use Rattle.rh_settle.proofs.ListWalks.{first_is_next, is_in_list}
+use Rattle.rh_trace.proofs.Every.{filter_no, filter_yes}
+use Rattle.rh_base.proofs.Truths.{or_left, or_right}
+use Rattle.rh_state.proofs.ListWalks.{first_is_next, is_in_list}
 use Rattle.rh_rules.specs.NodesEnd.{emptied}
 
 -- ---- writes

@@ -11,7 +11,7 @@ use Rattle.rh_state.specs.Tables.{row}
 use Rattle.rh_state.specs.StateView.{StateView, standing_of, running_at, waiting_at}
 use Rattle.rh_state.specs.Setters.{with_standing, with_timer}
 use Rattle.rh_rules.specs.Course.{Course}
-use Rattle.rh_settle.proofs.Places.{at_set_there}
+use Rattle.rh_trace.proofs.Places.{at_set_there}
 use Rattle.rh_rules.specs.NodesEnd.{timeout_of, cleared, lost_at, lost_from, lost_if_ran, all_lost, ended}
 use Rattle.rh_events.specs.Laws.{EndLeavesOthers}
 use Rattle.rh_events.proofs.Fields.{ended_modes}

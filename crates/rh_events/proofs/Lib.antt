@@ -1,13 +1,9 @@
 mod Alive
 pub mod Counts
-pub mod FewStarted
 pub mod Emptying
 pub mod Configuring
 pub mod Losing
 pub mod Moving
-pub mod Anywhere
-pub mod FirstMissing
-pub mod TimersToldApart
 pub mod TimersArmed
 pub mod Tables
 pub mod SoundMarks
@@ -25,10 +21,7 @@ pub mod SoundByHandTakeover
 pub mod Fields
 pub mod Notices
 pub mod TimersFall
-pub mod RefusedByHand
-pub mod Accepted
 pub mod Requirements
-pub mod Reasons
 pub mod ModesKept
 pub mod StaysUp
 pub mod StartingAll

@@ -17,9 +17,9 @@ use Rattle.rh_state.specs.Numbers.{same_node}
 use Rattle.rh_state.specs.StateView.{StateView, standing_of, due_of}
 use Rattle.rh_state.specs.Setters.{with_standing, with_timer}
 use Rattle.rh_state.specs.Timers.{same_timer, due_among, without_timer}
-use Rattle.rh_settle.specs.Validity.{TimersFit}
+use Rattle.rh_trace.specs.Validity.{TimersFit}
 use Rattle.rh_state.specs.Standings.{is_lost}
-use Rattle.rh_settle.proofs.Places.{at_set_there}
+use Rattle.rh_trace.proofs.Places.{at_set_there}
 use Rattle.rh_events.proofs.Tables.{differ}
 use Rattle.rh_rules.specs.NodesEnd.{timeout_of, cleared, lost_at, lost_from, lost_if_ran}
 

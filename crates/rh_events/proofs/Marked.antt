@@ -9,7 +9,7 @@ use Rattle.rh_state.specs.Numbers.{nodes_of}
 use Rattle.rh_state.specs.Shape.{IsNodeOf, IsAppOf}
 use Rattle.rh_rules.specs.declared.notice.Notice.TheVariants as notice
 use Rattle.rh_rules.specs.Course.{Course, told, now_in}
-use Rattle.rh_settle.specs.Traces.{IsPairOf}
+use Rattle.rh_trace.specs.Traces.{IsPairOf}
 use Rattle.rh_state.specs.StateView.{StateView}
 use Rattle.rh_rules.specs.NodesEnd.{ended}
 use Rattle.rh_rules.specs.NodesStart.{is_ready, come_up, come_up_if_ready, ready_come_up}

@@ -13,7 +13,8 @@ use Rattle.rh_state.specs.StateView.{StateView, runs_at, waits_at, is_started, s
 use Rattle.rh_state.specs.Setters.{with_restart, with_standing, with_waiting, without_due}
 use Rattle.rh_rules.specs.Course.{is_local, Course}
 use Rattle.rh_rules.specs.Marking.{wanted_by_mark, with_mark, mark, mark_booted}
-use Rattle.rh_settle.proofs.Entries.{is_false, both, same_number, put_has}
+use Rattle.rh_base.proofs.Truths.{both, same_number}
+use Rattle.rh_trace.proofs.Entries.{is_false, put_has}
 use Rattle.rh_events.proofs.SoundMarks.{not_started, neither}
 
 -- what holds whatever the standings and the timers are, holds after a pair is wanted by a mark

@@ -11,11 +11,12 @@ use Rattle.rh_state.specs.Tables.{row}
 use Rattle.rh_state.specs.Lists.{has_app, without_app}
 use Rattle.rh_state.specs.StateView.{StateView, runs_at, place_of}
 use Rattle.rh_state.specs.Setters.{with_waiting, with_running, with_kind, with_standing, unlisted}
-use Rattle.rh_settle.proofs.Every.{filter_no}
-use Rattle.rh_settle.proofs.Places.{at_set_here, same_refl, or_right, append_gives, started_on}
+use Rattle.rh_trace.proofs.Every.{filter_no}
+use Rattle.rh_base.proofs.Truths.{same_refl, or_right}
+use Rattle.rh_trace.proofs.Places.{at_set_here, append_gives, started_on}
 use Rattle.rh_rules.specs.declared.notice.Move.TheVariants.{Takeover}
 use Rattle.rh_rules.specs.declared.notice.Notice.TheVariants as notice
-use Rattle.rh_settle.specs.Traces.{TraceView, course}
+use Rattle.rh_trace.specs.Traces.{TraceView, course}
 use Rattle.rh_rules.specs.Course.{told}
 use Rattle.rh_rules.specs.Moves.{moved, with_stopped}
 

@@ -21,10 +21,11 @@ use Rattle.rh_state.specs.StateView.{StateView, mode_of, is_alive, is_waiting}
 use Rattle.rh_base.proofs.Lists.{cases}
 use Rattle.rh_rules.specs.declared.notice.Notice.TheVariants as notice
 use Rattle.rh_rules.specs.Course.{Course, told, now_in}
-use Rattle.rh_settle.proofs.Places.{at_set_here, at_set_there}
+use Rattle.rh_trace.proofs.Places.{at_set_here, at_set_there}
 use Rattle.rh_rules.specs.NodesStart.{all_alive, has_others, is_ready, come_up, come_up_if_ready, ready_come_up}
 use Rattle.rh_rules.specs.Marking.{mark_all}
-use Rattle.rh_settle.proofs.Entries.{same_number, other_number}
+use Rattle.rh_base.proofs.Truths.{same_number}
+use Rattle.rh_trace.proofs.Entries.{other_number}
 use Rattle.rh_events.proofs.Marks.{remade, marks_any}
 use Rattle.rh_events.proofs.SoundComingUp.{up, waits_where_ready}
 

@@ -16,7 +16,7 @@ use Rattle.rh_rules.specs.declared.notice.Notice.{Notice}
 use Rattle.rh_rules.specs.declared.notice.Notice.TheVariants as notice
 use Rattle.rh_rules.specs.Course.{Course, told, now_in}
 use Rattle.rh_rules.specs.Moves.{with_stopped}
-use Rattle.rh_settle.proofs.Behind.{after_notices, told_after, fold_after, moved_after}
+use Rattle.rh_trace.proofs.Behind.{after_notices, told_after, fold_after, moved_after}
 use Rattle.rh_rules.specs.NodesStart.{is_ready, come_up, come_up_if_ready, ready_come_up}
 use Rattle.rh_rules.specs.Marking.{with_distributed_standing, mark, mark_booted, mark_all}
 use Rattle.rh_rules.specs.NodesEnd.{cleared, all_lost, ended}

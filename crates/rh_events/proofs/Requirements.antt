@@ -10,12 +10,12 @@ use Rattle.rh_state.specs.declared.status.Place.TheVariants.{Off, InRunning, InW
 use Rattle.rh_state.specs.declared.status.Standing.TheVariants.{Running}
 use Rattle.rh_state.specs.declared.status.Timer.TheVariants.{Sync, Failover}
 use Rattle.rh_state.specs.StateView.{StateView, mode_of, is_alive, is_waiting, runs_at, waits_at, place_of, standing_of, due_of}
-use Rattle.rh_settle.proofs.Places.{started_on}
-use Rattle.rh_settle.specs.Validity.{IsSound}
+use Rattle.rh_trace.proofs.Places.{started_on}
+use Rattle.rh_trace.specs.Validity.{IsSound}
 use Rattle.rh_state.specs.Standings.{is_lost}
 use Rattle.rh_rules.specs.declared.event.Event.TheVariants.{Boot, Start, Stop, Takeover}
 use Rattle.rh_rules.specs.Refusals.{refused}
-use Rattle.rh_events.proofs.Accepted.{differs, same_standing, accepted_boot, accepted_start, accepted_stop, accepted_takeover}
+use Rattle.rh_refusals.proofs.Accepted.{differs, same_standing, accepted_boot, accepted_start, accepted_stop, accepted_takeover}
 
 none_there : {A : Type 0} (o : Option A) → is_some o ≡ false → IsNone o
 none_there None h = refl

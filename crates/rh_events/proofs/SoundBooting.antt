@@ -15,13 +15,14 @@ use Rattle.rh_state.specs.Shape.{IsNodeOf}
 use Rattle.rh_state.specs.StateView.{StateView, mode_of, incarnation_of, is_up, is_alive, is_waiting}
 use Rattle.rh_state.specs.Setters.{with_mode, with_incarnation, with_timer}
 use Rattle.rh_base.proofs.Lists.{cases}
-use Rattle.rh_settle.specs.Validity.{TimersFit, IsSound, is_timed}
-use Rattle.rh_settle.proofs.Shapes.{shaped_timers, shaped_mode, shaped_incarnation}
-use Rattle.rh_settle.proofs.Places.{at_set_here, at_set_there}
+use Rattle.rh_trace.specs.Validity.{TimersFit, IsSound, is_timed}
+use Rattle.rh_trace.proofs.Shapes.{shaped_timers, shaped_mode, shaped_incarnation}
+use Rattle.rh_trace.proofs.Places.{at_set_here, at_set_there}
 use Rattle.rh_rules.specs.NodesStart.{with_sync_timer, booted}
-use Rattle.rh_settle.proofs.Entries.{same_number, other_number}
+use Rattle.rh_base.proofs.Truths.{same_number}
+use Rattle.rh_trace.proofs.Entries.{other_number}
 use Rattle.rh_events.proofs.Tables.{differ}
-use Rattle.rh_events.proofs.TimersToldApart.{is_set}
+use Rattle.rh_trace.proofs.TimersToldApart.{is_set}
 use Rattle.rh_events.proofs.TimersArmed.{once-behind, order-behind, set-behind, set-behind_other}
 use Rattle.rh_wheel.proofs.Arming.{All-behind}
 

@@ -15,18 +15,18 @@ use Rattle.rh_state.specs.StateView.{StateView, mode_of, is_up, runs_at, waits_a
 use Rattle.rh_state.specs.Setters.{with_allowed, with_standing, without_due, unlisted}
 use Rattle.rh_rules.specs.Course.{Course, is_local}
 use Rattle.rh_rules.specs.Moves.{with_stopped}
-use Rattle.rh_settle.specs.Validity.{TimersFit, IsSound}
+use Rattle.rh_trace.specs.Validity.{TimersFit, IsSound}
 use Rattle.rh_state.specs.Standings.{is_lost}
 use Rattle.rh_base.proofs.Lists.{cases}
-use Rattle.rh_settle.proofs.Places.{or_left}
+use Rattle.rh_base.proofs.Truths.{or_left, same_number, both}
 use Rattle.rh_rules.specs.Marking.{with_distributed_standing}
 use Rattle.rh_rules.specs.NodesEnd.{ended}
 use Rattle.rh_rules.specs.ByHand.{stopped, is_started_anywhere, quiet_if_nowhere, left_waiting, forbidden, permitted, permission_set, ends_node, exited}
-use Rattle.rh_settle.proofs.Entries.{same_number, both, taken, has, taken_has, taken_not, taken_keeps, there}
-use Rattle.rh_settle.proofs.Kept.{at_pair}
+use Rattle.rh_trace.proofs.Entries.{taken, has, taken_has, taken_not, taken_keeps, there}
+use Rattle.rh_trace.proofs.Kept.{at_pair}
 use Rattle.rh_events.proofs.SoundEndingFits.{stands_here, stands_there, same_standing, fit_standing, fit_found}
 use Rattle.rh_events.proofs.SoundEndingLists.{ListsFit, lists_fit, lists_unlisted, lists_waiting, lists_allowed, restood, lists_restood}
-use Rattle.rh_settle.proofs.Kept.{same_running}
+use Rattle.rh_trace.proofs.Kept.{same_running}
 use Rattle.rh_events.proofs.SoundEnding.{sound_ended}
 
 -- a state in which the pair runs no more

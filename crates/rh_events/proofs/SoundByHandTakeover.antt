@@ -17,18 +17,18 @@ use Rattle.rh_state.specs.Setters.{with_running, with_restart, unlisted}
 use Rattle.rh_rules.specs.Course.{Course, is_local}
 use Rattle.rh_rules.specs.Moves.{with_started, with_stopped, moved_state}
 use Rattle.rh_rules.specs.declared.notice.Move.TheVariants.{Takeover}
-use Rattle.rh_settle.specs.Validity.{IsSound}
+use Rattle.rh_trace.specs.Validity.{IsSound}
 use Rattle.rh_state.specs.Standings.{is_lost}
 use Rattle.rh_base.proofs.Lists.{cases}
-use Rattle.rh_settle.proofs.Shapes.{shaped_standing, shaped_restart, shaped_started, shaped_stopped}
-use Rattle.rh_settle.proofs.Places.{or_left}
+use Rattle.rh_trace.proofs.Shapes.{shaped_standing, shaped_restart, shaped_started, shaped_stopped}
+use Rattle.rh_base.proofs.Truths.{or_left, same_number, both}
 use Rattle.rh_rules.specs.ByHand.{taken_from, taken_over}
-use Rattle.rh_settle.proofs.Entries.{same_number, other_number, both, row_there, taken, put, has, taken_has, taken_not, taken_keeps, there, put_has, put_keeps}
-use Rattle.rh_settle.proofs.Entries.{put_gives}
-use Rattle.rh_settle.proofs.Kept.{at_pair}
+use Rattle.rh_trace.proofs.Entries.{other_number, row_there, taken, put, has, taken_has, taken_not, taken_keeps, there, put_has, put_keeps}
+use Rattle.rh_trace.proofs.Entries.{put_gives}
+use Rattle.rh_trace.proofs.Kept.{at_pair}
 use Rattle.rh_events.proofs.SoundEndingFits.{stands_here, stands_there, fit_standing}
 use Rattle.rh_events.proofs.SoundEndingLists.{ListsFit, lists_fit, up_where_runs, lists_unlisted, lists_running, restood, lists_restood}
-use Rattle.rh_settle.proofs.Kept.{same_running}
+use Rattle.rh_trace.proofs.Kept.{same_running}
 use Rattle.rh_events.proofs.SoundByHand.{lists_stopped}
 
 -- an application that runs at m runs at n then

@@ -20,16 +20,17 @@ use Rattle.rh_state.specs.Setters.{with_mode, without_due}
 use Rattle.rh_base.proofs.Lists.{cases}
 use Rattle.rh_rules.specs.declared.notice.Notice.TheVariants as notice
 use Rattle.rh_rules.specs.Course.{Course, told, now_in}
-use Rattle.rh_settle.specs.Validity.{TimersFit, IsSound, is_timed}
-use Rattle.rh_settle.proofs.Shapes.{shaped_timers, shaped_mode}
-use Rattle.rh_settle.proofs.Places.{at_set_here, at_set_there}
+use Rattle.rh_trace.specs.Validity.{TimersFit, IsSound, is_timed}
+use Rattle.rh_trace.proofs.Shapes.{shaped_timers, shaped_mode}
+use Rattle.rh_trace.proofs.Places.{at_set_here, at_set_there}
 use Rattle.rh_rules.specs.NodesStart.{is_ready, come_up, come_up_if_ready, ready_come_up}
 use Rattle.rh_rules.specs.Marking.{mark, mark_booted, mark_all}
-use Rattle.rh_settle.proofs.Entries.{same_number, other_number}
+use Rattle.rh_base.proofs.Truths.{same_number}
+use Rattle.rh_trace.proofs.Entries.{other_number}
 use Rattle.rh_events.proofs.Tables.{differ}
 use Rattle.rh_events.proofs.Marks.{marks_any, mark_cluster, mark_modes, mark_starts_no_other}
 use Rattle.rh_events.proofs.SoundMarks.{neither, sound_mark}
-use Rattle.rh_events.proofs.TimersToldApart.{set-without_other, unset-without, once-without, order-without, All-without}
+use Rattle.rh_trace.proofs.TimersToldApart.{set-without_other, unset-without, once-without, order-without, All-without}
 
 -- a node that has come up, before its boot list is marked
 abbrev pub up : StateView → Node → StateView

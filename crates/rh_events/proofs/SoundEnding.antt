@@ -20,16 +20,17 @@ use Rattle.rh_state.specs.Lists.{has_app}
 use Rattle.rh_state.specs.StateView.{StateView, mode_of, is_up, runs_at, waits_at, is_started, standing_of}
 use Rattle.rh_state.specs.Setters.{with_standing, with_timer, without_due}
 use Rattle.rh_rules.specs.Course.{Course, is_local}
-use Rattle.rh_settle.specs.Validity.{TimersFit, IsSound}
+use Rattle.rh_trace.specs.Validity.{TimersFit, IsSound}
 use Rattle.rh_state.specs.Standings.{is_lost}
 use Rattle.rh_base.proofs.Lists.{cases}
 use Rattle.rh_state.proofs.FirstStates.{length-configured}
 use Rattle.rh_state.proofs.Listings.{IsShaped-running, IsShaped-waiting}
-use Rattle.rh_settle.proofs.Shapes.{shaped_timers, shaped_mode, shaped_permissions}
-use Rattle.rh_settle.proofs.Places.{at_set, at_set_here, at_set_there, or_left, or_right}
+use Rattle.rh_trace.proofs.Shapes.{shaped_timers, shaped_mode, shaped_permissions}
+use Rattle.rh_base.proofs.Truths.{or_left, or_right, same_number, both}
+use Rattle.rh_trace.proofs.Places.{at_set, at_set_here, at_set_there}
 use Rattle.rh_rules.specs.NodesEnd.{timeout_of, emptied, with_configured, cleared, lost_at, lost_from, lost_if_ran, all_lost, ended}
-use Rattle.rh_settle.proofs.Kept.{same_running}
-use Rattle.rh_settle.proofs.Entries.{same_number, other_number, is_false, both, has, AreOnce, either}
+use Rattle.rh_trace.proofs.Kept.{same_running}
+use Rattle.rh_trace.proofs.Entries.{other_number, is_false, has, AreOnce, either}
 use Rattle.rh_events.proofs.SoundEndingFits.{stands_here, stands_there, same_standing, fit_standing, fit_lost, fit_down}
 use Rattle.rh_events.proofs.SoundEndingLists.{ListsFit, restood, lists_restood}
 

@@ -12,12 +12,13 @@ use Rattle.rh_state.specs.declared.status.Timer.TheVariants.{Sync, Failover}
 use Rattle.rh_state.specs.Numbers.{same_app, same_node}
 use Rattle.rh_state.specs.StateView.{StateView, mode_of, standing_of, is_waiting}
 use Rattle.rh_state.specs.Setters.{with_mode, with_standing, with_timer, without_due}
-use Rattle.rh_settle.specs.Validity.{TimersFit, is_timed}
+use Rattle.rh_trace.specs.Validity.{TimersFit, is_timed}
 use Rattle.rh_state.specs.Standings.{is_lost}
 use Rattle.rh_base.proofs.Lists.{cases}
-use Rattle.rh_settle.proofs.Places.{at_set, at_set_here, at_set_there}
-use Rattle.rh_settle.proofs.Entries.{same_number, other_number}
-use Rattle.rh_events.proofs.TimersToldApart.{is_set, same_timer-sym, unset-without, set-without_other, once-without, order-without, All-without}
+use Rattle.rh_trace.proofs.Places.{at_set, at_set_here, at_set_there}
+use Rattle.rh_base.proofs.Truths.{same_number}
+use Rattle.rh_trace.proofs.Entries.{other_number}
+use Rattle.rh_trace.proofs.TimersToldApart.{is_set, same_timer-sym, unset-without, set-without_other, once-without, order-without, All-without}
 use Rattle.rh_events.proofs.TimersArmed.{once-behind, order-behind, set-behind, set-behind_other}
 use Rattle.rh_wheel.proofs.Arming.{All-behind}
 

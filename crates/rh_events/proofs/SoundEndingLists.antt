@@ -11,13 +11,14 @@ use Rattle.rh_state.specs.Shape.{IsShaped, IsAppOf, IsStandingOf, OnceAtEachNode
 use Rattle.rh_state.specs.Tables.{row}
 use Rattle.rh_state.specs.StateView.{StateView, mode_of, is_up, running_at, runs_at, waits_at, is_started}
 use Rattle.rh_state.specs.Setters.{with_running, with_waiting, with_allowed, with_standing, unlisted}
-use Rattle.rh_settle.specs.Validity.{IdleUnlessUp, IsSound}
+use Rattle.rh_trace.specs.Validity.{IdleUnlessUp, IsSound}
 use Rattle.rh_base.proofs.Lists.{cases}
-use Rattle.rh_settle.proofs.Places.{at_set_there, or_left, or_right}
-use Rattle.rh_settle.proofs.Entries.{same_number, is_false, both, taken_has, put_has, once_taken, once_put, either}
-use Rattle.rh_settle.proofs.NextMoves.{up_within}
-use Rattle.rh_settle.proofs.Shapes.{shaped_timers, shaped_standing, shaped_allowed, shaped_running, shaped_waiting, shaped_unlisted}
-use Rattle.rh_settle.proofs.Kept.{at_pair}
+use Rattle.rh_base.proofs.Truths.{or_left, or_right, same_number, both}
+use Rattle.rh_trace.proofs.Places.{at_set_there}
+use Rattle.rh_trace.proofs.Entries.{is_false, taken_has, put_has, once_taken, once_put, either}
+use Rattle.rh_trace.proofs.NextMoves.{up_within}
+use Rattle.rh_trace.proofs.Shapes.{shaped_timers, shaped_standing, shaped_allowed, shaped_running, shaped_waiting, shaped_unlisted}
+use Rattle.rh_trace.proofs.Kept.{at_pair}
 use Rattle.rh_events.proofs.Tables.{not_empty, taken_empty}
 
 pub record ListsFit (s : StateView) : Type 0 where

@@ -14,16 +14,17 @@ use Rattle.rh_state.specs.StateView.{StateView, mode_of, is_up, waiting_at, runs
 use Rattle.rh_state.specs.Setters.{with_restart, with_standing, with_waiting, without_due}
 use Rattle.rh_base.proofs.Lists.{cases}
 use Rattle.rh_rules.specs.Course.{is_local}
-use Rattle.rh_settle.specs.Validity.{IdleUnlessUp, StandsWhereItRuns, TimersFit, IsSound}
+use Rattle.rh_trace.specs.Validity.{IdleUnlessUp, StandsWhereItRuns, TimersFit, IsSound}
 use Rattle.rh_state.specs.Standings.{is_lost}
-use Rattle.rh_settle.proofs.Shapes.{shaped_timers, shaped_standing, shaped_restart, shaped_waiting}
-use Rattle.rh_settle.proofs.Places.{at_set_here, at_set_there, or_left, or_right}
+use Rattle.rh_trace.proofs.Shapes.{shaped_timers, shaped_standing, shaped_restart, shaped_waiting}
+use Rattle.rh_base.proofs.Truths.{or_left, or_right, same_number, both}
+use Rattle.rh_trace.proofs.Places.{at_set_here, at_set_there}
 use Rattle.rh_rules.specs.Marking.{with_distributed_standing, wanted_by_mark, with_mark}
 use Rattle.rh_events.proofs.Alive.{without_unset}
-use Rattle.rh_settle.proofs.Entries.{same_number, other_number, both, put_has}
-use Rattle.rh_settle.proofs.Kept.{once_waiting}
+use Rattle.rh_trace.proofs.Entries.{other_number, put_has}
+use Rattle.rh_trace.proofs.Kept.{once_waiting}
 use Rattle.rh_events.proofs.Tables.{differ}
-use Rattle.rh_events.proofs.TimersToldApart.{set-without_other, unset-without, once-without, order-without, All-without}
+use Rattle.rh_trace.proofs.TimersToldApart.{set-without_other, unset-without, once-without, order-without, All-without}
 
 -- a pair that isn't started neither runs nor waits
 pub not_started : (p q : Bool) → p || q ≡ false → (p ≡ false) × (q ≡ false)

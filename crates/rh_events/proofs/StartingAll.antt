@@ -17,12 +17,13 @@ use Rattle.rh_state.specs.StateView.{StateView, mode_of, is_up, runs_at, waits_a
 use Rattle.rh_state.specs.Setters.{with_restart, with_waiting}
 use Rattle.rh_rules.specs.declared.notice.Notice.{Notice}
 use Rattle.rh_rules.specs.Course.{Course}
-use Rattle.rh_settle.specs.Traces.{IsPairOf}
-use Rattle.rh_settle.specs.Validity.{IsSound}
-use Rattle.rh_settle.proofs.Behind.{after_notices, fold_after}
+use Rattle.rh_trace.specs.Traces.{IsPairOf}
+use Rattle.rh_trace.specs.Validity.{IsSound}
+use Rattle.rh_trace.proofs.Behind.{after_notices, fold_after}
 use Rattle.rh_base.proofs.Lists.{cases}
-use Rattle.rh_settle.proofs.Entries.{both, has, put, there, put_keeps, put_gives, length_put, either, same_number}
-use Rattle.rh_settle.proofs.Places.{at_set_there, or_left, or_right, same_refl}
+use Rattle.rh_base.proofs.Truths.{both, same_number, or_left, or_right, same_refl}
+use Rattle.rh_trace.proofs.Entries.{has, put, there, put_keeps, put_gives, length_put, either}
+use Rattle.rh_trace.proofs.Places.{at_set_there}
 use Rattle.rh_rules.specs.Marking.{pair, with_mark, mark}
 use Rattle.rh_rules.specs.Everywhere.{is_host, is_target, targets, start_at, start_all}
 use Rattle.rh_events.specs.Everywhere.{start_if_target}

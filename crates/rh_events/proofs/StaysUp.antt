@@ -12,17 +12,17 @@ use Rattle.rh_state.specs.StateView.{StateView, mode_of, runs_at, restart_of, is
 use Rattle.rh_rules.specs.declared.notice.Notice.{Notice}
 use Rattle.rh_rules.specs.declared.notice.Notice.TheVariants as notice
 use Rattle.rh_rules.specs.Course.{Course}
-use Rattle.rh_settle.proofs.Places.{at_set}
+use Rattle.rh_trace.proofs.Places.{at_set}
 use Rattle.rh_rules.specs.declared.event.Event.TheVariants.{Boot, Stop, Exit}
 use Rattle.rh_rules.specs.NodesStart.{come_up, booted}
 use Rattle.rh_rules.specs.NodesEnd.{ended}
 use Rattle.rh_rules.specs.ByHand.{stopped, left_waiting, ends_node, exited}
 use Rattle.rh_rules.specs.Steps.{change}
 use Rattle.rh_rules.specs.Refusals.{refused}
-use Rattle.rh_settle.proofs.Behind.{after_notices}
+use Rattle.rh_trace.proofs.Behind.{after_notices}
 use Rattle.rh_events.proofs.Notices.{come_up_after, ended_after}
 use Rattle.rh_events.proofs.Fields.{ended_modes, stopped_same, left_waiting_same}
-use Rattle.rh_events.proofs.Accepted.{accepted_boot}
+use Rattle.rh_refusals.proofs.Accepted.{accepted_boot}
 use Rattle.rh_events.proofs.ModesKept.{come_up_modes, booted_modes}
 
 -- it is up, or its end was told

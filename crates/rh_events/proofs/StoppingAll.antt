@@ -19,12 +19,13 @@ use Rattle.rh_base.proofs.Lists.{cases}
 use Rattle.rh_rules.specs.declared.notice.Notice.{Notice}
 use Rattle.rh_rules.specs.declared.notice.Notice.TheVariants as notice
 use Rattle.rh_rules.specs.Course.{Course, told, now_in, is_local}
-use Rattle.rh_settle.specs.Validity.{IsSound}
-use Rattle.rh_settle.proofs.Behind.{after_notices, told_after, fold_after}
-use Rattle.rh_settle.proofs.Entries.{same_number, is_false, both, taken, has, taken_has, taken_not, taken_keeps, row_there}
-use Rattle.rh_settle.proofs.Every.{filter_yes}
-use Rattle.rh_settle.proofs.Places.{at_set, at_set_here, at_set_there}
-use Rattle.rh_settle.proofs.Kept.{at_pair}
+use Rattle.rh_trace.specs.Validity.{IsSound}
+use Rattle.rh_trace.proofs.Behind.{after_notices, told_after, fold_after}
+use Rattle.rh_base.proofs.Truths.{same_number, both}
+use Rattle.rh_trace.proofs.Entries.{is_false, taken, has, taken_has, taken_not, taken_keeps, row_there}
+use Rattle.rh_trace.proofs.Every.{filter_yes}
+use Rattle.rh_trace.proofs.Places.{at_set, at_set_here, at_set_there}
+use Rattle.rh_trace.proofs.Kept.{at_pair}
 use Rattle.rh_rules.specs.Everywhere.{leave_at, left_everywhere, quietened, stop_all}
 use Rattle.rh_events.proofs.Emptying.{set_same}
 use Rattle.rh_events.proofs.Fields.{SameNodes}

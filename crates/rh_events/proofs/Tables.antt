@@ -4,8 +4,9 @@ use Rattle.rh_model.specs.declared.node.App.{App}
 use Rattle.rh_state.specs.Tables.{row}
 use Rattle.rh_state.specs.Lists.{has_app, without_app}
 use Rattle.rh_base.proofs.Lists.{cases}
-use Rattle.rh_settle.proofs.Places.{at_set}
-use Rattle.rh_settle.proofs.Entries.{same_number, taken}
+use Rattle.rh_trace.proofs.Places.{at_set}
+use Rattle.rh_base.proofs.Truths.{same_number}
+use Rattle.rh_trace.proofs.Entries.{taken}
 
 pub differ : (i j : ℕ) → i ≢ j → nat_eq i j ≡ false
 differ i j d = cases (nat_eq i j) (λ t. absurd (d (same_number i j t))) (λ f. f)

@@ -6,7 +6,7 @@ use Rattle.rh_wheel.specs.Firing.{behind}
 use Rattle.rh_wheel.proofs.Arming.{All-behind}
 use Rattle.rh_state.specs.declared.status.Timer.{Timer}
 use Rattle.rh_state.specs.Timers.{same_timer}
-use Rattle.rh_events.proofs.TimersToldApart.{same_self, is_set, IsOnce, IsInOrder, same_timer-sym, set-cons, unset-cons, differs_from_unset}
+use Rattle.rh_trace.proofs.TimersToldApart.{same_self, is_set, IsOnce, IsInOrder, same_timer-sym, set-cons, unset-cons, differs_from_unset}
 
 pub once-behind : (new : ℕ × Timer) (xs : List (ℕ × Timer)) → is_set new.1 xs ≡ false → IsOnce xs → IsOnce (behind new xs)
 once-behind new [] unset once = AllPairs-cons (λ x y. same_timer x.1 y.1 ≡ false) new [] (λ k d l. absurd (omega arith)) once

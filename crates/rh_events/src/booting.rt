@@ -6,18 +6,18 @@ ghost use Rattle.rh_state.specs.Shape.{IsNodeOf};
 ghost use Rattle.rh_state.specs.StateView.{due_of, incarnation_of};
 ghost use Rattle.rh_state.specs.Stored.{read};
 ghost use Rattle.rh_state.specs.declared.status.Timer.TheVariants.{Sync};
-ghost use Rattle.rh_settle.specs.Counts.{FewEdits};
-ghost use Rattle.rh_settle.specs.Ways.{Goes};
+ghost use Rattle.rh_trace.specs.Counts.{FewEdits};
+ghost use Rattle.rh_trace.specs.Ways.{Goes};
 ghost use Rattle.rh_rules.specs.NodesStart.{booted};
 
 use rh_base::OutOfMemory;
 use rh_model::{Node, SyncWait};
-use rh_settle::{Trace, recording};
 use rh_state::{Mode, State, Timer};
+use rh_trace::{Trace, recording};
 
 /// A node that isn't alive boots (kernel(6), sync_nodes_timeout): it has one incarnation more, and waits for others, with a
 /// timer where that wait ends by itself.
-#[tactic(auto, unfolding(rh_rules::specs::NodesStart::booted), using(rh_settle::proofs::Ways::goes_more))]
+#[tactic(auto, unfolding(rh_rules::specs::NodesStart::booted), using(rh_trace::proofs::Ways::goes_more))]
 pub fn boot(state: &mut State, node: Node, trace: &mut Trace) -> Result<(), OutOfMemory>
     requires node { IsNodeOf (read state.old).cluster node }
     requires incarnation { incarnation_of (read state.old) node ≢ incarnation_limit }

@@ -9,11 +9,11 @@ ghost use Rattle.rh_state.specs.Stored.{read};
 ghost use Rattle.rh_state.specs.declared.status.Place.TheVariants.{Off, InRunning, InWaiting};
 ghost use Rattle.rh_state.specs.declared.status.Standing.TheVariants.{Running};
 ghost use Rattle.rh_rules.specs.declared.notice.Move.TheVariants.{Takeover};
-ghost use Rattle.rh_settle.specs.Traces.{course};
-ghost use Rattle.rh_settle.specs.Counts.{FewEdits, FewWeighed};
-ghost use Rattle.rh_settle.specs.Ways.{Goes};
+ghost use Rattle.rh_trace.specs.Traces.{course};
+ghost use Rattle.rh_trace.specs.Counts.{FewEdits, FewWeighed};
+ghost use Rattle.rh_trace.specs.Ways.{Goes};
 ghost use Rattle.rh_rules.specs.Moves.{moved};
-ghost use Rattle.rh_settle.specs.Validity.{RunsWhereItStands, IsSound};
+ghost use Rattle.rh_trace.specs.Validity.{RunsWhereItStands, IsSound};
 ghost use Rattle.rh_rules.specs.ByHand.{stopped, is_started_anywhere, quiet_if_nowhere, left_waiting, forbidden, pulls_back, frees, freed_by, permitted, taken_over, ends_node, exited};
 ghost use Rattle.rh_rules.specs.Steps.{change};
 ghost use Rattle.rh_rules.specs.declared.event.Event.TheVariants.{Stop};
@@ -23,11 +23,13 @@ use crate::marking::set_distributed_standing;
 use crate::readiness::cancel_if_set;
 use rh_base::OutOfMemory;
 use rh_model::{App, Node, Restart};
-use rh_settle::{Move, Notice, Pair, Trace, make_move, recording};
+use rh_refusals::{is_started_anywhere, is_started_at};
+use rh_rules::{Move, Notice, Pair};
 use rh_state::{Place, Standing, State, Timer};
+use rh_trace::{Trace, make_move, recording};
 
 // An application that runs at a node stops there.
-#[tactic(auto, unfolding(rh_rules::specs::ByHand::stopped), using(rh_settle::proofs::Ways::goes_none, rh_settle::proofs::Ways::goes_told, rh_settle::proofs::Ways::goes_more))]
+#[tactic(auto, unfolding(rh_rules::specs::ByHand::stopped), using(rh_trace::proofs::Ways::goes_none, rh_trace::proofs::Ways::goes_told, rh_trace::proofs::Ways::goes_more))]
 fn stop_running(
     state: &mut State,
     node: Node,
@@ -46,35 +48,8 @@ fn stop_running(
     set_distributed_standing(state, app, Standing::Quiet, trace)
 }
 
-/// Is an application started at a node?
-pub fn is_started_at(state: &State, node: Node, app: App) -> bool
-    requires node { IsNodeOf (read state.now).cluster node }
-    requires app { IsAppOf (read state.now).cluster app }
-    ensures { result ≡ is_started (read state.now) node app }
-{
-    match state.place_of(node, app) {
-        Place::InRunning | Place::InWaiting => true,
-        Place::Off => false,
-    }
-}
-
-/// Is an application started at some node?
-#[tactic(auto, unfolding(rh_rules::specs::ByHand::is_started_anywhere, rh_state::specs::Numbers::nodes_of))]
-pub fn is_started_anywhere(state: &State, app: App) -> bool
-    requires { IsAppOf (read state.now).cluster app }
-    ensures { result ≡ is_started_anywhere (read state.now) app }
-{
-    let count = state.cluster().node_count();
-    'nodes: for number in 0..count {
-        if is_started_at(state, Node(number as u8), app) {
-            return true;
-        }
-    }
-    false
-}
-
 // An application that is to run, but is started nowhere, is quiet.
-#[tactic(auto, using(rh_settle::proofs::Ways::goes_none, rh_settle::proofs::Ways::goes_more))]
+#[tactic(auto, using(rh_trace::proofs::Ways::goes_none, rh_trace::proofs::Ways::goes_more))]
 fn quieten_if_nowhere(state: &mut State, app: App, trace: &mut Trace) -> Result<(), OutOfMemory>
     requires { IsAppOf (read state.old).cluster app }
     ensures part { OnOk result (read state.new ≡ quiet_if_nowhere (read state.old) app (standing_of (read state.old) app)) }
@@ -100,7 +75,7 @@ fn quieten_if_nowhere(state: &mut State, app: App, trace: &mut Trace) -> Result<
 }
 
 // An application that waits at a node is stopped there.
-#[tactic(auto, unfolding(rh_rules::specs::ByHand::left_waiting), using(rh_settle::proofs::Ways::goes_more))]
+#[tactic(auto, unfolding(rh_rules::specs::ByHand::left_waiting), using(rh_trace::proofs::Ways::goes_more))]
 fn leave_waiting(
     state: &mut State,
     node: Node,
@@ -138,7 +113,7 @@ pub fn stop(state: &mut State, node: Node, app: App, trace: &mut Trace) -> Resul
 }
 
 // An application that runs at a node may do so no longer: it stops there, waits, and is wanted.
-#[tactic(auto, unfolding(rh_rules::specs::ByHand::forbidden), using(rh_settle::proofs::Ways::goes_none, rh_settle::proofs::Ways::goes_told, rh_settle::proofs::Ways::goes_more))]
+#[tactic(auto, unfolding(rh_rules::specs::ByHand::forbidden), using(rh_trace::proofs::Ways::goes_none, rh_trace::proofs::Ways::goes_told, rh_trace::proofs::Ways::goes_more))]
 fn forbid(state: &mut State, node: Node, app: App, trace: &mut Trace) -> Result<(), OutOfMemory>
     requires node { IsNodeOf (read state.old).cluster node }
     requires app { IsAppOf (read state.old).cluster app }
@@ -175,7 +150,7 @@ fn frees(state: &State, node: Node, app: App, allow: bool) -> bool
 }
 
 // A permission frees the pair that it may free.
-#[tactic(auto, using(rh_settle::proofs::Ways::goes_none, rh_settle::proofs::Ways::goes_marked))]
+#[tactic(auto, using(rh_trace::proofs::Ways::goes_none, rh_trace::proofs::Ways::goes_marked))]
 fn free(
     state: &State,
     node: Node,
@@ -199,7 +174,7 @@ fn free(
 
 /// An application may run at a node from now on, or may not (application(3), `permit/2`). In the second profile (ours) one that
 /// is started there and may run there again is taken back from a node of a later group.
-#[tactic(auto, unfolding(rh_rules::specs::ByHand::permitted), using(rh_settle::proofs::Ways::goes_more))]
+#[tactic(auto, unfolding(rh_rules::specs::ByHand::permitted), using(rh_trace::proofs::Ways::goes_more))]
 pub fn permit(
     state: &mut State,
     node: Node,
@@ -221,7 +196,7 @@ pub fn permit(
 }
 
 // An application that isn't started at a node is started there, and waits.
-#[tactic(auto, using(rh_settle::proofs::Ways::goes_none))]
+#[tactic(auto, using(rh_trace::proofs::Ways::goes_none))]
 fn start_if_off(
     state: &mut State,
     node: Node,
@@ -248,7 +223,7 @@ fn start_if_off(
 }
 
 // An application that runs at a node moves to another.
-#[tactic(auto, using(rh_settle::proofs::Ways::goes_more))]
+#[tactic(auto, using(rh_trace::proofs::Ways::goes_more))]
 fn move_by_hand(
     state: &mut State,
     app: App,
@@ -271,7 +246,7 @@ fn move_by_hand(
 
 /// A distributed application that runs elsewhere moves to a node, and has the given restart type there (application(3),
 /// `takeover/2`).
-#[tactic(auto, unfolding(rh_rules::specs::ByHand::taken_over), using(rh_settle::proofs::Ways::goes_none, rh_settle::proofs::Ways::goes_more))]
+#[tactic(auto, unfolding(rh_rules::specs::ByHand::taken_over), using(rh_trace::proofs::Ways::goes_none, rh_trace::proofs::Ways::goes_more))]
 pub fn take_over(
     state: &mut State,
     node: Node,

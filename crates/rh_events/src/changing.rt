@@ -2,10 +2,10 @@
 
 ghost use Rattle.std.specs.Prelude.{◌≡◌, None, OnOk};
 ghost use Rattle.rh_state.specs.Stored.{read};
-ghost use Rattle.rh_settle.specs.Traces.{course};
-ghost use Rattle.rh_settle.specs.Counts.{FewWeighed};
-ghost use Rattle.rh_settle.specs.Ways.{Goes};
-ghost use Rattle.rh_settle.specs.Validity.{IsSound};
+ghost use Rattle.rh_trace.specs.Traces.{course};
+ghost use Rattle.rh_trace.specs.Counts.{FewWeighed};
+ghost use Rattle.rh_trace.specs.Ways.{Goes};
+ghost use Rattle.rh_trace.specs.Validity.{IsSound};
 ghost use Rattle.rh_rules.specs.Steps.{change};
 ghost use Rattle.rh_events.specs.Counts.{own_edits};
 ghost use Rattle.rh_rules.specs.Refusals.{refused};
@@ -17,12 +17,12 @@ use crate::everywhere::{start_all, stop_all};
 use crate::marking::mark;
 use rh_base::OutOfMemory;
 use rh_rules::Event;
-use rh_settle::Trace;
 use rh_state::State;
+use rh_trace::Trace;
 
 /// The change of an event that isn't refused, before nodes come up and applications settle. That of a tick is what its
 /// timers do, and none of it is made here. Where memory is refused, the state is one on the way.
-#[tactic(auto, using(rh_settle::proofs::Ways::goes_none))]
+#[tactic(auto, using(rh_trace::proofs::Ways::goes_none))]
 pub fn change(state: &mut State, event: &Event, trace: &mut Trace) -> Result<(), OutOfMemory>
     requires accepted { refused (read state.old) event.now ≡ None }
     requires sound { IsSound (read state.old) }

@@ -12,16 +12,17 @@ ghost use Rattle.rh_state.specs.Setters.{with_allowed};
 ghost use Rattle.rh_state.specs.Stored.{read};
 ghost use Rattle.rh_state.specs.declared.status.Standing.TheVariants.{Running};
 ghost use Rattle.rh_state.specs.declared.status.Timer.TheVariants.{Failover};
-ghost use Rattle.rh_settle.specs.Traces.{course};
-ghost use Rattle.rh_settle.specs.Counts.{FewEdits, FewWeighed};
-ghost use Rattle.rh_settle.specs.Ways.{Goes};
+ghost use Rattle.rh_trace.specs.Traces.{course};
+ghost use Rattle.rh_trace.specs.Counts.{FewEdits, FewWeighed};
+ghost use Rattle.rh_trace.specs.Ways.{Goes};
 ghost use Rattle.rh_rules.specs.NodesEnd.{timeout_of, emptied, with_configured, cleared, lost_at, lost_if_ran, all_lost, ended};
 
 use crate::readiness::cancel_if_set;
 use rh_base::OutOfMemory;
 use rh_model::{App, Cluster, Node};
-use rh_settle::{Notice, Trace, recording};
+use rh_rules::Notice;
 use rh_state::{Mode, Standing, State, Timer};
+use rh_trace::{Trace, recording};
 
 // An application that is started at a node, if there is one.
 fn first_started(state: &State, node: Node) -> Option<App>
@@ -37,7 +38,7 @@ fn first_started(state: &State, node: Node) -> Option<App>
 }
 
 // Each application that is started at a node leaves its list.
-#[tactic(auto, using(rh_settle::proofs::Ways::goes_none, rh_settle::proofs::Ways::goes_more))]
+#[tactic(auto, using(rh_trace::proofs::Ways::goes_none, rh_trace::proofs::Ways::goes_more))]
 fn empty(state: &mut State, node: Node, trace: &mut Trace) -> Result<(), OutOfMemory>
     requires { IsNodeOf (read state.old).cluster node }
     ensures part { OnOk result (read state.new ≡ emptied (read state.old) node) }
@@ -84,7 +85,7 @@ fn is_configured(state: &State, node: Node) -> bool
 
 // What may run at a node is as configured again (kernel(6), `permissions`). Nearly always it is so already, and then no
 // application is asked for alone.
-#[tactic(auto, using(rh_settle::proofs::Ways::goes_none, rh_settle::proofs::Ways::goes_more))]
+#[tactic(auto, using(rh_trace::proofs::Ways::goes_none, rh_trace::proofs::Ways::goes_more))]
 fn configure(state: &mut State, node: Node, trace: &mut Trace) -> Result<(), OutOfMemory>
     requires { IsNodeOf (read state.old).cluster node }
     ensures part { OnOk result (read state.new ≡ with_configured (read state.old) node) }
@@ -106,7 +107,7 @@ fn configure(state: &mut State, node: Node, trace: &mut Trace) -> Result<(), Out
 }
 
 // A node is down: nothing is started there, it waits no longer, and its permissions are as configured.
-#[tactic(auto, unfolding(rh_rules::specs::NodesEnd::cleared), using(rh_settle::proofs::Ways::goes_more))]
+#[tactic(auto, unfolding(rh_rules::specs::NodesEnd::cleared), using(rh_trace::proofs::Ways::goes_more))]
 fn clear(state: &mut State, node: Node, trace: &mut Trace) -> Result<(), OutOfMemory>
     requires { IsNodeOf (read state.old).cluster node }
     ensures part { OnOk result (read state.new ≡ cleared (read state.old) node) }
@@ -136,7 +137,7 @@ fn timeout_of(cluster: &Cluster, app: App) -> u64
 }
 
 // An application that ran at a node that ended is lost until its timeout, or wanted at once where that is 0.
-#[tactic(auto, using(rh_settle::proofs::Ways::goes_more))]
+#[tactic(auto, using(rh_trace::proofs::Ways::goes_more))]
 fn lose_at(state: &mut State, node: Node, app: App, trace: &mut Trace) -> Result<(), OutOfMemory>
     requires node { IsNodeOf (read state.old).cluster node }
     requires app { IsAppOf (read state.old).cluster app }
@@ -158,7 +159,7 @@ fn lose_at(state: &mut State, node: Node, app: App, trace: &mut Trace) -> Result
 }
 
 // An application is lost so if it stands as running at the node.
-#[tactic(auto, unfolding(rh_rules::specs::NodesEnd::lost_if_ran), using(rh_settle::proofs::Ways::goes_none))]
+#[tactic(auto, unfolding(rh_rules::specs::NodesEnd::lost_if_ran), using(rh_trace::proofs::Ways::goes_none))]
 fn lose_if_ran(
     state: &mut State,
     node: Node,
@@ -182,7 +183,7 @@ fn lose_if_ran(
 }
 
 // Each application that stands as running at the node is lost so, in order.
-#[tactic(auto, unfolding(rh_rules::specs::NodesEnd::all_lost, rh_state::specs::Numbers::apps_of), using(rh_settle::proofs::Ways::goes_none, rh_settle::proofs::Ways::goes_more))]
+#[tactic(auto, unfolding(rh_rules::specs::NodesEnd::all_lost, rh_state::specs::Numbers::apps_of), using(rh_trace::proofs::Ways::goes_none, rh_trace::proofs::Ways::goes_more))]
 fn lose_all(state: &mut State, node: Node, trace: &mut Trace) -> Result<(), OutOfMemory>
     requires node { IsNodeOf (read state.old).cluster node }
     requires unset { (a : App) → standing_of (read state.old) a ≡ Running node → IsNone (due_of (read state.old) (Failover a)) }
@@ -201,7 +202,7 @@ fn lose_all(state: &mut State, node: Node, trace: &mut Trace) -> Result<(), OutO
 }
 
 /// A node ends (Distributed Applications, "Failover"): nothing is started there any more, and what ran there is lost.
-#[tactic(auto, unfolding(rh_rules::specs::NodesEnd::ended), using(rh_settle::proofs::Ways::goes_told, rh_settle::proofs::Ways::goes_more))]
+#[tactic(auto, unfolding(rh_rules::specs::NodesEnd::ended), using(rh_trace::proofs::Ways::goes_told, rh_trace::proofs::Ways::goes_more))]
 pub fn end(state: &mut State, node: Node, trace: &mut Trace) -> Result<(), OutOfMemory>
     requires node { IsNodeOf (read state.old).cluster node }
     requires unset { (a : App) → standing_of (read state.old) a ≡ Running node → IsNone (due_of (read state.old) (Failover a)) }

@@ -4,22 +4,23 @@ ghost use Rattle.std.specs.Prelude.{◌≡◌, ◌+◌, ◌*◌, OnOk};
 ghost use Rattle.rh_model.specs.ClusterView.{node_count};
 ghost use Rattle.rh_state.specs.Shape.{IsNodeOf, IsAppOf};
 ghost use Rattle.rh_state.specs.Stored.{read};
-ghost use Rattle.rh_settle.specs.Traces.{course};
-ghost use Rattle.rh_settle.specs.Counts.{FewEdits};
-ghost use Rattle.rh_settle.specs.Ways.{Goes};
+ghost use Rattle.rh_trace.specs.Traces.{course};
+ghost use Rattle.rh_trace.specs.Counts.{FewEdits};
+ghost use Rattle.rh_trace.specs.Ways.{Goes};
 ghost use Rattle.rh_events.specs.Everywhere.{start_if_target};
 ghost use Rattle.rh_rules.specs.Everywhere.{start_all, leave_at, left_everywhere, stop_all};
 
 use crate::marking::mark;
 use crate::readiness::cancel_if_set;
-use crate::targets::is_target;
 use rh_base::OutOfMemory;
 use rh_model::{App, Node, Restart};
-use rh_settle::{Notice, Trace, recording};
+use rh_refusals::is_target;
+use rh_rules::Notice;
 use rh_state::{Place, Standing, State, Timer};
+use rh_trace::{Trace, recording};
 
 // An application is started at a node, if it is still to be started there.
-#[tactic(auto, using(rh_settle::proofs::Ways::goes_none))]
+#[tactic(auto, using(rh_trace::proofs::Ways::goes_none))]
 fn start_if_target(
     state: &mut State,
     node: Node,
@@ -41,7 +42,7 @@ fn start_if_target(
 
 /// A distributed application is started at each node at which it is still to be started (application(3), `start/2`), in node
 /// order. Where it is started it keeps its place and its restart type.
-#[tactic(auto, using(rh_settle::proofs::Ways::goes_none))]
+#[tactic(auto, using(rh_trace::proofs::Ways::goes_none))]
 pub fn start_all(
     state: &mut State,
     app: App,
@@ -61,7 +62,7 @@ pub fn start_all(
 }
 
 // An application leaves its list at a node, and stops there if it ran.
-#[tactic(auto, using(rh_settle::proofs::Ways::goes_none, rh_settle::proofs::Ways::goes_told, rh_settle::proofs::Ways::goes_more))]
+#[tactic(auto, using(rh_trace::proofs::Ways::goes_none, rh_trace::proofs::Ways::goes_told, rh_trace::proofs::Ways::goes_more))]
 fn leave(state: &mut State, node: Node, app: App, trace: &mut Trace) -> Result<(), OutOfMemory>
     requires node { IsNodeOf (read state.old).cluster node }
     requires app { IsAppOf (read state.old).cluster app }
@@ -80,7 +81,7 @@ fn leave(state: &mut State, node: Node, app: App, trace: &mut Trace) -> Result<(
 }
 
 // So at each node, in node order.
-#[tactic(auto, unfolding(rh_rules::specs::Everywhere::left_everywhere, rh_state::specs::Numbers::nodes_of), using(rh_settle::proofs::Ways::goes_none))]
+#[tactic(auto, unfolding(rh_rules::specs::Everywhere::left_everywhere, rh_state::specs::Numbers::nodes_of), using(rh_trace::proofs::Ways::goes_none))]
 fn leave_everywhere(state: &mut State, app: App, trace: &mut Trace) -> Result<(), OutOfMemory>
     requires app { IsAppOf (read state.old).cluster app }
     ensures course { OnOk result (course (read state.new) trace.new ≡ left_everywhere (course (read state.old) trace.old) app) }
@@ -97,7 +98,7 @@ fn leave_everywhere(state: &mut State, app: App, trace: &mut Trace) -> Result<()
 
 /// A distributed application is stopped at all its nodes (application(3), `stop/1`), in node order. It is to run nowhere then,
 /// and nothing awaits its return.
-#[tactic(auto, unfolding(rh_rules::specs::Everywhere::stop_all), using(rh_settle::proofs::Ways::goes_more))]
+#[tactic(auto, unfolding(rh_rules::specs::Everywhere::stop_all), using(rh_trace::proofs::Ways::goes_more))]
 pub fn stop_all(state: &mut State, app: App, trace: &mut Trace) -> Result<(), OutOfMemory>
     requires app { IsAppOf (read state.old).cluster app }
     ensures course { OnOk result (course (read state.new) trace.new ≡ stop_all (course (read state.old) trace.old) app) }

@@ -1,8 +1,8 @@
-//! What may happen to a cluster, when that is refused, and what it changes of itself: nodes boot, come up and end,
-//! applications are started, stopped, permitted and taken over by hand.
+//! What may happen to a cluster, and what it changes of itself: nodes boot, come up and end, applications are started,
+//! stopped, permitted and taken over by hand.
 //!
-//! [`refusal_of`] says why an [`Event`] is refused in a state. [`change`] makes its change and tells what follows
-//! at once; that applications settle afterwards is rh_settle's.
+//! [`change`] makes the change of an [`Event`] that isn't refused and tells what follows at once; that applications settle
+//! afterwards is rh_settle's.
 #![tactic(auto)]
 
 mod booting;
@@ -14,13 +14,10 @@ mod everywhere;
 mod laws;
 mod marking;
 mod readiness;
-mod refusing;
-mod targets;
 
 pub use changing::change;
 pub use coming_up::{come_up, let_ready_come_up};
 pub use ending::end;
 pub use laws::end_leaves_others;
 pub use readiness::{all_alive, cancel_if_set};
-pub use refusing::refusal_of;
 pub use rh_rules::{Event, Refusal};

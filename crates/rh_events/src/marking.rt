@@ -6,16 +6,17 @@ ghost use Rattle.rh_state.specs.Shape.{IsNodeOf, IsAppOf, IsStandingOf};
 ghost use Rattle.rh_state.specs.StateView.{place_of, running_at, waiting_at, standing_of};
 ghost use Rattle.rh_state.specs.Stored.{read};
 ghost use Rattle.rh_state.specs.declared.status.Place.TheVariants.{Off};
-ghost use Rattle.rh_settle.specs.Traces.{course};
-ghost use Rattle.rh_settle.specs.Counts.{FewEdits};
-ghost use Rattle.rh_settle.specs.Ways.{Goes};
+ghost use Rattle.rh_trace.specs.Traces.{course};
+ghost use Rattle.rh_trace.specs.Counts.{FewEdits};
+ghost use Rattle.rh_trace.specs.Ways.{Goes};
 ghost use Rattle.rh_rules.specs.Marking.{with_distributed_standing, wanted_by_mark, with_mark, mark, mark_all};
 
 use crate::readiness::cancel_if_set;
 use rh_base::OutOfMemory;
 use rh_model::{App, Node, Restart};
-use rh_settle::{Pair, Trace, recording};
+use rh_rules::Pair;
 use rh_state::{Standing, State, Timer};
+use rh_trace::{Trace, recording};
 
 /// A distributed application has the given standing from now on; a local one is always quiet.
 pub fn set_distributed_standing(
@@ -40,7 +41,7 @@ pub fn set_distributed_standing(
 }
 
 // An application that is started at a node is wanted, if it was quiet or was lost at this very node.
-#[tactic(auto, using(rh_settle::proofs::Ways::goes_none, rh_settle::proofs::Ways::goes_more))]
+#[tactic(auto, using(rh_trace::proofs::Ways::goes_none, rh_trace::proofs::Ways::goes_more))]
 fn want_by_mark(
     state: &mut State,
     node: Node,
@@ -68,7 +69,7 @@ fn want_by_mark(
 
 /// An application that isn't started at a node is started there (application(3), `start/2`): it waits behind all others, with
 /// its restart type.
-#[tactic(auto, unfolding(rh_rules::specs::Marking::with_mark), using(rh_settle::proofs::Ways::goes_none, rh_settle::proofs::Ways::goes_marked, rh_settle::proofs::Ways::goes_more))]
+#[tactic(auto, unfolding(rh_rules::specs::Marking::with_mark), using(rh_trace::proofs::Ways::goes_none, rh_trace::proofs::Ways::goes_marked, rh_trace::proofs::Ways::goes_more))]
 pub fn mark(
     state: &mut State,
     node: Node,
@@ -90,7 +91,7 @@ pub fn mark(
 }
 
 /// What a node boots is started there, in order.
-#[tactic(auto, unfolding(rh_rules::specs::Marking::mark_all), using(rh_settle::proofs::Ways::goes_none))]
+#[tactic(auto, unfolding(rh_rules::specs::Marking::mark_all), using(rh_trace::proofs::Ways::goes_none))]
 pub fn mark_booted(state: &mut State, node: Node, trace: &mut Trace) -> Result<(), OutOfMemory>
     requires node { IsNodeOf (read state.old).cluster node }
     requires running { running_at (read state.old) node ≡ [] }

@@ -6,17 +6,17 @@ ghost use Rattle.rh_state.specs.StateView.{is_alive, mode_of};
 ghost use Rattle.rh_state.specs.Setters.{without_due};
 ghost use Rattle.rh_state.specs.Shape.{IsNodeOf, IsTimerOf};
 ghost use Rattle.rh_state.specs.Stored.{read};
-ghost use Rattle.rh_settle.specs.Counts.{FewEdits};
-ghost use Rattle.rh_settle.specs.Ways.{Goes};
+ghost use Rattle.rh_trace.specs.Counts.{FewEdits};
+ghost use Rattle.rh_trace.specs.Ways.{Goes};
 ghost use Rattle.rh_rules.specs.NodesStart.{all_alive, is_ready};
 
 use rh_base::OutOfMemory;
 use rh_model::{Node, SyncWait};
-use rh_settle::{Trace, recording};
 use rh_state::{Mode, State, Timer};
+use rh_trace::{Trace, recording};
 
 /// Cancels a timer, if it is set.
-#[tactic(auto, using(rh_settle::proofs::Ways::goes_none))]
+#[tactic(auto, using(rh_trace::proofs::Ways::goes_none))]
 pub fn cancel_if_set(state: &mut State, timer: Timer, trace: &mut Trace) -> Result<(), OutOfMemory>
     requires { IsTimerOf (read state.old).cluster timer }
     ensures part { OnOk result (read state.new ≡ without_due (read state.old) timer) }

@@ -10,9 +10,9 @@ use Rattle.rh_shifts.specs.Laws.{meets_limit}
 use Rattle.rh_shifts.specs.Shifts.{seen_from, timeless, Alike}
 use Rattle.rh_shifts.proofs.Accepting.{alike_accept_alike}
 use Rattle.rh_shifts.proofs.GoingOn.{next_commutes_with_shifts}
-use Rattle.rh_settle.specs.Validity.{IsValid}
+use Rattle.rh_trace.specs.Validity.{IsValid}
 use Rattle.rh_step.proofs.Validity.{next_valid}
-use Rattle.rh_trail.specs.Runs.{step}
+use Rattle.rh_step.specs.Runs.{step}
 use Rattle.rh_explore.specs.declared.asking.Ask.{Ask}
 use Rattle.rh_explore.specs.declared.asking.Condition.{Condition}
 use Rattle.rh_explore.specs.declared.asking.Condition.TheVariants.{RunsSomewhere, RunsNowhere, RunsAt, IsUp, IsNotUp}

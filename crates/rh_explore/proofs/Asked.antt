@@ -6,9 +6,9 @@ use Rattle.rh_model.specs.declared.node.App.{App}
 use Rattle.rh_state.specs.Shape.{IsShaped}
 use Rattle.rh_state.specs.StateView.{StateView, runs_at, waits_at}
 use Rattle.rh_base.proofs.Lists.{cases}
-use Rattle.rh_settle.proofs.Entries.{row_there}
-use Rattle.rh_settle.proofs.Places.{or_left}
-use Rattle.rh_settle.proofs.Shapes.{started_within}
+use Rattle.rh_trace.proofs.Entries.{row_there}
+use Rattle.rh_base.proofs.Truths.{or_left}
+use Rattle.rh_trace.proofs.Shapes.{started_within}
 
 pub no_such_node : (s : StateView) (n : Node) (a : App) → IsShaped s → node_count s.cluster ≤ n.0 → runs_at s n a ≡ false
 no_such_node s n a shape past = cases (runs_at s n a)

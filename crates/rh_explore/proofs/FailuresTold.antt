@@ -13,7 +13,7 @@ use Rattle.rh_state.specs.StateView.{StateView}
 use Rattle.rh_explore.specs.declared.asking.Ask.{Ask}
 use Rattle.rh_explore.specs.Asking.{holds_in}
 use Rattle.rh_explore.specs.Failures.{FailsAt, HoldsInAll, AreFailures, AreFailuresTo}
-use Rattle.rh_explore.proofs.Places.{at_front, at_of}
+use Rattle.rh_keys.proofs.Places.{at_front, at_of}
 
 -- ---- what is known of some states stays so
 fails_more : (states : List StateView) (s : StateView) (ask : Ask) (i : ℕ) → FailsAt states ask i → FailsAt (states ++ s ∷ []) ask i

@@ -2,7 +2,7 @@
 use Rattle.std.proofs.Common.{[], refl, sym, ap, ◌∙◌, subst, arith}
 use Rattle.std.proofs.lemmas.List.{length_push}
 use Rattle.std.proofs.Common.{◌++◌, ◌∷◌}
-use Rattle.rh_trail.specs.Runs.{step}
+use Rattle.rh_step.specs.Runs.{step}
 use Rattle.rh_explore.specs.Laws.{ReachesGoOn}
 use Rattle.rh_explore.specs.Reaching.{MayCome}
 use Rattle.rh_explore.proofs.Searched.{may_push, behind_push}

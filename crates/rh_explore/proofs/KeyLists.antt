@@ -4,7 +4,7 @@ use Rattle.std.specs.Prelude.{Contains}
 use Rattle.std.specs.List.{list_any}
 use Rattle.std.proofs.lemmas.List.{map_push}
 use Rattle.rh_base.proofs.Lists.{cases}
-use Rattle.rh_settle.proofs.Entries.{both}
+use Rattle.rh_base.proofs.Truths.{both}
 
 module _ {V K : Type 0} (items : V → K) (p : V → Bool) (q : K) where
   -- a test that passes the values with these items finds one where the items are in the list

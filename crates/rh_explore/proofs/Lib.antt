@@ -1,10 +1,3 @@
-pub mod Places
-pub mod KeyParts
-pub mod KeysApart
-pub mod CodesApart
-pub mod KeyCodes
-pub mod KeyCells
-pub mod TimersOff
 pub mod KeyLists
 pub mod Asked
 pub mod Stepped

@@ -8,8 +8,8 @@ use Rattle.rh_state.specs.StateView.{StateView}
 use Rattle.rh_state.specs.Stored.{read}
 use Rattle.rh_rules.specs.declared.event.Event.{Event}
 use Rattle.rh_rules.specs.Refusals.{refused}
-use Rattle.rh_settle.specs.Validity.{IsValid}
-use Rattle.rh_trail.specs.Runs.{step}
+use Rattle.rh_trace.specs.Validity.{IsValid}
+use Rattle.rh_step.specs.Runs.{step}
 use Rattle.rh_explore.specs.declared.front.Parent.{Parent}
 use Rattle.rh_explore.specs.declared.reaching.Probe.{Probe}
 use Rattle.rh_explore.specs.declared.space.Found.{Found}
@@ -17,7 +17,7 @@ use Rattle.rh_explore.specs.declared.space.Space.{Space}
 use Rattle.rh_explore.specs.Reaching.{Scope, MayCome, MayAllCome, behind}
 use Rattle.rh_explore.specs.Spaces.{Seen, IsSeen}
 use Rattle.rh_explore.specs.Kept.{path_by, paths_of, seen_by, seen_of, AreLinked, parent_by, parents_of, child_by, repeated, IsIdle, IsFront, IsTakenUp, IsTakenBack, IsUntried, IsFamily, GoesOnFrom}
-use Rattle.rh_explore.proofs.Places.{at_of}
+use Rattle.rh_keys.proofs.Places.{at_of}
 use Rattle.rh_explore.proofs.PathsTo.{path_at, path_is, path_stays, seen_there, seen_push, found_stays, length-seen}
 use Rattle.rh_explore.proofs.Searched.{behind_push}
 

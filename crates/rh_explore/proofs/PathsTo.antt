@@ -8,7 +8,7 @@ use Rattle.rh_rules.specs.declared.event.Event.{Event}
 use Rattle.rh_explore.specs.declared.space.Found.{Found}
 use Rattle.rh_explore.specs.Reaching.{Scope}
 use Rattle.rh_explore.specs.Kept.{path_by, with_path, paths_of, seen_by, seen_of, AreLinked, GoesOnFrom}
-use Rattle.rh_explore.proofs.Places.{at_front}
+use Rattle.rh_keys.proofs.Places.{at_front}
 
 fold_push : {A B : Type 0} (f : B → A → B) (b : B) (xs : List A) (x : A) → fold f b (xs ++ x ∷ []) ≡ f (fold f b xs) x
 fold_push f b [] x = refl

@@ -6,21 +6,21 @@ use Rattle.std.proofs.lemmas.Option.{same_Some, slice_get_within, slice_get-get_
 use Rattle.rh_state.specs.StateView.{StateView}
 use Rattle.rh_shifts.specs.Shifts.{timeless, Alike}
 use Rattle.rh_shifts.specs.Laws.{meets_limit}
-use Rattle.rh_settle.proofs.Entries.{both}
+use Rattle.rh_base.proofs.Truths.{both}
 use Rattle.rh_explore.specs.Exploring.{StaysBelowLimits}
-use Rattle.rh_settle.specs.Validity.{IsValid}
+use Rattle.rh_trace.specs.Validity.{IsValid}
 use Rattle.rh_rules.specs.declared.event.Event.{Event}
 use Rattle.rh_explore.specs.declared.reaching.Way.TheVariants.{To, Nowhere, AtLimit}
 use Rattle.rh_explore.specs.declared.bounds.Covered.TheVariants as covered
-use Rattle.rh_explore.specs.Codes.{code}
-use Rattle.rh_explore.specs.Packed.{packed_key}
-use Rattle.rh_explore.proofs.CodesApart.{code_same}
+use Rattle.rh_keys.specs.Codes.{code}
+use Rattle.rh_keys.specs.Packed.{packed_key}
+use Rattle.rh_keys.proofs.CodesApart.{code_same}
 use Rattle.rh_explore.specs.Reaching.{Scope, MayCome}
 use Rattle.rh_explore.specs.Spaces.{Seen, StepsTo, IsSeen, IsSearched, IsNear, IsExpanded, IsExpandedAt, IsAtLimit, IsCut, IsEnd}
 use Rattle.rh_explore.specs.Kept.{code_in, codes_of}
-use Rattle.rh_explore.proofs.Places.{at_of}
+use Rattle.rh_keys.proofs.Places.{at_of}
 use Rattle.rh_explore.proofs.Alikes.{accepted_alike, few_alike}
-use Rattle.rh_explore.proofs.KeysApart.{packed_apart, packed_alike}
+use Rattle.rh_keys.proofs.KeysApart.{packed_apart, packed_alike}
 use Rattle.rh_explore.proofs.Searched.{one_left_out, one_known, one_new, expand_begins, expand_ends, expand_near, ordered_at}
 
 module _ (w : Scope) (seen : List Seen) (at : ℕ) (x : Seen) (here : slice_get seen at ≡ Some x) where

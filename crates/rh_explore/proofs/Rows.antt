@@ -15,8 +15,8 @@ use Rattle.rh_explore.specs.declared.asking.Condition.TheVariants.{RunsSomewhere
 use Rattle.rh_explore.specs.declared.bounds.Covered.TheVariants as covered
 use Rattle.rh_explore.specs.Asking.{has_timer, is_so}
 use Rattle.rh_explore.specs.Exploring.{CoversAll}
-use Rattle.rh_explore.specs.Keys.{key_of, node_numbers, pair_numbers, app_numbers}
-use Rattle.rh_explore.specs.Packed.{packed_key, packed_node, packed_pair}
+use Rattle.rh_keys.specs.Keys.{key_of, node_numbers, pair_numbers, app_numbers}
+use Rattle.rh_keys.specs.Packed.{packed_key, packed_node, packed_pair}
 use Rattle.rh_explore.specs.Reaching.{not_up_count}
 
 abbrev n1 : Node

@@ -8,9 +8,9 @@ use Rattle.rh_base.proofs.Lists.{cases}
 use Rattle.rh_state.specs.StateView.{StateView}
 use Rattle.rh_rules.specs.declared.event.Event.{Event}
 use Rattle.rh_shifts.specs.Shifts.{timeless, Alike}
-use Rattle.rh_settle.specs.Validity.{IsValid}
-use Rattle.rh_settle.proofs.Entries.{is_below, is_above}
-use Rattle.rh_trail.specs.Runs.{step}
+use Rattle.rh_trace.specs.Validity.{IsValid}
+use Rattle.rh_trace.proofs.Entries.{is_below, is_above}
+use Rattle.rh_step.specs.Runs.{step}
 use Rattle.rh_explore.specs.declared.asking.Ask.{Ask}
 use Rattle.rh_explore.specs.declared.bounds.Covered.{Covered}
 use Rattle.rh_explore.specs.declared.bounds.Covered.TheVariants as covered
@@ -21,7 +21,7 @@ use Rattle.rh_explore.specs.declared.answers.Verdict.TheVariants.{Holds, Fails}
 use Rattle.rh_explore.specs.Exploring.{IsCovered, HoldsWithin, IsShortest, IsVerdict, AreReached}
 use Rattle.rh_explore.specs.Spaces.{Seen, IsSeen, HasWithin, LeadsOn, IsSearched, IsNear, IsExpanded, IsEnd, FirstFails}
 use Rattle.rh_explore.proofs.Alikes.{step_valid, step_alike, asked_alike}
-use Rattle.rh_explore.proofs.Places.{at_front, at_of, pair_of}
+use Rattle.rh_keys.proofs.Places.{at_front, at_of, pair_of}
 
 -- ---- lists of events
 -- one event more may come

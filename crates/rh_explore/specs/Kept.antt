@@ -7,15 +7,15 @@ use Rattle.rh_rules.specs.declared.event.Event.{Event}
 use Rattle.rh_explore.specs.declared.asking.Ask.{Ask}
 use Rattle.rh_explore.specs.declared.bounds.Bounds.{Bounds}
 use Rattle.rh_rules.specs.declared.pick.Pick.{Pick}
-use Rattle.rh_trail.specs.Runs.{step}
+use Rattle.rh_step.specs.Runs.{step}
 use Rattle.rh_explore.specs.declared.front.Front.{Front}
 use Rattle.rh_explore.specs.declared.front.Parent.{Parent}
 use Rattle.rh_explore.specs.declared.reaching.Probe.{Probe}
 use Rattle.rh_explore.specs.declared.space.Found.{Found}
 use Rattle.rh_explore.specs.declared.space.Space.{Space}
-use Rattle.rh_explore.specs.Codes.{code}
+use Rattle.rh_keys.specs.Codes.{code}
 use Rattle.rh_explore.specs.Failures.{AreFailures}
-use Rattle.rh_explore.specs.Packed.{packed_key}
+use Rattle.rh_keys.specs.Packed.{packed_key}
 use Rattle.rh_explore.specs.Reaching.{Scope, behind}
 use Rattle.rh_explore.specs.Spaces.{Seen}
 

@@ -1,16 +1,9 @@
--- Laws of keys and of what is reached (ours).
-use Rattle.std.specs.Prelude.{◌≡◌, ◌↔◌, ◌≤◌, ◌+◌, ℕ}
-use Rattle.rh_state.specs.Shape.{IsShaped}
+-- Laws of what is reached (ours).
+use Rattle.std.specs.Prelude.{◌≤◌, ◌+◌, ℕ}
 use Rattle.rh_state.specs.StateView.{StateView}
 use Rattle.rh_rules.specs.declared.event.Event.{Event}
-use Rattle.rh_shifts.specs.Shifts.{Alike}
-use Rattle.rh_trail.specs.Runs.{step}
-use Rattle.rh_explore.specs.Keys.{key_of}
+use Rattle.rh_step.specs.Runs.{step}
 use Rattle.rh_explore.specs.Reaching.{Scope, MayCome, Reaches}
-
--- two states of one cluster are alike exactly if their keys are equal
-abbrev pub KeysTellApart : Type 0
-KeysTellApart = (s t : StateView) → IsShaped s → IsShaped t → t.cluster ≡ s.cluster → (key_of s ≡ key_of t) ↔ Alike s t
 
 -- no event leads to the base; what some events reach, more may; and an event more that may come reaches one step further
 pub record ReachesGoOn : Type 0 where

@@ -1,9 +1,6 @@
 pub mod Asking
 pub mod Reaching
 pub mod Exploring
-pub mod Keys
-pub mod Packed
-pub mod Codes
 pub mod Spaces
 pub mod Failures
 pub mod Kept

@@ -5,7 +5,7 @@ use Rattle.rh_state.specs.StateView.{StateView, mode_of, is_up}
 use Rattle.rh_rules.specs.declared.event.Event.{Event}
 use Rattle.rh_rules.specs.declared.pick.Pick.{Pick}
 use Rattle.rh_rules.specs.Refusals.{refused}
-use Rattle.rh_trail.specs.Runs.{step}
+use Rattle.rh_step.specs.Runs.{step}
 
 -- what may happen, and from where: each of these events, as often as one likes, with at most so many nodes not up behind each
 pub record Scope : Type 0 where

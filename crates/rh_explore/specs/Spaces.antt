@@ -6,8 +6,8 @@ use Rattle.rh_rules.specs.declared.pick.Pick.{Pick}
 use Rattle.rh_rules.specs.Refusals.{refused}
 use Rattle.rh_shifts.specs.Shifts.{Alike}
 use Rattle.rh_shifts.specs.Laws.{meets_limit}
-use Rattle.rh_settle.specs.Validity.{IsValid}
-use Rattle.rh_trail.specs.Runs.{step}
+use Rattle.rh_trace.specs.Validity.{IsValid}
+use Rattle.rh_step.specs.Runs.{step}
 use Rattle.rh_explore.specs.declared.answers.Verdict.{Verdict}
 use Rattle.rh_explore.specs.declared.answers.Verdict.TheVariants.{Holds, Fails}
 use Rattle.rh_explore.specs.declared.asking.Ask.{Ask}

@@ -4,7 +4,7 @@ ghost use Rattle.std.specs.Prelude.{◌≡◌, ◌<◌, ◌≤◌, ℕ, length, 
 ghost use Rattle.std.specs.List.{AllZip};
 ghost use Rattle.rh_state.specs.StateView.{StateView};
 ghost use Rattle.rh_state.specs.Stored.{read};
-ghost use Rattle.rh_settle.specs.Validity.{IsValid};
+ghost use Rattle.rh_trace.specs.Validity.{IsValid};
 ghost use Rattle.rh_explore.specs.Exploring.{scope_of, StaysBelowLimits, CoversAll, IsVerdict, AreReached};
 ghost use Rattle.rh_explore.specs.Kept.{AreLinked};
 ghost use Rattle.rh_explore.specs.Tellings.{IsTold};

@@ -9,8 +9,8 @@ ghost use Rattle.rh_state.specs.StateView.{is_up, mode_of};
 ghost use Rattle.rh_state.specs.Stored.{read};
 ghost use Rattle.rh_rules.specs.Refusals.{refused};
 ghost use Rattle.rh_shifts.specs.Laws.{is_limit};
-ghost use Rattle.rh_settle.specs.Validity.{IsValid};
-ghost use Rattle.rh_trail.specs.Runs.{step};
+ghost use Rattle.rh_trace.specs.Validity.{IsValid};
+ghost use Rattle.rh_step.specs.Runs.{step};
 ghost use Rattle.rh_explore.specs.Reaching.{not_up_count};
 ghost use Rattle.rh_explore.specs.Spaces.{StepsTo};
 ghost use Rattle.rh_explore.specs.Kept.{child_by};
@@ -71,7 +71,7 @@ impl Probe {
     }
 
     /// Goes over to the state that was found from this one by an event, if there is one, which was accepted then.
-    #[tactic(auto, unfolding(rh_trail::specs::Runs::step))]
+    #[tactic(auto, unfolding(rh_step::specs::Runs::step))]
     pub(crate) fn enter(
         &mut self,
         alloc: Global,
@@ -138,7 +138,7 @@ impl Probe {
     }
 
     // Makes an event that isn't refused.
-    #[tactic(auto, unfolding(rh_trail::specs::Runs::step), using(crate::proofs::Stepped::cluster_kept))]
+    #[tactic(auto, unfolding(rh_step::specs::Runs::step), using(crate::proofs::Stepped::cluster_kept))]
     fn perform(&mut self, alloc: Global, event: &Event, pick: Pick) -> Result<(), OutOfMemory>
         requires accepted { refused (read self.old.state) event.now ≡ None }
         requires valid { IsValid (read self.old.state) }

@@ -6,12 +6,12 @@ use Rattle.rh_state.specs.StateView.{StateView}
 use Rattle.rh_rules.specs.declared.event.Event.{Event}
 use Rattle.rh_rules.specs.declared.pick.Pick.{Pick}
 use Rattle.rh_rules.specs.Refusals.{refused}
-use Rattle.rh_trail.specs.Runs.{step}
-use Rattle.rh_trail.specs.declared.call.Call.{Call}
+use Rattle.rh_step.specs.Runs.{step}
+use Rattle.rh_calls.specs.declared.call.Call.{Call}
 use Rattle.rh_trail.specs.SimView.{SimView}
 use Rattle.rh_trail.specs.Lone.{served}
 use Rattle.rh_script.specs.Answers.{answer_text}
-use Rattle.rh_app.specs.RunText.{answers_text}
+use Rattle.rh_run.specs.RunText.{answers_text}
 use Rattle.rh_explore_text.specs.FoundText.{AllAccepted}
 
 pub next_of : {A : Type 0} (xs : List A) (i : ℕ) (d : A) → i < length xs → drop i xs ≡ get_or xs i d ∷ drop (i + 1) xs

@@ -10,7 +10,7 @@ use Rattle.rh_explore.specs.declared.asking.Ask.{Ask}
 use Rattle.rh_explore.specs.declared.bounds.Covered.{Covered}
 use Rattle.rh_explore.specs.Reaching.{Scope, MayAllCome}
 use Rattle.rh_explore.specs.Exploring.{IsVerdict}
-use Rattle.rh_trail.specs.Runs.{step}
+use Rattle.rh_step.specs.Runs.{step}
 use Rattle.rh_explore_text.specs.FoundText.{AllAccepted, CanCome}
 
 accepted : (w : Scope) (s : StateView) (es : List Event) → MayAllCome w s es → AllAccepted w.pick s es

@@ -7,12 +7,12 @@ use Rattle.rh_state.specs.StateView.{StateView}
 use Rattle.rh_rules.specs.declared.event.Event.{Event}
 use Rattle.rh_rules.specs.declared.pick.Pick.{Pick}
 use Rattle.rh_rules.specs.Refusals.{refused}
-use Rattle.rh_trail.specs.Runs.{step}
-use Rattle.rh_trail.specs.Report.{report_text}
-use Rattle.rh_trail.specs.declared.call.Call.TheVariants as call
+use Rattle.rh_step.specs.Runs.{step}
+use Rattle.rh_report.specs.Report.{report_text}
+use Rattle.rh_calls.specs.declared.call.Call.TheVariants as call
 use Rattle.rh_script.specs.CommandWords.{command_words}
-use Rattle.rh_app.specs.declared.fault.Told.{Told}
-use Rattle.rh_app.specs.declared.fault.Told.TheVariants as told
+use Rattle.rh_run.specs.declared.fault.Told.{Told}
+use Rattle.rh_run.specs.declared.fault.Told.TheVariants as told
 use Rattle.rh_explore.specs.declared.answers.Explored.{Explored}
 use Rattle.rh_explore.specs.declared.answers.Verdict.{Verdict}
 use Rattle.rh_explore.specs.declared.answers.Verdict.TheVariants.{Holds, Fails}

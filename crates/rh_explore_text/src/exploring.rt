@@ -4,26 +4,27 @@ ghost use Rattle.std.specs.Prelude.{◌≡◌, ◌++◌, map, false, IfOk, OnOk}
 ghost use Rattle.rh_trail.specs.Lone.{sim_after, served};
 ghost use Rattle.rh_script.specs.Lines.{raw_lines, content};
 ghost use Rattle.rh_script.specs.Answers.{answer_text};
-ghost use Rattle.rh_app.specs.Programs.{ProgramGives, NoThreads};
-ghost use Rattle.rh_app.specs.RunText.{answers_text};
+ghost use Rattle.rh_run.specs.Programs.{ProgramGives, NoThreads};
+ghost use Rattle.rh_run.specs.RunText.{answers_text};
 ghost use Rattle.rh_explore_text.specs.SearchLines.{search_lines_asked, bad_search_line, search_of};
 ghost use Rattle.rh_explore_text.specs.SearchReading.{search_view};
 ghost use Rattle.rh_explore_text.specs.ExploreText.{MayFind, MayTellLines, MayExplore, OwesExplore};
 
 use crate::reading::{Search, SearchScript, search_in};
 use crate::telling::{found_end, push_found};
-use rh_app::{RunFault, Told, ended};
 use rh_base::OutOfMemory;
+use rh_calls::Call;
 use rh_cluster::{Cluster, read_cluster};
 use rh_devices::{Sink, Source, Watched, read_input, write_text};
 use rh_explore::{Bounds, explore};
+use rh_run::{RunFault, Told, ended};
 use rh_script::{answer_text, bad_text, cut, fault_text};
 use rh_step::Pick;
-use rh_trail::{Call, Sim};
+use rh_trail::Sim;
 use std::alloc::Global;
 
 /// Reads all of the input, a cluster file, a line `===` and a script of a base and a search, and then writes the answers to the
-/// base's commands, as [`rh_app::run`] does, and what the search finds from there: how many states its events reach, and of each
+/// base's commands, as [`rh_run::run`] does, and what the search finds from there: how many states its events reach, and of each
 /// ask that it holds, or a shortest list of events behind which it doesn't.
 ///
 /// At most so many states are kept. The input has at most 16,777,216 bytes. Neither device is flushed.
@@ -148,7 +149,7 @@ fn answers_to(alloc: Global, sim: &mut Sim, calls: &[Call]) -> Result<Vec<u8>, O
 }
 
 // Gives a call to the simulation, and adds the answer.
-#[tactic(auto, using(rh_app::proofs::Keeping::served_keeps_cluster))]
+#[tactic(auto, using(rh_run::proofs::Keeping::served_keeps_cluster))]
 fn push_answer(
     alloc: Global,
     text: &mut Vec<u8>,

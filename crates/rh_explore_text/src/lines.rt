@@ -7,10 +7,10 @@ use crate::asks::{Question, ask_named};
 use crate::events::is_meant;
 use crate::words::{line_of_words, number_of, text_of, words_of};
 use rh_base::OutOfMemory;
+use rh_calls::Call;
 use rh_cluster::Cluster;
 use rh_script::{Line, line_of};
 use rh_step::Event;
-use rh_trail::Call;
 use std::alloc::Global;
 
 /// What a line of a search asks.

@@ -10,11 +10,11 @@ ghost use Rattle.rh_explore_text.specs.SearchReading.{search_view, with_line, no
 use crate::events::push_each;
 use crate::lines::{SearchLine, search_line_of};
 use rh_base::OutOfMemory;
+use rh_calls::Call;
 use rh_cluster::Cluster;
 use rh_explore::Ask;
 use rh_script::{Line, content, split_line};
 use rh_step::Event;
-use rh_trail::Call;
 use std::alloc::Global;
 
 /// What is asked of a search.

@@ -4,19 +4,20 @@ ghost use Rattle.std.specs.Prelude.{◌≡◌, ◌++◌, None, All, fold, IfOk, 
 ghost use Rattle.std.specs.List.{flat_map, list_any};
 ghost use Rattle.std.specs.String.{string_bytes};
 ghost use Rattle.rh_state.specs.Stored.{read};
-ghost use Rattle.rh_settle.specs.Validity.{IsValid};
+ghost use Rattle.rh_trace.specs.Validity.{IsValid};
 ghost use Rattle.rh_rules.specs.Refusals.{refused};
-ghost use Rattle.rh_trail.specs.Runs.{step};
+ghost use Rattle.rh_step.specs.Runs.{step};
 ghost use Rattle.rh_explore_text.specs.FoundText.{steps_words, down_words, head_line, event_line, fails_text, verdict_text, found_text, last_line, is_failure, is_unfinished, found_end, AllAccepted, CanCome};
 
-use rh_app::Told;
 use rh_base::OutOfMemory;
+use rh_calls::Call;
 use rh_cluster::Cluster;
 use rh_explore::{Bounds, Covered, Explored, Verdict};
+use rh_report::report;
+use rh_run::Told;
 use rh_script::command_text;
 use rh_state::State;
 use rh_step::{Event, Pick, perform};
-use rh_trail::{Call, report};
 use std::alloc::Global;
 
 // The lists of events of which all were looked at, unless they are all.
@@ -90,7 +91,7 @@ fn push_events(
 }
 
 // Makes an event that isn't refused.
-#[tactic(auto, unfolding(rh_trail::specs::Runs::step))]
+#[tactic(auto, unfolding(rh_step::specs::Runs::step))]
 fn make(alloc: Global, state: &mut State, pick: Pick, event: &Event) -> Result<(), OutOfMemory>
     requires accepted { refused (read state.old) event.now ≡ None }
     requires valid { IsValid (read state.old) }

@@ -2,9 +2,10 @@
 
 use crate::clusters::{PAIR, sim_behind};
 use crate::first::TWO_TIMERS;
+use rh_calls::{Bytes, Replies, Reply};
 use rh_marks::{Answer, begin, end};
+use rh_report::report;
 use rh_state::State;
-use rh_trail::{Bytes, Replies, Reply, report};
 use std::alloc::Global;
 
 /// What comes of the call of this name, if it is here.

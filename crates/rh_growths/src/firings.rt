@@ -1,6 +1,6 @@
 //! The timers that fire in a tick, which are told before it is made.
 
-ghost use Rattle.rh_settle.specs.Validity.{IsValid};
+ghost use Rattle.rh_trace.specs.Validity.{IsValid};
 ghost use Rattle.rh_state.specs.Stored.{read};
 
 use crate::clusters::{BOOT_1, PAIR, cluster_of, sim_behind};

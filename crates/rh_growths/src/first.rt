@@ -2,9 +2,9 @@
 
 use crate::clusters::{BOOT_1, BOOT_2};
 use rh_cluster::Node;
+use rh_report::report;
 use rh_state::State;
 use rh_step::Event;
-use rh_trail::report;
 use std::alloc::Global;
 
 // The report of the first state of the cluster of one node.

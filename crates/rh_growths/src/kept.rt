@@ -1,6 +1,7 @@
 //! What has to stay of a simulation.
 
-use rh_trail::{Sim, report};
+use rh_report::report;
+use rh_trail::Sim;
 use std::alloc::Global;
 
 /// A simulation as it was: its copy, and its report.

@@ -1,7 +1,7 @@
 //! A step of a state by itself.
 
 ghost use Rattle.std.specs.Prelude.{IfSome};
-ghost use Rattle.rh_settle.specs.Validity.{IsValid};
+ghost use Rattle.rh_trace.specs.Validity.{IsValid};
 ghost use Rattle.rh_state.specs.Stored.{read};
 
 use crate::clusters::{BOOT_1, BOOT_3, RANKS, cluster_of};

@@ -2,11 +2,12 @@
 
 use crate::clusters::{BOOT_1, BOOT_2, BOOT_3, CAVE, cluster_of, sim_behind};
 use crate::kept::Kept;
+use rh_calls::{Call, Reply};
 use rh_cluster::Cluster;
 use rh_marks::{Answer, begin, end};
 use rh_room::{Entry, Pass, Receipt, Room, RoomFault, close, open_room};
 use rh_step::{Pick, Refusal};
-use rh_trail::{Call, Reply, Sim};
+use rh_trail::Sim;
 use std::alloc::Global;
 
 // What a look shows behind the first boot: the node waits for the two others.

@@ -1,11 +1,11 @@
 -- The commands that have lines.
 use Rattle.std.proofs.Common.{◌≡◌, ◌+◌, ℕ, List, [], ◌∷◌, map, refl, ap}
 use Rattle.rh_model.specs.ClusterView.{ClusterView}
-use Rattle.rh_trail.specs.declared.call.Call.{Call}
+use Rattle.rh_calls.specs.declared.call.Call.{Call}
 use Rattle.rh_script.specs.declared.script.Line.{Line}
 use Rattle.rh_script.specs.declared.script.Line.TheVariants.{Nothing, Asks, Bad}
 use Rattle.rh_script.specs.Commands.{line_of, calls_of}
-use Rattle.rh_app.specs.RunText.{lines_asked}
+use Rattle.rh_run.specs.RunText.{lines_asked}
 use Rattle.rh_json.specs.RunJson.{Asked, asked_in, before}
 use Rattle.rh_json.specs.Laws.{CommandsAreAnswered}
 

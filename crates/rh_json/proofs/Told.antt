@@ -7,12 +7,12 @@ use Rattle.rh_rules.specs.declared.event.Event.TheVariants.{Boot, Crash, Tick, S
 use Rattle.rh_rules.specs.declared.notice.Notice.{Notice}
 use Rattle.rh_rules.specs.declared.refusal.Refusal.{Refusal}
 use Rattle.rh_rules.specs.Refusals.{refused}
-use Rattle.rh_settle.specs.Validity.{IsValid}
+use Rattle.rh_trace.specs.Validity.{IsValid}
 use Rattle.rh_step.specs.Firings.{FiringView, firings, told_by}
 use Rattle.rh_step.proofs.FiringsTold.{firings_tell_the_tick}
-use Rattle.rh_trail.specs.declared.call.Call.{Call}
-use Rattle.rh_trail.specs.declared.call.Call.TheVariants as call
-use Rattle.rh_trail.specs.declared.call.Reply.TheVariants as reply
+use Rattle.rh_calls.specs.declared.call.Call.{Call}
+use Rattle.rh_calls.specs.declared.call.Call.TheVariants as call
+use Rattle.rh_calls.specs.declared.call.Reply.TheVariants as reply
 use Rattle.rh_trail.specs.SimView.{SimView, state_of}
 use Rattle.rh_trail.specs.Lone.{served}
 use Rattle.rh_trail.proofs.Reversals.{accepted}

@@ -1,7 +1,7 @@
 -- One line of a script, and those behind it.
 use Rattle.std.proofs.Common.{◌≡◌, ◌+◌, ℕ, List, [], ◌∷◌, ◌++◌, Bool, false, Option, Some, None, Result, Ok, Err, refl, sym, ap, subst, ◌∙◌, append_assoc}
 use Rattle.rh_model.specs.ClusterView.{ClusterView}
-use Rattle.rh_trail.specs.declared.call.Call.{Call}
+use Rattle.rh_calls.specs.declared.call.Call.{Call}
 use Rattle.rh_trail.specs.SimView.{SimView}
 use Rattle.rh_trail.specs.Lone.{served}
 use Rattle.rh_script.specs.declared.script.Line.{Line}
@@ -11,8 +11,8 @@ use Rattle.rh_devices.specs.declared.fault.WriteFault.{WriteFault}
 use Rattle.rh_devices.specs.declared.watched.Watched.{Watched}
 use Rattle.rh_devices.specs.Devices.{Passed, WroteFront}
 use Rattle.rh_devices.proofs.Passing.{passed_more, fault_before}
-use Rattle.rh_app.specs.RunText.{bad_line, lines_asked, Wrote, Broke}
-use Rattle.rh_app.proofs.Turns.{wrote_behind}
+use Rattle.rh_run.specs.RunText.{bad_line, lines_asked, Wrote, Broke}
+use Rattle.rh_run.proofs.Turns.{wrote_behind}
 use Rattle.rh_json_lines.specs.AnswerLines.{answer_line, bad_json}
 use Rattle.rh_json.specs.RunJson.{asked_in, before, answer_lines, end_json, script_json, Turns}
 

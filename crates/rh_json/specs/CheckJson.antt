@@ -4,8 +4,8 @@ use Rattle.rh_model.specs.ClusterView.{ClusterView}
 use Rattle.rh_cluster.specs.ClusterOf.{cluster_of}
 use Rattle.rh_cluster.specs.declared.fault.ClusterFault.{ClusterFault}
 use Rattle.rh_script.specs.Lines.{cluster_text}
-use Rattle.rh_app.specs.declared.fault.Told.{Told}
-use Rattle.rh_app.specs.CheckText.{check_end}
+use Rattle.rh_run.specs.declared.fault.Told.{Told}
+use Rattle.rh_run.specs.CheckText.{check_end}
 use Rattle.rh_json_lines.specs.ClusterLines.{cluster_line, fault_line}
 
 -- the line for a cluster, or for the fault of a text that is none

@@ -2,12 +2,12 @@
 use Rattle.std.specs.Prelude.{◌≡◌, ℕ, List, map, Option}
 use Rattle.rh_model.specs.ClusterView.{ClusterView}
 use Rattle.rh_rules.specs.declared.notice.Notice.{Notice}
-use Rattle.rh_trail.specs.declared.call.Call.{Call}
-use Rattle.rh_trail.specs.declared.call.Reply.TheVariants as reply
+use Rattle.rh_calls.specs.declared.call.Call.{Call}
+use Rattle.rh_calls.specs.declared.call.Reply.TheVariants as reply
 use Rattle.rh_trail.specs.SimView.{SimView}
 use Rattle.rh_trail.specs.Lone.{served}
 use Rattle.rh_script.specs.Commands.{calls_of}
-use Rattle.rh_app.specs.RunText.{lines_asked}
+use Rattle.rh_run.specs.RunText.{lines_asked}
 use Rattle.rh_json_lines.specs.Notices.{fired_by, timed_notices}
 use Rattle.rh_json.specs.RunJson.{Asked, asked_in}
 

@@ -4,7 +4,7 @@ use Rattle.rh_model.specs.ClusterView.{ClusterView}
 use Rattle.rh_cluster.specs.ClusterOf.{cluster_of}
 use Rattle.rh_cluster.specs.declared.fault.ClusterFault.{ClusterFault}
 use Rattle.rh_rules.specs.declared.pick.Pick.{Pick}
-use Rattle.rh_trail.specs.declared.call.Call.{Call}
+use Rattle.rh_calls.specs.declared.call.Call.{Call}
 use Rattle.rh_trail.specs.SimView.{SimView}
 use Rattle.rh_trail.specs.Lone.{opened, served}
 use Rattle.rh_script.specs.declared.script.Line.{Line}
@@ -14,8 +14,8 @@ use Rattle.rh_script.specs.Commands.{line_of}
 use Rattle.rh_devices.specs.declared.fault.WriteFault.{WriteFault}
 use Rattle.rh_devices.specs.declared.watched.Watched.{Watched}
 use Rattle.rh_devices.specs.Devices.{Passed}
-use Rattle.rh_app.specs.declared.fault.Told.{Told}
-use Rattle.rh_app.specs.RunText.{bad_line, lines_asked, run_end, Wrote}
+use Rattle.rh_run.specs.declared.fault.Told.{Told}
+use Rattle.rh_run.specs.RunText.{bad_line, lines_asked, run_end, Wrote}
 use Rattle.rh_json_lines.specs.ClusterLines.{cluster_line, fault_line}
 use Rattle.rh_json_lines.specs.AnswerLines.{answer_line, bad_json}
 

@@ -1,16 +1,16 @@
 //! The program `check`, as JSON.
 
 ghost use Rattle.std.specs.Prelude.{◌≡◌, false};
-ghost use Rattle.rh_app.specs.CheckText.{check_end};
-ghost use Rattle.rh_app.specs.Programs.{ProgramGives, NoThreads};
-ghost use Rattle.rh_app.specs.RunText.{Wrote, Broke};
+ghost use Rattle.rh_run.specs.CheckText.{check_end};
+ghost use Rattle.rh_run.specs.Programs.{ProgramGives, NoThreads};
+ghost use Rattle.rh_run.specs.RunText.{Wrote, Broke};
 ghost use Rattle.rh_json_lines.specs.ClusterLines.{cluster_line, fault_line};
 ghost use Rattle.rh_json.specs.CheckJson.{check_json, OwesCheckJson};
 
-use rh_app::{RunFault, Told, ended};
 use rh_cluster::{Cluster, ClusterFault, read_cluster};
 use rh_devices::{Sink, Source, Watched, WriteFault, read_input, write_text};
 use rh_json_lines::{cluster_line, fault_line};
+use rh_run::{RunFault, Told, ended};
 use rh_script::cut;
 use std::alloc::Global;
 
@@ -19,7 +19,7 @@ use std::alloc::Global;
 /// A script behind a line `===` is ignored. The input has at most 16,777,216 bytes. Neither device is flushed.
 ///
 /// # Errors
-/// Those of [`rh_app::run_check`], for the same inputs: `Cluster` is what the line tells.
+/// Those of [`rh_run::run_check`], for the same inputs: `Cluster` is what the line tells.
 pub fn check_json<S: Source, K: Sink>(
     alloc: Global,
     reader: &mut Watched<S>,
@@ -35,7 +35,7 @@ pub fn check_json<S: Source, K: Sink>(
 }
 
 // Writes what the check of an input says.
-#[tactic(auto, unfolding(crate::specs::CheckJson::check_json, rh_app::specs::CheckText::check_end))]
+#[tactic(auto, unfolding(crate::specs::CheckJson::check_json, rh_run::specs::CheckText::check_end))]
 fn check_input<K: Sink>(
     alloc: Global,
     input: &[u8],

@@ -4,7 +4,7 @@ ghost use Rattle.rh_json.specs.Laws.{CommandsAreAnswered, NoticesAreReplied};
 
 use rh_trail::Sim;
 
-/// A law: the commands that have lines are those that [`rh_app::run`] answers, in their order.
+/// A law: the commands that have lines are those that [`rh_run::run`] answers, in their order.
 pub fn commands_are_answered()
     ensures { CommandsAreAnswered }
 {}

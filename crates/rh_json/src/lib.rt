@@ -1,4 +1,4 @@
-//! What programs read: the programs of `rh_app` that start no threads, which write JSON in place of lines.
+//! What programs read: the programs of `rh_run`, which write JSON in place of lines.
 //!
 //! [`run_json`] answers the commands of a script, a line for each, and [`check_json`] reads the cluster file alone. What they ask of
 //! their input, what a command is answered and how they end is as it is there; each field has the text that they write. Two laws say

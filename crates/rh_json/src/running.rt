@@ -1,24 +1,25 @@
 //! The program `run`, as JSON.
 
 ghost use Rattle.std.specs.Prelude.{List, ℕ, ◌≡◌, ◌++◌, map, false, OnOk, IfOk};
-ghost use Rattle.rh_trail.specs.declared.call.Call.TheVariants as call;
+ghost use Rattle.rh_calls.specs.declared.call.Call.TheVariants as call;
 ghost use Rattle.rh_trail.specs.Lone.{opened, served};
 ghost use Rattle.rh_script.specs.Lines.{raw_lines, content};
-ghost use Rattle.rh_app.specs.RunText.{bad_line, lines_asked, run_end, Wrote, Broke};
-ghost use Rattle.rh_app.specs.Programs.{ProgramGives, NoThreads};
+ghost use Rattle.rh_run.specs.RunText.{bad_line, lines_asked, run_end, Wrote, Broke};
+ghost use Rattle.rh_run.specs.Programs.{ProgramGives, NoThreads};
 ghost use Rattle.rh_json_lines.specs.ClusterLines.{cluster_line};
 ghost use Rattle.rh_json_lines.specs.AnswerLines.{answer_line, bad_json};
 ghost use Rattle.rh_json.specs.RunJson.{script_json, run_json, OwesRunJson, Turns};
 
 use crate::checking::{write_cluster, write_fault};
-use rh_app::{RunFault, Told, ended};
 use rh_base::OutOfMemory;
+use rh_calls::Call;
 use rh_cluster::{Cluster, read_cluster};
 use rh_devices::{Sink, Source, Watched, WriteFault, read_input, write_text};
 use rh_json_lines::{bad_line, fired_by, reply_line, seen_line};
+use rh_run::{RunFault, Told, ended};
 use rh_script::{Line, content, cut, line_of, split_line};
 use rh_step::Pick;
-use rh_trail::{Call, Sim};
+use rh_trail::Sim;
 use std::alloc::Global;
 
 /// Reads all of the input, a cluster file, a line `===` and a script, and then writes lines of JSON: the cluster, and each command
@@ -27,7 +28,7 @@ use std::alloc::Global;
 /// It ends at the first line that is no command. The input has at most 16,777,216 bytes. Neither device is flushed.
 ///
 /// # Errors
-/// Those of [`rh_app::run`], for the same inputs: `Cluster` and `BadLine` are what the last line tells.
+/// Those of [`rh_run::run`], for the same inputs: `Cluster` and `BadLine` are what the last line tells.
 pub fn run_json<S: Source, K: Sink>(
     alloc: Global,
     reader: &mut Watched<S>,
@@ -44,7 +45,7 @@ pub fn run_json<S: Source, K: Sink>(
 }
 
 // Writes the answers to an input.
-#[tactic(auto, unfolding(crate::specs::RunJson::run_json, rh_app::specs::RunText::run_end))]
+#[tactic(auto, unfolding(crate::specs::RunJson::run_json, rh_run::specs::RunText::run_end))]
 fn answer_input<K: Sink>(
     alloc: Global,
     input: &[u8],
@@ -204,7 +205,7 @@ fn line_of_look(alloc: Global, sim: &Sim, number: u64, line: &[u8]) -> Result<Ve
 }
 
 // Gives the call of a line to the simulation, and makes the line with the answer.
-#[tactic(auto, unfolding(rh_json_lines::specs::AnswerLines::answer_line), using(rh_app::proofs::Keeping::served_keeps_cluster))]
+#[tactic(auto, unfolding(rh_json_lines::specs::AnswerLines::answer_line), using(rh_run::proofs::Keeping::served_keeps_cluster))]
 fn line_of_call(
     alloc: Global,
     sim: &mut Sim,

@@ -14,7 +14,7 @@ use Rattle.rh_state.specs.declared.status.Timer.TheVariants.{Sync, Failover}
 use Rattle.rh_rules.specs.declared.notice.Notice.TheVariants.{Up, Ended, Started, Stopped, Waits}
 use Rattle.rh_rules.specs.declared.refusal.Refusal.TheVariants.{NotAlive}
 use Rattle.rh_step.specs.Firings.{firing}
-use Rattle.rh_trail.specs.declared.call.Reply.TheVariants as reply
+use Rattle.rh_calls.specs.declared.call.Reply.TheVariants as reply
 use Rattle.rh_script.specs.Answers.{notice_line, answer_text}
 use Rattle.rh_json_text.specs.Json.{escaped, json_string, json_array}
 use Rattle.rh_json_lines.specs.ClusterLines.{node_json, app_json, group_json, settings_json, cluster_line, refused_json, refused_line}

@@ -4,9 +4,9 @@ use Rattle.std.specs.List.{before_first}
 use Rattle.std.specs.Fmt.{decimal}
 use Rattle.rh_model.specs.ClusterView.{ClusterView}
 use Rattle.rh_step.specs.Firings.{FiringView}
-use Rattle.rh_trail.specs.declared.call.Call.{Call}
-use Rattle.rh_trail.specs.declared.call.Reply.{Reply}
-use Rattle.rh_trail.specs.declared.call.Reply.TheVariants as reply
+use Rattle.rh_calls.specs.declared.call.Call.{Call}
+use Rattle.rh_calls.specs.declared.call.Reply.{Reply}
+use Rattle.rh_calls.specs.declared.call.Reply.TheVariants as reply
 use Rattle.rh_state.specs.StateView.{StateView}
 use Rattle.rh_trail.specs.SimView.{SimView, state_of}
 use Rattle.rh_trail.specs.Lone.{Served, served}

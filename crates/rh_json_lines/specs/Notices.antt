@@ -10,8 +10,8 @@ use Rattle.rh_rules.specs.declared.notice.Notice.{Notice}
 use Rattle.rh_rules.specs.declared.notice.Notice.TheVariants.{Up, Ended, Started, Stopped, Waits}
 use Rattle.rh_rules.specs.Refusals.{refused}
 use Rattle.rh_step.specs.Firings.{FiringView, firings}
-use Rattle.rh_trail.specs.declared.call.Call.{Call}
-use Rattle.rh_trail.specs.declared.call.Call.TheVariants as call
+use Rattle.rh_calls.specs.declared.call.Call.{Call}
+use Rattle.rh_calls.specs.declared.call.Call.TheVariants as call
 use Rattle.rh_trail.specs.SimView.{SimView, state_of}
 use Rattle.rh_script.specs.Answers.{notice_line}
 use Rattle.rh_json_text.specs.Json.{json_string}

@@ -5,7 +5,7 @@ use Rattle.rh_model.specs.ClusterView.{ClusterView}
 use Rattle.rh_model.specs.declared.node.App.{App}
 use Rattle.rh_state.specs.declared.status.Standing.{Standing}
 use Rattle.rh_rules.specs.declared.refusal.Refusal.{Refusal}
-use Rattle.rh_trail.specs.declared.call.Reply.TheVariants as reply
+use Rattle.rh_calls.specs.declared.call.Reply.TheVariants as reply
 use Rattle.rh_plans.specs.declared.fault.SweepFault.{SweepFault}
 use Rattle.rh_plans.specs.declared.plan.Outcome.{Outcome}
 use Rattle.rh_plans.specs.FaultWords.{fault_words}

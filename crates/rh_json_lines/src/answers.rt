@@ -5,7 +5,7 @@ ghost use Rattle.std.specs.Fmt.{decimal};
 ghost use Rattle.std.specs.Option.{option_map};
 ghost use Rattle.rh_model.specs.ClusterView.{ClusterView};
 ghost use Rattle.rh_state.specs.Stored.{read};
-ghost use Rattle.rh_trail.specs.declared.call.Reply.TheVariants as reply;
+ghost use Rattle.rh_calls.specs.declared.call.Reply.TheVariants as reply;
 ghost use Rattle.rh_script.specs.Answers.{answer_text};
 ghost use Rattle.rh_json_text.specs.Json.{json_string, json_array};
 ghost use Rattle.rh_json_lines.specs.Notices.{notice_json, timed_notices};
@@ -15,12 +15,12 @@ ghost use Rattle.rh_json_lines.specs.AnswerLines.{first_line, more_json, reply_l
 use crate::notices::push_notices;
 use crate::reports::push_report;
 use rh_base::OutOfMemory;
+use rh_calls::Reply;
 use rh_cluster::Cluster;
 use rh_json_text::{before_first, push_number, push_string, push_text};
 use rh_script::answer_text;
 use rh_state::State;
 use rh_step::{FiredTimer, Notice};
-use rh_trail::Reply;
 use std::alloc::Global;
 
 // Adds the notices of a step.

@@ -11,7 +11,7 @@ ghost use Rattle.rh_json_lines.specs.ClusterLines.{node_json, app_json, group_js
 use rh_base::OutOfMemory;
 use rh_cluster::{App, Cluster, ClusterFault, Group, Node, Spread};
 use rh_json_text::{after_first, before_first, push_array, push_number, push_string, push_text};
-use rh_trail::{app_word, node_word};
+use rh_report::{app_word, node_word};
 use std::alloc::Global;
 
 // Adds the name of a node.

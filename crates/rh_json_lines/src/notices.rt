@@ -12,10 +12,11 @@ ghost use Rattle.rh_json_lines.specs.Notices.{pair_json, named_json, time_json, 
 
 use crate::starts::{push_app_at, push_node_at, push_start};
 use rh_base::OutOfMemory;
+use rh_calls::Call;
 use rh_cluster::{App, Cluster, Node};
 use rh_json_text::{close_array, push_number, push_text};
 use rh_step::{Event, FiredTimer, Notice, refusal_of};
-use rh_trail::{Call, Sim};
+use rh_trail::Sim;
 use std::alloc::Global;
 
 // The field of a notice's kind: its word needs no escape.

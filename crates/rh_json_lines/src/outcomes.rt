@@ -1,19 +1,19 @@
 //! The line of a plan with what came of it, and the one of a sweep that is refused.
 
 ghost use Rattle.std.specs.Prelude.{◌≡◌, ◌++◌, OnOk, IfOk};
-ghost use Rattle.rh_trail.specs.declared.call.Reply.TheVariants as reply;
+ghost use Rattle.rh_calls.specs.declared.call.Reply.TheVariants as reply;
 ghost use Rattle.rh_script.specs.Answers.{answer_text};
 ghost use Rattle.rh_json_lines.specs.OutcomeLines.{accepted_json, count_json, counts_json, event_json, refused_event_json, ends_json, outcome_line, sweep_fault_line};
 
 use crate::clusters::refused_line;
 use crate::standings::push_standings;
 use rh_base::{OutOfMemory, Str};
+use rh_calls::Reply;
 use rh_cluster::Cluster;
 use rh_json_text::{after_first, before_first, push_number, push_string, push_text};
 use rh_plans::{Outcome, SweepFault};
 use rh_rules::Refusal;
 use rh_script::answer_text;
-use rh_trail::Reply;
 use std::alloc::Global;
 
 // Adds the name of a plan, and how many of its events were accepted.

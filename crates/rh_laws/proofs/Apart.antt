@@ -16,8 +16,8 @@ use Rattle.rh_rules.specs.declared.notice.Pair.{Pair}
 use Rattle.rh_rules.specs.Moves.{can_start, local_move, local_moves, placements_from, placements, calls_away, takeovers_from, takeovers}
 use Rattle.rh_rules.specs.Settling.{next_moves}
 use Rattle.rh_laws.specs.Laws.{NamesNodesOnce}
-use Rattle.rh_settle.proofs.Every.{Every, every_filter}
-use Rattle.rh_settle.proofs.Firsts.{In, every_in}
+use Rattle.rh_trace.proofs.Every.{Every, every_filter}
+use Rattle.rh_trace.proofs.Firsts.{In, every_in}
 
 -- no element of a list stands in it twice
 abbrev pub Apart : {A : Type 0} → List A → Type 0

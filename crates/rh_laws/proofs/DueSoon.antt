@@ -28,7 +28,7 @@ use Rattle.rh_rules.specs.Course.{Course, course_of, told, now_in, is_local}
 use Rattle.rh_rules.specs.Moves.{with_stopped}
 use Rattle.rh_rules.specs.NodesStart.{all_alive, is_ready, come_up, come_up_if_ready, ready_come_up, with_sync_timer, booted}
 use Rattle.rh_rules.specs.Settling.{settled}
-use Rattle.rh_settle.specs.Validity.{IsValid}
+use Rattle.rh_trace.specs.Validity.{IsValid}
 use Rattle.rh_rules.specs.declared.event.Event.{Event}
 use Rattle.rh_rules.specs.declared.event.Event.TheVariants.{Boot, Crash, Tick, Start, Stop, Permit, Takeover, Exit, StartAll, StopAll}
 use Rattle.rh_rules.specs.Marking.{with_distributed_standing, with_mark, mark, mark_booted, mark_all}
@@ -37,9 +37,9 @@ use Rattle.rh_rules.specs.ByHand.{stopped, is_started_anywhere, quiet_if_nowhere
 use Rattle.rh_rules.specs.Everywhere.{start_at, targets, start_all, leave_at, left_everywhere, stop_all}
 use Rattle.rh_rules.specs.Steps.{change, followed, next}
 use Rattle.rh_rules.specs.Time.{due_by, effect, taken_off, fired, all_fired, ticked}
-use Rattle.rh_settle.proofs.Every.{Every, every_filter}
+use Rattle.rh_trace.proofs.Every.{Every, every_filter}
 use Rattle.rh_settle.proofs.Unchanged.{settled_timers, settled_time, settled_cluster}
-use Rattle.rh_events.proofs.Accepted.{accepted_tick}
+use Rattle.rh_refusals.proofs.Accepted.{accepted_tick}
 use Rattle.rh_step.proofs.Fuel.{timer_count, due_in_time, by_firing}
 use Rattle.rh_laws.specs.Reports.{IsDueSoon, DueWithinLimits}
 use Rattle.rh_laws.proofs.Texts.{every_all, every_at}

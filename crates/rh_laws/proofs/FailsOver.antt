@@ -29,7 +29,7 @@ use Rattle.rh_rules.specs.Course.{Course, course_of, told, now_in, is_local}
 use Rattle.rh_rules.specs.Moves.{moved, moved_state}
 use Rattle.rh_rules.specs.NodesStart.{all_alive, is_ready, come_up, come_up_if_ready, ready_come_up}
 use Rattle.rh_rules.specs.Settling.{settled}
-use Rattle.rh_settle.specs.Validity.{IsSound, IsValid}
+use Rattle.rh_trace.specs.Validity.{IsSound, IsValid}
 use Rattle.rh_rules.specs.declared.event.Event.TheVariants.{Tick}
 use Rattle.rh_rules.specs.Marking.{wanted_by_mark, with_mark, mark, mark_booted, mark_all}
 use Rattle.rh_rules.specs.NodesEnd.{cleared, all_lost, ended, wanted_if_lost}
@@ -37,22 +37,23 @@ use Rattle.rh_rules.specs.Time.{due_by, effect, taken_off, fired, all_fired, tic
 use Rattle.rh_rules.specs.Steps.{next}
 use Rattle.rh_laws.specs.Laws.{RunsAgain, FailsOverInTime}
 use Rattle.rh_base.proofs.Lists.{cases}
-use Rattle.rh_settle.proofs.Entries.{both, same_number, is_false}
-use Rattle.rh_settle.proofs.Places.{at_set}
+use Rattle.rh_base.proofs.Truths.{both, same_number}
+use Rattle.rh_trace.proofs.Entries.{is_false}
+use Rattle.rh_trace.proofs.Places.{at_set}
 use Rattle.rh_settle.proofs.Unchanged.{settled_timers, settled_cluster, waits_told_state}
 use Rattle.rh_settle.proofs.Fuel.{state_moved}
 use Rattle.rh_settle.proofs.Still.{settled_sound}
 use Rattle.rh_settle.proofs.SettlingLaws.{settles_by_pick}
 use Rattle.rh_settle.proofs.FieldLaws.{never_left_wanted}
-use Rattle.rh_events.proofs.Accepted.{accepted_tick}
+use Rattle.rh_refusals.proofs.Accepted.{accepted_tick}
 use Rattle.rh_events.proofs.SoundComingUp.{idle_waits, sound_ready_come_up, ready_come_up_cluster}
 use Rattle.rh_events.proofs.TimersFall.{NoneRunsAt, none_lost}
-use Rattle.rh_events.proofs.TimersToldApart.{IsOnce, IsInOrder, is_set, set-cons, same_timer-tells, All-without}
+use Rattle.rh_trace.proofs.TimersToldApart.{IsOnce, IsInOrder, is_set, set-cons, same_timer-tells, All-without}
 use Rattle.rh_step.proofs.TakenOff.{waits_to_end, sound_effect}
 use Rattle.rh_step.proofs.Firing.{effect_cluster}
 use Rattle.rh_step.proofs.Fuel.{timer_count, due_is_first, due_in_time, by_firing}
 use Rattle.rh_step.proofs.FiredSound.{none_left}
-use Rattle.rh_step.proofs.LostStays.{waits_there}
+use Rattle.rh_step_laws.proofs.LostStays.{waits_there}
 use Rattle.rh_step.proofs.Validity.{next_valid}
 
 -- ---- what a state is to keep: the application is to run, and its timer isn't due later

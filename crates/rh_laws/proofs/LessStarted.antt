@@ -21,12 +21,12 @@ use Rattle.rh_rules.specs.declared.notice.Move.TheVariants.{Local, Placement, Ta
 use Rattle.rh_rules.specs.declared.notice.Notice.{Notice}
 use Rattle.rh_rules.specs.Course.{course_of, is_local}
 use Rattle.rh_rules.specs.Settling.{NoneEnabled, waits_told, settled}
-use Rattle.rh_settle.proofs.Entries.{both, either}
+use Rattle.rh_base.proofs.Truths.{both, or_left, or_right}
+use Rattle.rh_trace.proofs.Entries.{either}
 use Rattle.rh_settle.proofs.FieldLaws.{never_left_wanted}
 use Rattle.rh_settle.proofs.Fuel.{ended}
-use Rattle.rh_settle.proofs.NextFirsts.{still_if_none_enabled}
-use Rattle.rh_settle.proofs.NextMoves.{all_called}
-use Rattle.rh_settle.proofs.Places.{or_left, or_right}
+use Rattle.rh_trace.proofs.NextFirsts.{still_if_none_enabled}
+use Rattle.rh_trace.proofs.NextMoves.{all_called}
 
 -- what is started in the second state is so in the first, and an application that is to run there is to run in the first
 pub record IsLess (s t : StateView) : Type 0 where

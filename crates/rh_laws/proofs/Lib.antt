@@ -14,6 +14,7 @@ pub mod ShownNodes
 pub mod StateFits
 pub mod DueSoon
 pub mod ReportTells
+pub mod BootsReady
 mod Rows
 mod RowsStops
 mod RowsBoots

@@ -24,8 +24,8 @@ use Rattle.rh_rules.specs.declared.notice.Pair.{Pair}
 use Rattle.rh_rules.specs.Course.{Course, course_of, fresh_of}
 use Rattle.rh_rules.specs.Settling.{IsFirst, AreFirst, Settles, nexts, waits_told, settled}
 use Rattle.rh_rules.specs.Moves.{moved, lost_elsewhere}
-use Rattle.rh_settle.specs.Validity.{IsSound}
-use Rattle.rh_settle.specs.Ways.{Tells}
+use Rattle.rh_trace.specs.Validity.{IsSound}
+use Rattle.rh_trace.specs.Ways.{Tells}
 use Rattle.rh_rules.specs.declared.event.Event.{Event}
 use Rattle.rh_rules.specs.declared.event.Event.TheVariants.{Tick}
 use Rattle.rh_rules.specs.NodesStart.{come_up, come_up_if_ready, ready_come_up}
@@ -33,16 +33,16 @@ use Rattle.rh_rules.specs.Steps.{change, ComeUp, no_node, ready, not_ready, Come
 use Rattle.rh_rules.specs.Refusals.{refused}
 use Rattle.rh_rules.specs.Time.{due_by, effect, taken_off, fired, all_fired, ticked}
 use Rattle.rh_laws.specs.Laws.{NamesNodesOnce, OneAnswer}
-use Rattle.rh_settle.proofs.Behind.{after_notices, settled_after}
-use Rattle.rh_settle.proofs.Entries.{both}
-use Rattle.rh_settle.proofs.Firsts.{in_contained}
+use Rattle.rh_trace.proofs.Behind.{after_notices, settled_after}
+use Rattle.rh_base.proofs.Truths.{both}
+use Rattle.rh_trace.proofs.Firsts.{in_contained}
 use Rattle.rh_settle.proofs.Fuel.{by_option, cluster_moved, shaped_next, falls_next, unrolled, ended}
-use Rattle.rh_settle.proofs.NextFirsts.{next_are_first, still_if_none_enabled}
-use Rattle.rh_settle.proofs.Points.{points}
+use Rattle.rh_trace.proofs.NextFirsts.{next_are_first, still_if_none_enabled}
+use Rattle.rh_trace.proofs.Points.{points}
 use Rattle.rh_settle.proofs.Searches.{none_picked, contains_picked}
 use Rattle.rh_settle.proofs.Unchanged.{settled_cluster}
-use Rattle.rh_settle.proofs.Ways.{tells_more}
-use Rattle.rh_events.proofs.Accepted.{accepted_tick}
+use Rattle.rh_trace.proofs.Ways.{tells_more}
+use Rattle.rh_refusals.proofs.Accepted.{accepted_tick}
 use Rattle.rh_events.proofs.EachEvent.{change_cluster, sound_changed}
 use Rattle.rh_events.proofs.Notices.{ready_come_up_after}
 use Rattle.rh_events.proofs.SoundComingUp.{sound_ready_come_up, ready_come_up_cluster}

@@ -17,7 +17,7 @@ use Rattle.rh_rules.specs.declared.notice.Notice.{Notice}
 use Rattle.rh_rules.specs.declared.notice.Notice.TheVariants as notice
 use Rattle.rh_rules.specs.Course.{Course, course_of, told, now_in, is_local}
 use Rattle.rh_rules.specs.Settling.{settled}
-use Rattle.rh_settle.specs.Validity.{IsSound, IsValid}
+use Rattle.rh_trace.specs.Validity.{IsSound, IsValid}
 use Rattle.rh_rules.specs.declared.event.Event.TheVariants.{Stop, StopAll}
 use Rattle.rh_rules.specs.declared.refusal.Refusal.{Refusal}
 use Rattle.rh_rules.specs.declared.refusal.Refusal.TheVariants.{UnknownApp, NotDistributed, NeverStarted}
@@ -27,16 +27,17 @@ use Rattle.rh_rules.specs.Refusals.{refused}
 use Rattle.rh_rules.specs.ByHand.{is_started_anywhere}
 use Rattle.rh_laws.specs.Laws.{stop_next, AllStop, StopAllIsStops}
 use Rattle.rh_base.proofs.Lists.{cases}
-use Rattle.rh_settle.proofs.Entries.{both, has, taken, taken_not, there, same_number, other_number}
-use Rattle.rh_settle.proofs.Every.{filter_no, filter_yes}
-use Rattle.rh_settle.proofs.NextMoves.{up_within}
+use Rattle.rh_base.proofs.Truths.{both, same_number}
+use Rattle.rh_trace.proofs.Entries.{has, taken, taken_not, there, other_number}
+use Rattle.rh_trace.proofs.Every.{filter_no, filter_yes}
+use Rattle.rh_trace.proofs.NextMoves.{up_within}
 use Rattle.rh_settle.proofs.Soundly.{up_where_started}
-use Rattle.rh_events.proofs.Accepted.{accepted_stop_all}
+use Rattle.rh_refusals.proofs.Accepted.{accepted_stop_all}
 use Rattle.rh_events.proofs.EachEvent.{change_after}
 use Rattle.rh_events.proofs.SoundMarks.{neither}
 use Rattle.rh_events.proofs.StoppingAll.{leave_off}
 use Rattle.rh_step.proofs.AnyTime.{ready_alike}
-use Rattle.rh_step.proofs.Stops.{none_rises}
+use Rattle.rh_step_laws.proofs.Stops.{none_rises}
 use Rattle.rh_step.proofs.Validity.{next_valid}
 use Rattle.rh_laws.proofs.LessStarted.{none_less, settles_at_once}
 use Rattle.rh_laws.proofs.Stopping.{quiet_in, quiet_already, all_leave_quiet, stop_leaves, stop_plain, stop_less, stop_lists, Remains, started_somewhere}

@@ -17,11 +17,12 @@ use Rattle.rh_state.specs.Shape.{IsAppOf, IsTimerOf}
 use Rattle.rh_state.specs.Tables.{row}
 use Rattle.rh_state.specs.StateView.{StateView, running_at, waiting_at, runs_at, waits_at, is_allowed, restart_of, kind_of, standing_of}
 use Rattle.rh_rules.specs.Course.{is_local}
-use Rattle.rh_settle.specs.Validity.{IsSound}
+use Rattle.rh_trace.specs.Validity.{IsSound}
 use Rattle.rh_base.proofs.Lists.{cases}
-use Rattle.rh_settle.proofs.Entries.{either, same_number, row_there}
-use Rattle.rh_settle.proofs.Every.{Every}
-use Rattle.rh_settle.proofs.Searches.{length_nodes, node_there, length_apps, app_there}
+use Rattle.rh_base.proofs.Truths.{same_number}
+use Rattle.rh_trace.proofs.Entries.{either, row_there}
+use Rattle.rh_trace.proofs.Every.{Every}
+use Rattle.rh_trace.proofs.Numbered.{length_nodes, node_there, length_apps, app_there}
 use Rattle.rh_laws.specs.Reports.{HasPlainNames, IsAlike, ReportTellsState}
 use Rattle.rh_laws.proofs.Texts.{ended, same_lines, head_same, tail_same, unless, every_at, every_unless, mark_of, Opens, opens_append, split, same_elements, same_where}
 use Rattle.rh_laws.proofs.ReportLines.{time_bytes, stands_line, timer_bytes, forbidden_bytes, lines_from, last_lines, lines_of, report_is, Fits, lines_unbroken}

@@ -11,7 +11,7 @@ use Rattle.rh_rules.specs.Settling.{next_moves, moved_by, all_moved}
 use Rattle.rh_rules.specs.NodesStart.{all_alive, is_ready, booted, come_up, come_up_if_ready, ready_come_up}
 use Rattle.rh_rules.specs.declared.event.Event.TheVariants.{Boot}
 use Rattle.rh_rules.specs.Marking.{with_mark, mark_all}
-use Rattle.rh_step.specs.Laws.{boots}
+use Rattle.rh_step_laws.specs.Laws.{boots}
 use Rattle.rh_rules.specs.Steps.{followed, next}
 use Rattle.rh_events.proofs.Scene.{p, job, twin, scene, none}
 

@@ -6,7 +6,7 @@ use Rattle.rh_model.specs.declared.node.App.{App}
 use Rattle.rh_state.specs.Numbers.{apps_of}
 use Rattle.rh_state.specs.Shape.{IsNodeOf, IsAppOf}
 use Rattle.rh_state.specs.StateView.{StateView, mode_of, incarnation_of, running_at, waiting_at, restart_of, kind_of, is_allowed}
-use Rattle.rh_settle.proofs.Every.{Every}
+use Rattle.rh_trace.proofs.Every.{Every}
 use Rattle.rh_laws.specs.Reports.{HasPlainNames}
 use Rattle.rh_laws.proofs.Apart.{Apart}
 use Rattle.rh_laws.proofs.Texts.{unless, head_same, tail_same, every_unless, mark_of, Opens, opens_append, split, same_elements, same_each, same_tests}

@@ -22,11 +22,12 @@ use Rattle.rh_state.specs.Standings.{is_lost}
 use Rattle.rh_state.specs.Tables.{row}
 use Rattle.rh_state.specs.Timers.{same_timer}
 use Rattle.rh_state.specs.StateView.{StateView, mode_of, is_waiting, kind_of, standing_of}
-use Rattle.rh_settle.specs.Validity.{IsSound, is_timed}
+use Rattle.rh_trace.specs.Validity.{IsSound, is_timed}
 use Rattle.rh_base.proofs.Lists.{cases}
-use Rattle.rh_settle.proofs.Entries.{both, is_below, is_above}
-use Rattle.rh_settle.proofs.Every.{Every}
-use Rattle.rh_events.proofs.TimersToldApart.{is_set, set-cons, same_self}
+use Rattle.rh_base.proofs.Truths.{both}
+use Rattle.rh_trace.proofs.Entries.{is_below, is_above}
+use Rattle.rh_trace.proofs.Every.{Every}
+use Rattle.rh_trace.proofs.TimersToldApart.{is_set, set-cons, same_self}
 use Rattle.rh_laws.specs.Reports.{IsDueSoon}
 use Rattle.rh_laws.proofs.Apart.{Apart}
 use Rattle.rh_laws.proofs.Texts.{every_all}

@@ -21,18 +21,19 @@ use Rattle.rh_state.specs.Setters.{with_standing, without_due, unlisted}
 use Rattle.rh_rules.specs.declared.notice.Notice.{Notice}
 use Rattle.rh_rules.specs.declared.notice.Notice.TheVariants as notice
 use Rattle.rh_rules.specs.Course.{Course, course_of, told, now_in, is_local}
-use Rattle.rh_settle.specs.Validity.{IsSound}
+use Rattle.rh_trace.specs.Validity.{IsSound}
 use Rattle.rh_rules.specs.declared.event.Event.TheVariants.{Stop}
 use Rattle.rh_rules.specs.declared.refusal.Refusal.TheVariants.{UnknownNode, UnknownApp, NodeNotUp, NeverStarted}
 use Rattle.rh_rules.specs.ByHand.{stopped, is_started_anywhere, quiet_if_nowhere, left_waiting}
 use Rattle.rh_rules.specs.Everywhere.{leave_at, quietened}
 use Rattle.rh_rules.specs.Steps.{change}
 use Rattle.rh_rules.specs.Refusals.{refused}
-use Rattle.rh_settle.proofs.Entries.{both, either, taken_has, has, taken}
-use Rattle.rh_settle.proofs.Every.{filter_yes}
-use Rattle.rh_settle.proofs.Places.{at_set, at_set_here, or_left}
+use Rattle.rh_base.proofs.Truths.{both, or_left}
+use Rattle.rh_trace.proofs.Entries.{either, taken_has, has, taken}
+use Rattle.rh_trace.proofs.Every.{filter_yes}
+use Rattle.rh_trace.proofs.Places.{at_set, at_set_here}
 use Rattle.rh_events.proofs.Emptying.{set_same}
-use Rattle.rh_events.proofs.TimersToldApart.{is_set, unset-cons, unset-without}
+use Rattle.rh_trace.proofs.TimersToldApart.{is_set, unset-cons, unset-without}
 use Rattle.rh_laws.proofs.LessStarted.{IsLess}
 
 -- ---- written twice, taken out twice

@@ -4,9 +4,9 @@ use Rattle.std.proofs.Common.{refl, sym, ap, ◌∙◌, subst, arith, append_ass
 use Rattle.std.specs.Prelude.{All}
 use Rattle.std.specs.List.{list_all, flat_map}
 use Rattle.std.proofs.lemmas.Bool.{and_parts}
-use Rattle.rh_settle.proofs.Entries.{both, not_same}
-use Rattle.rh_settle.proofs.Every.{Every}
-use Rattle.rh_settle.proofs.Places.{same_refl}
+use Rattle.rh_base.proofs.Truths.{both, same_refl}
+use Rattle.rh_trace.proofs.Entries.{not_same}
+use Rattle.rh_trace.proofs.Every.{Every}
 use Rattle.rh_laws.proofs.Apart.{Apart}
 use Rattle.rh_laws.proofs.LessStarted.{all_hold}
 

@@ -18,7 +18,7 @@ use Rattle.rh_rules.specs.declared.notice.Move.{Move}
 use Rattle.rh_rules.specs.declared.notice.Move.TheVariants.{Placement}
 use Rattle.rh_rules.specs.Moves.{moved}
 use Rattle.rh_rules.specs.Settling.{IsBest, Settles, settled}
-use Rattle.rh_settle.specs.Validity.{IsValid}
+use Rattle.rh_trace.specs.Validity.{IsValid}
 use Rattle.rh_rules.specs.declared.event.Event.{Event}
 use Rattle.rh_rules.specs.declared.event.Event.TheVariants.{Tick, Start, Stop, StartAll, StopAll}
 use Rattle.rh_rules.specs.Steps.{change, Allowed, Outcome, outcome, outcome_of, next}

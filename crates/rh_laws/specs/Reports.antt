@@ -8,11 +8,11 @@ use Rattle.rh_state.specs.declared.status.Timer.{Timer}
 use Rattle.rh_state.specs.Limits.{time_limit}
 use Rattle.rh_state.specs.StateView.{StateView, runs_at, is_started, restart_of, kind_of}
 use Rattle.rh_rules.specs.declared.pick.Pick.{Pick}
-use Rattle.rh_settle.specs.Validity.{IsValid}
+use Rattle.rh_trace.specs.Validity.{IsValid}
 use Rattle.rh_rules.specs.declared.event.Event.{Event}
 use Rattle.rh_rules.specs.Refusals.{refused}
 use Rattle.rh_rules.specs.Steps.{next}
-use Rattle.rh_trail.specs.Report.{report_text}
+use Rattle.rh_report.specs.Report.{report_text}
 
 -- no blank and no line feed stands in a word
 abbrev pub IsPlain : List ℕ → Type 0

@@ -1,7 +1,8 @@
-//! Laws of the definitions of a step and of a report. Each function does nothing: its contract is the law.
+//! Laws of the definitions of a step, of a report and of what is found in a step. Each function does nothing: its contract is the law.
 
 ghost use Rattle.rh_laws.specs.Laws.{FailsOverInTime, PlacedAtBestNodes, OneAnswer, StartAllIsStarts, StopAllIsStops};
 ghost use Rattle.rh_laws.specs.Reports.{DueWithinLimits, ReportTellsState};
+ghost use Rattle.rh_laws.specs.Readiness.{ComesUpIfReady};
 
 /// An application that was lost runs again behind a tick that reaches its timer, if a node of its list can run it then.
 pub fn fails_over_in_time()
@@ -36,4 +37,9 @@ pub fn due_within_limits()
 /// Two valid states of one cluster with one report are alike in all that a report shows.
 pub fn report_tells_state()
     ensures { ReportTellsState }
+{}
+
+/// A node comes up at a boot, as findings of a step have it, exactly where the rules have it ready behind the boot's own change.
+pub fn comes_up_if_ready()
+    ensures { ComesUpIfReady }
 {}

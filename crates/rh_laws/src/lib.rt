@@ -1,9 +1,9 @@
-//! Laws of whole steps and of reports, beside the rules: nothing stands on them.
+//! Laws of whole steps, of reports and of findings, beside the rules: nothing stands on them.
 #![tactic(auto)]
 
 mod laws;
 
 pub use laws::{
-    due_within_limits, fails_over_in_time, one_answer, placed_at_best_nodes, report_tells_state,
-    start_all_is_starts, stop_all_is_stops,
+    comes_up_if_ready, due_within_limits, fails_over_in_time, one_answer, placed_at_best_nodes,
+    report_tells_state, start_all_is_starts, stop_all_is_stops,
 };

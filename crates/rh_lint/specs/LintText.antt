@@ -6,16 +6,16 @@ use Rattle.rh_cluster.specs.declared.fault.ClusterFault.{ClusterFault}
 use Rattle.rh_rules.specs.declared.pick.Pick.{Pick}
 use Rattle.rh_trail.specs.Lone.{opened}
 use Rattle.rh_script.specs.Lines.{raw_lines, cluster_text, script_lines}
-use Rattle.rh_app.specs.declared.fault.Told.{Told}
-use Rattle.rh_app.specs.declared.fault.Told.TheVariants as told
+use Rattle.rh_run.specs.declared.fault.Told.{Told}
+use Rattle.rh_run.specs.declared.fault.Told.TheVariants as told
 use Rattle.rh_findings.specs.declared.finding.Finding.{Finding}
 use Rattle.rh_findings.specs.Order.{IsListed}
 use Rattle.rh_findings.specs.Report.{report_text, is_clean}
 use Rattle.rh_blame.specs.Telling.{fault_in}
 use Rattle.rh_cluster_lint.specs.Text.{text_found}
-use Rattle.rh_script_lint.specs.Lines.{of_lines}
+use Rattle.rh_line_lint.specs.Lines.{of_lines}
 use Rattle.rh_script_lint.specs.Steps.{of_script_steps}
-use Rattle.rh_lint.specs.declared.manner.LintManner.{LintManner}
+use Rattle.rh_asked.specs.declared.manner.LintManner.{LintManner}
 use Rattle.rh_lint.specs.LintJson.{lint_json}
 
 -- the number of the script's first line in the whole input: it stands behind the cluster's text and the line `===`

@@ -13,9 +13,10 @@ use rh_blame::fault_in;
 use rh_cluster::{Cluster, ClusterFault, read_cluster};
 use rh_cluster_lint::text_findings;
 use rh_findings::Finding;
+use rh_line_lint::line_findings;
 use rh_rules::Pick;
 use rh_script::{cut, split_line};
-use rh_script_lint::{line_findings, step_lines};
+use rh_script_lint::step_lines;
 use rh_trail::Sim;
 use std::alloc::Global;
 

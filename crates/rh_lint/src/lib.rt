@@ -7,7 +7,6 @@
 mod finding;
 mod json;
 mod linting;
-mod manner;
 
 pub use linting::run_lint;
-pub use manner::LintManner;
+pub use rh_asked::LintManner;

@@ -2,17 +2,17 @@
 
 ghost use Rattle.std.specs.Prelude.{◌≡◌, ◌≤◌, length, IfOk, false};
 ghost use Rattle.rh_devices.specs.Devices.{input_limit};
-ghost use Rattle.rh_app.specs.Programs.{ProgramGives, NoThreads};
+ghost use Rattle.rh_run.specs.Programs.{ProgramGives, NoThreads};
 ghost use Rattle.rh_lint.specs.LintText.{lint_end, list_text, OwesLint};
 
 use crate::finding::found_in;
 use crate::json::lint_json;
-use crate::manner::LintManner;
-use rh_app::{RunFault, Told, ended};
+use rh_asked::LintManner;
 use rh_base::OutOfMemory;
 use rh_devices::{Sink, Source, Watched, read_input, write_text};
 use rh_findings::{Finding, is_clean, put_in_order, report_text};
 use rh_rules::Pick;
+use rh_run::{RunFault, Told, ended};
 use std::alloc::Global;
 
 /// Reads all of the input, a cluster file, a line `===` and a script, and then lists what is wrong with it, a line for each finding

@@ -2,20 +2,20 @@
 use Rattle.std.proofs.Common.{◌≡◌, ◌∙◌, ◌+◌, ◌||◌, ℕ, List, [], ◌∷◌, ◌++◌, Bool, true, false, Option, Some, None, Result, Ok, Err, refl, sym, ap, ap₂, subst, append_assoc}
 use Rattle.std.specs.List.{flat_map, list_any}
 use Rattle.rh_model.specs.ClusterView.{ClusterView}
-use Rattle.rh_trail.specs.declared.call.Call.{Call}
+use Rattle.rh_calls.specs.declared.call.Call.{Call}
 use Rattle.rh_trail.specs.SimView.{SimView}
 use Rattle.rh_trail.specs.Lone.{served}
 use Rattle.rh_script.specs.declared.script.Line.{Line}
 use Rattle.rh_script.specs.declared.script.Line.TheVariants.{Nothing, Asks, Bad}
 use Rattle.rh_script.specs.Answers.{answer_text, bad_text}
-use Rattle.rh_app.specs.declared.fault.Told.{Told}
-use Rattle.rh_app.specs.declared.fault.Told.TheVariants as told
-use Rattle.rh_app.specs.RunText.{bad_line, Wrote, Broke}
+use Rattle.rh_run.specs.declared.fault.Told.{Told}
+use Rattle.rh_run.specs.declared.fault.Told.TheVariants as told
+use Rattle.rh_run.specs.RunText.{bad_line, Wrote, Broke}
 use Rattle.rh_devices.specs.declared.fault.WriteFault.{WriteFault}
 use Rattle.rh_devices.specs.declared.watched.Watched.{Watched}
 use Rattle.rh_devices.specs.Devices.{Passed, WroteFront}
 use Rattle.rh_devices.proofs.Passing.{passed_more, passed_none, fault_behind, fault_before}
-use Rattle.rh_manner.specs.declared.manner.Manner.{Manner}
+use Rattle.rh_asked.specs.declared.manner.Manner.{Manner}
 use Rattle.rh_manner.specs.declared.running.Turn.TheVariants.{Goes, Ends}
 use Rattle.rh_manner.specs.MannerText.{Said, asked, bad_end, command_lines, commands_text, echo_of, end_of, is_refused_step, said_text, script_replies}
 use Rattle.rh_manner.specs.Turns.{Turns, WroteCall, any_refused}

@@ -5,7 +5,7 @@ use Rattle.rh_model.specs.ClusterView.{ClusterView}
 use Rattle.rh_cluster.specs.ClusterOf.{cluster_of}
 use Rattle.rh_cluster.specs.declared.fault.ClusterFault.{ClusterFault}
 use Rattle.rh_rules.specs.declared.pick.Pick.{Pick}
-use Rattle.rh_trail.specs.declared.call.Reply.{Reply}
+use Rattle.rh_calls.specs.declared.call.Reply.{Reply}
 use Rattle.rh_trail.specs.SimView.{SimView}
 use Rattle.rh_trail.specs.Lone.{opened, replies, served}
 use Rattle.rh_script.specs.declared.script.Line.{Line}
@@ -13,8 +13,8 @@ use Rattle.rh_script.specs.declared.script.Line.TheVariants.{Nothing, Asks, Bad}
 use Rattle.rh_script.specs.Lines.{cluster_text, script_lines}
 use Rattle.rh_script.specs.Commands.{line_of, calls_of}
 use Rattle.rh_script.specs.Answers.{answer_text}
-use Rattle.rh_app.specs.RunText.{run_text, run_end, bad_line, end_text, lines_asked, answers_text, script_end}
-use Rattle.rh_app.specs.RunText.{text_over as run_over, end_over as run_end_over}
+use Rattle.rh_run.specs.RunText.{run_text, run_end, bad_line, end_text, lines_asked, answers_text, script_end}
+use Rattle.rh_run.specs.RunText.{text_over as run_over, end_over as run_end_over}
 use Rattle.rh_manner.specs.Laws.{plain, PlainMannerIsRun}
 use Rattle.rh_manner.specs.MannerText.{Said, said_by, asked, command_lines, commands_text, bad_end, script_replies, manner_text, manner_end, text_over, end_over, end_of, is_refused_step}
 

@@ -1,12 +1,12 @@
 -- Worked rows: what is printed before an answer, which replies are refused steps, and how a strict run ends.
 use Rattle.std.proofs.Common.{◌≡◌, ◌++◌, ℕ, List, [], ◌∷◌, codes, true, false, Some, None, refl}
 use Rattle.rh_rules.specs.declared.refusal.Refusal.TheVariants.{UnknownNode, AlreadyAlive}
-use Rattle.rh_trail.specs.declared.call.Call.TheVariants as call
-use Rattle.rh_trail.specs.declared.call.Reply.TheVariants as reply
+use Rattle.rh_calls.specs.declared.call.Call.TheVariants as call
+use Rattle.rh_calls.specs.declared.call.Reply.TheVariants as reply
 use Rattle.rh_script.specs.declared.script.Line.TheVariants.{Nothing, Asks, Bad}
 use Rattle.rh_script.specs.Answers.{bad_text}
-use Rattle.rh_app.specs.declared.fault.Told.TheVariants as told
-use Rattle.rh_manner.specs.declared.manner.Manner.{Manner}
+use Rattle.rh_run.specs.declared.fault.Told.TheVariants as told
+use Rattle.rh_asked.specs.declared.manner.Manner.{Manner}
 use Rattle.rh_manner.specs.MannerText.{Said, echo_of, command_lines, bad_end, end_of, is_refused_step}
 
 abbrev loud : Manner

@@ -1,8 +1,8 @@
 -- Laws of runs in a manner (ours).
 use Rattle.std.specs.Prelude.{◌≡◌, ℕ, List, false}
 use Rattle.rh_rules.specs.declared.pick.Pick.{Pick}
-use Rattle.rh_app.specs.RunText.{run_text, run_end}
-use Rattle.rh_manner.specs.declared.manner.Manner.{Manner}
+use Rattle.rh_run.specs.RunText.{run_text, run_end}
+use Rattle.rh_asked.specs.declared.manner.Manner.{Manner}
 use Rattle.rh_manner.specs.MannerText.{manner_text, manner_end}
 
 -- the manner in which nothing is printed beside the answers, and a refused step is no fault

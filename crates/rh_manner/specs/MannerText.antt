@@ -6,9 +6,9 @@ use Rattle.rh_model.specs.ClusterView.{ClusterView}
 use Rattle.rh_cluster.specs.ClusterOf.{cluster_of}
 use Rattle.rh_cluster.specs.declared.fault.ClusterFault.{ClusterFault}
 use Rattle.rh_rules.specs.declared.pick.Pick.{Pick}
-use Rattle.rh_trail.specs.declared.call.Call.{Call}
-use Rattle.rh_trail.specs.declared.call.Reply.{Reply}
-use Rattle.rh_trail.specs.declared.call.Reply.TheVariants as reply
+use Rattle.rh_calls.specs.declared.call.Call.{Call}
+use Rattle.rh_calls.specs.declared.call.Reply.{Reply}
+use Rattle.rh_calls.specs.declared.call.Reply.TheVariants as reply
 use Rattle.rh_trail.specs.SimView.{SimView}
 use Rattle.rh_trail.specs.Lone.{opened, replies}
 use Rattle.rh_script.specs.declared.script.Line.{Line}
@@ -16,10 +16,10 @@ use Rattle.rh_script.specs.declared.script.Line.TheVariants.{Nothing, Asks, Bad}
 use Rattle.rh_script.specs.Lines.{cluster_text, script_lines}
 use Rattle.rh_script.specs.Commands.{line_of, calls_of}
 use Rattle.rh_script.specs.Answers.{answer_text, fault_text, bad_text}
-use Rattle.rh_app.specs.declared.fault.Told.{Told}
-use Rattle.rh_app.specs.declared.fault.Told.TheVariants as told
-use Rattle.rh_app.specs.RunText.{bad_line}
-use Rattle.rh_manner.specs.declared.manner.Manner.{Manner}
+use Rattle.rh_run.specs.declared.fault.Told.{Told}
+use Rattle.rh_run.specs.declared.fault.Told.TheVariants as told
+use Rattle.rh_run.specs.RunText.{bad_line}
+use Rattle.rh_asked.specs.declared.manner.Manner.{Manner}
 
 -- ---- what is printed
 

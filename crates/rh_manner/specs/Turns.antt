@@ -6,8 +6,8 @@ use Rattle.rh_trail.specs.SimView.{SimView}
 use Rattle.rh_devices.specs.declared.fault.WriteFault.{WriteFault}
 use Rattle.rh_devices.specs.declared.watched.Watched.{Watched}
 use Rattle.rh_devices.specs.Devices.{Passed, WroteFront}
-use Rattle.rh_app.specs.RunText.{bad_line}
-use Rattle.rh_manner.specs.declared.manner.Manner.{Manner}
+use Rattle.rh_run.specs.RunText.{bad_line}
+use Rattle.rh_asked.specs.declared.manner.Manner.{Manner}
 use Rattle.rh_manner.specs.declared.running.Turn.{Turn}
 use Rattle.rh_manner.specs.declared.running.Turn.TheVariants.{Goes, Ends}
 use Rattle.rh_manner.specs.MannerText.{Said, asked, is_refused_step, said_text, script_replies}

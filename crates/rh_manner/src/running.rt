@@ -5,21 +5,20 @@ ghost use Rattle.rh_trail.specs.Lone.{opened, served};
 ghost use Rattle.rh_script.specs.Lines.{raw_lines, content};
 ghost use Rattle.rh_script.specs.Commands.{line_of};
 ghost use Rattle.rh_script.specs.Answers.{answer_text, bad_text};
-ghost use Rattle.rh_app.specs.RunText.{Wrote, Broke};
-ghost use Rattle.rh_app.specs.Programs.{ProgramGives, NoThreads};
+ghost use Rattle.rh_run.specs.RunText.{Wrote, Broke};
+ghost use Rattle.rh_run.specs.Programs.{ProgramGives, NoThreads};
 ghost use Rattle.rh_manner.specs.MannerText.{Said, OwesRunIn, echo_of, end_of, is_refused_step, manner_end, manner_text, said_by, said_end, said_text};
 ghost use Rattle.rh_manner.specs.Turns.{Turns, WroteCall};
 
-use crate::manner::Manner;
-use rh_app::{
-    RunFault, Sink, Source, Told, Watched, WriteFault, answer_bad, ended, read_input, write_fault,
-    write_text,
-};
+use rh_asked::Manner;
 use rh_base::OutOfMemory;
+use rh_calls::{Call, Reply};
 use rh_cluster::{Cluster, read_cluster};
+use rh_devices::{Sink, Source, Watched, WriteFault, read_input, write_text};
 use rh_rules::Pick;
+use rh_run::{RunFault, Told, answer_bad, ended, write_fault};
 use rh_script::{Line, answer_text, content, cut, line_of, split_line};
-use rh_trail::{Call, Reply, Sim};
+use rh_trail::Sim;
 use std::alloc::Global;
 
 /// Reads all of the input, a cluster file, a line `===` and a script, and then writes the answer to each command, each behind the
@@ -206,7 +205,7 @@ fn answer_command<K: Sink>(
 }
 
 // Gives a call to the simulation, and writes the answer. Whether it was a step that was refused.
-#[tactic(auto, using(rh_app::proofs::Keeping::served_keeps_cluster))]
+#[tactic(auto, using(rh_run::proofs::Keeping::served_keeps_cluster))]
 fn answer_call<K: Sink>(
     alloc: Global,
     sim: &mut Sim,

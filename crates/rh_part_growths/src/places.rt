@@ -2,9 +2,10 @@
 
 use crate::made::{HERE, SERVICE};
 use rh_cluster::Node;
-use rh_place::{NodeSet, Pick, best, candidates, choose, operational, start_kind};
+use rh_place::{NodeSet, Pick, best, candidates, choose, operational};
 use rh_state::{Kind, State};
 use rh_step::{Event, Refusal, refusal_of};
+use rh_trace::start_kind;
 
 /// Whether a call of this name answers as it has to, if it is here. No node is up.
 pub fn is_told(state: &State, name: &str) -> Option<bool> {

@@ -1,11 +1,12 @@
 //! Notices, standings, and devices that are watched.
 
+use rh_calls::Notices;
 use rh_cluster::{App, Node};
 use rh_devices::{Bytes, Watched};
 use rh_marks::{Answer, begin, end};
 use rh_plans::Standings;
 use rh_state::Standing;
-use rh_step::{Notice, Notices};
+use rh_step::Notice;
 use std::alloc::Global;
 
 static UP: Notice = Notice::Up { node: Node(0) };

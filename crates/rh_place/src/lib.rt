@@ -6,10 +6,8 @@
 mod choosing;
 mod node_set;
 mod operating;
-mod starting;
 
 pub use choosing::{best, candidates, choose, operational_among, operational_nodes};
 pub use node_set::NodeSet;
 pub use operating::{deps_run, missing_dep, operational};
 pub use rh_rules::Pick;
-pub use starting::start_kind;

@@ -2,13 +2,14 @@
 use Rattle.std.proofs.Common.{◌≡◌, ℕ, Some, None, Ok, Err, refl, inl, inr}
 use Rattle.rh_cluster.specs.declared.fault.ClusterFault.TheVariants.{NoNodes}
 use Rattle.rh_plans.specs.declared.fault.SweepFault.TheVariants.{BaseNotAtEnd, TrailRoom}
-use Rattle.rh_app.specs.declared.fault.RunFault.TheVariants as end
-use Rattle.rh_app.specs.declared.fault.Told.TheVariants as told
+use Rattle.rh_run.specs.declared.fault.RunFault.TheVariants as end
+use Rattle.rh_run.specs.declared.fault.Told.TheVariants as told
 use Rattle.rh_devices.specs.declared.fault.ReadFault.TheVariants as reading
 use Rattle.rh_devices.specs.declared.fault.WriteFault.TheVariants as writing
 use Rattle.rh_app.specs.declared.fault.HistoryFault.TheVariants as history
 use Rattle.rh_app.specs.declared.fault.SessionsFault.TheVariants as sessions
-use Rattle.rh_app.specs.Faults.{ended, reading_fault, writing_fault, history_fault, sessions_fault}
+use Rattle.rh_app.specs.Faults.{history_fault, sessions_fault}
+use Rattle.rh_run.specs.Faults.{ended, reading_fault, writing_fault}
 use Rattle.rh_devices.specs.declared.watched.Watched.{Watched}
 use Rattle.rh_programs.specs.Status.{status_of, Flushed}
 

@@ -1,13 +1,13 @@
 -- What status 0 says of a program's end.
 use Rattle.std.proofs.Common.{◌≡◌, ◌∙◌, ℕ, List, Option, Some, None, Result, Ok, Err, inl, inr, refl, sym, subst, arith}
-use Rattle.rh_app.specs.declared.fault.RunFault.{RunFault}
-use Rattle.rh_app.specs.declared.fault.RunFault.TheVariants as end
-use Rattle.rh_app.specs.declared.fault.Told.{Told}
-use Rattle.rh_app.specs.declared.fault.Told.TheVariants as told
-use Rattle.rh_programs.specs.declared.status.Program.{Program}
+use Rattle.rh_run.specs.declared.fault.RunFault.{RunFault}
+use Rattle.rh_run.specs.declared.fault.RunFault.TheVariants as end
+use Rattle.rh_run.specs.declared.fault.Told.{Told}
+use Rattle.rh_run.specs.declared.fault.Told.TheVariants as told
+use Rattle.rh_asked.specs.declared.program.Program.{Program}
 use Rattle.rh_devices.specs.declared.watched.Watched.{Watched}
-use Rattle.rh_app.specs.Faults.{ended}
-use Rattle.rh_app.specs.Programs.{ProgramGives}
+use Rattle.rh_run.specs.Faults.{ended}
+use Rattle.rh_run.specs.Programs.{ProgramGives}
 use Rattle.rh_programs.specs.Status.{Owes, MayTear, IsDone, StatusGives, status_of}
 
 -- a program that is done was told no fault

@@ -1,19 +1,18 @@
 -- The exit status, and what it says (ours).
 use Rattle.std.specs.Prelude.{◌≡◌, ◌⊎◌, ◌==◌, ℕ, List, Bool, true, false, Option, None, Result, Ok, Err}
 use Rattle.rh_rules.specs.declared.pick.Pick.{Pick}
-use Rattle.rh_sweep.specs.Sweeping.{AreWorkers}
-use Rattle.rh_app.specs.declared.fault.RunFault.{RunFault}
-use Rattle.rh_app.specs.declared.fault.RunFault.TheVariants as end
-use Rattle.rh_app.specs.declared.fault.Told.{Told}
-use Rattle.rh_programs.specs.declared.status.Program.{Program}
-use Rattle.rh_programs.specs.declared.status.Program.TheVariants.{Check, CheckJson, Run, RunIn, RunJson, Dialogue, Story, Verify, Lint, Explore, Sessions, Sweep, SweepJson}
+use Rattle.rh_run.specs.declared.fault.RunFault.{RunFault}
+use Rattle.rh_run.specs.declared.fault.RunFault.TheVariants as end
+use Rattle.rh_run.specs.declared.fault.Told.{Told}
+use Rattle.rh_asked.specs.declared.program.Program.{Program}
+use Rattle.rh_asked.specs.declared.program.Program.TheVariants.{Check, CheckJson, Run, RunIn, RunJson, Dialogue, Story, Verify, Lint, Explore, Sessions, Sweep, SweepJson}
 use Rattle.rh_devices.specs.declared.watched.Watched.{Watched}
 use Rattle.rh_devices.specs.Devices.{Passed}
-use Rattle.rh_app.specs.Programs.{IsInput, ProgramGives, NoThreads}
-use Rattle.rh_app.specs.CheckText.{OwesCheck}
-use Rattle.rh_app.specs.RunText.{OwesRun}
+use Rattle.rh_run.specs.Programs.{IsInput, ProgramGives, NoThreads}
+use Rattle.rh_run.specs.CheckText.{OwesCheck}
+use Rattle.rh_run.specs.RunText.{OwesRun}
 use Rattle.rh_app.specs.Sessions.{MayGive, AskHistory}
-use Rattle.rh_app.specs.SweepText.{OwesSweep}
+use Rattle.rh_sweep_text.specs.SweepText.{OwesSweep}
 use Rattle.rh_dialogue.specs.DialogueText.{DialogueGives}
 use Rattle.rh_explore_text.specs.ExploreText.{OwesExplore}
 use Rattle.rh_json.specs.CheckJson.{OwesCheckJson}
@@ -44,19 +43,6 @@ Owes (SweepJson pick workers) = OwesSweepJson pick
 abbrev pub MayTear : Program → List ℕ → Type 0
 MayTear (Sessions pick) = AskHistory
 MayTear program = NoThreads
-
--- it starts no threads: a sweep by one worker needs none beside the caller's
-abbrev pub is_alone : Program → Bool
-is_alone (Sessions pick) = false
-is_alone (Sweep pick workers) = workers == 1
-is_alone (SweepJson pick workers) = workers == 1
-is_alone program = true
-
--- a sweep has a number of workers that there may be
-abbrev pub IsStaffed : Program → Type 0
-IsStaffed (Sweep pick workers) = AreWorkers workers
-IsStaffed (SweepJson pick workers) = AreWorkers workers
-IsStaffed program = Unit {0}
 
 -- the exit status for how a program ended
 abbrev pub status_of : Result (Unit {0}) RunFault → ℕ

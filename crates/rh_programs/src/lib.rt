@@ -7,5 +7,8 @@
 #![tactic(auto)]
 
 mod status;
+mod sweeping;
 
-pub use status::{Program, rehearse_alone, rehearse_dialogue, rehearse_together};
+pub use rh_asked::Program;
+pub use status::{rehearse_alone, rehearse_dialogue, rehearse_together};
+pub use sweeping::{sweep_json, sweep_json_alone};

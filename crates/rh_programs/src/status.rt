@@ -1,68 +1,26 @@
 //! A program from its devices to the exit status.
 
 ghost use Rattle.std.specs.Prelude.{◌≡◌, false, true};
-ghost use Rattle.rh_app.specs.Programs.{ProgramGives};
-ghost use Rattle.rh_programs.specs.Status.{DialogueStatus, Owes, MayTear, Flushed, IsStaffed, IsDone, StatusGives, is_alone, status_of};
+ghost use Rattle.rh_run.specs.Programs.{ProgramGives};
+ghost use Rattle.rh_asked.specs.Programs.{IsStaffed, is_alone};
+ghost use Rattle.rh_programs.specs.Status.{DialogueStatus, Owes, MayTear, Flushed, IsDone, StatusGives, status_of};
 
-use rh_app::{
-    RunFault, Sink, Source, Watched, run, run_check, run_sessions, run_sweep, run_sweep_alone,
-};
+use crate::sweeping::{sweep_json, sweep_json_alone};
+use rh_app::{run_sessions, run_sweep, run_sweep_alone};
+use rh_asked::Program;
+use rh_devices::{Sink, Source, Watched};
 use rh_dialogue::run_dialogue;
 use rh_explore_text::run_explore;
 use rh_json::{check_json, run_json};
-use rh_lint::{LintManner, run_lint};
-use rh_manner::{Manner, run_in};
+use rh_lint::run_lint;
+use rh_manner::run_in;
 use rh_rules::Pick;
+use rh_run::{RunFault, run, run_check};
 use rh_story::run_story;
-use rh_sweep_json::{sweep_json, sweep_json_alone};
 use rh_verify::run_verify;
 use std::alloc::Global;
 use std::sync::Wait;
 use std::thread::Threads;
-
-/// What is done with the input.
-#[derive(Clone, Copy)]
-pub enum Program {
-    /// The cluster file is read, and that is all.
-    Check,
-    /// The same, as a line of JSON.
-    CheckJson,
-    /// The commands of a script are answered.
-    Run(Pick),
-    /// The same, in a manner of its own.
-    RunIn(Pick, Manner),
-    /// The same, as lines of JSON.
-    RunJson(Pick),
-    /// The same, each command before more is read, by [`rehearse_dialogue`]. A reader and a writer apart are run over as by `Run`.
-    Dialogue(Pick),
-    /// The script is printed again, with what came of each command; behind the cluster file, if it is to be whole.
-    Story(Pick, bool),
-    /// What came of each command is compared with what the script expects.
-    Verify(Pick),
-    /// What is wrong with the input is listed, in a manner.
-    Lint(Pick, LintManner),
-    /// All states are searched that events reach from a base, and at most so many are kept.
-    Explore(Pick, usize),
-    /// Sessions share a cluster.
-    Sessions(Pick),
-    /// Plans are tried, by so many workers.
-    Sweep(Pick, usize),
-    /// The same, as lines of JSON.
-    SweepJson(Pick, usize),
-}
-
-impl Program {
-    /// Whether it starts no threads: a sweep by one worker needs none beside the caller's.
-    pub fn is_alone(self) -> bool
-        ensures { result ≡ is_alone self }
-    {
-        match self {
-            Program::Sessions(_) => false,
-            Program::Sweep(_, workers) | Program::SweepJson(_, workers) => workers == 1,
-            _ => true,
-        }
-    }
-}
 
 /// Runs a program that starts no threads over its devices, flushes the writer, however it ended, and answers the exit status.
 /// It is lent nothing by which it could wait.

@@ -1,40 +1,16 @@
 -- One more entry in the log of a room.
-use Rattle.std.proofs.Common.{◌≡◌, ℕ, suc, ◌-◌, ◌<◌, ◌==◌, List, [], ◌∷◌, ◌++◌, length, map, Option, Some, None, Bool, true, false, cond, slice_get, refl, sym, ap, subst, ◌∙◌, arith}
+use Rattle.std.proofs.Common.{◌≡◌, ℕ, suc, ◌-◌, ◌<◌, List, [], ◌∷◌, ◌++◌, length, map, slice_get, refl, sym, ap, subst, ◌∙◌, arith}
 use Rattle.std.proofs.lemmas.List.{length_push, map-append}
 use Rattle.std.proofs.lemmas.List.Elements.{All-push}
-use Rattle.rh_rules.specs.declared.event.Event.{Event}
-use Rattle.rh_rules.specs.declared.refusal.Refusal.{Refusal}
-use Rattle.rh_rules.specs.Refusals.{refused}
-use Rattle.rh_trail.specs.declared.call.Call.{Call}
-use Rattle.rh_trail.specs.declared.call.Call.TheVariants as call
-use Rattle.rh_trail.specs.declared.call.Reply.{Reply}
-use Rattle.rh_trail.specs.SimView.{SimView, state_of}
-use Rattle.rh_trail.specs.Lone.{Served, answered, served, stepped, opened, replies, sim_after, trail_limit}
+use Rattle.rh_calls.specs.declared.call.Call.{Call}
+use Rattle.rh_calls.specs.declared.call.Call.TheVariants as call
+use Rattle.rh_calls.specs.declared.call.Reply.{Reply}
+use Rattle.rh_trail.specs.SimView.{SimView}
+use Rattle.rh_trail.proofs.Bases.{base_of, base-served}
+use Rattle.rh_trail.specs.Lone.{Served, answered, served, opened, replies, sim_after}
 use Rattle.rh_room.specs.declared.pass.Entry.{Entry}
 use Rattle.rh_room.specs.Legal.{IsRoom, IsSession, calls, entry, log_limit}
 use Rattle.rh_room.specs.Serving.{look_reply, look_in, last_look, IsStill}
-
--- the new simulation of the cluster and the pick of another
-abbrev base_of : Served → SimView
-base_of v = opened v.sim.cluster v.sim.pick
-
-base-cond : (s : SimView) (b : Bool) (v w : Served) → base_of v ≡ opened s.cluster s.pick → base_of w ≡ opened s.cluster s.pick
-    → base_of (cond b v w) ≡ opened s.cluster s.pick
-base-cond s true v w p q = p
-base-cond s false v w p q = q
-
-base-stepped : (s : SimView) (e : Event) (o : Option Refusal) → base_of (stepped s e o) ≡ opened s.cluster s.pick
-base-stepped s e (Some r) = refl
-base-stepped s e None = base-cond s (s.cursor == trail_limit) _ _ refl refl
-
--- a call keeps cluster and pick
-pub base-served : (s : SimView) (c : Call) → base_of (served s c) ≡ opened s.cluster s.pick
-base-served s (call.Step e) = base-stepped s e (refused (state_of s) e)
-base-served s call.Undo = base-cond s (s.cursor == 0) _ _ refl refl
-base-served s call.Redo = base-cond s (s.cursor == length s.trail) _ _ refl refl
-base-served s call.UndoAll = refl
-base-served s call.RedoAll = refl
-base-served s call.Look = refl
 
 -- one more call, with its reply
 pub replies-push : (s : SimView) (cs : List Call) (c : Call) → replies s (cs ++ c ∷ []) ≡ replies s cs ++ (served (sim_after s cs) c).reply ∷ []

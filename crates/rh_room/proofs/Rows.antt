@@ -2,9 +2,9 @@
 use Rattle.std.proofs.Common.{◌≡◌, ◌<◌, ℕ, List, [], ◌∷◌, length, All, refl, arith}
 use Rattle.rh_model.specs.ClusterView.{ClusterView}
 use Rattle.rh_rules.specs.declared.pick.Pick.{Pick}
-use Rattle.rh_trail.specs.declared.call.Call.{Call}
-use Rattle.rh_trail.specs.declared.call.Call.TheVariants.{Undo, Redo}
-use Rattle.rh_trail.specs.declared.call.Reply.TheVariants.{AtStart, AtEnd}
+use Rattle.rh_calls.specs.declared.call.Call.{Call}
+use Rattle.rh_calls.specs.declared.call.Call.TheVariants.{Undo, Redo}
+use Rattle.rh_calls.specs.declared.call.Reply.TheVariants.{AtStart, AtEnd}
 use Rattle.rh_trail.specs.SimView.{Held}
 use Rattle.rh_trail.specs.Lone.{served}
 use Rattle.rh_room.specs.declared.pass.Entry.{Entry}

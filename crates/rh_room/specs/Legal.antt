@@ -1,7 +1,7 @@
 -- The log of a room: a history that a single caller could have had (ours).
 use Rattle.std.specs.Prelude.{◌≡◌, ◌≤◌, ◌<◌, ℕ, ◌+◌, List, [], ◌∷◌, length, map, All, AllPairs, ◌==◌, if◌then◌else◌}
-use Rattle.rh_trail.specs.declared.call.Call.{Call}
-use Rattle.rh_trail.specs.declared.call.Reply.{Reply}
+use Rattle.rh_calls.specs.declared.call.Call.{Call}
+use Rattle.rh_calls.specs.declared.call.Reply.{Reply}
 use Rattle.rh_trail.specs.SimView.{SimView, Held}
 use Rattle.rh_trail.specs.Lone.{opened, replies, sim_after}
 use Rattle.rh_room.specs.declared.pass.Entry.{Entry}

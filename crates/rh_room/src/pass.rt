@@ -5,7 +5,7 @@ ghost use Rattle.rh_room.specs.Legal.{InOrder, new_pass};
 
 use crate::room::Room;
 use rh_base::OutOfMemory;
-use rh_trail::{Call, Reply};
+use rh_calls::{Call, Reply};
 use std::alloc::Global;
 use std::marker::Model;
 

@@ -10,7 +10,8 @@ ghost use Rattle.rh_room.specs.Serving.{last_look, look_reply, IsStill};
 
 use crate::pass::Entry;
 use rh_base::OutOfMemory;
-use rh_trail::{Call, Replies, Reply, Sim};
+use rh_calls::{Call, Replies, Reply};
+use rh_trail::Sim;
 use std::alloc::Global;
 
 /// Makes a call of a simulation with the log of the calls so far, and gives the reply. A look right behind another one is

@@ -12,7 +12,8 @@ ghost use Rattle.rh_room.specs.Serving.{last_of, place_of, IsPassOf, receipt_of,
 use crate::pass::{Entry, Pass, Receipt, RoomFault};
 use crate::replies::reply_to;
 use rh_base::OutOfMemory;
-use rh_trail::{Call, Sim};
+use rh_calls::Call;
+use rh_trail::Sim;
 use std::alloc::Global;
 use std::marker::Model;
 use std::sync::Mutex;

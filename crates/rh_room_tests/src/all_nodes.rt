@@ -1,10 +1,10 @@
 //! Sessions that start and stop an application at all its nodes.
 
 use crate::told::{Open, closed, opened, tell_calls};
+use rh_calls::Call;
 use rh_cluster::{App, Node, Restart};
 use rh_samples::THREE_NODES;
 use rh_step::{Event, Pick};
-use rh_trail::Call;
 use std::alloc::Global;
 use std::process::Abort;
 

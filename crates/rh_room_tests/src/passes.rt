@@ -1,11 +1,11 @@
 //! Passes that aren't the room's, that are one too many or come again, and a room that is handed back.
 
 use crate::told::{Open, closed, cluster_of, opened, tell_calls, tell_kept, tell_served};
+use rh_calls::Call;
 use rh_cluster::Cluster;
 use rh_room::{CloseReason, close};
 use rh_samples::ONE_NODE;
 use rh_step::Pick;
-use rh_trail::Call;
 use std::alloc::Global;
 use std::process::Abort;
 

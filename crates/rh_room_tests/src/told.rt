@@ -1,9 +1,9 @@
 //! What the sessions of rooms are told, as text: a room with its passes, what is done with them, and how it closes.
 
+use rh_calls::{Call, Reply};
 use rh_cluster::{Cluster, read_cluster};
 use rh_room::{Entry, Pass, Receipt, Room, close, open_room};
 use rh_step::Pick;
-use rh_trail::{Call, Reply};
 use std::alloc::{AllocError, Global};
 use std::process::Abort;
 

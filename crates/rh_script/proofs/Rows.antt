@@ -10,8 +10,8 @@ use Rattle.rh_state.specs.declared.status.Kind.TheVariants as kind
 use Rattle.rh_rules.specs.declared.notice.Notice.TheVariants.{Started, Stopped, Waits}
 use Rattle.rh_rules.specs.declared.event.Event.TheVariants.{Boot, Tick, Start, Stop, Permit, Takeover, Exit, StartAll, StopAll}
 use Rattle.rh_rules.specs.declared.refusal.Refusal.TheVariants.{DependencyNotStarted}
-use Rattle.rh_trail.specs.declared.call.Call.TheVariants.{Step, Undo, Look}
-use Rattle.rh_trail.specs.declared.call.Reply.TheVariants.{Refused}
+use Rattle.rh_calls.specs.declared.call.Call.TheVariants.{Step, Undo, Look}
+use Rattle.rh_calls.specs.declared.call.Reply.TheVariants.{Refused}
 use Rattle.rh_script.specs.declared.script.TheConstants.{NO_NODE, NO_APP}
 use Rattle.rh_script.specs.declared.script.Line.TheVariants.{Nothing, Asks, Bad}
 use Rattle.rh_script.specs.Lines.{content, cluster_text, script_lines}

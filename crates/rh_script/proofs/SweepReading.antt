@@ -1,7 +1,7 @@
 -- Lines of a sweep that are read one after the other.
 use Rattle.std.proofs.Common.{◌≡◌, ℕ, List, [], ◌∷◌, ◌++◌, refl, sym, ap, ◌∙◌, append-nil, append_assoc}
 use Rattle.rh_rules.specs.declared.event.Event.{Event}
-use Rattle.rh_trail.specs.declared.call.Call.{Call}
+use Rattle.rh_calls.specs.declared.call.Call.{Call}
 use Rattle.rh_script.specs.declared.script.Line.{Line}
 use Rattle.rh_script.specs.declared.sweep_lines.SweepLine.{SweepLine}
 use Rattle.rh_script.specs.declared.sweep_lines.SweepLine.TheVariants as asks

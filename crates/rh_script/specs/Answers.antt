@@ -12,9 +12,9 @@ use Rattle.rh_rules.specs.declared.notice.Notice.{Notice}
 use Rattle.rh_rules.specs.declared.notice.Notice.TheVariants.{Up, Ended, Started, Stopped, Waits}
 use Rattle.rh_rules.specs.declared.refusal.Refusal.{Refusal}
 use Rattle.rh_rules.specs.declared.refusal.Refusal.TheVariants.{DependencyNotStarted}
-use Rattle.rh_trail.specs.declared.call.Reply.{Reply}
-use Rattle.rh_trail.specs.declared.call.Reply.TheVariants as reply
-use Rattle.rh_trail.specs.Report.{no_name, node_word, app_word, kind_words}
+use Rattle.rh_calls.specs.declared.call.Reply.{Reply}
+use Rattle.rh_calls.specs.declared.call.Reply.TheVariants as reply
+use Rattle.rh_report.specs.Report.{no_name, node_word, app_word, kind_words}
 use Rattle.rh_rules.specs.Refusals.{refusal_words}
 
 -- the name of a dependency, or what is shown for a missing name

@@ -7,8 +7,8 @@ use Rattle.rh_model.specs.declared.node.App.{App}
 use Rattle.rh_model.specs.declared.settings.Restart.{Restart}
 use Rattle.rh_rules.specs.declared.event.Event.{Event}
 use Rattle.rh_rules.specs.declared.event.Event.TheVariants as event
-use Rattle.rh_trail.specs.declared.call.Call.{Call}
-use Rattle.rh_trail.specs.declared.call.Call.TheVariants as call
+use Rattle.rh_calls.specs.declared.call.Call.{Call}
+use Rattle.rh_calls.specs.declared.call.Call.TheVariants as call
 use Rattle.rh_script.specs.declared.forms.Argument.{Argument}
 use Rattle.rh_script.specs.declared.forms.Argument.TheVariants as argument
 use Rattle.rh_script.specs.declared.forms.Verb.{Verb}

@@ -2,7 +2,7 @@
 use Rattle.std.specs.Prelude.{ℕ, ◌+◌, ◌-◌, ◌&&◌, List, [], ◌∷◌, nat_le, if◌then◌else◌, Option, Some, None}
 use Rattle.std.specs.Str.{is_utf8}
 use Rattle.rh_model.specs.ClusterView.{ClusterView}
-use Rattle.rh_trail.specs.declared.call.Call.{Call}
+use Rattle.rh_calls.specs.declared.call.Call.{Call}
 use Rattle.rh_script.specs.declared.script.Line.{Line}
 use Rattle.rh_script.specs.declared.script.Line.TheVariants as line
 use Rattle.rh_script.specs.declared.session_lines.Command.{Command}

@@ -1,7 +1,7 @@
 -- What is said within the reading of a sweep, where some lines are left (ours).
 use Rattle.std.specs.Prelude.{List, [], ◌∷◌, ◌++◌, Bool, true, false}
 use Rattle.rh_rules.specs.declared.event.Event.{Event}
-use Rattle.rh_trail.specs.declared.call.Call.{Call}
+use Rattle.rh_calls.specs.declared.call.Call.{Call}
 use Rattle.rh_script.specs.declared.sweep_lines.SweepLine.{SweepLine}
 use Rattle.rh_script.specs.Commands.{calls_of}
 use Rattle.rh_script.specs.SweepLines.{PlanText, base_lines, plan_events, plans_of}

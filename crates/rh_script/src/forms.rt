@@ -5,9 +5,9 @@ ghost use Rattle.std.specs.Str.{bytes_eq};
 ghost use Rattle.rh_script.specs.Forms.{word_of, arguments_of, verb_named, event_of, call_of, at_place, said_event, said};
 ghost use Rattle.rh_script.specs.Forms.{with_node, with_app, with_restart, with_truth, with_ending, with_ms};
 
+use rh_calls::Call;
 use rh_cluster::{App, Node, Restart};
 use rh_rules::Event;
-use rh_trail::Call;
 
 /// What stands behind the word of a command.
 #[derive(Clone, Copy, Debug, PartialEq, Eq)]

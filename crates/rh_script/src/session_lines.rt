@@ -6,8 +6,8 @@ ghost use Rattle.rh_script.specs.SessionLines.{session_named, asked_by, session_
 
 use crate::script::{Line, begins_with, command_of, first_words, text_of};
 use rh_base::{OutOfMemory, Same};
+use rh_calls::Call;
 use rh_cluster::Cluster;
-use rh_trail::Call;
 use std::alloc::Global;
 
 /// The last session that a line can name.

@@ -3,7 +3,7 @@
 ghost use Rattle.std.specs.Prelude.{◌≡◌, ◌++◌, OnOk, IfOk};
 ghost use Rattle.std.specs.List.{flat_map};
 ghost use Rattle.std.specs.String.{string_bytes};
-ghost use Rattle.rh_trail.specs.Report.{standing_line};
+ghost use Rattle.rh_report.specs.Report.{standing_line};
 ghost use Rattle.rh_script.specs.SweepAnswers.{counted, plan_line, refused_line, outcome_text, sweep_fault_text};
 
 use crate::answers::push_reason;
@@ -11,9 +11,9 @@ use itoa::Buffer;
 use rh_base::{OutOfMemory, Str};
 use rh_cluster::{App, Cluster};
 use rh_plans::{Outcome, SweepFault};
+use rh_report::push_standing_line;
 use rh_rules::Refusal;
 use rh_state::Standing;
-use rh_trail::push_standing_line;
 use std::alloc::Global;
 
 // Adds what was counted, behind its word.

@@ -11,10 +11,10 @@ ghost use Rattle.rh_script.specs.SweepReading.{read_on, is_begun};
 use crate::lines::{content, split_line};
 use crate::script::{Line, begins_with, command_of, first_words, text_of};
 use rh_base::{OutOfMemory, Str, text_of_bytes};
+use rh_calls::Call;
 use rh_cluster::Cluster;
 use rh_plans::Plan;
 use rh_rules::Event;
-use rh_trail::Call;
 use std::alloc::Global;
 
 /// What a line of a sweep asks.

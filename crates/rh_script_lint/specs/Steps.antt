@@ -2,20 +2,20 @@
 use Rattle.std.specs.Prelude.{ℕ, ◌+◌, List, [], ◌∷◌, ◌++◌, codes, Bool, true, false, not, ◌&&◌, Some, None, if◌then◌else◌}
 use Rattle.std.specs.List.{flat_map, list_any}
 use Rattle.rh_model.specs.ClusterView.{ClusterView}
-use Rattle.rh_trail.specs.declared.call.Call.{Call}
-use Rattle.rh_trail.specs.declared.call.Call.TheVariants as call
+use Rattle.rh_calls.specs.declared.call.Call.{Call}
+use Rattle.rh_calls.specs.declared.call.Call.TheVariants as call
 use Rattle.rh_trail.specs.SimView.{SimView, state_of}
 use Rattle.rh_trail.specs.Lone.{served}
 use Rattle.rh_script.specs.declared.script.Line.{Line}
 use Rattle.rh_script.specs.declared.script.Line.TheVariants as line
 use Rattle.rh_script.specs.Commands.{line_of}
-use Rattle.rh_step_lint.specs.declared.finding.StepFinding.{StepFinding}
-use Rattle.rh_step_lint.specs.Findings.{step_findings_of}
-use Rattle.rh_step_lint.specs.Levels.{is_warning, hangs}
+use Rattle.rh_step_findings.specs.declared.finding.StepFinding.{StepFinding}
+use Rattle.rh_step_findings.specs.Findings.{step_findings_of}
+use Rattle.rh_step_findings.specs.Levels.{is_warning, hangs}
 use Rattle.rh_findings.specs.declared.finding.Kind.TheVariants.{Warning, Hint}
 use Rattle.rh_findings.specs.declared.finding.Finding.{Finding}
 use Rattle.rh_findings.specs.Sentences.{sentence}
-use Rattle.rh_script_lint.specs.StepWords.{words_of, names_of}
+use Rattle.rh_step_words.specs.StepWords.{words_of, names_of}
 
 -- a finding of a step on line k
 unfoldable pub step_found : ClusterView → ℕ → StepFinding → Finding

@@ -7,13 +7,15 @@ ghost use Rattle.rh_trail.specs.Lone.{served};
 ghost use Rattle.rh_script.specs.Lines.{raw_lines, content};
 ghost use Rattle.rh_script_lint.specs.Steps.{step_found, is_another_past, another_past, of_steps, findings_of, of_call, ends_at, of_rest, of_script_steps};
 
-use crate::step_words::{names_of, words_of};
 use rh_base::{OutOfMemory, Str};
+use rh_calls::Call;
 use rh_cluster::Cluster;
 use rh_findings::{Finding, Kind, sentence};
 use rh_script::{Line, content, line_of, split_line};
-use rh_step_lint::{StepFinding, step_findings};
-use rh_trail::{Call, Sim};
+use rh_step_findings::StepFinding;
+use rh_step_lint::step_findings;
+use rh_step_words::{names_of, words_of};
+use rh_trail::Sim;
 use std::alloc::Global;
 
 // A finding of a step on the line of this number.

@@ -32,13 +32,14 @@ use Rattle.rh_settle.specs.Boards.{AppSets, BoardView, is_among, is_wanted, touc
 use Rattle.rh_settle.specs.Boards.{MarksLocals, IsExactAt, IsBoardOf}
 use Rattle.rh_rules.specs.Course.{is_fresh, is_local}
 use Rattle.rh_rules.specs.Moves.{can_start, local_move, local_moves, comes_before, calls_away, placements, placements_from, takeovers, takeovers_from, moved_state}
-use Rattle.rh_settle.proofs.Entries.{taken, put, has as entry, taken_apart, put_apart, is_below, is_above, is_false, both, same_number, other_number}
-use Rattle.rh_settle.proofs.NextMoves.{operational_within}
-use Rattle.rh_settle.proofs.Points.{not_before}
-use Rattle.rh_settle.proofs.Places.{at_set, at_set_there, same_refl, or_left, or_right}
+use Rattle.rh_base.proofs.Truths.{both, same_number, same_refl, or_left, or_right}
+use Rattle.rh_trace.proofs.Entries.{taken, put, has as entry, taken_apart, put_apart, is_below, is_above, is_false, other_number}
+use Rattle.rh_trace.proofs.NextMoves.{operational_within}
+use Rattle.rh_trace.proofs.Points.{not_before}
+use Rattle.rh_trace.proofs.Places.{at_set, at_set_there}
 use Rattle.rh_settle.proofs.Unchanged.{cluster_same}
-use Rattle.rh_settle.proofs.Searches.{length_nodes, node_there}
-use Rattle.rh_settle.proofs.Shapes.{listed as listed_all}
+use Rattle.rh_trace.proofs.Numbered.{length_nodes, node_there}
+use Rattle.rh_trace.proofs.Shapes.{listed as listed_all}
 use Rattle.rh_settle.proofs.Touches.{given_taken, given_put, given_alike, none_touched}
 
 -- ---- the first that gives anything

@@ -14,9 +14,9 @@ use Rattle.rh_rules.specs.Course.{is_fresh}
 use Rattle.rh_rules.specs.Moves.{comes_before, calls_away, takeovers, takeovers_from}
 use Rattle.rh_settle.specs.Calls.{runs_behind, can_call}
 use Rattle.rh_settle.proofs.Boards.{not_taken}
-use Rattle.rh_settle.proofs.Entries.{same_number}
+use Rattle.rh_base.proofs.Truths.{same_number}
 use Rattle.rh_settle.proofs.GroupWalks.{neither, behind, passed}
-use Rattle.rh_settle.proofs.NextMoves.{left_true, right_true}
+use Rattle.rh_trace.proofs.NextMoves.{left_true, right_true}
 
 -- ---- a walk to the first group that has either of two nodes
 -- what is there first comes before

@@ -18,13 +18,13 @@ use Rattle.rh_rules.specs.declared.notice.Pair.{Pair}
 use Rattle.rh_rules.specs.Course.{is_fresh, is_local}
 use Rattle.rh_rules.specs.Moves.{comes_before, calls_away}
 use Rattle.rh_rules.specs.Settling.{next_moves, IsBest, NoneEnabled}
-use Rattle.rh_settle.specs.Validity.{IsSound}
-use Rattle.rh_settle.proofs.Entries.{is_false}
-use Rattle.rh_settle.proofs.Kept.{same_running}
-use Rattle.rh_settle.proofs.Firsts.{every_in, empty_of}
-use Rattle.rh_settle.proofs.Best.{each_best}
-use Rattle.rh_settle.proofs.NextMoves.{all_called}
-use Rattle.rh_settle.proofs.NextFirsts.{next_are_first}
+use Rattle.rh_trace.specs.Validity.{IsSound}
+use Rattle.rh_trace.proofs.Entries.{is_false}
+use Rattle.rh_trace.proofs.Kept.{same_running}
+use Rattle.rh_trace.proofs.Firsts.{every_in, empty_of}
+use Rattle.rh_trace.proofs.Best.{each_best}
+use Rattle.rh_trace.proofs.NextMoves.{all_called}
+use Rattle.rh_trace.proofs.NextFirsts.{next_are_first}
 
 -- ---- at one node
 pub runs_at_one_node : (s : StateView) (a : App) (m n : Node) → IsSound s → is_local s.cluster a ≡ false → runs_at s m a ≡ true → runs_at s n a ≡ true → m ≡ n

@@ -11,10 +11,10 @@ use Rattle.rh_rules.specs.Course.{Course, fresh_of}
 use Rattle.rh_rules.specs.Moves.{moved, moved_state}
 use Rattle.rh_rules.specs.Settling.{nexts, after_move, moved_by, pair_count, all_moved}
 use Rattle.rh_settle.proofs.Searches.{contains_picked}
-use Rattle.rh_settle.proofs.Points.{points, bounded}
-use Rattle.rh_settle.proofs.Falls.{Progresses, falls}
-use Rattle.rh_settle.proofs.Shapes.{shaped_moved}
-use Rattle.rh_settle.proofs.NextMoves.{progresses}
+use Rattle.rh_trace.proofs.Points.{points, bounded}
+use Rattle.rh_trace.proofs.Falls.{Progresses, falls}
+use Rattle.rh_trace.proofs.Shapes.{shaped_moved}
+use Rattle.rh_trace.proofs.NextMoves.{progresses}
 
 -- the state, the marks, the fresh pairs and the cluster after a move
 pub state_moved : (o : Course) (m : Move) → (moved o m).state ≡ moved_state o.state m

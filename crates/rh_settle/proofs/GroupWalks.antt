@@ -12,9 +12,8 @@ use Rattle.rh_base.specs.Lists.{or_else, first_given, lightest}
 use Rattle.rh_base.proofs.Lists.{place_any}
 use Rattle.rh_rules.specs.Placing.{best}
 use Rattle.rh_rules.specs.Moves.{comes_before}
-use Rattle.rh_settle.proofs.Entries.{both}
-use Rattle.rh_settle.proofs.Places.{same_refl, or_left, or_right}
-use Rattle.rh_settle.proofs.InGroups.{position_cons, none_before, first_before, before_suc}
+use Rattle.rh_base.proofs.Truths.{both, same_refl, or_left, or_right}
+use Rattle.rh_trace.proofs.InGroups.{position_cons, none_before, first_before, before_suc}
 
 pub neither : (p q : Bool) → p || q ≡ false → (p ≡ false) × (q ≡ false)
 neither true q h = both true refl h

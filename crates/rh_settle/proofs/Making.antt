@@ -8,15 +8,15 @@ use Rattle.rh_rules.specs.declared.notice.Move.{Move}
 use Rattle.rh_rules.specs.declared.notice.Pair.{Pair}
 use Rattle.rh_rules.specs.Course.{Course}
 use Rattle.rh_rules.specs.Moves.{moved, moved_state}
-use Rattle.rh_settle.specs.Making.{CanBeMade}
+use Rattle.rh_trace.specs.Making.{CanBeMade}
 use Rattle.rh_rules.specs.Settling.{nexts, all_moved, tell_waiting}
-use Rattle.rh_settle.specs.Validity.{RunsWhereItStands}
+use Rattle.rh_trace.specs.Validity.{RunsWhereItStands}
 use Rattle.rh_settle.proofs.Searches.{none_picked}
-use Rattle.rh_settle.proofs.Points.{points}
+use Rattle.rh_trace.proofs.Points.{points}
 use Rattle.rh_settle.proofs.Unchanged.{tell_marked}
-use Rattle.rh_settle.proofs.Falls.{Progresses}
+use Rattle.rh_trace.proofs.Falls.{Progresses}
 use Rattle.rh_settle.proofs.Fuel.{state_moved, progress, falls_next, unrolled, ended}
-use Rattle.rh_settle.proofs.Kept.{can_be_made, runs_moved}
+use Rattle.rh_trace.proofs.Kept.{can_be_made, runs_moved}
 
 module _ (o : Course) (pick : Pick) (m : Move) (shape : IsShaped o.state) (next : Some m ≡ picked pick (nexts o)) where
   known : Progresses o.state m

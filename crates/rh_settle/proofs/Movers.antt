@@ -6,7 +6,7 @@ use Rattle.rh_state.specs.StateView.{StateView}
 use Rattle.rh_rules.specs.declared.notice.Move.{Move}
 use Rattle.rh_rules.specs.declared.notice.Move.TheVariants.{Local, Placement, Takeover}
 use Rattle.rh_settle.specs.Boards.{nodes_changed, mover}
-use Rattle.rh_settle.specs.Making.{CanBeMade}
+use Rattle.rh_trace.specs.Making.{CanBeMade}
 
 -- the application that a move moves is the cluster's
 pub moved_app : (s : StateView) (m : Move) → CanBeMade s m → IsAppOf s.cluster (mover m)

@@ -16,9 +16,9 @@ use Rattle.rh_rules.specs.Moves.{moved, moved_state}
 use Rattle.rh_rules.specs.Settling.{IsEnabled, nexts, after_move, moved_by, pair_count, all_moved, settled}
 use Rattle.rh_settle.proofs.Fuel.{state_moved, by_option}
 use Rattle.rh_settle.proofs.Searches.{contains_picked}
-use Rattle.rh_settle.proofs.NextFirsts.{next_are_first}
-use Rattle.rh_settle.proofs.Places.{at_set}
-use Rattle.rh_settle.proofs.Entries.{both}
+use Rattle.rh_trace.proofs.NextFirsts.{next_are_first}
+use Rattle.rh_trace.proofs.Places.{at_set}
+use Rattle.rh_base.proofs.Truths.{both}
 use Rattle.rh_settle.proofs.Unchanged.{waits_told_state}
 
 -- neither to be placed nor to be taken over

@@ -24,8 +24,8 @@ use Rattle.rh_rules.specs.declared.notice.Pair.{Pair}
 use Rattle.rh_rules.specs.Course.{course_of}
 use Rattle.rh_rules.specs.Moves.{can_start, local_moves, placements, calls_away, takeovers}
 use Rattle.rh_rules.specs.Settling.{next_moves, IsEnabled, goes_before, AreFirst, moved_by, all_moved, settled}
-use Rattle.rh_settle.proofs.Entries.{both}
-use Rattle.rh_settle.proofs.InGroups.{none_before}
+use Rattle.rh_base.proofs.Truths.{both}
+use Rattle.rh_trace.proofs.InGroups.{none_before}
 
 abbrev n1 : Node
 n1 = record { 0 = 0 }

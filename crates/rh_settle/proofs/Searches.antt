@@ -2,10 +2,8 @@
 use Rattle.std.proofs.Common.{◌≡◌, ℕ, ◌+◌, ◌<◌, ◌≤◌, List, [], ◌∷◌, map, Option, Some, None, refl, sym, ap, ◌∙◌, drop, get_or, length, arith, zero, suc}
 use Rattle.std.proofs.Common.{is_some, inl, inr}
 use Rattle.std.proofs.lemmas.Bool.{cases_lt}
-use Rattle.std.specs.List.{Contains, range_with_len, last_or}
+use Rattle.std.specs.List.{Contains, last_or}
 use Rattle.std.specs.Option.{option_map}
-use Rattle.std.proofs.lemmas.List.{length-map}
-use Rattle.std.proofs.lemmas.List.FromFn.{get_or-range_with_len, length-range_with_len}
 use Rattle.rh_rules.specs.declared.pick.Pick.{Pick}
 use Rattle.rh_rules.specs.declared.pick.Pick.TheVariants.{First, Last}
 use Rattle.rh_base.specs.Lists.{or_else, first_given}
@@ -15,7 +13,9 @@ use Rattle.std.proofs.lemmas.List.{at_drop_more, at_drop_all}
 use Rattle.rh_state.specs.Numbers.{nodes_of, apps_of}
 use Rattle.rh_model.specs.declared.node.Node.{Node}
 use Rattle.rh_model.specs.declared.node.App.{App}
+use Rattle.rh_base.proofs.Truths.{same_some}
 use Rattle.rh_model.specs.ClusterView.{ClusterView, node_count, app_count, numbered, app_numbered}
+use Rattle.rh_trace.proofs.Numbered.{length_nodes, length_apps, node_there, app_there}
 
 pub none_of_none : {A : Type 0} (pick : Pick) → None ≡ picked {A = A} pick []
 none_of_none First = refl
@@ -53,37 +53,6 @@ module _ {A B : Type 0} (pick : Pick) (f : A → List B) (items all : List A) (i
 
   pub none : length items ≤ i → None ≡ picked pick (first_given f all)
   none ge = none_of_none pick ∙ ap (picked pick) (sym (given_all f items i ge) ∙ so_far)
-
-get_or-map_here : {A B : Type 0} (f : A → B) (xs : List A) (i : ℕ) (d : A) (e : B) → i < length xs → get_or (map f xs) i e ≡ f (get_or xs i d)
-get_or-map_here f [] i d e h = absurd (omega arith)
-get_or-map_here f (x ∷ xs) zero d e h = refl
-get_or-map_here f (x ∷ xs) (suc i) d e h = get_or-map_here f xs i d e (omega arith)
-
-pub length_nodes : (c : ClusterView) → length (nodes_of c) ≡ node_count c
-unfolding nodes_of
-length_nodes c = length-map (range_with_len 0 (node_count c)) numbered ∙ length-range_with_len 0 (node_count c)
-
-pub length_apps : (c : ClusterView) → length (apps_of c) ≡ app_count c
-unfolding apps_of
-length_apps c = length-map (range_with_len 0 (app_count c)) app_numbered ∙ length-range_with_len 0 (app_count c)
-
-pub node_there : (c : ClusterView) (i : ℕ) (d : Node) → i < node_count c → get_or (nodes_of c) i d ≡ numbered i
-unfolding nodes_of
-node_there c i d lt =
-    let l : i < length (range_with_len 0 (node_count c)) = (let e = length-range_with_len 0 (node_count c) in omega arith) in
-    get_or-map_here numbered (range_with_len 0 (node_count c)) i 0 d l ∙ ap numbered (get_or-range_with_len 0 (node_count c) i 0 lt ∙ plus i)
-  where
-    plus : (i : ℕ) → 0 + i ≡ i
-    plus i = omega arith
-
-pub app_there : (c : ClusterView) (i : ℕ) (d : App) → i < app_count c → get_or (apps_of c) i d ≡ app_numbered i
-unfolding apps_of
-app_there c i d lt =
-    let l : i < length (range_with_len 0 (app_count c)) = (let e = length-range_with_len 0 (app_count c) in omega arith) in
-    get_or-map_here app_numbered (range_with_len 0 (app_count c)) i 0 d l ∙ ap app_numbered (get_or-range_with_len 0 (app_count c) i 0 lt ∙ plus i)
-  where
-    plus : (i : ℕ) → 0 + i ≡ i
-    plus i = omega arith
 
 -- the pick of moves to several nodes
 pub picked_map : {A B : Type 0} (pick : Pick) (f : A → B) (xs : List A) → picked pick (map f xs) ≡ option_map f (picked pick xs)
@@ -164,9 +133,6 @@ pub either_none : {A : Type 0} (pick : Pick) (xs ys : List A) (r : Option A) →
 either_none pick xs ys r h k = k ∙ ap (λ zs. picked pick (or_else zs ys)) (sym (none_picked pick xs (sym h)))
 
 -- what the pick takes is in the list
-pub same_some : {A : Type 0} (x y : A) → Some x ≡ Some y → x ≡ y
-same_some x y e = cc
-
 no_pick : {A P : Type 0} (y : A) → None ≡ Some y → P
 no_pick y e = cc
 

@@ -11,8 +11,8 @@ use Rattle.rh_base.proofs.Lists.{cases}
 use Rattle.rh_place.specs.Sets.{NodeBits, has}
 use Rattle.rh_place.proofs.Bits.{zero_has_none}
 use Rattle.rh_settle.specs.Boards.{is_among}
-use Rattle.rh_settle.proofs.Entries.{is_below, is_above}
-use Rattle.rh_settle.proofs.Places.{at_set_here, at_set_there}
+use Rattle.rh_trace.proofs.Entries.{is_below, is_above}
+use Rattle.rh_trace.proofs.Places.{at_set_here, at_set_there}
 
 abbrev nobody : NodeBits
 nobody = record { bits = 0 }

@@ -8,10 +8,10 @@ use Rattle.rh_rules.specs.declared.notice.Move.{Move}
 use Rattle.rh_rules.specs.Course.{Course, fresh_of}
 use Rattle.rh_rules.specs.Moves.{moved}
 use Rattle.rh_rules.specs.Settling.{IsFirst, nexts, NoneEnabled, AreFirst, Settles, pair_count, all_moved, waits_told, settled}
-use Rattle.rh_settle.proofs.Points.{points}
-use Rattle.rh_settle.proofs.Falls.{falls}
-use Rattle.rh_settle.proofs.NextFirsts.{next_are_first, still_if_none_enabled}
-use Rattle.rh_settle.proofs.NextMoves.{enabled_progresses}
+use Rattle.rh_trace.proofs.Points.{points}
+use Rattle.rh_trace.proofs.Falls.{falls}
+use Rattle.rh_trace.proofs.NextFirsts.{next_are_first, still_if_none_enabled}
+use Rattle.rh_trace.proofs.NextMoves.{enabled_progresses}
 use Rattle.rh_settle.proofs.Fuel.{state_moved, shaped_on, shaped_next, falls_next, within, unrolled, ended, by_option}
 
 -- each move of a settling takes a point

@@ -17,14 +17,15 @@ use Rattle.rh_rules.specs.declared.notice.Move.{Move}
 use Rattle.rh_rules.specs.declared.notice.Move.TheVariants.{Local, Placement, Takeover}
 use Rattle.rh_rules.specs.Course.{is_local}
 use Rattle.rh_rules.specs.Moves.{with_started, with_stopped, moved_state}
-use Rattle.rh_settle.specs.Validity.{RunsWhereItStands, IdleUnlessUp, StandsWhereItRuns, TimersFit, IsSound}
+use Rattle.rh_trace.specs.Validity.{RunsWhereItStands, IdleUnlessUp, StandsWhereItRuns, TimersFit, IsSound}
 use Rattle.rh_state.specs.Standings.{is_lost}
-use Rattle.rh_settle.proofs.Places.{at_set, at_set_here, at_set_there, or_left, or_right}
-use Rattle.rh_settle.proofs.Entries.{taken, put, has, taken_has, taken_not, put_has, either, both, same_number, other_number, row_there, length_taken}
-use Rattle.rh_settle.proofs.Entries.{length_put}
-use Rattle.rh_settle.proofs.Falls.{Progresses}
-use Rattle.rh_settle.proofs.Shapes.{shaped_moved}
-use Rattle.rh_settle.proofs.Kept.{same_running, once_moved, runs_moved}
+use Rattle.rh_base.proofs.Truths.{or_left, or_right, both, same_number}
+use Rattle.rh_trace.proofs.Places.{at_set, at_set_here, at_set_there}
+use Rattle.rh_trace.proofs.Entries.{taken, put, has, taken_has, taken_not, put_has, either, other_number, row_there, length_taken}
+use Rattle.rh_trace.proofs.Entries.{length_put}
+use Rattle.rh_trace.proofs.Falls.{Progresses}
+use Rattle.rh_trace.proofs.Shapes.{shaped_moved}
+use Rattle.rh_trace.proofs.Kept.{same_running, once_moved, runs_moved}
 
 -- ---- idle
 -- where anything is started the node is up

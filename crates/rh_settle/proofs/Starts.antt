@@ -29,9 +29,9 @@ use Rattle.rh_state.specs.declared.status.Standing.TheVariants.{Quiet}
 use Rattle.rh_settle.specs.Boards.{is_wanted, ReadyView, MarksLocals, IsReadyOf}
 use Rattle.rh_settle.proofs.Boards.{given_nowhere, no_head, unwanted_stays}
 use Rattle.rh_settle.proofs.Callers.{uncalled_stays}
-use Rattle.rh_settle.proofs.Entries.{both, same_number, is_false}
-use Rattle.rh_settle.proofs.Places.{same_refl, or_left, or_right}
-use Rattle.rh_settle.proofs.Shapes.{started_within}
+use Rattle.rh_base.proofs.Truths.{both, same_number, same_refl, or_left, or_right}
+use Rattle.rh_trace.proofs.Entries.{is_false}
+use Rattle.rh_trace.proofs.Shapes.{started_within}
 use Rattle.rh_settle.proofs.Searches.{up_to, either_none, none_of_none, none_behind}
 
 -- an application that can start gives its move, and another gives none

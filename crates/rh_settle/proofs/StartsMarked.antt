@@ -16,7 +16,8 @@ use Rattle.rh_rules.specs.Course.{is_fresh, is_local, course_of}
 use Rattle.rh_rules.specs.Moves.{can_start, local_moves}
 use Rattle.rh_settle.specs.Boards.{MarksLocals}
 use Rattle.rh_settle.specs.Starting.{StartsAreMarked}
-use Rattle.rh_settle.proofs.Entries.{both, is_false, same_number}
+use Rattle.rh_base.proofs.Truths.{both, same_number}
+use Rattle.rh_trace.proofs.Entries.{is_false}
 use Rattle.rh_settle.proofs.Starts.{each_of, no_start, one_starts, none_starts}
 
 -- ---- a set that a pair adds nothing to

@@ -9,9 +9,9 @@ use Rattle.rh_rules.specs.declared.notice.Pair.{Pair}
 use Rattle.rh_rules.specs.Course.{Course, fresh_of}
 use Rattle.rh_rules.specs.Moves.{moved}
 use Rattle.rh_rules.specs.Settling.{IsEnabled, NoneEnabled, AreFirst, settled, Settles}
-use Rattle.rh_settle.specs.Validity.{IsSound}
-use Rattle.rh_settle.proofs.Entries.{both}
-use Rattle.rh_settle.proofs.NextMoves.{all_called, enabled_progresses}
+use Rattle.rh_trace.specs.Validity.{IsSound}
+use Rattle.rh_base.proofs.Truths.{both}
+use Rattle.rh_trace.proofs.NextMoves.{all_called, enabled_progresses}
 use Rattle.rh_settle.proofs.Fuel.{state_moved}
 use Rattle.rh_settle.proofs.SettlingLaws.{settles_by_pick}
 use Rattle.rh_settle.proofs.Unchanged.{waits_told_state, moves_fresh}

@@ -5,7 +5,7 @@ use Rattle.rh_model.specs.ClusterView.{app_numbered}
 use Rattle.rh_state.specs.Numbers.{same_app}
 use Rattle.rh_base.proofs.Lists.{cases}
 use Rattle.rh_model.specs.Marks.{AppMarks, is_marked}
-use Rattle.rh_settle.proofs.Entries.{same_number}
+use Rattle.rh_base.proofs.Truths.{same_number}
 
 -- what holds of those that were taken, and of the one that is taken now, holds of all that are taken then
 pub one_taken : (P : App → Type 0) (old new : AppMarks) (x : App) → ((b : App) → is_marked new b ≡ (is_marked old b && not (same_app b x)))

@@ -14,10 +14,11 @@ use Rattle.rh_base.specs.Lists.{or_else, first_given}
 use Rattle.rh_base.proofs.Lists.{cases}
 use Rattle.rh_settle.specs.Boards.{touches_local, MarksLocals}
 use Rattle.rh_rules.specs.Course.{is_local}
-use Rattle.rh_settle.proofs.Entries.{taken, put, both, is_false, same_number, is_below, is_above}
-use Rattle.rh_settle.proofs.Every.{filter_no, filter_yes}
-use Rattle.rh_settle.proofs.Places.{at_set}
-use Rattle.rh_settle.proofs.Searches.{length_apps, app_there}
+use Rattle.rh_base.proofs.Truths.{both, same_number}
+use Rattle.rh_trace.proofs.Entries.{taken, put, is_false, is_below, is_above}
+use Rattle.rh_trace.proofs.Every.{filter_no, filter_yes}
+use Rattle.rh_trace.proofs.Places.{at_set}
+use Rattle.rh_trace.proofs.Numbered.{length_apps, app_there}
 
 -- what is given is given by the others, where this one gives nothing
 module _ {B : Type 0} (f : App → List B) (x : App) (nothing : f x ≡ []) where

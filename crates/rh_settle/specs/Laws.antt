@@ -15,7 +15,7 @@ use Rattle.rh_rules.specs.declared.notice.Pair.{Pair}
 use Rattle.rh_rules.specs.Course.{Course, is_fresh, is_local}
 use Rattle.rh_rules.specs.Moves.{comes_before}
 use Rattle.rh_rules.specs.Settling.{next_moves, IsBest, IsFirst, NoneEnabled, Settles, settled, pair_count}
-use Rattle.rh_settle.specs.Validity.{IsSound}
+use Rattle.rh_trace.specs.Validity.{IsSound}
 
 -- the settling that the pick takes is one of those that are allowed (ours)
 abbrev pub SettlesByPick : Type 0

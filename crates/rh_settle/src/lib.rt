@@ -8,20 +8,14 @@ mod app_sets;
 mod board;
 mod calls;
 mod laws;
-mod make;
 mod ready;
-pub mod recording;
 mod search;
 mod settling;
-mod trace;
 
 pub use laws::{
     few_moves, never_left_wanted, next_are_first, placed_in_first_group, quiet_and_lost_stay,
     runs_at_one_node, settles_by_pick, settling_keeps, still_if_none_enabled,
     taken_over_by_earlier_groups, waits_for_a_reason,
 };
-pub use make::make_move;
-pub use rh_rules::{Move, Notice, Pair};
 pub use search::next_move;
 pub use settling::{settle, settle_marked};
-pub use trace::Trace;

@@ -16,7 +16,7 @@ ghost use Rattle.rh_rules.specs.Moves.{can_start, local_moves};
 ghost use Rattle.rh_model.specs.Marks.{is_marked, marks_of};
 ghost use Rattle.rh_settle.specs.Boards.{is_wanted, MarksLocals, IsReadyOf};
 ghost use Rattle.rh_settle.specs.Starting.{StartsAreMarked};
-ghost use Rattle.rh_settle.specs.Traces.{IsPairOf};
+ghost use Rattle.rh_trace.specs.Traces.{IsPairOf};
 
 use crate::search::{starts, starts_at};
 use rh_model::{App, AppMarks, Node, pushed};

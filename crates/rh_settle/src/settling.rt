@@ -4,27 +4,26 @@ ghost use Rattle.std.specs.Prelude.{◌≡◌, ◌≤◌, ◌*◌, [], length, A
 ghost use Rattle.rh_state.specs.StateView.{waits_at};
 ghost use Rattle.rh_state.specs.Stored.{read};
 ghost use Rattle.rh_rules.specs.Course.{Course, fresh_of};
-ghost use Rattle.rh_settle.specs.Traces.{IsPairOf, course};
+ghost use Rattle.rh_trace.specs.Traces.{IsPairOf, course};
 ghost use Rattle.rh_settle.specs.Boards.{IsReadyOf};
 ghost use Rattle.rh_settle.specs.Starting.{StartsAreMarked};
-ghost use Rattle.rh_settle.specs.Counts.{FewEdits};
-ghost use Rattle.rh_settle.specs.Ways.{Goes};
+ghost use Rattle.rh_trace.specs.Counts.{FewEdits};
+ghost use Rattle.rh_trace.specs.Ways.{Goes};
 ghost use Rattle.rh_rules.specs.Settling.{NoneEnabled, nexts, all_moved, tell_waiting, waits_told, settled, Settles, pair_count};
-ghost use Rattle.rh_settle.specs.Validity.{RunsWhereItStands};
+ghost use Rattle.rh_trace.specs.Validity.{RunsWhereItStands};
 
 use crate::board::Board;
 use crate::calls::may_call;
-use crate::make::make_move;
 use crate::ready::Ready;
 use crate::search::next_on;
-use crate::trace::Trace;
 use rh_base::OutOfMemory;
 use rh_place::Pick;
 use rh_rules::{Notice, Pair};
 use rh_state::{Place, State};
+use rh_trace::{Trace, make_move};
 
 // Makes next moves, of which these are ready, until there is none.
-#[tactic(auto, using(crate::proofs::Ways::goes_none))]
+#[tactic(auto, using(rh_trace::proofs::Ways::goes_none))]
 fn make_ready_moves(
     state: &mut State,
     ready: Ready,
@@ -51,7 +50,7 @@ fn make_ready_moves(
 
 // Makes next moves, of which these are ready, until there is none. Behind most events nothing is ready, and no fresh pair can
 // call an application away: then no board is made, whose tables would have to be zeroed.
-#[tactic(auto, using(crate::proofs::Ways::goes_none))]
+#[tactic(auto, using(rh_trace::proofs::Ways::goes_none))]
 fn make_moves(
     state: &mut State,
     ready: Ready,
@@ -100,7 +99,7 @@ fn tell_if_waiting(state: &State, pair: Pair, trace: &mut Trace) -> Result<(), O
 }
 
 // Tells each marked pair that waits.
-#[tactic(auto, using(crate::proofs::Ways::goes_none))]
+#[tactic(auto, using(rh_trace::proofs::Ways::goes_none))]
 fn tell_waiting(state: &State, trace: &mut Trace) -> Result<(), OutOfMemory>
     requires { All (IsPairOf (read state.now).cluster) trace.old.marked }
     ensures course { OnOk result (course (read state.now) trace.new ≡ waits_told (course (read state.now) trace.old)) }

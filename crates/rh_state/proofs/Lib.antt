@@ -14,3 +14,4 @@ pub mod Records
 pub mod Tables
 pub mod Cut
 pub mod Twice
+pub mod ListWalks

@@ -5,7 +5,7 @@ use Rattle.rh_state.specs.Numbers.{nodes_of}
 use Rattle.rh_rules.specs.declared.pick.Pick.{Pick}
 use Rattle.rh_rules.specs.Course.{Course}
 use Rattle.rh_rules.specs.Settling.{settled}
-use Rattle.rh_settle.specs.Validity.{IsSound}
+use Rattle.rh_trace.specs.Validity.{IsSound}
 use Rattle.rh_rules.specs.NodesStart.{is_ready, come_up, come_up_if_ready, ready_come_up}
 use Rattle.rh_rules.specs.Steps.{ComeUp, no_node, ready, not_ready, ComesOf}
 use Rattle.rh_settle.proofs.SettlingLaws.{settles_by_pick}

@@ -4,9 +4,9 @@ use Rattle.rh_model.specs.ClusterView.{ClusterView}
 use Rattle.rh_state.specs.StateView.{StateView}
 use Rattle.rh_state.specs.declared.edit.Edit.{Edit}
 use Rattle.rh_rules.specs.declared.notice.Notice.{Notice}
-use Rattle.rh_settle.specs.Counts.{FewWeighed, weights}
-use Rattle.rh_settle.specs.Traces.{TraceView, trace_of}
-use Rattle.rh_settle.proofs.Counts.{weights_joined}
+use Rattle.rh_trace.specs.Counts.{FewWeighed, weights}
+use Rattle.rh_trace.specs.Traces.{TraceView, trace_of}
+use Rattle.rh_trace.proofs.Counts.{weights_joined}
 use Rattle.rh_rules.specs.declared.event.Event.{Event}
 use Rattle.rh_rules.specs.declared.event.Event.TheVariants.{Boot, Crash, Tick, Start, Stop, Permit, Takeover, Exit, StartAll, StopAll}
 use Rattle.rh_events.specs.Counts.{own_edits}

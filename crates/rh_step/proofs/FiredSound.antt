@@ -7,9 +7,9 @@ use Rattle.rh_state.specs.StateView.{earliest}
 use Rattle.rh_state.specs.Setters.{with_time}
 use Rattle.rh_rules.specs.declared.pick.Pick.{Pick}
 use Rattle.rh_rules.specs.Course.{Course}
-use Rattle.rh_settle.specs.Validity.{IsSound}
+use Rattle.rh_trace.specs.Validity.{IsSound}
 use Rattle.rh_rules.specs.Time.{due_by, fired, fired_by, all_fired}
-use Rattle.rh_events.proofs.TimersToldApart.{IsInOrder}
+use Rattle.rh_trace.proofs.TimersToldApart.{IsInOrder}
 use Rattle.rh_step.proofs.TakenOff.{sound_at}
 use Rattle.rh_step.proofs.Fuel.{timer_count, goes, by_found, nothing_due, fired_fewer, sound_fired, sound_all_fired}
 

@@ -5,7 +5,7 @@ use Rattle.rh_state.specs.Limits.{time_limit}
 use Rattle.rh_state.specs.StateView.{earliest}
 use Rattle.rh_rules.specs.declared.pick.Pick.{Pick}
 use Rattle.rh_rules.specs.Course.{Course}
-use Rattle.rh_settle.specs.Validity.{IsSound}
+use Rattle.rh_trace.specs.Validity.{IsSound}
 use Rattle.rh_rules.specs.Time.{due_by, effect, taken_off, fired, fired_by, all_fired}
 use Rattle.rh_rules.specs.Steps.{ComesOf, Fires, none_due, one_due}
 use Rattle.rh_step.proofs.Comes.{comes_of}

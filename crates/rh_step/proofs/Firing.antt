@@ -12,8 +12,8 @@ use Rattle.rh_state.specs.Setters.{with_time, without_due}
 use Rattle.rh_state.specs.StateView.{StateView, standing_of, due_of, earliest, running_at, waiting_at}
 use Rattle.rh_rules.specs.declared.notice.Pair.{Pair}
 use Rattle.rh_rules.specs.Course.{Course}
-use Rattle.rh_settle.specs.Traces.{IsPairOf}
-use Rattle.rh_settle.specs.Validity.{IsSound}
+use Rattle.rh_trace.specs.Traces.{IsPairOf}
+use Rattle.rh_trace.specs.Validity.{IsSound}
 use Rattle.rh_rules.specs.NodesStart.{all_alive, come_up}
 use Rattle.rh_rules.specs.NodesEnd.{ended, wanted_if_lost}
 use Rattle.rh_events.proofs.Losing.{due_without_sync}

@@ -14,11 +14,11 @@ use Rattle.rh_model.specs.ClusterView.{mandatory_of}
 use Rattle.rh_rules.specs.declared.pick.Pick.{Pick}
 use Rattle.rh_rules.specs.Course.{Course, course_of}
 use Rattle.rh_rules.specs.NodesStart.{all_alive, come_up, ready_come_up}
-use Rattle.rh_settle.specs.Validity.{IsSound}
-use Rattle.rh_settle.proofs.Behind.{after_notices}
+use Rattle.rh_trace.specs.Validity.{IsSound}
+use Rattle.rh_trace.proofs.Behind.{after_notices}
 use Rattle.rh_settle.proofs.Unchanged.{settled_time}
 use Rattle.rh_rules.specs.NodesEnd.{ended, wanted_if_lost}
-use Rattle.rh_events.proofs.Accepted.{accepted_tick}
+use Rattle.rh_refusals.proofs.Accepted.{accepted_tick}
 use Rattle.rh_events.proofs.Fields.{ended_time}
 use Rattle.rh_events.proofs.SoundComingUp.{come_up_time, ready_come_up_time}
 use Rattle.rh_rules.specs.Time.{due_by, effect, taken_off, fired, fired_by, all_fired, ticked}

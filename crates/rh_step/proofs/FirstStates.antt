@@ -18,11 +18,11 @@ use Rattle.rh_state.specs.StateView.{mode_of, is_waiting, running_at, waiting_at
 use Rattle.rh_state.specs.Tables.{row}
 use Rattle.rh_state.proofs.FirstStates.{IsShaped-first}
 use Rattle.rh_base.specs.Lists.{or_else, first_given}
-use Rattle.rh_settle.proofs.NextFirsts.{still_if_none_enabled}
-use Rattle.rh_settle.proofs.Searches.{length_nodes, node_there}
+use Rattle.rh_trace.proofs.NextFirsts.{still_if_none_enabled}
+use Rattle.rh_trace.proofs.Numbered.{length_nodes, node_there}
 use Rattle.rh_rules.specs.Moves.{local_move, local_moves, placements, placements_from, takeovers, takeovers_from}
 use Rattle.rh_rules.specs.Settling.{next_moves}
-use Rattle.rh_settle.specs.Validity.{TimersFit, IsSound, IsValid}
+use Rattle.rh_trace.specs.Validity.{TimersFit, IsSound, IsValid}
 use Rattle.rh_state.specs.Standings.{is_lost}
 use Rattle.rh_rules.specs.NodesStart.{is_ready}
 

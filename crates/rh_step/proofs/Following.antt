@@ -6,9 +6,9 @@ use Rattle.rh_rules.specs.Course.{Course}
 use Rattle.rh_rules.specs.NodesStart.{ready_come_up}
 use Rattle.rh_rules.specs.Refusals.{refused}
 use Rattle.rh_rules.specs.Steps.{change}
-use Rattle.rh_settle.specs.Counts.{FewWeighed}
-use Rattle.rh_settle.specs.Traces.{TraceView, IsPairOf}
-use Rattle.rh_settle.specs.Validity.{RunsWhereItStands, IsSound}
+use Rattle.rh_trace.specs.Counts.{FewWeighed}
+use Rattle.rh_trace.specs.Traces.{TraceView, IsPairOf}
+use Rattle.rh_trace.specs.Validity.{RunsWhereItStands, IsSound}
 use Rattle.rh_events.proofs.EachEvent.{change_cluster, sound_changed, marked_changed}
 use Rattle.rh_events.proofs.SoundComingUp.{sound_ready_come_up, ready_come_up_cluster}
 use Rattle.rh_events.proofs.Marked.{marked_ready_come_up}

@@ -20,7 +20,7 @@ use Rattle.rh_state.specs.StateView.{StateView, mode_of, is_waiting, is_up, runs
 use Rattle.rh_rules.specs.declared.pick.Pick.{Pick}
 use Rattle.rh_base.proofs.Lists.{cases}
 use Rattle.rh_rules.specs.Course.{Course}
-use Rattle.rh_settle.specs.Validity.{IsSound}
+use Rattle.rh_trace.specs.Validity.{IsSound}
 use Rattle.rh_rules.specs.NodesStart.{all_alive, come_up, ready_come_up}
 use Rattle.rh_rules.specs.NodesEnd.{ended, wanted_if_lost}
 use Rattle.rh_rules.specs.Time.{due_by, effect, taken_off, fired, go_on, fired_by, all_fired}
@@ -28,7 +28,7 @@ use Rattle.rh_events.proofs.TimersFall.{come_up_timers, ended_timers, ready_time
 use Rattle.rh_settle.proofs.Unchanged.{settled_timers}
 use Rattle.rh_events.proofs.SoundComingUp.{sound_ready_come_up}
 use Rattle.rh_settle.proofs.Still.{settled_sound}
-use Rattle.rh_events.proofs.TimersToldApart.{same_self}
+use Rattle.rh_trace.proofs.TimersToldApart.{same_self}
 use Rattle.rh_step.proofs.TakenOff.{waits_to_end, sound_effect}
 
 abbrev pub timer_count : Course → ℕ

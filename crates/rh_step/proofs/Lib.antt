@@ -8,7 +8,6 @@ pub mod AnyTime
 pub mod TickedValid
 pub mod FiresAll
 pub mod TimeLaws
-pub mod StayUp
 pub mod FirstStates
 pub mod Validity
 pub mod Outcomes
@@ -23,14 +22,6 @@ mod RowsTime
 mod RowsByItself
 mod RowsEverywhere
 mod RowsPermissions
-pub mod Stops
-pub mod EndedWaits
-pub mod LostStays
-pub mod LostInTime
-pub mod QuietStays
-pub mod StartedStays
-pub mod Everywhere
-pub mod PullsBack
 pub mod FiringsTold
 pub mod StartsFewer
 pub mod StartsKept

@@ -9,7 +9,7 @@ use Rattle.rh_rules.specs.declared.event.Event.{Event}
 use Rattle.rh_rules.specs.declared.event.Event.TheVariants.{Tick}
 use Rattle.rh_rules.specs.NodesStart.{ready_come_up}
 use Rattle.rh_rules.specs.Steps.{change, followed, next_from}
-use Rattle.rh_settle.proofs.Behind.{after_notices, settled_after}
+use Rattle.rh_trace.proofs.Behind.{after_notices, settled_after}
 use Rattle.rh_events.proofs.EachEvent.{change_after}
 use Rattle.rh_events.proofs.Notices.{ready_come_up_after}
 use Rattle.rh_step.proofs.TickLaws.{ticked_after}

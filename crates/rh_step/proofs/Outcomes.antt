@@ -4,13 +4,13 @@ use Rattle.rh_state.specs.Limits.{time_limit}
 use Rattle.rh_state.specs.StateView.{StateView}
 use Rattle.rh_rules.specs.declared.pick.Pick.{Pick}
 use Rattle.rh_rules.specs.Course.{course_of}
-use Rattle.rh_settle.specs.Validity.{IsSound, IsValid}
+use Rattle.rh_trace.specs.Validity.{IsSound, IsValid}
 use Rattle.rh_rules.specs.declared.event.Event.{Event}
 use Rattle.rh_rules.specs.declared.event.Event.TheVariants.{Tick}
 use Rattle.rh_rules.specs.Steps.{change, followed, outcome_of, next, Happens, Passes, Follows, Allowed}
 use Rattle.rh_rules.specs.Refusals.{refused}
 use Rattle.rh_rules.specs.Time.{all_fired, ticked}
-use Rattle.rh_events.proofs.Accepted.{accepted_tick}
+use Rattle.rh_refusals.proofs.Accepted.{accepted_tick}
 use Rattle.rh_events.proofs.EachEvent.{sound_changed}
 use Rattle.rh_step.proofs.Comes.{comes_of}
 use Rattle.rh_step.proofs.FiresAll.{all_fire}

@@ -4,13 +4,13 @@ use Rattle.rh_state.specs.StateView.{StateView}
 use Rattle.rh_state.specs.declared.edit.Edit.{Edit}
 use Rattle.rh_rules.specs.declared.pick.Pick.{Pick}
 use Rattle.rh_rules.specs.declared.notice.Notice.{Notice}
-use Rattle.rh_settle.specs.Traces.{TraceView, trace_of, course}
+use Rattle.rh_trace.specs.Traces.{TraceView, trace_of, course}
 use Rattle.rh_rules.specs.Course.{course_of}
 use Rattle.rh_rules.specs.declared.event.Event.{Event}
 use Rattle.rh_rules.specs.Refusals.{refused}
 use Rattle.rh_rules.specs.Steps.{Outcome, outcome, outcome_of, next_from, next, Allowed}
-use Rattle.rh_settle.specs.Validity.{IsValid}
-use Rattle.rh_settle.proofs.Behind.{after_notices}
+use Rattle.rh_trace.specs.Validity.{IsValid}
+use Rattle.rh_trace.proofs.Behind.{after_notices}
 use Rattle.rh_step.proofs.NextAfter.{next_after}
 use Rattle.rh_step.proofs.Outcomes.{next_allowed}
 use Rattle.rh_step.proofs.Validity.{next_valid}

@@ -1,2 +1,2 @@
 -- What no event is refused for, for those who keep steps.
-pub use Rattle.rh_events.proofs.Reasons.{is_memory, never_memory}
+pub use Rattle.rh_refusals.proofs.Reasons.{is_memory, never_memory}

@@ -27,8 +27,9 @@ use Rattle.rh_rules.specs.Marking.{with_distributed_standing}
 use Rattle.rh_rules.specs.NodesStart.{with_sync_timer, booted}
 use Rattle.rh_rules.specs.NodesEnd.{timeout_of, cleared, lost_at, lost_from, lost_if_ran, all_lost, wanted_if_lost}
 use Rattle.rh_rules.specs.ByHand.{is_started_anywhere, quiet_if_nowhere}
-use Rattle.rh_settle.proofs.Entries.{both, same_number, has, taken, taken_has, put_has}
-use Rattle.rh_settle.proofs.Places.{at_set}
+use Rattle.rh_base.proofs.Truths.{both, same_number}
+use Rattle.rh_trace.proofs.Entries.{has, taken, taken_has, put_has}
+use Rattle.rh_trace.proofs.Places.{at_set}
 use Rattle.rh_events.proofs.SoundEnding.{emptied_row, emptied_has}
 
 -- ---- what an application needs to start

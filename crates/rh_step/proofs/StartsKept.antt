@@ -26,9 +26,10 @@ use Rattle.rh_rules.specs.Everywhere.{targets, start_at, start_all, leave_at, le
 use Rattle.rh_rules.specs.Time.{effect, taken_off}
 use Rattle.rh_rules.specs.Steps.{change}
 use Rattle.rh_settle.specs.Starting.{StartsAreMarked}
-use Rattle.rh_settle.specs.Validity.{IsValid}
-use Rattle.rh_settle.proofs.Entries.{put_has, row_there}
-use Rattle.rh_settle.proofs.Places.{same_refl, or_left, or_right, or_true}
+use Rattle.rh_trace.specs.Validity.{IsValid}
+use Rattle.rh_trace.proofs.Entries.{put_has, row_there}
+use Rattle.rh_base.proofs.Truths.{same_refl, or_left, or_right}
+use Rattle.rh_trace.proofs.Places.{or_true}
 use Rattle.rh_events.proofs.Marks.{wanted_any}
 use Rattle.rh_step.specs.Starting.{may_let_start}
 use Rattle.rh_step.proofs.StartsFewer.{could_start, is_permitted, StartsFewer, alike, restood_fewer, booted_fewer, ended_fewer, unlisted_fewer}

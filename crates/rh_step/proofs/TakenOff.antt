@@ -19,19 +19,19 @@ use Rattle.rh_state.specs.StateView.{StateView, mode_of, standing_of, earliest, 
 use Rattle.rh_state.specs.Setters.{with_time, with_mode, with_standing, without_due}
 use Rattle.rh_rules.specs.declared.notice.Notice.TheVariants as notice
 use Rattle.rh_rules.specs.Course.{Course, course_of, told, now_in}
-use Rattle.rh_settle.specs.Validity.{IsSound, TimersFit}
+use Rattle.rh_trace.specs.Validity.{IsSound, TimersFit}
 use Rattle.rh_state.specs.Standings.{is_lost}
-use Rattle.rh_settle.proofs.Every.{filter_yes}
-use Rattle.rh_settle.proofs.Shapes.{shaped_timers, shaped_time, shaped_standing, stands_known}
-use Rattle.rh_settle.proofs.Places.{at_set_here, at_set_there, at_set}
+use Rattle.rh_trace.proofs.Every.{filter_yes}
+use Rattle.rh_trace.proofs.Shapes.{shaped_timers, shaped_time, shaped_standing, stands_known}
+use Rattle.rh_trace.proofs.Places.{at_set_here, at_set_there, at_set}
 use Rattle.rh_rules.specs.NodesStart.{all_alive, come_up}
 use Rattle.rh_rules.specs.Marking.{mark_all}
 use Rattle.rh_rules.specs.NodesEnd.{cleared, emptied, with_configured, all_lost, ended, wanted_if_lost}
 use Rattle.rh_rules.specs.Time.{effect, taken_off}
 use Rattle.rh_events.proofs.SoundComingUp.{sound_come_up}
 use Rattle.rh_events.proofs.SoundEnding.{sound_ended}
-use Rattle.rh_events.proofs.TimersToldApart.{is_set, same_self, set-cons, unset-without, set-without_other, once-without, order-without, All-without}
-use Rattle.rh_events.proofs.TimersToldApart.{least-first}
+use Rattle.rh_trace.proofs.TimersToldApart.{is_set, same_self, set-cons, unset-without, set-without_other, once-without, order-without, All-without}
+use Rattle.rh_trace.proofs.TimersToldApart.{least-first}
 
 -- time passes up to where no timer is due before it
 pub sound_at : (s : StateView) (due : ℕ) → due ≤ time_limit → IsSound s → All (λ entry. due ≤ entry.0) s.timers → IsSound (with_time s due)

@@ -12,7 +12,7 @@ use Rattle.rh_rules.specs.declared.pick.Pick.{Pick}
 use Rattle.rh_rules.specs.declared.notice.Notice.{Notice}
 use Rattle.rh_rules.specs.Course.{Course, course_of, now_in}
 use Rattle.rh_rules.specs.Settling.{settled}
-use Rattle.rh_settle.specs.Validity.{IsSound}
+use Rattle.rh_trace.specs.Validity.{IsSound}
 use Rattle.rh_rules.specs.declared.event.Event.TheVariants.{Tick}
 use Rattle.rh_rules.specs.NodesStart.{all_alive, come_up, ready_come_up}
 use Rattle.rh_rules.specs.NodesEnd.{ended}
@@ -21,8 +21,8 @@ use Rattle.rh_rules.specs.Refusals.{first_that_applies, refused}
 use Rattle.rh_rules.specs.Time.{due_by, effect, taken_off, fired, fired_by, all_fired, ticked}
 use Rattle.rh_rules.specs.Steps.{Outcome, outcome, outcome_of, next}
 use Rattle.rh_step.specs.Laws.{TicksAddUp}
-use Rattle.rh_events.proofs.Accepted.{accepted_tick}
-use Rattle.rh_settle.proofs.Behind.{after_notices, settled_after}
+use Rattle.rh_refusals.proofs.Accepted.{accepted_tick}
+use Rattle.rh_trace.proofs.Behind.{after_notices, settled_after}
 use Rattle.rh_events.proofs.Notices.{come_up_after, ended_after, ready_come_up_after}
 use Rattle.rh_step.proofs.Fuel.{timer_count, goes, by_found, unrolled, all_fired_end, sound_fired}
 use Rattle.rh_step.proofs.FiredSound.{sound_before_end}

@@ -7,10 +7,10 @@ use Rattle.rh_state.specs.Setters.{with_time}
 use Rattle.rh_rules.specs.declared.pick.Pick.{Pick}
 use Rattle.rh_rules.specs.Course.{Course, course_of, fresh_of}
 use Rattle.rh_rules.specs.Settling.{settled}
-use Rattle.rh_settle.specs.Validity.{IsSound, IsValid}
+use Rattle.rh_trace.specs.Validity.{IsSound, IsValid}
 use Rattle.rh_rules.specs.NodesStart.{ready_come_up}
 use Rattle.rh_rules.specs.Time.{due_by, effect, taken_off, fired, all_fired, ticked}
-use Rattle.rh_settle.proofs.NextFirsts.{still_if_none_enabled}
+use Rattle.rh_trace.proofs.NextFirsts.{still_if_none_enabled}
 use Rattle.rh_settle.proofs.Still.{settled_sound, settled_still, still_afterwards}
 use Rattle.rh_settle.proofs.Unchanged.{settled_cluster, settled_modes}
 use Rattle.rh_events.proofs.SoundComingUp.{sound_ready_come_up}

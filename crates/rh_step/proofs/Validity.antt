@@ -3,12 +3,12 @@ use Rattle.std.proofs.Common.{◌≡◌, [], None}
 use Rattle.rh_state.specs.StateView.{StateView}
 use Rattle.rh_rules.specs.declared.pick.Pick.{Pick}
 use Rattle.rh_rules.specs.Course.{Course, course_of}
-use Rattle.rh_settle.specs.Validity.{IsSound, IsValid}
+use Rattle.rh_trace.specs.Validity.{IsSound, IsValid}
 use Rattle.rh_rules.specs.declared.event.Event.{Event}
 use Rattle.rh_rules.specs.declared.event.Event.TheVariants.{Tick}
 use Rattle.rh_rules.specs.Steps.{change, followed, next}
 use Rattle.rh_rules.specs.Refusals.{refused}
-use Rattle.rh_events.proofs.Accepted.{accepted_tick}
+use Rattle.rh_refusals.proofs.Accepted.{accepted_tick}
 use Rattle.rh_events.proofs.EachEvent.{sound_changed}
 use Rattle.rh_step.proofs.TickedValid.{comes_valid, ticked_valid}
 

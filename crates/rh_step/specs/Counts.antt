@@ -1,7 +1,7 @@
 -- How many edits a step keeps (ours).
 use Rattle.std.specs.Prelude.{ℕ, ◌+◌, ◌-◌, ◌*◌, length}
 use Rattle.rh_state.specs.StateView.{StateView}
-use Rattle.rh_settle.specs.Counts.{weights}
+use Rattle.rh_trace.specs.Counts.{weights}
 use Rattle.rh_rules.specs.declared.event.Event.{Event}
 use Rattle.rh_rules.specs.declared.event.Event.TheVariants.{Tick}
 use Rattle.rh_events.specs.Counts.{own_edits}

@@ -2,3 +2,4 @@ pub mod Firings
 pub mod Laws
 pub mod Counts
 pub mod Starting
+pub mod Runs

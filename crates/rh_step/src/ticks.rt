@@ -10,10 +10,10 @@ ghost use Rattle.rh_state.specs.Shape.{IsNodeOf, IsTimerOf};
 ghost use Rattle.rh_state.specs.Stored.{read};
 ghost use Rattle.rh_state.specs.declared.status.Standing.TheVariants.{Running};
 ghost use Rattle.rh_state.specs.declared.status.Timer.TheVariants.{Sync, Failover};
-ghost use Rattle.rh_settle.specs.Traces.{course};
-ghost use Rattle.rh_settle.specs.Validity.{IsValid};
-ghost use Rattle.rh_settle.specs.Counts.{FewEdits, FewWeighed};
-ghost use Rattle.rh_settle.specs.Ways.{Goes};
+ghost use Rattle.rh_trace.specs.Traces.{course};
+ghost use Rattle.rh_trace.specs.Validity.{IsValid};
+ghost use Rattle.rh_trace.specs.Counts.{FewEdits, FewWeighed};
+ghost use Rattle.rh_trace.specs.Ways.{Goes};
 ghost use Rattle.rh_rules.specs.Time.{due_by, effect, taken_off, fired, all_fired, ticked};
 ghost use Rattle.rh_rules.specs.NodesEnd.{wanted_if_lost};
 
@@ -22,11 +22,11 @@ use rh_base::OutOfMemory;
 use rh_events::{all_alive, cancel_if_set, come_up, end};
 use rh_model::{App, Node};
 use rh_rules::Pick;
-use rh_settle::{Trace, recording};
 use rh_state::{Standing, State, Timer};
+use rh_trace::{Trace, recording};
 
 /// So many milliseconds pass.
-#[tactic(auto, unfolding(rh_rules::specs::Time::ticked), using(rh_settle::proofs::Ways::goes_more))]
+#[tactic(auto, unfolding(rh_rules::specs::Time::ticked), using(rh_trace::proofs::Ways::goes_more))]
 pub fn pass_time(
     state: &mut State,
     ms: u64,
@@ -45,7 +45,7 @@ pub fn pass_time(
 }
 
 // The timers that are due by the limit fire, one after the other.
-#[tactic(auto, using(rh_settle::proofs::Ways::goes_none))]
+#[tactic(auto, using(rh_trace::proofs::Ways::goes_none))]
 fn fire_due(state: &mut State, limit: u64, pick: Pick, trace: &mut Trace) -> Result<(), OutOfMemory>
     requires limit { limit ≤ time_limit }
     requires valid { IsValid (read state.old) }
@@ -72,7 +72,7 @@ pub(crate) fn due_by(state: &State, limit: u64) -> Option<(u64, Timer)>
 }
 
 // The timer is taken off, it is as late as it was due, and no pair is fresh any longer.
-#[tactic(auto, using(rh_settle::proofs::Ways::goes_marked, rh_settle::proofs::Ways::goes_more))]
+#[tactic(auto, using(rh_trace::proofs::Ways::goes_marked, rh_trace::proofs::Ways::goes_more))]
 fn take_off(state: &mut State, due: u64, timer: Timer, trace: &mut Trace) -> Result<(), OutOfMemory>
     requires due { due ≤ time_limit }
     requires timer { IsTimerOf (read state.old).cluster timer }
@@ -87,7 +87,7 @@ fn take_off(state: &mut State, due: u64, timer: Timer, trace: &mut Trace) -> Res
 }
 
 // The timer that is set first fires, and what follows from it happens.
-#[tactic(auto, unfolding(rh_rules::specs::Time::fired), using(rh_settle::proofs::Ways::goes_more))]
+#[tactic(auto, unfolding(rh_rules::specs::Time::fired), using(rh_trace::proofs::Ways::goes_more))]
 pub(crate) fn fire(
     state: &mut State,
     due: u64,
@@ -142,7 +142,7 @@ fn end_wait(state: &mut State, node: Node, trace: &mut Trace) -> Result<(), OutO
 }
 
 // An application that is lost is wanted.
-#[tactic(auto, using(rh_settle::proofs::Ways::goes_none))]
+#[tactic(auto, using(rh_trace::proofs::Ways::goes_none))]
 fn want_if_lost(state: &mut State, app: App, trace: &mut Trace) -> Result<(), OutOfMemory>
     requires { app.0 < app_count (read state.old).cluster }
     ensures part { OnOk result (read state.new ≡ wanted_if_lost (read state.old) app (standing_of (read state.old) app)) }

@@ -1,6 +1,5 @@
 pub mod Beyond
 pub mod Joined
-pub mod BootsReady
 pub mod Untouched
 pub mod Ranks
 pub mod Unlikely

@@ -15,9 +15,9 @@ use Rattle.rh_state.specs.Numbers.{nodes_of}
 use Rattle.rh_state.specs.StateView.{StateView}
 use Rattle.rh_rules.specs.Moves.{comes_before}
 use Rattle.rh_rules.specs.declared.event.Event.{Event}
-use Rattle.rh_step_lint.specs.Candidates.{ranks_before, is_in_tuple, is_available, is_outranked}
-use Rattle.rh_step_lint.specs.Pairs.{is_behind_tuple}
-use Rattle.rh_step_lint.specs.Ranked.{is_free, groups_at, best_place}
+use Rattle.rh_step_findings.specs.Candidates.{ranks_before, is_in_tuple, is_available, is_outranked}
+use Rattle.rh_step_findings.specs.Pairs.{is_behind_tuple}
+use Rattle.rh_step_findings.specs.Ranked.{is_free, groups_at, best_place}
 use Rattle.rh_step_lint.proofs.Beyond.{spread_beyond}
 
 -- ---- lists

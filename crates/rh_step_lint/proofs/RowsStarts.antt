@@ -7,14 +7,14 @@ use Rattle.rh_state.specs.declared.status.Mode.TheVariants.{Up, Down}
 use Rattle.rh_state.specs.declared.status.Standing.TheVariants.{Wanted, Running, Lost}
 use Rattle.rh_state.specs.declared.status.Timer.TheVariants.{Failover}
 use Rattle.rh_rules.specs.declared.event.Event.TheVariants.{Boot, Crash, Tick, Start, StartAll}
-use Rattle.rh_step_lint.specs.After.{comes_up, ends, is_up_after, starts_now, is_started_after, is_permitted_after}
-use Rattle.rh_step_lint.specs.Candidates.{is_in_tuple, takes_part, is_available, is_outranked, is_best, asks_all, is_idle, holds_up}
-use Rattle.rh_step_lint.specs.Tries.{runner, fails_over, is_called, is_permitted_by, tries, stays, asks_others}
-use Rattle.rh_step_lint.specs.Others.{stands_so, other_so}
-use Rattle.rh_step_lint.specs.Lacks.{boots_before, lacks_so, lacking_so}
-use Rattle.rh_step_lint.specs.Pairs.{found, is_behind, starts_forbidden, starts_below, takes_back, starts_quiet, is_behind_tuple, is_placed_behind_tuple, permits_quiet, forbids, forbids_runner, forbids_last, forbids_twice, stops_forbidden, boots_now, boots_to_run, awaited, given_up, lost_with, is_helped, is_booted_with_phases, goes_to, ends_with, moves_unready}
-use Rattle.rh_step_lint.specs.declared.code.Code.TheVariants as code
-use Rattle.rh_step_lint.specs.declared.finding.StepFinding.TheVariants.{BetterNodeNotStarted, TupleMemberNotStarted, WorseNodeNotStarted, ForbiddenStartWaits, RunsAtAWorseNode, TupleTakeover, BetterNodeWaitsQuiet, WeightsForEver}
+use Rattle.rh_step_findings.specs.After.{comes_up, ends, is_up_after, starts_now, is_started_after, is_permitted_after}
+use Rattle.rh_step_findings.specs.Candidates.{is_in_tuple, takes_part, is_available, is_outranked, is_best, asks_all, is_idle, holds_up}
+use Rattle.rh_step_findings.specs.Tries.{runner, fails_over, is_called, is_permitted_by, tries, stays, asks_others}
+use Rattle.rh_step_findings.specs.Others.{stands_so, other_so}
+use Rattle.rh_step_findings.specs.Lacks.{boots_before, lacks_so, lacking_so}
+use Rattle.rh_step_findings.specs.Pairs.{found, is_behind, starts_forbidden, starts_below, takes_back, starts_quiet, is_behind_tuple, is_placed_behind_tuple, permits_quiet, forbids, forbids_runner, forbids_last, forbids_twice, stops_forbidden, boots_now, boots_to_run, awaited, given_up, lost_with, is_helped, is_booted_with_phases, goes_to, ends_with, moves_unready}
+use Rattle.rh_step_findings.specs.declared.code.Code.TheVariants as code
+use Rattle.rh_step_findings.specs.declared.finding.StepFinding.TheVariants.{BetterNodeNotStarted, TupleMemberNotStarted, WorseNodeNotStarted, ForbiddenStartWaits, RunsAtAWorseNode, TupleTakeover, BetterNodeWaitsQuiet, WeightsForEver}
 use Rattle.rh_step_lint.proofs.Scene.{n1, n2, n3, n4, db, web, shop, site, all_up, none, all_quiet, web_at, shop_at, site_at, scene, forbidden_at_n1}
 
 -- ---- a start waits for another node

@@ -14,20 +14,20 @@ use Rattle.rh_model.specs.declared.settings.Spread.{Spread}
 use Rattle.rh_state.specs.Numbers.{same_node, nodes_of, apps_of}
 use Rattle.rh_state.specs.StateView.{StateView}
 use Rattle.rh_rules.specs.declared.event.Event.{Event}
-use Rattle.rh_step_lint.specs.After.{is_up_after, is_started_after, is_permitted_after}
-use Rattle.rh_step_lint.specs.Candidates.{ranks_before, share_group, is_available, is_outranked, is_best, asks_all, is_idle, holds_up}
-use Rattle.rh_step_lint.specs.Tries.{runner, tries, is_open_from, asks_others}
-use Rattle.rh_step_lint.specs.Others.{stands_so, other_so}
-use Rattle.rh_step_lint.specs.Lacks.{lacks_so, lacking_so}
-use Rattle.rh_step_lint.specs.Pairs.{found, is_behind, starts_forbidden, starts_below, takes_back, is_behind_tuple, is_placed_behind_tuple, boots_now, boots_to_run, goes_to, permits_quiet, forbids_runner, forbids_last, forbids_twice}
-use Rattle.rh_step_lint.specs.Ranked.{is_free, is_spare, has_spare}
-use Rattle.rh_step_lint.specs.Touched.{has_needs, trial_of, touch_of, may_speak, found_in, is_touched, touched_with, touched_at, all_touched}
-use Rattle.rh_step_lint.specs.declared.code.Code.{Code}
-use Rattle.rh_step_lint.specs.declared.code.Code.TheVariants as code
-use Rattle.rh_step_lint.specs.declared.lack.Lack.{Lack}
-use Rattle.rh_step_lint.specs.declared.lack.Lack.TheVariants.{Forbidden, Later, Elsewhere, Gone}
-use Rattle.rh_step_lint.specs.declared.touch.Touch.{Touch}
-use Rattle.rh_step_lint.specs.declared.relation.Relation.TheVariants.{BetterIdle, TupleIdle, WorseIdle}
+use Rattle.rh_step_findings.specs.After.{is_up_after, is_started_after, is_permitted_after}
+use Rattle.rh_step_findings.specs.Candidates.{ranks_before, share_group, is_available, is_outranked, is_best, asks_all, is_idle, holds_up}
+use Rattle.rh_step_findings.specs.Tries.{runner, tries, is_open_from, asks_others}
+use Rattle.rh_step_findings.specs.Others.{stands_so, other_so}
+use Rattle.rh_step_findings.specs.Lacks.{lacks_so, lacking_so}
+use Rattle.rh_step_findings.specs.Pairs.{found, is_behind, starts_forbidden, starts_below, takes_back, is_behind_tuple, is_placed_behind_tuple, boots_now, boots_to_run, goes_to, permits_quiet, forbids_runner, forbids_last, forbids_twice}
+use Rattle.rh_step_findings.specs.Ranked.{is_free, is_spare, has_spare}
+use Rattle.rh_step_findings.specs.Touched.{has_needs, trial_of, touch_of, may_speak, found_in, is_touched, touched_with, touched_at, all_touched}
+use Rattle.rh_step_findings.specs.declared.code.Code.{Code}
+use Rattle.rh_step_findings.specs.declared.code.Code.TheVariants as code
+use Rattle.rh_step_findings.specs.declared.lack.Lack.{Lack}
+use Rattle.rh_step_findings.specs.declared.lack.Lack.TheVariants.{Forbidden, Later, Elsewhere, Gone}
+use Rattle.rh_step_findings.specs.declared.touch.Touch.{Touch}
+use Rattle.rh_step_findings.specs.declared.relation.Relation.TheVariants.{BetterIdle, TupleIdle, WorseIdle}
 use Rattle.rh_step_lint.proofs.Ranks.{member}
 use Rattle.rh_step_lint.proofs.Untouched.{permits_not, forbids_not, stops_not, moves_not, ends_not}
 

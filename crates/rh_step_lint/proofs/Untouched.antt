@@ -13,14 +13,14 @@ use Rattle.rh_rules.specs.Course.{is_local}
 use Rattle.rh_rules.specs.Everywhere.{is_target}
 use Rattle.rh_rules.specs.declared.event.Event.{Event}
 use Rattle.rh_rules.specs.declared.event.Event.TheVariants.{Start, Stop, Permit, Takeover, Exit, StartAll}
-use Rattle.rh_step_lint.specs.After.{comes_up, ends, boots, is_started_by, starts_now}
-use Rattle.rh_step_lint.specs.Tries.{fails_over, is_called, is_permitted_by, tries, asks_others}
-use Rattle.rh_step_lint.specs.Pairs.{found, starts_forbidden, starts_below, takes_back, starts_quiet, is_placed_behind_tuple, permits_quiet, forbids, forbids_runner, forbids_last, forbids_twice, stops_forbidden, boots_now, boots_to_run, is_helped, is_booted_with_phases, goes_to, ends_with, moves_unready}
-use Rattle.rh_step_lint.specs.Findings.{found_with, found_at, found_of}
-use Rattle.rh_step_lint.specs.Touched.{names, is_touched, touched_with, touched_at, all_touched, found_in, names_app, moves, mover, all_movers}
-use Rattle.rh_step_lint.specs.declared.code.Code.{Code}
-use Rattle.rh_step_lint.specs.declared.code.Code.TheVariants as code
-use Rattle.rh_step_lint.specs.declared.touch.Touch.{Touch}
+use Rattle.rh_step_findings.specs.After.{comes_up, ends, boots, is_started_by, starts_now}
+use Rattle.rh_step_findings.specs.Tries.{fails_over, is_called, is_permitted_by, tries, asks_others}
+use Rattle.rh_step_findings.specs.Pairs.{found, starts_forbidden, starts_below, takes_back, starts_quiet, is_placed_behind_tuple, permits_quiet, forbids, forbids_runner, forbids_last, forbids_twice, stops_forbidden, boots_now, boots_to_run, is_helped, is_booted_with_phases, goes_to, ends_with, moves_unready}
+use Rattle.rh_step_findings.specs.Findings.{found_with, found_at, found_of}
+use Rattle.rh_step_findings.specs.Touched.{names, is_touched, touched_with, touched_at, all_touched, found_in, names_app, moves, mover, all_movers}
+use Rattle.rh_step_findings.specs.declared.code.Code.{Code}
+use Rattle.rh_step_findings.specs.declared.code.Code.TheVariants as code
+use Rattle.rh_step_findings.specs.declared.touch.Touch.{Touch}
 
 -- ---- what the event doesn't name
 pub permits_not : (s : StateView) (e : Event) (n : Node) (a : App) → names e n a ≡ false → is_permitted_by s e n a ≡ false

@@ -7,7 +7,7 @@ ghost use Rattle.rh_state.specs.Shape.{IsTimerOf};
 ghost use Rattle.rh_rules.specs.NodesStart.{all_alive};
 ghost use Rattle.rh_rules.specs.ByHand.{ends_node};
 ghost use Rattle.rh_rules.specs.Everywhere.{is_target};
-ghost use Rattle.rh_step_lint.specs.After.{is_alive_with, has_others_with, fires_within, ends_its_wait, comes_up, ends, is_up_after, boots, is_started_by, starts_now, is_started_after, is_permitted_after};
+ghost use Rattle.rh_step_findings.specs.After.{is_alive_with, has_others_with, fires_within, ends_its_wait, comes_up, ends, is_up_after, boots, is_started_by, starts_now, is_started_after, is_permitted_after};
 
 use crate::step::Step;
 use rh_model::{App, Node, Restart, SyncWait};
@@ -89,7 +89,7 @@ impl<'a> Step<'a> {
     }
 
     /// Does a node come up?
-    #[tactic(auto, unfolding(crate::specs::After::comes_up))]
+    #[tactic(auto, unfolding(rh_step_findings::specs::After::comes_up))]
     pub(crate) fn comes_up(&self, node: Node) -> bool
         ensures { result ≡ comes_up self.now.state self.now.event node }
     {
@@ -104,7 +104,7 @@ impl<'a> Step<'a> {
     }
 
     /// Does a node end?
-    #[tactic(auto, unfolding(crate::specs::After::ends))]
+    #[tactic(auto, unfolding(rh_step_findings::specs::After::ends))]
     pub(crate) fn ends(&self, node: Node) -> bool
         ensures { result ≡ ends self.now.state self.now.event node }
     {
@@ -120,7 +120,7 @@ impl<'a> Step<'a> {
     }
 
     /// Is it up behind the step?
-    #[tactic(auto, unfolding(crate::specs::After::is_up_after))]
+    #[tactic(auto, unfolding(rh_step_findings::specs::After::is_up_after))]
     pub(crate) fn is_up_after(&self, node: Node) -> bool
         ensures { result ≡ is_up_after self.now.state self.now.event node }
     {
@@ -159,7 +159,7 @@ impl<'a> Step<'a> {
     }
 
     /// Is it started there at this step?
-    #[tactic(auto, unfolding(crate::specs::After::starts_now))]
+    #[tactic(auto, unfolding(rh_step_findings::specs::After::starts_now))]
     pub(crate) fn starts_now(&self, node: Node, app: App) -> bool
         ensures { result ≡ starts_now self.now.state self.now.event node app }
     {
@@ -167,7 +167,7 @@ impl<'a> Step<'a> {
     }
 
     /// Is it started there behind the step?
-    #[tactic(auto, unfolding(crate::specs::After::is_started_after))]
+    #[tactic(auto, unfolding(rh_step_findings::specs::After::is_started_after))]
     pub(crate) fn is_started_after(&self, node: Node, app: App) -> bool
         ensures { result ≡ is_started_after self.now.state self.now.event node app }
     {
@@ -176,7 +176,7 @@ impl<'a> Step<'a> {
     }
 
     /// May it run there behind the step?
-    #[tactic(auto, unfolding(crate::specs::After::is_permitted_after))]
+    #[tactic(auto, unfolding(rh_step_findings::specs::After::is_permitted_after))]
     pub(crate) fn is_permitted_after(&self, node: Node, app: App) -> bool
         ensures { result ≡ is_permitted_after self.now.state self.now.event node app }
     {

@@ -2,7 +2,7 @@
 
 ghost use Rattle.std.specs.Prelude.{◌≡◌, ◌&&◌, not};
 ghost use Rattle.rh_rules.specs.Moves.{comes_before};
-ghost use Rattle.rh_step_lint.specs.Candidates.{ranks_before, same_place, share_group, is_in_tuple, takes_part, is_available, is_outranked, is_best, asks_all, is_idle, holds_up};
+ghost use Rattle.rh_step_findings.specs.Candidates.{ranks_before, same_place, share_group, is_in_tuple, takes_part, is_available, is_outranked, is_best, asks_all, is_idle, holds_up};
 
 use crate::step::Step;
 use rh_model::{App, Node};
@@ -44,7 +44,7 @@ impl<'a> Step<'a> {
     }
 
     /// Is a node's group written as a tuple?
-    #[tactic(auto, unfolding(crate::specs::Candidates::is_in_tuple))]
+    #[tactic(auto, unfolding(rh_step_findings::specs::Candidates::is_in_tuple))]
     pub(crate) fn is_in_tuple(&self, app: App, node: Node) -> bool
         ensures { result ≡ is_in_tuple self.now.state.cluster app node }
     {
@@ -52,7 +52,7 @@ impl<'a> Step<'a> {
     }
 
     /// Does a node stand in the list of some distributed application?
-    #[tactic(auto, unfolding(crate::specs::Candidates::takes_part))]
+    #[tactic(auto, unfolding(rh_step_findings::specs::Candidates::takes_part))]
     pub(crate) fn takes_part(&self, node: Node) -> bool
         ensures { result ≡ takes_part self.now.state.cluster node }
     {
@@ -60,7 +60,7 @@ impl<'a> Step<'a> {
     }
 
     /// Is a node of the list up and permitted behind the step?
-    #[tactic(auto, unfolding(crate::specs::Candidates::is_available))]
+    #[tactic(auto, unfolding(rh_step_findings::specs::Candidates::is_available))]
     pub(crate) fn is_available(&self, app: App, node: Node) -> bool
         ensures { result ≡ is_available self.now.state self.now.event app node }
     {
@@ -79,7 +79,7 @@ impl<'a> Step<'a> {
     }
 
     /// Is a node available, and of the best group that has an available one?
-    #[tactic(auto, unfolding(crate::specs::Candidates::is_best))]
+    #[tactic(auto, unfolding(rh_step_findings::specs::Candidates::is_best))]
     pub(crate) fn is_best(&self, app: App, node: Node) -> bool
         ensures { result ≡ is_best self.now.state self.now.event app node }
     {
@@ -94,7 +94,7 @@ impl<'a> Step<'a> {
     }
 
     // Do all available nodes of the list tell their weight?
-    #[tactic(auto, unfolding(crate::specs::Candidates::asks_all))]
+    #[tactic(auto, unfolding(rh_step_findings::specs::Candidates::asks_all))]
     fn asks_all(&self, app: App) -> bool
         ensures { result ≡ asks_all self.now.state self.now.event app }
     {
@@ -102,7 +102,7 @@ impl<'a> Step<'a> {
     }
 
     /// Is another node available, and hasn't it started the application behind the step?
-    #[tactic(auto, unfolding(crate::specs::Candidates::is_idle))]
+    #[tactic(auto, unfolding(rh_step_findings::specs::Candidates::is_idle))]
     pub(crate) fn is_idle(&self, node: Node, app: App, other: Node) -> bool
         ensures { result ≡ is_idle self.now.state self.now.event node app other }
     {
@@ -110,7 +110,7 @@ impl<'a> Step<'a> {
     }
 
     /// And is it waited for?
-    #[tactic(auto, unfolding(crate::specs::Candidates::holds_up))]
+    #[tactic(auto, unfolding(rh_step_findings::specs::Candidates::holds_up))]
     pub(crate) fn holds_up(&self, node: Node, app: App, other: Node) -> bool
         ensures { result ≡ holds_up self.now.state self.now.event node app other }
     {

@@ -1,12 +1,12 @@
 //! The dependencies of which findings speak.
 
 ghost use Rattle.std.specs.Prelude.{◌≡◌};
-ghost use Rattle.rh_step_lint.specs.Lacks.{boot_place, boots_before, lacks_so, lacking_so};
+ghost use Rattle.rh_step_findings.specs.Lacks.{boot_place, boots_before, lacks_so, lacking_so};
 
 use crate::candidates::comes_before;
-use crate::lack::Lack;
 use crate::step::Step;
 use rh_model::{App, Node};
+use rh_step_findings::Lack;
 
 impl<'a> Step<'a> {
     // The place of an application in a node's boot list.
@@ -19,7 +19,7 @@ impl<'a> Step<'a> {
     }
 
     // Does a node boot an application before another one?
-    #[tactic(auto, unfolding(crate::specs::Lacks::boots_before))]
+    #[tactic(auto, unfolding(rh_step_findings::specs::Lacks::boots_before))]
     fn boots_before(&self, node: Node, dependency: App, app: App) -> bool
         ensures { result ≡ boots_before self.now.state.cluster node dependency app }
     {
@@ -30,7 +30,7 @@ impl<'a> Step<'a> {
     }
 
     // Is a dependency lacking so?
-    #[tactic(auto, unfolding(crate::specs::Lacks::lacks_so))]
+    #[tactic(auto, unfolding(rh_step_findings::specs::Lacks::lacks_so))]
     fn lacks_so(&self, lack: Lack, node: Node, app: App, dependency: App) -> bool
         ensures { result ≡ lacks_so self.now.state self.now.event lack node app dependency }
     {
@@ -48,7 +48,7 @@ impl<'a> Step<'a> {
     }
 
     /// The first of the dependencies that is, in written order.
-    #[tactic(auto, unfolding(crate::specs::Lacks::lacking_so))]
+    #[tactic(auto, unfolding(rh_step_findings::specs::Lacks::lacking_so))]
     pub(crate) fn lacking_so(&self, lack: Lack, node: Node, app: App) -> Option<App>
         ensures { result ≡ lacking_so self.now.state self.now.event lack node app }
     {

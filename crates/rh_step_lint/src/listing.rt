@@ -4,16 +4,14 @@ ghost use Rattle.std.specs.Prelude.{◌≡◌, ◌++◌, OnOk, IfOk};
 ghost use Rattle.std.specs.List.{flat_map};
 ghost use Rattle.std.specs.Option.{option_to_list};
 ghost use Rattle.rh_state.specs.Numbers.{nodes_of};
-ghost use Rattle.rh_step_lint.specs.Pairs.{found};
-ghost use Rattle.rh_step_lint.specs.Findings.{codes_told, found_of, waits_found, lists_found, findings_made};
-ghost use Rattle.rh_step_lint.specs.Touched.{touch_of, may_speak, found_in, all_touched};
+ghost use Rattle.rh_step_findings.specs.Pairs.{found};
+ghost use Rattle.rh_step_findings.specs.Findings.{codes_told, found_of, waits_found, lists_found, findings_made};
+ghost use Rattle.rh_step_findings.specs.Touched.{touch_of, may_speak, found_in, all_touched};
 
-use crate::code::Code;
-use crate::finding::StepFinding;
 use crate::step::Step;
-use crate::touch::Touch;
 use rh_base::OutOfMemory;
 use rh_model::{App, Node};
+use rh_step_findings::{Code, StepFinding, Touch};
 use std::alloc::Global;
 
 // The kinds at a node with an application, in the order in which they are told.
@@ -182,7 +180,7 @@ impl<'a> Step<'a> {
     }
 
     /// All of them.
-    #[tactic(auto, unfolding(crate::specs::Findings::findings_made))]
+    #[tactic(auto, unfolding(rh_step_findings::specs::Findings::findings_made))]
     pub(crate) fn findings_made(&self, alloc: Global) -> Result<Vec<StepFinding>, OutOfMemory>
         ensures { IfOk result (λ found. found.items ≡ findings_made self.now.state self.now.event) }
     {

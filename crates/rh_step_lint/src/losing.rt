@@ -1,15 +1,15 @@
 //! Findings of losses, ends and takeovers.
 
 ghost use Rattle.std.specs.Prelude.{◌≡◌};
-ghost use Rattle.rh_step_lint.specs.declared.code.Code.TheVariants as code;
-ghost use Rattle.rh_step_lint.specs.Pairs.{found};
+ghost use Rattle.rh_step_findings.specs.declared.code.Code.TheVariants as code;
+ghost use Rattle.rh_step_findings.specs.Pairs.{found};
 
-use crate::finding::StepFinding;
 use crate::step::Step;
 use rh_model::{App, Node};
+use rh_step_findings::StepFinding;
 
 impl<'a> Step<'a> {
-    #[tactic(auto, unfolding(crate::specs::Pairs::found))]
+    #[tactic(auto, unfolding(rh_step_findings::specs::Pairs::found))]
     pub(crate) fn start_within_time(&self, node: Node, app: App) -> Option<StepFinding>
         ensures { result ≡ found self.now.state self.now.event code.StartWithinTime node app }
     {
@@ -20,7 +20,7 @@ impl<'a> Step<'a> {
         Some(StepFinding::StartWithinTime { node, app, lost })
     }
 
-    #[tactic(auto, unfolding(crate::specs::Pairs::found))]
+    #[tactic(auto, unfolding(rh_step_findings::specs::Pairs::found))]
     pub(crate) fn nobody_saw_the_loss(&self, node: Node, app: App) -> Option<StepFinding>
         ensures { result ≡ found self.now.state self.now.event code.NobodySawTheLoss node app }
     {
@@ -31,7 +31,7 @@ impl<'a> Step<'a> {
         Some(StepFinding::NobodySawTheLoss { node, app, lost })
     }
 
-    #[tactic(auto, unfolding(crate::specs::Pairs::found))]
+    #[tactic(auto, unfolding(rh_step_findings::specs::Pairs::found))]
     pub(crate) fn own_end(&self, node: Node, app: App) -> Option<StepFinding>
         ensures { result ≡ found self.now.state self.now.event code.OwnEnd node app }
     {
@@ -41,7 +41,7 @@ impl<'a> Step<'a> {
         Some(StepFinding::OwnEnd { node, app })
     }
 
-    #[tactic(auto, unfolding(crate::specs::Pairs::found))]
+    #[tactic(auto, unfolding(rh_step_findings::specs::Pairs::found))]
     pub(crate) fn kind_after_loss(&self, node: Node, app: App) -> Option<StepFinding>
         ensures { result ≡ found self.now.state self.now.event code.KindAfterLoss node app }
     {
@@ -52,7 +52,7 @@ impl<'a> Step<'a> {
         Some(StepFinding::KindAfterLoss { node, app, lost })
     }
 
-    #[tactic(auto, unfolding(crate::specs::Pairs::found))]
+    #[tactic(auto, unfolding(rh_step_findings::specs::Pairs::found))]
     pub(crate) fn takeover_not_started(&self, node: Node, app: App) -> Option<StepFinding>
         ensures { result ≡ found self.now.state self.now.event code.TakeoverNotStarted node app }
     {

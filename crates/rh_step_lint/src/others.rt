@@ -1,11 +1,11 @@
 //! The other nodes of which findings speak.
 
 ghost use Rattle.std.specs.Prelude.{◌≡◌};
-ghost use Rattle.rh_step_lint.specs.Others.{is_holder, stands_so, other_so};
+ghost use Rattle.rh_step_findings.specs.Others.{is_holder, stands_so, other_so};
 
-use crate::relation::Relation;
 use crate::step::Step;
 use rh_model::{App, Node};
+use rh_step_findings::Relation;
 
 impl<'a> Step<'a> {
     // Does a node hold the application ready before the step, and may it run it?
@@ -16,7 +16,7 @@ impl<'a> Step<'a> {
     }
 
     // Does another node stand so?
-    #[tactic(auto, unfolding(crate::specs::Others::stands_so))]
+    #[tactic(auto, unfolding(rh_step_findings::specs::Others::stands_so))]
     fn stands_so(&self, relation: Relation, node: Node, app: App, other: Node) -> bool
         ensures { result ≡ stands_so self.now.state self.now.event relation node app other }
     {
@@ -51,7 +51,7 @@ impl<'a> Step<'a> {
     }
 
     /// The first node that does, in the order of the cluster file.
-    #[tactic(auto, unfolding(crate::specs::Others::other_so))]
+    #[tactic(auto, unfolding(rh_step_findings::specs::Others::other_so))]
     pub(crate) fn other_so(&self, relation: Relation, node: Node, app: App) -> Option<Node>
         ensures { result ≡ other_so self.now.state self.now.event relation node app }
     {

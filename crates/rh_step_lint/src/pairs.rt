@@ -1,15 +1,15 @@
 //! What a live OTP does otherwise at a node with an application.
 
 ghost use Rattle.std.specs.Prelude.{◌≡◌, ◌&&◌};
-ghost use Rattle.rh_step_lint.specs.Candidates.{ranks_before, is_in_tuple};
-ghost use Rattle.rh_step_lint.specs.Tries.{runner};
-ghost use Rattle.rh_step_lint.specs.Pairs.{is_behind, starts_forbidden, starts_below, takes_back, starts_quiet, is_behind_tuple, is_placed_behind_tuple, permits_quiet, forbids, forbids_runner, forbids_last, forbids_twice, stops_forbidden, boots_now, boots_to_run, awaited, given_up, lost_with, other_node, is_helped, is_booted_with_phases, goes_to, ends_with, moves_unready};
+ghost use Rattle.rh_step_findings.specs.Candidates.{ranks_before, is_in_tuple};
+ghost use Rattle.rh_step_findings.specs.Tries.{runner};
+ghost use Rattle.rh_step_findings.specs.Pairs.{is_behind, starts_forbidden, starts_below, takes_back, starts_quiet, is_behind_tuple, is_placed_behind_tuple, permits_quiet, forbids, forbids_runner, forbids_last, forbids_twice, stops_forbidden, boots_now, boots_to_run, awaited, given_up, lost_with, other_node, is_helped, is_booted_with_phases, goes_to, ends_with, moves_unready};
 
-use crate::relation::Relation;
 use crate::step::Step;
 use rh_model::{App, Node};
 use rh_rules::Event;
 use rh_state::Standing;
+use rh_step_findings::Relation;
 
 // Another node than the first one.
 fn other_node(node: Node, other: Node) -> Option<Node>
@@ -20,7 +20,7 @@ fn other_node(node: Node, other: Node) -> Option<Node>
 
 impl<'a> Step<'a> {
     /// Does it run behind the best group?
-    #[tactic(auto, unfolding(crate::specs::Pairs::is_behind))]
+    #[tactic(auto, unfolding(rh_step_findings::specs::Pairs::is_behind))]
     pub(crate) fn is_behind(&self, app: App) -> bool
         ensures { result ≡ is_behind self.now.state self.now.event app (runner self.now.state self.now.event app) }
     {
@@ -31,7 +31,7 @@ impl<'a> Step<'a> {
     }
 
     /// Is it started at a node that may not run it, and does it run nowhere?
-    #[tactic(auto, unfolding(crate::specs::Pairs::starts_forbidden))]
+    #[tactic(auto, unfolding(rh_step_findings::specs::Pairs::starts_forbidden))]
     pub(crate) fn starts_forbidden(&self, node: Node, app: App) -> bool
         ensures { result ≡ starts_forbidden self.now.state self.now.event node app }
     {
@@ -39,7 +39,7 @@ impl<'a> Step<'a> {
     }
 
     /// Does it run behind the best group, and is it tried at a node that isn't of that group?
-    #[tactic(auto, unfolding(crate::specs::Pairs::starts_below))]
+    #[tactic(auto, unfolding(rh_step_findings::specs::Pairs::starts_below))]
     pub(crate) fn starts_below(&self, node: Node, app: App) -> bool
         ensures { result ≡ starts_below self.now.state self.now.event node app }
     {
@@ -49,7 +49,7 @@ impl<'a> Step<'a> {
     }
 
     /// Or at one that is?
-    #[tactic(auto, unfolding(crate::specs::Pairs::takes_back))]
+    #[tactic(auto, unfolding(rh_step_findings::specs::Pairs::takes_back))]
     pub(crate) fn takes_back(&self, node: Node, app: App) -> bool
         ensures { result ≡ takes_back self.now.state self.now.event node app }
     {
@@ -57,7 +57,7 @@ impl<'a> Step<'a> {
     }
 
     /// Is it stopped, and started?
-    #[tactic(auto, unfolding(crate::specs::Pairs::starts_quiet))]
+    #[tactic(auto, unfolding(rh_step_findings::specs::Pairs::starts_quiet))]
     pub(crate) fn starts_quiet(&self, node: Node, app: App) -> bool
         ensures { result ≡ starts_quiet self.now.state self.now.event node app }
     {
@@ -72,7 +72,7 @@ impl<'a> Step<'a> {
     }
 
     /// Does a tuple stand before the node's group? None stands before the first group.
-    #[tactic(auto, unfolding(crate::specs::Pairs::is_behind_tuple), using(crate::proofs::Ranks::none_before_first))]
+    #[tactic(auto, unfolding(rh_step_findings::specs::Pairs::is_behind_tuple), using(crate::proofs::Ranks::none_before_first))]
     pub(crate) fn is_behind_tuple(&self, app: App, node: Node) -> bool
         ensures { result ≡ is_behind_tuple self.now.state app node }
     {
@@ -85,7 +85,7 @@ impl<'a> Step<'a> {
     }
 
     /// Is it placed at a node of the best group, behind a tuple?
-    #[tactic(auto, unfolding(crate::specs::Pairs::is_placed_behind_tuple))]
+    #[tactic(auto, unfolding(rh_step_findings::specs::Pairs::is_placed_behind_tuple))]
     pub(crate) fn is_placed_behind_tuple(&self, node: Node, app: App) -> bool
         ensures { result ≡ is_placed_behind_tuple self.now.state self.now.event node app }
     {
@@ -96,7 +96,7 @@ impl<'a> Step<'a> {
     }
 
     /// Is it quiet, and permitted where it is held ready?
-    #[tactic(auto, unfolding(crate::specs::Pairs::permits_quiet))]
+    #[tactic(auto, unfolding(rh_step_findings::specs::Pairs::permits_quiet))]
     pub(crate) fn permits_quiet(&self, node: Node, app: App) -> bool
         ensures { result ≡ permits_quiet self.now.state self.now.event node app }
     {
@@ -104,7 +104,7 @@ impl<'a> Step<'a> {
     }
 
     // Is it forbidden at a node?
-    #[tactic(auto, unfolding(crate::specs::Pairs::forbids))]
+    #[tactic(auto, unfolding(rh_step_findings::specs::Pairs::forbids))]
     fn forbids(&self, node: Node, app: App) -> bool
         ensures { result ≡ forbids self.now.event node app }
     {
@@ -119,7 +119,7 @@ impl<'a> Step<'a> {
     }
 
     /// Is it forbidden where it runs?
-    #[tactic(auto, unfolding(crate::specs::Pairs::forbids_runner))]
+    #[tactic(auto, unfolding(rh_step_findings::specs::Pairs::forbids_runner))]
     pub(crate) fn forbids_runner(&self, node: Node, app: App) -> bool
         ensures { result ≡ forbids_runner self.now.state self.now.event node app }
     {
@@ -127,7 +127,7 @@ impl<'a> Step<'a> {
     }
 
     /// And may no other node of its list run it?
-    #[tactic(auto, unfolding(crate::specs::Pairs::forbids_last))]
+    #[tactic(auto, unfolding(rh_step_findings::specs::Pairs::forbids_last))]
     pub(crate) fn forbids_last(&self, node: Node, app: App) -> bool
         ensures { result ≡ forbids_last self.now.state self.now.event node app }
     {
@@ -137,7 +137,7 @@ impl<'a> Step<'a> {
     }
 
     /// Is a local one forbidden where it was started while it was forbidden?
-    #[tactic(auto, unfolding(crate::specs::Pairs::forbids_twice))]
+    #[tactic(auto, unfolding(rh_step_findings::specs::Pairs::forbids_twice))]
     pub(crate) fn forbids_twice(&self, node: Node, app: App) -> bool
         ensures { result ≡ forbids_twice self.now.state self.now.event node app }
     {
@@ -148,7 +148,7 @@ impl<'a> Step<'a> {
     }
 
     /// Or stopped there?
-    #[tactic(auto, unfolding(crate::specs::Pairs::stops_forbidden))]
+    #[tactic(auto, unfolding(rh_step_findings::specs::Pairs::stops_forbidden))]
     pub(crate) fn stops_forbidden(&self, node: Node, app: App) -> bool
         ensures { result ≡ stops_forbidden self.now.state self.now.event node app }
     {
@@ -165,7 +165,7 @@ impl<'a> Step<'a> {
     }
 
     /// Does a node come up, and boot it?
-    #[tactic(auto, unfolding(crate::specs::Pairs::boots_now))]
+    #[tactic(auto, unfolding(rh_step_findings::specs::Pairs::boots_now))]
     pub(crate) fn boots_now(&self, node: Node, app: App) -> bool
         ensures { result ≡ boots_now self.now.state self.now.event node app }
     {
@@ -173,7 +173,7 @@ impl<'a> Step<'a> {
     }
 
     /// Where it is to run?
-    #[tactic(auto, unfolding(crate::specs::Pairs::boots_to_run))]
+    #[tactic(auto, unfolding(rh_step_findings::specs::Pairs::boots_to_run))]
     pub(crate) fn boots_to_run(&self, node: Node, app: App) -> bool
         ensures { result ≡ boots_to_run self.now.state self.now.event node app }
     {
@@ -182,7 +182,7 @@ impl<'a> Step<'a> {
     }
 
     /// Another node with which it was lost, and whose time isn't over.
-    #[tactic(auto, unfolding(crate::specs::Pairs::awaited))]
+    #[tactic(auto, unfolding(rh_step_findings::specs::Pairs::awaited))]
     pub(crate) fn awaited(&self, node: Node, app: App) -> Option<Node>
         ensures { result ≡ awaited self.now.state node app }
     {
@@ -193,7 +193,7 @@ impl<'a> Step<'a> {
     }
 
     /// Or is over.
-    #[tactic(auto, unfolding(crate::specs::Pairs::given_up))]
+    #[tactic(auto, unfolding(rh_step_findings::specs::Pairs::given_up))]
     pub(crate) fn given_up(&self, node: Node, app: App) -> Option<Node>
         ensures { result ≡ given_up self.now.state node app }
     {
@@ -204,7 +204,7 @@ impl<'a> Step<'a> {
     }
 
     /// Either of them.
-    #[tactic(auto, unfolding(crate::specs::Pairs::lost_with))]
+    #[tactic(auto, unfolding(rh_step_findings::specs::Pairs::lost_with))]
     pub(crate) fn lost_with(&self, node: Node, app: App) -> Option<Node>
         ensures { result ≡ lost_with self.now.state node app }
     {
@@ -216,7 +216,7 @@ impl<'a> Step<'a> {
     }
 
     /// Has it start phases, and is it started or permitted by hand?
-    #[tactic(auto, unfolding(crate::specs::Pairs::is_helped))]
+    #[tactic(auto, unfolding(rh_step_findings::specs::Pairs::is_helped))]
     pub(crate) fn is_helped(&self, node: Node, app: App) -> bool
         ensures { result ≡ is_helped self.now.state self.now.event node app }
     {
@@ -224,7 +224,7 @@ impl<'a> Step<'a> {
     }
 
     /// Has it start phases, and does a node that comes up boot it?
-    #[tactic(auto, unfolding(crate::specs::Pairs::is_booted_with_phases))]
+    #[tactic(auto, unfolding(rh_step_findings::specs::Pairs::is_booted_with_phases))]
     pub(crate) fn is_booted_with_phases(&self, node: Node, app: App) -> bool
         ensures { result ≡ is_booted_with_phases self.now.state self.now.event node app }
     {
@@ -232,7 +232,7 @@ impl<'a> Step<'a> {
     }
 
     /// Does it fail over to a node of the best group?
-    #[tactic(auto, unfolding(crate::specs::Pairs::goes_to))]
+    #[tactic(auto, unfolding(rh_step_findings::specs::Pairs::goes_to))]
     pub(crate) fn goes_to(&self, node: Node, app: App) -> bool
         ensures { result ≡ goes_to self.now.state self.now.event node app }
     {
@@ -240,7 +240,7 @@ impl<'a> Step<'a> {
     }
 
     /// Does it end, and the node with it?
-    #[tactic(auto, unfolding(crate::specs::Pairs::ends_with))]
+    #[tactic(auto, unfolding(rh_step_findings::specs::Pairs::ends_with))]
     pub(crate) fn ends_with(&self, node: Node, app: App) -> bool
         ensures { result ≡ ends_with self.now.state self.now.event node app }
     {
@@ -253,7 +253,7 @@ impl<'a> Step<'a> {
     }
 
     /// Is it moved to a node that doesn't hold it ready?
-    #[tactic(auto, unfolding(crate::specs::Pairs::moves_unready))]
+    #[tactic(auto, unfolding(rh_step_findings::specs::Pairs::moves_unready))]
     pub(crate) fn moves_unready(&self, node: Node, app: App) -> bool
         ensures { result ≡ moves_unready self.now.state self.now.event node app }
     {

@@ -1,17 +1,15 @@
 //! Findings of permissions, and of dependencies.
 
 ghost use Rattle.std.specs.Prelude.{◌≡◌};
-ghost use Rattle.rh_step_lint.specs.declared.code.Code.TheVariants as code;
-ghost use Rattle.rh_step_lint.specs.Pairs.{found};
+ghost use Rattle.rh_step_findings.specs.declared.code.Code.TheVariants as code;
+ghost use Rattle.rh_step_findings.specs.Pairs.{found};
 
-use crate::finding::StepFinding;
-use crate::lack::Lack;
-use crate::relation::Relation;
 use crate::step::Step;
 use rh_model::{App, Node};
+use rh_step_findings::{Lack, Relation, StepFinding};
 
 impl<'a> Step<'a> {
-    #[tactic(auto, unfolding(crate::specs::Pairs::found))]
+    #[tactic(auto, unfolding(rh_step_findings::specs::Pairs::found))]
     pub(crate) fn permit_starts_quiet(&self, node: Node, app: App) -> Option<StepFinding>
         ensures { result ≡ found self.now.state self.now.event code.PermitStartsQuiet node app }
     {
@@ -21,7 +19,7 @@ impl<'a> Step<'a> {
         Some(StepFinding::PermitStartsQuiet { node, app })
     }
 
-    #[tactic(auto, unfolding(crate::specs::Pairs::found))]
+    #[tactic(auto, unfolding(rh_step_findings::specs::Pairs::found))]
     pub(crate) fn dependency_forbidden_at_start(&self, node: Node, app: App) -> Option<StepFinding>
         ensures { result ≡ found self.now.state self.now.event code.DependencyForbiddenAtStart node app }
     {
@@ -36,7 +34,7 @@ impl<'a> Step<'a> {
         })
     }
 
-    #[tactic(auto, unfolding(crate::specs::Pairs::found))]
+    #[tactic(auto, unfolding(rh_step_findings::specs::Pairs::found))]
     pub(crate) fn before_dependency(&self, node: Node, app: App) -> Option<StepFinding>
         ensures { result ≡ found self.now.state self.now.event code.BeforeDependency node app }
     {
@@ -51,7 +49,7 @@ impl<'a> Step<'a> {
         })
     }
 
-    #[tactic(auto, unfolding(crate::specs::Pairs::found))]
+    #[tactic(auto, unfolding(rh_step_findings::specs::Pairs::found))]
     pub(crate) fn forbid_moves(&self, node: Node, app: App) -> Option<StepFinding>
         ensures { result ≡ found self.now.state self.now.event code.ForbidMoves node app }
     {
@@ -62,7 +60,7 @@ impl<'a> Step<'a> {
         Some(StepFinding::ForbidMoves { node, app, other })
     }
 
-    #[tactic(auto, unfolding(crate::specs::Pairs::found))]
+    #[tactic(auto, unfolding(rh_step_findings::specs::Pairs::found))]
     pub(crate) fn forbid_other_not_started(&self, node: Node, app: App) -> Option<StepFinding>
         ensures { result ≡ found self.now.state self.now.event code.ForbidOtherNotStarted node app }
     {
@@ -73,7 +71,7 @@ impl<'a> Step<'a> {
         Some(StepFinding::ForbidOtherNotStarted { node, app, other })
     }
 
-    #[tactic(auto, unfolding(crate::specs::Pairs::found))]
+    #[tactic(auto, unfolding(rh_step_findings::specs::Pairs::found))]
     pub(crate) fn dependency_gone(&self, node: Node, app: App) -> Option<StepFinding>
         ensures { result ≡ found self.now.state self.now.event code.DependencyGone node app }
     {
@@ -88,7 +86,7 @@ impl<'a> Step<'a> {
         })
     }
 
-    #[tactic(auto, unfolding(crate::specs::Pairs::found))]
+    #[tactic(auto, unfolding(rh_step_findings::specs::Pairs::found))]
     pub(crate) fn local_forbidden_twice(&self, node: Node, app: App) -> Option<StepFinding>
         ensures { result ≡ found self.now.state self.now.event code.LocalForbiddenTwice node app }
     {
@@ -98,7 +96,7 @@ impl<'a> Step<'a> {
         Some(StepFinding::LocalForbiddenTwice { node, app })
     }
 
-    #[tactic(auto, unfolding(crate::specs::Pairs::found))]
+    #[tactic(auto, unfolding(rh_step_findings::specs::Pairs::found))]
     pub(crate) fn local_stop_while_forbidden(&self, node: Node, app: App) -> Option<StepFinding>
         ensures { result ≡ found self.now.state self.now.event code.LocalStopWhileForbidden node app }
     {
@@ -108,7 +106,7 @@ impl<'a> Step<'a> {
         Some(StepFinding::LocalStopWhileForbidden { node, app })
     }
 
-    #[tactic(auto, unfolding(crate::specs::Pairs::found))]
+    #[tactic(auto, unfolding(rh_step_findings::specs::Pairs::found))]
     pub(crate) fn needs_a_distributed_one(&self, node: Node, app: App) -> Option<StepFinding>
         ensures { result ≡ found self.now.state self.now.event code.NeedsADistributedOne node app }
     {
@@ -123,7 +121,7 @@ impl<'a> Step<'a> {
         })
     }
 
-    #[tactic(auto, unfolding(crate::specs::Pairs::found))]
+    #[tactic(auto, unfolding(rh_step_findings::specs::Pairs::found))]
     pub(crate) fn forbid_with_unlisted_nodes(&self, node: Node, app: App) -> Option<StepFinding>
         ensures { result ≡ found self.now.state self.now.event code.ForbidWithUnlistedNodes node app }
     {

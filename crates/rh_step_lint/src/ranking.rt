@@ -2,7 +2,7 @@
 
 ghost use Rattle.std.specs.Prelude.{◌≡◌};
 ghost use Rattle.std.specs.List.{list_any};
-ghost use Rattle.rh_step_lint.specs.Ranked.{is_free, best_place, is_spare, has_spare};
+ghost use Rattle.rh_step_findings.specs.Ranked.{is_free, best_place, is_spare, has_spare};
 
 use crate::step::Step;
 use rh_model::{App, Node};
@@ -23,7 +23,7 @@ impl<'a> Step<'a> {
     }
 
     /// The place of the first group of its list that has such a node.
-    #[tactic(auto, unfolding(crate::specs::Ranked::best_place))]
+    #[tactic(auto, unfolding(rh_step_findings::specs::Ranked::best_place))]
     pub(crate) fn best_place(&self, app: App) -> Option<usize>
         ensures { result ≡ best_place self.now.state self.now.event app }
     {
@@ -48,7 +48,7 @@ impl<'a> Step<'a> {
     }
 
     /// Is one of its list?
-    #[tactic(auto, unfolding(crate::specs::Ranked::has_spare))]
+    #[tactic(auto, unfolding(rh_step_findings::specs::Ranked::has_spare))]
     pub(crate) fn has_spare(&self, app: App) -> bool
         ensures { result ≡ has_spare self.now.state self.now.event app }
     {

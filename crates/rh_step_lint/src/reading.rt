@@ -8,7 +8,7 @@ ghost use Rattle.rh_state.specs.StateView.{mode_of, is_up, is_alive, is_waiting,
 ghost use Rattle.rh_state.specs.Standings.{is_quiet};
 ghost use Rattle.rh_rules.specs.Course.{is_local};
 ghost use Rattle.rh_rules.specs.NodesEnd.{timeout_of};
-ghost use Rattle.rh_step_lint.specs.Ranked.{groups_at};
+ghost use Rattle.rh_step_findings.specs.Ranked.{groups_at};
 
 use crate::step::Step;
 use rh_model::{App, Group, Node, Restart, SyncWait};

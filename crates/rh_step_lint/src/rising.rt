@@ -3,16 +3,16 @@
 ghost use Rattle.std.specs.Prelude.{◌≡◌, find};
 ghost use Rattle.rh_model.specs.ClusterView.{sync_wait_of};
 ghost use Rattle.rh_state.specs.Numbers.{nodes_of};
-ghost use Rattle.rh_step_lint.specs.Nodes.{waits_meanwhile, is_left_waiting, other_node_waits, is_in_lists, is_overlooked, boots_up, not_in_its_lists};
+ghost use Rattle.rh_step_findings.specs.Nodes.{waits_meanwhile, is_left_waiting, other_node_waits, is_in_lists, is_overlooked, boots_up, not_in_its_lists};
 
-use crate::finding::StepFinding;
 use crate::step::Step;
 use rh_model::{Node, SyncWait, is_in};
 use rh_rules::Event;
+use rh_step_findings::StepFinding;
 
 impl<'a> Step<'a> {
     // Does another node wait as one comes up?
-    #[tactic(auto, unfolding(crate::specs::Nodes::waits_meanwhile))]
+    #[tactic(auto, unfolding(rh_step_findings::specs::Nodes::waits_meanwhile))]
     fn waits_meanwhile(&self, node: Node) -> bool
         ensures { result ≡ waits_meanwhile self.now.state self.now.event node }
     {
@@ -26,7 +26,7 @@ impl<'a> Step<'a> {
     }
 
     // And does it take part?
-    #[tactic(auto, unfolding(crate::specs::Nodes::is_left_waiting))]
+    #[tactic(auto, unfolding(rh_step_findings::specs::Nodes::is_left_waiting))]
     fn is_left_waiting(&self, node: Node, other: Node) -> bool
         ensures { result ≡ is_left_waiting self.now.state self.now.event node other }
     {
@@ -47,7 +47,7 @@ impl<'a> Step<'a> {
     }
 
     /// A node comes up while another one waits.
-    #[tactic(auto, unfolding(crate::specs::Nodes::other_node_waits))]
+    #[tactic(auto, unfolding(rh_step_findings::specs::Nodes::other_node_waits))]
     pub(crate) fn other_node_waits(&self, node: Node) -> Option<StepFinding>
         ensures { result ≡ other_node_waits self.now.state self.now.event node }
     {
@@ -71,7 +71,7 @@ impl<'a> Step<'a> {
     }
 
     // Is another node that takes part alive, and isn't it in them?
-    #[tactic(auto, unfolding(crate::specs::Nodes::is_overlooked))]
+    #[tactic(auto, unfolding(rh_step_findings::specs::Nodes::is_overlooked))]
     fn is_overlooked(&self, node: Node, other: Node) -> bool
         ensures { result ≡ is_overlooked self.now.state node other }
     {
@@ -95,7 +95,7 @@ impl<'a> Step<'a> {
     }
 
     // Does a node come up as it boots?
-    #[tactic(auto, unfolding(crate::specs::Nodes::boots_up))]
+    #[tactic(auto, unfolding(rh_step_findings::specs::Nodes::boots_up))]
     fn boots_up(&self, node: Node) -> bool
         ensures { result ≡ boots_up self.now.state self.now.event node }
     {
@@ -106,7 +106,7 @@ impl<'a> Step<'a> {
     }
 
     /// A node comes up whose lists lack another one.
-    #[tactic(auto, unfolding(crate::specs::Nodes::not_in_its_lists))]
+    #[tactic(auto, unfolding(rh_step_findings::specs::Nodes::not_in_its_lists))]
     pub(crate) fn not_in_its_lists(&self, node: Node) -> Option<StepFinding>
         ensures { result ≡ not_in_its_lists self.now.state self.now.event node }
     {

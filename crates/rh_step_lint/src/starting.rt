@@ -1,16 +1,15 @@
 //! Findings of a start that waits for another node.
 
 ghost use Rattle.std.specs.Prelude.{◌≡◌};
-ghost use Rattle.rh_step_lint.specs.declared.code.Code.TheVariants as code;
-ghost use Rattle.rh_step_lint.specs.Pairs.{found};
+ghost use Rattle.rh_step_findings.specs.declared.code.Code.TheVariants as code;
+ghost use Rattle.rh_step_findings.specs.Pairs.{found};
 
-use crate::finding::StepFinding;
-use crate::relation::Relation;
 use crate::step::Step;
 use rh_model::{App, Node};
+use rh_step_findings::{Relation, StepFinding};
 
 impl<'a> Step<'a> {
-    #[tactic(auto, unfolding(crate::specs::Pairs::found))]
+    #[tactic(auto, unfolding(rh_step_findings::specs::Pairs::found))]
     pub(crate) fn better_node_not_started(&self, node: Node, app: App) -> Option<StepFinding>
         ensures { result ≡ found self.now.state self.now.event code.BetterNodeNotStarted node app }
     {
@@ -21,7 +20,7 @@ impl<'a> Step<'a> {
         Some(StepFinding::BetterNodeNotStarted { node, app, other })
     }
 
-    #[tactic(auto, unfolding(crate::specs::Pairs::found))]
+    #[tactic(auto, unfolding(rh_step_findings::specs::Pairs::found))]
     pub(crate) fn tuple_member_not_started(&self, node: Node, app: App) -> Option<StepFinding>
         ensures { result ≡ found self.now.state self.now.event code.TupleMemberNotStarted node app }
     {
@@ -32,7 +31,7 @@ impl<'a> Step<'a> {
         Some(StepFinding::TupleMemberNotStarted { node, app, other })
     }
 
-    #[tactic(auto, unfolding(crate::specs::Pairs::found))]
+    #[tactic(auto, unfolding(rh_step_findings::specs::Pairs::found))]
     pub(crate) fn worse_node_not_started(&self, node: Node, app: App) -> Option<StepFinding>
         ensures { result ≡ found self.now.state self.now.event code.WorseNodeNotStarted node app }
     {
@@ -43,7 +42,7 @@ impl<'a> Step<'a> {
         Some(StepFinding::WorseNodeNotStarted { node, app, other })
     }
 
-    #[tactic(auto, unfolding(crate::specs::Pairs::found))]
+    #[tactic(auto, unfolding(rh_step_findings::specs::Pairs::found))]
     pub(crate) fn forbidden_start_waits(&self, node: Node, app: App) -> Option<StepFinding>
         ensures { result ≡ found self.now.state self.now.event code.ForbiddenStartWaits node app }
     {
@@ -54,7 +53,7 @@ impl<'a> Step<'a> {
         Some(StepFinding::ForbiddenStartWaits { node, app, other })
     }
 
-    #[tactic(auto, unfolding(crate::specs::Pairs::found))]
+    #[tactic(auto, unfolding(rh_step_findings::specs::Pairs::found))]
     pub(crate) fn runs_at_a_worse_node(&self, node: Node, app: App) -> Option<StepFinding>
         ensures { result ≡ found self.now.state self.now.event code.RunsAtAWorseNode node app }
     {
@@ -65,7 +64,7 @@ impl<'a> Step<'a> {
         Some(StepFinding::RunsAtAWorseNode { node, app, runner })
     }
 
-    #[tactic(auto, unfolding(crate::specs::Pairs::found))]
+    #[tactic(auto, unfolding(rh_step_findings::specs::Pairs::found))]
     pub(crate) fn tuple_takeover(&self, node: Node, app: App) -> Option<StepFinding>
         ensures { result ≡ found self.now.state self.now.event code.TupleTakeover node app }
     {
@@ -76,7 +75,7 @@ impl<'a> Step<'a> {
         Some(StepFinding::TupleTakeover { node, app, other })
     }
 
-    #[tactic(auto, unfolding(crate::specs::Pairs::found))]
+    #[tactic(auto, unfolding(rh_step_findings::specs::Pairs::found))]
     pub(crate) fn better_node_waits_quiet(&self, node: Node, app: App) -> Option<StepFinding>
         ensures { result ≡ found self.now.state self.now.event code.BetterNodeWaitsQuiet node app }
     {
@@ -87,7 +86,7 @@ impl<'a> Step<'a> {
         Some(StepFinding::BetterNodeWaitsQuiet { node, app, other })
     }
 
-    #[tactic(auto, unfolding(crate::specs::Pairs::found))]
+    #[tactic(auto, unfolding(rh_step_findings::specs::Pairs::found))]
     pub(crate) fn weights_for_ever(&self, node: Node, app: App) -> Option<StepFinding>
         ensures { result ≡ found self.now.state self.now.event code.WeightsForEver node app }
     {

@@ -4,7 +4,7 @@ ghost use Rattle.std.specs.Prelude.{◌≡◌, nat_lt, IfOk};
 ghost use Rattle.rh_model.specs.ClusterView.{node_count, app_count, IsWithin};
 ghost use Rattle.rh_state.specs.Numbers.{nodes_of, apps_of};
 ghost use Rattle.rh_state.specs.Stored.{read};
-ghost use Rattle.rh_step_lint.specs.After.{StepView};
+ghost use Rattle.rh_step_findings.specs.After.{StepView};
 
 use rh_base::OutOfMemory;
 use rh_model::{App, Cluster, Node};
@@ -27,7 +27,7 @@ impl<'a> Model for Step<'a> {
     ghost use Rattle.std.specs.Prelude.{◌≡◌};
     ghost use Rattle.rh_state.specs.Stored.{read};
     ghost use Rattle.rh_state.specs.Numbers.{nodes_of, apps_of};
-    ghost use Rattle.rh_step_lint.specs.After.{StepView};
+    ghost use Rattle.rh_step_findings.specs.After.{StepView};
 
     ghost Value = { StepView };
 

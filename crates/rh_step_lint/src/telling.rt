@@ -3,15 +3,15 @@
 ghost use Rattle.std.specs.Prelude.{◌≡◌, IfOk};
 ghost use Rattle.std.specs.Option.{option_to_list};
 ghost use Rattle.rh_state.specs.Stored.{read};
-ghost use Rattle.rh_step_lint.specs.Findings.{not_listed_found, not_permitted_found, already_started_found, findings_refused, step_findings_of};
+ghost use Rattle.rh_step_findings.specs.Findings.{not_listed_found, not_permitted_found, already_started_found, findings_refused, step_findings_of};
 
-use crate::finding::StepFinding;
 use crate::listing::push_if_any;
 use crate::step::Step;
 use rh_base::OutOfMemory;
-use rh_events::refusal_of;
+use rh_refusals::refusal_of;
 use rh_rules::{Event, Refusal};
 use rh_state::State;
+use rh_step_findings::StepFinding;
 use std::alloc::Global;
 
 // A node isn't in the list.
@@ -51,7 +51,7 @@ fn already_started(step: &Step<'_>) -> Option<StepFinding>
 }
 
 // Of an event that is refused.
-#[tactic(auto, unfolding(crate::specs::Findings::findings_refused))]
+#[tactic(auto, unfolding(rh_step_findings::specs::Findings::findings_refused))]
 fn finding_refused(step: &Step<'_>, event: &Event, refusal: Refusal) -> Option<StepFinding>
     requires { event.now ≡ step.now.event }
     ensures { option_to_list result ≡ findings_refused step.now.state step.now.event refusal }
@@ -67,7 +67,7 @@ fn finding_refused(step: &Step<'_>, event: &Event, refusal: Refusal) -> Option<S
 /// What a live OTP does otherwise than the rules at the step that an event makes from a state: all findings of which that is so by
 /// their definitions, first those at a node with an application by kind, then node, then application, in the order of the cluster
 /// file, and then those of nodes that come up. Of an event that is refused it is what a live OTP does all the same.
-#[tactic(auto, unfolding(crate::specs::Findings::step_findings_of))]
+#[tactic(auto, unfolding(rh_step_findings::specs::Findings::step_findings_of))]
 pub fn step_findings(
     alloc: Global,
     state: &State,

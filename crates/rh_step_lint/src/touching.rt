@@ -2,14 +2,14 @@
 
 ghost use Rattle.std.specs.Prelude.{◌≡◌, ◌++◌, ◌∷◌, [], OnOk, IfOk, if◌then◌else◌};
 ghost use Rattle.std.specs.List.{flat_map};
-ghost use Rattle.rh_step_lint.specs.After.{comes_up};
-ghost use Rattle.rh_step_lint.specs.Touched.{names, names_app, is_touched, touch_of, touched_with, touched_at, all_touched, moves, mover, all_movers};
+ghost use Rattle.rh_step_findings.specs.After.{comes_up};
+ghost use Rattle.rh_step_findings.specs.Touched.{names, names_app, is_touched, touch_of, touched_with, touched_at, all_touched, moves, mover, all_movers};
 
 use crate::step::Step;
-use crate::touch::Touch;
 use rh_base::OutOfMemory;
 use rh_model::{App, Node};
 use rh_rules::Event;
+use rh_step_findings::Touch;
 use std::alloc::Global;
 
 // Does the event name an application?
@@ -64,7 +64,7 @@ fn push_app_if(apps: &mut Vec<App>, holds: bool, app: App) -> Result<(), OutOfMe
 
 impl<'a> Step<'a> {
     // Does the step touch them? Whether the node comes up is known.
-    #[tactic(auto, unfolding(crate::specs::Touched::is_touched, crate::specs::After::starts_now))]
+    #[tactic(auto, unfolding(rh_step_findings::specs::Touched::is_touched, rh_step_findings::specs::After::starts_now))]
     fn is_touched(&self, rises: bool, node: Node, app: App) -> bool
         requires { rises ≡ comes_up self.now.state self.now.event node }
         ensures { result ≡ is_touched self.now.state self.now.event node app }
@@ -76,7 +76,7 @@ impl<'a> Step<'a> {
     }
 
     // May it touch the application where the node doesn't come up?
-    #[tactic(auto, unfolding(crate::specs::Touched::moves))]
+    #[tactic(auto, unfolding(rh_step_findings::specs::Touched::moves))]
     fn moves(&self, app: App) -> bool
         ensures { result ≡ moves self.now.state self.now.event app }
     {
@@ -84,7 +84,7 @@ impl<'a> Step<'a> {
     }
 
     // The applications of which that is so.
-    #[tactic(auto, unfolding(crate::specs::Touched::all_movers))]
+    #[tactic(auto, unfolding(rh_step_findings::specs::Touched::all_movers))]
     fn movers(&self, alloc: Global) -> Result<Vec<App>, OutOfMemory>
         ensures { IfOk result (λ movers. movers.items ≡ all_movers self.now.state self.now.event) }
     {
@@ -97,7 +97,7 @@ impl<'a> Step<'a> {
     }
 
     // Those that are touched, with what the kinds ask of them first.
-    #[tactic(auto, unfolding(crate::specs::Pairs::starts_quiet))]
+    #[tactic(auto, unfolding(rh_step_findings::specs::Pairs::starts_quiet))]
     fn touch(&self, node: Node, app: App) -> Touch
         ensures { result ≡ touch_of self.now.state self.now.event node app }
     {
@@ -155,7 +155,7 @@ impl<'a> Step<'a> {
     }
 
     // Adds those of a node. Most nodes don't come up at a step: of such a one only the applications that move are asked.
-    #[tactic(auto, unfolding(crate::specs::Touched::touched_at, crate::specs::Touched::all_movers), using(crate::proofs::Untouched::only_movers))]
+    #[tactic(auto, unfolding(rh_step_findings::specs::Touched::touched_at, rh_step_findings::specs::Touched::all_movers), using(crate::proofs::Untouched::only_movers))]
     fn push_touched(
         &self,
         touched: &mut Vec<Touch>,
@@ -173,7 +173,7 @@ impl<'a> Step<'a> {
     }
 
     /// All that the step touches, in the order of the cluster file, node by node.
-    #[tactic(auto, unfolding(crate::specs::Touched::all_touched))]
+    #[tactic(auto, unfolding(rh_step_findings::specs::Touched::all_touched))]
     pub(crate) fn touched(&self, alloc: Global) -> Result<Vec<Touch>, OutOfMemory>
         ensures { IfOk result (λ touched. touched.items ≡ all_touched self.now.state self.now.event) }
     {

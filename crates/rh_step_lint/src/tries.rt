@@ -2,7 +2,7 @@
 
 ghost use Rattle.std.specs.Prelude.{◌≡◌};
 ghost use Rattle.rh_state.specs.Shape.{IsAppOf};
-ghost use Rattle.rh_step_lint.specs.Tries.{runner, times_out, fails_over, is_called, is_permitted_by, tries, stays, is_open_from, asks_others};
+ghost use Rattle.rh_step_findings.specs.Tries.{runner, times_out, fails_over, is_called, is_permitted_by, tries, stays, is_open_from, asks_others};
 
 use crate::step::Step;
 use rh_model::{App, Node};
@@ -11,7 +11,7 @@ use rh_state::{Standing, Timer};
 
 impl<'a> Step<'a> {
     /// Where an application runs, if it runs and its node doesn't end.
-    #[tactic(auto, unfolding(crate::specs::Tries::runner))]
+    #[tactic(auto, unfolding(rh_step_findings::specs::Tries::runner))]
     pub(crate) fn runner(&self, app: App) -> Option<Node>
         ensures { result ≡ runner self.now.state self.now.event app }
     {
@@ -33,7 +33,7 @@ impl<'a> Step<'a> {
     }
 
     /// Is it lost without a timeout, or is its time over?
-    #[tactic(auto, unfolding(crate::specs::Tries::fails_over), using(crate::proofs::Beyond::is_below, crate::proofs::Beyond::standing_beyond))]
+    #[tactic(auto, unfolding(rh_step_findings::specs::Tries::fails_over), using(crate::proofs::Beyond::is_below, crate::proofs::Beyond::standing_beyond))]
     pub(crate) fn fails_over(&self, app: App) -> bool
         ensures { result ≡ fails_over self.now.state self.now.event app }
     {
@@ -49,7 +49,7 @@ impl<'a> Step<'a> {
     }
 
     /// Does it fail over to a node that is up and holds it ready?
-    #[tactic(auto, unfolding(crate::specs::Tries::is_called))]
+    #[tactic(auto, unfolding(rh_step_findings::specs::Tries::is_called))]
     pub(crate) fn is_called(&self, node: Node, app: App) -> bool
         ensures { result ≡ is_called self.now.state self.now.event node app }
     {
@@ -58,7 +58,7 @@ impl<'a> Step<'a> {
     }
 
     /// Is it permitted at a node that holds it ready?
-    #[tactic(auto, unfolding(crate::specs::Tries::is_permitted_by))]
+    #[tactic(auto, unfolding(rh_step_findings::specs::Tries::is_permitted_by))]
     pub(crate) fn is_permitted_by(&self, node: Node, app: App) -> bool
         ensures { result ≡ is_permitted_by self.now.state self.now.event node app }
     {
@@ -73,7 +73,7 @@ impl<'a> Step<'a> {
     }
 
     /// Does a live OTP look for its node there?
-    #[tactic(auto, unfolding(crate::specs::Tries::tries))]
+    #[tactic(auto, unfolding(rh_step_findings::specs::Tries::tries))]
     pub(crate) fn tries(&self, node: Node, app: App) -> bool
         ensures { result ≡ tries self.now.state self.now.event node app }
     {
@@ -84,7 +84,7 @@ impl<'a> Step<'a> {
     }
 
     /// Does it stay where it runs?
-    #[tactic(auto, unfolding(crate::specs::Tries::stays))]
+    #[tactic(auto, unfolding(rh_step_findings::specs::Tries::stays))]
     pub(crate) fn stays(&self, app: App) -> bool
         ensures { result ≡ stays self.now.state self.now.event app }
     {
@@ -105,7 +105,7 @@ impl<'a> Step<'a> {
     }
 
     /// Does a node that may run it wait for others?
-    #[tactic(auto, unfolding(crate::specs::Tries::asks_others))]
+    #[tactic(auto, unfolding(rh_step_findings::specs::Tries::asks_others))]
     pub(crate) fn asks_others(&self, node: Node, app: App) -> bool
         ensures { result ≡ asks_others self.now.state self.now.event node app }
     {

@@ -1,13 +1,13 @@
 //! What comes of it where a live OTP looks for the node of an application.
 
 ghost use Rattle.std.specs.Prelude.{◌≡◌, true};
-ghost use Rattle.rh_step_lint.specs.Candidates.{is_available};
-ghost use Rattle.rh_step_lint.specs.Tries.{tries};
-ghost use Rattle.rh_step_lint.specs.Touched.{trial_of};
+ghost use Rattle.rh_step_findings.specs.Candidates.{is_available};
+ghost use Rattle.rh_step_findings.specs.Tries.{tries};
+ghost use Rattle.rh_step_findings.specs.Touched.{trial_of};
 
 use crate::step::Step;
-use crate::touch::Trial;
 use rh_model::{App, Node};
+use rh_step_findings::Trial;
 
 impl<'a> Step<'a> {
     // What comes of a trial at a node that may run the application. Each answer that several kinds ask for is looked for once.

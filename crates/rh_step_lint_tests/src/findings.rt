@@ -3,7 +3,8 @@
 use rh_cluster::{App, Node, Restart, read_cluster};
 use rh_samples::CAVE;
 use rh_step::{Event, Pick};
-use rh_step_lint::{StepFinding, step_findings};
+use rh_step_findings::StepFinding;
+use rh_step_lint::step_findings;
 use rh_trail::Sim;
 use std::alloc::Global;
 use std::process::Abort;

@@ -11,8 +11,8 @@ use Rattle.rh_script.specs.declared.script.Line.{Line}
 use Rattle.rh_script.specs.declared.script.Line.TheVariants.{Nothing, Asks, Bad}
 use Rattle.rh_script.specs.Lines.{raw_lines, content}
 use Rattle.rh_script.specs.Commands.{line_of}
-use Rattle.rh_app.specs.RunText.{bad_line, lines_asked}
-use Rattle.rh_app.proofs.Keeping.{served_keeps_cluster}
+use Rattle.rh_run.specs.RunText.{bad_line, lines_asked}
+use Rattle.rh_run.proofs.Keeping.{served_keeps_cluster}
 use Rattle.rh_story.specs.LineText.{line_text, behind_line, is_bad}
 use Rattle.rh_story.specs.TableText.{table_text, lack_behind, shown}
 use Rattle.rh_story.specs.StoryText.{lines_text}

@@ -8,9 +8,9 @@ use Rattle.rh_base.proofs.Lists.{cases}
 use Rattle.rh_state.specs.declared.status.Mode.TheVariants as mode
 use Rattle.rh_state.specs.Shape.{IsShaped}
 use Rattle.rh_state.specs.StateView.{StateView, mode_of, runs_at, waits_at}
-use Rattle.rh_settle.specs.Validity.{IsValid}
-use Rattle.rh_settle.proofs.Places.{or_right}
-use Rattle.rh_settle.proofs.Shapes.{started_within}
+use Rattle.rh_trace.specs.Validity.{IsValid}
+use Rattle.rh_base.proofs.Truths.{or_right}
+use Rattle.rh_trace.proofs.Shapes.{started_within}
 use Rattle.rh_why.specs.Reasons.{reasons, awaited}
 use Rattle.rh_why.proofs.HasReason.{waits_node}
 use Rattle.rh_story.specs.LineText.{app_lines, node_lines}

@@ -15,10 +15,10 @@ use Rattle.rh_rules.specs.declared.notice.Notice.TheVariants.{Waits}
 use Rattle.rh_why.specs.Reasons.{reasons, awaited}
 use Rattle.rh_why.specs.Texts.{reason_text, awaited_text}
 use Rattle.rh_step.specs.Firings.{FiringView, firings}
-use Rattle.rh_trail.specs.declared.call.Call.{Call}
-use Rattle.rh_trail.specs.declared.call.Call.TheVariants as call
-use Rattle.rh_trail.specs.declared.call.Reply.{Reply}
-use Rattle.rh_trail.specs.declared.call.Reply.TheVariants as reply
+use Rattle.rh_calls.specs.declared.call.Call.{Call}
+use Rattle.rh_calls.specs.declared.call.Call.TheVariants as call
+use Rattle.rh_calls.specs.declared.call.Reply.{Reply}
+use Rattle.rh_calls.specs.declared.call.Reply.TheVariants as reply
 use Rattle.rh_trail.specs.SimView.{SimView, state_of}
 use Rattle.rh_trail.specs.Lone.{served}
 use Rattle.rh_script.specs.declared.script.Line.{Line}

@@ -10,8 +10,8 @@ use Rattle.rh_trail.specs.Lone.{opened}
 use Rattle.rh_script.specs.Lines.{raw_lines, content, lines_behind, cluster_text}
 use Rattle.rh_script.specs.Commands.{line_of}
 use Rattle.rh_script.specs.Answers.{fault_text}
-use Rattle.rh_app.specs.declared.fault.Told.{Told}
-use Rattle.rh_app.specs.RunText.{run_end}
+use Rattle.rh_run.specs.declared.fault.Told.{Told}
+use Rattle.rh_run.specs.RunText.{run_end}
 use Rattle.rh_story.specs.HeadText.{head_text}
 use Rattle.rh_story.specs.LineText.{line_text, behind_line, is_bad}
 use Rattle.rh_story.specs.TableText.{table_text, lack_behind, shown}

@@ -5,7 +5,7 @@ ghost use Rattle.std.specs.List.{flat_map};
 ghost use Rattle.rh_step.specs.Firings.{firings};
 ghost use Rattle.rh_trail.specs.SimView.{state_of};
 ghost use Rattle.rh_trail.specs.Lone.{served, trail_limit};
-ghost use Rattle.rh_trail.specs.declared.call.Call.TheVariants as call;
+ghost use Rattle.rh_calls.specs.declared.call.Call.TheVariants as call;
 ghost use Rattle.rh_rules.specs.declared.event.Event.TheVariants.{Tick, Boot};
 ghost use Rattle.rh_rules.specs.Refusals.{refused};
 ghost use Rattle.rh_rules.specs.Steps.{next};
@@ -19,11 +19,12 @@ use crate::head::push_closed;
 use crate::reasons::push_awaited;
 use crate::ticks::{push_answer, push_firings, push_notices};
 use rh_base::OutOfMemory;
+use rh_calls::Call;
 use rh_cluster::Node;
 use rh_notes::is_told;
 use rh_script::{Line, answer_text, bad_text, content, line_of};
 use rh_step::{Event, refusal_of};
-use rh_trail::{Call, Sim};
+use rh_trail::Sim;
 use std::alloc::Global;
 
 // Room that is kept from line to line, in bytes: what nearly all lines take, with what comes of them.
@@ -104,7 +105,7 @@ fn push_call(
 }
 
 // Gives a call to the simulation, and adds the answer.
-#[tactic(auto, using(rh_app::proofs::Keeping::served_keeps_cluster))]
+#[tactic(auto, using(rh_run::proofs::Keeping::served_keeps_cluster))]
 fn push_reply(
     alloc: Global,
     text: &mut Vec<u8>,
@@ -120,7 +121,7 @@ fn push_reply(
 }
 
 // Gives an event to the simulation, and adds what came of it.
-#[tactic(auto, using(rh_app::proofs::Keeping::served_keeps_cluster))]
+#[tactic(auto, using(rh_run::proofs::Keeping::served_keeps_cluster))]
 fn push_step(
     alloc: Global,
     text: &mut Vec<u8>,

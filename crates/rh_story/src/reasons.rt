@@ -4,7 +4,7 @@ ghost use Rattle.std.specs.Prelude.{◌≡◌, ◌<◌, ◌++◌, OnOk};
 ghost use Rattle.std.specs.List.{flat_map};
 ghost use Rattle.std.specs.Option.{option_to_list};
 ghost use Rattle.rh_state.specs.Stored.{read};
-ghost use Rattle.rh_settle.specs.Validity.{IsValid};
+ghost use Rattle.rh_trace.specs.Validity.{IsValid};
 ghost use Rattle.rh_why.specs.Texts.{reason_text};
 ghost use Rattle.rh_story.specs.LineText.{reason_line, app_lines, node_lines, why_lines};
 

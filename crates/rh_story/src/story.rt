@@ -3,19 +3,18 @@
 ghost use Rattle.std.specs.Prelude.{◌≡◌, ◌++◌, [], map, false, IfOk};
 ghost use Rattle.rh_trail.specs.Lone.{opened};
 ghost use Rattle.rh_script.specs.Lines.{raw_lines, content, lines_behind, script_lines};
-ghost use Rattle.rh_app.specs.RunText.{bad_line, lines_asked, run_end, Wrote, Broke};
-ghost use Rattle.rh_app.specs.Programs.{ProgramGives, NoThreads};
+ghost use Rattle.rh_run.specs.RunText.{bad_line, lines_asked, run_end, Wrote, Broke};
+ghost use Rattle.rh_run.specs.Programs.{ProgramGives, NoThreads};
 ghost use Rattle.rh_story.specs.TableText.{table_text, lack_behind};
 ghost use Rattle.rh_story.specs.StoryText.{head_if, lines_text, story_text, OwesStory};
 
 use crate::head::{head_text, script_of};
 use crate::lines::tell_line;
 use crate::table::{lack_behind, shown, table_text};
-use rh_app::{
-    RunFault, Sink, Source, Told, Watched, WriteFault, ended, read_input, write_fault, write_text,
-};
 use rh_base::OutOfMemory;
 use rh_cluster::{Cluster, read_cluster};
+use rh_devices::{Sink, Source, Watched, WriteFault, read_input, write_text};
+use rh_run::{RunFault, Told, ended, write_fault};
 use rh_script::{cut, split_line};
 use rh_step::Pick;
 use rh_trail::Sim;
@@ -50,7 +49,7 @@ pub fn run_story<S: Source, K: Sink>(
 }
 
 // Writes the story of an input.
-#[tactic(auto, unfolding(crate::specs::StoryText::story_text, rh_app::specs::RunText::run_end))]
+#[tactic(auto, unfolding(crate::specs::StoryText::story_text, rh_run::specs::RunText::run_end))]
 fn tell_input<K: Sink>(
     alloc: Global,
     input: &[u8],

@@ -8,7 +8,7 @@ use Rattle.rh_notes.specs.declared.notes.Kind.{Kind}
 use Rattle.rh_notes.specs.declared.notes.Kind.TheVariants as kind
 use Rattle.rh_notes.specs.Notes.{mark, note_of, is_told}
 use Rattle.rh_rules.specs.declared.pick.Pick.{Pick}
-use Rattle.rh_trail.specs.declared.call.Call.{Call}
+use Rattle.rh_calls.specs.declared.call.Call.{Call}
 use Rattle.rh_trail.specs.SimView.{SimView}
 use Rattle.rh_trail.specs.Lone.{opened, served}
 use Rattle.rh_courses.specs.Courses.{CourseView, courses_in}
@@ -18,8 +18,8 @@ use Rattle.rh_script.specs.declared.script.Line.{Line}
 use Rattle.rh_script.specs.declared.script.Line.TheVariants.{Nothing, Asks, Bad}
 use Rattle.rh_script.specs.Lines.{raw_lines, content, ends_with}
 use Rattle.rh_script.specs.Commands.{line_of}
-use Rattle.rh_app.specs.RunText.{bad_line, lines_asked}
-use Rattle.rh_app.proofs.Keeping.{served_keeps_cluster}
+use Rattle.rh_run.specs.RunText.{bad_line, lines_asked}
+use Rattle.rh_run.proofs.Keeping.{served_keeps_cluster}
 use Rattle.rh_story.specs.HeadText.{missing_end, closed}
 use Rattle.rh_story.specs.LineText.{kept, call_lines, line_text, behind_line, is_bad}
 use Rattle.rh_story.specs.TableText.{is_table_note, course_line, table_text, lack_behind, starts_table, is_left_out, shown}

@@ -21,14 +21,14 @@ use Rattle.rh_rules.specs.declared.refusal.Refusal.{Refusal}
 use Rattle.rh_rules.specs.declared.refusal.Refusal.TheVariants.{TrailFull}
 use Rattle.rh_rules.specs.Refusals.{refused, refusal_words}
 use Rattle.rh_rules.specs.Steps.{next}
-use Rattle.rh_settle.specs.Validity.{IsValid}
+use Rattle.rh_trace.specs.Validity.{IsValid}
 use Rattle.rh_step.specs.Firings.{FiringView, firings, told_by}
 use Rattle.rh_step.proofs.FiringsTold.{firings_tell_the_tick}
-use Rattle.rh_trail.specs.declared.call.Call.{Call}
-use Rattle.rh_trail.specs.declared.call.Call.TheVariants as call
-use Rattle.rh_trail.specs.declared.call.Reply.{Reply}
-use Rattle.rh_trail.specs.declared.call.Reply.TheVariants as reply
-use Rattle.rh_trail.specs.Report.{node_word, app_word, mode_words, restart_words, kind_words, standing_words, timer_words, node_line, running_line, waiting_line, forbidden_line, line_if_forbidden, standing_line, app_line, timer_line, node_lines as report_node, report_text}
+use Rattle.rh_calls.specs.declared.call.Call.{Call}
+use Rattle.rh_calls.specs.declared.call.Call.TheVariants as call
+use Rattle.rh_calls.specs.declared.call.Reply.{Reply}
+use Rattle.rh_calls.specs.declared.call.Reply.TheVariants as reply
+use Rattle.rh_report.specs.Report.{node_word, app_word, mode_words, restart_words, kind_words, standing_words, timer_words, node_line, running_line, waiting_line, forbidden_line, line_if_forbidden, standing_line, app_line, timer_line, node_lines as report_node, report_text}
 use Rattle.rh_trail.specs.SimView.{SimView, state_of}
 use Rattle.rh_trail.specs.Lone.{answered, stepped, served, with_event, trail_limit}
 use Rattle.rh_trail.proofs.Reversals.{IsAccepted, accepted}
@@ -38,7 +38,7 @@ use Rattle.rh_why.specs.Texts.{reason_text, awaited_text}
 use Rattle.rh_courses.proofs.Passing.{state_cluster}
 use Rattle.rh_script.specs.Answers.{pair_words, notice_line, reason_words, answer_text}
 use Rattle.rh_script.specs.Laws.{IsUnbroken, HasUnbroken}
-use Rattle.rh_app.proofs.Keeping.{served_keeps_cluster}
+use Rattle.rh_run.proofs.Keeping.{served_keeps_cluster}
 use Rattle.rh_story.specs.LineText.{answer_lines, time_line, reason_line, app_lines, node_lines, why_lines, notice_lines, firing_lines, event_lines, call_lines}
 use Rattle.rh_story_laws.proofs.Texts.{free, Ended, nothing, ended_by, ended_append, ended_each}
 use Rattle.rh_story_laws.proofs.Words.{number_free, reason_free, awaited_free}

@@ -6,7 +6,7 @@ use Rattle.std.proofs.lemmas.List.Elements.{filter_map-append}
 use Rattle.rh_model.specs.ClusterView.{ClusterView, IsWithin}
 use Rattle.rh_notes.specs.Notes.{note_of, is_told}
 use Rattle.rh_rules.specs.declared.pick.Pick.{Pick}
-use Rattle.rh_trail.specs.declared.call.Call.{Call}
+use Rattle.rh_calls.specs.declared.call.Call.{Call}
 use Rattle.rh_trail.specs.SimView.{SimView}
 use Rattle.rh_trail.specs.Lone.{opened, served}
 use Rattle.rh_courses.specs.Courses.{courses_in}
@@ -16,8 +16,8 @@ use Rattle.rh_script.specs.declared.script.Line.TheVariants.{Nothing, Asks, Bad}
 use Rattle.rh_script.specs.Lines.{content}
 use Rattle.rh_script.specs.Commands.{line_of}
 use Rattle.rh_script.specs.Answers.{answer_text}
-use Rattle.rh_app.specs.RunText.{bad_line, lines_asked}
-use Rattle.rh_app.proofs.Keeping.{served_keeps_cluster}
+use Rattle.rh_run.specs.RunText.{bad_line, lines_asked}
+use Rattle.rh_run.proofs.Keeping.{served_keeps_cluster}
 use Rattle.rh_story.specs.HeadText.{missing_end, closed}
 use Rattle.rh_story.specs.LineText.{call_lines}
 use Rattle.rh_story.specs.TableText.{course_line, table_text, lack_behind, is_left_out}

@@ -6,10 +6,10 @@ use Rattle.rh_state.specs.First.{first}
 use Rattle.rh_state.specs.StateView.{StateView}
 use Rattle.rh_rules.specs.declared.pick.Pick.{Pick}
 use Rattle.rh_rules.specs.declared.event.Event.{Event}
-use Rattle.rh_settle.specs.Validity.{IsValid}
-use Rattle.rh_trail.specs.declared.call.Call.{Call}
-use Rattle.rh_trail.specs.declared.call.Call.TheVariants as call
-use Rattle.rh_trail.specs.Runs.{step, after}
+use Rattle.rh_trace.specs.Validity.{IsValid}
+use Rattle.rh_calls.specs.declared.call.Call.{Call}
+use Rattle.rh_calls.specs.declared.call.Call.TheVariants as call
+use Rattle.rh_step.specs.Runs.{step, after}
 use Rattle.rh_trail.specs.SimView.{SimView, state_of}
 use Rattle.rh_trail.specs.Lone.{opened, served, sim_after}
 use Rattle.rh_trail.proofs.Reversals.{calls_reversible}

@@ -16,10 +16,10 @@ use Rattle.rh_rules.specs.declared.event.Event.TheVariants.{Boot, Crash, Tick, S
 use Rattle.rh_rules.specs.declared.notice.Notice.{Notice}
 use Rattle.rh_rules.specs.declared.notice.Notice.TheVariants.{Up, Ended as NodeEnded, Started, Stopped, Waits}
 use Rattle.rh_step.specs.Firings.{FiringView, firings}
-use Rattle.rh_trail.specs.declared.call.Call.{Call}
-use Rattle.rh_trail.specs.declared.call.Call.TheVariants as call
-use Rattle.rh_trail.specs.declared.call.Reply.{Reply}
-use Rattle.rh_trail.specs.declared.call.Reply.TheVariants as reply
+use Rattle.rh_calls.specs.declared.call.Call.{Call}
+use Rattle.rh_calls.specs.declared.call.Call.TheVariants as call
+use Rattle.rh_calls.specs.declared.call.Reply.{Reply}
+use Rattle.rh_calls.specs.declared.call.Reply.TheVariants as reply
 use Rattle.rh_trail.specs.SimView.{SimView, state_of}
 use Rattle.rh_trail.specs.Lone.{served}
 use Rattle.rh_why.specs.declared.reason.Reason.{Reason}
@@ -34,7 +34,7 @@ use Rattle.rh_script.specs.Lines.{raw_lines, content}
 use Rattle.rh_script.specs.Laws.{IsUnbroken, HasUnbroken}
 use Rattle.rh_script.specs.Commands.{line_of}
 use Rattle.rh_script.specs.Answers.{notice_line, answer_text}
-use Rattle.rh_app.proofs.Keeping.{served_keeps_cluster}
+use Rattle.rh_run.proofs.Keeping.{served_keeps_cluster}
 use Rattle.rh_story.specs.LineText.{answer_lines, time_line, reason_line, node_lines, why_lines, notice_lines, firing_lines, event_lines, call_lines}
 use Rattle.rh_story.specs.TableText.{course_line}
 use Rattle.rh_story_laws.proofs.Texts.{free, Ended, nothing, line, first_line, lines_append, ended_by}

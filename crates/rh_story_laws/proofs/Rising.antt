@@ -17,14 +17,14 @@ use Rattle.rh_rules.specs.NodesStart.{all_alive, come_up, ready_come_up}
 use Rattle.rh_rules.specs.NodesEnd.{ended, wanted_if_lost}
 use Rattle.rh_rules.specs.Steps.{followed, next}
 use Rattle.rh_rules.specs.Time.{due_by, effect, taken_off, fired, ticked}
-use Rattle.rh_settle.specs.Validity.{IsSound, IsValid}
+use Rattle.rh_trace.specs.Validity.{IsSound, IsValid}
 use Rattle.rh_settle.proofs.Unchanged.{settled_time}
 use Rattle.rh_events.proofs.Fields.{ended_time}
 use Rattle.rh_events.proofs.SoundComingUp.{come_up_time, ready_come_up_time}
 use Rattle.rh_step.specs.Firings.{fired_in}
 use Rattle.rh_step.proofs.Fuel.{by_found, due_stands_first, due_within, sound_fired}
 use Rattle.rh_step.proofs.TimeLaws.{followed_time}
-use Rattle.rh_trail.specs.Runs.{step}
+use Rattle.rh_step.specs.Runs.{step}
 use Rattle.rh_courses.specs.declared.course.Change.{Change}
 use Rattle.rh_courses.specs.Moments.{if_found, behind_timers, behind_firings, passed_in, passed}
 use Rattle.rh_courses.specs.Courses.{moment, same_place, changes_from}

@@ -19,7 +19,7 @@ use Rattle.rh_rules.specs.Refusals.{refused}
 use Rattle.rh_rules.specs.Steps.{followed, next}
 use Rattle.rh_rules.specs.Time.{fired, fired_by, all_fired, ticked}
 use Rattle.rh_step.specs.Firings.{firings_by, firings}
-use Rattle.rh_trail.specs.Runs.{step}
+use Rattle.rh_step.specs.Runs.{step}
 use Rattle.rh_trail.specs.Lone.{opened}
 use Rattle.rh_why.specs.Reasons.{reasons, awaited}
 use Rattle.rh_why.specs.Texts.{reason_text, awaited_text}

@@ -16,14 +16,14 @@ use Rattle.rh_rules.specs.NodesStart.{all_alive, is_ready, come_up, come_up_if_r
 use Rattle.rh_rules.specs.Marking.{with_mark, mark_all}
 use Rattle.rh_rules.specs.Refusals.{refused}
 use Rattle.rh_rules.specs.Steps.{followed, next}
-use Rattle.rh_trail.specs.Runs.{step}
+use Rattle.rh_step.specs.Runs.{step}
 use Rattle.rh_trail.specs.Lone.{opened}
-use Rattle.rh_trail.specs.Report.{node_line, running_line, waiting_line, forbidden_line, line_if_forbidden, standing_line, app_line, timer_line, node_lines}
+use Rattle.rh_report.specs.Report.{node_line, running_line, waiting_line, forbidden_line, line_if_forbidden, standing_line, app_line, timer_line, node_lines}
 use Rattle.rh_script.specs.Lines.{raw_lines, content}
 use Rattle.rh_script.specs.Forms.{verb_named}
 use Rattle.rh_script.specs.Commands.{line_of}
 use Rattle.rh_script.specs.Answers.{notice_line, answer_text, bad_text}
-use Rattle.rh_app.specs.declared.fault.Told.TheVariants as told
+use Rattle.rh_run.specs.declared.fault.Told.TheVariants as told
 use Rattle.rh_story.specs.TableText.{table_text, is_left_out}
 use Rattle.rh_story.specs.StoryText.{lines_text}
 use Rattle.rh_verify.specs.Spaces.{lines_of, without_front, without_spaces}

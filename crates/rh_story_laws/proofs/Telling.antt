@@ -7,8 +7,8 @@ use Rattle.std.proofs.lemmas.Bool.{eqb-true}
 use Rattle.rh_model.specs.ClusterView.{ClusterView, IsWithin}
 use Rattle.rh_notes.specs.Notes.{is_told}
 use Rattle.rh_rules.specs.declared.pick.Pick.{Pick}
-use Rattle.rh_settle.specs.Validity.{IsValid}
-use Rattle.rh_trail.specs.declared.call.Call.{Call}
+use Rattle.rh_trace.specs.Validity.{IsValid}
+use Rattle.rh_calls.specs.declared.call.Call.{Call}
 use Rattle.rh_trail.specs.SimView.{SimView, state_of}
 use Rattle.rh_trail.specs.Lone.{opened, served, sim_after}
 use Rattle.rh_trail.proofs.Reversals.{calls_reversible}
@@ -20,8 +20,8 @@ use Rattle.rh_script.specs.declared.script.Line.TheVariants.{Nothing, Asks, Bad}
 use Rattle.rh_script.specs.Lines.{content}
 use Rattle.rh_script.specs.Commands.{line_of, calls_of}
 use Rattle.rh_script.specs.Answers.{answer_text}
-use Rattle.rh_app.specs.RunText.{bad_line, lines_asked, answers_text}
-use Rattle.rh_app.proofs.Keeping.{served_keeps_cluster}
+use Rattle.rh_run.specs.RunText.{bad_line, lines_asked, answers_text}
+use Rattle.rh_run.proofs.Keeping.{served_keeps_cluster}
 use Rattle.rh_story.specs.HeadText.{missing_end, closed}
 use Rattle.rh_story.specs.LineText.{kept, call_lines, line_text, behind_line, is_bad}
 use Rattle.rh_story.specs.TableText.{course_line, table_text, lack_behind, starts_table, is_left_out, shown}

@@ -11,11 +11,11 @@ use Rattle.rh_state.specs.StateView.{StateView}
 use Rattle.rh_rules.specs.declared.event.Event.TheVariants.{Tick}
 use Rattle.rh_rules.specs.declared.notice.Notice.{Notice}
 use Rattle.rh_rules.specs.declared.notice.Notice.TheVariants.{Up, Ended as NodeEnded, Started, Stopped, Waits}
-use Rattle.rh_settle.specs.Validity.{IsValid}
+use Rattle.rh_trace.specs.Validity.{IsValid}
 use Rattle.rh_step.specs.Firings.{FiringView}
 use Rattle.rh_step.proofs.FiringsTold.{firings_tell_the_tick, firings_are_in_time}
-use Rattle.rh_trail.specs.declared.call.Call.TheVariants as call
-use Rattle.rh_trail.specs.declared.call.Reply.TheVariants as reply
+use Rattle.rh_calls.specs.declared.call.Call.TheVariants as call
+use Rattle.rh_calls.specs.declared.call.Reply.TheVariants as reply
 use Rattle.rh_trail.specs.SimView.{SimView, state_of}
 use Rattle.rh_trail.specs.Lone.{opened, served, sim_after}
 use Rattle.rh_trail.proofs.Reversals.{IsAccepted, accepted, calls_reversible}
@@ -27,7 +27,7 @@ use Rattle.rh_script.specs.Lines.{raw_lines}
 use Rattle.rh_script.specs.Laws.{IsUnbroken, HasUnbroken}
 use Rattle.rh_script.specs.Answers.{notice_line, answer_text}
 use Rattle.rh_script.proofs.NameWords.{clusters_have_words}
-use Rattle.rh_app.proofs.Keeping.{served_keeps_cluster}
+use Rattle.rh_run.proofs.Keeping.{served_keeps_cluster}
 use Rattle.rh_story.specs.LineText.{answer_lines, time_line, reason_line, why_lines, notice_lines, firing_lines, call_lines}
 use Rattle.rh_story_laws.specs.Answers.{answer_in, answers_in}
 use Rattle.rh_story_laws.specs.Ticks.{time_in, until_time, with_time, timed, tick_lines, fired_in_tick, tells_some, as_told, IsToldByTimes, NoticesOfATickAreRuns}

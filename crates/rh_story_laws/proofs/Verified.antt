@@ -10,9 +10,9 @@ use Rattle.rh_cluster.specs.ClusterOf.{cluster_of}
 use Rattle.rh_cluster.proofs.ReadWithin.{clusters_within}
 use Rattle.rh_notes.specs.Notes.{note_of}
 use Rattle.rh_rules.specs.declared.pick.Pick.{Pick}
-use Rattle.rh_trail.specs.declared.call.Call.{Call}
-use Rattle.rh_trail.specs.declared.call.Reply.{Reply}
-use Rattle.rh_trail.specs.declared.call.Reply.TheVariants as reply
+use Rattle.rh_calls.specs.declared.call.Call.{Call}
+use Rattle.rh_calls.specs.declared.call.Reply.{Reply}
+use Rattle.rh_calls.specs.declared.call.Reply.TheVariants as reply
 use Rattle.rh_trail.specs.SimView.{SimView}
 use Rattle.rh_trail.specs.Lone.{opened, served}
 use Rattle.rh_script.specs.declared.script.Line.{Line}
@@ -23,9 +23,9 @@ use Rattle.rh_script.specs.Commands.{line_of, calls_of}
 use Rattle.rh_script.specs.Answers.{notice_line, reason_words, answer_text}
 use Rattle.rh_rules.specs.Refusals.{refusal_words}
 use Rattle.rh_script.proofs.NameWords.{clusters_have_words}
-use Rattle.rh_app.specs.declared.fault.Told.{Told}
-use Rattle.rh_app.specs.declared.fault.Told.TheVariants as told
-use Rattle.rh_app.specs.RunText.{lines_asked}
+use Rattle.rh_run.specs.declared.fault.Told.{Told}
+use Rattle.rh_run.specs.declared.fault.Told.TheVariants as told
+use Rattle.rh_run.specs.RunText.{lines_asked}
 use Rattle.rh_story.specs.HeadText.{head_text}
 use Rattle.rh_story.specs.StoryText.{lines_text, story_over, story_text}
 use Rattle.rh_verify.specs.Spaces.{lines_of}

@@ -15,8 +15,8 @@ use Rattle.rh_script.specs.Laws.{IsUnbroken, HasUnbroken}
 use Rattle.rh_script.specs.Lines.{raw_lines, content, is_separator, lines_behind, cluster_text, script_lines}
 use Rattle.rh_script.specs.Commands.{calls_of}
 use Rattle.rh_script.proofs.NameWords.{clusters_have_words}
-use Rattle.rh_app.specs.declared.fault.Told.TheVariants as fault
-use Rattle.rh_app.specs.RunText.{bad_line, lines_asked, answers_text, end_text, text_over, end_over, run_text, run_end}
+use Rattle.rh_run.specs.declared.fault.Told.TheVariants as fault
+use Rattle.rh_run.specs.RunText.{bad_line, lines_asked, answers_text, end_text, text_over, end_over, run_text, run_end}
 use Rattle.rh_story.specs.HeadText.{closed, head_text}
 use Rattle.rh_story.specs.TableText.{course_line, table_text, lack_behind}
 use Rattle.rh_story.specs.StoryText.{lines_text, story_over, story_text}

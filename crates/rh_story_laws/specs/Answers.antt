@@ -8,7 +8,7 @@ use Rattle.rh_model.specs.ClusterView.{ClusterView}
 use Rattle.rh_cluster.specs.ClusterOf.{cluster_of}
 use Rattle.rh_rules.specs.declared.pick.Pick.{Pick}
 use Rattle.rh_script.specs.Lines.{raw_lines, lines_behind, cluster_text}
-use Rattle.rh_app.specs.RunText.{run_text, run_end}
+use Rattle.rh_run.specs.RunText.{run_text, run_end}
 use Rattle.rh_story.specs.StoryText.{story_text}
 
 -- what stands behind the mark `#= `, where a line is an answer

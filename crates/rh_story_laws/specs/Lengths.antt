@@ -3,7 +3,7 @@ use Rattle.std.specs.Prelude.{◌≡◌, ◌+◌, ◌-◌, List}
 use Rattle.rh_model.specs.ClusterView.{ClusterView, IsWithin}
 use Rattle.rh_model.specs.declared.node.App.{App}
 use Rattle.rh_rules.specs.declared.pick.Pick.{Pick}
-use Rattle.rh_trail.specs.declared.call.Call.{Call}
+use Rattle.rh_calls.specs.declared.call.Call.{Call}
 use Rattle.rh_trail.specs.Lone.{opened, sim_after}
 use Rattle.rh_courses.specs.Courses.{CourseView, course_in, ran, away}
 use Rattle.rh_courses.specs.Laws.{began_by}

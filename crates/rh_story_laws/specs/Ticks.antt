@@ -12,9 +12,9 @@ use Rattle.rh_rules.specs.declared.pick.Pick.{Pick}
 use Rattle.rh_rules.specs.declared.event.Event.TheVariants.{Tick}
 use Rattle.rh_rules.specs.declared.notice.Notice.{Notice}
 use Rattle.rh_step.specs.Firings.{FiringView, firings, told_by}
-use Rattle.rh_trail.specs.declared.call.Call.{Call}
-use Rattle.rh_trail.specs.declared.call.Call.TheVariants as call
-use Rattle.rh_trail.specs.declared.call.Reply.TheVariants as reply
+use Rattle.rh_calls.specs.declared.call.Call.{Call}
+use Rattle.rh_calls.specs.declared.call.Call.TheVariants as call
+use Rattle.rh_calls.specs.declared.call.Reply.TheVariants as reply
 use Rattle.rh_trail.specs.SimView.{SimView, state_of}
 use Rattle.rh_trail.specs.Lone.{opened, served, sim_after}
 use Rattle.rh_script.specs.Lines.{raw_lines}

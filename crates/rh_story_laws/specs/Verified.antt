@@ -6,8 +6,8 @@ use Rattle.rh_notes.specs.Notes.{note_of}
 use Rattle.rh_rules.specs.declared.pick.Pick.{Pick}
 use Rattle.rh_script.specs.Lines.{script_lines}
 use Rattle.rh_script.specs.Commands.{calls_of}
-use Rattle.rh_app.specs.declared.fault.Told.{Told}
-use Rattle.rh_app.specs.RunText.{lines_asked}
+use Rattle.rh_run.specs.declared.fault.Told.{Told}
+use Rattle.rh_run.specs.RunText.{lines_asked}
 use Rattle.rh_story.specs.StoryText.{OwesStory}
 use Rattle.rh_verify.specs.Expected.{asked_by, ahead, wanted_in, wanted_among}
 use Rattle.rh_verify.specs.Blocks.{report_behind, missing}

@@ -7,18 +7,18 @@ use Rattle.rh_rules.specs.declared.event.Event.{Event}
 use Rattle.rh_rules.specs.declared.refusal.Refusal.{Refusal}
 use Rattle.rh_rules.specs.Refusals.{refused}
 use Rattle.rh_rules.specs.declared.notice.Notice.{Notice}
-use Rattle.rh_settle.specs.Validity.{IsValid}
+use Rattle.rh_trace.specs.Validity.{IsValid}
 use Rattle.rh_state.specs.declared.edit.Edit.{Edit}
 use Rattle.rh_state.specs.Edits.{exchange}
 use Rattle.rh_state.specs.Records.{CanGoBack, LedBy, Grows}
 use Rattle.rh_state.specs.StateView.{StateView}
 use Rattle.rh_state.specs.Stored.{Stored, read}
 use Rattle.rh_rules.specs.Steps.{next}
-use Rattle.rh_trail.specs.declared.call.Call.TheVariants as call
-use Rattle.rh_trail.specs.declared.call.Reply.TheVariants as reply
+use Rattle.rh_calls.specs.declared.call.Call.TheVariants as call
+use Rattle.rh_calls.specs.declared.call.Reply.TheVariants as reply
 use Rattle.rh_trail.specs.Chain.{IsChain}
 use Rattle.rh_trail.specs.Lone.{served, stepped, answered, with_event, trail_limit}
-use Rattle.rh_trail.specs.Runs.{step}
+use Rattle.rh_step.specs.Runs.{step}
 use Rattle.rh_trail.specs.SimView.{SimView, Held, state_of}
 use Rattle.rh_trail.proofs.Moves.{step_served}
 use Rattle.rh_trail.proofs.Reversals.{state_of-with_event}

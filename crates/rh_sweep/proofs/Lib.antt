@@ -4,4 +4,3 @@ pub mod Branching
 pub mod Strides
 pub mod Turns
 pub mod Rows
-pub mod RowsSweeping

@@ -12,10 +12,10 @@ use Rattle.rh_rules.specs.NodesStart.{all_alive, is_ready, come_up, come_up_if_r
 use Rattle.rh_rules.specs.Marking.{mark_all}
 use Rattle.rh_rules.specs.Refusals.{refused}
 use Rattle.rh_rules.specs.Steps.{followed, next}
-use Rattle.rh_trail.specs.Runs.{step}
+use Rattle.rh_step.specs.Runs.{step}
 use Rattle.rh_trail.specs.Lone.{opened}
-use Rattle.rh_trail.specs.declared.call.Reply.TheVariants.{Done, Refused}
-use Rattle.rh_sweep.specs.Outcomes.{outcome_in, outcome_by}
+use Rattle.rh_calls.specs.declared.call.Reply.TheVariants.{Done, Refused}
+use Rattle.rh_outcomes.specs.Outcomes.{outcome_in, outcome_by}
 
 abbrev one_node : ClusterView
 one_node = record { profile = 1; node_names = codes "a" ∷ []; app_names = []; platform_names = []; nodes = []; apps = [] }

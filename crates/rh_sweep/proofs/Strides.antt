@@ -9,7 +9,7 @@ use Rattle.std.proofs.Math.Nat.{mul-le-mul_left}
 use Rattle.rh_trail.specs.SimView.{SimView}
 use Rattle.rh_plans.specs.declared.plan.Outcome.{Outcome}
 use Rattle.rh_plans.specs.declared.plan.Plan.{Plan}
-use Rattle.rh_sweep.specs.Outcomes.{outcome_of}
+use Rattle.rh_outcomes.specs.Outcomes.{outcome_of}
 use Rattle.rh_sweep.specs.Working.{AreOutcomes, EachOf}
 
 module _ (s : SimView) (plans : List Plan) (k first : ℕ) where

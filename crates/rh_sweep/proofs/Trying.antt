@@ -9,17 +9,17 @@ use Rattle.std.proofs.Math.Seq.{drop-cons}
 use Rattle.rh_rules.specs.declared.notice.Notice.{Notice}
 use Rattle.rh_rules.specs.declared.event.Event.{Event}
 use Rattle.rh_rules.specs.declared.refusal.Refusal.{Refusal}
-use Rattle.rh_trail.specs.declared.call.Call.{Call}
-use Rattle.rh_trail.specs.declared.call.Call.TheVariants.{Step}
-use Rattle.rh_trail.specs.declared.call.Reply.{Reply}
-use Rattle.rh_trail.specs.declared.call.Reply.TheVariants.{Done, Refused}
+use Rattle.rh_calls.specs.declared.call.Call.{Call}
+use Rattle.rh_calls.specs.declared.call.Call.TheVariants.{Step}
+use Rattle.rh_calls.specs.declared.call.Reply.{Reply}
+use Rattle.rh_calls.specs.declared.call.Reply.TheVariants.{Done, Refused}
 use Rattle.rh_trail.specs.Chain.{chain}
 use Rattle.rh_trail.specs.SimView.{SimView, Held, state_of}
 use Rattle.rh_trail.specs.Lone.{Served, answered, served, replies, sim_after, with_event}
 use Rattle.rh_trail.proofs.Reversals.{accepted}
 use Rattle.rh_plans.specs.declared.plan.Outcome.{Outcome}
-use Rattle.rh_sweep.specs.Outcomes.{is_done, told, refusal_at, is_failover, is_takeover, standings_in, steps, outcome_in}
-use Rattle.rh_sweep.specs.Sweeping.{IsAtEnd}
+use Rattle.rh_outcomes.specs.Outcomes.{is_done, told, refusal_at, is_failover, is_takeover, standings_in, steps, outcome_in}
+use Rattle.rh_outcomes.specs.Sweeping.{IsAtEnd}
 use Rattle.rh_sweep.specs.Working.{IsAhead, WentOn, ended}
 
 pub if-ok : {X E : Type 0} (r : Result X E) (P Q : X → Type 0) → ((x : X) → P x → Q x) → IfOk r P → IfOk r Q

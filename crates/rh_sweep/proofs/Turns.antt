@@ -9,7 +9,7 @@ use Rattle.std.proofs.lemmas.Bool.{cases_lt}
 use Rattle.rh_trail.specs.SimView.{SimView}
 use Rattle.rh_plans.specs.declared.plan.Outcome.{Outcome}
 use Rattle.rh_plans.specs.declared.plan.Plan.{Plan}
-use Rattle.rh_sweep.specs.Outcomes.{outcome_of}
+use Rattle.rh_outcomes.specs.Outcomes.{outcome_of}
 use Rattle.rh_sweep.specs.Working.{AreOutcomes, given}
 
 -- what was taken from the front of a queue that isn't empty

@@ -2,7 +2,7 @@
 use Rattle.std.specs.Prelude.{◌≡◌, ◌≤◌, ◌<◌, ◌+◌, ◌*◌, ℕ, false, List, [], length, take, Option, Some, None, Result, Ok, Err, Vec, slice_get}
 use Rattle.std.specs.Option.{option_map}
 use Rattle.rh_rules.specs.declared.refusal.Refusal.{Refusal}
-use Rattle.rh_settle.specs.Validity.{IsValid}
+use Rattle.rh_trace.specs.Validity.{IsValid}
 use Rattle.rh_state.specs.Records.{LedBy}
 use Rattle.rh_state.specs.StateView.{StateView}
 use Rattle.rh_state.specs.Stored.{read}
@@ -11,8 +11,8 @@ use Rattle.rh_trail.specs.SimView.{SimView, Held, state_of}
 use Rattle.rh_plans.specs.declared.plan.Outcome.{Outcome}
 use Rattle.rh_plans.specs.declared.plan.Plan.{Plan}
 use Rattle.rh_sweep.specs.declared.branch.Branch.{Branch}
-use Rattle.rh_sweep.specs.Outcomes.{outcome_of, standings_in}
-use Rattle.rh_sweep.specs.Sweeping.{IsAtEnd}
+use Rattle.rh_outcomes.specs.Outcomes.{outcome_of, standings_in}
+use Rattle.rh_outcomes.specs.Sweeping.{IsAtEnd}
 
 -- the outcome of a plan that ends in this state
 abbrev pub ended : StateView → ℕ → Option (ℕ × Refusal) → ℕ → ℕ → Outcome

@@ -2,8 +2,8 @@
 
 ghost use Rattle.std.specs.Prelude.{◌≡◌, true, IfOk, OnOk};
 ghost use Rattle.rh_trail.specs.SimView.{SimView};
-ghost use Rattle.rh_sweep.specs.Outcomes.{outcome_of};
-ghost use Rattle.rh_sweep.specs.Sweeping.{HasRoom};
+ghost use Rattle.rh_outcomes.specs.Outcomes.{outcome_of};
+ghost use Rattle.rh_outcomes.specs.Sweeping.{HasRoom};
 
 mod alone;
 mod inside;

@@ -1,33 +1,16 @@
-//! Who tries the plans of a sweep.
+//! The crews that there are: the caller alone, and threads.
 
 ghost use denote.Param.Send.{IsSync};
-ghost use Rattle.std.specs.Prelude.{◌≡◌, ⊤, ℕ, map, IfOk, IfErr, OnOk};
-ghost use Rattle.rh_sweep.specs.Outcomes.{outcome_of};
-ghost use Rattle.rh_sweep.specs.Sweeping.{MaySweep, WhyNotSwept};
+ghost use Rattle.std.specs.Prelude.{◌≡◌, ⊤};
 
 use crate::branch::sweep_alone;
 use crate::workers::{FreeGate, sweep};
+use rh_outcomes::Crew;
 use rh_plans::{Outcome, Plan, SweepFault};
 use rh_trail::Sim;
 use std::alloc::Global;
 use std::sync::Wait;
 use std::thread::Threads;
-
-/// Some workers, who try plans. What is said of their call holds if it returns.
-pub trait Crew {
-    // They are in a state in which they can try plans.
-    ghost ready: { Self → Type 0 };
-
-    // How many they are.
-    ghost workers: { Self → ℕ };
-
-    /// The outcomes of the plans, in their order, each tried from the base.
-    fn sweep(&self, alloc: Global, base: &Sim, plans: &[Plan]) -> Result<Vec<Outcome>, SweepFault>
-        requires { ready self.now }
-        ensures outcomes { IfOk result (λ outcomes. outcomes.items ≡ map (outcome_of base.now.seen) plans.now) }
-        ensures fine { OnOk result (MaySweep base.now.seen plans.now (workers self.now)) }
-        ensures fault { IfErr result (WhyNotSwept base.now.seen plans.now (workers self.now)) };
-}
 
 /// The caller as the only worker. It waits for nobody.
 #[derive(Clone, Copy)]

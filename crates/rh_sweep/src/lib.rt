@@ -15,7 +15,8 @@ mod trial;
 mod workers;
 
 pub use branch::sweep_alone;
-pub use crews::{Alone, Crew, Threaded};
-pub use rh_plans::{Outcome, Plan, Standings, SweepFault};
+pub use crews::{Alone, Threaded};
+pub use rh_outcomes::Crew;
+pub use rh_plans::{MAX_WORKERS, Outcome, Plan, Standings, SweepFault};
 pub use trial::try_plan;
-pub use workers::{FreeGate, Gate, MAX_WORKERS, sweep};
+pub use workers::{FreeGate, Gate, sweep};

@@ -1,13 +1,12 @@
 //! How plans are shared out among workers, and their outcomes put together.
 
 ghost use Rattle.std.specs.Prelude.{◌≡◌, ◌<◌, ◌↔◌, ℕ, length, map, All, IsTrue, IsOk, slice_index_or, IfOk, IfSome, IfNone, OnOk, Some};
-ghost use Rattle.rh_sweep.specs.Outcomes.{outcome_of};
-ghost use Rattle.rh_sweep.specs.Sweeping.{HasRoom, IsAtEnd, MaySweep, WhyNotSwept};
+ghost use Rattle.rh_outcomes.specs.Outcomes.{outcome_of};
+ghost use Rattle.rh_outcomes.specs.Sweeping.{HasRoom, IsAtEnd, MaySweep, WhyNotSwept};
 ghost use Rattle.rh_sweep.specs.Working.{AreOutcomes, given};
 
-use crate::workers::MAX_WORKERS;
 use rh_base::OutOfMemory;
-use rh_plans::{Outcome, Plan, SweepFault};
+use rh_plans::{MAX_WORKERS, Outcome, Plan, SweepFault};
 use rh_trail::Sim;
 use std::alloc::Global;
 use std::collections::VecDeque;

@@ -3,7 +3,7 @@
 ghost use Rattle.std.specs.Prelude.{◌≡◌, ◌<◌, ◌++◌, IfOk, OnOk};
 ghost use Rattle.rh_model.specs.ClusterView.{app_count};
 ghost use Rattle.rh_state.specs.Stored.{read};
-ghost use Rattle.rh_sweep.specs.Outcomes.{standing_in, standings_in};
+ghost use Rattle.rh_outcomes.specs.Outcomes.{standing_in, standings_in};
 
 use rh_base::OutOfMemory;
 use rh_model::App;
@@ -25,7 +25,7 @@ pub(crate) fn standings_in(alloc: Global, state: &State) -> Result<Standings, Ou
 }
 
 // Adds an application and where it stands, if it is distributed.
-#[tactic(auto, unfolding(crate::specs::Outcomes::standing_in))]
+#[tactic(auto, unfolding(rh_outcomes::specs::Outcomes::standing_in))]
 fn push_standing(
     standings: &mut Vec<(App, Standing)>,
     state: &State,

@@ -3,9 +3,9 @@
 ghost use Rattle.std.specs.Prelude.{◌≡◌, ◌≢◌, ◌<◌, IfOk, IfErr, OnOk, OnErr};
 ghost use Rattle.rh_trail.specs.Lone.{served, answered, with_event, trail_limit};
 ghost use Rattle.rh_trail.specs.SimView.{SimView, Held, state_of};
-ghost use Rattle.rh_trail.specs.declared.call.Call.TheVariants as call;
-ghost use Rattle.rh_trail.specs.declared.call.Reply.TheVariants as reply;
-ghost use Rattle.rh_sweep.specs.Outcomes.{standings_in};
+ghost use Rattle.rh_calls.specs.declared.call.Call.TheVariants as call;
+ghost use Rattle.rh_calls.specs.declared.call.Reply.TheVariants as reply;
+ghost use Rattle.rh_outcomes.specs.Outcomes.{standings_in};
 
 use crate::standing::standings_in;
 use rh_base::OutOfMemory;

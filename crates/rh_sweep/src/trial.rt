@@ -4,8 +4,8 @@ ghost use Rattle.std.specs.Prelude.{◌≡◌, ◌≤◌, take, IfOk, count_by};
 ghost use Rattle.rh_rules.specs.declared.notice.Notice.{Notice};
 ghost use Rattle.rh_trail.specs.Chain.{chain};
 ghost use Rattle.rh_trail.specs.SimView.{SimView, Held, state_of};
-ghost use Rattle.rh_sweep.specs.Outcomes.{outcome_in, outcome_of, is_failover, is_takeover};
-ghost use Rattle.rh_sweep.specs.Sweeping.{HasRoom, HasRoomFor, IsAtEnd};
+ghost use Rattle.rh_outcomes.specs.Outcomes.{outcome_in, outcome_of, is_failover, is_takeover};
+ghost use Rattle.rh_outcomes.specs.Sweeping.{HasRoom, HasRoomFor, IsAtEnd};
 ghost use Rattle.rh_sweep.specs.Working.{ended};
 
 use crate::steps::Steps;

@@ -2,8 +2,9 @@
 
 ghost use Rattle.std.specs.Prelude.{⊤, ◌≡◌, ◌<◌, ℕ, length, map, All, Some, IfOk, IfErr, OnOk, slice_get, slice_index_or};
 ghost use Rattle.std.specs.Option.{option_map};
-ghost use Rattle.rh_sweep.specs.Outcomes.{outcome_of};
-ghost use Rattle.rh_sweep.specs.Sweeping.{AreWorkers, HasRoom, MaySweep, WhyNotSwept};
+ghost use Rattle.rh_outcomes.specs.Outcomes.{outcome_of};
+ghost use Rattle.rh_plans.specs.Workers.{AreWorkers};
+ghost use Rattle.rh_outcomes.specs.Sweeping.{HasRoom, MaySweep, WhyNotSwept};
 ghost use Rattle.rh_sweep.specs.Working.{AreOutcomes, EachOf, IsAtBase};
 
 use crate::branch::{Branch, Inside};
@@ -15,9 +16,6 @@ use std::alloc::Global;
 use std::sync::Wait;
 use std::thread;
 use std::thread::Threads;
-
-/// The greatest number of workers of a sweep.
-pub const MAX_WORKERS: usize = 16;
 
 /// What is called round each plan, by the worker that tries it. It may wait, as for another worker, and has no part in the
 /// outcomes. That a worker is at work beside another is never sure: where no thread can be made, they work in turn, and a

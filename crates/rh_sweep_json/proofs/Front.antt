@@ -11,7 +11,7 @@ use Rattle.rh_script.specs.declared.script.Line.TheVariants.{Nothing, Asks, Bad}
 use Rattle.rh_script.specs.Lines.{raw_lines, content, is_separator, lines_before, lines_behind, cluster_text, script_lines}
 use Rattle.rh_script.specs.Commands.{line_of}
 use Rattle.rh_script.proofs.LineLemmas.{front_farther}
-use Rattle.rh_app.specs.RunText.{bad_line, lines_asked}
+use Rattle.rh_run.specs.RunText.{bad_line, lines_asked}
 use Rattle.rh_json_lines.specs.ClusterLines.{cluster_line}
 use Rattle.rh_json.specs.RunJson.{Asked, asked_in, before, answer_lines, end_json, json_over, run_json}
 use Rattle.rh_sweep_json.specs.Base.{is_bad, commands_front, input_front, base_text, front_left}

@@ -7,11 +7,11 @@ use Rattle.rh_devices.specs.declared.watched.Watched.{Watched}
 use Rattle.rh_devices.specs.Devices.{input_limit, InTurn, Passed, PassedAll, FrontTaken, FrontBroken}
 use Rattle.rh_devices.specs.Memory.{GivesFront}
 use Rattle.rh_devices.proofs.Passing.{nothing_yet}
-use Rattle.rh_app.specs.declared.fault.RunFault.{RunFault}
-use Rattle.rh_app.specs.declared.fault.RunFault.TheVariants as end
-use Rattle.rh_app.specs.declared.fault.Told.{Told}
-use Rattle.rh_app.specs.Programs.{ProgramGives, Answers, NoThreads}
-use Rattle.rh_app.specs.RunText.{Broke}
+use Rattle.rh_run.specs.declared.fault.RunFault.{RunFault}
+use Rattle.rh_run.specs.declared.fault.RunFault.TheVariants as end
+use Rattle.rh_run.specs.declared.fault.Told.{Told}
+use Rattle.rh_run.specs.Programs.{ProgramGives, Answers, NoThreads}
+use Rattle.rh_run.specs.RunText.{Broke}
 use Rattle.rh_sweep_json.specs.Parts.{part_ended}
 
 module _ {D : Type 0} (left : D → List ℕ) where

@@ -11,11 +11,11 @@ use Rattle.rh_devices.specs.declared.fault.WriteFault.TheVariants as writing
 use Rattle.rh_devices.specs.declared.watched.Watched.{Watched}
 use Rattle.rh_devices.specs.Devices.{Passed, WroteFront}
 use Rattle.rh_devices.proofs.Passing.{passed_more, fault_behind, fault_before, nothing_yet}
-use Rattle.rh_app.specs.declared.fault.Told.{Told}
-use Rattle.rh_app.specs.declared.fault.Told.TheVariants as told
-use Rattle.rh_app.specs.RunText.{Wrote, Broke}
-use Rattle.rh_app.specs.SweepText.{why_not_swept, base_sim, plans_end, lines_end}
-use Rattle.rh_app.proofs.Turns.{wrote_behind}
+use Rattle.rh_run.specs.declared.fault.Told.{Told}
+use Rattle.rh_run.specs.declared.fault.Told.TheVariants as told
+use Rattle.rh_run.specs.RunText.{Wrote, Broke}
+use Rattle.rh_sweep_text.specs.SweepText.{why_not_swept, base_sim, plans_end, lines_end}
+use Rattle.rh_run.proofs.Turns.{wrote_behind}
 use Rattle.rh_json_lines.specs.ClusterLines.{cluster_line}
 use Rattle.rh_json_lines.specs.AnswerLines.{bad_json}
 use Rattle.rh_json.specs.CheckJson.{check_json, checked_json}

@@ -2,8 +2,8 @@
 use Rattle.std.specs.Prelude.{Result, Ok, Err}
 use Rattle.rh_devices.specs.declared.fault.WriteFault.{WriteFault}
 use Rattle.rh_devices.specs.declared.fault.WriteFault.TheVariants as writing
-use Rattle.rh_app.specs.declared.fault.RunFault.{RunFault}
-use Rattle.rh_app.specs.declared.fault.RunFault.TheVariants as end
+use Rattle.rh_run.specs.declared.fault.RunFault.{RunFault}
+use Rattle.rh_run.specs.declared.fault.RunFault.TheVariants as end
 
 -- whether the text of a program was written whole
 abbrev pub part_ended : Result (Unit {0}) RunFault → Result (Unit {0}) WriteFault

@@ -7,12 +7,12 @@ use Rattle.rh_cluster.specs.declared.fault.ClusterFault.{ClusterFault}
 use Rattle.rh_rules.specs.declared.pick.Pick.{Pick}
 use Rattle.rh_trail.specs.SimView.{SimView}
 use Rattle.rh_trail.specs.Lone.{opened}
-use Rattle.rh_sweep.specs.Outcomes.{outcome_in}
+use Rattle.rh_outcomes.specs.Outcomes.{outcome_in}
 use Rattle.rh_plans.specs.declared.fault.SweepFault.{SweepFault}
 use Rattle.rh_script.specs.Lines.{cluster_text, script_lines}
 use Rattle.rh_script.specs.SweepLines.{PlanText, sweep_lines_asked, bad_sweep_line, plans_of}
-use Rattle.rh_app.specs.declared.fault.Told.{Told}
-use Rattle.rh_app.specs.SweepText.{why_not_swept, base_sim, sweep_end}
+use Rattle.rh_run.specs.declared.fault.Told.{Told}
+use Rattle.rh_sweep_text.specs.SweepText.{why_not_swept, base_sim, sweep_end}
 use Rattle.rh_json_lines.specs.ClusterLines.{cluster_line, fault_line}
 use Rattle.rh_json_lines.specs.AnswerLines.{bad_json}
 use Rattle.rh_json.specs.RunJson.{asked_in, answer_lines}

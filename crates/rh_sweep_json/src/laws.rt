@@ -2,7 +2,7 @@
 
 ghost use Rattle.rh_sweep_json.specs.Laws.{BaseIsAnswered};
 
-/// A law: where no line of a sweep is bad, the commands that have lines are those that [`rh_app::run_sweep`] answers, in their order.
+/// A law: where no line of a sweep is bad, the commands that have lines are those that [`rh_sweep_text::run_sweep_by`] answers, in their order.
 pub fn base_is_answered()
     ensures { BaseIsAnswered }
 {}

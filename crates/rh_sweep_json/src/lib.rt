@@ -1,7 +1,7 @@
-//! What programs read: the program `sweep` of `rh_app`, which writes JSON in place of lines.
+//! What programs read: the program `sweep` of `rh_sweep_text`, which writes JSON in place of lines.
 //!
-//! [`sweep_json`] tries the plans by several workers, and [`sweep_json_alone`] by one, without threads. What they ask of their input,
-//! what comes of a plan and how they end is as it is there; each field has the text that they write. A law says that the lines of the
+//! [`sweep_json_by`] has a crew try the plans: the caller alone, or several workers. What it asks of its input, what comes of a plan
+//! and how it ends is as it is there; each field has the text that is written there. A law says that the lines of the
 //! base are those of the same commands ([`base_is_answered`]).
 #![tactic(auto)]
 
@@ -11,4 +11,4 @@ mod parts;
 mod sweeping;
 
 pub use laws::base_is_answered;
-pub use sweeping::{sweep_json, sweep_json_alone};
+pub use sweeping::sweep_json_by;

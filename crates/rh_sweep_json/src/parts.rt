@@ -2,15 +2,15 @@
 
 ghost use Rattle.std.specs.Prelude.{◌≡◌, ◌≤◌, length, false};
 ghost use Rattle.rh_devices.specs.Devices.{input_limit};
-ghost use Rattle.rh_app.specs.RunText.{Broke};
+ghost use Rattle.rh_run.specs.RunText.{Broke};
 ghost use Rattle.rh_json.specs.CheckJson.{check_json};
 ghost use Rattle.rh_json.specs.RunJson.{run_json};
 ghost use Rattle.rh_sweep_json.specs.Parts.{part_ended};
 
-use rh_app::RunFault;
 use rh_devices::{Bytes, Sink, Watched, WriteFault};
 use rh_json::{check_json, run_json};
 use rh_rules::Pick;
+use rh_run::RunFault;
 use std::alloc::Global;
 
 // Whether the text of a program was written whole, by how the program ended.

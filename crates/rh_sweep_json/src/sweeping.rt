@@ -5,77 +5,43 @@ ghost use Rattle.std.specs.List.{flat_map};
 ghost use Rattle.rh_cluster.specs.ClusterOf.{cluster_of};
 ghost use Rattle.rh_devices.specs.Devices.{input_limit};
 ghost use Rattle.rh_trail.specs.Lone.{served, sim_after};
-ghost use Rattle.rh_sweep.specs.Outcomes.{outcome_of};
-ghost use Rattle.rh_sweep.specs.Sweeping.{AreWorkers};
+ghost use Rattle.rh_outcomes.specs.Outcomes.{outcome_of};
+ghost use Rattle.rh_plans.specs.Workers.{AreWorkers};
 ghost use Rattle.rh_script.specs.Lines.{cluster_text, script_lines};
 ghost use Rattle.rh_script.specs.SweepLines.{sweep_lines_asked, bad_sweep_line, plan_text};
-ghost use Rattle.rh_app.specs.Programs.{ProgramGives, NoThreads};
-ghost use Rattle.rh_app.specs.RunText.{Wrote, Broke};
-ghost use Rattle.rh_app.specs.SweepText.{why_not_swept, plans_end, lines_end, sweep_end};
+ghost use Rattle.rh_run.specs.Programs.{ProgramGives, NoThreads};
+ghost use Rattle.rh_run.specs.RunText.{Wrote, Broke};
+ghost use Rattle.rh_sweep_text.specs.SweepText.{why_not_swept, plans_end, lines_end, sweep_end};
 ghost use Rattle.rh_json_lines.specs.AnswerLines.{bad_json};
 ghost use Rattle.rh_json_lines.specs.OutcomeLines.{outcome_line, sweep_fault_line};
 ghost use Rattle.rh_sweep_json.specs.SweepJson.{plan_line, plans_json, base_json, lines_json, sweep_json, OwesSweepJson};
 
 use crate::base::base_text;
 use crate::parts::{write_check, write_run};
-use rh_app::{RunFault, Told, ended};
 use rh_base::{OutOfMemory, Str};
+use rh_calls::Call;
 use rh_cluster::{Cluster, read_cluster};
 use rh_devices::{Sink, Source, Watched, WriteFault, read_input, write_text};
 use rh_json_lines::{outcome_line, sweep_fault_line};
 use rh_json_text::{push_number, push_text};
+use rh_outcomes::Crew;
+use rh_plans::{Outcome, Plan, SweepFault};
 use rh_rules::Pick;
+use rh_run::{RunFault, Told, ended};
 use rh_script::{SweepScript, cut, sweep_in};
-use rh_sweep::{Alone, Crew, Outcome, Plan, SweepFault, Threaded};
-use rh_trail::{Call, Sim};
+use rh_trail::Sim;
 use std::alloc::Global;
-use std::sync::Wait;
-use std::thread::Threads;
 
 /// Reads all of the input, a cluster file, a line `===` and a script of a base and plans, and then writes lines of JSON: the cluster,
 /// each command of the base with its answer, as [`rh_json::run_json`] does, and each plan with what comes of its events behind the
 /// base.
 ///
-/// The plans are shared among so many workers, each in a thread of its own where one can be made. What is written doesn't
-/// depend on their number. The input has at most 16,777,216 bytes. Neither device is flushed.
+/// The plans are tried by these workers. What is written depends neither on them nor on their number. The input has at most
+/// 16,777,216 bytes. Neither device is flushed.
 ///
 /// # Errors
-/// Those of [`rh_app::run_sweep`], for the same inputs: `Cluster`, `BadLine` and `Sweep` are what the last line tells.
-pub fn sweep_json<T: Threads + Wait + Sync, S: Source, K: Sink>(
-    rt: &T,
-    alloc: Global,
-    reader: &mut Watched<S>,
-    writer: &mut Watched<K>,
-    pick: Pick,
-    workers: usize,
-) -> Result<(), RunFault>
-    requires reader { reader.old.failed ≡ false }
-    requires writer { writer.old.failed ≡ false }
-    requires workers { AreWorkers workers }
-    ensures { ProgramGives S.gives S.fails K.takes K.fails (OwesSweepJson pick) NoThreads result reader.old reader.new writer.old writer.new }
-{
-    sweep_by(&Threaded::new(rt, workers), alloc, reader, writer, pick)
-}
-
-/// Does what [`sweep_json`] does, with the caller as the only worker: it starts no thread and waits for none.
-///
-/// # Errors
-/// Those of [`sweep_json`].
-pub fn sweep_json_alone<S: Source, K: Sink>(
-    alloc: Global,
-    reader: &mut Watched<S>,
-    writer: &mut Watched<K>,
-    pick: Pick,
-) -> Result<(), RunFault>
-    requires reader { reader.old.failed ≡ false }
-    requires writer { writer.old.failed ≡ false }
-    ensures { ProgramGives S.gives S.fails K.takes K.fails (OwesSweepJson pick) NoThreads result reader.old reader.new writer.old writer.new }
-{
-    sweep_by(&Alone, alloc, reader, writer, pick)
-}
-
-// Reads the input and writes what comes of it, with these workers.
-fn sweep_by<C: Crew, S: Source, K: Sink>(
+/// Those of [`rh_sweep_text::run_sweep_by`], for the same inputs: `Cluster`, `BadLine` and `Sweep` are what the last line tells.
+pub fn sweep_json_by<C: Crew, S: Source, K: Sink>(
     crew: &C,
     alloc: Global,
     reader: &mut Watched<S>,
@@ -94,7 +60,7 @@ fn sweep_by<C: Crew, S: Source, K: Sink>(
 }
 
 // Writes what comes of an input.
-#[tactic(auto, unfolding(crate::specs::SweepJson::sweep_json, rh_app::specs::SweepText::sweep_end, rh_json::specs::CheckJson::check_json))]
+#[tactic(auto, unfolding(crate::specs::SweepJson::sweep_json, rh_sweep_text::specs::SweepText::sweep_end, rh_json::specs::CheckJson::check_json))]
 fn sweep_input<C: Crew, K: Sink>(
     crew: &C,
     alloc: Global,
@@ -206,7 +172,7 @@ fn make_calls(alloc: Global, sim: &mut Sim, calls: &[Call]) -> Result<(), OutOfM
 }
 
 // Makes a call.
-#[tactic(auto, using(rh_app::proofs::Keeping::served_keeps_cluster))]
+#[tactic(auto, using(rh_run::proofs::Keeping::served_keeps_cluster))]
 fn make_call(alloc: Global, sim: &mut Sim, call: Call) -> Result<(), OutOfMemory>
     ensures sim { OnOk result (sim.new.seen ≡ (served sim.old.seen call).sim) }
     ensures cluster { OnOk result (sim.new.seen.cluster ≡ sim.old.seen.cluster) }

@@ -2,10 +2,11 @@
 
 use crate::support::{make_all, sim_on};
 use rh_cluster::{App, Node};
-use rh_place::{NodeSet, best, candidates, choose, deps_run, missing_dep, operational, start_kind};
+use rh_place::{NodeSet, best, candidates, choose, deps_run, missing_dep, operational};
 use rh_samples::CAVE;
 use rh_state::{Kind, State};
 use rh_step::{Event, Pick};
+use rh_trace::start_kind;
 use std::process::Abort;
 
 // Two nodes, and start phases.

@@ -1,10 +1,12 @@
 //! Simulations by themselves: what one was opened with, copies, and replies that are shared.
 
 use crate::support::{make_all, sim_on};
+use rh_calls::{Call, Reply};
 use rh_cluster::Node;
+use rh_report::report;
 use rh_samples::ONE_NODE;
 use rh_step::{Event, Pick, Refusal};
-use rh_trail::{Call, Reply, Sim, report};
+use rh_trail::Sim;
 use std::alloc::Global;
 use std::process::Abort;
 

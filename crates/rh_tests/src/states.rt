@@ -2,9 +2,9 @@
 
 use crate::support::cluster_of;
 use rh_cluster::{App, Node};
+use rh_report::report;
 use rh_samples::ONE_NODE;
 use rh_state::{Mode, Place, State, Timer, first_state};
-use rh_trail::report;
 use std::alloc::Global;
 use std::process::Abort;
 

@@ -1,6 +1,6 @@
 //! Steps by themselves: a state that nobody keeps a trail of, what each event tells, and what the state says then.
 
-ghost use Rattle.rh_settle.specs.Validity.{IsValid};
+ghost use Rattle.rh_trace.specs.Validity.{IsValid};
 ghost use Rattle.rh_state.specs.Stored.{read};
 
 use crate::support::cluster_of;

@@ -3,11 +3,12 @@
 
 use crate::support::{copied, make_all, sim_on};
 use rh_base::Str;
+use rh_calls::Reply;
 use rh_cluster::{App, Node, Restart};
 use rh_samples::{CAVE, ONE_NODE};
 use rh_step::Event;
 use rh_sweep::{FreeGate, Gate, Outcome, Plan, SweepFault, sweep, try_plan};
-use rh_trail::{Reply, Sim};
+use rh_trail::Sim;
 use std::alloc::{AllocError, Global};
 use std::process::Abort;
 use std::sync::Wait;

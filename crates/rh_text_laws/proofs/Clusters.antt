@@ -17,10 +17,10 @@ use Rattle.rh_events.proofs.SoundComingUp.{ready_come_up_cluster}
 use Rattle.rh_events.proofs.EachEvent.{change_cluster}
 use Rattle.rh_rules.specs.Time.{due_by, effect, taken_off, fired, go_on, fired_by, all_fired, ticked}
 use Rattle.rh_step.proofs.Firing.{effect_cluster}
-use Rattle.rh_trail.specs.declared.call.Call.{Call}
-use Rattle.rh_trail.specs.declared.call.Call.TheVariants as call
-use Rattle.rh_trail.specs.declared.call.Reply.TheVariants as reply
-use Rattle.rh_trail.specs.Runs.{step}
+use Rattle.rh_calls.specs.declared.call.Call.{Call}
+use Rattle.rh_calls.specs.declared.call.Call.TheVariants as call
+use Rattle.rh_calls.specs.declared.call.Reply.TheVariants as reply
+use Rattle.rh_step.specs.Runs.{step}
 use Rattle.rh_trail.specs.SimView.{SimView, state_of}
 use Rattle.rh_trail.specs.Lone.{answered, stepped, served, with_event, sim_after, trail_limit}
 

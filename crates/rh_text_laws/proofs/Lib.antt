@@ -14,3 +14,5 @@ pub mod ProfileSweeps
 mod RowsPlans
 mod RowsProfiles
 mod RowsInputs
+mod RowsScripts
+mod RowsPrograms

@@ -6,8 +6,8 @@ use Rattle.std.proofs.lemmas.List.{map-append}
 use Rattle.std.proofs.lemmas.List.Elements.{All-head, All-tail}
 use Rattle.rh_model.specs.ClusterView.{ClusterView}
 use Rattle.rh_rules.specs.declared.event.Event.{Event}
-use Rattle.rh_trail.specs.declared.call.Call.TheVariants as call
-use Rattle.rh_sweep.specs.Outcomes.{steps}
+use Rattle.rh_calls.specs.declared.call.Call.TheVariants as call
+use Rattle.rh_outcomes.specs.Outcomes.{steps}
 use Rattle.rh_script.specs.declared.script.Line.{Line}
 use Rattle.rh_script.specs.declared.script.Line.TheVariants as line
 use Rattle.rh_script.specs.declared.sweep_lines.SweepLine.{SweepLine}
@@ -16,7 +16,7 @@ use Rattle.rh_script.specs.Lines.{script_lines}
 use Rattle.rh_script.specs.Forms.{verb_named}
 use Rattle.rh_script.specs.Commands.{words_of, begins_with, command_of, line_of, calls_of}
 use Rattle.rh_script.specs.SweepLines.{plan_named, begun_or, sweep_line_of, sweep_lines_asked, fits_base, fits_plan, base_lines, event_in, plan_events}
-use Rattle.rh_app.specs.RunText.{bad_line, lines_asked, script_end, end_over, run_end}
+use Rattle.rh_run.specs.RunText.{bad_line, lines_asked, script_end, end_over, run_end}
 use Rattle.rh_text_laws.specs.PlanTexts.{base_calls}
 use Rattle.rh_text_laws.specs.PlanLines.{begins_plan, is_of_base, is_of_plan, CopiedLinesAsk}
 

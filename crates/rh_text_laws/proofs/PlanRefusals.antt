@@ -7,12 +7,12 @@ use Rattle.rh_rules.specs.declared.refusal.Refusal.{Refusal}
 use Rattle.rh_rules.specs.declared.refusal.Refusal.TheVariants.{TrailFull}
 use Rattle.rh_rules.specs.Refusals.{refused}
 use Rattle.rh_rules.specs.Steps.{next}
-use Rattle.rh_trail.specs.declared.call.Call.TheVariants.{Step}
-use Rattle.rh_trail.specs.declared.call.Reply.{Reply}
-use Rattle.rh_trail.specs.declared.call.Reply.TheVariants.{Done, Refused, Undone, Redone, AtStart, AtEnd, Moved, Seen}
+use Rattle.rh_calls.specs.declared.call.Call.TheVariants.{Step}
+use Rattle.rh_calls.specs.declared.call.Reply.{Reply}
+use Rattle.rh_calls.specs.declared.call.Reply.TheVariants.{Done, Refused, Undone, Redone, AtStart, AtEnd, Moved, Seen}
 use Rattle.rh_trail.specs.SimView.{SimView, state_of}
 use Rattle.rh_trail.specs.Lone.{Served, answered, stepped, served, with_event, replies, sim_after, trail_limit}
-use Rattle.rh_sweep.specs.Outcomes.{is_done, refusal_at, steps}
+use Rattle.rh_outcomes.specs.Outcomes.{is_done, refusal_at, steps}
 use Rattle.rh_text_laws.specs.Plans.{IsRefusedAt, PlanRefusedByRules}
 use Rattle.rh_text_laws.proofs.PlanReplies.{why_of}
 

@@ -11,13 +11,13 @@ use Rattle.rh_rules.specs.declared.refusal.Refusal.{Refusal}
 use Rattle.rh_rules.specs.declared.refusal.Refusal.TheVariants.{TrailFull}
 use Rattle.rh_rules.specs.Refusals.{refused}
 use Rattle.rh_rules.specs.Steps.{next}
-use Rattle.rh_trail.specs.declared.call.Call.{Call}
-use Rattle.rh_trail.specs.declared.call.Call.TheVariants.{Step}
-use Rattle.rh_trail.specs.declared.call.Reply.{Reply}
-use Rattle.rh_trail.specs.declared.call.Reply.TheVariants.{Done, Refused, Undone, Redone, AtStart, AtEnd, Moved, Seen}
+use Rattle.rh_calls.specs.declared.call.Call.{Call}
+use Rattle.rh_calls.specs.declared.call.Call.TheVariants.{Step}
+use Rattle.rh_calls.specs.declared.call.Reply.{Reply}
+use Rattle.rh_calls.specs.declared.call.Reply.TheVariants.{Done, Refused, Undone, Redone, AtStart, AtEnd, Moved, Seen}
 use Rattle.rh_trail.specs.SimView.{SimView, state_of}
 use Rattle.rh_trail.specs.Lone.{Served, answered, stepped, served, with_event, opened, replies, sim_after, trail_limit}
-use Rattle.rh_sweep.specs.Outcomes.{is_done, told as told_by, refusal_at, is_failover, is_takeover, standings_in, steps, outcome_in}
+use Rattle.rh_outcomes.specs.Outcomes.{is_done, told as told_by, refusal_at, is_failover, is_takeover, standings_in, steps, outcome_in}
 use Rattle.rh_text_laws.specs.Plans.{AnswersView, refused_with, replies_of, events_answered, outcome_read, IsAnswered, PlanIsRun}
 
 -- ---- calls that are made one part after the other

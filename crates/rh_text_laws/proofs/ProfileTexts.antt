@@ -4,12 +4,12 @@ use Rattle.std.specs.List.{flat_map}
 use Rattle.rh_model.specs.ClusterView.{ClusterView}
 use Rattle.rh_cluster.specs.ClusterOf.{cluster_of}
 use Rattle.rh_rules.specs.declared.pick.Pick.{Pick}
-use Rattle.rh_trail.specs.declared.call.Reply.{Reply}
+use Rattle.rh_calls.specs.declared.call.Reply.{Reply}
 use Rattle.rh_trail.specs.Lone.{opened}
 use Rattle.rh_script.specs.Lines.{content, cluster_text, script_lines}
 use Rattle.rh_script.specs.Commands.{calls_of, line_of}
 use Rattle.rh_script.specs.Answers.{answer_text, notice_line}
-use Rattle.rh_app.specs.RunText.{lines_asked, script_text, script_end, end_text, bad_line, text_over, end_over, run_text, run_end}
+use Rattle.rh_run.specs.RunText.{lines_asked, script_text, script_end, end_text, bad_line, text_over, end_over, run_text, run_end}
 use Rattle.rh_text_laws.specs.Profiles.{in_profile, NoneGivesBack}
 use Rattle.rh_text_laws.specs.ProfileFiles.{second_line}
 use Rattle.rh_text_laws.specs.ProfileTexts.{RunsSameUnderProfiles, SecondProfileRunsSame}

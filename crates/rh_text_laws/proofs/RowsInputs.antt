@@ -38,15 +38,15 @@ use Rattle.rh_rules.specs.declared.refusal.Refusal.TheVariants.{NotAlive}
 use Rattle.rh_rules.specs.Marking.{mark_all}
 use Rattle.rh_rules.specs.Refusals.{refused}
 use Rattle.rh_rules.specs.Steps.{followed, next}
-use Rattle.rh_trail.specs.Runs.{step}
+use Rattle.rh_step.specs.Runs.{step}
 use Rattle.rh_script.specs.Lines.{content, script_lines}
 use Rattle.rh_script.specs.Forms.{verb_named}
 use Rattle.rh_script.specs.Commands.{line_of}
 use Rattle.rh_script.specs.SweepLines.{PlanText, plan_events, sweep_line_of, sweep_lines_asked, plans_of}
-use Rattle.rh_app.specs.RunText.{run_end}
-use Rattle.rh_app.specs.SweepText.{sweep_end}
+use Rattle.rh_run.specs.RunText.{run_end}
+use Rattle.rh_sweep_text.specs.SweepText.{sweep_end}
 use Rattle.rh_trail.specs.Lone.{opened}
-use Rattle.rh_sweep.specs.Outcomes.{steps}
+use Rattle.rh_outcomes.specs.Outcomes.{steps}
 use Rattle.rh_text_laws.specs.Plans.{AnswersView, events_answered}
 use Rattle.rh_text_laws.specs.Profiles.{NoneGivesBack}
 use Rattle.rh_text_laws.specs.ProfileTexts.{calls_in, NoPlanGivesBack}

@@ -13,14 +13,14 @@ use Rattle.rh_rules.specs.Marking.{mark_all}
 use Rattle.rh_rules.specs.NodesEnd.{cleared, lost_if_ran, all_lost, ended}
 use Rattle.rh_rules.specs.Refusals.{refused}
 use Rattle.rh_rules.specs.Steps.{followed, next}
-use Rattle.rh_trail.specs.Runs.{step}
-use Rattle.rh_trail.specs.declared.call.Call.TheVariants as call
-use Rattle.rh_trail.specs.declared.call.Reply.TheVariants.{Done}
+use Rattle.rh_step.specs.Runs.{step}
+use Rattle.rh_calls.specs.declared.call.Call.TheVariants as call
+use Rattle.rh_calls.specs.declared.call.Reply.TheVariants.{Done}
 use Rattle.rh_trail.specs.Lone.{opened, replies, sim_after}
-use Rattle.rh_sweep.specs.Outcomes.{steps, outcome_in}
+use Rattle.rh_outcomes.specs.Outcomes.{steps, outcome_in}
 use Rattle.rh_trail.specs.SimView.{SimView}
 use Rattle.rh_rules.specs.declared.event.Event.{Event}
-use Rattle.rh_sweep.specs.Sweeping.{HasRoomFor}
+use Rattle.rh_outcomes.specs.Sweeping.{HasRoomFor}
 use Rattle.rh_text_laws.specs.Plans.{AnswersView, replies_of, events_answered}
 
 abbrev one_node : ClusterView

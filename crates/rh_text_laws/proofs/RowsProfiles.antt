@@ -25,7 +25,7 @@ use Rattle.rh_rules.specs.ByHand.{permitted}
 use Rattle.rh_events.proofs.Scene.{p, q, job, aid, lab, scene}
 use Rattle.rh_rules.specs.Steps.{followed, next}
 use Rattle.rh_trail.specs.Lone.{opened}
-use Rattle.rh_trail.specs.declared.call.Call.TheVariants as call
+use Rattle.rh_calls.specs.declared.call.Call.TheVariants as call
 use Rattle.rh_model.specs.declared.settings.SyncWait.TheVariants.{After}
 use Rattle.rh_text_laws.specs.Profiles.{state_in, gives_back, NoneGivesBack}
 use Rattle.rh_text_laws.specs.ProfileFiles.{NamesNoProfile, second_line}

@@ -9,16 +9,16 @@ use Rattle.rh_state.specs.StateView.{StateView}
 use Rattle.rh_rules.specs.declared.notice.Notice.{Notice}
 use Rattle.rh_rules.specs.declared.event.Event.{Event}
 use Rattle.rh_rules.specs.declared.refusal.Refusal.{Refusal}
-use Rattle.rh_trail.specs.declared.call.Call.{Call}
-use Rattle.rh_trail.specs.declared.call.Reply.{Reply}
-use Rattle.rh_trail.specs.declared.call.Reply.TheVariants.{Done, Refused}
+use Rattle.rh_calls.specs.declared.call.Call.{Call}
+use Rattle.rh_calls.specs.declared.call.Reply.{Reply}
+use Rattle.rh_calls.specs.declared.call.Reply.TheVariants.{Done, Refused}
 use Rattle.rh_rules.specs.Refusals.{refused}
 use Rattle.rh_trail.specs.SimView.{SimView, state_of}
 use Rattle.rh_trail.specs.Lone.{opened, replies, sim_after}
 use Rattle.rh_plans.specs.declared.plan.Outcome.{Outcome}
 use Rattle.rh_plans.specs.declared.plan.Plan.{Plan}
-use Rattle.rh_sweep.specs.Outcomes.{is_failover, is_takeover, standings_in, steps, outcome_of}
-use Rattle.rh_sweep.specs.Sweeping.{HasRoom}
+use Rattle.rh_outcomes.specs.Outcomes.{is_failover, is_takeover, standings_in, steps, outcome_of}
+use Rattle.rh_outcomes.specs.Sweeping.{HasRoom}
 
 -- what is told of events that are accepted one after the other, and why the next one is refused, if it
 -- is

@@ -3,15 +3,15 @@ use Rattle.std.specs.Prelude.{◌≡◌, ℕ, List, ◌++◌, Ok, All}
 use Rattle.rh_model.specs.ClusterView.{ClusterView}
 use Rattle.rh_cluster.specs.ClusterOf.{cluster_of}
 use Rattle.rh_rules.specs.declared.pick.Pick.{Pick}
-use Rattle.rh_trail.specs.declared.call.Call.{Call}
+use Rattle.rh_calls.specs.declared.call.Call.{Call}
 use Rattle.rh_trail.specs.SimView.{SimView}
 use Rattle.rh_trail.specs.Lone.{opened}
-use Rattle.rh_sweep.specs.Outcomes.{steps}
+use Rattle.rh_outcomes.specs.Outcomes.{steps}
 use Rattle.rh_script.specs.Lines.{cluster_text, script_lines}
 use Rattle.rh_script.specs.Commands.{calls_of}
 use Rattle.rh_script.specs.SweepLines.{PlanText, sweep_lines_asked, plans_of}
-use Rattle.rh_app.specs.SweepText.{sweep_text, sweep_end}
-use Rattle.rh_app.specs.RunText.{lines_asked, run_text, run_end}
+use Rattle.rh_sweep_text.specs.SweepText.{sweep_text, sweep_end}
+use Rattle.rh_run.specs.RunText.{lines_asked, run_text, run_end}
 use Rattle.rh_text_laws.specs.Profiles.{in_profile, NoneGivesBack}
 use Rattle.rh_text_laws.specs.PlanTexts.{base_calls, base_of}
 use Rattle.rh_text_laws.specs.ProfileFiles.{second_line, NamesNoProfile}

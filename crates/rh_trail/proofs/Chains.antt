@@ -11,17 +11,15 @@ use Rattle.rh_model.specs.ClusterView.{ClusterView, IsWithin}
 use Rattle.rh_rules.specs.declared.event.Event.{Event}
 use Rattle.rh_rules.specs.declared.pick.Pick.{Pick}
 use Rattle.rh_state.specs.declared.edit.Edit.{Edit}
-use Rattle.rh_state.specs.declared.edit.Edit.TheVariants.{Links, Timer, Part}
-use Rattle.rh_state.specs.declared.edit.Change.TheVariants.{Now, Mode, Incarnation, Allowed, Restart, Kind, Standing}
 use Rattle.rh_state.specs.Edits.{exchange, turned}
 use Rattle.rh_state.specs.First.{first, first_words}
 use Rattle.rh_state.specs.Records.{CanGoBack, CanGoForth, LedBy}
 use Rattle.rh_state.specs.Stored.{Stored, read}
 use Rattle.rh_state.proofs.Twice.{exchange_twice, back_turns_one, forth_turns_one}
-use Rattle.rh_settle.specs.Validity.{IsValid}
+use Rattle.rh_trace.specs.Validity.{IsValid}
 use Rattle.rh_trail.specs.Chain.{backs, forths, chain_at, IsChain}
 use Rattle.rh_trail.specs.Lone.{trail_limit}
-use Rattle.rh_trail.specs.Runs.{step, after}
+use Rattle.rh_step.specs.Runs.{step, after}
 use Rattle.rh_trail.specs.SimView.{Held}
 use Rattle.rh_trail.proofs.Small.{limit, none_small, small_turned, small_cut, small_added}
 use Rattle.rh_trail.proofs.Histories.{opened_valid, each_state, state_earlier, state_last}
@@ -31,27 +29,6 @@ held cl pick trail w rs c = record { seen = record { cluster = cl; pick = pick; 
 
 abbrev pub Chained : ClusterView → Pick → List Event → Stored → List (List Edit) → ℕ → Type 0
 Chained cl pick trail w rs c = IsChain (held cl pick trail w rs c)
-
--- edits leave the cluster
-exchange_cluster : (w : Stored) (e : Edit) → (exchange w e).cluster ≡ w.cluster
-unfolding exchange
-exchange_cluster w (Links e) = refl
-exchange_cluster w (Timer e) = refl
-exchange_cluster w (Part done (Now time)) = refl
-exchange_cluster w (Part done (Mode n mode)) = refl
-exchange_cluster w (Part done (Incarnation n incarnation)) = refl
-exchange_cluster w (Part done (Allowed n a allow)) = refl
-exchange_cluster w (Part done (Restart n a restart)) = refl
-exchange_cluster w (Part done (Kind n a kind)) = refl
-exchange_cluster w (Part done (Standing a standing)) = refl
-
-pub back_cluster : (w : Stored) (es : List Edit) → (back exchange w es).cluster ≡ w.cluster
-back_cluster w [] = refl
-back_cluster w (e ∷ es) = exchange_cluster (back exchange w es) e ∙ back_cluster w es
-
-pub forth_cluster : (w : Stored) (es : List Edit) → (forth exchange w es).cluster ≡ w.cluster
-forth_cluster w [] = refl
-forth_cluster w (e ∷ es) = forth_cluster (exchange w e) es ∙ exchange_cluster w e
 
 pub chain_below : (w : Stored) (rs : List (List Edit)) (c k : ℕ) → k ≤ c → chain_at w rs c k ≡ backs w (drop k (take c rs))
 unfolding chain_at

@@ -8,9 +8,9 @@ use Rattle.rh_rules.specs.declared.event.Event.{Event}
 use Rattle.rh_rules.specs.declared.pick.Pick.{Pick}
 use Rattle.rh_state.specs.First.{first}
 use Rattle.rh_state.specs.StateView.{StateView}
-use Rattle.rh_settle.specs.Validity.{IsValid}
+use Rattle.rh_trace.specs.Validity.{IsValid}
 use Rattle.rh_step.proofs.FirstStates.{first_valid}
-use Rattle.rh_trail.specs.Runs.{step, after}
+use Rattle.rh_step.specs.Runs.{step, after}
 
 module _ (c : ClusterView) (pick : Pick) (trail : List Event) (cursor : ℕ) (e : Event) (within : cursor ≤ length trail) where
   kept_trail : length (take cursor trail) ≡ cursor

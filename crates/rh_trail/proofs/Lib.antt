@@ -1,5 +1,5 @@
+pub mod Bases
 pub mod Histories
-pub mod Cuts
 pub mod Small
 pub mod Chains
 pub mod Moves
@@ -7,7 +7,4 @@ pub mod Rewinding
 pub mod Reversals
 pub mod Rows
 pub mod RowsReplies
-pub mod RowsReport
 pub mod Crossing
-pub mod Walks
-pub mod Permissions

@@ -10,22 +10,23 @@ use Rattle.rh_rules.specs.declared.pick.Pick.{Pick}
 use Rattle.rh_rules.specs.declared.notice.Notice.{Notice}
 use Rattle.rh_step.specs.Counts.{most_edits}
 use Rattle.rh_rules.specs.Steps.{next}
-use Rattle.rh_trail.specs.declared.call.Call.TheVariants as call
-use Rattle.rh_trail.specs.declared.call.Reply.TheVariants as reply
+use Rattle.rh_calls.specs.declared.call.Call.TheVariants as call
+use Rattle.rh_calls.specs.declared.call.Reply.TheVariants as reply
 use Rattle.rh_state.specs.declared.edit.Edit.{Edit}
 use Rattle.rh_state.specs.Records.{LedBy, Grows}
 use Rattle.rh_state.specs.StateView.{StateView}
 use Rattle.rh_state.specs.Stored.{Stored, read}
-use Rattle.rh_settle.specs.Validity.{IsValid}
+use Rattle.rh_trace.specs.Validity.{IsValid}
 use Rattle.rh_trail.specs.declared.sim.AtStart.{AtStart}
 use Rattle.rh_trail.specs.declared.sim.AtEnd.{AtEnd}
-use Rattle.rh_trail.specs.declared.call.Reply.{Reply}
+use Rattle.rh_calls.specs.declared.call.Reply.{Reply}
 use Rattle.rh_trail.specs.Chain.{chain_at}
-use Rattle.rh_trail.specs.Runs.{step, after}
+use Rattle.rh_step.specs.Runs.{step, after}
 use Rattle.rh_trail.specs.SimView.{SimView, state_of}
 use Rattle.rh_trail.specs.Lone.{Served, served, stepped, answered, with_event, undo_reply, redo_reply, trail_limit}
 use Rattle.rh_trail.proofs.Small.{limit}
-use Rattle.rh_trail.proofs.Chains.{Chained, back_cluster, chain_reads, stepped as chain_stepped, push_chain}
+use Rattle.rh_trace.proofs.Ways.{back_cluster}
+use Rattle.rh_trail.proofs.Chains.{Chained, chain_reads, stepped as chain_stepped, push_chain}
 
 pub undo_served : (s : SimView) (cl : ClusterView) → s.cursor ≢ 0 → cl ≡ s.cluster
     → served s call.Undo ≡ answered reply.Undone (record { cluster = cl; pick = s.pick; trail = s.trail; cursor = s.cursor - 1 })

@@ -6,7 +6,7 @@ use Rattle.rh_base.specs.Exchanges.{back, backed, forth, forthed}
 use Rattle.rh_base.proofs.Exchanges.{BackLoop, back_loop, ForthLoop, forth_loop, length-backed}
 use Rattle.rh_state.specs.declared.edit.Edit.{Edit}
 use Rattle.rh_state.specs.Edits.{exchange, turned}
-use Rattle.rh_trail.specs.declared.call.Call.TheVariants as call
+use Rattle.rh_calls.specs.declared.call.Call.TheVariants as call
 use Rattle.rh_trail.specs.declared.sim.AtStart.{AtStart}
 use Rattle.rh_trail.specs.declared.sim.AtEnd.{AtEnd}
 use Rattle.rh_trail.specs.Chain.{backs, forths, chain, IsChain}

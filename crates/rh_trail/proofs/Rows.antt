@@ -7,8 +7,8 @@ use Rattle.rh_rules.specs.declared.event.Event.TheVariants.{Boot, Crash}
 use Rattle.rh_rules.specs.declared.notice.Notice.TheVariants.{Up, Ended}
 use Rattle.rh_rules.specs.declared.pick.Pick.TheVariants.{First}
 use Rattle.rh_rules.specs.declared.refusal.Refusal.TheVariants.{UnknownNode, AlreadyAlive, IncarnationLimit, NotAlive, TrailFull}
-use Rattle.rh_trail.specs.declared.call.Call.TheVariants.{Step, Undo, Redo, UndoAll, RedoAll, Look}
-use Rattle.rh_trail.specs.declared.call.Reply.TheVariants.{Done, Refused, Undone, Redone, AtStart, AtEnd, Moved, Seen}
+use Rattle.rh_calls.specs.declared.call.Call.TheVariants.{Step, Undo, Redo, UndoAll, RedoAll, Look}
+use Rattle.rh_calls.specs.declared.call.Reply.TheVariants.{Done, Refused, Undone, Redone, AtStart, AtEnd, Moved, Seen}
 use Rattle.rh_state.specs.declared.status.Mode.TheVariants as mode
 use Rattle.rh_state.specs.declared.status.Kind.TheVariants.{Normal, Failover}
 use Rattle.rh_state.specs.declared.status.Standing.TheVariants.{Quiet, Running, Lost}
@@ -22,9 +22,9 @@ use Rattle.rh_rules.specs.NodesStart.{all_alive, is_ready, come_up, come_up_if_r
 use Rattle.rh_rules.specs.Marking.{mark_all}
 use Rattle.rh_rules.specs.NodesEnd.{cleared, lost_if_ran, all_lost, ended}
 use Rattle.rh_rules.specs.Steps.{followed, next}
-use Rattle.rh_trail.specs.Runs.{step}
-use Rattle.rh_trail.specs.Report.{report_text, node_line, running_line, waiting_line, forbidden_line, line_if_forbidden}
-use Rattle.rh_trail.specs.Report.{standing_line, app_line, timer_line, node_lines}
+use Rattle.rh_step.specs.Runs.{step}
+use Rattle.rh_report.specs.Report.{report_text, node_line, running_line, waiting_line, forbidden_line, line_if_forbidden}
+use Rattle.rh_report.specs.Report.{standing_line, app_line, timer_line, node_lines}
 use Rattle.rh_trail.specs.Lone.{opened, replies, served}
 
 abbrev two_nodes : ClusterView

@@ -6,9 +6,9 @@ use Rattle.rh_rules.specs.declared.event.Event.TheVariants.{Boot, Crash, Tick}
 use Rattle.rh_rules.specs.declared.notice.Notice.TheVariants.{Up}
 use Rattle.rh_rules.specs.declared.pick.Pick.TheVariants.{First}
 use Rattle.rh_rules.specs.declared.refusal.Refusal.TheVariants.{UnknownNode, NotAlive, ZeroTick, TimeLimit, TrailFull}
-use Rattle.rh_trail.specs.declared.call.Call.TheVariants.{Step, Undo, Redo, UndoAll, RedoAll}
-use Rattle.rh_trail.specs.declared.call.Reply.{Reply}
-use Rattle.rh_trail.specs.declared.call.Reply.TheVariants.{Done, Refused, Undone, Redone, AtStart, AtEnd, Moved}
+use Rattle.rh_calls.specs.declared.call.Call.TheVariants.{Step, Undo, Redo, UndoAll, RedoAll}
+use Rattle.rh_calls.specs.declared.call.Reply.{Reply}
+use Rattle.rh_calls.specs.declared.call.Reply.TheVariants.{Done, Refused, Undone, Redone, AtStart, AtEnd, Moved}
 use Rattle.rh_state.specs.Numbers.{nodes_of, apps_of}
 use Rattle.rh_state.specs.First.{configured}
 use Rattle.rh_rules.specs.Settling.{moved_by, all_moved}
@@ -17,7 +17,7 @@ use Rattle.rh_rules.specs.Refusals.{refused}
 use Rattle.rh_rules.specs.Marking.{mark_all}
 use Rattle.rh_rules.specs.NodesEnd.{cleared, lost_if_ran, all_lost, ended}
 use Rattle.rh_rules.specs.Steps.{followed, next}
-use Rattle.rh_trail.specs.Runs.{step}
+use Rattle.rh_step.specs.Runs.{step}
 use Rattle.rh_trail.specs.SimView.{SimView}
 use Rattle.rh_trail.specs.Lone.{opened, cut, replies, served, trail_limit}
 

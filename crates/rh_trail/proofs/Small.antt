@@ -10,7 +10,7 @@ use Rattle.rh_rules.specs.declared.pick.Pick.{Pick}
 use Rattle.rh_state.specs.declared.edit.Edit.{Edit}
 use Rattle.rh_step.specs.Counts.{most_edits}
 use Rattle.rh_rules.specs.Steps.{next}
-use Rattle.rh_trail.specs.Runs.{after}
+use Rattle.rh_step.specs.Runs.{after}
 
 -- so many edits at most, for an event that comes behind these
 abbrev pub limit : ClusterView → Pick → List Event → Event → ℕ

@@ -6,14 +6,14 @@ use Rattle.rh_state.specs.Edits.{exchange}
 use Rattle.rh_state.specs.First.{first_words}
 use Rattle.rh_state.specs.Records.{CanGoBack, CanGoForth}
 use Rattle.rh_state.specs.Stored.{Stored, read}
-use Rattle.rh_settle.specs.Validity.{IsValid}
+use Rattle.rh_trace.specs.Validity.{IsValid}
 use Rattle.rh_rules.specs.declared.event.Event.{Event}
 use Rattle.rh_step.specs.Counts.{most_edits}
 use Rattle.rh_rules.specs.Steps.{next}
-use Rattle.rh_trail.specs.Runs.{after}
+use Rattle.rh_step.specs.Runs.{after}
 use Rattle.rh_trail.specs.SimView.{SimView, Held, record_at}
-use Rattle.rh_trail.specs.declared.call.Call.{Call}
-use Rattle.rh_trail.specs.declared.call.Call.TheVariants as call
+use Rattle.rh_calls.specs.declared.call.Call.{Call}
+use Rattle.rh_calls.specs.declared.call.Call.TheVariants as call
 use Rattle.rh_trail.specs.declared.sim.TheConstants.Sim.{TRAIL_LIMIT}
 
 -- the words after records are exchanged from the last to the first, each from its last edit to its first

@@ -4,14 +4,14 @@ use Rattle.rh_model.specs.ClusterView.{ClusterView, IsWithin}
 use Rattle.rh_rules.specs.declared.event.Event.{Event}
 use Rattle.rh_rules.specs.declared.notice.Notice.{Notice}
 use Rattle.rh_rules.specs.declared.pick.Pick.{Pick}
-use Rattle.rh_trail.specs.declared.call.Call.{Call}
-use Rattle.rh_trail.specs.declared.call.Call.TheVariants as call
-use Rattle.rh_trail.specs.declared.call.Reply.{Reply}
-use Rattle.rh_trail.specs.declared.call.Reply.TheVariants as reply
+use Rattle.rh_calls.specs.declared.call.Call.{Call}
+use Rattle.rh_calls.specs.declared.call.Call.TheVariants as call
+use Rattle.rh_calls.specs.declared.call.Reply.{Reply}
+use Rattle.rh_calls.specs.declared.call.Reply.TheVariants as reply
 use Rattle.rh_state.specs.First.{first}
 use Rattle.rh_rules.specs.Steps.{outcome, Allowed}
-use Rattle.rh_settle.specs.Validity.{IsValid}
-use Rattle.rh_trail.specs.Runs.{after}
+use Rattle.rh_trace.specs.Validity.{IsValid}
+use Rattle.rh_step.specs.Runs.{after}
 use Rattle.rh_trail.specs.SimView.{SimView, state_of}
 use Rattle.rh_trail.specs.Lone.{served, sim_after, opened, trail_limit}
 

@@ -5,17 +5,17 @@ use Rattle.rh_rules.specs.declared.event.Event.{Event}
 use Rattle.rh_rules.specs.declared.pick.Pick.{Pick}
 use Rattle.rh_rules.specs.declared.refusal.Refusal.{Refusal}
 use Rattle.rh_rules.specs.declared.refusal.Refusal.TheVariants.{TrailFull}
-use Rattle.rh_trail.specs.declared.call.Call.{Call}
-use Rattle.rh_trail.specs.declared.call.Call.TheVariants as call
-use Rattle.rh_trail.specs.declared.call.Reply.{Reply}
-use Rattle.rh_trail.specs.declared.call.Reply.TheVariants as reply
+use Rattle.rh_calls.specs.declared.call.Call.{Call}
+use Rattle.rh_calls.specs.declared.call.Call.TheVariants as call
+use Rattle.rh_calls.specs.declared.call.Reply.{Reply}
+use Rattle.rh_calls.specs.declared.call.Reply.TheVariants as reply
 use Rattle.rh_trail.specs.declared.sim.AtStart.{AtStart}
 use Rattle.rh_trail.specs.declared.sim.AtEnd.{AtEnd}
 use Rattle.rh_rules.specs.Refusals.{refused}
 use Rattle.rh_trail.specs.declared.sim.TheConstants.Sim.{TRAIL_LIMIT}
 use Rattle.rh_rules.specs.Steps.{next}
 use Rattle.rh_trail.specs.SimView.{SimView, state_of}
-use Rattle.rh_trail.specs.Report.{report_text}
+use Rattle.rh_report.specs.Report.{report_text}
 
 -- a reply, and what the simulation is after it
 pub record Served : Type 0 where
@@ -65,17 +65,6 @@ TakesMemory s call.Redo = ⊥
 TakesMemory s call.UndoAll = ⊥
 TakesMemory s call.RedoAll = ⊥
 TakesMemory s call.Look = Unit {0}
-
--- the replies whose notices or report lie in memory once for all who keep them
-abbrev pub IsShared : Reply → Type 0
-IsShared (reply.Done _) = Unit {0}
-IsShared (reply.Seen _ _ _) = Unit {0}
-IsShared (reply.Refused _) = ⊥
-IsShared reply.Undone = ⊥
-IsShared reply.Redone = ⊥
-IsShared reply.AtStart = ⊥
-IsShared reply.AtEnd = ⊥
-IsShared (reply.Moved _) = ⊥
 
 -- the reply that an answer of undo or redo stands for
 abbrev pub undo_reply : Result ℕ AtStart → Reply

@@ -6,7 +6,7 @@ use Rattle.rh_rules.specs.declared.pick.Pick.{Pick}
 use Rattle.rh_state.specs.StateView.{StateView}
 use Rattle.rh_state.specs.Stored.{Stored}
 use Rattle.rh_state.specs.declared.edit.Edit.{Edit}
-use Rattle.rh_trail.specs.Runs.{after}
+use Rattle.rh_step.specs.Runs.{after}
 
 pub record SimView : Type 0 where
   pub cluster : ClusterView

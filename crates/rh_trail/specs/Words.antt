@@ -2,8 +2,8 @@
 use Rattle.std.specs.Prelude.{◌≡◌, ◌+◌, ◌-◌, ◌++◌, length, take, drop, slice_set}
 use Rattle.rh_base.specs.Exchanges.{back, backed, forth, forthed}
 use Rattle.rh_state.specs.Edits.{exchange, turned}
-use Rattle.rh_trail.specs.declared.call.Call.{Call}
-use Rattle.rh_trail.specs.declared.call.Call.TheVariants as call
+use Rattle.rh_calls.specs.declared.call.Call.{Call}
+use Rattle.rh_calls.specs.declared.call.Call.TheVariants as call
 use Rattle.rh_trail.specs.Chain.{chain}
 use Rattle.rh_trail.specs.SimView.{Held, record_at}
 

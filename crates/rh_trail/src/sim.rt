@@ -7,10 +7,10 @@ mod firings;
 mod moves;
 mod told;
 
-use crate::call::Bytes;
-use crate::records::Records;
 use rh_base::OutOfMemory;
+use rh_calls::Bytes;
 use rh_model::Cluster;
+use rh_records::Records;
 use rh_state::{Edit, State, first_state_sharing};
 use rh_step::{Event, Pick};
 use std::alloc::Global;
@@ -46,7 +46,7 @@ impl Model for Sim {
     ghost use Rattle.rh_state.specs.Stored.{read};
     ghost use Rattle.rh_trail.specs.SimView.{Held};
     ghost use Rattle.rh_trail.specs.Chain.{IsChain};
-    ghost use Rattle.rh_trail.specs.Report.{report_text};
+    ghost use Rattle.rh_report.specs.Report.{report_text};
 
     ghost Value = { Held };
 
@@ -61,7 +61,7 @@ impl Sim {
     ghost use Rattle.rh_trail.specs.SimView.{state_of};
     ghost use Rattle.rh_trail.specs.Lone.{opened, trail_limit};
     ghost use Rattle.rh_trail.specs.Laws.{IsReversible};
-    ghost use Rattle.rh_settle.specs.Validity.{IsValid};
+    ghost use Rattle.rh_trace.specs.Validity.{IsValid};
 
     /// The greatest number of events in a trail.
     pub const TRAIL_LIMIT: usize = 65_535;

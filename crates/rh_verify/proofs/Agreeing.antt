@@ -7,8 +7,8 @@ use Rattle.rh_model.specs.ClusterView.{ClusterView}
 use Rattle.rh_rules.specs.declared.pick.Pick.{Pick}
 use Rattle.rh_trail.specs.Lone.{opened}
 use Rattle.rh_script.specs.Lines.{script_lines}
-use Rattle.rh_app.specs.declared.fault.Told.{Told}
-use Rattle.rh_app.specs.declared.fault.Told.TheVariants as told
+use Rattle.rh_run.specs.declared.fault.Told.{Told}
+use Rattle.rh_run.specs.declared.fault.Told.TheVariants as told
 use Rattle.rh_verify.specs.Expected.{asked_by, stray, is_expectation}
 use Rattle.rh_verify.specs.Blocks.{holds, block_text, stray_text}
 use Rattle.rh_verify.specs.VerifyText.{first_line, script_checks, blocks_text, verify_end}

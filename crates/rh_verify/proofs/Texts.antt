@@ -10,7 +10,7 @@ use Rattle.rh_script.specs.declared.script.Line.{Line}
 use Rattle.rh_script.specs.declared.script.Line.TheVariants.{Nothing, Asks, Bad}
 use Rattle.rh_script.specs.Lines.{raw_lines, content}
 use Rattle.rh_script.specs.Commands.{line_of}
-use Rattle.rh_app.specs.RunText.{lines_asked}
+use Rattle.rh_run.specs.RunText.{lines_asked}
 use Rattle.rh_verify.specs.Spaces.{lines_of}
 use Rattle.rh_verify.specs.Expected.{asked_by, ahead}
 

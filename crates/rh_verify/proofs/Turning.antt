@@ -4,7 +4,7 @@ use Rattle.std.specs.List.{flat_map}
 use Rattle.std.proofs.lemmas.List.{length-append}
 use Rattle.std.proofs.lemmas.Grind.{flat_map-append}
 use Rattle.rh_model.specs.ClusterView.{ClusterView}
-use Rattle.rh_trail.specs.declared.call.Call.{Call}
+use Rattle.rh_calls.specs.declared.call.Call.{Call}
 use Rattle.rh_trail.specs.SimView.{SimView}
 use Rattle.rh_trail.specs.Lone.{served}
 use Rattle.rh_script.specs.declared.script.Line.{Line}
@@ -14,7 +14,7 @@ use Rattle.rh_devices.specs.declared.watched.Watched.{Watched}
 use Rattle.rh_devices.specs.Devices.{Passed, WroteFront}
 use Rattle.rh_devices.proofs.Passing.{passed_none, passed_more, fault_behind, fault_before}
 use Rattle.rh_script.specs.Commands.{line_of}
-use Rattle.rh_app.specs.RunText.{bad_line, lines_asked}
+use Rattle.rh_run.specs.RunText.{bad_line, lines_asked}
 use Rattle.rh_verify.specs.declared.tally.Tally.{Tally}
 use Rattle.rh_verify.specs.declared.tally.Verdict.{Verdict}
 use Rattle.rh_verify.specs.Expected.{Check, check_of, asked_by, checks, ahead, passed_by, Passes}

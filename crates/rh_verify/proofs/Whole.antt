@@ -8,9 +8,9 @@ use Rattle.rh_devices.specs.declared.fault.WriteFault.TheVariants as writing
 use Rattle.rh_devices.specs.declared.watched.Watched.{Watched}
 use Rattle.rh_devices.specs.Devices.{Passed, WroteFront}
 use Rattle.rh_devices.proofs.Passing.{nothing_yet, passed_more, fault_behind, fault_before}
-use Rattle.rh_app.specs.declared.fault.Told.{Told}
-use Rattle.rh_app.specs.RunText.{bad_line, lines_asked, Wrote}
-use Rattle.rh_app.proofs.Turns.{wrote_behind}
+use Rattle.rh_run.specs.declared.fault.Told.{Told}
+use Rattle.rh_run.specs.RunText.{bad_line, lines_asked, Wrote}
+use Rattle.rh_run.proofs.Turns.{wrote_behind}
 use Rattle.rh_verify.specs.Expected.{asked_by, stray}
 use Rattle.rh_verify.specs.Blocks.{block_text, stray_text}
 use Rattle.rh_verify.specs.VerifyText.{script_checks, script_tally, last_text, script_text, script_end}

@@ -4,7 +4,7 @@ use Rattle.rh_model.specs.ClusterView.{ClusterView}
 use Rattle.rh_cluster.specs.ClusterOf.{cluster_of}
 use Rattle.rh_rules.specs.declared.pick.Pick.{Pick}
 use Rattle.rh_script.specs.Lines.{cluster_text, script_lines}
-use Rattle.rh_app.specs.RunText.{bad_line, lines_asked}
+use Rattle.rh_run.specs.RunText.{bad_line, lines_asked}
 use Rattle.rh_verify.specs.Expected.{is_expectation}
 use Rattle.rh_verify.specs.VerifyText.{first_line, blocks_text, verify_end}
 

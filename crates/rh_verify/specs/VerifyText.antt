@@ -9,9 +9,9 @@ use Rattle.rh_trail.specs.Lone.{opened}
 use Rattle.rh_script.specs.declared.script.Line.{Line}
 use Rattle.rh_script.specs.Lines.{raw_lines, cluster_text, script_lines}
 use Rattle.rh_script.specs.Answers.{fault_text, bad_text}
-use Rattle.rh_app.specs.declared.fault.Told.{Told}
-use Rattle.rh_app.specs.declared.fault.Told.TheVariants as told
-use Rattle.rh_app.specs.RunText.{bad_line, lines_asked}
+use Rattle.rh_run.specs.declared.fault.Told.{Told}
+use Rattle.rh_run.specs.declared.fault.Told.TheVariants as told
+use Rattle.rh_run.specs.RunText.{bad_line, lines_asked}
 use Rattle.rh_verify.specs.Expected.{Check, asked_by, checks, stray}
 use Rattle.rh_verify.specs.Blocks.{block_text, stray_text}
 use Rattle.rh_verify.specs.Counts.{tally_of, with_stray, tally_text}

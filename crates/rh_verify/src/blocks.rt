@@ -4,7 +4,7 @@ ghost use Rattle.std.specs.Prelude.{◌≡◌, ◌+◌, ◌<◌, ◌≤◌, ◌^
 ghost use Rattle.std.specs.List.{filter, flat_map};
 ghost use Rattle.rh_trail.specs.Lone.{served};
 ghost use Rattle.rh_script.specs.Commands.{line_of};
-ghost use Rattle.rh_app.specs.RunText.{bad_line, lines_asked};
+ghost use Rattle.rh_run.specs.RunText.{bad_line, lines_asked};
 ghost use Rattle.rh_verify.specs.Spaces.{lines_of};
 ghost use Rattle.rh_verify.specs.Expected.{check_of, asked_by, checks, Passes, numbered, is_expectation};
 ghost use Rattle.rh_verify.specs.Blocks.{block_text, stray_text};
@@ -14,9 +14,10 @@ ghost use Rattle.rh_verify.specs.Judging.{verdict_on, Gave, Takes, was_bad};
 use crate::expected::{is_expectation, lines_ahead};
 use crate::judging::{judged, stray_text};
 use crate::tally::{Tally, Verdict, with_verdict};
+use rh_calls::Call;
 use rh_devices::{Sink, Watched, WriteFault, write_text};
 use rh_script::{Line, answer_text, content, line_of, split_line};
-use rh_trail::{Call, Sim};
+use rh_trail::Sim;
 use std::alloc::Global;
 
 // Writes the blocks of the expectations among these lines, of which the first has this number, and answers how many there are.
@@ -150,7 +151,7 @@ fn take_line<'a, K: Sink>(
 }
 
 // Gives a call to the simulation, and writes what doesn't hold of its command, behind which these lines stand.
-#[tactic(auto, unfolding(crate::specs::Blocks::block_text), using(rh_app::proofs::Keeping::served_keeps_cluster))]
+#[tactic(auto, unfolding(crate::specs::Blocks::block_text), using(rh_run::proofs::Keeping::served_keeps_cluster))]
 fn write_block<K: Sink>(
     alloc: Global,
     sim: &mut Sim,

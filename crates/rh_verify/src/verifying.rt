@@ -1,8 +1,8 @@
 //! The program `verify`: commands are answered, and what is expected of them is compared.
 
 ghost use Rattle.std.specs.Prelude.{◌≡◌, ◌+◌, ◌≤◌, ◌^◌, length, false};
-ghost use Rattle.rh_app.specs.RunText.{Wrote};
-ghost use Rattle.rh_app.specs.Programs.{ProgramGives, NoThreads};
+ghost use Rattle.rh_run.specs.RunText.{Wrote};
+ghost use Rattle.rh_run.specs.Programs.{ProgramGives, NoThreads};
 ghost use Rattle.rh_verify.specs.Spaces.{lines_of};
 ghost use Rattle.rh_verify.specs.VerifyText.{script_text, script_end, last_text, last_end, tally_end, verify_text, verify_end, OwesVerify};
 
@@ -10,10 +10,10 @@ use crate::blocks::{write_blocks, write_stray};
 use crate::expected::lines_before;
 use crate::spaces::line_count;
 use crate::tally::{Tally, tally_text, with_stray};
-use rh_app::{RunFault, Told, answer_bad, ended, write_fault};
 use rh_cluster::{Cluster, read_cluster};
 use rh_devices::{Sink, Source, Watched, WriteFault, read_input, write_text};
 use rh_rules::Pick;
+use rh_run::{RunFault, Told, answer_bad, ended, write_fault};
 use rh_script::cut;
 use rh_trail::Sim;
 use std::alloc::Global;

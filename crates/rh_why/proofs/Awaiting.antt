@@ -12,11 +12,11 @@ use Rattle.rh_state.specs.Numbers.{nodes_of}
 use Rattle.rh_state.specs.StateView.{StateView, mode_of, is_alive, is_waiting}
 use Rattle.rh_rules.specs.NodesStart.{all_alive, has_others, is_ready}
 use Rattle.rh_base.proofs.Lists.{cases, none_filter}
-use Rattle.rh_settle.specs.Validity.{IsValid}
-use Rattle.rh_settle.proofs.Every.{filter_no, filter_yes}
-use Rattle.rh_settle.proofs.Places.{same_refl, or_left, or_right}
-use Rattle.rh_settle.proofs.Entries.{both, either, same_number}
-use Rattle.rh_settle.proofs.Searches.{length_nodes, node_there}
+use Rattle.rh_trace.specs.Validity.{IsValid}
+use Rattle.rh_trace.proofs.Every.{filter_no, filter_yes}
+use Rattle.rh_base.proofs.Truths.{same_refl, or_left, or_right, both, same_number}
+use Rattle.rh_trace.proofs.Entries.{either}
+use Rattle.rh_trace.proofs.Numbered.{length_nodes, node_there}
 use Rattle.rh_why.specs.Reasons.{sync_nodes, is_awaited, has_sync_wait, awaited}
 
 -- ---- members of a list

@@ -16,9 +16,9 @@ use Rattle.rh_state.specs.StateView.{StateView, mode_of, is_up, runs_at, waits_a
 use Rattle.rh_rules.specs.Course.{is_local}
 use Rattle.rh_rules.specs.Placing.{dep_runs, deps_run, missing_dep, is_operational}
 use Rattle.rh_base.proofs.Lists.{cases, all_pass}
-use Rattle.rh_settle.specs.Validity.{IsSound, IsValid}
-use Rattle.rh_settle.proofs.Places.{or_right}
-use Rattle.rh_settle.proofs.Entries.{both, either, is_above, is_below, row_there}
+use Rattle.rh_trace.specs.Validity.{IsSound, IsValid}
+use Rattle.rh_base.proofs.Truths.{or_right, both}
+use Rattle.rh_trace.proofs.Entries.{either, is_above, is_below, row_there}
 use Rattle.rh_settle.proofs.FieldLaws.{never_left_wanted, waits_for_a_reason}
 use Rattle.rh_why.specs.declared.reason.Reason.TheVariants as reason
 use Rattle.rh_why.specs.Reasons.{lacking, forbidding, standing_reason, by_standing, reasons}

@@ -16,9 +16,9 @@ use Rattle.rh_state.specs.StateView.{StateView, runs_at, waits_at, is_allowed, s
 use Rattle.rh_rules.specs.Course.{is_local}
 use Rattle.rh_rules.specs.Placing.{dep_runs, missing_dep}
 use Rattle.rh_base.proofs.Lists.{cases}
-use Rattle.rh_settle.specs.Validity.{IsSound, IsValid}
-use Rattle.rh_settle.proofs.Entries.{both}
-use Rattle.rh_settle.proofs.Firsts.{In, in_contained, contained_in}
+use Rattle.rh_trace.specs.Validity.{IsSound, IsValid}
+use Rattle.rh_base.proofs.Truths.{both}
+use Rattle.rh_trace.proofs.Firsts.{In, in_contained, contained_in}
 use Rattle.rh_why.specs.declared.reason.Reason.{Reason}
 use Rattle.rh_why.specs.declared.reason.Reason.TheVariants as reason
 use Rattle.rh_why.specs.Reasons.{lacking, forbidding, standing_reason, by_standing, reasons}

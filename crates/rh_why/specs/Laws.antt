@@ -9,7 +9,7 @@ use Rattle.rh_state.specs.StateView.{StateView, mode_of, is_waiting, runs_at, wa
 use Rattle.rh_rules.specs.Course.{is_local}
 use Rattle.rh_rules.specs.NodesStart.{is_ready}
 use Rattle.rh_rules.specs.Placing.{dep_runs}
-use Rattle.rh_settle.specs.Validity.{IsValid}
+use Rattle.rh_trace.specs.Validity.{IsValid}
 use Rattle.rh_why.specs.declared.reason.Reason.{Reason}
 use Rattle.rh_why.specs.declared.reason.Reason.TheVariants.{Needs, Forbidden, RunsAt, LostWith, Quiet}
 use Rattle.rh_why.specs.Reasons.{reasons, awaited}

@@ -13,11 +13,11 @@ ghost use Rattle.rh_app.specs.Workers.{WereServed, WhyNoHistory, WhyNoPasses, ha
 
 use crate::fault::HistoryFault;
 use rh_base::{OutOfMemory, are_same};
+use rh_calls::Call;
 use rh_cluster::Cluster;
 use rh_room::{Closed, Entry, Pass, Room, RoomFault, Shared, close, open_room};
 use rh_rules::Pick;
 use rh_script::Command;
-use rh_trail::Call;
 use std::alloc::Global;
 use std::sync::{Mutex, Wait};
 use std::thread;

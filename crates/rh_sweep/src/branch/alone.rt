@@ -1,8 +1,8 @@
 //! Plans that are tried by the caller alone.
 
 ghost use Rattle.std.specs.Prelude.{◌≡◌, map, All, IfOk, IfErr, OnOk};
-ghost use Rattle.rh_sweep.specs.Outcomes.{outcome_of};
-ghost use Rattle.rh_sweep.specs.Sweeping.{HasRoom, MaySweep, WhyNotSwept};
+ghost use Rattle.rh_outcomes.specs.Outcomes.{outcome_of};
+ghost use Rattle.rh_outcomes.specs.Sweeping.{HasRoom, MaySweep, WhyNotSwept};
 
 use super::Branch;
 use crate::shares::why_not_swept;

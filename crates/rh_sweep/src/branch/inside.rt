@@ -2,8 +2,8 @@
 
 ghost use Rattle.std.specs.Prelude.{◌≡◌, ◌<◌, length, All, IfOk, OnOk, Some, slice_get};
 ghost use Rattle.std.specs.Option.{option_map};
-ghost use Rattle.rh_sweep.specs.Outcomes.{outcome_of};
-ghost use Rattle.rh_sweep.specs.Sweeping.{HasRoom};
+ghost use Rattle.rh_outcomes.specs.Outcomes.{outcome_of};
+ghost use Rattle.rh_outcomes.specs.Sweeping.{HasRoom};
 ghost use Rattle.rh_sweep.specs.Working.{IsAtBase};
 
 use super::Branch;

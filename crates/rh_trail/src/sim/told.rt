@@ -2,12 +2,11 @@
 
 ghost use Rattle.std.specs.Prelude.{◌≡◌, List, IfOk};
 ghost use Rattle.rh_rules.specs.declared.notice.Notice.{Notice};
-ghost use Rattle.rh_trail.specs.declared.call.Reply.TheVariants as reply;
+ghost use Rattle.rh_calls.specs.declared.call.Reply.TheVariants as reply;
 
-use crate::call::Reply;
-use crate::replies::Replies;
 use rh_base::OutOfMemory;
-use rh_step::{Notice, Notices};
+use rh_calls::{Notices, Replies, Reply};
+use rh_step::Notice;
 use std::alloc::Global;
 
 /// What the notices of a step are told as: a simulation makes it before it keeps the step.

@@ -2,8 +2,8 @@ use Rattle.std.proofs.Common.{◌≡◌, ◌≤◌, ◌+◌, ◌++◌, ◌∷◌
 use Rattle.std.proofs.lemmas.List.{take_all, take_more}
 use Rattle.rh_rules.specs.declared.event.Event.TheVariants.{Boot}
 use Rattle.rh_model.specs.ClusterView.{numbered}
-use Rattle.rh_trail.specs.declared.call.Call.{Call}
-use Rattle.rh_trail.specs.declared.call.Call.TheVariants.{Step}
+use Rattle.rh_calls.specs.declared.call.Call.{Call}
+use Rattle.rh_calls.specs.declared.call.Call.TheVariants.{Step}
 use Rattle.rh_trail.specs.Chain.{kept_to}
 use Rattle.rh_trail.specs.Laws.{next_sim}
 use Rattle.rh_trail.specs.Lone.{Served, sim_after}

@@ -1,5 +1,5 @@
 use Rattle.std.proofs.Common.{◌≡◌, ap, subst, ◌∙◌}
-use Rattle.rh_trail.specs.declared.call.Call.TheVariants as call
+use Rattle.rh_calls.specs.declared.call.Call.TheVariants as call
 use Rattle.rh_trail.specs.Chain.{IsChain}
 use Rattle.rh_trail.specs.Laws.{is_refusal}
 use Rattle.rh_trail.specs.Lone.{served}

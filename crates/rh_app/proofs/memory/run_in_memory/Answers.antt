@@ -2,8 +2,8 @@ use Rattle.std.proofs.Common.{◌≡◌, ◌∙◌, ◌++◌, [], sym, ap, List,
 use Rattle.rh_devices.specs.declared.memory.Bytes.{Bytes}
 use Rattle.rh_devices.specs.declared.memory.Text.{Text}
 use Rattle.rh_devices.specs.declared.watched.Watched.{Watched}
-use Rattle.rh_app.specs.Faults.{ended}
-use Rattle.rh_app.specs.RunText.{run_text, run_end}
+use Rattle.rh_run.specs.Faults.{ended}
+use Rattle.rh_run.specs.RunText.{run_text, run_end}
 use Rattle.rh_app.proofs.OverMemory.{Is, in_memory}
 use Rattle.rh_app.proofs.memory.run_in_memory.Goals as goal
 

@@ -1,9 +1,10 @@
 use Rattle.std.proofs.Common.{refl, sym, subst, length, ◌≤◌, List, ℕ}
 use Rattle.std.proofs.lemmas.Result.{err_from_is_err_and}
 use Rattle.rh_devices.specs.Devices.{input_limit}
-use Rattle.rh_app.specs.Programs.{IsInput}
+use Rattle.rh_run.specs.Programs.{IsInput}
 use Rattle.rh_app.specs.Sessions.{MayGive, AskHistory}
-use Rattle.rh_app.proofs.Ending.{not_read, not_shared, is_shared}
+use Rattle.rh_app.proofs.Ending.{not_shared, is_shared}
+use Rattle.rh_run.proofs.Ending.{not_read}
 use Rattle.rh_app.proofs.sessions.run_sessions.Goals as goal
 
 pub returns-in_err-input : goal.returns-in_err-input

@@ -3,7 +3,7 @@ use Rattle.std.proofs.lemmas.Result.{err_from_is_err_and}
 use Rattle.rh_cluster.specs.ClusterOf.{cluster_of}
 use Rattle.rh_script.specs.Lines.{raw_lines, content}
 use Rattle.rh_script.specs.Answers.{fault_text}
-use Rattle.rh_app.specs.declared.fault.Told.TheVariants as told
+use Rattle.rh_run.specs.declared.fault.Told.TheVariants as told
 use Rattle.rh_app.specs.Sessions.{MayGive}
 use Rattle.rh_app.proofs.OneOf.{some_given, starved, cluster_fault_given, over_script}
 use Rattle.rh_app.proofs.sessions.share_input.Goals as goal

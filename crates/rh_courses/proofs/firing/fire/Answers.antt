@@ -10,8 +10,8 @@ use Rattle.rh_state.specs.declared.status.Timer.TheVariants.{Sync, Failover}
 use Rattle.rh_rules.specs.Course.{Course}
 use Rattle.rh_rules.specs.NodesStart.{ready_come_up}
 use Rattle.rh_rules.specs.Time.{effect, taken_off}
-use Rattle.rh_settle.specs.Traces.{IsPairOf, course}
-use Rattle.rh_settle.specs.Validity.{IsSound, RunsWhereItStands}
+use Rattle.rh_trace.specs.Traces.{IsPairOf, course}
+use Rattle.rh_trace.specs.Validity.{IsSound, RunsWhereItStands}
 use Rattle.rh_step.proofs.Firing.{none_runs, none_waits, none_timed, effect_cluster, effect_marked}
 use Rattle.rh_step.proofs.TakenOff.{sound_effect}
 use Rattle.rh_events.proofs.Marked.{none_marked, marked_ready_come_up}

@@ -1,7 +1,7 @@
 use Rattle.std.proofs.Common.{◌≡◌, length}
 use Rattle.rh_model.specs.ClusterView.{ClusterView}
 use Rattle.rh_state.specs.Stored.{read}
-use Rattle.rh_settle.specs.Validity.{IsSound}
+use Rattle.rh_trace.specs.Validity.{IsSound}
 use Rattle.rh_courses.specs.Moments.{behind_timers}
 use Rattle.rh_courses.specs.Working.{noted_along, AreOf}
 use Rattle.rh_courses.proofs.walk.note_each.Given as goal

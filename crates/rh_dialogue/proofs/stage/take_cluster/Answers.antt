@@ -8,7 +8,7 @@ use Rattle.rh_devices.proofs.Passing.{passed_none}
 use Rattle.rh_trail.specs.SimView.{SimView}
 use Rattle.rh_script.specs.Lines.{raw_lines, content, is_separator, cluster_text}
 use Rattle.rh_script.specs.Answers.{fault_text}
-use Rattle.rh_app.specs.RunText.{text_over}
+use Rattle.rh_run.specs.RunText.{text_over}
 use Rattle.rh_dialogue.specs.declared.stage.Stage.TheVariants as stage
 use Rattle.rh_dialogue.specs.Stages.{Takes, opened_from, opened_end, script_from}
 use Rattle.rh_dialogue.proofs.Parting.{all_if_none, none_if_all, some_if_less, script_few}

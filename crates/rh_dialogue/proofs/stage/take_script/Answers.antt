@@ -4,7 +4,7 @@ use Rattle.std.proofs.lemmas.Result.{err_from_is_err_and}
 use Rattle.rh_devices.specs.Devices.{Passed, WroteFront}
 use Rattle.rh_devices.proofs.Passing.{passed_more, fault_behind, fault_before}
 use Rattle.rh_model.specs.ClusterView.{ClusterView}
-use Rattle.rh_app.specs.RunText.{script_end}
+use Rattle.rh_run.specs.RunText.{script_end}
 use Rattle.rh_script.specs.Lines.{raw_lines, content}
 use Rattle.rh_script.specs.Commands.{line_of}
 use Rattle.rh_dialogue.specs.Stages.{line_said, line_made, is_bad, script_from, bad_from}

@@ -1,5 +1,5 @@
 use Rattle.rh_state.specs.Stored.{read}
-use Rattle.rh_settle.proofs.Counts.{weighed, on_ok_any}
+use Rattle.rh_trace.proofs.Counts.{weighed, on_ok_any}
 use Rattle.rh_events.proofs.Losing.{unset_running}
 use Rattle.rh_events.proofs.by_hand.exit.Goals as goal
 

@@ -2,9 +2,9 @@ use Rattle.std.proofs.Common.{ap, ◌∙◌}
 use Rattle.rh_state.specs.StateView.{place_of}
 use Rattle.rh_state.specs.Setters.{unlisted}
 use Rattle.rh_state.specs.Stored.{read}
-use Rattle.rh_settle.specs.Traces.{TraceView}
-use Rattle.rh_settle.proofs.Places.{off_unlisted_shaped}
-use Rattle.rh_settle.proofs.Ways.{goes_told, goes_more}
+use Rattle.rh_trace.specs.Traces.{TraceView}
+use Rattle.rh_trace.proofs.Places.{off_unlisted_shaped}
+use Rattle.rh_trace.proofs.Ways.{goes_told, goes_more}
 use Rattle.rh_events.proofs.by_hand.forbid.Goals as goal
 
 pub push_waiting-requires-clause-off : goal.push_waiting-requires-clause-off

@@ -3,7 +3,7 @@ use Rattle.std.proofs.lemmas.Result.{on_ok_weaker}
 use Rattle.rh_state.specs.Stored.{read}
 use Rattle.rh_rules.specs.declared.notice.Move.TheVariants.{Takeover}
 use Rattle.rh_rules.specs.Course.{Course}
-use Rattle.rh_settle.specs.Traces.{course}
+use Rattle.rh_trace.specs.Traces.{course}
 use Rattle.rh_rules.specs.Moves.{moved}
 use Rattle.rh_rules.specs.ByHand.{taken_over, taken_from}
 use Rattle.rh_events.proofs.Moving.{same_course}

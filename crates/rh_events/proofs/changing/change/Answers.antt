@@ -1,13 +1,13 @@
 use Rattle.std.proofs.Common.{sym, ap, ◌∙◌}
 use Rattle.std.proofs.lemmas.Result.{on_ok_weaker}
 use Rattle.rh_state.specs.Stored.{read}
-use Rattle.rh_settle.specs.Traces.{course}
-use Rattle.rh_settle.proofs.Counts.{on_ok_any}
+use Rattle.rh_trace.specs.Traces.{course}
+use Rattle.rh_trace.proofs.Counts.{on_ok_any}
 use Rattle.rh_rules.specs.declared.event.Event.TheVariants.{Boot, Crash, Start, Stop, Permit, Takeover, Exit, StartAll, StopAll}
 use Rattle.rh_rules.specs.Steps.{change}
 use Rattle.rh_rules.specs.Refusals.{refused}
-use Rattle.rh_events.proofs.Accepted.{accepted_boot, accepted_crash, accepted_start, accepted_stop, accepted_permit, accepted_takeover, accepted_exit}
-use Rattle.rh_events.proofs.Accepted.{accepted_start_all, accepted_stop_all}
+use Rattle.rh_refusals.proofs.Accepted.{accepted_boot, accepted_crash, accepted_start, accepted_stop, accepted_permit, accepted_takeover, accepted_exit}
+use Rattle.rh_refusals.proofs.Accepted.{accepted_start_all, accepted_stop_all}
 use Rattle.rh_events.proofs.Counts.{of_event, of_event_ok}
 use Rattle.rh_events.proofs.Requirements.{unset_sync, unset_failover, off_to_start, on_to_stop, runs_elsewhere}
 use Rattle.rh_events.proofs.changing.change.Goals as goal

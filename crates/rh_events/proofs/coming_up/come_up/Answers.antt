@@ -5,8 +5,8 @@ use Rattle.rh_rules.specs.declared.notice.Notice.{Notice}
 use Rattle.rh_rules.specs.declared.notice.Notice.TheVariants.{Up}
 use Rattle.rh_state.specs.Stored.{read}
 use Rattle.rh_rules.specs.Course.{Course}
-use Rattle.rh_settle.specs.Traces.{TraceView, trace_of, course}
-use Rattle.rh_settle.proofs.Ways.{goes_told, goes_more, goes_cluster}
+use Rattle.rh_trace.specs.Traces.{TraceView, trace_of, course}
+use Rattle.rh_trace.proofs.Ways.{goes_told, goes_more, goes_cluster}
 use Rattle.rh_events.proofs.Counts.{told_once, mark_all_tells, on_ok_two}
 use Rattle.rh_events.proofs.coming_up.come_up.Goals as goal
 

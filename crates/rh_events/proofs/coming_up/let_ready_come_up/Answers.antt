@@ -3,11 +3,11 @@ use Rattle.rh_model.specs.ClusterView.{ClusterView, node_count, numbered}
 use Rattle.rh_state.specs.Shape.{IsNodeOf}
 use Rattle.rh_state.specs.Stored.{read}
 use Rattle.rh_rules.specs.Course.{Course}
-use Rattle.rh_settle.specs.Traces.{course}
-use Rattle.rh_settle.specs.Validity.{IsSound}
-use Rattle.rh_settle.specs.Counts.{FewWeighed}
-use Rattle.rh_settle.proofs.Counts.{weighed_more}
-use Rattle.rh_settle.proofs.Ways.{goes_more}
+use Rattle.rh_trace.specs.Traces.{course}
+use Rattle.rh_trace.specs.Validity.{IsSound}
+use Rattle.rh_trace.specs.Counts.{FewWeighed}
+use Rattle.rh_trace.proofs.Counts.{weighed_more}
+use Rattle.rh_trace.proofs.Ways.{goes_more}
 use Rattle.rh_rules.specs.NodesStart.{come_up_if_ready}
 use Rattle.rh_events.proofs.SoundComingUp.{come_up_more, come_up_if_ready_cluster, sound_come_up_if_ready}
 use Rattle.rh_events.proofs.coming_up.let_ready_come_up.Goals as goal

@@ -1,9 +1,9 @@
 use Rattle.std.proofs.Common.{◌≡◌}
 use Rattle.rh_state.specs.Stored.{read}
-use Rattle.rh_settle.specs.Traces.{course}
-use Rattle.rh_settle.specs.Counts.{FewWeighed}
-use Rattle.rh_settle.specs.Ways.{Goes}
-use Rattle.rh_settle.specs.Validity.{IsSound}
+use Rattle.rh_trace.specs.Traces.{course}
+use Rattle.rh_trace.specs.Counts.{FewWeighed}
+use Rattle.rh_trace.specs.Ways.{Goes}
+use Rattle.rh_trace.specs.Validity.{IsSound}
 use Rattle.rh_events.proofs.SoundComingUp.{come_up_below}
 use Rattle.rh_events.proofs.coming_up.let_ready_come_up.Given as goal
 

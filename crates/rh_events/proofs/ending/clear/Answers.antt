@@ -1,9 +1,9 @@
 use Rattle.std.proofs.Common.{◌+◌, ◌*◌, ap, ◌∙◌, arith}
 use Rattle.rh_model.specs.ClusterView.{ClusterView, app_count}
 use Rattle.rh_state.specs.Stored.{read}
-use Rattle.rh_settle.specs.Counts.{FewEdits}
-use Rattle.rh_settle.proofs.Counts.{on_ok_any}
-use Rattle.rh_settle.proofs.Ways.{goes_more, goes_cluster}
+use Rattle.rh_trace.specs.Counts.{FewEdits}
+use Rattle.rh_trace.proofs.Counts.{on_ok_any}
+use Rattle.rh_trace.proofs.Ways.{goes_more, goes_cluster}
 use Rattle.rh_events.proofs.ending.clear.Goals as goal
 
 pub returns-clause-way : goal.returns-clause-way

@@ -3,7 +3,7 @@ use Rattle.rh_model.specs.ClusterView.{ClusterView, app_count, app_numbered, is_
 use Rattle.rh_state.specs.StateView.{StateView}
 use Rattle.rh_state.specs.Setters.{with_allowed}
 use Rattle.rh_state.specs.Stored.{read}
-use Rattle.rh_settle.proofs.Ways.{goes_none, goes_more}
+use Rattle.rh_trace.proofs.Ways.{goes_none, goes_more}
 use Rattle.rh_events.proofs.Configuring.{already_configured, with_first, none_written, one_written, all_written}
 use Rattle.rh_events.proofs.ending.configure.Goals as goal
 

@@ -1,10 +1,10 @@
 use Rattle.std.proofs.Common.{◌<◌, sym, ap, ◌∙◌, subst, arith}
 use Rattle.rh_state.specs.StateView.{StateView}
 use Rattle.rh_state.specs.Stored.{read}
-use Rattle.rh_settle.proofs.Ways.{goes_more}
+use Rattle.rh_trace.proofs.Ways.{goes_more}
 use Rattle.rh_rules.specs.NodesEnd.{emptied}
 use Rattle.rh_events.proofs.Emptying.{how_many, one_less, emptied_unlisted, empty_already, started_some, none_of_default}
-use Rattle.rh_events.proofs.FewStarted.{few_started}
+use Rattle.rh_trace.proofs.FewStarted.{few_started}
 use Rattle.rh_events.proofs.ending.empty.Goals as goal
 
 pub started-smaller : goal.started-smaller

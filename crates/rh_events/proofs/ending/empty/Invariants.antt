@@ -1,6 +1,6 @@
 use Rattle.std.proofs.Common.{◌≡◌, ◌≤◌, ◌+◌, ◌*◌, length}
 use Rattle.rh_state.specs.Stored.{read}
-use Rattle.rh_settle.specs.Ways.{Goes}
+use Rattle.rh_trace.specs.Ways.{Goes}
 use Rattle.rh_rules.specs.NodesEnd.{emptied}
 use Rattle.rh_events.proofs.Emptying.{how_many}
 use Rattle.rh_events.proofs.ending.empty.Given as goal

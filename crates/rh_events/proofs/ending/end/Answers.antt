@@ -9,8 +9,8 @@ use Rattle.rh_state.specs.Stored.{read}
 use Rattle.rh_rules.specs.NodesEnd.{cleared}
 use Rattle.rh_rules.specs.declared.notice.Notice.{Notice}
 use Rattle.rh_rules.specs.declared.notice.Notice.TheVariants.{Ended}
-use Rattle.rh_settle.specs.Traces.{TraceView}
-use Rattle.rh_settle.proofs.Ways.{goes_cluster}
+use Rattle.rh_trace.specs.Traces.{TraceView}
+use Rattle.rh_trace.proofs.Ways.{goes_cluster}
 use Rattle.rh_events.proofs.Counts.{told_once}
 use Rattle.rh_events.proofs.Losing.{unset_cleared}
 use Rattle.rh_events.proofs.ending.end.Goals as goal

@@ -2,7 +2,7 @@ use Rattle.std.proofs.Common.{◌+◌, sym, ap, ◌∙◌, subst, arith}
 use Rattle.rh_model.specs.ClusterView.{ClusterView, app_count, app_numbered}
 use Rattle.rh_state.specs.StateView.{StateView}
 use Rattle.rh_state.specs.Stored.{read}
-use Rattle.rh_settle.proofs.Ways.{goes_more}
+use Rattle.rh_trace.proofs.Ways.{goes_more}
 use Rattle.rh_rules.specs.NodesEnd.{lost_if_ran}
 use Rattle.rh_events.proofs.Losing.{UnsetFrom, lost_more, lost_cluster, unset_later}
 use Rattle.rh_events.proofs.ending.lose_all.Goals as goal

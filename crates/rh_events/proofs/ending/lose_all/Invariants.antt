@@ -1,7 +1,7 @@
 use Rattle.std.proofs.Common.{◌≡◌, ◌*◌}
 use Rattle.rh_state.specs.Stored.{read}
-use Rattle.rh_settle.specs.Counts.{FewEdits}
-use Rattle.rh_settle.specs.Ways.{Goes}
+use Rattle.rh_trace.specs.Counts.{FewEdits}
+use Rattle.rh_trace.specs.Ways.{Goes}
 use Rattle.rh_events.proofs.Losing.{lost_below, UnsetFrom}
 use Rattle.rh_events.proofs.ending.lose_all.Given as goal
 

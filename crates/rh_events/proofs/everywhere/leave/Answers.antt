@@ -1,7 +1,7 @@
 use Rattle.std.proofs.Common.{sym, ◌∙◌}
 use Rattle.rh_state.specs.Stored.{read}
-use Rattle.rh_settle.specs.Traces.{course}
-use Rattle.rh_events.proofs.RefusedByHand.{off_unstarted}
+use Rattle.rh_trace.specs.Traces.{course}
+use Rattle.rh_refusals.proofs.RefusedByHand.{off_unstarted}
 use Rattle.rh_events.proofs.StoppingAll.{leave_off}
 use Rattle.rh_events.proofs.everywhere.leave.Goals as goal
 

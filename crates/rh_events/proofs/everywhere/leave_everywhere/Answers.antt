@@ -2,8 +2,8 @@ use Rattle.std.proofs.Common.{ap, sym, ◌∙◌, arith}
 use Rattle.rh_model.specs.ClusterView.{ClusterView, node_count, numbered}
 use Rattle.rh_state.specs.Stored.{read}
 use Rattle.rh_rules.specs.Course.{Course}
-use Rattle.rh_settle.specs.Traces.{course}
-use Rattle.rh_settle.proofs.Ways.{goes_more}
+use Rattle.rh_trace.specs.Traces.{course}
+use Rattle.rh_trace.proofs.Ways.{goes_more}
 use Rattle.rh_rules.specs.Everywhere.{leave_at}
 use Rattle.rh_events.proofs.StoppingAll.{left_more, leave_cluster}
 use Rattle.rh_events.proofs.everywhere.leave_everywhere.Goals as goal

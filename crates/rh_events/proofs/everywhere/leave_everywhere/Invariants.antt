@@ -1,8 +1,8 @@
 use Rattle.std.proofs.Common.{◌≡◌}
 use Rattle.rh_state.specs.Stored.{read}
-use Rattle.rh_settle.specs.Traces.{course}
-use Rattle.rh_settle.specs.Counts.{FewEdits}
-use Rattle.rh_settle.specs.Ways.{Goes}
+use Rattle.rh_trace.specs.Traces.{course}
+use Rattle.rh_trace.specs.Counts.{FewEdits}
+use Rattle.rh_trace.specs.Ways.{Goes}
 use Rattle.rh_events.proofs.StoppingAll.{left_below}
 use Rattle.rh_events.proofs.everywhere.leave_everywhere.Given as goal
 

@@ -1,6 +1,6 @@
 use Rattle.std.proofs.Common.{ap}
-use Rattle.rh_settle.specs.Traces.{TraceView}
-use Rattle.rh_settle.proofs.Ways.{goes_marked, goes_more}
+use Rattle.rh_trace.specs.Traces.{TraceView}
+use Rattle.rh_trace.proofs.Ways.{goes_marked, goes_more}
 use Rattle.rh_events.proofs.marking.mark.Goals as goal
 
 pub returns-in_err-set_restart-clause-way : goal.returns-in_err-set_restart-clause-way

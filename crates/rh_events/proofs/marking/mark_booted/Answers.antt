@@ -4,8 +4,8 @@ use Rattle.rh_model.specs.declared.node.App.{App}
 use Rattle.rh_model.specs.declared.settings.Restart.{Restart}
 use Rattle.rh_model.specs.declared.settings.Restart.TheVariants.{Permanent}
 use Rattle.rh_state.specs.Stored.{read}
-use Rattle.rh_settle.specs.Traces.{course}
-use Rattle.rh_settle.proofs.Ways.{goes_more}
+use Rattle.rh_trace.specs.Traces.{course}
+use Rattle.rh_trace.proofs.Ways.{goes_more}
 use Rattle.rh_events.proofs.BootTurns.{next_app_within, next_is_off, one_more, same_cluster, others_off, all_marked}
 use Rattle.rh_events.proofs.marking.mark_booted.Goals as goal
 

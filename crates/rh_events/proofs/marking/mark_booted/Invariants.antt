@@ -4,9 +4,9 @@ use Rattle.rh_model.specs.declared.settings.Restart.{Restart}
 use Rattle.rh_model.specs.ClusterView.{boot_of}
 use Rattle.rh_state.specs.StateView.{is_started}
 use Rattle.rh_state.specs.Stored.{read}
-use Rattle.rh_settle.specs.Traces.{course}
-use Rattle.rh_settle.specs.Counts.{FewEdits}
-use Rattle.rh_settle.specs.Ways.{Goes}
+use Rattle.rh_trace.specs.Traces.{course}
+use Rattle.rh_trace.specs.Counts.{FewEdits}
+use Rattle.rh_trace.specs.Ways.{Goes}
 use Rattle.rh_rules.specs.Marking.{mark_booted}
 use Rattle.rh_events.proofs.marking.mark_booted.Given as goal
 

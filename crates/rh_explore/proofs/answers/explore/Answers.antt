@@ -7,7 +7,7 @@ use Rattle.rh_explore.specs.Exploring.{scope_of, IsVerdict, AreReached}
 use Rattle.rh_explore.specs.Spaces.{Seen}
 use Rattle.rh_explore.specs.Kept.{seen_by, seen_of, states_of, AreLinked}
 use Rattle.rh_explore.specs.Tellings.{IsTold}
-use Rattle.rh_explore.proofs.Places.{at_of}
+use Rattle.rh_keys.proofs.Places.{at_of}
 use Rattle.rh_explore.proofs.PathsTo.{path_at, seen_there, depth_is, length-seen}
 use Rattle.rh_explore.proofs.Searched.{verdict_so, are_reached}
 use Rattle.rh_explore.proofs.Told.{told_first, failure_within}

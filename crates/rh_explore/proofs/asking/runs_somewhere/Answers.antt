@@ -3,7 +3,7 @@ use Rattle.rh_model.specs.ClusterView.{ClusterView, node_count, numbered}
 use Rattle.rh_state.specs.Numbers.{nodes_of}
 use Rattle.rh_state.specs.StateView.{runs_at}
 use Rattle.rh_state.specs.Stored.{read}
-use Rattle.rh_events.proofs.Anywhere.{any_at, none_more}
+use Rattle.rh_refusals.proofs.Anywhere.{any_at, none_more}
 use Rattle.rh_explore.proofs.asking.runs_somewhere.Goals as goal
 
 pub returns-then-runs_at : goal.returns-then-runs_at

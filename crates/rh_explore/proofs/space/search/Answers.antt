@@ -7,15 +7,15 @@ use Rattle.rh_rules.specs.declared.event.Event.{Event}
 use Rattle.rh_explore.specs.declared.front.Front.{Front}
 use Rattle.rh_explore.specs.declared.space.Found.{Found}
 use Rattle.rh_explore.specs.declared.space.Space.{Space}
-use Rattle.rh_explore.specs.Codes.{code}
+use Rattle.rh_keys.specs.Codes.{code}
 use Rattle.rh_explore.specs.Failures.{AreFailures}
-use Rattle.rh_explore.specs.Packed.{packed_key}
+use Rattle.rh_keys.specs.Packed.{packed_key}
 use Rattle.rh_explore.specs.Exploring.{scope_of}
 use Rattle.rh_explore.specs.Reaching.{Scope}
 use Rattle.rh_explore.specs.Spaces.{Seen, IsSearched, IsNear}
 use Rattle.rh_explore.specs.Kept.{seen_by, seen_of, states_of, AreLinked, parent_by, parents_of, waiting_in}
 use Rattle.rh_explore.proofs.Begun.{base_near, base_few, at_true, at_false}
-use Rattle.rh_explore.proofs.Places.{there_of}
+use Rattle.rh_keys.proofs.Places.{there_of}
 use Rattle.rh_explore.proofs.PathsTo.{path_at, seen_there, found_stays, depth_is, drop_first, length-seen}
 use Rattle.rh_explore.proofs.Reached.{begun, done_next, near_next, few_more, searched_still, near_still, never_cut, up_to}
 use Rattle.rh_explore.proofs.Searched.{base_searched}

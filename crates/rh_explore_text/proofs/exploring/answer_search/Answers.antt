@@ -2,10 +2,10 @@ use Rattle.std.proofs.Common.{◌≡◌, ◌++◌, ℕ, List, All, refl, sym, ap
 use Rattle.rh_model.specs.ClusterView.{ClusterView}
 use Rattle.rh_state.specs.StateView.{StateView}
 use Rattle.rh_state.specs.Stored.{read}
-use Rattle.rh_trail.specs.declared.call.Call.{Call}
+use Rattle.rh_calls.specs.declared.call.Call.{Call}
 use Rattle.rh_trail.specs.SimView.{SimView, state_of}
 use Rattle.rh_trail.specs.Lone.{opened, sim_after}
-use Rattle.rh_app.specs.RunText.{answers_text}
+use Rattle.rh_run.specs.RunText.{answers_text}
 use Rattle.rh_explore.specs.declared.bounds.Bounds.{Bounds}
 use Rattle.rh_explore.specs.Exploring.{scope_of}
 use Rattle.rh_explore_text.specs.FoundText.{CanCome, found_text}

@@ -1,6 +1,6 @@
 use Rattle.std.proofs.Common.{◌≡◌, ◌++◌, drop}
 use Rattle.rh_trail.specs.Lone.{sim_after}
-use Rattle.rh_app.specs.RunText.{answers_text}
+use Rattle.rh_run.specs.RunText.{answers_text}
 use Rattle.rh_explore_text.proofs.exploring.answers_to.Given as goal
 
 abbrev pub invariant-calls : goal.invariant-calls

@@ -1,7 +1,7 @@
 use Rattle.std.proofs.Common.{◌≡◌, drop, fold}
 use Rattle.rh_state.specs.Stored.{read}
-use Rattle.rh_settle.specs.Validity.{IsValid}
-use Rattle.rh_trail.specs.Runs.{step}
+use Rattle.rh_trace.specs.Validity.{IsValid}
+use Rattle.rh_step.specs.Runs.{step}
 use Rattle.rh_explore_text.specs.FoundText.{AllAccepted}
 use Rattle.rh_explore_text.proofs.telling.state_behind.Given as goal
 

@@ -1,5 +1,5 @@
 use Rattle.std.proofs.Common.{subst}
-use Rattle.rh_settle.specs.Validity.{IsValid}
+use Rattle.rh_trace.specs.Validity.{IsValid}
 use Rattle.rh_state.specs.StateView.{StateView}
 use Rattle.rh_json.proofs.Told.{notices_are_replied}
 use Rattle.rh_json.proofs.laws.notices_are_replied.Goals as goal

@@ -1,7 +1,7 @@
 use Rattle.std.proofs.Common.{◌≡◌, ◌≤◌, ◌+◌, ◌++◌, List, ℕ, length, map, false}
 use Rattle.rh_devices.specs.Devices.{Passed}
 use Rattle.rh_script.specs.Lines.{raw_lines, content}
-use Rattle.rh_app.specs.RunText.{bad_line, lines_asked}
+use Rattle.rh_run.specs.RunText.{bad_line, lines_asked}
 use Rattle.rh_json.specs.RunJson.{script_json}
 use Rattle.rh_json.proofs.running.answer_lines.Given as goal
 

@@ -3,8 +3,8 @@ use Rattle.std.proofs.lemmas.Result.{err_from_is_err_and}
 use Rattle.rh_script.specs.Lines.{raw_lines, content}
 use Rattle.rh_trail.specs.Lone.{opened}
 use Rattle.rh_devices.proofs.Passing.{fault_before}
-use Rattle.rh_app.specs.RunText.{bad_line, lines_asked}
-use Rattle.rh_app.proofs.Turns.{wrote_behind}
+use Rattle.rh_run.specs.RunText.{bad_line, lines_asked}
+use Rattle.rh_run.proofs.Turns.{wrote_behind}
 use Rattle.rh_json_lines.specs.ClusterLines.{cluster_line}
 use Rattle.rh_json.specs.RunJson.{script_json}
 use Rattle.rh_json.proofs.running.answer_script.Goals as goal

@@ -1,10 +1,10 @@
 use Rattle.std.proofs.Common.{refl, sym, subst, length, ◌≤◌, List, ℕ}
 use Rattle.std.proofs.lemmas.Result.{err_from_is_err_and}
 use Rattle.rh_devices.specs.Devices.{input_limit}
-use Rattle.rh_app.specs.Programs.{IsInput, NoThreads}
-use Rattle.rh_app.specs.RunText.{run_end}
+use Rattle.rh_run.specs.Programs.{IsInput, NoThreads}
+use Rattle.rh_run.specs.RunText.{run_end}
 use Rattle.rh_json.specs.RunJson.{run_json, OwesRunJson}
-use Rattle.rh_app.proofs.Ending.{not_read, not_written, is_written}
+use Rattle.rh_run.proofs.Ending.{not_read, not_written, is_written}
 use Rattle.rh_json.proofs.running.run_json.Goals as goal
 
 pub returns-in_err-input : goal.returns-in_err-input

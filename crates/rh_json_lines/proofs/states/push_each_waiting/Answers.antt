@@ -2,10 +2,10 @@ use Rattle.std.proofs.Common.{List, ◌∙◌}
 use Rattle.rh_model.specs.declared.node.App.{App}
 use Rattle.rh_state.specs.StateView.{waiting_at}
 use Rattle.rh_state.specs.Stored.{read}
-use Rattle.rh_settle.proofs.ListWalks.{behind_waiting}
+use Rattle.rh_state.proofs.ListWalks.{behind_waiting}
 use Rattle.rh_json_text.specs.Json.{behind_comma}
 use Rattle.rh_json_lines.specs.Reports.{waiting_json}
-use Rattle.rh_trail.proofs.Walks.{is_there, walk_begins, walk_goes_on, walk_ends, walk_shortens}
+use Rattle.rh_report.proofs.Walks.{is_there, walk_begins, walk_goes_on, walk_ends, walk_shortens}
 use Rattle.rh_json_lines.proofs.states.push_each_waiting.Goals as goal
 
 pub waiting-init : goal.waiting-init

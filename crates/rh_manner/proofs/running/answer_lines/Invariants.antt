@@ -1,7 +1,7 @@
 use Rattle.std.proofs.Common.{◌≡◌, ◌≤◌, ◌+◌, ◌++◌, ◌||◌, List, ℕ, length, map, false}
 use Rattle.rh_devices.specs.Devices.{Passed}
 use Rattle.rh_script.specs.Lines.{raw_lines, content}
-use Rattle.rh_app.specs.RunText.{bad_line}
+use Rattle.rh_run.specs.RunText.{bad_line}
 use Rattle.rh_manner.specs.MannerText.{asked, said_by, said_text}
 use Rattle.rh_manner.specs.Turns.{any_refused}
 use Rattle.rh_manner.proofs.running.answer_lines.Given as goal

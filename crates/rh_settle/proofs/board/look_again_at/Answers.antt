@@ -8,7 +8,7 @@ use Rattle.rh_state.specs.Stored.{read}
 use Rattle.rh_base.proofs.Lists.{cases}
 use Rattle.rh_rules.specs.Placing.{is_operational}
 use Rattle.rh_settle.specs.Boards.{is_among, matters}
-use Rattle.rh_settle.proofs.Entries.{same_number}
+use Rattle.rh_base.proofs.Truths.{same_number}
 use Rattle.rh_settle.proofs.TakenMarks.{one_taken}
 use Rattle.rh_settle.proofs.Touches.{left_touched, none_left}
 use Rattle.rh_settle.proofs.board.look_again_at.Goals as goal

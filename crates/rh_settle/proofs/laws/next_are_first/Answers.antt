@@ -1,4 +1,4 @@
-use Rattle.rh_settle.proofs.NextFirsts.{next_are_first}
+use Rattle.rh_trace.proofs.NextFirsts.{next_are_first}
 use Rattle.rh_settle.proofs.laws.next_are_first.Goals as goal
 
 pub returns : goal.returns

@@ -1,7 +1,7 @@
 use Rattle.std.proofs.Common.{◌≡◌, ◌<◌, ◌≤◌, ◌+◌, ◌-◌, nat_lt, ap, ◌∙◌, arith}
 use Rattle.rh_base.proofs.Lists.{cases}
 use Rattle.rh_model.specs.ClusterView.{ClusterView, app_count, app_numbered}
-use Rattle.rh_settle.proofs.Entries.{is_below, is_above}
+use Rattle.rh_trace.proofs.Entries.{is_below, is_above}
 use Rattle.rh_settle.proofs.ready.all_marks.Goals.{then-count-lt64, else-count-lt64}
 use Rattle.rh_settle.proofs.ready.all_marks.Goals as goal
 

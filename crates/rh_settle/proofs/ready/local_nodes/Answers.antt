@@ -8,7 +8,7 @@ use Rattle.rh_place.specs.Sets.{has}
 use Rattle.rh_rules.specs.Moves.{local_moves}
 use Rattle.rh_settle.proofs.Boards.{local_beyond}
 use Rattle.rh_settle.proofs.Starts.{none_local}
-use Rattle.rh_settle.proofs.Entries.{is_below, is_above}
+use Rattle.rh_trace.proofs.Entries.{is_below, is_above}
 use Rattle.rh_settle.proofs.ready.local_nodes.Goals as goal
 
 differs : (i j : ℕ) → j + 1 ≤ i → nat_eq i j ≡ false

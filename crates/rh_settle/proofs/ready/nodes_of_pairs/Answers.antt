@@ -7,8 +7,8 @@ use Rattle.rh_state.specs.Stored.{read}
 use Rattle.rh_place.specs.Sets.{has}
 use Rattle.rh_rules.specs.Course.{is_fresh}
 use Rattle.rh_rules.specs.declared.notice.Pair.{Pair}
-use Rattle.rh_settle.proofs.Entries.{either}
-use Rattle.rh_settle.proofs.Places.{or_left, or_right}
+use Rattle.rh_trace.proofs.Entries.{either}
+use Rattle.rh_base.proofs.Truths.{or_left, or_right}
 use Rattle.rh_settle.proofs.Starts.{none_local}
 use Rattle.rh_settle.proofs.StartsMarked.{one_added, adds, all_asked}
 use Rattle.rh_settle.proofs.ready.nodes_of_pairs.Goals as goal

@@ -11,8 +11,8 @@ use Rattle.rh_rules.specs.declared.notice.Move.{Move}
 use Rattle.rh_rules.specs.declared.notice.Move.TheVariants.{Local}
 use Rattle.rh_rules.specs.Moves.{local_move, local_moves}
 use Rattle.rh_settle.proofs.Searches.{none_of_none}
-use Rattle.rh_settle.proofs.ListWalks.{once_of, left_of, all_left, first_is_next, next_is_next, found_on_walk, later_on_walk, end_of_walk, shorter_walk}
-use Rattle.rh_settle.proofs.ListWalks.{is_in_list, behind_waiting}
+use Rattle.rh_state.proofs.ListWalks.{once_of, left_of, all_left, first_is_next, next_is_next, found_on_walk, later_on_walk, end_of_walk, shorter_walk}
+use Rattle.rh_state.proofs.ListWalks.{is_in_list, behind_waiting}
 use Rattle.rh_settle.proofs.Starts.{move_of, no_move_of}
 use Rattle.rh_settle.proofs.search.local_at.Goals as goal
 

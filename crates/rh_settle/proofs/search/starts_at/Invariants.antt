@@ -5,7 +5,7 @@ use Rattle.rh_state.specs.StateView.{waiting_at}
 use Rattle.rh_state.specs.Stored.{read}
 use Rattle.rh_base.specs.Lists.{first_given}
 use Rattle.rh_rules.specs.Moves.{local_move}
-use Rattle.rh_settle.proofs.ListWalks.{left_of}
+use Rattle.rh_state.proofs.ListWalks.{left_of}
 use Rattle.rh_settle.proofs.search.starts_at.Given as goal
 
 abbrev pub invariant-waiting : goal.invariant-waiting

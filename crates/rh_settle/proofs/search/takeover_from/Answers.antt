@@ -14,7 +14,7 @@ use Rattle.rh_rules.specs.declared.notice.Pair.{Pair}
 use Rattle.rh_rules.specs.Course.{is_fresh}
 use Rattle.rh_rules.specs.Moves.{comes_before, calls_away}
 use Rattle.rh_settle.proofs.Boards.{none_beyond, none_calls, not_taken}
-use Rattle.rh_settle.proofs.Entries.{is_below, is_above, not_same}
+use Rattle.rh_trace.proofs.Entries.{is_below, is_above, not_same}
 use Rattle.rh_settle.proofs.Searches.{picked_map, none_of_none}
 use Rattle.rh_settle.proofs.search.takeover_from.Goals as goal
 

@@ -4,7 +4,7 @@ use Rattle.rh_state.specs.Stored.{read}
 use Rattle.rh_rules.specs.Placing.{picked}
 use Rattle.rh_rules.specs.Settling.{nexts}
 use Rattle.rh_settle.specs.Calls.{can_call}
-use Rattle.rh_settle.specs.Traces.{course}
+use Rattle.rh_trace.specs.Traces.{course}
 use Rattle.rh_settle.proofs.Callers.{none_in_both}
 use Rattle.rh_settle.proofs.GroupWalks.{neither}
 use Rattle.rh_settle.proofs.Making.{none_left}

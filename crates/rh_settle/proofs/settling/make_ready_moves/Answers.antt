@@ -5,11 +5,11 @@ use Rattle.rh_state.specs.Stored.{read}
 use Rattle.rh_rules.specs.declared.notice.Pair.{Pair}
 use Rattle.rh_settle.specs.Boards.{nodes_changed, mover, MarksLocals, IsBoardOf}
 use Rattle.rh_rules.specs.Course.{Course, fresh_of}
-use Rattle.rh_settle.specs.Traces.{course}
+use Rattle.rh_trace.specs.Traces.{course}
 use Rattle.rh_settle.proofs.Movers.{changed_nodes, moved_app}
 use Rattle.rh_settle.proofs.Fuel.{state_moved, fresh_moved}
 use Rattle.rh_settle.proofs.Making.{makeable, smaller, same, runs_still, none_left}
-use Rattle.rh_settle.proofs.Ways.{goes_more, goes_cluster}
+use Rattle.rh_trace.proofs.Ways.{goes_more, goes_cluster}
 use Rattle.rh_settle.proofs.settling.make_ready_moves.Goals as goal
 
 pub next_on-requires : goal.next_on-requires

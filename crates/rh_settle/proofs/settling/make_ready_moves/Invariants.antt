@@ -1,13 +1,13 @@
 use Rattle.std.proofs.Common.{◌≡◌}
 use Rattle.rh_state.specs.Stored.{read}
 use Rattle.rh_settle.specs.Boards.{IsBoardOf}
-use Rattle.rh_settle.specs.Counts.{FewEdits}
-use Rattle.rh_settle.specs.Traces.{course}
+use Rattle.rh_trace.specs.Counts.{FewEdits}
+use Rattle.rh_trace.specs.Traces.{course}
 use Rattle.rh_rules.specs.Course.{fresh_of}
 use Rattle.rh_rules.specs.Settling.{all_moved}
-use Rattle.rh_settle.specs.Validity.{RunsWhereItStands}
-use Rattle.rh_settle.specs.Ways.{Goes}
-use Rattle.rh_settle.proofs.Points.{points}
+use Rattle.rh_trace.specs.Validity.{RunsWhereItStands}
+use Rattle.rh_trace.specs.Ways.{Goes}
+use Rattle.rh_trace.proofs.Points.{points}
 use Rattle.rh_settle.proofs.settling.make_ready_moves.Given as goal
 
 abbrev pub invariant-moves : goal.invariant-moves

@@ -4,12 +4,12 @@ use Rattle.rh_model.specs.ClusterView.{ClusterView}
 use Rattle.rh_state.specs.Stored.{read}
 use Rattle.rh_rules.specs.declared.notice.Pair.{Pair}
 use Rattle.rh_rules.specs.Course.{Course, fresh_of}
-use Rattle.rh_settle.specs.Traces.{IsPairOf, course}
+use Rattle.rh_trace.specs.Traces.{IsPairOf, course}
 use Rattle.rh_rules.specs.Settling.{NoneEnabled, Settles, waits_told}
-use Rattle.rh_settle.proofs.NextFirsts.{still_if_none_enabled}
+use Rattle.rh_trace.proofs.NextFirsts.{still_if_none_enabled}
 use Rattle.rh_settle.proofs.SettlingLaws.{settles_by_pick, few_moves}
 use Rattle.rh_settle.proofs.Unchanged.{all_moved_marked, waits_told_fresh}
-use Rattle.rh_settle.proofs.Ways.{goes_more}
+use Rattle.rh_trace.proofs.Ways.{goes_more}
 use Rattle.rh_settle.proofs.settling.settle_ready.Goals as goal
 
 pub tell_waiting-requires : goal.tell_waiting-requires

@@ -1,9 +1,9 @@
 use Rattle.std.proofs.Common.{List, ◌<◌, length, ◌∙◌, subst, arith}
 use Rattle.rh_state.specs.Stored.{read}
 use Rattle.rh_rules.specs.declared.notice.Pair.{Pair}
-use Rattle.rh_settle.specs.Traces.{course}
+use Rattle.rh_trace.specs.Traces.{course}
 use Rattle.rh_settle.proofs.Making.{one_told, same_marks}
-use Rattle.rh_settle.proofs.Ways.{goes_more}
+use Rattle.rh_trace.proofs.Ways.{goes_more}
 use Rattle.rh_settle.proofs.settling.tell_waiting.Goals as goal
 
 pub marked-preserved : goal.marked-preserved

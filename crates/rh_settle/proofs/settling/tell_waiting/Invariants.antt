@@ -1,9 +1,9 @@
 use Rattle.std.proofs.Common.{◌≡◌, take, fold}
 use Rattle.rh_state.specs.Stored.{read}
-use Rattle.rh_settle.specs.Counts.{FewEdits}
-use Rattle.rh_settle.specs.Traces.{course}
+use Rattle.rh_trace.specs.Counts.{FewEdits}
+use Rattle.rh_trace.specs.Traces.{course}
 use Rattle.rh_rules.specs.Settling.{tell_waiting}
-use Rattle.rh_settle.specs.Ways.{Goes}
+use Rattle.rh_trace.specs.Ways.{Goes}
 use Rattle.rh_settle.proofs.settling.tell_waiting.Given as goal
 
 abbrev pub invariant-marked : goal.invariant-marked

@@ -4,7 +4,7 @@ use Rattle.rh_state.specs.declared.status.Timer.{Timer}
 use Rattle.rh_state.specs.StateView.{StateView, earliest}
 use Rattle.rh_state.specs.Stored.{read}
 use Rattle.rh_rules.specs.Course.{course_of}
-use Rattle.rh_settle.specs.Validity.{IsValid}
+use Rattle.rh_trace.specs.Validity.{IsValid}
 use Rattle.rh_rules.specs.Time.{due_by}
 use Rattle.rh_step.specs.Firings.{firings_by}
 use Rattle.rh_step.proofs.Fuel.{fired_fewer}

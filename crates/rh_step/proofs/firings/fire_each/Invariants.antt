@@ -1,7 +1,7 @@
 use Rattle.std.proofs.Common.{◌≡◌, ◌++◌, length}
 use Rattle.rh_state.specs.Records.{Grows}
 use Rattle.rh_state.specs.Stored.{read}
-use Rattle.rh_settle.specs.Validity.{IsValid}
+use Rattle.rh_trace.specs.Validity.{IsValid}
 use Rattle.rh_step.specs.Firings.{firings_by}
 use Rattle.rh_step.proofs.firings.fire_each.Given as goal
 

@@ -1,6 +1,6 @@
 use Rattle.std.proofs.Common.{◌≡◌, ◌+◌, ℕ, length, IfOk, subst, arith}
 use Rattle.rh_state.specs.Stored.{read}
-use Rattle.rh_events.proofs.Accepted.{accepted_tick}
+use Rattle.rh_refusals.proofs.Accepted.{accepted_tick}
 use Rattle.rh_step.specs.Firings.{firings, firings_by}
 use Rattle.rh_step.proofs.firings.firings_of.Goals as goal
 

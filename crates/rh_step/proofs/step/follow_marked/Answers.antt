@@ -1,9 +1,9 @@
 use Rattle.std.proofs.Common.{sym, subst}
 use Rattle.rh_state.specs.Stored.{read}
-use Rattle.rh_settle.specs.Traces.{course}
+use Rattle.rh_trace.specs.Traces.{course}
 use Rattle.rh_settle.specs.Starting.{StartsAreMarked}
-use Rattle.rh_settle.proofs.Counts.{weighed, weighed_more, on_ok_any}
-use Rattle.rh_settle.proofs.Ways.{goes_more}
+use Rattle.rh_trace.proofs.Counts.{weighed, weighed_more, on_ok_any}
+use Rattle.rh_trace.proofs.Ways.{goes_more}
 use Rattle.rh_step.proofs.Following.{risen_pairs, risen_runs}
 use Rattle.rh_step.proofs.StartsKept.{starts_ready}
 use Rattle.rh_step.proofs.step.follow_marked.Goals as goal

@@ -2,8 +2,8 @@ use Rattle.std.proofs.Common.{sym, ◌∙◌, subst}
 use Rattle.std.proofs.lemmas.Result.{on_ok_weaker}
 use Rattle.rh_state.specs.Stored.{read}
 use Rattle.rh_settle.specs.Starting.{StartsAreMarked}
-use Rattle.rh_settle.specs.Traces.{course}
-use Rattle.rh_settle.proofs.Ways.{goes_more, goes_cluster}
+use Rattle.rh_trace.specs.Traces.{course}
+use Rattle.rh_trace.proofs.Ways.{goes_more, goes_cluster}
 use Rattle.rh_events.specs.Counts.{own_edits}
 use Rattle.rh_step.proofs.Following.{changed_sound, changed_pairs, few_followed}
 use Rattle.rh_step.proofs.StartsKept.{none_starts, starts_changed}

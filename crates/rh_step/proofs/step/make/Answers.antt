@@ -1,7 +1,7 @@
 use Rattle.std.proofs.Common.{arith, sym, ap, ◌∙◌}
 use Rattle.rh_state.specs.Stored.{read}
 use Rattle.rh_rules.specs.Refusals.{refused}
-use Rattle.rh_events.proofs.Accepted.{accepted_tick}
+use Rattle.rh_refusals.proofs.Accepted.{accepted_tick}
 use Rattle.std.proofs.lemmas.Result.{on_ok_weaker}
 use Rattle.rh_step.specs.Counts.{step_edits}
 use Rattle.rh_step.proofs.Counts.{of_step}

@@ -1,6 +1,6 @@
 use Rattle.std.proofs.Common.{◌≡◌, [], ap, arith}
 use Rattle.std.proofs.lemmas.Result.{on_ok_weaker}
-use Rattle.rh_settle.specs.Traces.{trace_of}
+use Rattle.rh_trace.specs.Traces.{trace_of}
 use Rattle.rh_state.specs.Stored.{read}
 use Rattle.rh_events.proofs.Counts.{on_ok_two}
 use Rattle.rh_step.specs.Counts.{step_edits}

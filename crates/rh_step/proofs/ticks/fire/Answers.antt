@@ -8,9 +8,9 @@ use Rattle.rh_state.specs.Shape.{IsTimerOf}
 use Rattle.rh_state.specs.StateView.{standing_of, due_of, running_at, waiting_at}
 use Rattle.rh_state.specs.Stored.{read}
 use Rattle.rh_rules.specs.Course.{Course}
-use Rattle.rh_settle.specs.Traces.{IsPairOf, course}
+use Rattle.rh_trace.specs.Traces.{IsPairOf, course}
 use Rattle.rh_settle.specs.Starting.{StartsAreMarked}
-use Rattle.rh_settle.specs.Validity.{IsSound}
+use Rattle.rh_trace.specs.Validity.{IsSound}
 use Rattle.std.specs.Option.{IsNone}
 use Rattle.rh_rules.specs.Time.{effect, taken_off}
 use Rattle.rh_step.proofs.Firing.{none_runs, none_waits, none_timed, effect_cluster, effect_marked}
@@ -18,9 +18,9 @@ use Rattle.rh_events.proofs.Marked.{none_marked}
 use Rattle.rh_step.proofs.TakenOff.{sound_effect}
 use Rattle.rh_step.proofs.StartsKept.{starts_fired}
 use Rattle.std.proofs.lemmas.Result.{on_ok_weaker}
-use Rattle.rh_settle.specs.Counts.{FewWeighed}
-use Rattle.rh_settle.proofs.Counts.{weighed}
-use Rattle.rh_settle.proofs.Ways.{goes_more, goes_cluster}
+use Rattle.rh_trace.specs.Counts.{FewWeighed}
+use Rattle.rh_trace.proofs.Counts.{weighed}
+use Rattle.rh_trace.proofs.Ways.{goes_more, goes_cluster}
 use Rattle.rh_step.proofs.ticks.fire.Goals as goal
 
 pub take_effect-requires-clause-timer : goal.take_effect-requires-clause-timer

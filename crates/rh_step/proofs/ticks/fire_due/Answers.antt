@@ -2,13 +2,13 @@ use Rattle.std.proofs.Common.{◌≡◌, ◌<◌, length, None, ap, sym, subst, 
 use Rattle.rh_state.specs.StateView.{earliest}
 use Rattle.rh_state.specs.Stored.{read}
 use Rattle.rh_rules.specs.Course.{Course}
-use Rattle.rh_settle.specs.Traces.{course}
-use Rattle.rh_settle.specs.Validity.{IsValid}
+use Rattle.rh_trace.specs.Traces.{course}
+use Rattle.rh_trace.specs.Validity.{IsValid}
 use Rattle.rh_rules.specs.Time.{due_by, all_fired}
 use Rattle.rh_step.proofs.Fuel.{timer_count, fired_fewer, unrolled, all_fired_end, due_is_first}
 use Rattle.rh_model.specs.ClusterView.{ClusterView}
-use Rattle.rh_settle.specs.Counts.{FewWeighed}
-use Rattle.rh_settle.proofs.Ways.{goes_more, goes_cluster}
+use Rattle.rh_trace.specs.Counts.{FewWeighed}
+use Rattle.rh_trace.proofs.Ways.{goes_more, goes_cluster}
 use Rattle.rh_step.proofs.Counts.{by_timers}
 use Rattle.rh_step.proofs.TickedValid.{fired_valid}
 use Rattle.rh_step.proofs.ticks.fire_due.Goals as goal

@@ -1,9 +1,9 @@
 use Rattle.std.proofs.Common.{◌≡◌, ◌≤◌, ◌+◌, ◌*◌, length}
 use Rattle.rh_state.specs.Stored.{read}
-use Rattle.rh_settle.specs.Traces.{course}
-use Rattle.rh_settle.specs.Validity.{IsValid}
-use Rattle.rh_settle.specs.Counts.{weights}
-use Rattle.rh_settle.specs.Ways.{Goes}
+use Rattle.rh_trace.specs.Traces.{course}
+use Rattle.rh_trace.specs.Validity.{IsValid}
+use Rattle.rh_trace.specs.Counts.{weights}
+use Rattle.rh_trace.specs.Ways.{Goes}
 use Rattle.rh_rules.specs.Time.{all_fired}
 use Rattle.rh_step.proofs.ticks.fire_due.Given as goal
 

@@ -1,7 +1,7 @@
 use Rattle.std.proofs.Common.{arith}
 use Rattle.std.proofs.lemmas.Result.{on_ok_weaker}
 use Rattle.rh_state.specs.Stored.{read}
-use Rattle.rh_settle.proofs.Counts.{weighed, on_ok_any}
+use Rattle.rh_trace.proofs.Counts.{weighed, on_ok_any}
 use Rattle.rh_step.proofs.ticks.take_effect.Goals as goal
 
 pub returns-in-Sync-clause-few : goal.returns-in-Sync-clause-few

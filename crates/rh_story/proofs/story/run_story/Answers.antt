@@ -1,9 +1,9 @@
 use Rattle.std.proofs.Common.{refl, sym, subst}
 use Rattle.std.proofs.lemmas.Result.{err_from_is_err_and}
-use Rattle.rh_app.specs.Programs.{IsInput, NoThreads}
-use Rattle.rh_app.specs.RunText.{run_end}
+use Rattle.rh_run.specs.Programs.{IsInput, NoThreads}
+use Rattle.rh_run.specs.RunText.{run_end}
 use Rattle.rh_story.specs.StoryText.{story_text, OwesStory}
-use Rattle.rh_app.proofs.Ending.{not_read, not_written, is_written}
+use Rattle.rh_run.proofs.Ending.{not_read, not_written, is_written}
 use Rattle.rh_story.proofs.story.run_story.Goals as goal
 
 pub returns-in_err-input : goal.returns-in_err-input

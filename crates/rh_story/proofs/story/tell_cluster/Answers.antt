@@ -4,8 +4,8 @@ use Rattle.rh_devices.specs.Devices.{Passed}
 use Rattle.rh_devices.proofs.Passing.{fault_before}
 use Rattle.rh_trail.specs.Lone.{opened}
 use Rattle.rh_script.specs.Lines.{raw_lines, content, lines_behind}
-use Rattle.rh_app.specs.RunText.{bad_line, lines_asked, Wrote}
-use Rattle.rh_app.proofs.Turns.{wrote_behind}
+use Rattle.rh_run.specs.RunText.{bad_line, lines_asked, Wrote}
+use Rattle.rh_run.proofs.Turns.{wrote_behind}
 use Rattle.rh_story.specs.TableText.{lack_behind}
 use Rattle.rh_story.specs.StoryText.{head_if, lines_text}
 use Rattle.rh_story.proofs.story.tell_cluster.Goals as goal

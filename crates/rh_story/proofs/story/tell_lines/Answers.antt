@@ -8,7 +8,7 @@ use Rattle.rh_model.specs.ClusterView.{ClusterView}
 use Rattle.rh_trail.specs.SimView.{SimView}
 use Rattle.rh_script.specs.Lines.{raw_lines, content}
 use Rattle.rh_script.specs.Commands.{line_of}
-use Rattle.rh_app.specs.RunText.{bad_line, lines_asked}
+use Rattle.rh_run.specs.RunText.{bad_line, lines_asked}
 use Rattle.rh_story.specs.LineText.{is_bad}
 use Rattle.rh_story.specs.TableText.{shown}
 use Rattle.rh_story.proofs.Telling.{lines_join, line_keeps_cluster, fault_here, fault_later, line_breaks, rest_breaks, story_ends, story_goes_on, table_breaks, table_ends}

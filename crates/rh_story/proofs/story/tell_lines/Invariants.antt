@@ -2,7 +2,7 @@ use Rattle.std.proofs.Common.{◌≡◌, ◌≤◌, ◌+◌, ◌++◌, List, ℕ
 use Rattle.std.specs.Prelude.{IsUtf8}
 use Rattle.rh_devices.specs.Devices.{Passed}
 use Rattle.rh_script.specs.Lines.{raw_lines, content}
-use Rattle.rh_app.specs.RunText.{bad_line, lines_asked}
+use Rattle.rh_run.specs.RunText.{bad_line, lines_asked}
 use Rattle.rh_story.specs.StoryText.{lines_text}
 use Rattle.rh_story.proofs.story.tell_lines.Given as goal
 

@@ -3,7 +3,7 @@ use Rattle.std.proofs.lemmas.List.{take_all}
 use Rattle.std.proofs.lemmas.List.Elements.{All-more}
 use Rattle.rh_rules.specs.declared.event.Event.{Event}
 use Rattle.rh_plans.specs.declared.plan.Plan.{Plan}
-use Rattle.rh_sweep.specs.Sweeping.{HasRoom}
+use Rattle.rh_outcomes.specs.Sweeping.{HasRoom}
 use Rattle.rh_sweep.proofs.shares.have_room.Goals as goal
 
 pub loop-plan-preserved : goal.loop-plan-preserved

@@ -4,7 +4,7 @@ use Rattle.std.specs.declared.collections.VecDeque.{VecDeque}
 use Rattle.std.proofs.lemmas.List.{length-map, map-append, map_more, take_all}
 use Rattle.rh_plans.specs.declared.plan.Outcome.{Outcome}
 use Rattle.rh_plans.specs.declared.plan.Plan.{Plan}
-use Rattle.rh_sweep.specs.Outcomes.{outcome_of}
+use Rattle.rh_outcomes.specs.Outcomes.{outcome_of}
 use Rattle.rh_sweep.specs.Working.{AreOutcomes, given}
 use Rattle.rh_sweep.proofs.Strides.{any-plan}
 use Rattle.rh_sweep.proofs.Turns.{AreTurns, taken, each-given, all-ok, has-outcome, is-outcome, turn-more}

@@ -1,5 +1,5 @@
 use Rattle.std.proofs.Common.{◌≡◌, take, map, length}
-use Rattle.rh_sweep.specs.Outcomes.{outcome_of}
+use Rattle.rh_outcomes.specs.Outcomes.{outcome_of}
 use Rattle.rh_sweep.proofs.Turns.{AreTurns}
 use Rattle.rh_sweep.proofs.shares.in_plan_order.Given as goal
 

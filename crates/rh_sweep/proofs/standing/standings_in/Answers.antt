@@ -6,7 +6,7 @@ use Rattle.rh_model.specs.ClusterView.{app_numbered}
 use Rattle.rh_model.specs.declared.node.App.{App}
 use Rattle.rh_state.specs.declared.status.Standing.{Standing}
 use Rattle.rh_state.specs.Stored.{read}
-use Rattle.rh_sweep.specs.Outcomes.{standing_in}
+use Rattle.rh_outcomes.specs.Outcomes.{standing_in}
 use Rattle.rh_sweep.proofs.standing.standings_in.Goals as goal
 
 pub loop-number-preserved : goal.loop-number-preserved

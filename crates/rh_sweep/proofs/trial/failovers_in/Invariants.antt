@@ -1,5 +1,5 @@
 use Rattle.std.proofs.Common.{◌≡◌, take, count_by}
-use Rattle.rh_sweep.specs.Outcomes.{is_failover}
+use Rattle.rh_outcomes.specs.Outcomes.{is_failover}
 use Rattle.rh_sweep.proofs.trial.failovers_in.Given as goal
 
 abbrev pub invariant-loop-notice : goal.invariant-loop-notice

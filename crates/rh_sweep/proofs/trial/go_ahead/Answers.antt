@@ -4,7 +4,7 @@ use Rattle.rh_rules.specs.declared.refusal.Refusal.TheVariants.{OutOfMemory}
 use Rattle.rh_model.specs.ClusterView.{numbered}
 use Rattle.rh_rules.specs.declared.notice.Notice.{Notice}
 use Rattle.rh_trail.specs.Lone.{trail_limit}
-use Rattle.rh_sweep.specs.Outcomes.{is_failover, is_takeover}
+use Rattle.rh_outcomes.specs.Outcomes.{is_failover, is_takeover}
 use Rattle.rh_sweep.proofs.Trying.{Along, along-start, along-more, along-end, along-refused}
 use Rattle.rh_sweep.proofs.trial.go_ahead.Goals as goal
 

@@ -1,6 +1,6 @@
 use Rattle.std.proofs.Common.{◌≤◌, ◌*◌, ◌^◌}
 use Rattle.rh_trail.specs.SimView.{SimView, Held}
-use Rattle.rh_sweep.specs.Sweeping.{HasRoomFor}
+use Rattle.rh_outcomes.specs.Sweeping.{HasRoomFor}
 use Rattle.rh_sweep.proofs.Trying.{Along}
 use Rattle.rh_sweep.proofs.trial.go_ahead.Given as goal
 

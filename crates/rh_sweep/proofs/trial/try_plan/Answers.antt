@@ -4,8 +4,8 @@ use Rattle.rh_trail.specs.Chain.{chain}
 use Rattle.rh_trail.specs.Lone.{cut}
 use Rattle.rh_trail.specs.SimView.{SimView, Held}
 use Rattle.rh_plans.specs.declared.plan.Outcome.{Outcome}
-use Rattle.rh_sweep.specs.Outcomes.{outcome_in}
-use Rattle.rh_sweep.specs.Sweeping.{HasRoomFor}
+use Rattle.rh_outcomes.specs.Outcomes.{outcome_in}
+use Rattle.rh_outcomes.specs.Sweeping.{HasRoomFor}
 use Rattle.rh_sweep.proofs.Chained.{chain_here}
 use Rattle.rh_sweep.proofs.Trying.{went-nowhere, if-ok}
 use Rattle.rh_sweep.proofs.trial.try_plan.Goals as goal

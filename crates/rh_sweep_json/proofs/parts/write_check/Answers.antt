@@ -2,8 +2,8 @@ use Rattle.std.proofs.Common.{◌≤◌, ◌∙◌, List, ℕ, length, sym, ap, 
 use Rattle.rh_devices.specs.declared.memory.Bytes.{Bytes}
 use Rattle.rh_devices.specs.declared.watched.Watched.{Watched}
 use Rattle.rh_devices.specs.Devices.{input_limit}
-use Rattle.rh_app.specs.RunText.{Broke}
-use Rattle.rh_app.specs.CheckText.{check_end}
+use Rattle.rh_run.specs.RunText.{Broke}
+use Rattle.rh_run.specs.CheckText.{check_end}
 use Rattle.rh_json.specs.CheckJson.{check_json}
 use Rattle.rh_sweep_json.specs.Parts.{part_ended}
 use Rattle.rh_sweep_json.proofs.Memory.{is_part}

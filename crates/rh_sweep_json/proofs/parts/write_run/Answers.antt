@@ -2,7 +2,7 @@ use Rattle.std.proofs.Common.{◌≤◌, ◌∙◌, List, ℕ, length, sym, ap, 
 use Rattle.rh_devices.specs.declared.memory.Bytes.{Bytes}
 use Rattle.rh_devices.specs.declared.watched.Watched.{Watched}
 use Rattle.rh_devices.specs.Devices.{input_limit}
-use Rattle.rh_app.specs.RunText.{Broke, run_end}
+use Rattle.rh_run.specs.RunText.{Broke, run_end}
 use Rattle.rh_json.specs.RunJson.{run_json}
 use Rattle.rh_sweep_json.specs.Parts.{part_ended}
 use Rattle.rh_sweep_json.proofs.Memory.{is_part}

@@ -1,8 +1,8 @@
 use Rattle.std.proofs.Common.{get_or, ◌∙◌, arith}
 use Rattle.rh_rules.specs.declared.event.Event.TheVariants.{Boot}
 use Rattle.rh_model.specs.ClusterView.{numbered}
-use Rattle.rh_trail.specs.declared.call.Call.TheVariants.{Step}
-use Rattle.rh_app.proofs.Sweeps.{sim_goes_on, next_call}
+use Rattle.rh_calls.specs.declared.call.Call.TheVariants.{Step}
+use Rattle.rh_sweep_text.proofs.Sweeps.{sim_goes_on, next_call}
 use Rattle.rh_sweep_json.proofs.sweeping.make_calls.Goals as goal
 
 pub loop-call-preserved : goal.loop-call-preserved

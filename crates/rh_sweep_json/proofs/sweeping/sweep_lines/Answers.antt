@@ -8,8 +8,8 @@ use Rattle.rh_script.specs.Commands.{calls_of}
 use Rattle.rh_script.specs.SweepLines.{sweep_lines_asked, bad_sweep_line, plan_text, base_lines, plans_of}
 use Rattle.rh_devices.specs.Devices.{Passed, WroteFront}
 use Rattle.rh_devices.proofs.Passing.{nothing_yet}
-use Rattle.rh_app.specs.RunText.{Wrote}
-use Rattle.rh_app.specs.SweepText.{why_not_swept, plans_end}
+use Rattle.rh_run.specs.RunText.{Wrote}
+use Rattle.rh_sweep_text.specs.SweepText.{why_not_swept, plans_end}
 use Rattle.rh_sweep_json.specs.SweepJson.{plans_json, lines_json}
 use Rattle.rh_sweep_json.proofs.Texts.{check_is, cluster_breaks, bad_breaks, bad_is_told, base_breaks, no_memory, plans_behind}
 use Rattle.rh_sweep_json.proofs.sweeping.sweep_lines.Goals as goal

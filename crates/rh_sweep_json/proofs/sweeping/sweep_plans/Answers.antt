@@ -1,6 +1,6 @@
 use Rattle.std.proofs.Common.{refl}
 use Rattle.std.proofs.lemmas.Result.{err_from_is_err_and}
-use Rattle.rh_app.proofs.Sweeps.{swept, not_swept}
+use Rattle.rh_sweep_text.proofs.Sweeps.{swept, not_swept}
 use Rattle.rh_sweep_json.proofs.sweeping.sweep_plans.Goals as goal
 
 pub returns-in_err-write_outcomes-in-Ok : goal.returns-in_err-write_outcomes-in-Ok

@@ -2,7 +2,7 @@ use Rattle.std.proofs.Common.{◌∙◌, List, ℕ, ap, subst}
 use Rattle.std.proofs.lemmas.Result.{err_from_is_err_and}
 use Rattle.rh_script.specs.Lines.{script_lines}
 use Rattle.rh_devices.proofs.Passing.{nothing_yet}
-use Rattle.rh_app.specs.RunText.{Broke}
+use Rattle.rh_run.specs.RunText.{Broke}
 use Rattle.rh_json.specs.RunJson.{run_json}
 use Rattle.rh_sweep_json.specs.SweepJson.{base_json}
 use Rattle.rh_sweep_json.proofs.Front.{base_is_run}

@@ -7,8 +7,8 @@ use Rattle.rh_json_lines.specs.OutcomeLines.{outcome_line}
 use Rattle.rh_script.specs.SweepLines.{PlanText, plan_text}
 use Rattle.rh_devices.specs.Devices.{Passed, WroteFront}
 use Rattle.rh_sweep_json.specs.SweepJson.{plan_line}
-use Rattle.rh_app.proofs.Pieces.{goes_on, fails_midway}
-use Rattle.rh_app.proofs.Sweeps.{outcome_at}
+use Rattle.rh_run.proofs.Pieces.{goes_on, fails_midway}
+use Rattle.rh_sweep_text.proofs.Sweeps.{outcome_at}
 use Rattle.rh_sweep_json.proofs.sweeping.write_outcomes.Goals as goal
 
 pub returns-in_err-write_outcome : goal.returns-in_err-write_outcome

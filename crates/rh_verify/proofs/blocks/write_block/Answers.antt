@@ -3,12 +3,12 @@ use Rattle.std.specs.Borrow.{Bor}
 use Rattle.std.proofs.lemmas.Result.{err_from_is_err_and}
 use Rattle.rh_state.specs.Stored.{read}
 use Rattle.rh_trail.specs.SimView.{state_of}
-use Rattle.rh_trail.specs.Report.{report_text}
+use Rattle.rh_report.specs.Report.{report_text}
 use Rattle.rh_trail.specs.Lone.{Served, served}
 use Rattle.rh_script.specs.Answers.{answer_text}
 use Rattle.rh_devices.specs.Devices.{Passed}
 use Rattle.rh_devices.proofs.Passing.{nothing_yet}
-use Rattle.rh_app.proofs.Keeping.{served_keeps_cluster}
+use Rattle.rh_run.proofs.Keeping.{served_keeps_cluster}
 use Rattle.rh_verify.specs.Expected.{check_of, answers_in, wanted_among}
 use Rattle.rh_verify.specs.Blocks.{block_of, block_text, missing}
 use Rattle.rh_verify.specs.Judging.{verdict_of}

@@ -6,7 +6,7 @@ use Rattle.std.proofs.lemmas.Result.{err_from_is_err_and}
 use Rattle.rh_model.specs.ClusterView.{ClusterView}
 use Rattle.rh_devices.proofs.Passing.{passed_none}
 use Rattle.rh_script.specs.Commands.{line_of}
-use Rattle.rh_app.specs.RunText.{bad_line, lines_asked}
+use Rattle.rh_run.specs.RunText.{bad_line, lines_asked}
 use Rattle.rh_verify.specs.Spaces.{lines_of}
 use Rattle.rh_verify.specs.Expected.{Check, asked_by, checks, Passes}
 use Rattle.rh_verify.specs.Judging.{Takes}

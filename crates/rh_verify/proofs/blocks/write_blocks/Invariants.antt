@@ -1,7 +1,7 @@
 use Rattle.std.proofs.Common.{◌≡◌, ◌≤◌, ◌+◌, ◌++◌, ℕ, List, length, false}
 use Rattle.std.specs.List.{flat_map}
 use Rattle.rh_devices.specs.Devices.{Passed}
-use Rattle.rh_app.specs.RunText.{bad_line, lines_asked}
+use Rattle.rh_run.specs.RunText.{bad_line, lines_asked}
 use Rattle.rh_verify.specs.Spaces.{lines_of}
 use Rattle.rh_verify.specs.Expected.{Check, asked_by, checks}
 use Rattle.rh_verify.specs.Blocks.{block_text}

@@ -5,7 +5,7 @@ use Rattle.std.proofs.lemmas.Result.{err_from_is_err_and}
 use Rattle.rh_trail.specs.SimView.{SimView}
 use Rattle.rh_devices.specs.Devices.{WroteFront}
 use Rattle.rh_devices.proofs.Passing.{nothing_yet}
-use Rattle.rh_app.specs.RunText.{bad_line, lines_asked, Wrote}
+use Rattle.rh_run.specs.RunText.{bad_line, lines_asked, Wrote}
 use Rattle.rh_verify.specs.declared.tally.Tally.{Tally}
 use Rattle.rh_verify.specs.Spaces.{lines_of}
 use Rattle.rh_verify.specs.Expected.{asked_by, ahead, checks, numbered, is_expectation}

@@ -1,7 +1,7 @@
 use Rattle.std.proofs.Common.{arith}
 use Rattle.std.proofs.lemmas.Result.{err_from_is_err_and}
 use Rattle.rh_app.specs.Histories.{entry_text}
-use Rattle.rh_app.proofs.Pieces.{goes_on, fails_midway}
+use Rattle.rh_run.proofs.Pieces.{goes_on, fails_midway}
 use Rattle.rh_app.proofs.sessions.history.write_entries.Goals as goal
 
 pub returns-in_err-write_entry : goal.returns-in_err-write_entry

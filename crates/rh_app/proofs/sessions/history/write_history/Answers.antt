@@ -2,11 +2,11 @@ use Rattle.std.proofs.Common.{◌++◌, sym, append_assoc, codes}
 use Rattle.std.specs.List.{flat_map}
 use Rattle.std.proofs.lemmas.Result.{err_from_is_err_and}
 use Rattle.rh_state.specs.Stored.{read}
-use Rattle.rh_trail.specs.Report.{report_text}
+use Rattle.rh_report.specs.Report.{report_text}
 use Rattle.rh_trail.specs.SimView.{state_of}
 use Rattle.rh_app.specs.Histories.{entry_text}
 use Rattle.rh_devices.proofs.Passing.{fault_before}
-use Rattle.rh_app.proofs.Pieces.{broke_behind}
+use Rattle.rh_run.proofs.Pieces.{broke_behind}
 use Rattle.rh_app.proofs.sessions.history.write_history.Goals as goal
 
 pub returns-in_err-write_entries : goal.returns-in_err-write_entries

@@ -5,7 +5,7 @@ use Rattle.rh_state.specs.StateView.{StateView}
 use Rattle.rh_state.specs.Stored.{read}
 use Rattle.rh_explore.specs.declared.asking.Ask.{Ask}
 use Rattle.rh_explore.specs.Failures.{AreFailuresTo}
-use Rattle.rh_explore.proofs.Places.{there_of}
+use Rattle.rh_keys.proofs.Places.{there_of}
 use Rattle.rh_explore.proofs.FailuresTold.{ask_begins, ask_ends, ask_passes, ask_fails, left_is}
 use Rattle.rh_explore.proofs.failures.Failures.ask.Goals as goal
 

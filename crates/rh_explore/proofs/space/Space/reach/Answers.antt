@@ -7,21 +7,21 @@ use Rattle.rh_state.specs.Edits.{exchange}
 use Rattle.rh_state.specs.StateView.{StateView}
 use Rattle.rh_state.specs.Stored.{Stored, read}
 use Rattle.rh_rules.specs.declared.event.Event.{Event}
-use Rattle.rh_settle.proofs.Entries.{both}
+use Rattle.rh_base.proofs.Truths.{both}
 use Rattle.rh_explore.specs.declared.front.Front.{Front}
 use Rattle.rh_explore.specs.declared.reaching.Way.{Way}
 use Rattle.rh_explore.specs.declared.reaching.Way.TheVariants.{To, Nowhere}
 use Rattle.rh_explore.specs.declared.space.Found.{Found}
-use Rattle.rh_explore.specs.Codes.{code}
+use Rattle.rh_keys.specs.Codes.{code}
 use Rattle.rh_explore.specs.Exploring.{scope_of}
 use Rattle.rh_explore.specs.Failures.{AreFailures}
-use Rattle.rh_explore.specs.Packed.{packed_key}
+use Rattle.rh_keys.specs.Packed.{packed_key}
 use Rattle.rh_explore.specs.Spaces.{Seen, StepsTo, IsExpandedAt}
 use Rattle.rh_explore.specs.Kept.{path_by, paths_of, seen_by, seen_of, states_of, codes_of, bytes_of, AreLinked}
 use Rattle.rh_explore.proofs.PathsTo.{path_at, seen_there, seen_push, linked_push, length-seen}
 use Rattle.rh_explore.proofs.OneMore.{more_is, kept_more}
 use Rattle.rh_explore.proofs.Parents.{family_none, family_one}
-use Rattle.rh_explore.proofs.Places.{there_of}
+use Rattle.rh_keys.proofs.Places.{there_of}
 use Rattle.rh_explore.proofs.Reached.{not_there, known, added}
 use Rattle.rh_explore.proofs.space.Space.reach.Goals as goal
 

@@ -12,7 +12,7 @@ use Rattle.rh_explore.specs.Exploring.{scope_of}
 use Rattle.rh_explore.specs.Kept.{repeated}
 use Rattle.rh_explore.proofs.Begun.{at_true}
 use Rattle.rh_explore.proofs.Parents.{child_is, front_next}
-use Rattle.rh_explore.proofs.Places.{there_of}
+use Rattle.rh_keys.proofs.Places.{there_of}
 use Rattle.rh_explore.proofs.space.Space.visit.Goals as goal
 
 pub enter-requires-clause-accepted : goal.enter-requires-clause-accepted

@@ -1,5 +1,5 @@
 use Rattle.std.proofs.Common.{◌≡◌, ◌<◌, ◌∙◌, length, sym, subst, arith}
-use Rattle.rh_trail.specs.declared.call.Reply.{Reply}
+use Rattle.rh_calls.specs.declared.call.Reply.{Reply}
 use Rattle.rh_trail.specs.Lone.{answered, served}
 use Rattle.rh_room.specs.declared.pass.Receipt.{Receipt}
 use Rattle.rh_room.specs.Legal.{IsRoom, IsSession, RoomView, PassView, InOrder, receipt, log_limit}

@@ -6,8 +6,7 @@ use Rattle.rh_state.specs.Shape.{IsAppOf}
 use Rattle.rh_rules.specs.Course.{is_local}
 use Rattle.rh_model.specs.Marks.{is_marked}
 use Rattle.rh_settle.specs.Boards.{BoardView, touches_local}
-use Rattle.rh_settle.proofs.Entries.{both}
-use Rattle.rh_settle.proofs.Places.{same_refl}
+use Rattle.rh_base.proofs.Truths.{both, same_refl}
 use Rattle.rh_settle.proofs.board.Board.look_again.Goals as goal
 use Rattle.rh_settle.proofs.board.Board.look_again.Goals.{then-touches_local, else-touches_local}
 

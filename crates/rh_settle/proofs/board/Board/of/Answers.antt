@@ -14,7 +14,8 @@ use Rattle.rh_rules.specs.Course.{is_fresh}
 use Rattle.rh_state.specs.StateView.{standing_of}
 use Rattle.rh_state.specs.Stored.{read}
 use Rattle.rh_settle.proofs.Boards.{asked_matters}
-use Rattle.rh_settle.proofs.Entries.{either, both}
+use Rattle.rh_base.proofs.Truths.{both}
+use Rattle.rh_trace.proofs.Entries.{either}
 use Rattle.rh_settle.proofs.board.Board.of.Goals as goal
 
 pub returns : goal.returns

@@ -1,5 +1,5 @@
 use Rattle.std.proofs.Common.{◌≡◌, drop, find}
-use Rattle.rh_step_lint.specs.Nodes.{is_overlooked}
+use Rattle.rh_step_findings.specs.Nodes.{is_overlooked}
 use Rattle.rh_step_lint.proofs.step.Step.first_overlooked.Given as goal
 
 abbrev pub invariant-others : goal.invariant-others

@@ -1,5 +1,5 @@
 use Rattle.std.proofs.Common.{◌≡◌, drop, find}
-use Rattle.rh_step_lint.specs.Lacks.{lacks_so}
+use Rattle.rh_step_findings.specs.Lacks.{lacks_so}
 use Rattle.rh_step_lint.proofs.step.Step.lacking_so.Given as goal
 
 abbrev pub invariant-needs : goal.invariant-needs

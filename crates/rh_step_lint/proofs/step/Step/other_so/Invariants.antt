@@ -1,5 +1,5 @@
 use Rattle.std.proofs.Common.{◌≡◌, drop, find}
-use Rattle.rh_step_lint.specs.Others.{stands_so}
+use Rattle.rh_step_findings.specs.Others.{stands_so}
 use Rattle.rh_step_lint.proofs.step.Step.other_so.Given as goal
 
 abbrev pub invariant-others : goal.invariant-others

@@ -1,6 +1,6 @@
 use Rattle.std.proofs.Common.{◌≡◌, ◌++◌, take}
 use Rattle.std.specs.List.{flat_map}
-use Rattle.rh_step_lint.specs.Findings.{lists_found}
+use Rattle.rh_step_findings.specs.Findings.{lists_found}
 use Rattle.rh_step_lint.proofs.step.Step.push_lists.Given as goal
 
 abbrev pub invariant-loop-node : goal.invariant-loop-node

@@ -1,7 +1,7 @@
 use Rattle.std.proofs.Common.{arith, ◌≡◌, ◌++◌, ◌∙◌, ap}
 use Rattle.std.proofs.lemmas.Grind.{common_steps}
 use Rattle.std.specs.List.{flat_map}
-use Rattle.rh_step_lint.specs.Touched.{found_in}
+use Rattle.rh_step_findings.specs.Touched.{found_in}
 use Rattle.rh_step_lint.proofs.Unlikely.{told_in}
 use Rattle.rh_step_lint.proofs.Untouched.{found_in_touched}
 use Rattle.rh_step_lint.proofs.step.Step.push_of.Goals as goal

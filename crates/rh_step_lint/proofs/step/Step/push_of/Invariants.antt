@@ -1,6 +1,6 @@
 use Rattle.std.proofs.Common.{◌≡◌, ◌++◌, take}
 use Rattle.std.specs.List.{flat_map}
-use Rattle.rh_step_lint.specs.Touched.{found_in}
+use Rattle.rh_step_findings.specs.Touched.{found_in}
 use Rattle.rh_step_lint.proofs.step.Step.push_of.Given as goal
 
 abbrev pub invariant-loop-touch : goal.invariant-loop-touch

@@ -1,6 +1,6 @@
 use Rattle.std.proofs.Common.{◌≡◌, ◌++◌, take}
 use Rattle.std.specs.List.{flat_map}
-use Rattle.rh_step_lint.specs.Findings.{found_of}
+use Rattle.rh_step_findings.specs.Findings.{found_of}
 use Rattle.rh_step_lint.proofs.step.Step.push_pairs.Given as goal
 
 abbrev pub invariant-loop-code : goal.invariant-loop-code

@@ -1,7 +1,7 @@
 use Rattle.std.proofs.Common.{◌∙◌, ap, sym, subst}
 use Rattle.rh_trail.specs.SimView.{Held}
-use Rattle.rh_sweep.specs.Outcomes.{outcome_in}
-use Rattle.rh_sweep.specs.Sweeping.{HasRoomFor}
+use Rattle.rh_outcomes.specs.Outcomes.{outcome_in}
+use Rattle.rh_outcomes.specs.Sweeping.{HasRoomFor}
 use Rattle.rh_sweep.proofs.Branching.{begins, kept_for_room}
 use Rattle.rh_sweep.proofs.branch.Branch.try_plan.Goals as goal
 

@@ -2,7 +2,7 @@ use Rattle.std.proofs.Common.{◌≡◌, ◌+◌, List, [], ◌∷◌, ◌++◌,
 use Rattle.std.proofs.lemmas.List.{map_more}
 use Rattle.rh_plans.specs.declared.plan.Outcome.{Outcome}
 use Rattle.rh_plans.specs.declared.plan.Plan.{Plan}
-use Rattle.rh_sweep.specs.Outcomes.{outcome_of}
+use Rattle.rh_outcomes.specs.Outcomes.{outcome_of}
 use Rattle.rh_sweep.proofs.branch.alone.outcomes_of.Goals as goal
 
 pub loop-plan-preserved : goal.loop-plan-preserved

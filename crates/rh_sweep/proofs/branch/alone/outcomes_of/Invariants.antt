@@ -1,5 +1,5 @@
 use Rattle.std.proofs.Common.{◌≡◌, map, take}
-use Rattle.rh_sweep.specs.Outcomes.{outcome_of}
+use Rattle.rh_outcomes.specs.Outcomes.{outcome_of}
 use Rattle.rh_sweep.specs.Working.{IsAtBase}
 use Rattle.rh_sweep.proofs.branch.alone.outcomes_of.Given as goal
 

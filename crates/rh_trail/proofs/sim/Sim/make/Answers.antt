@@ -1,13 +1,13 @@
 use Rattle.std.proofs.Common.{length, ◌≡◌, ◌<◌, ◌≤◌, List, None, refl, sym, ap, subst, ◌∙◌}
 use Rattle.rh_rules.specs.Refusals.{refused}
 use Rattle.rh_rules.specs.declared.notice.Notice.{Notice}
-use Rattle.rh_settle.specs.Validity.{IsValid}
+use Rattle.rh_trace.specs.Validity.{IsValid}
 use Rattle.rh_state.specs.Records.{LedBy}
 use Rattle.rh_state.specs.StateView.{StateView}
 use Rattle.rh_state.specs.Stored.{Stored, read}
 use Rattle.rh_step.specs.Counts.{most_edits}
 use Rattle.rh_rules.specs.Steps.{next}
-use Rattle.rh_trail.specs.declared.call.Call.TheVariants as call
+use Rattle.rh_calls.specs.declared.call.Call.TheVariants as call
 use Rattle.rh_trail.specs.Chain.{chain}
 use Rattle.rh_trail.specs.Lone.{served, trail_limit}
 use Rattle.rh_trail.specs.SimView.{Held, state_of}

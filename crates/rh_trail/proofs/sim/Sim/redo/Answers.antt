@@ -5,10 +5,11 @@ use Rattle.rh_rules.specs.declared.event.Event.{Event}
 use Rattle.rh_state.specs.declared.edit.Edit.{Edit}
 use Rattle.rh_state.specs.Edits.{exchange, turned}
 use Rattle.rh_state.specs.Stored.{Stored}
-use Rattle.rh_trail.specs.declared.call.Call.TheVariants as call
+use Rattle.rh_calls.specs.declared.call.Call.TheVariants as call
 use Rattle.rh_trail.specs.Chain.{chain, chain_at}
 use Rattle.rh_trail.specs.Lone.{served}
-use Rattle.rh_trail.proofs.Chains.{Chained, forth_cluster, redo_keeps, redo_chains, redo_words}
+use Rattle.rh_trace.proofs.Ways.{forth_cluster}
+use Rattle.rh_trail.proofs.Chains.{Chained, redo_keeps, redo_chains, redo_words}
 use Rattle.rh_trail.proofs.Moves.{redo_served}
 use Rattle.rh_trail.proofs.sim.Sim.redo.Goals as goal
 

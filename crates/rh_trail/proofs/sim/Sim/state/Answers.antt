@@ -1,5 +1,5 @@
 use Rattle.std.proofs.Common.{sym, subst, ◌∙◌}
-use Rattle.rh_settle.specs.Validity.{IsValid}
+use Rattle.rh_trace.specs.Validity.{IsValid}
 use Rattle.rh_trail.specs.SimView.{state_of}
 use Rattle.rh_trail.proofs.Chains.{chain_reads}
 use Rattle.rh_trail.proofs.sim.Sim.state.Goals as goal

@@ -4,10 +4,11 @@ use Rattle.rh_model.specs.ClusterView.{ClusterView}
 use Rattle.rh_state.specs.declared.edit.Edit.{Edit}
 use Rattle.rh_state.specs.Edits.{exchange, turned}
 use Rattle.rh_state.specs.Stored.{Stored}
-use Rattle.rh_trail.specs.declared.call.Call.TheVariants as call
+use Rattle.rh_calls.specs.declared.call.Call.TheVariants as call
 use Rattle.rh_trail.specs.Chain.{chain, chain_at}
 use Rattle.rh_trail.specs.Lone.{served}
-use Rattle.rh_trail.proofs.Chains.{Chained, back_cluster, undo_goes, undo_keeps, undo_chains, undo_words}
+use Rattle.rh_trace.proofs.Ways.{back_cluster}
+use Rattle.rh_trail.proofs.Chains.{Chained, undo_goes, undo_keeps, undo_chains, undo_words}
 use Rattle.rh_trail.proofs.Moves.{undo_served}
 use Rattle.rh_trail.proofs.sim.Sim.undo.Goals as goal
 

@@ -1,0 +1,51 @@
+//! What is done with the input.
+
+ghost use Rattle.std.specs.Prelude.{◌≡◌};
+ghost use Rattle.rh_asked.specs.Programs.{is_alone};
+
+use crate::manner::{LintManner, Manner};
+use rh_rules::Pick;
+
+/// What is done with the input.
+#[derive(Clone, Copy)]
+pub enum Program {
+    /// The cluster file is read, and that is all.
+    Check,
+    /// The same, as a line of JSON.
+    CheckJson,
+    /// The commands of a script are answered.
+    Run(Pick),
+    /// The same, in a manner of its own.
+    RunIn(Pick, Manner),
+    /// The same, as lines of JSON.
+    RunJson(Pick),
+    /// The same, each command before more is read, by `rehearse_dialogue` of `rh_programs`. A reader and a writer apart are run over as by `Run`.
+    Dialogue(Pick),
+    /// The script is printed again, with what came of each command; behind the cluster file, if it is to be whole.
+    Story(Pick, bool),
+    /// What came of each command is compared with what the script expects.
+    Verify(Pick),
+    /// What is wrong with the input is listed, in a manner.
+    Lint(Pick, LintManner),
+    /// All states are searched that events reach from a base, and at most so many are kept.
+    Explore(Pick, usize),
+    /// Sessions share a cluster.
+    Sessions(Pick),
+    /// Plans are tried, by so many workers.
+    Sweep(Pick, usize),
+    /// The same, as lines of JSON.
+    SweepJson(Pick, usize),
+}
+
+impl Program {
+    /// Whether it starts no threads: a sweep by one worker needs none beside the caller's.
+    pub fn is_alone(self) -> bool
+        ensures { result ≡ is_alone self }
+    {
+        match self {
+            Program::Sessions(_) => false,
+            Program::Sweep(_, workers) | Program::SweepJson(_, workers) => workers == 1,
+            _ => true,
+        }
+    }
+}

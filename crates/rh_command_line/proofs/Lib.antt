@@ -1,0 +1,4 @@
+pub mod Asking
+pub mod Commands
+pub mod Matches
+pub mod RowsCommandLine

@@ -1,0 +1,140 @@
+-- Worked rows: which program the words of a command line ask for, and what is wrong with those that ask for none.
+use Rattle.std.proofs.Common.{◌≡◌, List, [], ◌∷◌, Option, Some, None, codes, refl, true, false}
+use Rattle.std.specs.Borrow.{Bor}
+use Rattle.clap.specs.Walk.{Text}
+use Rattle.clap.specs.Simple.{subcommand_of}
+use Rattle.clap.specs.Kinds.{Kinds}
+use Rattle.clap.specs.Faults.{fault_of, is_simple_and_free}
+use Rattle.clap.specs.declared.error.kind.ErrorKind.TheVariants as kind
+use Rattle.clap.proofs.OnLiterals.{clap_on_literals}
+use Rattle.rh_rules.specs.declared.pick.Pick.TheVariants.{First, Last}
+use Rattle.rh_asked.specs.declared.program.Program.{Program}
+use Rattle.rh_asked.specs.declared.program.Program.TheVariants.{Check, CheckJson, Run, RunIn, RunJson, Story, Verify, Lint, Explore, Sessions, Sweep, SweepJson}
+use Rattle.rh_command_line.specs.CommandLine.{Picks, ArePicks, line}
+use Rattle.rh_command_line.specs.Table.{subcommand_named}
+use Rattle.rh_command_line.specs.Asking.{program_among}
+
+-- a text, somewhere in memory
+abbrev at : {X : Type 0} → X → Bor X
+at x = record { ref_ptr = (0, 0); now = x }
+
+abbrev picks : Picks
+picks = at (at (codes "first") ∷ at (codes "last") ∷ [])
+
+are_picks : ArePicks picks
+are_picks = refl
+
+-- the program that the words behind the program's name ask for
+abbrev asks : List Text → Option Program
+asks words = program_among (subcommand_of (line picks) (codes "rehearse" ∷ words))
+
+-- the kinds of fault that the parser finds in them
+abbrev faults : List Text → Kinds
+faults words = fault_of (line picks) (codes "rehearse" ∷ words)
+
+-- the parser's statements hold of this command line
+simple_row : is_simple_and_free (line picks) ≡ true
+simple_row = refl
+
+check_row : (asks (codes "check" ∷ []) ≡ Some Check) × (faults (codes "check" ∷ []) ≡ [])
+unfolding clap_on_literals subcommand_named
+check_row = (refl, refl)
+
+run_row : (asks (codes "run" ∷ []) ≡ Some (Run First)) × (faults (codes "run" ∷ []) ≡ [])
+unfolding clap_on_literals subcommand_named
+run_row = (refl, refl)
+
+-- each way to write a choice
+pick_row : (asks (codes "run" ∷ codes "--pick" ∷ codes "last" ∷ []) ≡ Some (Run Last))
+    × (asks (codes "run" ∷ codes "--pick=last" ∷ []) ≡ Some (Run Last))
+    × (asks (codes "run" ∷ codes "--pick" ∷ codes "first" ∷ []) ≡ Some (Run First))
+unfolding clap_on_literals subcommand_named
+pick_row = (refl, refl, refl)
+
+-- each word beside the choice, and both; a word that stands twice, and one that is given a value
+flags_row : (asks (codes "run" ∷ codes "--echo" ∷ []) ≡ Some (RunIn First (record { echo = true; strict = false })))
+    × (asks (codes "run" ∷ codes "--strict" ∷ []) ≡ Some (RunIn First (record { echo = false; strict = true })))
+    × (asks (codes "run" ∷ codes "--strict" ∷ codes "--pick" ∷ codes "last" ∷ codes "--echo" ∷ []) ≡ Some (RunIn Last (record { echo = true; strict = true })))
+    × (faults (codes "run" ∷ codes "--strict" ∷ codes "--pick" ∷ codes "last" ∷ codes "--echo" ∷ []) ≡ [])
+    × (faults (codes "run" ∷ codes "--echo" ∷ codes "--echo" ∷ []) ≡ kind.ArgumentConflict ∷ [])
+    × (faults (codes "run" ∷ codes "--echo=true" ∷ []) ≡ kind.TooManyValues ∷ [])
+    × (faults (codes "check" ∷ codes "--echo" ∷ []) ≡ kind.UnknownArgument ∷ [])
+unfolding clap_on_literals subcommand_named
+flags_row = (refl, refl, refl, refl, refl, refl, refl)
+
+-- answers by JSON, which have no other manner
+json_row : (asks (codes "check" ∷ codes "--json" ∷ []) ≡ Some CheckJson)
+    × (asks (codes "run" ∷ codes "--json" ∷ codes "--pick=last" ∷ []) ≡ Some (RunJson Last))
+    × (faults (codes "run" ∷ codes "--json" ∷ codes "--pick=last" ∷ []) ≡ [])
+    × (asks (codes "run" ∷ codes "--json" ∷ codes "--strict" ∷ []) ≡ None)
+    × (faults (codes "sessions" ∷ codes "--json" ∷ []) ≡ kind.UnknownArgument ∷ [])
+unfolding clap_on_literals subcommand_named
+json_row = (refl, refl, refl, refl, refl)
+
+-- a script that is printed again, whole or not, and one that is compared
+story_row : (asks (codes "story" ∷ []) ≡ Some (Story First false))
+    × (asks (codes "story" ∷ codes "--whole" ∷ codes "--pick" ∷ codes "last" ∷ []) ≡ Some (Story Last true))
+    × (asks (codes "verify" ∷ codes "--pick=last" ∷ []) ≡ Some (Verify Last))
+    × (faults (codes "verify" ∷ codes "--whole" ∷ []) ≡ kind.UnknownArgument ∷ [])
+unfolding clap_on_literals subcommand_named
+story_row = (refl, refl, refl, refl)
+
+-- what is listed: also behind a step that hangs, whether hints count, and as JSON
+lint_row : (asks (codes "lint" ∷ []) ≡ Some (Lint First (record { all = false; strict = false; json = false })))
+    × (asks (codes "lint" ∷ codes "--strict" ∷ codes "--pick" ∷ codes "last" ∷ []) ≡ Some (Lint Last (record { all = false; strict = true; json = false })))
+    × (asks (codes "lint" ∷ codes "--all" ∷ []) ≡ Some (Lint First (record { all = true; strict = false; json = false })))
+    × (asks (codes "lint" ∷ codes "--json" ∷ codes "--all" ∷ []) ≡ Some (Lint First (record { all = true; strict = false; json = true })))
+    × (faults (codes "run" ∷ codes "--all" ∷ []) ≡ kind.UnknownArgument ∷ [])
+unfolding clap_on_literals subcommand_named
+lint_row = (refl, refl, refl, refl, refl)
+
+sessions_row : (asks (codes "sessions" ∷ []) ≡ Some (Sessions First))
+    × (asks (codes "sessions" ∷ codes "--pick" ∷ codes "last" ∷ []) ≡ Some (Sessions Last))
+unfolding clap_on_literals subcommand_named
+sessions_row = (refl, refl)
+
+-- one worker, where no number is given; from 1 to 16
+sweep_row : (asks (codes "sweep" ∷ []) ≡ Some (Sweep First 1)) × (faults (codes "sweep" ∷ []) ≡ [])
+    × (asks (codes "sweep" ∷ codes "--workers" ∷ codes "4" ∷ []) ≡ Some (Sweep First 4))
+    × (asks (codes "sweep" ∷ codes "--pick=last" ∷ codes "--workers=16" ∷ []) ≡ Some (Sweep Last 16))
+    × (faults (codes "sweep" ∷ codes "--pick=last" ∷ codes "--workers=16" ∷ []) ≡ [])
+unfolding clap_on_literals subcommand_named
+sweep_row = (refl, refl, refl, refl, refl)
+
+-- as lines of JSON, by one worker or by several
+sweep_json_row : (asks (codes "sweep" ∷ codes "--json" ∷ []) ≡ Some (SweepJson First 1)) × (faults (codes "sweep" ∷ codes "--json" ∷ []) ≡ [])
+    × (asks (codes "sweep" ∷ codes "--workers=3" ∷ codes "--json" ∷ codes "--pick" ∷ codes "last" ∷ []) ≡ Some (SweepJson Last 3))
+unfolding clap_on_literals subcommand_named
+sweep_json_row = (refl, refl, refl)
+
+-- another number, or none
+workers_row : (faults (codes "sweep" ∷ codes "--workers" ∷ codes "0" ∷ []) ≡ kind.ValueValidation ∷ [])
+    × (faults (codes "sweep" ∷ codes "--workers" ∷ codes "17" ∷ []) ≡ kind.ValueValidation ∷ [])
+    × (faults (codes "sweep" ∷ codes "--workers" ∷ codes "many" ∷ []) ≡ kind.ValueValidation ∷ [])
+unfolding clap_on_literals subcommand_named
+workers_row = (refl, refl, refl)
+
+-- a million states, where no number is given; from 1 to 2^32 - 1
+explore_row : (asks (codes "explore" ∷ []) ≡ Some (Explore First 1000000)) × (faults (codes "explore" ∷ []) ≡ [])
+    × (asks (codes "explore" ∷ codes "--states=4294967295" ∷ codes "--pick=last" ∷ []) ≡ Some (Explore Last 4294967295))
+    × (faults (codes "explore" ∷ codes "--states" ∷ codes "0" ∷ []) ≡ kind.ValueValidation ∷ [])
+    × (faults (codes "explore" ∷ codes "--states" ∷ codes "4294967296" ∷ []) ≡ kind.ValueValidation ∷ [])
+    × (faults (codes "sweep" ∷ codes "--states" ∷ codes "5" ∷ []) ≡ kind.UnknownArgument ∷ [])
+unfolding clap_on_literals subcommand_named
+explore_row = (refl, refl, refl, refl, refl, refl)
+
+-- another choice, an option that a subcommand hasn't, one that stands twice
+options_row : (faults (codes "run" ∷ codes "--pick" ∷ codes "middle" ∷ []) ≡ kind.InvalidValue ∷ [])
+    × (faults (codes "check" ∷ codes "--pick" ∷ codes "last" ∷ []) ≡ kind.UnknownArgument ∷ [])
+    × (faults (codes "run" ∷ codes "--workers" ∷ codes "4" ∷ []) ≡ kind.UnknownArgument ∷ [])
+    × (faults (codes "run" ∷ codes "--pick=last" ∷ codes "--pick=last" ∷ []) ≡ kind.ArgumentConflict ∷ [])
+unfolding clap_on_literals subcommand_named
+options_row = (refl, refl, refl, refl)
+
+-- no subcommand, an unknown one, and what asks for help or the version
+other_row : (faults [] ≡ kind.MissingSubcommand ∷ []) × (asks [] ≡ None)
+    × (faults (codes "walk" ∷ []) ≡ kind.UnknownArgument ∷ kind.InvalidSubcommand ∷ []) × (asks (codes "walk" ∷ []) ≡ None)
+    × (faults (codes "--help" ∷ []) ≡ kind.DisplayHelp ∷ []) × (faults (codes "run" ∷ codes "--help" ∷ []) ≡ kind.DisplayHelp ∷ [])
+    × (faults (codes "--version" ∷ []) ≡ kind.DisplayVersion ∷ [])
+unfolding clap_on_literals subcommand_named
+other_row = (refl, refl, refl, refl, refl, refl, refl)

@@ -1,0 +1,143 @@
+-- What the words of a command line ask (ours).
+use Rattle.std.specs.Prelude.{◌≡◌, ◌⊎◌, ℕ, List, [], Bool, true, false, Option, Some, None, map}
+use Rattle.std.specs.Prelude.{◌&&◌, ◌||◌, codes, if◌then◌else◌, nat_le, option_map, option_and_then}
+use Rattle.std.specs.String.{string_bytes}
+use Rattle.std.specs.Str.{bytes_eq}
+use Rattle.std.specs.Str.Parse.{digits_value, without_leading_plus}
+use Rattle.clap.specs.Walk.{Row, Text, first_of, one_of}
+use Rattle.clap.specs.Simple.{subcommand_of}
+use Rattle.clap.specs.Faults.{fault_of}
+use Rattle.clap.specs.Kinds.{IsAmong}
+use Rattle.clap.specs.Values.{kind_of}
+use Rattle.clap.specs.ValueTests.{is_unsigned_in}
+use Rattle.clap.specs.declared.error.Error.{Error}
+use Rattle.clap.specs.declared.error.kind.ErrorKind.TheVariants as kind
+use Rattle.rh_rules.specs.declared.pick.Pick.{Pick}
+use Rattle.rh_rules.specs.declared.pick.Pick.TheVariants.{First, Last}
+use Rattle.rh_plans.specs.declared.workers.TheConstants.{MAX_WORKERS}
+use Rattle.rh_asked.specs.declared.program.Program.{Program}
+use Rattle.rh_asked.specs.declared.program.Program.TheVariants as program
+use Rattle.rh_asked.specs.Programs.{IsStaffed}
+use Rattle.rh_command_line.specs.Table.{flag_word, subcommand_named}
+use Rattle.rh_command_line.specs.CommandLine.{Picks, ArePicks, line}
+use Rattle.rh_command_line.specs.declared.table.TheConstants.{MOST_STATES}
+use Rattle.rh_command_line.specs.declared.table.Flag.{Flag}
+use Rattle.rh_command_line.specs.declared.table.Flag.TheVariants.{Echo, Strict, Json, Whole, Hints, All}
+use Rattle.rh_command_line.specs.declared.table.Subcommand.{Subcommand}
+use Rattle.rh_command_line.specs.declared.table.Subcommand.TheVariants.{Run, Check, Lint, Story, Verify, Sessions, Sweep, Explore}
+use Rattle.rh_command_line.specs.declared.command_line.Asked.{Asked}
+use Rattle.rh_command_line.specs.declared.command_line.Asked.TheVariants as asked
+use Rattle.rh_command_line.specs.declared.command_line.Words.{Words}
+use Rattle.rh_command_line.specs.declared.command_line.Words.TheVariants as words
+
+abbrev pub is_last : Option Text → Bool
+is_last None = false
+is_last (Some word) = bytes_eq word (codes "last")
+
+-- the choice at a tie that a word means: the last for `last`, the first for any other and for none
+abbrev pub pick_of : Option Text → Pick
+pick_of word = if is_last word then Last else First
+
+-- the choice among the matches of a subcommand
+abbrev pub pick_in : List Row → Pick
+pick_in rows = pick_of (first_of (codes "pick") rows)
+
+-- a number of workers, if there may be so many
+abbrev pub allowed : ℕ → Option ℕ
+allowed workers = if nat_le 1 workers && nat_le workers MAX_WORKERS then Some workers else None
+
+-- the number of workers that a text means
+abbrev pub workers_of : Text → Option ℕ
+workers_of text = if is_unsigned_in 1 MAX_WORKERS text then Some (digits_value 10 (without_leading_plus text)) else None
+
+-- the number of workers among them
+abbrev pub workers_in : List Row → Option ℕ
+workers_in rows = option_and_then workers_of (one_of (codes "workers") rows)
+
+-- a number of states that are kept, if it may be so many; the one that a text means, and that among the matches
+abbrev pub allowed_states : ℕ → Option ℕ
+allowed_states states = if nat_le 1 states && nat_le states MOST_STATES then Some states else None
+
+abbrev pub states_of : Text → Option ℕ
+states_of text = if is_unsigned_in 1 MOST_STATES text then Some (digits_value 10 (without_leading_plus text)) else None
+
+abbrev pub states_in : List Row → Option ℕ
+states_in rows = option_and_then states_of (one_of (codes "states") rows)
+
+-- whether a word without a value was given: among the matches it has the text `true` then
+abbrev pub is_given : Option Text → Bool
+is_given None = false
+is_given (Some word) = bytes_eq word (codes "true")
+
+abbrev pub flag_in : Flag → List Row → Bool
+flag_in flag rows = is_given (first_of (flag_word flag) rows)
+
+-- a run: with no word beside its choice it is the plain one
+abbrev pub run_of : Pick → Bool → Bool → Program
+run_of pick echo strict = if echo || strict then program.RunIn pick (record { echo = echo; strict = strict }) else program.Run pick
+
+-- one that answers by JSON has no other manner
+abbrev pub run_as : Pick → Bool → Bool → Bool → Option Program
+run_as pick echo strict json =
+    if json then (if echo || strict then None else Some (program.RunJson pick)) else Some (run_of pick echo strict)
+
+-- a list of what is wrong, in this manner
+abbrev pub lint_of : Pick → Bool → Bool → Bool → Program
+lint_of pick all strict json = program.Lint pick (record { all = all; strict = strict; json = json })
+
+-- a sweep by so many workers, by JSON or not
+abbrev pub sweep_of : Pick → Bool → ℕ → Program
+sweep_of pick json workers = if json then program.SweepJson pick workers else program.Sweep pick workers
+
+-- the program that a subcommand means with these matches
+abbrev pub program_of : Subcommand → List Row → Option Program
+program_of Check rows = Some (if flag_in Json rows then program.CheckJson else program.Check)
+program_of Run rows = run_as (pick_in rows) (flag_in Echo rows) (flag_in Strict rows) (flag_in Json rows)
+program_of Story rows = Some (program.Story (pick_in rows) (flag_in Whole rows))
+program_of Lint rows = Some (lint_of (pick_in rows) (flag_in All rows) (flag_in Hints rows) (flag_in Json rows))
+program_of Verify rows = Some (program.Verify (pick_in rows))
+program_of Sessions rows = Some (program.Sessions (pick_in rows))
+program_of Sweep rows = option_map (sweep_of (pick_in rows) (flag_in Json rows)) (workers_in rows)
+program_of Explore rows = option_map (program.Explore (pick_in rows)) (states_in rows)
+
+-- the program of the subcommand with this word and these matches
+abbrev pub program_in : Text → List Row → Option Program
+program_in word rows = option_and_then (λ s. program_of s rows) (subcommand_named word)
+
+-- the program of the subcommand that the words name, with its matches
+abbrev pub program_among : Option (Text × List Row) → Option Program
+program_among = option_and_then (λ p. program_in p.0 p.1)
+
+-- the words ask for this program: the parser finds no fault in them, and their subcommand is this program
+abbrev pub AsksFor : List Text → Program → Type 0
+AsksFor words program = (picks : Picks) × ArePicks picks × (fault_of (line picks) words ≡ [])
+    × (program_among (subcommand_of (line picks) words) ≡ Some program) × IsStaffed program
+
+-- the words are refused with this error: it is a fault that the parser finds in them, or they name no program
+abbrev pub Refuses : List Text → Error → Type 0
+Refuses words error = (picks : Picks) × ArePicks picks
+    × (IsAmong (kind_of error) (fault_of (line picks) words) ⊎ (program_among (subcommand_of (line picks) words) ≡ None))
+
+-- what these words ask; memory may be wanting for each
+abbrev pub IsAskedBy : List Text → Asked → Type 0
+IsAskedBy words (asked.For program) = AsksFor words program
+IsAskedBy words (asked.Refused error) = Refuses words error
+IsAskedBy words asked.OutOfMemory = Unit {0}
+
+-- a command line with a word that isn't UTF-8 is refused
+abbrev pub IsNotUtf8 : Asked → Type 0
+IsNotUtf8 (asked.For program) = ⊥
+IsNotUtf8 (asked.Refused error) = kind_of error ≡ kind.InvalidValue
+IsNotUtf8 asked.OutOfMemory = Unit {0}
+
+-- what is asked by these words, or where there are none
+abbrev pub IsAsked : Words → Asked → Type 0
+IsAsked (words.Given list) it = IsAskedBy (map string_bytes list.items) it
+IsAsked words.NotUtf8 it = IsNotUtf8 it
+IsAsked words.OutOfMemory it = it ≡ asked.OutOfMemory
+
+-- the command line is refused with this error, or memory was
+abbrev pub IsRefusedBy : Error → Asked → Type 0
+IsRefusedBy error (asked.For program) = ⊥
+IsRefusedBy error (asked.Refused same) = (same ≡ error) × (kind_of error ≡ kind.OutOfMemory → ⊥)
+IsRefusedBy error asked.OutOfMemory = kind_of error ≡ kind.OutOfMemory

@@ -1,0 +1,87 @@
+-- The command line: what its parser reads of it (ours).
+use Rattle.std.specs.Prelude.{◌≡◌, List, [], ◌∷◌, fold, false, true, Some, codes}
+use Rattle.std.specs.Borrow.{Bor}
+use Rattle.clap.specs.Walk.{Rule, Text, texts}
+use Rattle.clap.specs.Simple.{App, app_of, new_app, new_rule, new_shape, with_rule, with_subcommand}
+use Rattle.clap.specs.declared.builder.action.ArgAction.TheVariants.{Set, SetTrue}
+use Rattle.clap.specs.declared.builder.command.Command.{Command}
+use Rattle.clap.specs.declared.builder.command.Command.TheViews.{out-Command as fields_of}
+use Rattle.clap.specs.declared.builder.value_parser.ValueParser.TheVariants as parser
+use Rattle.rh_plans.specs.declared.workers.TheConstants.{MAX_WORKERS}
+use Rattle.rh_command_line.specs.declared.table.TheConstants.{MOST_STATES}
+use Rattle.rh_command_line.specs.declared.table.Setting.{Setting}
+use Rattle.rh_command_line.specs.declared.table.Setting.TheVariants as setting
+use Rattle.rh_command_line.specs.declared.table.Subcommand.{Subcommand}
+use Rattle.rh_command_line.specs.Table.{flag_word, settings_of, subcommands, word_of}
+
+-- the names of the choices at a tie, where they lie in memory
+abbrev pub Picks : Type 0
+Picks = Bor (List (Bor Text))
+
+abbrev pub ArePicks : Picks → Type 0
+ArePicks picks = texts picks.now ≡ codes "first" ∷ codes "last" ∷ []
+
+-- `--pick NAME`, one of these names, and `first` where it isn't given
+abbrev pub pick_option : Picks → Rule
+pick_option picks = record (new_rule (codes "pick")) {
+  long = Some (codes "pick");
+  action = Some Set;
+  defaults = codes "first" ∷ [];
+  parser = Some (parser.Names picks);
+}
+
+-- `--workers K`, a number from 1 to 16, and 1 where it isn't given
+abbrev pub workers_option : Rule
+workers_option = record (new_rule (codes "workers")) {
+  long = Some (codes "workers");
+  action = Some Set;
+  defaults = codes "1" ∷ [];
+  parser = Some (parser.Unsigned 1 MAX_WORKERS);
+}
+
+-- `--states K`, a number from 1 to 2^32 - 1, and 1,000,000 where it isn't given
+abbrev pub states_option : Rule
+states_option = record (new_rule (codes "states")) {
+  long = Some (codes "states");
+  action = Some Set;
+  defaults = codes "1000000" ∷ [];
+  parser = Some (parser.Unsigned 1 MOST_STATES);
+}
+
+-- `--WORD`, which takes no value
+abbrev pub flag_option : Text → Rule
+flag_option word = record (new_rule word) { long = Some word; action = Some SetTrue }
+
+-- what each option of the table is read as
+abbrev pub setting_option : Picks → Setting → Rule
+setting_option picks setting.Pick = pick_option picks
+setting_option picks setting.Workers = workers_option
+setting_option picks setting.States = states_option
+setting_option picks (setting.Flag flag) = flag_option (flag_word flag)
+
+-- a command with more options
+abbrev pub with_settings : Picks → App → List Setting → App
+with_settings picks app settings = fold (λ a s. with_rule a (setting_option picks s)) app settings
+
+-- a subcommand, with its options
+abbrev pub subcommand_line : Picks → Subcommand → App
+subcommand_line picks s = with_settings picks (new_app (word_of s)) (settings_of s)
+
+-- a command with more subcommands
+abbrev pub with_subcommands : Picks → App → List Subcommand → App
+with_subcommands picks app subcommands = fold (λ a s. with_subcommand a (subcommand_line picks s).top) app subcommands
+
+-- the line before its subcommands: it has a version, and wants one of them
+abbrev pub bare_line : App
+bare_line = record {
+  top = record (new_shape (codes "rehearse")) { has_version = true; subcommand_required = true };
+  subs = [];
+}
+
+-- the whole line
+abbrev pub line : Picks → App
+line picks = with_subcommands picks bare_line subcommands
+
+-- a command is read as this, and no argument of it is for other commands too
+abbrev pub IsCommand : App → Command → Type 0
+IsCommand app command = (app_of command ≡ app) × ((fields_of command).has_globals ≡ false)

@@ -1,0 +1,203 @@
+//! What program the matches of a command line mean.
+
+ghost use Rattle.std.specs.Prelude.{◌≡◌, ◌≢◌, IfSome, Some, codes, if◌then◌else◌};
+ghost use Rattle.std.specs.Option.{option_map};
+ghost use Rattle.clap.specs.Words.{found_of, rows_of, subcommand_rows_of};
+ghost use Rattle.rh_rules.specs.declared.pick.Pick.TheVariants as pick;
+ghost use Rattle.rh_plans.specs.Workers.{AreWorkers};
+ghost use Rattle.rh_asked.specs.Programs.{IsStaffed};
+ghost use Rattle.rh_asked.specs.declared.program.Program.TheVariants as program;
+ghost use Rattle.rh_command_line.specs.Asking.{allowed, allowed_states, flag_in, is_given, lint_of, pick_in, program_among, program_in, program_of, run_as, run_of, states_in, sweep_of, workers_in};
+
+use crate::table::{Flag, MOST_STATES, Subcommand, subcommand_named};
+use clap::ArgMatches;
+use rh_asked::{LintManner, Manner, Program};
+use rh_plans::MAX_WORKERS;
+use rh_rules::Pick;
+
+/// The program that the matches of the whole command line name.
+pub fn program_among(matches: &ArgMatches<'_>) -> Option<Program>
+    ensures named { result ≡ program_among (subcommand_rows_of matches.now) }
+    ensures staffed { IfSome result IsStaffed }
+{
+    let (name, matches) = matches.subcommand()?;
+    program_in(name, matches)
+}
+
+// The program of the subcommand with this word and these matches.
+fn program_in(word: &str, matches: &ArgMatches<'_>) -> Option<Program>
+    ensures named { result ≡ program_in word.now (rows_of (found_of matches.now)) }
+    ensures staffed { IfSome result IsStaffed }
+{
+    let subcommand = subcommand_named(word)?;
+    program_of(subcommand, matches)
+}
+
+// The program that a subcommand means with these matches. A number of workers that there may not be means none.
+fn program_of(subcommand: Subcommand, matches: &ArgMatches<'_>) -> Option<Program>
+    ensures named { result ≡ program_of subcommand (rows_of (found_of matches.now)) }
+    ensures staffed { IfSome result IsStaffed }
+{
+    match subcommand {
+        Subcommand::Check => Some(check_of(flag_in(matches, Flag::Json))),
+        Subcommand::Run => run_as(
+            pick_in(matches),
+            flag_in(matches, Flag::Echo),
+            flag_in(matches, Flag::Strict),
+            flag_in(matches, Flag::Json),
+        ),
+        Subcommand::Story => Some(Program::Story(pick_in(matches), flag_in(matches, Flag::Whole))),
+        Subcommand::Lint => Some(lint_of(
+            pick_in(matches),
+            flag_in(matches, Flag::All),
+            flag_in(matches, Flag::Hints),
+            flag_in(matches, Flag::Json),
+        )),
+        Subcommand::Verify => Some(Program::Verify(pick_in(matches))),
+        Subcommand::Sessions => Some(Program::Sessions(pick_in(matches))),
+        Subcommand::Sweep => Some(sweep_of(
+            pick_in(matches),
+            flag_in(matches, Flag::Json),
+            workers_in(matches)?,
+        )),
+        Subcommand::Explore => Some(Program::Explore(pick_in(matches), states_in(matches)?)),
+    }
+}
+
+// A check, by JSON or not.
+fn check_of(json: bool) -> Program
+    ensures named { result ≡ if json then program.CheckJson else program.Check }
+    ensures staffed { IsStaffed result }
+{
+    if json {
+        Program::CheckJson
+    } else {
+        Program::Check
+    }
+}
+
+// A run, by JSON or not: one that answers by JSON has no other manner.
+fn run_as(pick: Pick, echo: bool, strict: bool, json: bool) -> Option<Program>
+    ensures named { result ≡ run_as pick echo strict json }
+    ensures staffed { IfSome result IsStaffed }
+{
+    if !json {
+        Some(run_of(pick, echo, strict))
+    } else if echo || strict {
+        None
+    } else {
+        Some(Program::RunJson(pick))
+    }
+}
+
+// A run: with no word beside its choice it is the plain one.
+fn run_of(pick: Pick, echo: bool, strict: bool) -> Program
+    ensures named { result ≡ run_of pick echo strict }
+    ensures staffed { IsStaffed result }
+{
+    if echo || strict {
+        Program::RunIn(pick, Manner { echo, strict })
+    } else {
+        Program::Run(pick)
+    }
+}
+
+// A list of what is wrong, in this manner.
+fn lint_of(pick: Pick, all: bool, strict: bool, json: bool) -> Program
+    ensures named { result ≡ lint_of pick all strict json }
+    ensures staffed { IsStaffed result }
+{
+    Program::Lint(pick, LintManner { all, strict, json })
+}
+
+// A sweep by so many workers, by JSON or not.
+fn sweep_of(pick: Pick, json: bool, workers: usize) -> Program
+    requires { AreWorkers workers }
+    ensures named { result ≡ sweep_of pick json workers }
+    ensures staffed { IsStaffed result }
+{
+    if json {
+        Program::SweepJson(pick, workers)
+    } else {
+        Program::Sweep(pick, workers)
+    }
+}
+
+// Whether a word without a value was given.
+fn flag_in(matches: &ArgMatches<'_>, flag: Flag) -> bool
+    ensures { result ≡ flag_in flag (rows_of (found_of matches.now)) }
+{
+    is_given(matches.get_str(flag.word()))
+}
+
+// Whether a word without a value was given that has this text among the matches.
+fn is_given(text: Option<&str>) -> bool
+    ensures { result ≡ is_given (option_map (λ text. text.now) text.entry) }
+{
+    match text {
+        Some(text) => text == "true",
+        None => false,
+    }
+}
+
+// The choice at a tie.
+fn pick_in(matches: &ArgMatches<'_>) -> Pick
+    ensures { result ≡ pick_in (rows_of (found_of matches.now)) }
+{
+    pick_of(matches.get_str("pick"))
+}
+
+// The choice at a tie: the last for the word `last`, the first for any other and for none.
+fn pick_of(word: Option<&str>) -> Pick
+    ensures last { option_map (λ word. word.now) word.entry ≡ Some (codes "last") → result ≡ pick.Last }
+    ensures first { option_map (λ word. word.now) word.entry ≢ Some (codes "last") → result ≡ pick.First }
+{
+    match word {
+        Some("last") => Pick::Last,
+        _ => Pick::First,
+    }
+}
+
+// The number of workers, if there may be so many.
+fn workers_in(matches: &ArgMatches<'_>) -> Option<usize>
+    ensures number { result ≡ workers_in (rows_of (found_of matches.now)) }
+    ensures staffed { IfSome result AreWorkers }
+{
+    match matches.get_one::<usize>("workers") {
+        Some(workers) => allowed(workers),
+        None => None,
+    }
+}
+
+// This number of workers, if there may be so many.
+fn allowed(workers: usize) -> Option<usize>
+    ensures number { result ≡ allowed workers }
+    ensures staffed { IfSome result AreWorkers }
+{
+    if workers >= 1 && workers <= MAX_WORKERS {
+        Some(workers)
+    } else {
+        None
+    }
+}
+
+// The number of states that are kept, if it may be so many.
+fn states_in(matches: &ArgMatches<'_>) -> Option<usize>
+    ensures { result ≡ states_in (rows_of (found_of matches.now)) }
+{
+    match matches.get_one::<usize>("states") {
+        Some(states) => allowed_states(states),
+        None => None,
+    }
+}
+
+// This number of states, if it may be so many.
+fn allowed_states(states: usize) -> Option<usize>
+    ensures { result ≡ allowed_states states }
+{
+    if states >= 1 && states <= MOST_STATES {
+        Some(states)
+    } else {
+        None
+    }
+}

@@ -1,0 +1,12 @@
+use Rattle.std.proofs.Common.{◌≡◌, ◌+◌, ◌++◌, length, map, take}
+use Rattle.std.specs.List.{flat_map, range_with_len}
+use Rattle.rh_model.specs.ClusterView.{app_numbered}
+use Rattle.rh_state.specs.Stored.{read}
+use Rattle.rh_keys.specs.Codes.{code}
+use Rattle.rh_keys.specs.Packed.{packed_pair}
+use Rattle.rh_keys.proofs.parts.put_each_pair.Given as goal
+
+abbrev pub invariant-loop-number : goal.invariant-loop-number
+invariant-loop-number l =
+    (length l.cells ≡ length l.fn.cells)
+    × (take (l.fn.at + l.number) l.cells ≡ take l.fn.at l.fn.cells ++ code (flat_map (packed_pair (read l.fn.state) l.fn.node) (map app_numbered (range_with_len 0 l.number))))

@@ -1,0 +1,4 @@
+pub mod Keys
+pub mod Packed
+pub mod Codes
+pub mod Laws

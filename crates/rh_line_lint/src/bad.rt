@@ -1,0 +1,100 @@
+//! A line that is no command.
+
+ghost use Rattle.std.specs.Prelude.{◌≡◌, ◌++◌, IfOk, OnOk, map, [], ◌∷◌};
+ghost use Rattle.std.specs.Option.{option_map};
+ghost use Rattle.std.specs.String.{string_bytes};
+ghost use Rattle.rh_line_lint.specs.Lines.{near_words, meant_words, unknown_command, bad_arguments, unread, bad_words, error_at};
+
+use crate::commands::{Command, command_named, command_words};
+use crate::words::{text_of, words_of};
+use rh_base::{OutOfMemory, Str};
+use rh_findings::{Finding, Kind};
+use rh_term_lint::nearest;
+use std::alloc::Global;
+
+/// An error in a line.
+pub fn error_at(number: u64, text: String) -> Finding
+    ensures { result ≡ error_at number (string_bytes text) }
+{
+    Finding {
+        line: Some(number),
+        kind: Kind::Error,
+        text: Str::of(text),
+        path: None,
+    }
+}
+
+/// Adds a near name, if there is one.
+#[tactic(auto, unfolding(crate::specs::Lines::near_words))]
+pub fn push_near(text: &mut String, near: Option<&str>) -> Result<(), OutOfMemory>
+    ensures { OnOk result (string_bytes text.new ≡ string_bytes text.old ++ near_words (option_map (λ name. name.now) near.entry)) }
+{
+    if let Some(name) = near {
+        write!(text, "; {name} is near")?;
+    }
+    Ok(())
+}
+
+// What may have been meant by a word that is no command.
+fn meant_words(word: &str) -> &'static str
+    ensures { result.now ≡ meant_words word.now }
+{
+    if word.as_bytes().starts_with(b"%") {
+        "; a comment in a script begins with #"
+    } else if word.as_bytes().starts_with(b"#") {
+        "; the # of a comment is the first byte of its line"
+    } else if word == "===" {
+        "; one line === stands before the script"
+    } else if word == "plan" {
+        "; plans are for sweep"
+    } else {
+        ""
+    }
+}
+
+// What is told of a word that is no command.
+#[tactic(auto, unfolding(crate::specs::Lines::unknown_command))]
+fn unknown_command(alloc: Global, word: &str) -> Result<String, OutOfMemory>
+    ensures { IfOk result (λ text. string_bytes text ≡ unknown_command word.now) }
+{
+    let near = nearest(alloc, word, command_words())?;
+    let meant = meant_words(word);
+    let mut text = format!(in alloc; "unknown_command: {word} is no command{meant}")?;
+    push_near(&mut text, near)?;
+    Ok(text)
+}
+
+// What is told of a command that is written otherwise.
+#[tactic(auto, unfolding(crate::specs::Lines::bad_arguments))]
+fn bad_arguments(alloc: Global, command: Command) -> Result<String, OutOfMemory>
+    ensures { IfOk result (λ text. string_bytes text ≡ bad_arguments command.usage.now) }
+{
+    let usage = command.usage;
+    Ok(format!(in alloc; "bad_arguments: the command is {usage}")?)
+}
+
+// What is told of words that are no command.
+#[tactic(auto, unfolding(crate::specs::Lines::unread))]
+fn unread(alloc: Global, words: &[&str]) -> Result<String, OutOfMemory>
+    ensures { IfOk result (λ text. string_bytes text ≡ unread (map (λ word. word.now) words.now)) }
+{
+    match words {
+        [] => Ok(String::new(alloc)),
+        [word, ..] => match command_named(word) {
+            None => unknown_command(alloc, word),
+            Some(command) => bad_arguments(alloc, command),
+        },
+    }
+}
+
+/// What is told of a line that is no command.
+#[tactic(auto, unfolding(crate::specs::Lines::bad_words))]
+pub fn bad_words(alloc: Global, line: &[u8]) -> Result<String, OutOfMemory>
+    ensures { IfOk result (λ text. string_bytes text ≡ bad_words line.now) }
+{
+    let Some(text) = text_of(line) else {
+        return Ok(format!(in alloc; "not_utf8: the line isn't UTF-8")?);
+    };
+    let words = words_of(alloc, text)?;
+    unread(alloc, words.as_slice())
+}

@@ -1,0 +1,4 @@
+pub mod Ending
+pub mod Keeping
+pub mod Turns
+pub mod Pieces

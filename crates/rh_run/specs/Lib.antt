@@ -1,0 +1,4 @@
+pub mod Faults
+pub mod RunText
+pub mod Programs
+pub mod CheckText

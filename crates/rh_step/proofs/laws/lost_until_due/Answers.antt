@@ -1,5 +1,0 @@
-use Rattle.rh_step.proofs.LostInTime.{lost_until_due}
-use Rattle.rh_step.proofs.laws.lost_until_due.Goals as goal
-
-pub returns : goal.returns
-returns c = lost_until_due

@@ -1,5 +1,0 @@
-use Rattle.rh_step.proofs.PullsBack.{permission_pulls_back}
-use Rattle.rh_step.proofs.laws.permission_pulls_back.Goals as goal
-
-pub returns : goal.returns
-returns c = permission_pulls_back

@@ -1,5 +1,0 @@
-use Rattle.rh_step.proofs.QuietStays.{quiet_until_started}
-use Rattle.rh_step.proofs.laws.quiet_until_started.Goals as goal
-
-pub returns : goal.returns
-returns c = quiet_until_started

@@ -1,5 +1,0 @@
-use Rattle.rh_step.proofs.Everywhere.{start_all_starts_everywhere}
-use Rattle.rh_step.proofs.laws.start_all_starts_everywhere.Goals as goal
-
-pub returns : goal.returns
-returns c = start_all_starts_everywhere

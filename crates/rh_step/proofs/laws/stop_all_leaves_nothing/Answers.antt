@@ -1,5 +1,0 @@
-use Rattle.rh_step.proofs.Everywhere.{stop_all_leaves_nothing}
-use Rattle.rh_step.proofs.laws.stop_all_leaves_nothing.Goals as goal
-
-pub returns : goal.returns
-returns c = stop_all_leaves_nothing

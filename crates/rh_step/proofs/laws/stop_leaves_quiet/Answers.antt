@@ -1,5 +1,0 @@
-use Rattle.rh_step.proofs.Stops.{stop_leaves_quiet}
-use Rattle.rh_step.proofs.laws.stop_leaves_quiet.Goals as goal
-
-pub returns : goal.returns
-returns c = stop_leaves_quiet

@@ -1,5 +1,0 @@
-use Rattle.rh_step.proofs.StayUp.{up_until_ended}
-use Rattle.rh_step.proofs.laws.up_until_ended.Goals as goal
-
-pub returns : goal.returns
-returns c = up_until_ended

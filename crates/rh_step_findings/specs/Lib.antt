@@ -1,0 +1,11 @@
+pub mod Levels
+pub mod After
+pub mod Candidates
+pub mod Tries
+pub mod Others
+pub mod Lacks
+pub mod Pairs
+pub mod Nodes
+pub mod Ranked
+pub mod Findings
+pub mod Touched

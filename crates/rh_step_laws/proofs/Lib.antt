@@ -1,0 +1,9 @@
+pub mod StayUp
+pub mod Stops
+pub mod EndedWaits
+pub mod LostStays
+pub mod LostInTime
+pub mod QuietStays
+pub mod StartedStays
+pub mod Everywhere
+pub mod PullsBack

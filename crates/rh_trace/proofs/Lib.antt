@@ -1,0 +1,21 @@
+pub mod Every
+pub mod TimersToldApart
+pub mod Numbered
+pub mod FewStarted
+pub mod Ways
+pub mod Counts
+mod Same
+pub mod Firsts
+pub mod Sums
+pub mod Places
+pub mod Entries
+pub mod Points
+pub mod Falls
+pub mod Shapes
+pub mod NextMoves
+pub mod Kept
+pub mod Behind
+pub mod InGroups
+pub mod Best
+pub mod LocalFirsts
+pub mod NextFirsts
