@@ -71,7 +71,7 @@ def call(root, line, folder=None):
 
 def version():
     """The version, from the one place where it stands."""
-    found = re.findall(r'\.version\("([^"]*)"\)', read(os.path.join(TOP, "crates", "rehearse", "src", "building.rt")).decode())
+    found = re.findall(r'\.version\("([^"]*)"\)', read(os.path.join(TOP, "crates", "rh_command_line", "src", "building.rt")).decode())
     return found[0] if len(found) == 1 else f"{found}"
 
 
