@@ -34,7 +34,7 @@ FINDERS, STATUSES = ("explore", "lint"), (0, 9)
 # Differences that no line of an answer shows.
 UNSEEN = {"weights-for-ever", "introductions-for-ever"}
 # The definitions of what the program prints.
-PRINTED = ["rh_report/specs/Report", "rh_script/specs/Answers", "rh_script/specs/SweepAnswers", "rh_plans/specs/FaultWords",
+PRINTED = ["rh_calls/specs/Report", "rh_script/specs/Answers", "rh_script/specs/SweepAnswers", "rh_plans/specs/FaultWords",
            "rh_run/specs/CheckText", "rh_app/specs/Histories",
            "rh_rules/specs/Refusals", "rh_cluster/specs/FaultTexts", "rh_terms/specs/FaultTexts"]
 # The pages that are written by hand. All others say in their first line that docs/make writes them.

@@ -11,7 +11,7 @@ from tree import CRATES, TOP, BadSource, read, shown
 PART = TOP / "docs" / "parts" / "lint.md"
 MADE = "<!-- `docs/make` writes this page: its words stand in docs/parts/lint.md, and what is a warning in the sources. -->"
 FILE_WORDS = CRATES / "rh_cluster_lint" / "specs" / "FileWords.antt"
-STEP_WORDS = CRATES / "rh_step_words" / "specs" / "StepWords.antt"
+STEP_WORDS = CRATES / "rh_line_lint" / "specs" / "StepWords.antt"
 LEVELS = CRATES / "rh_step_findings" / "specs" / "Levels.antt"
 TERMS = CRATES / "rh_cluster_lint" / "specs" / "Terms.antt"
 STEPS = CRATES / "rh_script_lint" / "specs" / "Steps.antt"

@@ -9,7 +9,7 @@ use Rattle.rh_state.specs.StateView.{StateView}
 use Rattle.rh_calls.specs.declared.call.Call.{Call}
 use Rattle.rh_trail.specs.Lone.{opened, sim_after}
 use Rattle.rh_trail.specs.SimView.{state_of}
-use Rattle.rh_report.specs.Report.{report_text}
+use Rattle.rh_calls.specs.Report.{report_text}
 use Rattle.rh_room.specs.declared.pass.Entry.{Entry}
 use Rattle.rh_room.specs.declared.pass.Receipt.{Receipt}
 use Rattle.rh_room.specs.Legal.{IsLegal, PassView, calls, log_limit}

@@ -24,11 +24,11 @@ pub use laws::{
     step_undo_and_redo, undo_all_and_redo_all, undo_and_redo,
 };
 pub use memory::{InMemory, run_in_memory};
+pub use rh_calls::report;
 pub use rh_devices::{
     Buffered, Bytes, Failed, ReadFault, Reader, Sink, Source, Text, Watched, WriteFault, Writer,
     read_input, write_text,
 };
-pub use rh_report::report;
 pub use rh_run::{RunFault, Told, answer_bad, answer_call, ended, run, run_check, write_fault};
 pub use sessions::run_sessions;
 pub use sweeping::{run_sweep, run_sweep_alone};

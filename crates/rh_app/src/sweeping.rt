@@ -3,13 +3,12 @@
 ghost use Rattle.std.specs.Prelude.{◌≡◌, false};
 ghost use Rattle.rh_plans.specs.Workers.{AreWorkers};
 ghost use Rattle.rh_run.specs.Programs.{ProgramGives, NoThreads};
-ghost use Rattle.rh_sweep_text.specs.SweepText.{OwesSweep};
+ghost use Rattle.rh_run.specs.SweepText.{OwesSweep};
 
 use rh_devices::{Sink, Source, Watched};
 use rh_rules::Pick;
-use rh_run::RunFault;
+use rh_run::{RunFault, run_sweep_by};
 use rh_sweep::{Alone, Threaded};
-use rh_sweep_text::run_sweep_by;
 use std::alloc::Global;
 use std::sync::Wait;
 use std::thread::Threads;

@@ -1,2 +1,5 @@
 pub mod LookedShapes
 pub mod FoundInKept
+mod Rows
+mod RowsHints
+mod RowsWays

@@ -2,7 +2,7 @@
 use Rattle.std.specs.Prelude.{ℕ, List, [], codes, Bool, true, false, Option, Some, None, unwrap_or}
 use Rattle.rh_model.specs.ClusterView.{ClusterView, dep_name}
 use Rattle.rh_model.specs.declared.settings.Dep.{Dep}
-use Rattle.rh_report.specs.Report.{no_name, node_word, app_word}
+use Rattle.rh_calls.specs.Report.{no_name, node_word, app_word}
 use Rattle.rh_file_lint.specs.declared.finding.FileFinding.{FileFinding}
 use Rattle.rh_file_lint.specs.declared.finding.FileFinding.TheVariants.{NoDistributedApplication, NoLists, OneSidedLists, IncompleteLists, ListsWithoutTimeout, SyncTimeoutZero, SyncTimeoutTooLarge, FailoverTimeoutTooLarge, TupleNotInOrder, TwoTuples, BootBeforeDependency, CrossedBootLists, NotBootedAtListedNode, PermanentDistributed, LocalAtSeveralNodes, DependencyCircle, LostTogether}
 use Rattle.rh_findings.specs.declared.finding.Kind.{Kind}

@@ -5,3 +5,11 @@ pub mod Terms
 pub mod FileWords
 pub mod File
 pub mod Text
+pub mod Blame
+pub mod Constructs
+pub mod Expected
+pub mod Hints
+pub mod Spans
+pub mod Telling
+pub mod Ways
+pub mod Words

@@ -5,9 +5,9 @@ use Rattle.rh_base.specs.Tree.{Tree}
 use Rattle.rh_model.specs.declared.node.Node.{Node}
 use Rattle.rh_model.specs.declared.node.App.{App}
 use Rattle.rh_cluster.specs.Shapes.{as_headed}
-use Rattle.rh_places.specs.declared.starts.Start.{Start}
-use Rattle.rh_places.specs.Starts.{term_starts}
-use Rattle.rh_places.specs.Words.{line_of_word}
+use Rattle.rh_findings.specs.declared.starts.Start.{Start}
+use Rattle.rh_findings.specs.Starts.{term_starts}
+use Rattle.rh_findings.specs.Words.{line_of_word}
 use Rattle.rh_cluster_lint.specs.declared.lines.Lines.{Lines}
 
 -- where the terms of a text stand: where each begins, and which describe nodes, and which applications

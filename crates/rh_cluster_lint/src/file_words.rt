@@ -128,7 +128,7 @@ const LOST_TOGETHER: Words = Words {
     third: "",
 };
 
-use rh_report::{NO_NAME, app_word, node_word};
+use rh_calls::{NO_NAME, app_word, node_word};
 
 /// The words of a finding.
 pub fn words_of(finding: &FileFinding) -> Words

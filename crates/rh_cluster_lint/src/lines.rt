@@ -3,8 +3,8 @@
 ghost use Rattle.std.specs.Prelude.{◌≡◌, drop};
 ghost use Rattle.rh_cluster_lint.specs.Lines.{lines_seen, line_at, node_line, app_line, word_line};
 
+use rh_findings::{Start, line_of_word};
 use rh_model::{App, Node};
-use rh_places::{Start, line_of_word};
 
 /// Where the terms of a text stand.
 #[derive(Clone, Copy)]

@@ -4,7 +4,7 @@ use Rattle.std.specs.List.{flat_map}
 use Rattle.std.specs.Fmt.{decimal}
 use Rattle.rh_model.specs.ClusterView.{ClusterView}
 use Rattle.rh_model.specs.declared.node.Node.{Node}
-use Rattle.rh_report.specs.Report.{node_word, app_word, no_name}
+use Rattle.rh_calls.specs.Report.{node_word, app_word, no_name}
 use Rattle.rh_courses.specs.declared.course.Stay.{Stay}
 use Rattle.rh_courses.specs.Courses.{CourseView, runs, away, pieces}
 

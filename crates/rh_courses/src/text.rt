@@ -8,8 +8,8 @@ ghost use Rattle.rh_courses.specs.Texts.{place_words, end_words, run_words, runs
 
 use crate::course::{Course, Stay};
 use rh_base::OutOfMemory;
+use rh_calls::{NO_NAME, app_word, node_word};
 use rh_model::{Cluster, Node};
-use rh_report::{NO_NAME, app_word, node_word};
 use std::alloc::Global;
 
 /// A course as a line without its end: where the application ran, from when to when in milliseconds, and for how long it ran

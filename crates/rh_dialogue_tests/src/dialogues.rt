@@ -2,7 +2,7 @@
 
 use crate::partner::Partner;
 use rh_devices::Watched;
-use rh_dialogue::run_dialogue;
+use rh_manner::run_dialogue;
 use rh_rules::Pick;
 use rh_run::RunFault;
 use std::alloc::Global;

@@ -6,10 +6,10 @@ use Rattle.rh_state.specs.StateView.{StateView}
 use Rattle.rh_rules.specs.declared.event.Event.{Event}
 use Rattle.rh_rules.specs.declared.pick.Pick.{Pick}
 use Rattle.rh_rules.specs.Refusals.{refused}
-use Rattle.rh_shifts.specs.Laws.{meets_limit}
-use Rattle.rh_shifts.specs.Shifts.{seen_from, timeless, Alike}
-use Rattle.rh_shifts.proofs.Accepting.{alike_accept_alike}
-use Rattle.rh_shifts.proofs.GoingOn.{next_commutes_with_shifts}
+use Rattle.rh_keys.specs.ShiftLaws.{meets_limit}
+use Rattle.rh_keys.specs.Shifts.{seen_from, timeless, Alike}
+use Rattle.rh_keys.proofs.Accepting.{alike_accept_alike}
+use Rattle.rh_keys.proofs.GoingOn.{next_commutes_with_shifts}
 use Rattle.rh_trace.specs.Validity.{IsValid}
 use Rattle.rh_step.proofs.Validity.{next_valid}
 use Rattle.rh_step.specs.Runs.{step}

@@ -4,8 +4,8 @@ use Rattle.std.specs.Prelude.{Contains}
 use Rattle.std.proofs.lemmas.List.{length-map, get_or-map}
 use Rattle.std.proofs.lemmas.Option.{same_Some, slice_get_within, slice_get-get_or, get_or_from_slice_get}
 use Rattle.rh_state.specs.StateView.{StateView}
-use Rattle.rh_shifts.specs.Shifts.{timeless, Alike}
-use Rattle.rh_shifts.specs.Laws.{meets_limit}
+use Rattle.rh_keys.specs.Shifts.{timeless, Alike}
+use Rattle.rh_keys.specs.ShiftLaws.{meets_limit}
 use Rattle.rh_base.proofs.Truths.{both}
 use Rattle.rh_explore.specs.Exploring.{StaysBelowLimits}
 use Rattle.rh_trace.specs.Validity.{IsValid}

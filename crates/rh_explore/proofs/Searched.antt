@@ -7,7 +7,7 @@ use Rattle.std.proofs.lemmas.Option.{same_Some, slice_get_within, slice_get-get_
 use Rattle.rh_base.proofs.Lists.{cases}
 use Rattle.rh_state.specs.StateView.{StateView}
 use Rattle.rh_rules.specs.declared.event.Event.{Event}
-use Rattle.rh_shifts.specs.Shifts.{timeless, Alike}
+use Rattle.rh_keys.specs.Shifts.{timeless, Alike}
 use Rattle.rh_trace.specs.Validity.{IsValid}
 use Rattle.rh_trace.proofs.Entries.{is_below, is_above}
 use Rattle.rh_step.specs.Runs.{step}

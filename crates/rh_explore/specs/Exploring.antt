@@ -4,8 +4,8 @@ use Rattle.rh_state.specs.StateView.{StateView}
 use Rattle.rh_state.specs.Stored.{Stored, read}
 use Rattle.rh_rules.specs.declared.event.Event.{Event}
 use Rattle.rh_rules.specs.declared.pick.Pick.{Pick}
-use Rattle.rh_shifts.specs.Shifts.{Alike}
-use Rattle.rh_shifts.specs.Laws.{meets_limit}
+use Rattle.rh_keys.specs.Shifts.{Alike}
+use Rattle.rh_keys.specs.ShiftLaws.{meets_limit}
 use Rattle.rh_explore.specs.declared.answers.Verdict.{Verdict}
 use Rattle.rh_explore.specs.declared.answers.Verdict.TheVariants.{Holds, Fails}
 use Rattle.rh_explore.specs.declared.asking.Ask.{Ask}

@@ -4,8 +4,8 @@ use Rattle.rh_state.specs.StateView.{StateView}
 use Rattle.rh_rules.specs.declared.event.Event.{Event}
 use Rattle.rh_rules.specs.declared.pick.Pick.{Pick}
 use Rattle.rh_rules.specs.Refusals.{refused}
-use Rattle.rh_shifts.specs.Shifts.{Alike}
-use Rattle.rh_shifts.specs.Laws.{meets_limit}
+use Rattle.rh_keys.specs.Shifts.{Alike}
+use Rattle.rh_keys.specs.ShiftLaws.{meets_limit}
 use Rattle.rh_trace.specs.Validity.{IsValid}
 use Rattle.rh_step.specs.Runs.{step}
 use Rattle.rh_explore.specs.declared.answers.Verdict.{Verdict}

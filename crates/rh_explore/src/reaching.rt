@@ -8,7 +8,7 @@ ghost use Rattle.rh_state.specs.Records.{CanGoBack, LedBy};
 ghost use Rattle.rh_state.specs.StateView.{is_up, mode_of};
 ghost use Rattle.rh_state.specs.Stored.{read};
 ghost use Rattle.rh_rules.specs.Refusals.{refused};
-ghost use Rattle.rh_shifts.specs.Laws.{is_limit};
+ghost use Rattle.rh_keys.specs.ShiftLaws.{is_limit};
 ghost use Rattle.rh_trace.specs.Validity.{IsValid};
 ghost use Rattle.rh_step.specs.Runs.{step};
 ghost use Rattle.rh_explore.specs.Reaching.{not_up_count};

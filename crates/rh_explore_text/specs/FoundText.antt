@@ -8,7 +8,7 @@ use Rattle.rh_rules.specs.declared.event.Event.{Event}
 use Rattle.rh_rules.specs.declared.pick.Pick.{Pick}
 use Rattle.rh_rules.specs.Refusals.{refused}
 use Rattle.rh_step.specs.Runs.{step}
-use Rattle.rh_report.specs.Report.{report_text}
+use Rattle.rh_calls.specs.Report.{report_text}
 use Rattle.rh_calls.specs.declared.call.Call.TheVariants as call
 use Rattle.rh_script.specs.CommandWords.{command_words}
 use Rattle.rh_run.specs.declared.fault.Told.{Told}

@@ -10,10 +10,9 @@ ghost use Rattle.rh_step.specs.Runs.{step};
 ghost use Rattle.rh_explore_text.specs.FoundText.{steps_words, down_words, head_line, event_line, fails_text, verdict_text, found_text, last_line, is_failure, is_unfinished, found_end, AllAccepted, CanCome};
 
 use rh_base::OutOfMemory;
-use rh_calls::Call;
+use rh_calls::{Call, report};
 use rh_cluster::Cluster;
 use rh_explore::{Bounds, Covered, Explored, Verdict};
-use rh_report::report;
 use rh_run::Told;
 use rh_script::command_text;
 use rh_state::State;

@@ -1,2 +1,5 @@
 pub mod Ties
 pub mod OneList
+pub mod Blocks
+pub mod Passed
+mod RowsTuples

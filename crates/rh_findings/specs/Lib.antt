@@ -2,3 +2,7 @@ pub mod Order
 pub mod Report
 pub mod Sentences
 pub mod Laws
+pub mod Scan
+pub mod Starts
+pub mod Tuples
+pub mod Words

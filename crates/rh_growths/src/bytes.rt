@@ -2,9 +2,8 @@
 
 use crate::clusters::{PAIR, sim_behind};
 use crate::first::TWO_TIMERS;
-use rh_calls::{Bytes, Replies, Reply};
+use rh_calls::{Bytes, Replies, Reply, report};
 use rh_marks::{Answer, begin, end};
-use rh_report::report;
 use rh_state::State;
 use std::alloc::Global;
 

@@ -1,8 +1,8 @@
 //! The first state of a cluster, and events that leave two timers.
 
 use crate::clusters::{BOOT_1, BOOT_2};
+use rh_calls::report;
 use rh_cluster::Node;
-use rh_report::report;
 use rh_state::State;
 use rh_step::Event;
 use std::alloc::Global;

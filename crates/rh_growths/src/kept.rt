@@ -1,6 +1,6 @@
 //! What has to stay of a simulation.
 
-use rh_report::report;
+use rh_calls::report;
 use rh_trail::Sim;
 use std::alloc::Global;
 

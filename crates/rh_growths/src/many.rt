@@ -2,9 +2,8 @@
 
 use crate::clusters::{BOOT_1, cluster_of, sim_behind};
 use crate::sweeps::plan_of;
-use rh_calls::Call;
+use rh_calls::{Call, report};
 use rh_marks::Answer;
-use rh_report::report;
 use rh_room::{Pass, Room, open_room};
 use rh_step::{Event, Pick};
 use rh_sweep::{Plan, try_plan};

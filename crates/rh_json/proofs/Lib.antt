@@ -1,3 +1,7 @@
 pub mod Turns
 pub mod Lines
 pub mod Told
+pub mod Front
+pub mod Memory
+pub mod Texts
+pub mod SweepLines

@@ -1,14 +1,22 @@
 //! What programs read: the programs of `rh_run`, which write JSON in place of lines.
 //!
-//! [`run_json`] answers the commands of a script, a line for each, and [`check_json`] reads the cluster file alone. What they ask of
-//! their input, what a command is answered and how they end is as it is there; each field has the text that they write. Two laws say
-//! that the lines are those of the same commands ([`commands_are_answered`]), and tell the same notices ([`notices_are_replied`]).
+//! [`run_json`] answers the commands of a script, a line for each, [`check_json`] reads the cluster file alone, and [`sweep_json_by`]
+//! has a crew try plans. What they ask of their input, what a command is answered, what comes of a plan and how they end is as it is
+//! there; each field has the text that they write. Laws say that the lines are those of the same commands
+//! ([`commands_are_answered`]), for the base of a sweep too ([`base_is_answered`]), and tell the same notices
+//! ([`notices_are_replied`]).
 #![tactic(auto)]
 
+mod base;
 mod checking;
 mod laws;
+mod parts;
 mod running;
+mod sweep_laws;
+mod sweeping;
 
 pub use checking::check_json;
 pub use laws::{commands_are_answered, notices_are_replied};
 pub use running::run_json;
+pub use sweep_laws::base_is_answered;
+pub use sweeping::sweep_json_by;

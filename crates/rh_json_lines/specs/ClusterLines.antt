@@ -9,7 +9,7 @@ use Rattle.rh_model.specs.declared.settings.Spread.{Spread}
 use Rattle.rh_state.specs.Numbers.{nodes_of, apps_of}
 use Rattle.rh_cluster.specs.declared.fault.ClusterFault.{ClusterFault}
 use Rattle.rh_cluster.specs.FaultTexts.{cluster_fault_text}
-use Rattle.rh_report.specs.Report.{node_word, app_word}
+use Rattle.rh_calls.specs.Report.{node_word, app_word}
 use Rattle.rh_json_text.specs.Json.{json_string, json_array}
 
 -- the name of a node, and of an application

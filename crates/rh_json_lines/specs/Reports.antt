@@ -11,7 +11,7 @@ use Rattle.rh_state.specs.declared.status.Timer.TheVariants as timer
 use Rattle.rh_state.specs.Numbers.{nodes_of, apps_of}
 use Rattle.rh_state.specs.StateView.{StateView, mode_of, incarnation_of, running_at, waiting_at, restart_of, kind_of, is_allowed, standing_of}
 use Rattle.rh_rules.specs.Course.{is_local}
-use Rattle.rh_report.specs.Report.{mode_words, restart_words, standing_words, timer_words}
+use Rattle.rh_calls.specs.Report.{mode_words, restart_words, standing_words, timer_words}
 use Rattle.rh_json_text.specs.Json.{json_string, json_array}
 use Rattle.rh_json_lines.specs.ClusterLines.{node_json, app_json}
 use Rattle.rh_json_lines.specs.Starts.{first_word, start_json}

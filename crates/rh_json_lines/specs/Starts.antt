@@ -4,7 +4,7 @@ use Rattle.std.specs.List.{before_first}
 use Rattle.rh_model.specs.ClusterView.{ClusterView}
 use Rattle.rh_state.specs.declared.status.Kind.{Kind}
 use Rattle.rh_state.specs.declared.status.Kind.TheVariants as kind
-use Rattle.rh_report.specs.Report.{kind_words}
+use Rattle.rh_calls.specs.Report.{kind_words}
 use Rattle.rh_json_text.specs.Json.{json_string}
 use Rattle.rh_json_lines.specs.ClusterLines.{node_json}
 

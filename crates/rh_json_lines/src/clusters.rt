@@ -9,9 +9,9 @@ ghost use Rattle.rh_json_text.specs.Json.{json_array, behind_comma};
 ghost use Rattle.rh_json_lines.specs.ClusterLines.{node_json, app_json, group_json, spread_json, settings_json, cluster_line, refused_json, refused_line, fault_line};
 
 use rh_base::OutOfMemory;
+use rh_calls::{app_word, node_word};
 use rh_cluster::{App, Cluster, ClusterFault, Group, Node, Spread};
 use rh_json_text::{after_first, before_first, push_array, push_number, push_string, push_text};
-use rh_report::{app_word, node_word};
 use std::alloc::Global;
 
 // Adds the name of a node.

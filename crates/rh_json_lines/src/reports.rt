@@ -7,7 +7,7 @@ ghost use Rattle.rh_rules.specs.Course.{is_local};
 ghost use Rattle.rh_state.specs.Numbers.{nodes_of};
 ghost use Rattle.rh_state.specs.Stored.{read};
 ghost use Rattle.rh_state.specs.StateView.{standing_of};
-ghost use Rattle.rh_report.specs.Report.{standing_words, timer_words};
+ghost use Rattle.rh_calls.specs.Report.{standing_words, timer_words};
 ghost use Rattle.rh_json_text.specs.Json.{json_string, json_array, behind_comma};
 ghost use Rattle.rh_json_lines.specs.Starts.{first_word};
 ghost use Rattle.rh_json_lines.specs.Reports.{state_json, at_json, standing_json, distributed_in, timed_json, timer_json, place_json, parts_json, report_json};

@@ -2,7 +2,7 @@
 
 ghost use Rattle.std.specs.Prelude.{◌≡◌, ◌++◌, codes, OnOk};
 ghost use Rattle.rh_model.specs.ClusterView.{ClusterView};
-ghost use Rattle.rh_report.specs.Report.{kind_words};
+ghost use Rattle.rh_calls.specs.Report.{kind_words};
 ghost use Rattle.rh_json_text.specs.Json.{json_string};
 ghost use Rattle.rh_json_lines.specs.ClusterLines.{app_json, node_json};
 ghost use Rattle.rh_json_lines.specs.Starts.{first_word, from_json, start_json};

@@ -5,7 +5,7 @@ ghost use Rattle.std.specs.List.{flat_map};
 ghost use Rattle.rh_model.specs.ClusterView.{node_count, app_count};
 ghost use Rattle.rh_state.specs.StateView.{running_at, waiting_at, is_allowed};
 ghost use Rattle.rh_state.specs.Stored.{read};
-ghost use Rattle.rh_report.specs.Report.{mode_words, restart_words};
+ghost use Rattle.rh_calls.specs.Report.{mode_words, restart_words};
 ghost use Rattle.rh_json_text.specs.Json.{json_string, json_array, behind_comma};
 ghost use Rattle.rh_json_lines.specs.ClusterLines.{app_json};
 ghost use Rattle.rh_json_lines.specs.Reports.{started_json, running_json, waiting_json, forbidden_at, mode_json, running_list, waiting_list, forbidden_list, lists_json, state_json};
@@ -13,9 +13,9 @@ ghost use Rattle.rh_json_lines.specs.Reports.{started_json, running_json, waitin
 use crate::clusters::{push_app, push_node};
 use crate::starts::push_start;
 use rh_base::OutOfMemory;
+use rh_calls::forbids_any;
 use rh_cluster::{App, Node, Restart};
 use rh_json_text::{close_array, push_number, push_text};
-use rh_report::forbids_any;
 use rh_state::{Mode, State};
 use std::alloc::Global;
 

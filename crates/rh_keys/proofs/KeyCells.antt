@@ -18,7 +18,7 @@ use Rattle.rh_state.specs.Pairs.{app_of_pair, IsPairOfNode}
 use Rattle.rh_state.specs.Shape.{IsAppOf, IsStandingOf}
 use Rattle.rh_state.proofs.Pairs.{IsAppOf-pair}
 use Rattle.rh_state.proofs.ListWalks.{left_of, all_left, left_more, once_of}
-use Rattle.rh_report.proofs.Walks.{IsWalked, Once, is_there, walk_begins, walk_goes_on, walk_ends, walk_shortens}
+use Rattle.rh_calls.proofs.Walks.{IsWalked, Once, is_there, walk_begins, walk_goes_on, walk_ends, walk_shortens}
 use Rattle.rh_state.specs.StateView.{StateView, restart_of, is_allowed}
 use Rattle.rh_keys.specs.Codes.{number_code, code}
 use Rattle.rh_keys.specs.Packed.{pair_number, packed_pair}

@@ -14,7 +14,7 @@ use Rattle.rh_state.specs.declared.status.Timer.{Timer}
 use Rattle.rh_state.specs.declared.status.Timer.TheVariants as timer
 use Rattle.rh_state.specs.Numbers.{apps_of}
 use Rattle.rh_state.specs.StateView.{StateView, mode_of, running_at, waiting_at, restart_of, is_allowed, standing_of}
-use Rattle.rh_shifts.specs.Shifts.{seen_from}
+use Rattle.rh_keys.specs.Shifts.{seen_from}
 use Rattle.rh_keys.specs.Packed.{pair_number, packed_pair, packed_node}
 use Rattle.rh_keys.specs.Keys.{mode_number, restart_number, permission_number, standing_numbers, timer_numbers, app_number, pair_numbers, node_numbers, app_numbers}
 

@@ -17,7 +17,7 @@ use Rattle.rh_trace.proofs.Numbered.{length_nodes, length_apps, node_there, app_
 use Rattle.rh_keys.specs.Keys.{timer_numbers, pair_numbers, node_numbers, app_numbers, key_of}
 use Rattle.rh_keys.specs.Packed.{packed_pair, packed_node, packed_key}
 use Rattle.rh_keys.proofs.KeyParts.{each_split, node_split, packed_node_split, app_split, timers_same, timers_seen, SameNode, SamePair}
-use Rattle.rh_shifts.specs.Shifts.{seen_from, timeless, Alike}
+use Rattle.rh_keys.specs.Shifts.{seen_from, timeless, Alike}
 
 -- ---- lists and tables with equal elements
 column : {A : Type 0} (d : A) (xs ys : List A) → length xs ≡ length ys

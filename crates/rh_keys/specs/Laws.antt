@@ -2,7 +2,7 @@
 use Rattle.std.specs.Prelude.{◌≡◌, ◌↔◌}
 use Rattle.rh_state.specs.Shape.{IsShaped}
 use Rattle.rh_state.specs.StateView.{StateView}
-use Rattle.rh_shifts.specs.Shifts.{Alike}
+use Rattle.rh_keys.specs.Shifts.{Alike}
 use Rattle.rh_keys.specs.Keys.{key_of}
 
 -- two states of one cluster are alike exactly if their keys are equal

@@ -15,8 +15,8 @@ use Rattle.rh_state.specs.Numbers.{nodes_of, apps_of}
 use Rattle.rh_state.specs.Shape.{IsNodeOf, IsAppOf, IsKindOf, IsStandingOf, IsTimerOf}
 use Rattle.rh_state.specs.StateView.{StateView, mode_of, incarnation_of, running_at, waiting_at, restart_of, kind_of, is_allowed, standing_of}
 use Rattle.rh_rules.specs.Course.{is_local}
-use Rattle.rh_report.specs.Report.{node_word, app_word, mode_words, restart_words, kind_words, standing_words, timer_words}
-use Rattle.rh_report.specs.Report.{node_line, running_line, waiting_line, forbidden_line, line_if_forbidden, standing_line, app_line, timer_line, node_lines, report_text}
+use Rattle.rh_calls.specs.Report.{node_word, app_word, mode_words, restart_words, kind_words, standing_words, timer_words}
+use Rattle.rh_calls.specs.Report.{node_line, running_line, waiting_line, forbidden_line, line_if_forbidden, standing_line, app_line, timer_line, node_lines, report_text}
 use Rattle.rh_trace.proofs.Every.{Every}
 use Rattle.rh_laws.specs.Reports.{HasPlainNames}
 use Rattle.rh_laws.proofs.Texts.{free, free_append, ended, each_line, unless, unless_line, every_append, every_map, every_unless}

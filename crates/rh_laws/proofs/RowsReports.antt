@@ -8,7 +8,7 @@ use Rattle.rh_state.specs.declared.status.Mode.TheVariants.{Up}
 use Rattle.rh_state.specs.Numbers.{nodes_of, apps_of}
 use Rattle.rh_state.specs.StateView.{StateView}
 use Rattle.rh_state.specs.First.{first, configured}
-use Rattle.rh_report.specs.Report.{report_text, node_line, forbidden_line, line_if_forbidden, app_line, node_lines}
+use Rattle.rh_calls.specs.Report.{report_text, node_line, forbidden_line, line_if_forbidden, app_line, node_lines}
 use Rattle.rh_laws.specs.Reports.{IsPlain, HasPlainNames, IsDueSoon}
 use Rattle.rh_laws.proofs.Texts.{free, other_byte}
 use Rattle.rh_trace.proofs.Every.{Every}

@@ -13,7 +13,7 @@ use Rattle.rh_state.specs.declared.status.Standing.{Standing}
 use Rattle.rh_state.specs.declared.status.Timer.{Timer}
 use Rattle.rh_state.specs.declared.status.Timer.TheVariants.{Sync, Failover}
 use Rattle.rh_state.specs.Shape.{IsAppOf, IsKindOf, IsStandingOf, IsTimerOf}
-use Rattle.rh_report.specs.Report.{node_word, app_word, mode_words, restart_words, kind_words, standing_words}
+use Rattle.rh_calls.specs.Report.{node_word, app_word, mode_words, restart_words, kind_words, standing_words}
 use Rattle.rh_laws.specs.Reports.{HasPlainNames}
 use Rattle.rh_laws.proofs.Texts.{free, cut}
 use Rattle.rh_laws.proofs.ShownWords.{node_blank, app_blank, same_node_word, same_app_word, same_kind_words, same_standing_words, same_restart_words}

@@ -21,7 +21,7 @@ use Rattle.rh_state.specs.declared.status.Kind.TheVariants as kind
 use Rattle.rh_state.specs.declared.status.Standing.{Standing}
 use Rattle.rh_state.specs.declared.status.Standing.TheVariants as standing
 use Rattle.rh_state.specs.Shape.{IsNodeOf, IsAppOf, IsKindOf, IsStandingOf}
-use Rattle.rh_report.specs.Report.{no_name, node_word, app_word, mode_words, restart_words, kind_words, standing_words}
+use Rattle.rh_calls.specs.Report.{no_name, node_word, app_word, mode_words, restart_words, kind_words, standing_words}
 use Rattle.rh_trace.proofs.Entries.{is_below, is_above, not_same}
 use Rattle.rh_base.proofs.Lists.{cases}
 use Rattle.rh_laws.specs.Reports.{IsPlain, HasPlainNames}

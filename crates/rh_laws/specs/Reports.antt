@@ -12,7 +12,7 @@ use Rattle.rh_trace.specs.Validity.{IsValid}
 use Rattle.rh_rules.specs.declared.event.Event.{Event}
 use Rattle.rh_rules.specs.Refusals.{refused}
 use Rattle.rh_rules.specs.Steps.{next}
-use Rattle.rh_report.specs.Report.{report_text}
+use Rattle.rh_calls.specs.Report.{report_text}
 
 -- no blank and no line feed stands in a word
 abbrev pub IsPlain : List ℕ → Type 0

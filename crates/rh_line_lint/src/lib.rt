@@ -1,14 +1,16 @@
-//! What lint finds in single lines of a script.
+//! What lint finds in single lines of a script, and the words in which it tells of a step.
 //!
 //! [`line_findings`] tells each line that is no command, with the command that may have been meant, and each node and application
-//! that a command names and the cluster hasn't.
+//! that a command names and the cluster hasn't. [`words_of`] and [`names_of`] are the words for what a live OTP does otherwise at a step.
 #![tactic(auto)]
 
 mod bad;
 mod commands;
 mod lines;
 mod names;
+mod step_words;
 mod unknown;
 mod words;
 
 pub use lines::line_findings;
+pub use step_words::{names_of, words_of};

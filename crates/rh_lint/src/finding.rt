@@ -9,9 +9,8 @@ ghost use Rattle.rh_script_lint.specs.Steps.{of_script_steps};
 ghost use Rattle.rh_lint.specs.LintText.{of_fault, of_script, found_in};
 
 use rh_base::OutOfMemory;
-use rh_blame::fault_in;
 use rh_cluster::{Cluster, ClusterFault, read_cluster};
-use rh_cluster_lint::text_findings;
+use rh_cluster_lint::{fault_in, text_findings};
 use rh_findings::Finding;
 use rh_line_lint::line_findings;
 use rh_rules::Pick;

@@ -1,3 +1,13 @@
 pub mod Plain
 pub mod Lines
 pub mod Rows
+pub mod Closings
+pub mod Ending
+pub mod Going
+pub mod DialogueLines
+pub mod Openings
+pub mod Parting
+pub mod RowsDialogue
+pub mod Standing
+pub mod Turning
+pub mod WholeLines

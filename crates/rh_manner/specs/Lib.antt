@@ -1,3 +1,9 @@
 pub mod MannerText
 pub mod Turns
 pub mod Laws
+pub mod Deeds
+pub mod DialogueText
+pub mod Faults
+pub mod Hearing
+pub mod Stages
+pub mod Talking

@@ -1,12 +1,20 @@
-//! A run that prints its commands, or that tells a refused step as a fault.
+//! Runs in a manner of their own: commands are printed, a refused step is a fault, or each line is answered before more is read.
 //!
 //! [`run_in`] does what `run` of `rh_run` does, in a [`Manner`]: it may print each command before its answer, and may end with a
-//! fault of its own where a step was refused. With neither it is `run`, which is a law ([`plain_manner_is_run`]).
+//! fault of its own where a step was refused. With neither it is `run`, which is a law ([`plain_manner_is_run`]). [`run_dialogue`] does
+//! what `run` does over one device with both directions, which it asks for more only when all that is due was written and flushed.
 #![tactic(auto)]
 
+mod dialogue;
+mod ear;
+mod fault;
 mod laws;
+mod pair;
 mod running;
+mod stage;
 
+pub use dialogue::run_dialogue;
 pub use laws::plain_manner_is_run;
+pub use pair::Pair;
 pub use rh_asked::Manner;
 pub use running::run_in;

@@ -12,14 +12,14 @@ use Rattle.rh_run.specs.Programs.{IsInput, ProgramGives, NoThreads}
 use Rattle.rh_run.specs.CheckText.{OwesCheck}
 use Rattle.rh_run.specs.RunText.{OwesRun}
 use Rattle.rh_app.specs.Sessions.{MayGive, AskHistory}
-use Rattle.rh_sweep_text.specs.SweepText.{OwesSweep}
-use Rattle.rh_dialogue.specs.DialogueText.{DialogueGives}
+use Rattle.rh_run.specs.SweepText.{OwesSweep}
+use Rattle.rh_manner.specs.DialogueText.{DialogueGives}
 use Rattle.rh_explore_text.specs.ExploreText.{OwesExplore}
 use Rattle.rh_json.specs.CheckJson.{OwesCheckJson}
 use Rattle.rh_json.specs.RunJson.{OwesRunJson}
 use Rattle.rh_manner.specs.MannerText.{OwesRunIn}
 use Rattle.rh_story.specs.StoryText.{OwesStory}
-use Rattle.rh_sweep_json.specs.SweepJson.{OwesSweepJson}
+use Rattle.rh_json.specs.SweepJson.{OwesSweepJson}
 use Rattle.rh_verify.specs.VerifyText.{OwesVerify}
 use Rattle.rh_lint.specs.LintText.{OwesLint}
 

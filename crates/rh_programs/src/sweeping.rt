@@ -3,13 +3,13 @@
 ghost use Rattle.std.specs.Prelude.{◌≡◌, false};
 ghost use Rattle.rh_plans.specs.Workers.{AreWorkers};
 ghost use Rattle.rh_run.specs.Programs.{ProgramGives, NoThreads};
-ghost use Rattle.rh_sweep_json.specs.SweepJson.{OwesSweepJson};
+ghost use Rattle.rh_json.specs.SweepJson.{OwesSweepJson};
 
 use rh_devices::{Sink, Source, Watched};
+use rh_json::sweep_json_by;
 use rh_rules::Pick;
 use rh_run::RunFault;
 use rh_sweep::{Alone, Threaded};
-use rh_sweep_json::sweep_json_by;
 use std::alloc::Global;
 use std::sync::Wait;
 use std::thread::Threads;

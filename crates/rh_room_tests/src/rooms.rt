@@ -1,9 +1,8 @@
 //! Rooms: what sessions are told in turn, passes that aren't the room's, limits, and rooms that don't close.
 
 use crate::told::{Open, closed, cluster_of, opened, tell_calls, tell_kept, tell_served};
-use rh_calls::{Call, Reply};
+use rh_calls::{Call, Reply, report};
 use rh_cluster::Node;
-use rh_report::report;
 use rh_room::{Pass, Room, RoomFault, open_room};
 use rh_samples::{CAVE, ONE_NODE, TWO_NODES};
 use rh_step::{Event, Pick};

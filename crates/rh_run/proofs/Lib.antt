@@ -2,3 +2,4 @@ pub mod Ending
 pub mod Keeping
 pub mod Turns
 pub mod Pieces
+pub mod Sweeps

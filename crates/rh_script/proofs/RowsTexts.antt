@@ -11,7 +11,7 @@ use Rattle.rh_rules.specs.declared.event.Event.TheVariants.{Boot, Crash, Tick, S
 use Rattle.rh_rules.specs.declared.refusal.Refusal.TheVariants.{UnknownNode, UnknownApp, AlreadyAlive, IncarnationLimit, NotAlive, ZeroTick, TimeLimit, NodeNotUp, NotDistributed, NotListed, AlreadyStarted, NeverStarted, NotRunning, RunsHere, NotRunningHere, NotPermitted, DependencyNotStarted, TrailFull}
 use Rattle.rh_calls.specs.declared.call.Call.TheVariants.{Step, Undo, Redo, UndoAll, RedoAll, Look}
 use Rattle.rh_calls.specs.declared.call.Reply.TheVariants.{Done, Refused, Undone, Redone, AtStart, AtEnd, Moved, Seen}
-use Rattle.rh_report.specs.Report.{standing_line}
+use Rattle.rh_calls.specs.Report.{standing_line}
 use Rattle.rh_cluster.specs.declared.fault.ClusterFault.TheVariants.{NoNodes, BadName}
 use Rattle.rh_plans.specs.declared.fault.SweepFault.TheVariants.{BaseNotAtEnd, TrailRoom}
 use Rattle.rh_script.specs.declared.script.TheConstants.{NO_NODE, NO_APP}

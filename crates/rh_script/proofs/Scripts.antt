@@ -17,7 +17,7 @@ use Rattle.rh_model.specs.declared.node.App.{App}
 use Rattle.rh_model.specs.declared.settings.Restart.{Restart}
 use Rattle.rh_model.specs.declared.settings.Restart.TheVariants.{Permanent, Transient, Temporary}
 use Rattle.rh_calls.specs.declared.call.Call.{Call}
-use Rattle.rh_report.specs.Report.{no_name, node_word, app_word, restart_words}
+use Rattle.rh_calls.specs.Report.{no_name, node_word, app_word, restart_words}
 use Rattle.rh_script.specs.declared.script.Line.TheVariants.{Asks}
 use Rattle.rh_script.specs.declared.forms.Argument.{Argument}
 use Rattle.rh_script.specs.declared.forms.Argument.TheVariants as argument

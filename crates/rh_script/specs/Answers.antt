@@ -14,7 +14,7 @@ use Rattle.rh_rules.specs.declared.refusal.Refusal.{Refusal}
 use Rattle.rh_rules.specs.declared.refusal.Refusal.TheVariants.{DependencyNotStarted}
 use Rattle.rh_calls.specs.declared.call.Reply.{Reply}
 use Rattle.rh_calls.specs.declared.call.Reply.TheVariants as reply
-use Rattle.rh_report.specs.Report.{no_name, node_word, app_word, kind_words}
+use Rattle.rh_calls.specs.Report.{no_name, node_word, app_word, kind_words}
 use Rattle.rh_rules.specs.Refusals.{refusal_words}
 
 -- the name of a dependency, or what is shown for a missing name

@@ -4,7 +4,7 @@ use Rattle.std.specs.List.{flat_map}
 use Rattle.std.specs.Fmt.{decimal}
 use Rattle.rh_model.specs.ClusterView.{ClusterView}
 use Rattle.rh_calls.specs.declared.call.Call.{Call}
-use Rattle.rh_report.specs.Report.{node_word, app_word, restart_words}
+use Rattle.rh_calls.specs.Report.{node_word, app_word, restart_words}
 use Rattle.rh_script.specs.declared.forms.Argument.{Argument}
 use Rattle.rh_script.specs.declared.forms.Argument.TheVariants as argument
 use Rattle.rh_script.specs.declared.forms.Verb.{Verb}

@@ -8,7 +8,7 @@ use Rattle.rh_model.specs.declared.node.Node.{Node}
 use Rattle.rh_model.specs.declared.node.App.{App}
 use Rattle.rh_cluster.specs.ClusterOf.{cluster_of}
 use Rattle.rh_calls.specs.declared.call.Call.{Call}
-use Rattle.rh_report.specs.Report.{no_name}
+use Rattle.rh_calls.specs.Report.{no_name}
 use Rattle.rh_script.specs.declared.script.TheConstants.{NO_NODE, NO_APP}
 use Rattle.rh_script.specs.declared.script.Line.TheVariants.{Asks}
 use Rattle.rh_script.specs.declared.forms.Given.{Given}

@@ -9,3 +9,4 @@ pub mod SweepLines
 pub mod SweepReading
 pub mod SweepAnswers
 pub mod Laws
+pub mod Notes

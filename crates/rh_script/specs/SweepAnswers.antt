@@ -5,7 +5,7 @@ use Rattle.std.specs.Fmt.{decimal}
 use Rattle.rh_model.specs.ClusterView.{ClusterView}
 use Rattle.rh_rules.specs.declared.refusal.Refusal.{Refusal}
 use Rattle.rh_rules.specs.Refusals.{refusal_words}
-use Rattle.rh_report.specs.Report.{standing_line}
+use Rattle.rh_calls.specs.Report.{standing_line}
 use Rattle.rh_plans.specs.declared.fault.SweepFault.{SweepFault}
 use Rattle.rh_plans.specs.declared.plan.Outcome.{Outcome}
 use Rattle.rh_plans.specs.FaultWords.{fault_words}

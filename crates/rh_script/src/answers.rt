@@ -4,13 +4,12 @@ ghost use Rattle.std.specs.Prelude.{◌≡◌, ◌++◌, codes, is_some, OnOk, I
 ghost use Rattle.std.specs.List.{flat_map};
 ghost use Rattle.std.specs.String.{string_bytes};
 ghost use Rattle.rh_model.specs.ClusterView.{dep_name};
-ghost use Rattle.rh_report.specs.Report.{kind_words};
+ghost use Rattle.rh_calls.specs.Report.{kind_words};
 ghost use Rattle.rh_script.specs.Answers.{dep_words, pair_words, reason_words, refusal_line, notice_line, answer_text, fault_text, bad_text};
 
 use rh_base::OutOfMemory;
-use rh_calls::Reply;
+use rh_calls::{NO_NAME, Reply, app_word, node_word, push_decimal, push_kind};
 use rh_cluster::{App, Cluster, ClusterFault, Dep, Node};
-use rh_report::{NO_NAME, app_word, node_word, push_decimal, push_kind};
 use rh_rules::{Notice, Refusal};
 use rh_state::Kind;
 use std::alloc::Global;

@@ -8,9 +8,8 @@ ghost use Rattle.rh_script.specs.CommandWords.{truth_word, reason_word, spaced, 
 
 use crate::forms::{Argument, Given, said};
 use rh_base::OutOfMemory;
-use rh_calls::Call;
+use rh_calls::{Call, app_word, node_word, push_decimal, restart_word};
 use rh_cluster::Cluster;
-use rh_report::{app_word, node_word, push_decimal, restart_word};
 use std::alloc::Global;
 
 // The word of a permission.

@@ -4,6 +4,9 @@
 //! asks that names its session; [`sweep_in`] reads the base and the plans of a sweep. [`answer_text`] is the text of a reply,
 //! [`command_text`] that of a call, and [`outcome_text`] that of a plan. A law says that the text of a call asks for it again
 //! ([`words_ask_again`]).
+//!
+//! A rehearsal writes comment lines into scripts and reads them there: answers, times, reasons, tables, and what is wanted in a
+//! report. [`note_of`] says of which kind such a line is, and what stands behind its mark; [`is_told`] says whether a story writes it.
 #![tactic(auto)]
 
 mod answers;
@@ -11,6 +14,8 @@ mod command_words;
 mod forms;
 mod laws;
 mod lines;
+mod note_laws;
+mod notes;
 mod script;
 mod session_lines;
 mod sweep_answers;
@@ -20,6 +25,8 @@ pub use answers::{answer_text, bad_text, fault_text, push_notice};
 pub use command_words::command_text;
 pub use laws::words_ask_again;
 pub use lines::{content, cut, split_line};
+pub use note_laws::notes_are_marked;
+pub use notes::{Kind, is_told, mark, note_of};
 pub use script::{Line, line_of};
 pub use session_lines::{Command, LAST_SESSION, SessionLine, session_line_of};
 pub use sweep_answers::{outcome_text, sweep_fault_text};

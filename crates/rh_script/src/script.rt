@@ -9,9 +9,8 @@ use crate::command_words::{reason_word, truth_word};
 use crate::forms::{Argument, Given, NOTHING, call_of, verb_named};
 use arrayvec::ArrayVec;
 use rh_base::OutOfMemory;
-use rh_calls::Call;
+use rh_calls::{Call, restart_word};
 use rh_cluster::{App, Cluster, Node, Restart};
-use rh_report::restart_word;
 use std::alloc::Global;
 
 /// What a line of a script asks.

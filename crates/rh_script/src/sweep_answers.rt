@@ -3,15 +3,15 @@
 ghost use Rattle.std.specs.Prelude.{◌≡◌, ◌++◌, OnOk, IfOk};
 ghost use Rattle.std.specs.List.{flat_map};
 ghost use Rattle.std.specs.String.{string_bytes};
-ghost use Rattle.rh_report.specs.Report.{standing_line};
+ghost use Rattle.rh_calls.specs.Report.{standing_line};
 ghost use Rattle.rh_script.specs.SweepAnswers.{counted, plan_line, refused_line, outcome_text, sweep_fault_text};
 
 use crate::answers::push_reason;
 use itoa::Buffer;
 use rh_base::{OutOfMemory, Str};
+use rh_calls::push_standing_line;
 use rh_cluster::{App, Cluster};
 use rh_plans::{Outcome, SweepFault};
-use rh_report::push_standing_line;
 use rh_rules::Refusal;
 use rh_state::Standing;
 use std::alloc::Global;

@@ -15,7 +15,7 @@ use Rattle.rh_step_findings.specs.Levels.{is_warning, hangs}
 use Rattle.rh_findings.specs.declared.finding.Kind.TheVariants.{Warning, Hint}
 use Rattle.rh_findings.specs.declared.finding.Finding.{Finding}
 use Rattle.rh_findings.specs.Sentences.{sentence}
-use Rattle.rh_step_words.specs.StepWords.{words_of, names_of}
+use Rattle.rh_line_lint.specs.StepWords.{words_of, names_of}
 
 -- a finding of a step on line k
 unfoldable pub step_found : ClusterView → ℕ → StepFinding → Finding

@@ -11,10 +11,10 @@ use rh_base::{OutOfMemory, Str};
 use rh_calls::Call;
 use rh_cluster::Cluster;
 use rh_findings::{Finding, Kind, sentence};
+use rh_line_lint::{names_of, words_of};
 use rh_script::{Line, content, line_of, split_line};
 use rh_step_findings::StepFinding;
 use rh_step_lint::step_findings;
-use rh_step_words::{names_of, words_of};
 use rh_trail::Sim;
 use std::alloc::Global;
 

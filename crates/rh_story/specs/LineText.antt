@@ -2,8 +2,8 @@
 use Rattle.std.specs.Prelude.{◌==◌, ℕ, List, [], ◌++◌, length, codes, Bool, true, false, if◌then◌else◌}
 use Rattle.std.specs.List.{flat_map}
 use Rattle.std.specs.Fmt.{decimal}
-use Rattle.rh_notes.specs.declared.notes.Kind.TheVariants.{Answer, Time, Reason}
-use Rattle.rh_notes.specs.Notes.{mark, is_told}
+use Rattle.rh_script.specs.declared.notes.Kind.TheVariants.{Answer, Time, Reason}
+use Rattle.rh_script.specs.Notes.{mark, is_told}
 use Rattle.rh_model.specs.declared.node.Node.{Node}
 use Rattle.rh_model.specs.declared.node.App.{App}
 use Rattle.rh_state.specs.declared.status.Timer.TheVariants.{Sync}

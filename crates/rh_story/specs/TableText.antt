@@ -1,9 +1,9 @@
 -- The table at the end of a story: where each distributed application ran (ours).
 use Rattle.std.specs.Prelude.{◌==◌, ◌&&◌, ℕ, List, [], ◌∷◌, ◌++◌, length, codes, Bool, true, false, if◌then◌else◌, Option, Some, None}
 use Rattle.std.specs.List.{flat_map}
-use Rattle.rh_notes.specs.declared.notes.Kind.{Kind}
-use Rattle.rh_notes.specs.declared.notes.Kind.TheVariants.{Table}
-use Rattle.rh_notes.specs.Notes.{mark, note_of}
+use Rattle.rh_script.specs.declared.notes.Kind.{Kind}
+use Rattle.rh_script.specs.declared.notes.Kind.TheVariants.{Table}
+use Rattle.rh_script.specs.Notes.{mark, note_of}
 use Rattle.rh_model.specs.ClusterView.{ClusterView}
 use Rattle.rh_trail.specs.SimView.{SimView}
 use Rattle.rh_script.specs.Lines.{content}

@@ -10,7 +10,7 @@ ghost use Rattle.rh_story.specs.LineText.{reason_line, app_lines, node_lines, wh
 
 use rh_base::OutOfMemory;
 use rh_cluster::{App, Cluster, Node};
-use rh_notes::{Kind, mark};
+use rh_script::{Kind, mark};
 use rh_state::State;
 use rh_step::Notice;
 use rh_why::{Reason, Reasons, awaited_text, push_reason, reasons_of, why_node_waits};

@@ -10,8 +10,7 @@ use crate::head::missing_end;
 use rh_base::OutOfMemory;
 use rh_cluster::Cluster;
 use rh_courses::{Course, course_text, courses_of};
-use rh_notes::{Kind, mark, note_of};
-use rh_script::{content, split_line};
+use rh_script::{Kind, content, mark, note_of, split_line};
 use rh_trail::Sim;
 use std::alloc::Global;
 

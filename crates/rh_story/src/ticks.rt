@@ -8,8 +8,7 @@ ghost use Rattle.rh_story.specs.LineText.{answer_lines, time_line, notice_lines,
 
 use crate::reasons::push_why;
 use rh_base::OutOfMemory;
-use rh_notes::{Kind, mark};
-use rh_script::{push_notice as push_notice_line, split_line};
+use rh_script::{Kind, mark, push_notice as push_notice_line, split_line};
 use rh_state::State;
 use rh_step::{FiredTimer, Notice};
 use std::alloc::Global;

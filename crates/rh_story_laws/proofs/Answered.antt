@@ -28,7 +28,7 @@ use Rattle.rh_calls.specs.declared.call.Call.{Call}
 use Rattle.rh_calls.specs.declared.call.Call.TheVariants as call
 use Rattle.rh_calls.specs.declared.call.Reply.{Reply}
 use Rattle.rh_calls.specs.declared.call.Reply.TheVariants as reply
-use Rattle.rh_report.specs.Report.{node_word, app_word, mode_words, restart_words, kind_words, standing_words, timer_words, node_line, running_line, waiting_line, forbidden_line, line_if_forbidden, standing_line, app_line, timer_line, node_lines as report_node, report_text}
+use Rattle.rh_calls.specs.Report.{node_word, app_word, mode_words, restart_words, kind_words, standing_words, timer_words, node_line, running_line, waiting_line, forbidden_line, line_if_forbidden, standing_line, app_line, timer_line, node_lines as report_node, report_text}
 use Rattle.rh_trail.specs.SimView.{SimView, state_of}
 use Rattle.rh_trail.specs.Lone.{answered, stepped, served, with_event, trail_limit}
 use Rattle.rh_trail.proofs.Reversals.{IsAccepted, accepted}

@@ -4,9 +4,9 @@ use Rattle.std.specs.Prelude.{All}
 use Rattle.std.specs.List.{flat_map}
 use Rattle.std.specs.Fmt.{decimal}
 use Rattle.std.specs.Option.{option_map}
-use Rattle.rh_notes.specs.declared.notes.Kind.{Kind}
-use Rattle.rh_notes.specs.declared.notes.Kind.TheVariants as kind
-use Rattle.rh_notes.specs.Notes.{mark, kind_of}
+use Rattle.rh_script.specs.declared.notes.Kind.{Kind}
+use Rattle.rh_script.specs.declared.notes.Kind.TheVariants as kind
+use Rattle.rh_script.specs.Notes.{mark, kind_of}
 use Rattle.rh_model.specs.ClusterView.{ClusterView}
 use Rattle.rh_model.specs.declared.node.Node.{Node}
 use Rattle.rh_state.specs.declared.status.Timer.TheVariants.{Sync}

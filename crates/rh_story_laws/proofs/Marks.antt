@@ -3,9 +3,9 @@ use Rattle.std.proofs.Common.{◌≡◌, ◌==◌, ◌&&◌, ℕ, List, [], ◌�
 use Rattle.std.specs.Option.{option_map}
 use Rattle.std.proofs.lemmas.Bool.{eqb-true}
 use Rattle.rh_model.specs.ClusterView.{ClusterView}
-use Rattle.rh_notes.specs.declared.notes.Kind.{Kind}
-use Rattle.rh_notes.specs.declared.notes.Kind.TheVariants as kind
-use Rattle.rh_notes.specs.Notes.{kind_of, note_of, is_told_kind, is_told_note, is_told}
+use Rattle.rh_script.specs.declared.notes.Kind.{Kind}
+use Rattle.rh_script.specs.declared.notes.Kind.TheVariants as kind
+use Rattle.rh_script.specs.Notes.{kind_of, note_of, is_told_kind, is_told_note, is_told}
 use Rattle.rh_calls.specs.declared.call.Call.{Call}
 use Rattle.rh_script.specs.declared.script.Line.{Line}
 use Rattle.rh_script.specs.declared.script.Line.TheVariants.{Nothing, Asks}

@@ -18,7 +18,7 @@ use Rattle.rh_rules.specs.Refusals.{refused}
 use Rattle.rh_rules.specs.Steps.{followed, next}
 use Rattle.rh_step.specs.Runs.{step}
 use Rattle.rh_trail.specs.Lone.{opened}
-use Rattle.rh_report.specs.Report.{node_line, running_line, waiting_line, forbidden_line, line_if_forbidden, standing_line, app_line, timer_line, node_lines}
+use Rattle.rh_calls.specs.Report.{node_line, running_line, waiting_line, forbidden_line, line_if_forbidden, standing_line, app_line, timer_line, node_lines}
 use Rattle.rh_script.specs.Lines.{raw_lines, content}
 use Rattle.rh_script.specs.Forms.{verb_named}
 use Rattle.rh_script.specs.Commands.{line_of}

@@ -5,7 +5,7 @@ use Rattle.std.specs.List.{flat_map, concat}
 use Rattle.std.specs.Str.{is_utf8, chars}
 use Rattle.std.proofs.lemmas.Bool.{eqb-true}
 use Rattle.rh_model.specs.ClusterView.{ClusterView, IsWithin}
-use Rattle.rh_notes.specs.Notes.{is_told}
+use Rattle.rh_script.specs.Notes.{is_told}
 use Rattle.rh_rules.specs.declared.pick.Pick.{Pick}
 use Rattle.rh_trace.specs.Validity.{IsValid}
 use Rattle.rh_calls.specs.declared.call.Call.{Call}

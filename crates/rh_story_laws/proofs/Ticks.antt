@@ -3,8 +3,8 @@ use Rattle.std.proofs.Common.{◌≡◌, ◌==◌, ℕ, List, [], ◌∷◌, ◌
 use Rattle.std.specs.Prelude.{All, filter}
 use Rattle.std.specs.List.{flat_map}
 use Rattle.std.specs.Fmt.{decimal}
-use Rattle.rh_notes.specs.declared.notes.Kind.TheVariants as kind
-use Rattle.rh_notes.specs.Notes.{mark, note_of}
+use Rattle.rh_script.specs.declared.notes.Kind.TheVariants as kind
+use Rattle.rh_script.specs.Notes.{mark, note_of}
 use Rattle.rh_model.specs.ClusterView.{ClusterView}
 use Rattle.rh_cluster.proofs.ReadWithin.{clusters_within}
 use Rattle.rh_state.specs.StateView.{StateView}

@@ -8,7 +8,7 @@ use Rattle.std.proofs.lemmas.List.Elements.{All-nil, All-cons, All-head, All-tai
 use Rattle.rh_model.specs.ClusterView.{ClusterView}
 use Rattle.rh_cluster.specs.ClusterOf.{cluster_of}
 use Rattle.rh_cluster.proofs.ReadWithin.{clusters_within}
-use Rattle.rh_notes.specs.Notes.{note_of}
+use Rattle.rh_script.specs.Notes.{note_of}
 use Rattle.rh_rules.specs.declared.pick.Pick.{Pick}
 use Rattle.rh_calls.specs.declared.call.Call.{Call}
 use Rattle.rh_calls.specs.declared.call.Reply.{Reply}

@@ -11,7 +11,7 @@ use Rattle.rh_model.specs.declared.node.Node.{Node}
 use Rattle.rh_model.specs.declared.node.App.{App}
 use Rattle.rh_model.specs.declared.settings.Dep.{Dep}
 use Rattle.rh_model.specs.declared.settings.Dep.TheVariants.{Listed, Platform}
-use Rattle.rh_report.specs.Report.{no_name, node_word, app_word}
+use Rattle.rh_calls.specs.Report.{no_name, node_word, app_word}
 use Rattle.rh_why.specs.declared.reason.Reason.{Reason}
 use Rattle.rh_why.specs.declared.reason.Reason.TheVariants.{Needs, Forbidden, RunsAt, LostWith, Quiet}
 use Rattle.rh_why.specs.Texts.{dep_word, reason_text, one_word, until_text, awaited_text}

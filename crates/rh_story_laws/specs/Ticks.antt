@@ -3,9 +3,9 @@ use Rattle.std.specs.Prelude.{◌≡◌, ◌≤◌, ◌==◌, ◌+◌, ℕ, List
 use Rattle.std.specs.List.{flat_map}
 use Rattle.std.specs.List.Sorted.{IsNonDecreasingBy}
 use Rattle.std.specs.Fmt.{decimal}
-use Rattle.rh_notes.specs.declared.notes.Kind.{Kind}
-use Rattle.rh_notes.specs.declared.notes.Kind.TheVariants as kind
-use Rattle.rh_notes.specs.Notes.{note_of}
+use Rattle.rh_script.specs.declared.notes.Kind.{Kind}
+use Rattle.rh_script.specs.declared.notes.Kind.TheVariants as kind
+use Rattle.rh_script.specs.Notes.{note_of}
 use Rattle.rh_model.specs.ClusterView.{ClusterView}
 use Rattle.rh_cluster.specs.ClusterOf.{cluster_of}
 use Rattle.rh_rules.specs.declared.pick.Pick.{Pick}

@@ -2,7 +2,7 @@
 use Rattle.std.specs.Prelude.{◌≡◌, ◌↔◌, ℕ, List, [], ◌++◌, length, codes, All, true, Option, None}
 use Rattle.std.specs.Fmt.{decimal}
 use Rattle.rh_model.specs.ClusterView.{ClusterView}
-use Rattle.rh_notes.specs.Notes.{note_of}
+use Rattle.rh_script.specs.Notes.{note_of}
 use Rattle.rh_rules.specs.declared.pick.Pick.{Pick}
 use Rattle.rh_script.specs.Lines.{script_lines}
 use Rattle.rh_script.specs.Commands.{calls_of}

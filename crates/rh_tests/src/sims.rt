@@ -1,9 +1,8 @@
 //! Simulations by themselves: what one was opened with, copies, and replies that are shared.
 
 use crate::support::{make_all, sim_on};
-use rh_calls::{Call, Reply};
+use rh_calls::{Call, Reply, report};
 use rh_cluster::Node;
-use rh_report::report;
 use rh_samples::ONE_NODE;
 use rh_step::{Event, Pick, Refusal};
 use rh_trail::Sim;

@@ -1,8 +1,8 @@
 //! The calls of a state that take memory, with ample memory.
 
 use crate::support::cluster_of;
+use rh_calls::report;
 use rh_cluster::{App, Node};
-use rh_report::report;
 use rh_samples::ONE_NODE;
 use rh_state::{Mode, Place, State, Timer, first_state};
 use std::alloc::Global;

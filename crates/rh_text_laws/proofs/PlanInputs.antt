@@ -9,14 +9,14 @@ use Rattle.rh_rules.specs.declared.pick.Pick.{Pick}
 use Rattle.rh_trail.specs.SimView.{SimView}
 use Rattle.rh_trail.specs.Lone.{opened}
 use Rattle.rh_script.specs.declared.sweep_lines.SweepLine.{SweepLine}
-use Rattle.rh_report.specs.Report.{app_lines}
+use Rattle.rh_calls.specs.Report.{app_lines}
 use Rattle.rh_script.specs.SweepAnswers.{plan_line, refused_line}
 use Rattle.rh_script.specs.Lines.{cluster_text, script_lines}
 use Rattle.rh_script.specs.Commands.{calls_of}
 use Rattle.rh_script.specs.SweepLines.{sweep_lines_asked, bad_sweep_line, plans_of}
 use Rattle.rh_run.specs.declared.fault.Told.TheVariants as told
 use Rattle.rh_run.specs.RunText.{answers_text, end_text, bad_line, lines_asked, text_over, end_over, run_text, run_end}
-use Rattle.rh_sweep_text.specs.SweepText.{plan_outcome, plans_text, why_not_swept, base_sim, lines_text, lines_end, swept_over, swept_end_over, sweep_text, sweep_end}
+use Rattle.rh_run.specs.SweepText.{plan_outcome, plans_text, why_not_swept, base_sim, lines_text, lines_end, swept_over, swept_end_over, sweep_text, sweep_end}
 use Rattle.rh_text_laws.specs.Plans.{outcome_read}
 use Rattle.rh_text_laws.specs.PlanTexts.{base_calls, base_of, base_text, SweepIsRuns}
 use Rattle.rh_text_laws.proofs.PlanTexts.{plan_text_is_run}

@@ -15,13 +15,13 @@ use Rattle.rh_calls.specs.declared.call.Reply.{Reply}
 use Rattle.rh_calls.specs.declared.call.Reply.TheVariants as reply
 use Rattle.rh_trail.specs.SimView.{SimView, state_of}
 use Rattle.rh_trail.specs.Lone.{opened, replies, sim_after}
-use Rattle.rh_report.specs.Report.{report_text, app_line, app_lines, standing_line}
+use Rattle.rh_calls.specs.Report.{report_text, app_line, app_lines, standing_line}
 use Rattle.rh_outcomes.specs.Outcomes.{standing_in, standings_in, steps}
 use Rattle.rh_script.specs.Answers.{answer_text}
 use Rattle.rh_script.specs.SweepAnswers.{plan_line, refused_line, outcome_text}
 use Rattle.rh_script.specs.SweepLines.{PlanText}
 use Rattle.rh_run.specs.RunText.{answers_text}
-use Rattle.rh_sweep_text.specs.SweepText.{plan_outcome}
+use Rattle.rh_run.specs.SweepText.{plan_outcome}
 use Rattle.rh_text_laws.specs.Plans.{AnswersView, replies_of, events_answered, outcome_read}
 use Rattle.rh_text_laws.specs.PlanTexts.{PlanTextIsRun}
 use Rattle.rh_text_laws.proofs.PlanReplies.{replies-append, answers_to, answered_so, is_answered, read_off}

@@ -21,7 +21,7 @@ use Rattle.rh_calls.specs.declared.call.Reply.TheVariants as reply
 use Rattle.rh_step.specs.Runs.{step, after}
 use Rattle.rh_trail.specs.SimView.{SimView, state_of}
 use Rattle.rh_trail.specs.Lone.{Served, answered, stepped, served, with_event, opened, replies, trail_limit}
-use Rattle.rh_report.specs.Report.{report_text, node_line, running_line, waiting_line, forbidden_line, line_if_forbidden, standing_line, app_line, timer_line, node_lines}
+use Rattle.rh_calls.specs.Report.{report_text, node_line, running_line, waiting_line, forbidden_line, line_if_forbidden, standing_line, app_line, timer_line, node_lines}
 use Rattle.rh_trail.proofs.Histories.{state_earlier, state_last}
 use Rattle.rh_text_laws.specs.Profiles.{in_profile, state_in, gives_back, call_gives_back, NoneGivesBack, RepliesSameUnderProfiles, permits, NonePermitsNoneGivesBack}
 use Rattle.rh_text_laws.proofs.ProfileMoves.{swap}

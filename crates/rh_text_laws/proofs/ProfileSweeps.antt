@@ -11,7 +11,7 @@ use Rattle.rh_rules.specs.declared.event.Event.{Event}
 use Rattle.rh_calls.specs.declared.call.Call.{Call}
 use Rattle.rh_trail.specs.SimView.{SimView, state_of}
 use Rattle.rh_trail.specs.Lone.{Served, served, opened, replies, sim_after}
-use Rattle.rh_report.specs.Report.{standing_line}
+use Rattle.rh_calls.specs.Report.{standing_line}
 use Rattle.rh_plans.specs.declared.fault.SweepFault.{SweepFault}
 use Rattle.rh_plans.specs.declared.plan.Outcome.{Outcome}
 use Rattle.rh_outcomes.specs.Outcomes.{is_done, told, refusal_at, is_failover, is_takeover, standing_in, standings_in, steps, outcome_by, outcome_in}
@@ -21,7 +21,7 @@ use Rattle.rh_script.specs.Commands.{calls_of}
 use Rattle.rh_script.specs.SweepAnswers.{refused_line, outcome_text}
 use Rattle.rh_script.specs.SweepLines.{PlanText, sweep_line_of, sweep_lines_asked, bad_sweep_line, base_lines, plans_of}
 use Rattle.rh_run.specs.RunText.{answers_text}
-use Rattle.rh_sweep_text.specs.SweepText.{plan_outcome, plans_text, plans_end, why_not_swept, lines_text, lines_end, swept_over, swept_end_over, sweep_text, sweep_end}
+use Rattle.rh_run.specs.SweepText.{plan_outcome, plans_text, plans_end, why_not_swept, lines_text, lines_end, swept_over, swept_end_over, sweep_text, sweep_end}
 use Rattle.rh_text_laws.specs.Profiles.{in_profile, state_in, NoneGivesBack}
 use Rattle.rh_text_laws.specs.ProfileFiles.{second_line}
 use Rattle.rh_text_laws.specs.ProfileTexts.{NoPlanGivesBack, SecondProfileSweepsSame}

@@ -44,7 +44,7 @@ use Rattle.rh_script.specs.Forms.{verb_named}
 use Rattle.rh_script.specs.Commands.{line_of}
 use Rattle.rh_script.specs.SweepLines.{PlanText, plan_events, sweep_line_of, sweep_lines_asked, plans_of}
 use Rattle.rh_run.specs.RunText.{run_end}
-use Rattle.rh_sweep_text.specs.SweepText.{sweep_end}
+use Rattle.rh_run.specs.SweepText.{sweep_end}
 use Rattle.rh_trail.specs.Lone.{opened}
 use Rattle.rh_outcomes.specs.Outcomes.{steps}
 use Rattle.rh_text_laws.specs.Plans.{AnswersView, events_answered}

@@ -34,7 +34,7 @@ use Rattle.rh_calls.specs.declared.call.Call.TheVariants.{Step, Undo}
 use Rattle.rh_calls.specs.declared.call.Reply.TheVariants.{Done, Refused, Undone, AtStart}
 use Rattle.rh_step.specs.Runs.{step}
 use Rattle.rh_trail.specs.Lone.{opened}
-use Rattle.rh_report.specs.Report.{node_line, line_if_forbidden, standing_line, app_line, timer_line, node_lines}
+use Rattle.rh_calls.specs.Report.{node_line, line_if_forbidden, standing_line, app_line, timer_line, node_lines}
 use Rattle.rh_room.specs.declared.pass.Entry.{Entry}
 use Rattle.rh_room.specs.Legal.{entry}
 use Rattle.rh_plans.specs.declared.fault.SweepFault.TheVariants.{BaseNotAtEnd, TrailRoom}
@@ -51,7 +51,7 @@ use Rattle.rh_script.specs.SweepAnswers.{sweep_fault_text}
 use Rattle.rh_run.specs.declared.fault.Told.TheVariants as told
 use Rattle.rh_run.specs.RunText.{run_text, run_end}
 use Rattle.rh_run.specs.CheckText.{count_text, check_text, check_end}
-use Rattle.rh_sweep_text.specs.SweepText.{sweep_text, sweep_end, why_not_swept}
+use Rattle.rh_run.specs.SweepText.{sweep_text, sweep_end, why_not_swept}
 use Rattle.rh_app.specs.Histories.{session_count, bad_session_line, session_lines_asked, commands_of, entry_text, history_text, last_state}
 use Rattle.rh_app.specs.Sessions.{MayGive, AskHistory}
 

@@ -20,7 +20,7 @@ use Rattle.rh_rules.specs.NodesEnd.{cleared, lost_if_ran, all_lost, ended}
 use Rattle.rh_rules.specs.Refusals.{refused}
 use Rattle.rh_rules.specs.Steps.{followed, next}
 use Rattle.rh_step.specs.Runs.{step}
-use Rattle.rh_report.specs.Report.{standing_line}
+use Rattle.rh_calls.specs.Report.{standing_line}
 use Rattle.rh_outcomes.specs.Outcomes.{standing_in}
 use Rattle.rh_script.specs.Lines.{content, script_lines}
 use Rattle.rh_script.specs.Forms.{verb_named}
@@ -30,7 +30,7 @@ use Rattle.rh_run.specs.RunText.{script_text, bad_line, lines_asked}
 use Rattle.rh_script.specs.SweepLines.{sweep_line_of, sweep_lines_asked, bad_sweep_line}
 use Rattle.rh_script.specs.SweepAnswers.{plan_line, refused_line, outcome_text}
 use Rattle.rh_run.specs.CheckText.{count_text}
-use Rattle.rh_sweep_text.specs.SweepText.{lines_text}
+use Rattle.rh_run.specs.SweepText.{lines_text}
 use Rattle.rh_trail.specs.Lone.{opened}
 use Rattle.rh_trail.specs.Lone.{trail_limit}
 use Rattle.rh_room.specs.Legal.{session_limit, log_limit}

@@ -10,7 +10,7 @@ use Rattle.rh_calls.specs.declared.call.Call.{Call}
 use Rattle.rh_calls.specs.declared.call.Call.TheVariants.{Look}
 use Rattle.rh_trail.specs.SimView.{SimView}
 use Rattle.rh_trail.specs.Lone.{opened, sim_after}
-use Rattle.rh_report.specs.Report.{report_text, app_lines}
+use Rattle.rh_calls.specs.Report.{report_text, app_lines}
 use Rattle.rh_outcomes.specs.Outcomes.{steps}
 use Rattle.rh_script.specs.Answers.{answer_text}
 use Rattle.rh_script.specs.SweepAnswers.{plan_line, refused_line}
@@ -18,7 +18,7 @@ use Rattle.rh_script.specs.Commands.{calls_of}
 use Rattle.rh_script.specs.Lines.{cluster_text, script_lines}
 use Rattle.rh_script.specs.SweepLines.{PlanText, sweep_lines_asked, base_lines, plans_of}
 use Rattle.rh_run.specs.RunText.{answers_text, lines_asked, run_text, run_end}
-use Rattle.rh_sweep_text.specs.SweepText.{plan_outcome, sweep_text, sweep_end}
+use Rattle.rh_run.specs.SweepText.{plan_outcome, sweep_text, sweep_end}
 use Rattle.rh_text_laws.specs.Plans.{AnswersView, replies_of, events_answered, outcome_read}
 use Rattle.rh_text_laws.specs.Plans.{IsAnswered}
 

@@ -10,7 +10,7 @@ use Rattle.rh_outcomes.specs.Outcomes.{steps}
 use Rattle.rh_script.specs.Lines.{cluster_text, script_lines}
 use Rattle.rh_script.specs.Commands.{calls_of}
 use Rattle.rh_script.specs.SweepLines.{PlanText, sweep_lines_asked, plans_of}
-use Rattle.rh_sweep_text.specs.SweepText.{sweep_text, sweep_end}
+use Rattle.rh_run.specs.SweepText.{sweep_text, sweep_end}
 use Rattle.rh_run.specs.RunText.{lines_asked, run_text, run_end}
 use Rattle.rh_text_laws.specs.Profiles.{in_profile, NoneGivesBack}
 use Rattle.rh_text_laws.specs.PlanTexts.{base_calls, base_of}

@@ -8,3 +8,4 @@ pub mod Reversals
 pub mod Rows
 pub mod RowsReplies
 pub mod Crossing
+pub mod Cuts

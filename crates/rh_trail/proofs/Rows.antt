@@ -23,8 +23,8 @@ use Rattle.rh_rules.specs.Marking.{mark_all}
 use Rattle.rh_rules.specs.NodesEnd.{cleared, lost_if_ran, all_lost, ended}
 use Rattle.rh_rules.specs.Steps.{followed, next}
 use Rattle.rh_step.specs.Runs.{step}
-use Rattle.rh_report.specs.Report.{report_text, node_line, running_line, waiting_line, forbidden_line, line_if_forbidden}
-use Rattle.rh_report.specs.Report.{standing_line, app_line, timer_line, node_lines}
+use Rattle.rh_calls.specs.Report.{report_text, node_line, running_line, waiting_line, forbidden_line, line_if_forbidden}
+use Rattle.rh_calls.specs.Report.{standing_line, app_line, timer_line, node_lines}
 use Rattle.rh_trail.specs.Lone.{opened, replies, served}
 
 abbrev two_nodes : ClusterView

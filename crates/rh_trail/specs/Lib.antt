@@ -3,3 +3,4 @@ pub mod Chain
 pub mod Lone
 pub mod Laws
 pub mod Words
+pub mod Records

@@ -15,7 +15,7 @@ use Rattle.rh_rules.specs.Refusals.{refused}
 use Rattle.rh_trail.specs.declared.sim.TheConstants.Sim.{TRAIL_LIMIT}
 use Rattle.rh_rules.specs.Steps.{next}
 use Rattle.rh_trail.specs.SimView.{SimView, state_of}
-use Rattle.rh_report.specs.Report.{report_text}
+use Rattle.rh_calls.specs.Report.{report_text}
 
 -- a reply, and what the simulation is after it
 pub record Served : Type 0 where

@@ -7,10 +7,10 @@ mod firings;
 mod moves;
 mod told;
 
+use crate::Records;
 use rh_base::OutOfMemory;
 use rh_calls::Bytes;
 use rh_model::Cluster;
-use rh_records::Records;
 use rh_state::{Edit, State, first_state_sharing};
 use rh_step::{Event, Pick};
 use std::alloc::Global;
@@ -46,7 +46,7 @@ impl Model for Sim {
     ghost use Rattle.rh_state.specs.Stored.{read};
     ghost use Rattle.rh_trail.specs.SimView.{Held};
     ghost use Rattle.rh_trail.specs.Chain.{IsChain};
-    ghost use Rattle.rh_report.specs.Report.{report_text};
+    ghost use Rattle.rh_calls.specs.Report.{report_text};
 
     ghost Value = { Held };
 

@@ -8,7 +8,7 @@ use Rattle.rh_trail.specs.Lone.{served}
 use Rattle.rh_script.specs.declared.script.Line.{Line}
 use Rattle.rh_script.specs.declared.script.Line.TheVariants.{Nothing, Asks, Bad}
 use Rattle.rh_script.specs.Commands.{line_of}
-use Rattle.rh_notes.specs.Notes.{note_of}
+use Rattle.rh_script.specs.Notes.{note_of}
 use Rattle.rh_verify.specs.Expected.{Check, check_of, asked_by, ahead, checks, numbered, stray, is_expectation, answer_in, wanted_in, answers_in, wanted_among}
 use Rattle.rh_verify.specs.Blocks.{holds}
 

@@ -6,7 +6,7 @@ use Rattle.std.specs.Str.{bytes_eq}
 use Rattle.rh_model.specs.ClusterView.{ClusterView}
 use Rattle.rh_trail.specs.Lone.{served}
 use Rattle.rh_trail.specs.SimView.{SimView, state_of}
-use Rattle.rh_report.specs.Report.{report_text}
+use Rattle.rh_calls.specs.Report.{report_text}
 use Rattle.rh_script.specs.Answers.{answer_text}
 use Rattle.rh_verify.specs.Spaces.{lines_of, without_front, without_spaces, below}
 use Rattle.rh_verify.specs.Expected.{Check, answers_in, wanted_among}

@@ -5,9 +5,9 @@ use Rattle.rh_model.specs.ClusterView.{ClusterView}
 use Rattle.rh_calls.specs.declared.call.Call.{Call}
 use Rattle.rh_trail.specs.SimView.{SimView}
 use Rattle.rh_trail.specs.Lone.{served}
-use Rattle.rh_notes.specs.declared.notes.Kind.{Kind}
-use Rattle.rh_notes.specs.declared.notes.Kind.TheVariants as kind
-use Rattle.rh_notes.specs.Notes.{note_of}
+use Rattle.rh_script.specs.declared.notes.Kind.{Kind}
+use Rattle.rh_script.specs.declared.notes.Kind.TheVariants as kind
+use Rattle.rh_script.specs.Notes.{note_of}
 use Rattle.rh_script.specs.declared.script.Line.{Line}
 use Rattle.rh_script.specs.declared.script.Line.TheVariants.{Nothing, Asks, Bad}
 use Rattle.rh_script.specs.Commands.{line_of}

@@ -2,7 +2,7 @@
 
 ghost use Rattle.std.specs.Prelude.{◌≡◌, ◌+◌, ◌≤◌, ◌++◌, [], length, map, IfOk, OnOk, vec_capacity};
 ghost use Rattle.std.specs.List.{cons_option};
-ghost use Rattle.rh_notes.specs.Notes.{note_of};
+ghost use Rattle.rh_script.specs.Notes.{note_of};
 ghost use Rattle.rh_verify.specs.Spaces.{lines_of};
 ghost use Rattle.rh_verify.specs.Expected.{asked_by, ahead, passed_by, answer_in, wanted_in, answers_in, wanted_among, is_expectation};
 ghost use Rattle.rh_verify.specs.declared.expected.TheConstants.{KEPT};
@@ -10,8 +10,7 @@ ghost use Rattle.rh_verify.specs.declared.expected.TheConstants.{KEPT};
 use crate::spaces::push_line;
 use rh_base::OutOfMemory;
 use rh_cluster::Cluster;
-use rh_notes::{Kind, note_of};
-use rh_script::{Line, content, line_of, split_line};
+use rh_script::{Kind, Line, content, line_of, note_of, split_line};
 use std::alloc::Global;
 
 // Room for lines that is kept from command to command: for as many as nearly all commands have behind them.

@@ -5,7 +5,7 @@ ghost use Rattle.std.specs.List.{flat_map};
 ghost use Rattle.std.specs.Option.{MatchOption};
 ghost use Rattle.std.specs.Str.{bytes_eq};
 ghost use Rattle.rh_state.specs.Stored.{read};
-ghost use Rattle.rh_report.specs.Report.{report_text};
+ghost use Rattle.rh_calls.specs.Report.{report_text};
 ghost use Rattle.rh_verify.specs.Spaces.{lines_of, below};
 ghost use Rattle.rh_verify.specs.Expected.{answers_in, wanted_among};
 ghost use Rattle.rh_verify.specs.Judging.{verdict_of};
@@ -15,7 +15,7 @@ use crate::expected::{answers_in, wanted_among};
 use crate::spaces::{lines_of, push_each, without_front, without_spaces};
 use crate::tally::Verdict;
 use rh_base::OutOfMemory;
-use rh_report::report;
+use rh_calls::report;
 use rh_state::State;
 use std::alloc::Global;
 

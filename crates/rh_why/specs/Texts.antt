@@ -5,7 +5,7 @@ use Rattle.std.specs.Fmt.{decimal}
 use Rattle.rh_model.specs.ClusterView.{ClusterView, dep_name}
 use Rattle.rh_model.specs.declared.node.Node.{Node}
 use Rattle.rh_model.specs.declared.settings.Dep.{Dep}
-use Rattle.rh_report.specs.Report.{no_name, node_word}
+use Rattle.rh_calls.specs.Report.{no_name, node_word}
 use Rattle.rh_why.specs.declared.reason.Reason.{Reason}
 use Rattle.rh_why.specs.declared.reason.Reason.TheVariants.{Needs, Forbidden, RunsAt, LostWith, Quiet}
 

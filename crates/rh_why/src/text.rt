@@ -8,8 +8,8 @@ ghost use Rattle.rh_why.specs.Texts.{dep_word, reason_text, one_word, until_text
 
 use crate::reason::{Awaited, Reason};
 use rh_base::OutOfMemory;
+use rh_calls::{NO_NAME, node_word, push_decimal};
 use rh_model::{Cluster, Dep, Node};
-use rh_report::{NO_NAME, node_word, push_decimal};
 use std::alloc::Global;
 
 // Is the dependency one of the cluster's?

@@ -3,15 +3,15 @@
 ghost use Rattle.std.specs.Prelude.{◌≡◌, ◌++◌, false, IfOk, codes};
 ghost use Rattle.std.specs.List.{flat_map};
 ghost use Rattle.rh_state.specs.Stored.{read};
-ghost use Rattle.rh_report.specs.Report.{report_text};
+ghost use Rattle.rh_calls.specs.Report.{report_text};
 ghost use Rattle.rh_trail.specs.SimView.{state_of};
 ghost use Rattle.rh_app.specs.Histories.{entry_text, history_text};
 ghost use Rattle.rh_run.specs.RunText.{Broke};
 
 use rh_base::OutOfMemory;
+use rh_calls::report;
 use rh_cluster::Cluster;
 use rh_devices::{Sink, Watched, WriteFault, write_text};
-use rh_report::report;
 use rh_room::{Closed, Entry};
 use rh_script::{answer_text, command_text};
 use rh_state::State;

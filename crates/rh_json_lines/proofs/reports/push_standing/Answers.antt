@@ -1,5 +1,5 @@
 use Rattle.std.proofs.Common.{◌≡◌, ◌++◌, ◌∙◌, List, ℕ, ap, codes, append_assoc, Result, Ok, Err, OnOk}
-use Rattle.rh_report.specs.Report.{standing_words}
+use Rattle.rh_calls.specs.Report.{standing_words}
 use Rattle.rh_json_text.specs.Json.{json_string}
 use Rattle.rh_json_lines.specs.ClusterLines.{app_json}
 use Rattle.rh_json_lines.specs.Starts.{first_word}

@@ -4,7 +4,7 @@ use Rattle.rh_state.specs.Stored.{read}
 use Rattle.rh_state.proofs.ListWalks.{left_of}
 use Rattle.rh_json_text.specs.Json.{behind_comma}
 use Rattle.rh_json_lines.specs.Reports.{running_json}
-use Rattle.rh_report.proofs.Walks.{IsWalked}
+use Rattle.rh_calls.proofs.Walks.{IsWalked}
 use Rattle.rh_json_lines.proofs.states.push_each_running.Given as goal
 
 abbrev pub invariant-running : goal.invariant-running

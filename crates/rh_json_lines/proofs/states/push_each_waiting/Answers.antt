@@ -5,7 +5,7 @@ use Rattle.rh_state.specs.Stored.{read}
 use Rattle.rh_state.proofs.ListWalks.{behind_waiting}
 use Rattle.rh_json_text.specs.Json.{behind_comma}
 use Rattle.rh_json_lines.specs.Reports.{waiting_json}
-use Rattle.rh_report.proofs.Walks.{is_there, walk_begins, walk_goes_on, walk_ends, walk_shortens}
+use Rattle.rh_calls.proofs.Walks.{is_there, walk_begins, walk_goes_on, walk_ends, walk_shortens}
 use Rattle.rh_json_lines.proofs.states.push_each_waiting.Goals as goal
 
 pub waiting-init : goal.waiting-init

@@ -3,7 +3,7 @@ use Rattle.rh_model.specs.ClusterView.{ClusterView}
 use Rattle.rh_model.specs.declared.settings.Restart.{Restart}
 use Rattle.rh_state.specs.Stored.{read}
 use Rattle.rh_state.specs.StateView.{restart_of}
-use Rattle.rh_report.specs.Report.{restart_words}
+use Rattle.rh_calls.specs.Report.{restart_words}
 use Rattle.rh_json_text.specs.Json.{json_string}
 use Rattle.rh_json_lines.specs.ClusterLines.{app_json}
 use Rattle.rh_json_lines.specs.Reports.{started_json}

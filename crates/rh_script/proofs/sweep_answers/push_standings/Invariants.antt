@@ -1,7 +1,7 @@
 use Rattle.std.proofs.Common.{◌≡◌, ◌++◌, take}
 use Rattle.std.specs.List.{flat_map}
 use Rattle.std.specs.String.{string_bytes}
-use Rattle.rh_report.specs.Report.{standing_line}
+use Rattle.rh_calls.specs.Report.{standing_line}
 use Rattle.rh_script.proofs.sweep_answers.push_standings.Given as goal
 
 abbrev pub invariant-loop-at : goal.invariant-loop-at

@@ -3,7 +3,7 @@ use Rattle.std.specs.Borrow.{Bor}
 use Rattle.std.proofs.lemmas.Result.{err_from_is_err_and}
 use Rattle.rh_state.specs.Stored.{read}
 use Rattle.rh_trail.specs.SimView.{state_of}
-use Rattle.rh_report.specs.Report.{report_text}
+use Rattle.rh_calls.specs.Report.{report_text}
 use Rattle.rh_trail.specs.Lone.{Served, served}
 use Rattle.rh_script.specs.Answers.{answer_text}
 use Rattle.rh_devices.specs.Devices.{Passed}

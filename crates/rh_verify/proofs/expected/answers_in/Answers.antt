@@ -1,5 +1,5 @@
 use Rattle.std.proofs.Common.{ℕ, List}
-use Rattle.rh_notes.specs.Notes.{note_of}
+use Rattle.rh_script.specs.Notes.{note_of}
 use Rattle.rh_verify.specs.Expected.{answer_in}
 use Rattle.rh_verify.proofs.Texts.{given_next}
 use Rattle.rh_verify.proofs.expected.answers_in.Goals as goal

@@ -2,7 +2,7 @@ use Rattle.std.proofs.Common.{◌++◌, sym, append_assoc, codes}
 use Rattle.std.specs.List.{flat_map}
 use Rattle.std.proofs.lemmas.Result.{err_from_is_err_and}
 use Rattle.rh_state.specs.Stored.{read}
-use Rattle.rh_report.specs.Report.{report_text}
+use Rattle.rh_calls.specs.Report.{report_text}
 use Rattle.rh_trail.specs.SimView.{state_of}
 use Rattle.rh_app.specs.Histories.{entry_text}
 use Rattle.rh_devices.proofs.Passing.{fault_before}

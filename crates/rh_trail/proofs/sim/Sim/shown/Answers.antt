@@ -1,7 +1,7 @@
 use Rattle.std.proofs.Common.{◌≡◌, List, ℕ, Option, IfSome, ap, subst, ◌∙◌}
 use Rattle.rh_state.specs.Stored.{read}
 use Rattle.rh_trail.specs.SimView.{state_of}
-use Rattle.rh_report.specs.Report.{report_text}
+use Rattle.rh_calls.specs.Report.{report_text}
 use Rattle.rh_trail.proofs.Chains.{chain_reads}
 use Rattle.rh_trail.proofs.sim.Sim.shown.Goals as goal
 

@@ -1,3 +1,0 @@
-mod Rows
-mod RowsHints
-mod RowsWays

@@ -1,6 +1,0 @@
-use Rattle.std.proofs.Common.{◌≡◌, drop}
-use Rattle.rh_blame.specs.Constructs.{stands_in}
-use Rattle.rh_blame.proofs.constructs.stands_in.Given as goal
-
-abbrev pub invariant-loop-at : goal.invariant-loop-at
-invariant-loop-at l = stands_in l.construct l.line ≡ stands_in l.construct (drop l.at l.line)

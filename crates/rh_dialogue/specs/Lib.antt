@@ -1,6 +1,0 @@
-pub mod Deeds
-pub mod DialogueText
-pub mod Faults
-pub mod Hearing
-pub mod Stages
-pub mod Talking

@@ -1,0 +1,65 @@
+//! The program: each line is answered before more is read.
+
+ghost use Rattle.std.specs.Prelude.{◌≡◌, false};
+ghost use Rattle.rh_manner.specs.DialogueText.{DialogueGives};
+ghost use Rattle.rh_manner.specs.Talking.{TalkGives};
+
+use crate::ear::{Ear, Hearing};
+use crate::fault::DialogueFault;
+use crate::stage::{Stage, Turn, finish, take};
+use rh_devices::{Sink, Source, Watched};
+use rh_rules::Pick;
+use rh_run::{RunFault, Told, ended};
+use std::alloc::Global;
+
+/// Reads a cluster file, a line `===` and a script, and writes the answer to each command, as `run` of `rh_app` does, before it
+/// reads on: each time that the device is asked for more, all that `run` writes for the lines that have come whole was written
+/// and flushed. Before the line `===` has come whole nothing is written.
+///
+/// It ends at the end of the input, or at the first fault that the text tells, without asking for more. The input has at most
+/// 16,777,216 bytes. What was written last isn't flushed.
+///
+/// # Errors
+/// `Cluster` and `BadLine` are the end of the text that was written. `Read` comes where the device has failed when it was asked,
+/// or gave too much; `Write` where it has failed when it was offered bytes or flushed; `OutOfMemory` where a growth was refused:
+/// what was written is a front of the text of all that was read.
+pub fn run_dialogue<D: Source + Sink>(
+    alloc: Global,
+    device: &mut Watched<D>,
+    pick: Pick,
+) -> Result<(), RunFault>
+    requires { device.old.failed ≡ false }
+    ensures { DialogueGives D.Source.gives D.Source.fails D.Sink.takes D.Sink.flushes D.Sink.fails pick result device.old device.new }
+{
+    let told = talk(alloc, device, pick)?;
+    ended(told)
+}
+
+// Answers each line before more is read. The answer is what the whole text tells.
+fn talk<D: Source + Sink>(
+    alloc: Global,
+    device: &mut Watched<D>,
+    pick: Pick,
+) -> Result<Option<Told>, DialogueFault>
+    requires { device.old.failed ≡ false }
+    ensures { TalkGives D.Source.gives D.Source.fails D.Sink.takes D.Sink.flushes D.Sink.fails pick result device.old device.new }
+{
+    let mut ear = Ear::new(alloc);
+    let mut stage = Stage::Cluster(Vec::new(alloc));
+    'talk: loop {
+        let heard = ear.hear(alloc, device)?;
+        match heard {
+            Hearing::Lines(lines) => {
+                let turn = take(alloc, stage, lines.as_slice(), device, pick)?;
+                match turn {
+                    Turn::Goes(next) => stage = next,
+                    Turn::Ends(told) => return Ok(Some(told)),
+                }
+            }
+            Hearing::End => {
+                let told = finish(alloc, stage, ear.rest.as_slice(), device, pick)?;
+                return Ok(told);
+            }
+        }
+    }
+}

@@ -1,4 +1,0 @@
-pub mod Scan
-pub mod Starts
-pub mod Tuples
-pub mod Words

@@ -1,5 +1,0 @@
-use Rattle.rh_shifts.proofs.Accepting.{alike_accept_alike}
-use Rattle.rh_shifts.proofs.laws.alike_accept_alike.Goals as goal
-
-pub returns : goal.returns
-returns c = alike_accept_alike

@@ -1,4 +1,0 @@
-pub mod Front
-pub mod Memory
-pub mod Texts
-pub mod Lines

@@ -1,4 +1,0 @@
-pub mod Base
-pub mod Parts
-pub mod SweepJson
-pub mod Laws
