@@ -18,9 +18,9 @@ from model_state import report
 from random_scripts import Part
 from support import TOP, fault_of, run
 
-SEARCHES, AT_ONCE = 120, 10
+SEARCHES, AT_ONCE = 200, 10
 MOST_STEPS = 2 ** 32 - 1
-PATTERNS = ["crash *", "crash *", "boot *", "boot *", "tick 500", "tick 1000", "permit * * false", "permit * {app} true", "stop {node} *",
+PATTERNS = ["crash *", "crash *", "boot *", "boot *", "tick 500", "tick 1000", "wait", "wait", "permit * * false", "permit * {app} true", "stop {node} *",
             "start * {app} permanent", "takeover * * transient", "exit * * abnormal", "start_all * temporary", "stop_all *",
             "boot {node}", "crash {node}"]
 
@@ -53,17 +53,28 @@ def events_of(rehearsal, pattern: str) -> list[list[str]]:
     return found
 
 
+def wait_in(state) -> Optional[list[str]]:
+    """The tick to the next timer, if one is set: it takes a millisecond at least."""
+    return ["tick", str(max(1, min(entry[0] for entry in state.timers) - state.now))] if state.timers else None
+
+
 class Question:
-    """A line `ask`: whether it is asked of each state, and the application and the nodes that it names."""
+    """A line `ask`: whether it is asked of each state, the application and the nodes that it names, and how long one may wait."""
 
     def __init__(self, words: list[str]):
+        self.within = int(words[-1]) if words[-2] == "within" else None
         self.always = words[1] == "always"
         rest = words[2 if self.always else 1:]
+        if self.within is not None:
+            self.always, rest = True, rest[:-2]
         self.app, self.down = rest[1], rest[5:]
 
-    def holds(self, rehearsal, state) -> bool:
+    def holds(self, search, state) -> bool:
         if not self.always and state.timers:
             return True
+        return any(self.is_met(search.rehearsal, later) for later in search.waiting(state, self.within))
+
+    def is_met(self, rehearsal, state) -> bool:
         app = rehearsal.number(rehearsal.cluster.apps, self.app)
         if any(app in running for running in state.running):
             return True
@@ -85,7 +96,9 @@ class Search:
         self.base = None
         for line in lines:
             words = line.split()
-            if words[0] == "may":
+            if words == ["may", "wait"]:
+                self.events.append(["wait"])
+            elif words[0] == "may":
                 self.events += events_of(self.rehearsal, " ".join(words[1:]))
             elif words[0] == "down":
                 self.down = int(words[1])
@@ -113,6 +126,31 @@ class Search:
         step.step(words)
         return None if sum(mode != "up" for mode in step.state.mode) > self.down else step.state
 
+    def waiting(self, state, within: Optional[int]) -> Iterator[object]:
+        """A state, and those that it goes on to within so many milliseconds in which nothing happens but that timers fire: from each
+        timer to the next one, and to just before that."""
+        yield state
+        left = within
+        while left and state.timers:
+            words = wait_in(state)
+            ms = min(int(words[1]), left)
+            for part in (ms - 1, 1):
+                if part:
+                    try:
+                        state = self.ticked(state, part)
+                    except LimitMet:
+                        return
+                    yield state
+            left -= ms
+
+    def ticked(self, state, ms: int):
+        """The state behind so many milliseconds."""
+        down, self.down = self.down, len(self.rehearsal.cluster.nodes)
+        try:
+            return self.behind(state, ["tick", str(ms)])
+        finally:
+            self.down = down
+
     def look(self) -> None:
         """Goes through all states, those by fewer events first."""
         self.found, self.keys, self.whole = [([], self.start)], {self.key(self.start)}, None
@@ -125,14 +163,15 @@ class Search:
                 break
         found = self.found
         self.unfinished = self.whole is not None and self.whole < self.steps
-        self.verdicts = [next(((path, state) for path, state in found if not ask.holds(self.rehearsal, state)), None) for ask in self.asks]
+        self.verdicts = [next(((path, state) for path, state in found if not ask.holds(self, state)), None) for ask in self.asks]
         self.failed = any(verdict is not None for verdict in self.verdicts)
 
     def expand(self, path, state) -> bool:
         """Makes each event in a state. It is false if there was one state too many, or a limit was met."""
         try:
-            for words in self.events:
-                after = self.behind(state, words)
+            for move in self.events:
+                words = wait_in(state) if move == ["wait"] else move
+                after = None if words is None else self.behind(state, words)
                 if after is None or self.key(after) in self.keys:
                     continue
                 if len(self.found) >= self.most:
@@ -162,6 +201,15 @@ class Search:
             yield "unfinished"
 
 
+def losses(part, chance) -> list[str]:
+    """One node of a running cluster is lost, and what it ran has to run again soon."""
+    lines = [*(f"boot {node}" for node in part.nodes), "tick 6000", *(f"start_all {app} permanent" for app in part.apps),
+             "may crash *", "may wait", "down 1"]
+    for app in part.apps:
+        lines.append(f"ask app {app} running within {chance.choice([500, 1500, 6000])}")
+    return lines
+
+
 def search(number: int) -> tuple[str, list[str], int, str]:
     """The cluster file of a random search, its lines, how many states it may keep, and the choice at a tie."""
     chance = random.Random(f"explore {number}")
@@ -183,7 +231,12 @@ def search(number: int) -> tuple[str, list[str], int, str]:
         line += f" app {chance.choice(part.apps)} running"
         if chance.random() < 0.6:
             line += " or down " + " ".join(chance.sample(part.nodes, chance.randint(1, len(part.nodes))))
+        if chance.random() < 0.3:
+            line += f" within {chance.choice([0, 499, 500, 1000, 2500, 6000])}"
         lines.append(line)
+    if chance.random() < 0.3:
+        lines = losses(part, chance)
+        closes = True
     most = 300 if closes else chance.choice([1_000_000, 1_000_000, 1_000_000, 20, 1])
     return part.text, lines, most, chance.choice(["first", "last"])
 
@@ -201,6 +254,9 @@ def explored(program, numbers):
         reached["holds"] += sum(verdict is None for verdict in owed.verdicts)
         reached["fails"] += sum(verdict is not None and bool(verdict[0]) for verdict in owed.verdicts)
         reached["closed"] += owed.whole is None
+        reached["soon"] += sum(verdict is None and any(not ask.is_met(owed.rehearsal, state) for _, state in owed.found)
+                               for ask, verdict in zip(owed.asks, owed.verdicts) if ask.within)
+        reached["waited"] += any(["wait"] == move for move in owed.events) and len(owed.found) > 3
         reached["unfinished"] += owed.unfinished
         if owed.steps < MOST_STEPS and not owed.unfinished:
             yield f"random search {number}: merging hides nothing", same_verdicts(owed, Search(cluster, lines, 10_000_000, pick, whole_key))
@@ -221,7 +277,7 @@ def same_verdicts(merged, whole) -> Optional[str]:
 def reaches_all(counters):
     """Together the searches reach all that they are made for."""
     reached = sum(counters, collections.Counter())
-    for what, least in (("states", 1_000), ("holds", 20), ("fails", 20), ("closed", 20), ("unfinished", 5),
+    for what, least in (("states", 1_000), ("holds", 20), ("fails", 20), ("closed", 20), ("unfinished", 5), ("soon", 3), ("waited", 10),
                         ("compared", 40), ("merged", 5)):
         yield f"random searches: {what}", None if reached[what] >= least else f"{reached[what]} of {least}"
 

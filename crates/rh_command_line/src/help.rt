@@ -372,6 +372,8 @@ counted from now: they go on alike.
                              command from `boot` to `stop_all` of `rehearse run
                              --help`; `*` in place of a name stands for each
                              node, or each application
+  may wait                   time may pass to the next timer that is due, as a
+                             `tick` of so long
   steps K                    at most K events follow one another
   down K                     behind each event at most K nodes are not up
   ask app A running          is A running somewhere, in each state in which no
@@ -379,6 +381,8 @@ counted from now: they go on alike.
   ask app A running or down N N ..
                              the same, but where none of these nodes is up
   ask always ..              in each state, also where a timer is set
+  ask .. within D            in each state, at once or within D milliseconds in
+                             which nothing happens but that timers fire
 
 Without `steps` any number of events may follow, without `down` all nodes may be
 down, and where several say it the last counts. It tells
@@ -400,7 +404,7 @@ and for each `ask`, in their order,
                              refuses an event: what is told is true up to as
                              many steps as the first line says
 
-Time passes only by `may tick D`.
+Time passes only by `may tick D` and `may wait`.
 
 All lines are read first. A line that is no command of the base and none of
 these, or a name that the cluster hasn't, is told alone: `bad line K`. K counts

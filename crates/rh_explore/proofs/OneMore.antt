@@ -27,14 +27,16 @@ pub kept_more : (w : Scope) (asks : List Ask) (old new : Space) (y : Seen) → I
     → AreLinked new.found.items
     → seen_of w new.found.items ≡ seen_of w old.found.items ++ y ∷ []
     → bytes_of new ≡ bytes_of old ++ code (packed_key y.state) ∷ []
-    → AreFailures new.failures.firsts.items new.failures.left.items asks (states_of (seen_of w old.found.items) ++ y.state ∷ [])
+    → AreFailures w.pick new.failures.firsts.items new.failures.left.items asks (states_of (seen_of w old.found.items) ++ y.state ∷ [])
+    → new.failures.trial.edits.items ≡ []
     → IsKept w asks new
-kept_more w asks old new y kept linked more bytes failures =
+kept_more w asks old new y kept linked more bytes failures calm =
     let seen = seen_of w old.found.items in
     let state_in = λ (x : Seen). x.state in
     record {
       linked = linked;
       codes = bytes ∙ ap (λ (l : List (List ℕ)). l ++ code (packed_key y.state) ∷ []) kept.codes ∙ sym (map_push code_in seen y) ∙ ap codes_of (sym more);
-      failures = subst (λ (l : List StateView). AreFailures new.failures.firsts.items new.failures.left.items asks l)
+      failures = subst (λ (l : List StateView). AreFailures w.pick new.failures.firsts.items new.failures.left.items asks l)
           (sym (ap states_of more ∙ map_push state_in seen y)) failures;
+      calm = calm;
     }

@@ -1,6 +1,6 @@
 -- What one event adds to what was found.
 use Rattle.std.proofs.Common.{◌≡◌, true, false, inl, inr, ◌<◌, ◌≤◌, ◌+◌, ℕ, List, [], ◌∷◌, ◌++◌, length, get_or, slice_get, Some, All, sym, ap, ◌∙◌, subst, arith}
-use Rattle.std.specs.Prelude.{Contains}
+use Rattle.std.specs.Prelude.{Contains, None}
 use Rattle.std.proofs.lemmas.List.{length-map, get_or-map}
 use Rattle.std.proofs.lemmas.Option.{same_Some, slice_get_within, slice_get-get_or, get_or_from_slice_get}
 use Rattle.rh_state.specs.StateView.{StateView}
@@ -15,22 +15,28 @@ use Rattle.rh_explore.specs.declared.bounds.Covered.TheVariants as covered
 use Rattle.rh_keys.specs.Codes.{code}
 use Rattle.rh_keys.specs.Packed.{packed_key}
 use Rattle.rh_keys.proofs.CodesApart.{code_same}
-use Rattle.rh_explore.specs.Reaching.{Scope, MayCome}
+use Rattle.rh_explore.specs.declared.moves.Move.{Move}
+use Rattle.rh_explore.specs.Moves.{event_in}
+use Rattle.rh_explore.specs.Reaching.{Scope, IsMove, MayCome}
 use Rattle.rh_explore.specs.Spaces.{Seen, StepsTo, IsSeen, IsSearched, IsNear, IsExpanded, IsExpandedAt, IsAtLimit, IsCut, IsEnd}
 use Rattle.rh_explore.specs.Kept.{code_in, codes_of}
 use Rattle.rh_keys.proofs.Places.{at_of}
 use Rattle.rh_explore.proofs.Alikes.{accepted_alike, few_alike}
 use Rattle.rh_keys.proofs.KeysApart.{packed_apart, packed_alike}
-use Rattle.rh_explore.proofs.Searched.{one_left_out, one_known, one_new, expand_begins, expand_ends, expand_near, ordered_at}
+use Rattle.rh_explore.proofs.Searched.{one_idle, one_left_out, one_known, one_new, expand_begins, expand_ends, expand_near, ordered_at}
 
 module _ (w : Scope) (seen : List Seen) (at : ℕ) (x : Seen) (here : slice_get seen at ≡ Some x) where
   -- it is the one that is expanded
   it_is : (count : ℕ) (so : IsExpandedAt w seen at count) → IsExpanded w seen at x count
   it_is count so = subst (λ y. IsExpanded w seen at y count) (same_Some so.0 x (sym so.1.here ∙ here)) so.1
 
-  module _ (e : Event) (made : ℕ) (is : slice_get w.events made ≡ Some e) (so : IsExpandedAt w seen at made) where
-    listed : Contains w.events e
-    listed = (made, slice_get_within w.events made e is, get_or_from_slice_get w.events made e e is)
+  module _ (m : Move) (made : ℕ) (is : slice_get w.moves made ≡ Some m) (so : IsExpandedAt w seen at made) where
+    pub no_event : event_in x.state m ≡ None → IsExpandedAt w seen at (made + 1)
+    no_event none = (x, one_idle w seen at x made m is (it_is made so) none)
+
+  module _ (m : Move) (made : ℕ) (is : slice_get w.moves made ≡ Some m) (so : IsExpandedAt w seen at made) (e : Event) (now : event_in x.state m ≡ Some e) where
+    listed : IsMove w x.state e
+    listed = (made, m, slice_get_within w.moves made m is, get_or_from_slice_get w.moves made m m is, now)
 
     is_here : IsSeen w x
     is_here = at_of (IsSeen w) seen at x (it_is made so).searched.each here
@@ -41,7 +47,7 @@ module _ (w : Scope) (seen : List Seen) (at : ℕ) (x : Seen) (here : slice_get 
     pub not_there : (t : StateView) → StepsTo w.pick w.down x.state e Nowhere t → IsExpandedAt w seen at (made + 1)
     not_there t not = (
       x,
-      one_left_out w seen at x made e is (it_is made so)
+      one_left_out w seen at x made m is (it_is made so) e now
           (λ (s : StateView) (alike : Alike s x.state) (valid : IsValid s) (may : MayCome w s e).
           not.1 (accepted_alike w s x.state e alike may not.0) (few_alike w s x.state e valid is_here.valid alike may)),
     )
@@ -76,7 +82,7 @@ module _ (w : Scope) (seen : List Seen) (at : ℕ) (x : Seen) (here : slice_get 
           let keys : packed_key y.state ≡ packed_key t = code_same (packed_key y.state) (packed_key t) codes in
           let near = at_of (λ (z : Seen). length z.path ≤ length x.path + 1) seen k y (it_is made so).near there in (
             x,
-            one_known w seen at x made e is (it_is made so)
+            one_known w seen at x made m is (it_is made so) e now
                 (k, y, there, sym (same_key k y there keys ∙ ap timeless steps.2), near),
           )
 
@@ -91,7 +97,7 @@ module _ (w : Scope) (seen : List Seen) (at : ℕ) (x : Seen) (here : slice_get 
 
         pub added : (y : Seen) → y.path ≡ x.path ++ e ∷ [] → y.state ≡ t → IsExpandedAt w (seen ++ y ∷ []) at (made + 1)
         added y path state =
-            let one = one_new w seen at x made e is (it_is made so) t steps.2 may steps.3 steps.4 fresh in
+            let one = one_new w seen at x made m is (it_is made so) e now t steps.2 may steps.3 steps.4 fresh in
             let last : y ≡ record { path = x.path ++ e ∷ []; state = t } = λ i. record { path = path i; state = state i } in (
               x,
               subst (λ (seen' : List Seen). IsExpanded w seen' at x (made + 1)) (ap (λ (z : Seen). seen ++ z ∷ []) (sym last)) one,
@@ -101,8 +107,8 @@ module _ (w : Scope) (seen : List Seen) (at : ℕ) (x : Seen) (here : slice_get 
   pub begun : IsSearched w seen at → IsNear seen at → IsExpandedAt w seen at 0
   begun searched near = (x, expand_begins w seen at x searched near here)
 
-  pub done_next : IsExpandedAt w seen at (length w.events) → IsSearched w seen (at + 1)
-  done_next so = expand_ends w seen at x (it_is (length w.events) so)
+  pub done_next : IsExpandedAt w seen at (length w.moves) → IsSearched w seen (at + 1)
+  done_next so = expand_ends w seen at x (it_is (length w.moves) so)
 
   pub near_next : (count : ℕ) → IsExpandedAt w seen at count → IsNear seen (at + 1)
   near_next count so = let ex = it_is count so in expand_near w seen at ex.searched x count ex
@@ -122,7 +128,8 @@ module _ (w : Scope) (seen : List Seen) (at : ℕ) (x : Seen) (here : slice_get 
       let is = at_of (IsSeen w) seen at x (it_is count so).searched.each here in
       both (meets_limit x.state e)
       (subst (λ (y : Seen). meets_limit y.state e ≡ true) x_is met.4)
-      (subst (λ (s : StateView). meets_limit s e ≡ false) is.leads (below x.path e is.may_come short met.3))
+      (subst (λ (s : StateView). meets_limit s e ≡ false) is.leads
+      (below x.path e is.may_come short (subst (λ (s : StateView). IsMove w s e) (ap (λ (y : Seen). y.state) x_is ∙ sym is.leads) met.3)))
 
   pub searched_still : (count : ℕ) → IsExpandedAt w seen at count → IsSearched w seen at
   searched_still count so = (it_is count so).searched

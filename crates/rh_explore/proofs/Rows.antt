@@ -11,10 +11,13 @@ use Rattle.rh_state.specs.declared.status.Standing.TheVariants as standing
 use Rattle.rh_state.specs.declared.status.Timer.TheVariants.{Sync, Failover}
 use Rattle.rh_state.specs.First.{first}
 use Rattle.rh_state.specs.StateView.{StateView}
+use Rattle.rh_rules.specs.declared.event.Event.TheVariants.{Tick}
+use Rattle.rh_explore.specs.declared.moves.Move.TheVariants.{Wait}
 use Rattle.rh_explore.specs.declared.asking.Condition.TheVariants.{RunsSomewhere, RunsNowhere, RunsAt, IsUp, IsNotUp}
 use Rattle.rh_explore.specs.declared.bounds.Covered.TheVariants as covered
 use Rattle.rh_explore.specs.Asking.{has_timer, is_so}
 use Rattle.rh_explore.specs.Exploring.{CoversAll}
+use Rattle.rh_explore.specs.Moves.{ms_to, event_in}
 use Rattle.rh_keys.specs.Keys.{key_of, node_numbers, pair_numbers, app_numbers}
 use Rattle.rh_keys.specs.Packed.{packed_key, packed_node, packed_pair}
 use Rattle.rh_explore.specs.Reaching.{not_up_count}
@@ -70,6 +73,16 @@ running = record (first cluster) {
   running = [] ∷ (web ∷ []) ∷ [] ∷ [];
   standings = standing.Running n2 ∷ [];
 }
+
+-- ---- what a wait is: until n2's timer at 1,200 half a second passes, and at least a millisecond for one that is due
+row_wait : event_in lost Wait ≡ Some (Tick 500)
+row_wait = refl
+
+row_no_wait : event_in running Wait ≡ None
+row_no_wait = refl
+
+row_due_now : ms_to lost (700, Sync n2) ≡ 1
+row_due_now = refl
 
 -- ---- what is asked
 row_timers : has_timer lost ≡ true

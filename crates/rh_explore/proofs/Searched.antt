@@ -1,9 +1,9 @@
 -- What follows of what a search has found.
-use Rattle.std.proofs.Common.{◌≡◌, ◌<◌, ◌≤◌, ◌+◌, ℕ, true, false, nat_lt, List, [], ◌∷◌, ◌++◌, length, get_or, map, slice_get, Some, All, refl, sym, ap, ◌∙◌, subst, arith}
+use Rattle.std.proofs.Common.{◌≡◌, ◌<◌, ◌≤◌, ◌+◌, ℕ, true, false, nat_lt, None, List, [], ◌∷◌, ◌++◌, length, get_or, map, slice_get, Some, All, refl, sym, ap, ◌∙◌, subst, arith}
 use Rattle.std.proofs.lemmas.List.{length_push, length-map, get_or-map}
 use Rattle.std.proofs.lemmas.List.Elements.{All-push}
 use Rattle.std.proofs.lemmas.List.Quantifiers.{all_pairs_push}
-use Rattle.std.proofs.lemmas.Option.{same_Some, slice_get_within, slice_get-get_or, get_or_from_slice_get}
+use Rattle.std.proofs.lemmas.Option.{same_Some, none-some, slice_get_within, slice_get-get_or, get_or_from_slice_get}
 use Rattle.rh_base.proofs.Lists.{cases}
 use Rattle.rh_state.specs.StateView.{StateView}
 use Rattle.rh_rules.specs.declared.event.Event.{Event}
@@ -14,13 +14,15 @@ use Rattle.rh_step.specs.Runs.{step}
 use Rattle.rh_explore.specs.declared.asking.Ask.{Ask}
 use Rattle.rh_explore.specs.declared.bounds.Covered.{Covered}
 use Rattle.rh_explore.specs.declared.bounds.Covered.TheVariants as covered
-use Rattle.rh_explore.specs.Asking.{holds_in}
+use Rattle.rh_explore.specs.Asking.{holds_in, MayWait}
+use Rattle.rh_explore.specs.declared.moves.Move.{Move}
+use Rattle.rh_explore.specs.Moves.{event_in}
 use Rattle.rh_explore.specs.Reaching.{Scope, MayCome, MayAllCome, behind}
 use Rattle.rh_explore.specs.declared.answers.Verdict.{Verdict}
 use Rattle.rh_explore.specs.declared.answers.Verdict.TheVariants.{Holds, Fails}
 use Rattle.rh_explore.specs.Exploring.{IsCovered, HoldsWithin, IsShortest, IsVerdict, AreReached}
-use Rattle.rh_explore.specs.Spaces.{Seen, IsSeen, HasWithin, LeadsOn, IsSearched, IsNear, IsExpanded, IsEnd, FirstFails}
-use Rattle.rh_explore.proofs.Alikes.{step_valid, step_alike, asked_alike}
+use Rattle.rh_explore.specs.Spaces.{Seen, IsSeen, HasWithin, LeadsOn, MovesOn, IsSearched, IsNear, IsExpanded, IsEnd, FirstFails}
+use Rattle.rh_explore.proofs.Alikes.{step_valid, step_alike, move_alike, asked_alike}
 use Rattle.rh_keys.proofs.Places.{at_front, at_of, pair_of}
 
 -- ---- lists of events
@@ -33,6 +35,11 @@ may_push w s (x ∷ es) e all one = (all.0, may_push w (step w.pick s x) es e al
 pub behind_push : (w : Scope) (s : StateView) (es : List Event) (e : Event) → behind w s (es ++ e ∷ []) ≡ step w.pick (behind w s es) e
 behind_push w s [] e = refl
 behind_push w s (x ∷ es) e = behind_push w (step w.pick s x) es e
+
+-- a state behind events that may come is valid
+behind_valid : (w : Scope) (s : StateView) (es : List Event) → IsValid s → MayAllCome w s es → IsValid (behind w s es)
+behind_valid w s [] valid may = valid
+behind_valid w s (e ∷ es) valid may = behind_valid w (step w.pick s e) es (step_valid w s e valid may.0) may.1
 
 -- ---- what was found stays
 stays : (seen : List Seen) (y : Seen) (s : StateView) (n : ℕ) → HasWithin seen s n → HasWithin (seen ++ y ∷ []) s n
@@ -53,25 +60,43 @@ base_searched w valid = record {
   closed = λ k x e l. absurd (omega (arith, l));
 }
 
--- ---- the events of a state are made, one after the other
+-- ---- the moves of a state are made, one after the other
 module _ (w : Scope) (seen : List Seen) (at : ℕ) (x : Seen) where
   pub expand_begins : IsSearched w seen at → IsNear seen at → slice_get seen at ≡ Some x → IsExpanded w seen at x 0
   expand_begins searched near here = record {
     searched = searched;
     here = here;
     near = near x here;
-    made = λ j e l. absurd (omega (arith, l));
+    made = λ j m l. absurd (omega (arith, l));
   }
 
-  module _ (made : ℕ) (e : Event) (x_is : slice_get w.events made ≡ Some e) (so : IsExpanded w seen at x made) where
-    -- the event of number j is this one, or was made before
+  module _ (made : ℕ) (m : Move) (m_is : slice_get w.moves made ≡ Some m) (so : IsExpanded w seen at x made) where
+    -- the move of number j is this one, or was made before
     one_more : (seen' : List Seen) → ((s : StateView) (n : ℕ) → HasWithin seen s n → HasWithin seen' s n)
-        → LeadsOn w seen' x e → (j : ℕ) (f : Event) → j < made + 1 → slice_get w.events j ≡ Some f → LeadsOn w seen' x f
-    one_more seen' keeps here j f l is = cases (nat_lt j made)
-        (λ t s alike valid may. keeps (step w.pick s f) (length x.path + 1) (so.made j f (is_below j made t) is s alike valid may))
-        (λ o. let same : j ≡ made = omega (arith, is_above j made o, l) in
-        let e_is : e ≡ f = same_Some e f (sym x_is ∙ sym (ap (slice_get w.events) same) ∙ is) in
-        subst (LeadsOn w seen' x) e_is here)
+        → MovesOn w seen' x m → (j : ℕ) (o : Move) → j < made + 1 → slice_get w.moves j ≡ Some o → MovesOn w seen' x o
+    one_more seen' keeps here j o l is = cases (nat_lt j made)
+        (λ t e now s alike valid may. keeps (step w.pick s e) (length x.path + 1) (so.made j o (is_below j made t) is e now s alike valid may))
+        (λ f. let same : j ≡ made = omega (arith, is_above j made f, l) in
+        let o_is : m ≡ o = same_Some m o (sym m_is ∙ sym (ap (slice_get w.moves) same) ∙ is) in
+        subst (MovesOn w seen' x) o_is here)
+
+    -- it is no event there
+    pub one_idle : event_in x.state m ≡ None → IsExpanded w seen at x (made + 1)
+    one_idle none = record {
+      searched = so.searched;
+      here = so.here;
+      near = so.near;
+      made = one_more seen (λ s n h. h) (λ e now. absurd (none-some e (sym none ∙ now)));
+    }
+
+  module _ (made : ℕ) (m : Move) (m_is : slice_get w.moves made ≡ Some m) (so : IsExpanded w seen at x made) (e : Event) (now : event_in x.state m ≡ Some e) where
+    -- no other event than this one
+    by_event : (seen' : List Seen) → LeadsOn w seen' x e → MovesOn w seen' x m
+    by_event seen' leads d then = subst (LeadsOn w seen' x) (same_Some e d (sym now ∙ then)) leads
+
+    next_one : (seen' : List Seen) → ((s : StateView) (n : ℕ) → HasWithin seen s n → HasWithin seen' s n)
+        → LeadsOn w seen' x e → (j : ℕ) (o : Move) → j < made + 1 → slice_get w.moves j ≡ Some o → MovesOn w seen' x o
+    next_one seen' keeps leads = one_more made m m_is so seen' keeps (by_event seen' leads)
 
     -- it can't come
     pub one_left_out : ((s : StateView) → Alike s x.state → IsValid s → MayCome w s e → ⊥) → IsExpanded w seen at x (made + 1)
@@ -79,7 +104,7 @@ module _ (w : Scope) (seen : List Seen) (at : ℕ) (x : Seen) where
       searched = so.searched;
       here = so.here;
       near = so.near;
-      made = one_more seen (λ s n h. h) (λ s alike valid may. absurd (not s alike valid may));
+      made = next_one seen (λ s n h. h) (λ s alike valid may. absurd (not s alike valid may));
     }
 
     -- where it leads from this state, it leads from one that is alike
@@ -95,7 +120,7 @@ module _ (w : Scope) (seen : List Seen) (at : ℕ) (x : Seen) where
       searched = so.searched;
       here = so.here;
       near = so.near;
-      made = one_more seen (λ s n h. h) (leads_alike seen known);
+      made = next_one seen (λ s n h. h) (leads_alike seen known);
     }
 
     -- it leads to a new one
@@ -152,11 +177,11 @@ module _ (w : Scope) (seen : List Seen) (at : ℕ) (x : Seen) where
         searched = searched_new;
         here = front at within ∙ so.here;
         near = all_near;
-        made = one_more (seen ++ new ∷ []) (stays seen new) (leads_alike (seen ++ new ∷ []) has_new);
+        made = next_one (seen ++ new ∷ []) (stays seen new) (leads_alike (seen ++ new ∷ []) has_new);
       }
 
   -- all were made
-  pub expand_ends : IsExpanded w seen at x (length w.events) → IsSearched w seen (at + 1)
+  pub expand_ends : IsExpanded w seen at x (length w.moves) → IsSearched w seen (at + 1)
   expand_ends so = record {
     each = so.searched.each;
     begins = so.searched.begins;
@@ -166,9 +191,13 @@ module _ (w : Scope) (seen : List Seen) (at : ℕ) (x : Seen) where
         (λ t. so.searched.closed k z e (is_below k at t) there s alike valid may)
         (λ f. let same : k ≡ at = omega (arith, is_above k at f, l) in
         let z_is : x ≡ z = same_Some x z (sym so.here ∙ sym (ap (slice_get seen) same) ∙ there) in
-        subst (λ (y : Seen). LeadsOn w seen y e) z_is
-        (so.made may.listed.0 e may.listed.1 (slice_get-get_or w.events may.listed.0 e may.listed.1 ∙ ap Some may.listed.2))
-        s alike valid may);
+        let m = may.listed.1 in
+        let m_is : slice_get w.moves may.listed.0 ≡ Some m =
+        slice_get-get_or w.moves may.listed.0 m may.listed.2 ∙ ap Some may.listed.3 in
+        let alike_x : Alike s x.state = alike ∙ ap (λ (y : Seen). timeless y.state) (sym z_is) in
+        let now : event_in x.state m ≡ Some e = sym (move_alike s x.state m alike_x) ∙ may.listed.4 in
+        subst (λ (y : Seen). HasWithin seen (step w.pick s e) (length y.path + 1)) z_is
+        (so.made may.listed.0 m may.listed.2 m_is e now s alike_x valid may));
   }
 
 -- ---- the order of what was found
@@ -215,10 +244,23 @@ module _ (w : Scope) (seen : List Seen) (done : ℕ) (so : IsSearched w seen don
   covered_found (covered.UpTo n) end es may within = complete n end es may within
 
   -- ---- verdicts
-  pub holds_within : (ask : Ask) (covered : Covered) → IsEnd seen done covered → All (λ (x : Seen). holds_in ask x.state ≡ true) seen → HoldsWithin w covered ask
-  holds_within ask covered end all es may within =
+  valid_at : (k : ℕ) (x : Seen) → slice_get seen k ≡ Some x → IsValid x.state
+  valid_at k x here = (at_of (IsSeen w) seen k x so.each here).valid
+
+  base_valid : IsValid w.base
+  base_valid = valid_at 0 (record { path = []; state = w.base }) so.begins
+
+  -- what holds in a state that was found holds behind events that lead to one that is alike
+  holds_behind : (ask : Ask) (es : List Event) → MayAllCome w w.base es → MayWait ask.within (behind w w.base es) → (k : ℕ) (x : Seen)
+      → slice_get seen k ≡ Some x → Alike (behind w w.base es) x.state → holds_in w.pick ask x.state ≡ true → holds_in w.pick ask (behind w w.base es) ≡ true
+  holds_behind ask es may wait k x here alike holds =
+      asked_alike w.pick ask (behind w w.base es) x.state (behind_valid w w.base es base_valid may) (valid_at k x here) alike wait holds
+
+  pub holds_within : (ask : Ask) (covered : Covered) → IsEnd seen done covered → All (λ (x : Seen). holds_in w.pick ask x.state ≡ true) seen
+      → HoldsWithin w covered ask
+  holds_within ask covered end all es may within wait =
       let found = covered_found covered end es may within in
-      asked_alike ask (behind w w.base es) found.1.state found.3 ∙ at_of (λ (x : Seen). holds_in ask x.state ≡ true) seen found.0 found.1 all found.2
+      holds_behind ask es may wait found.0 found.1 found.2 found.3 (at_of (λ (x : Seen). holds_in w.pick ask x.state ≡ true) seen found.0 found.1 all found.2)
 
   -- a shorter list than that of a state leads to one that was found before
   module _ (near : IsNear seen done) (i : ℕ) (x : Seen) (here : slice_get seen i ≡ Some x) where
@@ -244,16 +286,16 @@ module _ (w : Scope) (seen : List Seen) (done : ℕ) (so : IsSearched w seen don
           found.3,
         )
 
-    pub fails_shortest : (steps : ℕ) (ask : Ask) → length x.path ≤ steps → holds_in ask x.state ≡ false
-        → ((k : ℕ) (y : Seen) → k < i → slice_get seen k ≡ Some y → holds_in ask y.state ≡ true) → IsShortest w steps ask x.path
+    pub fails_shortest : (steps : ℕ) (ask : Ask) → length x.path ≤ steps → holds_in w.pick ask x.state ≡ false
+        → ((k : ℕ) (y : Seen) → k < i → slice_get seen k ≡ Some y → holds_in w.pick ask y.state ≡ true) → IsShortest w steps ask x.path
     fails_shortest steps ask few fails earlier =
         let seen_x = at_of (IsSeen w) seen i x so.each here in record {
           may_come = seen_x.may_come;
           few = few;
-          fails = ap (holds_in ask) seen_x.leads ∙ fails;
-          shortest = λ other may l.
+          fails = ap (holds_in w.pick ask) seen_x.leads ∙ fails;
+          shortest = λ other may l wait.
               let found = shorter_found other may l in
-              asked_alike ask (behind w w.base other) found.1.state found.4 ∙ earlier found.0 found.1 found.2 found.3;
+              holds_behind ask other may wait found.0 found.1 found.3 found.4 (earlier found.0 found.1 found.2 found.3);
         }
 
   -- ---- all states
@@ -310,7 +352,7 @@ module _ (w : Scope) (seen : List Seen) (done : ℕ) (so : IsSearched w seen don
 
   -- ---- the verdict on an ask
   pub verdict_so : IsNear seen done → (steps : ℕ) → All (λ (x : Seen). length x.path ≤ steps) seen → (covered : Covered) → IsEnd seen done covered
-      → (ask : Ask) (v : Verdict) → FirstFails seen ask v → IsVerdict w steps covered ask v
+      → (ask : Ask) (v : Verdict) → FirstFails w.pick seen ask v → IsVerdict w steps covered ask v
   verdict_so near steps few covered end ask Holds all = holds_within ask covered end all
   verdict_so near steps few covered end ask (Fails es) first =
       subst (IsShortest w steps ask) (sym first.3)

@@ -4,6 +4,7 @@ use Rattle.std.specs.Option.{option_map}
 use Rattle.std.proofs.lemmas.List.{length-map, get_or-map}
 use Rattle.std.proofs.lemmas.Option.{same_Some, slice_get-map, slice_get_within}
 use Rattle.rh_state.specs.StateView.{StateView}
+use Rattle.rh_rules.specs.declared.pick.Pick.{Pick}
 use Rattle.rh_explore.specs.declared.answers.Verdict.{Verdict}
 use Rattle.rh_explore.specs.declared.answers.Verdict.TheVariants.{Holds, Fails}
 use Rattle.rh_explore.specs.declared.asking.Ask.{Ask}
@@ -19,7 +20,7 @@ use Rattle.rh_explore.proofs.FailuresTold.{in_list}
 abbrev state_in : Seen → StateView
 state_in x = x.state
 
-module _ (firsts : List (Option ℕ)) (left : List ℕ) (asks : List Ask) (seen : List Seen) (so : AreFailures firsts left asks (states_of seen)) where
+module _ (pick : Pick) (firsts : List (Option ℕ)) (left : List ℕ) (asks : List Ask) (seen : List Seen) (so : AreFailures pick firsts left asks (states_of seen)) where
   -- the first state in which an ask doesn't hold was found
   pub failure_within : (j i : ℕ) → slice_get firsts j ≡ Some (Some i) → i < length seen
   failure_within j i at =
@@ -28,18 +29,18 @@ module _ (firsts : List (Option ℕ)) (left : List ℕ) (asks : List Ask) (seen 
       omega (arith, slice_get_within (states_of seen) i f.fails.0 f.fails.1, length-map seen state_in)
 
   -- an ask that has none holds in all
-  pub holds_everywhere : (j : ℕ) (ask : Ask) → slice_get firsts j ≡ Some None → slice_get asks j ≡ Some ask → All (λ (x : Seen). holds_in ask x.state ≡ true) seen
+  pub holds_everywhere : (j : ℕ) (ask : Ask) → slice_get firsts j ≡ Some None → slice_get asks j ≡ Some ask → All (λ (x : Seen). holds_in pick ask x.state ≡ true) seen
   holds_everywhere j ask at there =
       let has = so.unknown j at in
       let it = so.left_holds has.0 j has.1 in
       let it_is : it.0 ≡ ask = same_Some it.0 ask (sym it.1 ∙ ap (slice_get asks) has.2 ∙ there) in
-      let all : HoldsInAll (states_of seen) ask = subst (HoldsInAll (states_of seen)) it_is it.2 in
-      λ k d l. ap (holds_in ask) (sym (get_or-map state_in seen k d d.state l)) ∙ all k d.state (omega (arith, l, length-map seen state_in))
+      let all : HoldsInAll pick (states_of seen) ask = subst (HoldsInAll pick (states_of seen)) it_is it.2 in
+      λ k d l. ap (holds_in pick ask) (sym (get_or-map state_in seen k d d.state l)) ∙ all k d.state (omega (arith, l, length-map seen state_in))
 
 pub told_first : (w : Scope) (found : List Found) (firsts : List (Option ℕ)) (left : List ℕ) (asks : List Ask)
-    → AreFailures firsts left asks (states_of (seen_of w found)) → (j : ℕ) (first : Option ℕ) (ask : Ask) (v : Verdict)
-    → slice_get firsts j ≡ Some first → slice_get asks j ≡ Some ask → IsTold found first v → FirstFails (seen_of w found) ask v
-told_first w found firsts left asks so j None ask Holds at there told = holds_everywhere firsts left asks (seen_of w found) so j ask at there
+    → AreFailures w.pick firsts left asks (states_of (seen_of w found)) → (j : ℕ) (first : Option ℕ) (ask : Ask) (v : Verdict)
+    → slice_get firsts j ≡ Some first → slice_get asks j ≡ Some ask → IsTold found first v → FirstFails w.pick (seen_of w found) ask v
+told_first w found firsts left asks so j None ask Holds at there told = holds_everywhere w.pick firsts left asks (seen_of w found) so j ask at there
 told_first w found firsts left asks so j None ask (Fails es) at there told = absurd told
 told_first w found firsts left asks so j (Some i) ask Holds at there told = absurd told
 told_first w found firsts left asks so j (Some i) ask (Fails es) at there told =
@@ -52,6 +53,6 @@ told_first w found firsts left asks so j (Some i) ask (Fails es) at there told =
       x,
       here,
       refl,
-      ap (holds_in ask) (sym state_is) ∙ f.fails.2,
+      ap (holds_in w.pick ask) (sym state_is) ∙ f.fails.2,
       λ k y l that. f.earlier k y.state l (slice_get-map state_in seen k ∙ ap (option_map state_in) that),
     )

@@ -1,5 +1,5 @@
 -- What a search answers (ours).
-use Rattle.std.specs.Prelude.{◌≡◌, ◌≤◌, ◌<◌, ℕ, true, false, List, length, All, Any, AllPairs, Contains}
+use Rattle.std.specs.Prelude.{◌≡◌, ◌≤◌, ◌<◌, ℕ, true, false, List, length, All, Any, AllPairs}
 use Rattle.rh_state.specs.StateView.{StateView}
 use Rattle.rh_state.specs.Stored.{Stored, read}
 use Rattle.rh_rules.specs.declared.event.Event.{Event}
@@ -9,15 +9,16 @@ use Rattle.rh_keys.specs.ShiftLaws.{meets_limit}
 use Rattle.rh_explore.specs.declared.answers.Verdict.{Verdict}
 use Rattle.rh_explore.specs.declared.answers.Verdict.TheVariants.{Holds, Fails}
 use Rattle.rh_explore.specs.declared.asking.Ask.{Ask}
+use Rattle.rh_explore.specs.declared.moves.Move.{Move}
 use Rattle.rh_explore.specs.declared.bounds.Bounds.{Bounds}
 use Rattle.rh_explore.specs.declared.bounds.Covered.{Covered}
 use Rattle.rh_explore.specs.declared.bounds.Covered.TheVariants as covered
-use Rattle.rh_explore.specs.Asking.{holds_in}
-use Rattle.rh_explore.specs.Reaching.{Scope, MayAllCome, Reaches, behind}
+use Rattle.rh_explore.specs.Asking.{holds_in, MayWait}
+use Rattle.rh_explore.specs.Reaching.{Scope, IsMove, MayAllCome, Reaches, behind}
 
 -- the scope of a search
-abbrev pub scope_of : Stored → Pick → List Event → Bounds → Scope
-scope_of base pick events bounds = record { base = read base; pick = pick; events = events; down = bounds.down }
+abbrev pub scope_of : Stored → Pick → List Move → Bounds → Scope
+scope_of base pick moves bounds = record { base = read base; pick = pick; moves = moves; down = bounds.down }
 
 -- the list is one of those of which all were looked at
 abbrev pub IsCovered : Covered → List Event → Type 0
@@ -32,19 +33,23 @@ CoversAll steps (covered.UpTo n) = steps ≤ n
 -- no limit of starts or of time refuses an event behind fewer events than these
 abbrev pub StaysBelowLimits : Scope → ℕ → Type 0
 StaysBelowLimits w steps =
-    (es : List Event) (e : Event) → MayAllCome w w.base es → length es < steps → Contains w.events e
+    (es : List Event) (e : Event) → MayAllCome w w.base es → length es < steps → IsMove w (behind w w.base es) e
     → meets_limit (behind w w.base es) e ≡ false
 
--- what is asked holds in each state to which one of the covered lists leads
+-- what is asked holds in each state to which one of the covered lists leads, where the limit of time lets it wait for that
 abbrev pub HoldsWithin : Scope → Covered → Ask → Type 0
-HoldsWithin w covered ask = (es : List Event) → MayAllCome w w.base es → IsCovered covered es → holds_in ask (behind w w.base es) ≡ true
+HoldsWithin w covered ask =
+    (es : List Event) → MayAllCome w w.base es → IsCovered covered es → MayWait ask.within (behind w w.base es)
+    → holds_in w.pick ask (behind w w.base es) ≡ true
 
--- these events may come, at most so many, and lead to a state in which what is asked doesn't hold; and no shorter list does so
+-- these events may come, at most so many, and lead to a state in which what is asked doesn't hold; and no shorter list does so, where the
+-- limit of time lets it wait
 pub record IsShortest (w : Scope) (steps : ℕ) (ask : Ask) (es : List Event) : Type 0 where
   pub may_come : MayAllCome w w.base es
   pub few : length es ≤ steps
-  pub fails : holds_in ask (behind w w.base es) ≡ false
-  pub shortest : (other : List Event) → MayAllCome w w.base other → length other < length es → holds_in ask (behind w w.base other) ≡ true
+  pub fails : holds_in w.pick ask (behind w w.base es) ≡ false
+  pub shortest : (other : List Event) → MayAllCome w w.base other → length other < length es → MayWait ask.within (behind w w.base other)
+      → holds_in w.pick ask (behind w w.base other) ≡ true
 
 -- what a verdict says
 abbrev pub IsVerdict : Scope → ℕ → Covered → Ask → Verdict → Type 0

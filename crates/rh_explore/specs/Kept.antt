@@ -60,7 +60,8 @@ bytes_of space = map (λ key. key.bytes.items) space.keys.keys
 pub record IsKept (w : Scope) (asks : List Ask) (space : Space) : Type 0 where
   pub linked : AreLinked space.found.items
   pub codes : bytes_of space ≡ codes_of (seen_of w space.found.items)
-  pub failures : AreFailures space.failures.firsts.items space.failures.left.items asks (states_of (seen_of w space.found.items))
+  pub failures : AreFailures w.pick space.failures.firsts.items space.failures.left.items asks (states_of (seen_of w space.found.items))
+  pub calm : space.failures.trial.edits.items ≡ []
 
 -- ---- the states whose events weren't made yet, by those from which they were found
 
@@ -86,8 +87,8 @@ waiting_in front = replicate front.left (read front.probe.state) ++ flat_map rep
 
 -- no event is made
 pub record IsIdle (probe : Probe) : Type 0 where
-  pub none : probe.edits.items ≡ []
-  pub unmoved : probe.entered.items ≡ []
+  pub none : probe.tried.edits.items ≡ []
+  pub unmoved : probe.entered.edits.items ≡ []
 
 -- all but the first so many states are left, in their order
 pub record IsFront (w : Scope) (space : Space) (done : ℕ) : Type 0 where
@@ -103,12 +104,12 @@ pub record IsTakenUp (w : Scope) (space : Space) (at : ℕ) : Type 0 where
 pub record IsSameFront (old new : Front) : Type 0 where
   pub parents : new.parents.items ≡ old.parents.items
   pub left : new.left ≡ old.left
-  pub entered : new.probe.entered.items ≡ old.probe.entered.items
+  pub entered : new.probe.entered ≡ old.probe.entered
 
 -- the event that was tried is taken back
 pub record IsTakenBack (old new : Probe) : Type 0 where
   pub state : new.state ≡ old.state
-  pub none : new.edits.items ≡ []
+  pub none : new.tried.edits.items ≡ []
 
 -- all that were found since were found from this state
 abbrev pub IsFamily : Scope → StateView → List Found → List Found → Type 0
@@ -121,7 +122,7 @@ IsShort bounds found at = (f : Found) × (slice_get found at ≡ Some f) × (f.d
 
 -- no event is tried in the state of this number
 pub record IsUntried (probe : Probe) (seen : List Seen) (at : ℕ) : Type 0 where
-  pub none : probe.edits.items ≡ []
+  pub none : probe.tried.edits.items ≡ []
   pub here : (x : Seen) × (slice_get seen at ≡ Some x) × (read probe.state ≡ x.state)
 
 -- what was found stays, and more is found

@@ -1,4 +1,5 @@
 pub mod Asking
+pub mod Moves
 pub mod Reaching
 pub mod Exploring
 pub mod Spaces

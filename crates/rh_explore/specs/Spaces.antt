@@ -1,5 +1,5 @@
 -- What is said within a search, where a part of the states is found (ours).
-use Rattle.std.specs.Prelude.{◌≡◌, ◌⊎◌, ◌≤◌, ◌<◌, ◌+◌, ℕ, true, false, List, [], Some, None, length, slice_get, All, AllPairs, Contains}
+use Rattle.std.specs.Prelude.{◌≡◌, ◌⊎◌, ◌≤◌, ◌<◌, ◌+◌, ℕ, true, false, List, [], Some, None, length, slice_get, All, AllPairs}
 use Rattle.rh_state.specs.StateView.{StateView}
 use Rattle.rh_rules.specs.declared.event.Event.{Event}
 use Rattle.rh_rules.specs.declared.pick.Pick.{Pick}
@@ -14,9 +14,11 @@ use Rattle.rh_explore.specs.declared.asking.Ask.{Ask}
 use Rattle.rh_explore.specs.Asking.{holds_in}
 use Rattle.rh_explore.specs.declared.bounds.Covered.{Covered}
 use Rattle.rh_explore.specs.declared.bounds.Covered.TheVariants as covered
+use Rattle.rh_explore.specs.declared.moves.Move.{Move}
 use Rattle.rh_explore.specs.declared.reaching.Way.{Way}
 use Rattle.rh_explore.specs.declared.reaching.Way.TheVariants.{To, Nowhere, AtLimit}
-use Rattle.rh_explore.specs.Reaching.{Scope, MayCome, MayAllCome, not_up_count, behind}
+use Rattle.rh_explore.specs.Moves.{event_in}
+use Rattle.rh_explore.specs.Reaching.{Scope, IsMove, MayCome, MayAllCome, not_up_count, behind}
 
 -- the event leads there, within the scope; or it can't be made, or too many nodes are not up behind it; or a limit refuses it
 abbrev pub StepsTo : Pick → ℕ → StateView → Event → Way → StateView → Type 0
@@ -45,6 +47,10 @@ abbrev pub LeadsOn : Scope → List Seen → Seen → Event → Type 0
 LeadsOn w seen x e =
     (s : StateView) → Alike s x.state → IsValid s → MayCome w s e → HasWithin seen (step w.pick s e) (length x.path + 1)
 
+-- so does the event that a move is, if it is one
+abbrev pub MovesOn : Scope → List Seen → Seen → Move → Type 0
+MovesOn w seen x m = (e : Event) → event_in x.state m ≡ Some e → LeadsOn w seen x e
+
 -- states that were found, no two of them alike, those by shorter lists first, and the base as the first; no event leads from the first
 -- `done` of them to one that wasn't found
 pub record IsSearched (w : Scope) (seen : List Seen) (done : ℕ) : Type 0 where
@@ -58,12 +64,12 @@ pub record IsSearched (w : Scope) (seen : List Seen) (done : ℕ) : Type 0 where
 abbrev pub IsNear : List Seen → ℕ → Type 0
 IsNear seen done = (x : Seen) → slice_get seen done ≡ Some x → All (λ (y : Seen). length y.path ≤ length x.path + 1) seen
 
--- in the state of number `at` the first `count` events were made
+-- in the state of number `at` the first `count` moves were made
 pub record IsExpanded (w : Scope) (seen : List Seen) (at : ℕ) (x : Seen) (count : ℕ) : Type 0 where
   pub searched : IsSearched w seen at
   pub here : slice_get seen at ≡ Some x
   pub near : All (λ (y : Seen). length y.path ≤ length x.path + 1) seen
-  pub made : (j : ℕ) (e : Event) → j < count → slice_get w.events j ≡ Some e → LeadsOn w seen x e
+  pub made : (j : ℕ) (m : Move) → j < count → slice_get w.moves j ≡ Some m → MovesOn w seen x m
 
 -- so in whatever state has this number
 abbrev pub IsExpandedAt : Scope → List Seen → ℕ → ℕ → Type 0
@@ -71,7 +77,7 @@ IsExpandedAt w seen at made = (x : Seen) × IsExpanded w seen at x made
 
 -- a limit of starts or of time refuses one of the events in the state of this number
 abbrev pub IsAtLimit : Scope → List Seen → ℕ → Type 0
-IsAtLimit w seen at = (x : Seen) × (e : Event) × (slice_get seen at ≡ Some x) × Contains w.events e × (meets_limit x.state e ≡ true)
+IsAtLimit w seen at = (x : Seen) × (e : Event) × (slice_get seen at ≡ Some x) × IsMove w x.state e × (meets_limit x.state e ≡ true)
 
 -- the search ends there: as many states were found as may be kept, or a limit refuses an event
 abbrev pub IsCut : Scope → ℕ → List Seen → ℕ → Type 0
@@ -83,7 +89,7 @@ IsEnd seen done covered.All = length seen ≤ done
 IsEnd seen done (covered.UpTo n) = (k : ℕ) (x : Seen) → done ≤ k → slice_get seen k ≡ Some x → n ≤ length x.path
 
 -- what is asked holds in all states that were found; or it doesn't hold in one to which these events lead, and in all before it
-abbrev pub FirstFails : List Seen → Ask → Verdict → Type 0
-FirstFails seen ask Holds = All (λ (x : Seen). holds_in ask x.state ≡ true) seen
-FirstFails seen ask (Fails es) = (i : ℕ) × (x : Seen) × (slice_get seen i ≡ Some x) × (es.items ≡ x.path) × (holds_in ask x.state ≡ false)
-    × ((k : ℕ) (y : Seen) → k < i → slice_get seen k ≡ Some y → holds_in ask y.state ≡ true)
+abbrev pub FirstFails : Pick → List Seen → Ask → Verdict → Type 0
+FirstFails pick seen ask Holds = All (λ (x : Seen). holds_in pick ask x.state ≡ true) seen
+FirstFails pick seen ask (Fails es) = (i : ℕ) × (x : Seen) × (slice_get seen i ≡ Some x) × (es.items ≡ x.path) × (holds_in pick ask x.state ≡ false)
+    × ((k : ℕ) (y : Seen) → k < i → slice_get seen k ≡ Some y → holds_in pick ask y.state ≡ true)

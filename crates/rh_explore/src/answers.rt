@@ -11,6 +11,7 @@ ghost use Rattle.rh_explore.specs.Tellings.{IsTold};
 
 use crate::asking::Ask;
 use crate::bounds::{Bounds, Covered};
+use crate::moves::Move;
 use crate::paths::path_to;
 use crate::space::{Found, search};
 use rh_base::OutOfMemory;
@@ -41,29 +42,29 @@ pub struct Explored {
     pub verdicts: Vec<Verdict>,
 }
 
-/// What holds in all states that these events reach from a base, each as often as one likes and in every order in which the rules
+/// What holds in all states that these moves reach from a base, each as often as one likes and in every order in which the rules
 /// accept them. The base is one that a cluster reaches, as that of each simulation.
 pub fn explore(
     alloc: Global,
     base: &State,
     pick: Pick,
-    events: &[Event],
+    moves: &[Move],
     bounds: &Bounds,
     asks: &[Ask],
 ) -> Result<Explored, OutOfMemory>
     requires { IsValid (read base.now) }
     // A verdict that what is asked holds is about all covered lists of events. One that it fails has a shortest list that leads to a
     // state in which it does, also among those that aren't covered.
-    ensures verdicts { IfOk result (λ x. AllZip (IsVerdict (scope_of base.now pick events.now bounds.now) bounds.now.steps x.covered) asks.now x.verdicts.items) }
+    ensures verdicts { IfOk result (λ x. AllZip (IsVerdict (scope_of base.now pick moves.now bounds.now) bounds.now.steps x.covered) asks.now x.verdicts.items) }
     // So many states were reached, no two of them alike, and each to which a covered list leads is alike to one of them.
     ensures states { IfOk result (λ x. (found : List StateView) × (length found ≡ x.states)
-        × AreReached (scope_of base.now pick events.now bounds.now) x.deepest x.covered found) }
+        × AreReached (scope_of base.now pick moves.now bounds.now) x.deepest x.covered found) }
     ensures deepest { IfOk result (λ x. x.deepest ≤ bounds.now.steps) }
     // All lists within the bound of steps are covered, unless that of states was met, or a limit of starts or of time.
-    ensures covers { IfOk result (λ x. x.states < bounds.now.states → StaysBelowLimits (scope_of base.now pick events.now bounds.now) bounds.now.steps
+    ensures covers { IfOk result (λ x. x.states < bounds.now.states → StaysBelowLimits (scope_of base.now pick moves.now bounds.now) bounds.now.steps
         → CoversAll bounds.now.steps x.covered) }
 {
-    let (space, covered) = search(alloc, base, pick, events, bounds, asks)?;
+    let (space, covered) = search(alloc, base, pick, moves, bounds, asks)?;
     let (all, firsts) = space.into_found();
     let found = all.as_slice();
     let verdicts = verdicts_on(alloc, found, firsts.as_slice())?;

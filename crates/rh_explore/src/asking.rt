@@ -1,13 +1,19 @@
 //! What is asked of the states that are reached.
 
-ghost use Rattle.std.specs.Prelude.{◌≡◌};
+ghost use Rattle.std.specs.Prelude.{◌≡◌, [], IfOk, OnOk};
 ghost use Rattle.std.specs.List.{list_any, list_all};
 ghost use Rattle.rh_state.specs.StateView.{is_up, mode_of, runs_at};
 ghost use Rattle.rh_state.specs.Stored.{read};
-ghost use Rattle.rh_explore.specs.Asking.{runs_somewhere, is_so, holds_in};
+ghost use Rattle.rh_trace.specs.Validity.{IsValid};
+ghost use Rattle.rh_explore.specs.Asking.{runs_somewhere, is_so, is_met, is_met_at, holds_in};
 
+use crate::moves::ms_to;
+use crate::trial::Trial;
+use rh_base::OutOfMemory;
 use rh_model::{App, Node};
-use rh_state::{Mode, Place, State};
+use rh_state::{Mode, Place, State, Timer};
+use rh_step::{Event, Pick, refusal_of};
+use std::alloc::Global;
 
 /// A condition of a state. An unknown node isn't up, and an unknown application runs nowhere.
 #[derive(Clone, Copy, Debug, PartialEq, Eq)]
@@ -24,35 +30,108 @@ pub enum Condition {
     IsNotUp(Node),
 }
 
-/// What is asked of each state: that all conditions of one of these lists are so.
+/// What is asked of each state: that it is met, at once or soon. It is met where all conditions of one of its lists are so.
 #[derive(Drop)]
 pub struct Ask {
     /// It is asked of every state; else only of those in which no sync timer and no failover timer is set (kernel(6),
     /// `sync_nodes_timeout`, `distributed`).
     pub always: bool,
+    /// In how many milliseconds it has to be met, if not at once: no event comes but that time passes. At the limit of time no more of
+    /// it does.
+    pub within: Option<u64>,
     /// The lists of conditions.
     pub any_of: Vec<Vec<Condition>>,
 }
 
 impl Ask {
-    /// Does what is asked hold in a state?
-    pub fn holds_in(&self, state: &State) -> bool
-        ensures { result ≡ holds_in self.now (read state.now) }
+    /// Does what is asked hold in a state? Time that passes for it is taken back.
+    pub(crate) fn holds_in(
+        &self,
+        alloc: Global,
+        state: &mut State,
+        pick: Pick,
+        trial: &mut Trial,
+    ) -> Result<bool, OutOfMemory>
+        requires valid { IsValid (read state.old) }
+        requires none { trial.old.edits.items ≡ [] }
+        ensures holds { IfOk result (λ holds. holds ≡ holds_in pick self.now (read state.old)) }
+        ensures state { OnOk result (state.new ≡ state.old) }
+        ensures none { OnOk result (trial.new.edits.items ≡ []) }
     {
         if !self.always && state.earliest().is_some() {
-            return true;
+            return Ok(true);
         }
-        some_are_so(self.any_of.as_slice(), state)
+        if self.is_met(state) {
+            return Ok(true);
+        }
+        match self.within {
+            None => Ok(false),
+            Some(ms) => self.is_met_soon(alloc, state, pick, trial, ms),
+        }
     }
-}
 
-// Are all conditions of one of these lists so?
-fn some_are_so(any_of: &[Vec<Condition>], state: &State) -> bool
-    ensures { result ≡ list_any (λ conditions. list_all (is_so (read state.now)) conditions.items) any_of.now }
-{
-    any_of
-        .iter()
-        .any(|conditions| are_so(conditions.as_slice(), state))
+    // Is it met at one of the timers that are set?
+    fn is_met_soon(
+        &self,
+        alloc: Global,
+        state: &mut State,
+        pick: Pick,
+        trial: &mut Trial,
+        ms: u64,
+    ) -> Result<bool, OutOfMemory>
+        requires valid { IsValid (read state.old) }
+        requires none { trial.old.edits.items ≡ [] }
+        ensures met { IfOk result (λ met. met ≡ list_any (is_met_at pick self.now ms (read state.old)) (read state.old).timers) }
+        ensures state { OnOk result (state.new ≡ state.old) }
+        ensures none { OnOk result (trial.new.edits.items ≡ []) }
+    {
+        let timers = state.timers(alloc)?;
+        'timers: for entry in timers.as_slice() {
+            if self.is_met_at(alloc, state, pick, trial, ms, *entry)? {
+                return Ok(true);
+            }
+        }
+        Ok(false)
+    }
+
+    // Is it met when a timer is due, if that is within so many milliseconds?
+    fn is_met_at(
+        &self,
+        alloc: Global,
+        state: &mut State,
+        pick: Pick,
+        trial: &mut Trial,
+        ms: u64,
+        entry: (u64, Timer),
+    ) -> Result<bool, OutOfMemory>
+        requires valid { IsValid (read state.old) }
+        requires none { trial.old.edits.items ≡ [] }
+        ensures met { IfOk result (λ met. met ≡ is_met_at pick self.now ms (read state.old) entry) }
+        ensures state { OnOk result (state.new ≡ state.old) }
+        ensures none { OnOk result (trial.new.edits.items ≡ []) }
+    {
+        let tick = ms_to(state, entry);
+        if tick > ms {
+            return Ok(false);
+        }
+        let event = Event::Tick { ms: tick };
+        if refusal_of(state, &event).is_some() {
+            return Ok(false);
+        }
+        trial.make(alloc, state, &event, pick)?;
+        let met = self.is_met(state);
+        trial.take_back(state);
+        Ok(met)
+    }
+
+    // Are all conditions of one of its lists so?
+    fn is_met(&self, state: &State) -> bool
+        ensures { result ≡ is_met self.now (read state.now) }
+    {
+        self.any_of
+            .iter()
+            .any(|conditions| are_so(conditions.as_slice(), state))
+    }
 }
 
 // Are all of these conditions so?

@@ -10,15 +10,15 @@ ghost use Rattle.rh_state.specs.Stored.{read};
 ghost use Rattle.rh_rules.specs.Refusals.{refused};
 ghost use Rattle.rh_keys.specs.ShiftLaws.{is_limit};
 ghost use Rattle.rh_trace.specs.Validity.{IsValid};
-ghost use Rattle.rh_step.specs.Runs.{step};
 ghost use Rattle.rh_explore.specs.Reaching.{not_up_count};
 ghost use Rattle.rh_explore.specs.Spaces.{StepsTo};
 ghost use Rattle.rh_explore.specs.Kept.{child_by};
 
+use crate::trial::Trial;
 use rh_base::OutOfMemory;
 use rh_model::Node;
-use rh_state::{Edit, Mode, State, go_back};
-use rh_step::{Event, Notice, Pick, Refusal, perform, refusal_of};
+use rh_state::{Mode, State};
+use rh_step::{Event, Pick, Refusal, refusal_of};
 use std::alloc::Global;
 
 /// Where an event leads.
@@ -36,42 +36,38 @@ pub(crate) enum Way {
 #[derive(Drop)]
 pub(crate) struct Probe {
     pub(crate) state: State,
-    // What the event that led to this state from the one before it has changed, if there is one.
-    entered: Vec<Edit>,
-    // What the event that is tried has changed. Like the notices, the edits of the next one are kept in the same memory.
-    edits: Vec<Edit>,
-    // What it told, which nobody reads.
-    notices: Vec<Notice>,
+    // The event that led to this state from the one before it, if there is one.
+    entered: Trial,
+    // The event that is tried.
+    tried: Trial,
 }
 
 impl Probe {
     /// In this state no event is tried yet.
     pub(crate) fn of(alloc: Global, state: State) -> Probe
         ensures state { result.state ≡ state }
-        ensures none { result.edits.items ≡ [] }
-        ensures unmoved { result.entered.items ≡ [] }
+        ensures none { result.tried.edits.items ≡ [] }
+        ensures unmoved { result.entered.edits.items ≡ [] }
     {
         Probe {
             state,
-            entered: Vec::new(alloc),
-            edits: Vec::new(alloc),
-            notices: Vec::new(alloc),
+            entered: Trial::of(alloc),
+            tried: Trial::of(alloc),
         }
     }
 
     /// Goes over to another state, in which no event is tried yet.
     pub(crate) fn begin(&mut self, state: State)
         ensures state { self.new.state ≡ state }
-        ensures none { self.new.edits.items ≡ [] }
-        ensures unmoved { self.new.entered.items ≡ [] }
+        ensures none { self.new.tried.edits.items ≡ [] }
+        ensures unmoved { self.new.entered.edits.items ≡ [] }
     {
         self.state = state;
-        self.entered.clear();
-        self.edits.clear();
+        self.entered.forget();
+        self.tried.forget();
     }
 
     /// Goes over to the state that was found from this one by an event, if there is one, which was accepted then.
-    #[tactic(auto, unfolding(rh_step::specs::Runs::step))]
     pub(crate) fn enter(
         &mut self,
         alloc: Global,
@@ -80,34 +76,25 @@ impl Probe {
     ) -> Result<(), OutOfMemory>
         requires accepted { (from : ℕ) (e : Event) → last ≡ Some (from, e) → refused (read self.old.state) e ≡ None }
         requires valid { IsValid (read self.old.state) }
-        requires unmoved { self.old.entered.items ≡ [] }
+        requires unmoved { self.old.entered.edits.items ≡ [] }
         ensures state { OnOk result (read self.new.state ≡ child_by pick (read self.old.state) last) }
-        ensures led { OnOk result (LedBy self.old.state self.new.entered.items self.new.state) }
-        ensures edits { OnOk result (self.new.edits.items ≡ self.old.edits.items) }
+        ensures led { OnOk result (LedBy self.old.state self.new.entered.edits.items self.new.state) }
+        ensures tried { OnOk result (self.new.tried ≡ self.old.tried) }
     {
-        self.notices.clear();
         match last {
             None => Ok(()),
-            Some((_, event)) => perform(
-                alloc,
-                &mut self.state,
-                &event,
-                pick,
-                &mut self.entered,
-                &mut self.notices,
-            ),
+            Some((_, event)) => self.entered.make(alloc, &mut self.state, &event, pick),
         }
     }
 
     /// Goes back to the state from which this one was found.
     pub(crate) fn leave(&mut self)
-        requires { AllBack exchange CanGoBack self.old.state self.old.entered.items }
-        ensures state { self.new.state ≡ back exchange self.old.state self.old.entered.items }
-        ensures unmoved { self.new.entered.items ≡ [] }
-        ensures edits { self.new.edits.items ≡ self.old.edits.items }
+        requires { AllBack exchange CanGoBack self.old.state self.old.entered.edits.items }
+        ensures state { self.new.state ≡ back exchange self.old.state self.old.entered.edits.items }
+        ensures unmoved { self.new.entered.edits.items ≡ [] }
+        ensures tried { self.new.tried ≡ self.old.tried }
     {
-        go_back(self.entered.as_mut_slice(), &mut self.state);
-        self.entered.clear();
+        self.entered.take_back(&mut self.state);
     }
 
     /// Makes an event, and says where it leads, if no more nodes may not be up behind it than these.
@@ -119,10 +106,10 @@ impl Probe {
         down: usize,
     ) -> Result<Way, OutOfMemory>
         requires valid { IsValid (read self.old.state) }
-        requires none { self.old.edits.items ≡ [] }
+        requires none { self.old.tried.edits.items ≡ [] }
         ensures way { IfOk result (λ way. StepsTo pick down (read self.old.state) event.now way (read self.new.state)) }
-        ensures led { OnOk result (LedBy self.old.state self.new.edits.items self.new.state) }
-        ensures entered { self.new.entered.items ≡ self.old.entered.items }
+        ensures led { OnOk result (LedBy self.old.state self.new.tried.edits.items self.new.state) }
+        ensures entered { self.new.entered ≡ self.old.entered }
     {
         if let Some(refusal) = refusal_of(&self.state, event) {
             if is_limit(refusal) {
@@ -130,45 +117,21 @@ impl Probe {
             }
             return Ok(Way::Nowhere);
         }
-        self.perform(alloc, event, pick)?;
+        self.tried.make(alloc, &mut self.state, event, pick)?;
         if not_up_count(&self.state) > down {
             return Ok(Way::Nowhere);
         }
         Ok(Way::To)
     }
 
-    // Makes an event that isn't refused.
-    #[tactic(auto, unfolding(rh_step::specs::Runs::step), using(crate::proofs::Stepped::cluster_kept))]
-    fn perform(&mut self, alloc: Global, event: &Event, pick: Pick) -> Result<(), OutOfMemory>
-        requires accepted { refused (read self.old.state) event.now ≡ None }
-        requires valid { IsValid (read self.old.state) }
-        requires none { self.old.edits.items ≡ [] }
-        ensures state { OnOk result (read self.new.state ≡ step pick (read self.old.state) event.now) }
-        ensures valid { OnOk result (IsValid (read self.new.state)) }
-        ensures cluster { OnOk result ((read self.new.state).cluster ≡ (read self.old.state).cluster) }
-        ensures led { OnOk result (LedBy self.old.state self.new.edits.items self.new.state) }
-        ensures entered { self.new.entered.items ≡ self.old.entered.items }
-    {
-        self.notices.clear();
-        perform(
-            alloc,
-            &mut self.state,
-            event,
-            pick,
-            &mut self.edits,
-            &mut self.notices,
-        )
-    }
-
-    /// Takes back what the event that is tried has changed.
+    /// Takes back the event that is tried.
     pub(crate) fn take_back(&mut self)
-        requires { AllBack exchange CanGoBack self.old.state self.old.edits.items }
-        ensures state { self.new.state ≡ back exchange self.old.state self.old.edits.items }
-        ensures none { self.new.edits.items ≡ [] }
-        ensures entered { self.new.entered.items ≡ self.old.entered.items }
+        requires { AllBack exchange CanGoBack self.old.state self.old.tried.edits.items }
+        ensures state { self.new.state ≡ back exchange self.old.state self.old.tried.edits.items }
+        ensures none { self.new.tried.edits.items ≡ [] }
+        ensures entered { self.new.entered ≡ self.old.entered }
     {
-        go_back(self.edits.as_mut_slice(), &mut self.state);
-        self.edits.clear();
+        self.tried.take_back(&mut self.state);
     }
 }
 

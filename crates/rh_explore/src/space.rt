@@ -15,6 +15,7 @@ use crate::asking::Ask;
 use crate::bounds::{Bounds, Covered};
 use crate::failures::Failures;
 use crate::front::Front;
+use crate::moves::Move;
 use crate::reaching::Way;
 use indexmap::IndexSet;
 use rh_base::OutOfMemory;
@@ -50,13 +51,14 @@ pub(crate) struct Space {
 
 impl Space {
     // The base alone.
-    fn of(alloc: Global, base: &State, asks: &[Ask]) -> Result<Space, OutOfMemory>
+    fn of(alloc: Global, base: &State, pick: Pick, asks: &[Ask]) -> Result<Space, OutOfMemory>
         requires { IsValid (read base.now) }
         ensures found { IfOk result (λ space. space.found.items ≡ record { last = None; depth = 0 } ∷ []) }
         ensures keys { IfOk result (λ space. bytes_of space ≡ code (packed_key (read base.now)) ∷ []) }
         ensures idle { IfOk result (λ space. IsIdle space.front.probe) }
         ensures front { IfOk result (λ space. waiting_in space.front ≡ read base.now ∷ []) }
-        ensures failures { IfOk result (λ space. AreFailures space.failures.firsts.items space.failures.left.items asks.now (read base.now ∷ [])) }
+        ensures failures { IfOk result (λ space. AreFailures pick space.failures.firsts.items space.failures.left.items asks.now (read base.now ∷ [])) }
+        ensures calm { IfOk result (λ space. space.failures.trial.edits.items ≡ []) }
     {
         let mut space = Space {
             found: Vec::new(alloc),
@@ -71,7 +73,7 @@ impl Space {
             last: None,
             depth: 0,
         };
-        space.push(key, found, asks)?;
+        space.push(alloc, key, found, pick, asks)?;
         Ok(space)
     }
 
@@ -90,19 +92,30 @@ impl Space {
     }
 
     // Adds the state of the probe with its key, which isn't there.
-    fn push(&mut self, key: Key, found: Found, asks: &[Ask]) -> Result<(), OutOfMemory>
+    fn push(
+        &mut self,
+        alloc: Global,
+        key: Key,
+        found: Found,
+        pick: Pick,
+        asks: &[Ask],
+    ) -> Result<(), OutOfMemory>
         requires new { Contains (bytes_of self.old) key.bytes.items → ⊥ }
+        requires valid { IsValid (read self.old.front.probe.state) }
+        requires calm { self.old.failures.trial.edits.items ≡ [] }
         requires failures { (states : List StateView) × (length self.old.found.items ≡ length states)
-            × AreFailures self.old.failures.firsts.items self.old.failures.left.items asks.now states }
+            × AreFailures pick self.old.failures.firsts.items self.old.failures.left.items asks.now states }
         ensures found { OnOk result (self.new.found.items ≡ self.old.found.items ++ found ∷ []) }
         ensures keys { OnOk result (bytes_of self.new ≡ bytes_of self.old ++ key.bytes.items ∷ []) }
-        ensures failures { (states : List StateView) → length self.old.found.items ≡ length states
-            → AreFailures self.old.failures.firsts.items self.old.failures.left.items asks.now states
-            → AreFailures self.new.failures.firsts.items self.new.failures.left.items asks.now (states ++ read self.old.front.probe.state ∷ []) }
+        ensures failures { OnOk result ((states : List StateView) → length self.old.found.items ≡ length states
+            → AreFailures pick self.old.failures.firsts.items self.old.failures.left.items asks.now states
+            → AreFailures pick self.new.failures.firsts.items self.new.failures.left.items asks.now (states ++ read self.old.front.probe.state ∷ [])) }
+        ensures calm { OnOk result (self.new.failures.trial.edits.items ≡ []) }
         ensures front { OnOk result (self.new.front ≡ self.old.front) }
     {
-        self.failures
-            .ask(asks, self.found.len(), &self.front.probe.state);
+        let number = self.found.len();
+        let state = &mut self.front.probe.state;
+        self.failures.ask(alloc, asks, pick, number, state)?;
         self.keys.insert(key)?;
         self.found.push(found)?;
         Ok(())
@@ -115,7 +128,7 @@ impl Space {
         self.keys.contains(&self.maker.key)
     }
 
-    // Makes the state of this number of the one from which it was found, makes each event that may come in it, keeps the states behind,
+    // Makes the state of this number of the one from which it was found, makes each move that it allows, keeps the states behind,
     // and goes back. It is false if there was one too many, or if a limit of starts or of time refused one: a state that is alike might
     // accept it.
     fn visit(
@@ -124,26 +137,26 @@ impl Space {
         at: usize,
         base: &State,
         pick: Pick,
-        events: &[Event],
+        moves: &[Move],
         bounds: &Bounds,
         asks: &[Ask],
     ) -> Result<bool, OutOfMemory>
-        requires kept { IsKept (scope_of base.now pick events.now bounds.now) asks.now self.old }
+        requires kept { IsKept (scope_of base.now pick moves.now bounds.now) asks.now self.old }
         requires short { IsShort bounds.now self.old.found.items at }
-        requires front { IsTakenUp (scope_of base.now pick events.now bounds.now) self.old at }
-        requires begun { IsExpandedAt (scope_of base.now pick events.now bounds.now) (seen_of (scope_of base.now pick events.now bounds.now) self.old.found.items) at 0 }
-        ensures kept { OnOk result (IsKept (scope_of base.now pick events.now bounds.now) asks.now self.new) }
+        requires front { IsTakenUp (scope_of base.now pick moves.now bounds.now) self.old at }
+        requires begun { IsExpandedAt (scope_of base.now pick moves.now bounds.now) (seen_of (scope_of base.now pick moves.now bounds.now) self.old.found.items) at 0 }
+        ensures kept { OnOk result (IsKept (scope_of base.now pick moves.now bounds.now) asks.now self.new) }
         ensures made { IfOk result (λ all. MatchBool all
-            (IsExpandedAt (scope_of base.now pick events.now bounds.now) (seen_of (scope_of base.now pick events.now bounds.now) self.new.found.items) at (length events.now))
-            ((made : ℕ) × IsExpandedAt (scope_of base.now pick events.now bounds.now) (seen_of (scope_of base.now pick events.now bounds.now) self.new.found.items) at made
-            × IsCut (scope_of base.now pick events.now bounds.now) bounds.now.states (seen_of (scope_of base.now pick events.now bounds.now) self.new.found.items) at)) }
-        ensures front { IfOk result (λ all. MatchBool all (IsFront (scope_of base.now pick events.now bounds.now) self.new (at + 1)) ⊤) }
+            (IsExpandedAt (scope_of base.now pick moves.now bounds.now) (seen_of (scope_of base.now pick moves.now bounds.now) self.new.found.items) at (length moves.now))
+            ((made : ℕ) × IsExpandedAt (scope_of base.now pick moves.now bounds.now) (seen_of (scope_of base.now pick moves.now bounds.now) self.new.found.items) at made
+            × IsCut (scope_of base.now pick moves.now bounds.now) bounds.now.states (seen_of (scope_of base.now pick moves.now bounds.now) self.new.found.items) at)) }
+        ensures front { IfOk result (λ all. MatchBool all (IsFront (scope_of base.now pick moves.now bounds.now) self.new (at + 1)) ⊤) }
         ensures grown { OnOk result (GoesOnFrom self.old.found.items self.new.found.items) }
         ensures room { OnOk result (length self.new.found.items ≤ max (length self.old.found.items) bounds.now.states) }
     {
         self.front.probe.enter(alloc, self.found[at].last, pick)?;
         let before = self.found.len();
-        if !self.expand(alloc, at, base, pick, events, bounds, asks)? {
+        if !self.expand(alloc, at, base, pick, moves, bounds, asks)? {
             return Ok(false);
         }
         self.front.keep(alloc, self.found.len() - before)?;
@@ -151,76 +164,79 @@ impl Space {
         Ok(true)
     }
 
-    // Makes each event that may come in the state of this number, and keeps what was found. It is false where `visit` is.
+    // Makes each move in the state of this number, where it may come, and keeps what was found. It is false where `visit` is.
     fn expand(
         &mut self,
         alloc: Global,
         at: usize,
         base: &State,
         pick: Pick,
-        events: &[Event],
+        moves: &[Move],
         bounds: &Bounds,
         asks: &[Ask],
     ) -> Result<bool, OutOfMemory>
-        requires kept { IsKept (scope_of base.now pick events.now bounds.now) asks.now self.old }
+        requires kept { IsKept (scope_of base.now pick moves.now bounds.now) asks.now self.old }
         requires short { IsShort bounds.now self.old.found.items at }
-        requires untried { IsUntried self.old.front.probe (seen_of (scope_of base.now pick events.now bounds.now) self.old.found.items) at }
-        requires begun { IsExpandedAt (scope_of base.now pick events.now bounds.now) (seen_of (scope_of base.now pick events.now bounds.now) self.old.found.items) at 0 }
-        ensures kept { OnOk result (IsKept (scope_of base.now pick events.now bounds.now) asks.now self.new) }
+        requires untried { IsUntried self.old.front.probe (seen_of (scope_of base.now pick moves.now bounds.now) self.old.found.items) at }
+        requires begun { IsExpandedAt (scope_of base.now pick moves.now bounds.now) (seen_of (scope_of base.now pick moves.now bounds.now) self.old.found.items) at 0 }
+        ensures kept { OnOk result (IsKept (scope_of base.now pick moves.now bounds.now) asks.now self.new) }
         ensures made { IfOk result (λ all. MatchBool all
-            (IsExpandedAt (scope_of base.now pick events.now bounds.now) (seen_of (scope_of base.now pick events.now bounds.now) self.new.found.items) at (length events.now))
-            ((made : ℕ) × IsExpandedAt (scope_of base.now pick events.now bounds.now) (seen_of (scope_of base.now pick events.now bounds.now) self.new.found.items) at made
-            × IsCut (scope_of base.now pick events.now bounds.now) bounds.now.states (seen_of (scope_of base.now pick events.now bounds.now) self.new.found.items) at)) }
+            (IsExpandedAt (scope_of base.now pick moves.now bounds.now) (seen_of (scope_of base.now pick moves.now bounds.now) self.new.found.items) at (length moves.now))
+            ((made : ℕ) × IsExpandedAt (scope_of base.now pick moves.now bounds.now) (seen_of (scope_of base.now pick moves.now bounds.now) self.new.found.items) at made
+            × IsCut (scope_of base.now pick moves.now bounds.now) bounds.now.states (seen_of (scope_of base.now pick moves.now bounds.now) self.new.found.items) at)) }
         ensures back { IfOk result (λ all. MatchBool all (IsTakenBack self.old.front.probe self.new.front.probe) ⊤) }
         ensures front { OnOk result (IsSameFront self.old.front self.new.front) }
-        ensures family { OnOk result (IsFamily (scope_of base.now pick events.now bounds.now) (read self.old.front.probe.state) self.old.found.items self.new.found.items) }
+        ensures family { OnOk result (IsFamily (scope_of base.now pick moves.now bounds.now) (read self.old.front.probe.state) self.old.found.items self.new.found.items) }
         ensures grown { OnOk result (GoesOnFrom self.old.found.items self.new.found.items) }
         ensures room { OnOk result (length self.new.found.items ≤ max (length self.old.found.items) bounds.now.states) }
     {
-        'events: for event in events {
-            if !self.reach(alloc, at, event, base, pick, events, bounds, asks)? {
+        'moves: for one in moves {
+            if !self.reach(alloc, at, *one, base, pick, moves, bounds, asks)? {
                 return Ok(false);
             }
         }
         Ok(true)
     }
 
-    // Makes an event in the state of this number, if it may come there, and keeps what was found. It is false if it is one too many, or
+    // Makes a move in the state of this number, if it may come there, and keeps what was found. It is false if it is one too many, or
     // if a limit refused the event.
     fn reach(
         &mut self,
         alloc: Global,
         at: usize,
-        event: &Event,
+        one: Move,
         base: &State,
         pick: Pick,
-        events: &[Event],
+        moves: &[Move],
         bounds: &Bounds,
         asks: &[Ask],
     ) -> Result<bool, OutOfMemory>
-        requires kept { IsKept (scope_of base.now pick events.now bounds.now) asks.now self.old }
+        requires kept { IsKept (scope_of base.now pick moves.now bounds.now) asks.now self.old }
         requires short { IsShort bounds.now self.old.found.items at }
-        requires untried { IsUntried self.old.front.probe (seen_of (scope_of base.now pick events.now bounds.now) self.old.found.items) at }
-        requires begun { (made : ℕ) × (slice_get events.now made ≡ Some event.now)
-            × IsExpandedAt (scope_of base.now pick events.now bounds.now) (seen_of (scope_of base.now pick events.now bounds.now) self.old.found.items) at made }
-        ensures kept { OnOk result (IsKept (scope_of base.now pick events.now bounds.now) asks.now self.new) }
-        ensures made { IfOk result (λ went. (made : ℕ) → slice_get events.now made ≡ Some event.now
-            → IsExpandedAt (scope_of base.now pick events.now bounds.now) (seen_of (scope_of base.now pick events.now bounds.now) self.old.found.items) at made
+        requires untried { IsUntried self.old.front.probe (seen_of (scope_of base.now pick moves.now bounds.now) self.old.found.items) at }
+        requires begun { (made : ℕ) × (slice_get moves.now made ≡ Some one)
+            × IsExpandedAt (scope_of base.now pick moves.now bounds.now) (seen_of (scope_of base.now pick moves.now bounds.now) self.old.found.items) at made }
+        ensures kept { OnOk result (IsKept (scope_of base.now pick moves.now bounds.now) asks.now self.new) }
+        ensures made { IfOk result (λ went. (made : ℕ) → slice_get moves.now made ≡ Some one
+            → IsExpandedAt (scope_of base.now pick moves.now bounds.now) (seen_of (scope_of base.now pick moves.now bounds.now) self.old.found.items) at made
             → MatchBool went
-            (IsExpandedAt (scope_of base.now pick events.now bounds.now) (seen_of (scope_of base.now pick events.now bounds.now) self.new.found.items) at (made + 1))
-            (IsExpandedAt (scope_of base.now pick events.now bounds.now) (seen_of (scope_of base.now pick events.now bounds.now) self.new.found.items) at made
-            × IsCut (scope_of base.now pick events.now bounds.now) bounds.now.states (seen_of (scope_of base.now pick events.now bounds.now) self.new.found.items) at)) }
+            (IsExpandedAt (scope_of base.now pick moves.now bounds.now) (seen_of (scope_of base.now pick moves.now bounds.now) self.new.found.items) at (made + 1))
+            (IsExpandedAt (scope_of base.now pick moves.now bounds.now) (seen_of (scope_of base.now pick moves.now bounds.now) self.new.found.items) at made
+            × IsCut (scope_of base.now pick moves.now bounds.now) bounds.now.states (seen_of (scope_of base.now pick moves.now bounds.now) self.new.found.items) at)) }
         ensures back { IfOk result (λ went. MatchBool went (IsTakenBack self.old.front.probe self.new.front.probe) ⊤) }
         ensures front { OnOk result (IsSameFront self.old.front self.new.front) }
-        ensures family { OnOk result (IsFamily (scope_of base.now pick events.now bounds.now) (read self.old.front.probe.state) self.old.found.items self.new.found.items) }
+        ensures family { OnOk result (IsFamily (scope_of base.now pick moves.now bounds.now) (read self.old.front.probe.state) self.old.found.items self.new.found.items) }
         ensures grown { OnOk result (GoesOnFrom self.old.found.items self.new.found.items) }
         ensures room { OnOk result (length self.new.found.items ≤ max (length self.old.found.items) bounds.now.states) }
     {
         // Only the contract speaks of these.
         let _ = base;
-        let _ = events;
+        let _ = moves;
         let _steps = bounds.steps;
-        let way = self.front.probe.make(alloc, event, pick, bounds.down)?;
+        let Some(event) = one.event_in(&self.front.probe.state) else {
+            return Ok(true);
+        };
+        let way = self.front.probe.make(alloc, &event, pick, bounds.down)?;
         match way {
             Way::To => {}
             Way::Nowhere => {
@@ -239,40 +255,40 @@ impl Space {
         }
         let key = self.maker.key.copy(alloc)?;
         let found = Found {
-            last: Some((at, *event)),
+            last: Some((at, event)),
             depth: self.found[at].depth + 1,
         };
-        self.push(key, found, asks)?;
+        self.push(alloc, key, found, pick, asks)?;
         self.front.probe.take_back();
         Ok(true)
     }
 }
 
-/// All states that these events reach from the base, within the bounds, which lists of events were looked at, and what holds in them.
+/// All states that these moves reach from the base, within the bounds, which lists of events were looked at, and what holds in them.
 pub(crate) fn search(
     alloc: Global,
     base: &State,
     pick: Pick,
-    events: &[Event],
+    moves: &[Move],
     bounds: &Bounds,
     asks: &[Ask],
 ) -> Result<(Space, Covered), OutOfMemory>
     requires { IsValid (read base.now) }
-    ensures kept { IfOk result (λ found. IsKept (scope_of base.now pick events.now bounds.now) asks.now found.0) }
-    ensures searched { IfOk result (λ found. (done : ℕ) × IsSearched (scope_of base.now pick events.now bounds.now) (seen_of (scope_of base.now pick events.now bounds.now) found.0.found.items) done
-        × IsNear (seen_of (scope_of base.now pick events.now bounds.now) found.0.found.items) done × IsEnd (seen_of (scope_of base.now pick events.now bounds.now) found.0.found.items) done found.1) }
-    ensures few { IfOk result (λ found. All (λ (x : Seen). length x.path ≤ bounds.now.steps) (seen_of (scope_of base.now pick events.now bounds.now) found.0.found.items)) }
+    ensures kept { IfOk result (λ found. IsKept (scope_of base.now pick moves.now bounds.now) asks.now found.0) }
+    ensures searched { IfOk result (λ found. (done : ℕ) × IsSearched (scope_of base.now pick moves.now bounds.now) (seen_of (scope_of base.now pick moves.now bounds.now) found.0.found.items) done
+        × IsNear (seen_of (scope_of base.now pick moves.now bounds.now) found.0.found.items) done × IsEnd (seen_of (scope_of base.now pick moves.now bounds.now) found.0.found.items) done found.1) }
+    ensures few { IfOk result (λ found. All (λ (x : Seen). length x.path ≤ bounds.now.steps) (seen_of (scope_of base.now pick moves.now bounds.now) found.0.found.items)) }
     ensures covers { IfOk result (λ found. length found.0.found.items < bounds.now.states
-        → StaysBelowLimits (scope_of base.now pick events.now bounds.now) bounds.now.steps → CoversAll bounds.now.steps found.1) }
+        → StaysBelowLimits (scope_of base.now pick moves.now bounds.now) bounds.now.steps → CoversAll bounds.now.steps found.1) }
 {
-    let mut space = Space::of(alloc, base, asks)?;
+    let mut space = Space::of(alloc, base, pick, asks)?;
     let mut next = 0;
     'states: while space.front.take_up() {
         let depth = space.found[next].depth;
         if depth >= bounds.steps {
             return Ok((space, Covered::UpTo(bounds.steps)));
         }
-        let all = space.visit(alloc, next, base, pick, events, bounds, asks)?;
+        let all = space.visit(alloc, next, base, pick, moves, bounds, asks)?;
         if !all {
             return Ok((space, Covered::UpTo(depth)));
         }

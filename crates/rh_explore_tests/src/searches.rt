@@ -1,7 +1,7 @@
 //! Searches through all states of the clusters of the tests.
 
 use rh_cluster::{App, Node, read_cluster};
-use rh_explore::{Ask, Bounds, Condition, Covered, Explored, Verdict, explore};
+use rh_explore::{Ask, Bounds, Condition, Covered, Explored, Move, Verdict, explore};
 use rh_samples::{CAVE, ONE_NODE};
 use rh_step::{Event, Pick};
 use rh_trail::Sim;
@@ -9,14 +9,14 @@ use std::alloc::Global;
 use std::process::Abort;
 
 // What may happen to three nodes: crashes, boots, and a second that passes.
-static FAILURES: [Event; 7] = [
-    Event::Crash { node: Node(0) },
-    Event::Crash { node: Node(1) },
-    Event::Crash { node: Node(2) },
-    Event::Boot { node: Node(0) },
-    Event::Boot { node: Node(1) },
-    Event::Boot { node: Node(2) },
-    Event::Tick { ms: 1_000 },
+static FAILURES: [Move; 7] = [
+    Move::Make(Event::Crash { node: Node(0) }),
+    Move::Make(Event::Crash { node: Node(1) }),
+    Move::Make(Event::Crash { node: Node(2) }),
+    Move::Make(Event::Boot { node: Node(0) }),
+    Move::Make(Event::Boot { node: Node(1) }),
+    Move::Make(Event::Boot { node: Node(2) }),
+    Move::Make(Event::Tick { ms: 1_000 }),
 ];
 
 static ALL_BOOT: [Event; 3] = [
@@ -25,9 +25,9 @@ static ALL_BOOT: [Event; 3] = [
     Event::Boot { node: Node(2) },
 ];
 
-static ONE_BOOTS: [Event; 2] = [
-    Event::Boot { node: Node(0) },
-    Event::Crash { node: Node(0) },
+static ONE_BOOTS: [Move; 2] = [
+    Move::Make(Event::Boot { node: Node(0) }),
+    Move::Make(Event::Crash { node: Node(0) }),
 ];
 
 // What is found on the cluster that a text describes, from the state behind the first events.
@@ -36,7 +36,7 @@ fn explored(
     alloc: Global,
     text: &str,
     first: &[Event],
-    may: &[Event],
+    may: &[Move],
     bounds: &Bounds,
     asks: &[Ask],
 ) -> Explored {
@@ -90,7 +90,11 @@ fn ask_of(rt: &impl Abort, alloc: Global, always: bool, lists: &[&[Condition]]) 
             .ok()
             .expect(rt, "memory");
     }
-    Ask { always, any_of }
+    Ask {
+        always,
+        within: None,
+        any_of,
+    }
 }
 
 // As many states as a search by another program counts, which merges states that are alike, too; and a model checker.
@@ -145,9 +149,9 @@ fn few_nodes_may_be_down(rt: HostRuntime) {
 #[test]
 fn limit_of_time_ends_a_search(rt: HostRuntime) {
     let a_while = [Event::Tick { ms: 1 }];
-    let for_ever = [Event::Tick {
+    let for_ever = [Move::Make(Event::Tick {
         ms: 1_000_000_000_000,
-    }];
+    })];
     let no_asks = Vec::new(rt.alloc());
     let at_first = explored(
         &rt,
@@ -251,4 +255,54 @@ fn verdicts_are_told(rt: HostRuntime) {
     };
     assert!(rt; length == 7);
     assert!(rt; matches!(found.verdicts[1], Verdict::Holds));
+}
+
+// Where the first node ends, the application is lost until its timer fires, and a wait is as long as that; then no timer is set.
+#[test]
+fn time_passes_to_the_next_timer(rt: HostRuntime) {
+    let app = App(0);
+    let somewhere = [[Condition::RunsSomewhere(app)].as_slice()];
+    let mut soon = ask_of(&rt, rt.alloc(), true, somewhere.as_slice());
+    soon.within = Some(5_000);
+    let mut too_soon = ask_of(&rt, rt.alloc(), true, somewhere.as_slice());
+    too_soon.within = Some(4_999);
+    let may = [Move::Make(Event::Crash { node: Node(0) }), Move::Wait];
+    let found = explored(
+        &rt,
+        rt.alloc(),
+        CAVE,
+        ALL_BOOT.as_slice(),
+        may.as_slice(),
+        &up_to(9),
+        [soon, too_soon].as_slice(),
+    );
+    assert!(rt; found.states == 3);
+    assert!(rt; found.deepest == 2);
+    assert!(rt; found.covered == Covered::All);
+    assert_eq!(rt; found.verdicts.len(), 2);
+    assert!(rt; matches!(found.verdicts[0], Verdict::Holds));
+    let length = match &found.verdicts[1] {
+        Verdict::Holds => 0,
+        Verdict::Fails(events) => events.len(),
+    };
+    assert!(rt; length == 1);
+}
+
+// A node that waits for others in vain ends when its time is over: then all are down again.
+#[test]
+fn waiting_ends_a_node(rt: HostRuntime) {
+    let may = [Move::Make(Event::Boot { node: Node(0) }), Move::Wait];
+    let no_asks = Vec::new(rt.alloc());
+    let found = explored(
+        &rt,
+        rt.alloc(),
+        CAVE,
+        [].as_slice(),
+        may.as_slice(),
+        &up_to(9),
+        no_asks.as_slice(),
+    );
+    assert!(rt; found.states == 2);
+    assert!(rt; found.deepest == 1);
+    assert!(rt; found.covered == Covered::All);
 }

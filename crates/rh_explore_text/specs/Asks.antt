@@ -1,25 +1,28 @@
 -- What is asked of states, as words (ours).
-use Rattle.std.specs.Prelude.{ℕ, List, [], ◌∷◌, ◌++◌, map, Bool, true, false, not, ◌&&◌, ◌==◌, length, if◌then◌else◌, codes, Option, Some, None, is_some, unwrap_or}
+use Rattle.std.specs.Prelude.{ℕ, List, [], ◌∷◌, ◌++◌, map, Bool, true, false, not, ◌-◌, nat_le, ◌&&◌, ◌==◌, length, take, slice_get, if◌then◌else◌, codes, Option, Some, None, is_some, unwrap_or}
 use Rattle.std.specs.Prelude.{option_map, Vec}
 use Rattle.std.specs.declared.alloc.Global.{Global}
 use Rattle.std.specs.List.{list_all}
 use Rattle.std.specs.Str.{bytes_eq}
 use Rattle.rh_model.specs.ClusterView.{ClusterView, node_of, app_of, numbered}
 use Rattle.rh_model.specs.declared.node.App.{App}
+use Rattle.rh_script.specs.Commands.{milliseconds}
 use Rattle.rh_explore.specs.declared.asking.Ask.{Ask}
 use Rattle.rh_explore.specs.declared.asking.Condition.{Condition}
 use Rattle.rh_explore.specs.declared.asking.Condition.TheVariants.{RunsSomewhere, IsNotUp}
 
--- what is asked: of each state or only of those without a timer, and the lists of conditions, of one of which all are to be so
+-- what is asked: of each state or only of those without a timer; in how many milliseconds it has to be met, if not at once; and the
+-- lists of conditions, of one of which all are to be so
 pub record AskView : Type 0 where
   pub always : Bool
+  pub within : Option ℕ
   pub any_of : List (List Condition)
 
 abbrev pub ways_view : Vec (Vec Condition Global) Global → List (List Condition)
 ways_view ways = map (λ way. way.items) ways.items
 
 abbrev pub ask_view : Ask → AskView
-ask_view ask = record { always = ask.always; any_of = ways_view ask.any_of }
+ask_view ask = record { always = ask.always; within = ask.within; any_of = ways_view ask.any_of }
 
 -- ---- its words
 
@@ -57,10 +60,32 @@ ways_named c (word ∷ name ∷ state ∷ more) =
     if bytes_eq word (codes "app") && bytes_eq state (codes "running") then ways_with (app_of c name) (other_ways c more) else None
 
 abbrev pub asked_of : Bool → Option (List (List Condition)) → Option AskView
-asked_of always = option_map (λ ways. record { always = always; any_of = ways })
+asked_of always = option_map (λ ways. record { always = always; within = None; any_of = ways })
 
 -- `always` in front: it is asked of each state
-abbrev pub ask_named : ClusterView → List (List ℕ) → Option AskView
-ask_named c [] = None
-ask_named c (word ∷ words) =
+abbrev pub at_once_named : ClusterView → List (List ℕ) → Option AskView
+at_once_named c [] = None
+at_once_named c (word ∷ words) =
     if bytes_eq word (codes "always") then asked_of true (ways_named c words) else asked_of false (ways_named c (word ∷ words))
+
+-- ---- `within D` behind it: it is asked of each state, and time may pass
+
+abbrev pub is_within : Option (List ℕ) → Bool
+is_within None = false
+is_within (Some word) = bytes_eq word (codes "within")
+
+-- the last word but one
+abbrev pub ends_within : List (List ℕ) → Bool
+ends_within words = nat_le 2 (length words) && is_within (slice_get words (length words - 2))
+
+-- so many milliseconds, the last word
+abbrev pub time_named : List (List ℕ) → Option ℕ
+time_named words = milliseconds (unwrap_or (slice_get words (length words - 1)) [])
+
+abbrev pub soon : Option ℕ → Option AskView → Option AskView
+soon None asked = None
+soon (Some ms) asked = option_map (λ (q : AskView). record q { always = true; within = Some ms }) asked
+
+abbrev pub ask_named : ClusterView → List (List ℕ) → Option AskView
+ask_named c words =
+    if ends_within words then soon (time_named words) (at_once_named c (take (length words - 2) words)) else at_once_named c words

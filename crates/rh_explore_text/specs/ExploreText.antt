@@ -38,7 +38,7 @@ abbrev pub base_of : ClusterView → Pick → SearchView → SimView
 base_of c pick q = sim_after (opened c pick) q.base
 
 abbrev pub scope_in : ClusterView → Pick → SearchView → Scope
-scope_in c pick q = record { base = state_of (base_of c pick q); pick = pick; events = q.events; down = q.down }
+scope_in c pick q = record { base = state_of (base_of c pick q); pick = pick; moves = q.moves; down = q.down }
 
 -- ---- the text
 

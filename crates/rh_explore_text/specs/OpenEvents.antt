@@ -7,6 +7,8 @@ use Rattle.rh_model.specs.declared.node.App.{App}
 use Rattle.rh_state.specs.Numbers.{nodes_of, apps_of}
 use Rattle.rh_rules.specs.declared.event.Event.{Event}
 use Rattle.rh_rules.specs.declared.event.Event.TheVariants.{Boot, Crash, Tick, Start, Stop, Permit, Takeover, Exit, StartAll, StopAll}
+use Rattle.rh_explore.specs.declared.moves.Move.{Move}
+use Rattle.rh_explore.specs.declared.moves.Move.TheVariants.{Make}
 use Rattle.rh_explore_text.specs.Words.{is_star_at}
 
 -- ---- the node and the application of an event
@@ -85,10 +87,14 @@ app_place e = if is_some (node_in e) then 2 else 1
 abbrev pub is_meant : ClusterView → List (List ℕ) → Event → Bool
 is_meant c words e = (not (is_open_node c e) || is_star_at words 1) && (not (is_open_app c e) || is_star_at words (app_place e))
 
+-- the event with another application, as a move
+abbrev pub move_at : Event → App → Move
+move_at e a = Make (at_app e a)
+
 -- the event with each application of the cluster, in the order of its file, where its own is none
-abbrev pub each_app : ClusterView → Event → List Event
-each_app c e = if is_open_app c e then map (at_app e) (apps_of c) else e ∷ []
+abbrev pub each_app : ClusterView → Event → List Move
+each_app c e = if is_open_app c e then map (move_at e) (apps_of c) else Make e ∷ []
 
 -- and with each node, where its own is none
-abbrev pub each_event : ClusterView → Event → List Event
-each_event c e = if is_open_node c e then flat_map (λ n. each_app c (at_node e n)) (nodes_of c) else each_app c e
+abbrev pub each_move : ClusterView → Event → List Move
+each_move c e = if is_open_node c e then flat_map (λ n. each_app c (at_node e n)) (nodes_of c) else each_app c e

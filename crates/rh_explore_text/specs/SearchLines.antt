@@ -10,16 +10,18 @@ use Rattle.rh_script.specs.declared.script.Line.{Line}
 use Rattle.rh_script.specs.declared.script.Line.TheVariants as line
 use Rattle.rh_script.specs.Commands.{words_of, milliseconds, line_of}
 use Rattle.rh_script.specs.Fitting.{first_unfit}
+use Rattle.rh_explore.specs.declared.moves.Move.{Move}
+use Rattle.rh_explore.specs.declared.moves.Move.TheVariants.{Wait}
 use Rattle.rh_explore_text.specs.declared.lines.SearchLine.{SearchLine}
 use Rattle.rh_explore_text.specs.declared.lines.SearchLine.TheVariants as asks
 use Rattle.rh_explore_text.specs.Words.{line_of_words}
-use Rattle.rh_explore_text.specs.OpenEvents.{is_meant, each_event}
+use Rattle.rh_explore_text.specs.OpenEvents.{is_meant, each_move}
 use Rattle.rh_explore_text.specs.Asks.{AskView, ask_named}
 
 abbrev pub no_line : SearchLine
 no_line = asks.Plain line.Bad
 
--- ---- `may EVENT`
+-- ---- `may EVENT` and `may wait`
 
 -- the event that a line of a script asks, if it asks one
 abbrev pub event_asked : Line → Option Event
@@ -37,9 +39,15 @@ abbrev pub meant : ClusterView → List (List ℕ) → Option Event → SearchLi
 meant c words None = no_line
 meant c words (Some event) = if is_meant c words event then asks.May event else no_line
 
--- the words are a command
+-- `wait` alone
+abbrev pub is_wait : List (List ℕ) → Bool
+is_wait [] = false
+is_wait (word ∷ []) = bytes_eq word (codes "wait")
+is_wait (word ∷ next ∷ words) = false
+
+-- the words are `wait`, or a command
 abbrev pub may_line : ClusterView → List (List ℕ) → SearchLine
-may_line c words = meant c words (event_asked (line_of c (line_of_words words)))
+may_line c words = if is_wait words then asks.MayWait else meant c words (event_asked (line_of c (line_of_words words)))
 
 -- ---- `down K` and `steps K`
 
@@ -108,6 +116,7 @@ fits_search begun (asks.Plain line.Nothing) = true
 fits_search begun (asks.Plain (line.Asks asked)) = if begun then false else true
 fits_search begun (asks.Plain line.Bad) = false
 fits_search begun (asks.May event) = true
+fits_search begun asks.MayWait = true
 fits_search begun (asks.Down k) = true
 fits_search begun (asks.Steps k) = true
 fits_search begun (asks.Asks question) = true
@@ -116,6 +125,7 @@ fits_search begun (asks.Asks question) = true
 abbrev pub begun_by : Bool → SearchLine → Bool
 begun_by begun (asks.Plain read) = begun
 begun_by begun (asks.May event) = true
+begun_by begun asks.MayWait = true
 begun_by begun (asks.Down k) = true
 begun_by begun (asks.Steps k) = true
 begun_by begun (asks.Asks question) = true
@@ -126,11 +136,11 @@ bad_search_line lines = first_unfit fits_search begun_by 1 false lines
 
 -- ---- what all of them ask
 
--- the commands of the base, which events may come, in how many nodes at most are not up, how many of them follow one another at most,
+-- the commands of the base, what may happen, behind which at most how many nodes are not up, how many events follow one another at most,
 -- and what is asked of each state
 pub record SearchView : Type 0 where
   pub base : List Call
-  pub events : List Event
+  pub moves : List Move
   pub down : ℕ
   pub steps : ℕ
   pub asks : List AskView
@@ -140,20 +150,23 @@ calls_in (asks.Plain line.Nothing) = []
 calls_in (asks.Plain (line.Asks asked)) = asked ∷ []
 calls_in (asks.Plain line.Bad) = []
 calls_in (asks.May event) = []
+calls_in asks.MayWait = []
 calls_in (asks.Down k) = []
 calls_in (asks.Steps k) = []
 calls_in (asks.Asks question) = []
 
-abbrev pub events_in : ClusterView → SearchLine → List Event
-events_in c (asks.Plain read) = []
-events_in c (asks.May event) = each_event c event
-events_in c (asks.Down k) = []
-events_in c (asks.Steps k) = []
-events_in c (asks.Asks question) = []
+abbrev pub moves_in : ClusterView → SearchLine → List Move
+moves_in c (asks.Plain read) = []
+moves_in c (asks.May event) = each_move c event
+moves_in c asks.MayWait = Wait ∷ []
+moves_in c (asks.Down k) = []
+moves_in c (asks.Steps k) = []
+moves_in c (asks.Asks question) = []
 
 abbrev pub down_in : SearchLine → List ℕ
 down_in (asks.Plain read) = []
 down_in (asks.May event) = []
+down_in asks.MayWait = []
 down_in (asks.Down k) = k ∷ []
 down_in (asks.Steps k) = []
 down_in (asks.Asks question) = []
@@ -161,6 +174,7 @@ down_in (asks.Asks question) = []
 abbrev pub steps_in : SearchLine → List ℕ
 steps_in (asks.Plain read) = []
 steps_in (asks.May event) = []
+steps_in asks.MayWait = []
 steps_in (asks.Down k) = []
 steps_in (asks.Steps k) = k ∷ []
 steps_in (asks.Asks question) = []
@@ -168,6 +182,7 @@ steps_in (asks.Asks question) = []
 abbrev pub asks_in : SearchLine → List AskView
 asks_in (asks.Plain read) = []
 asks_in (asks.May event) = []
+asks_in asks.MayWait = []
 asks_in (asks.Down k) = []
 asks_in (asks.Steps k) = []
 asks_in (asks.Asks question) = question ∷ []
@@ -185,7 +200,7 @@ most_steps = 2 ^ 32 - 1
 abbrev pub search_of : ClusterView → List SearchLine → SearchView
 search_of c lines = record {
   base = flat_map calls_in lines;
-  events = flat_map (events_in c) lines;
+  moves = flat_map (moves_in c) lines;
   down = last_or (node_count c) (flat_map down_in lines);
   steps = last_or most_steps (flat_map steps_in lines);
   asks = flat_map asks_in lines;

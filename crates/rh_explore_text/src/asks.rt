@@ -1,9 +1,10 @@
 //! What is asked of states, as words.
 
-ghost use Rattle.std.specs.Prelude.{◌≡◌, [], ◌∷◌, map, IfOk};
+ghost use Rattle.std.specs.Prelude.{◌≡◌, ◌≤◌, [], ◌∷◌, true, Some, None, length, map, IfOk, IsTrue};
 ghost use Rattle.std.specs.Option.{option_map};
-ghost use Rattle.rh_explore_text.specs.Asks.{ask_view, ways_view, are_nodes, down_at, all_down, other_ways, ways_with, ways_named, asked_of, ask_named};
+ghost use Rattle.rh_explore_text.specs.Asks.{ask_view, ways_view, are_nodes, down_at, all_down, other_ways, ways_with, ways_named, asked_of, at_once_named, ends_within, time_named, soon, ask_named};
 
+use crate::words::number_of;
 use rh_base::OutOfMemory;
 use rh_cluster::{App, Cluster, Node};
 use rh_explore::{Ask, Condition};
@@ -28,11 +29,27 @@ impl Model for Question {
 impl Question {
     // The question, whether it is asked of each state, and what is so in one of these ways.
     fn of(always: bool, any_of: Vec<Vec<Condition>>) -> Question
-        ensures { result ≡ record { always = always; any_of = ways_view any_of } }
+        ensures { result ≡ record { always = always; within = None; any_of = ways_view any_of } }
     {
         Question {
-            ask: Ask { always, any_of },
+            ask: Ask {
+                always,
+                within: None,
+                any_of,
+            },
         }
+    }
+
+    // The same of each state, where it may be met in so many milliseconds.
+    fn within(self, ms: u64) -> Question
+        ensures { result ≡ record self { always = true; within = Some ms } }
+    {
+        let ask = Ask {
+            always: true,
+            within: Some(ms),
+            any_of: self.ask.any_of,
+        };
+        Question { ask }
     }
 
     /// What is asked.
@@ -166,13 +183,13 @@ fn asked_of(always: bool, ways: Option<Vec<Vec<Condition>>>) -> Option<Question>
     }
 }
 
-/// What the words behind `ask` ask.
-pub fn ask_named(
+// What these words ask, without a time in which it has to be met.
+fn at_once_named(
     alloc: Global,
     cluster: &Cluster,
     words: &[&str],
 ) -> Result<Option<Question>, OutOfMemory>
-    ensures { IfOk result (λ asked. asked ≡ ask_named cluster.now (map (λ word. word.now) words.now)) }
+    ensures { IfOk result (λ asked. asked ≡ at_once_named cluster.now (map (λ word. word.now) words.now)) }
 {
     match words {
         [] => Ok(None),
@@ -183,4 +200,47 @@ pub fn ask_named(
             Ok(asked_of(false, ways_named(alloc, cluster, words)?))
         }
     }
+}
+
+// Is the last word but one `within`?
+fn ends_within(words: &[&str]) -> bool
+    ensures within { result ≡ ends_within (map (λ word. word.now) words.now) }
+    ensures two { IsTrue result → 2 ≤ length words.now }
+{
+    let count = words.len();
+    count >= 2 && words[count - 2] == "within"
+}
+
+// The milliseconds that the last word is.
+fn time_named(words: &[&str]) -> Option<u64>
+    requires { 2 ≤ length words.now }
+    ensures { result ≡ time_named (map (λ word. word.now) words.now) }
+{
+    number_of(words[words.len() - 1])
+}
+
+// The same question of each state, where it may be met in so many milliseconds.
+fn soon(ms: Option<u64>, asked: Option<Question>) -> Option<Question>
+    ensures { result ≡ soon ms asked }
+{
+    match (ms, asked) {
+        (Some(ms), Some(question)) => Some(question.within(ms)),
+        _ => None,
+    }
+}
+
+/// What the words behind `ask` ask.
+pub fn ask_named(
+    alloc: Global,
+    cluster: &Cluster,
+    words: &[&str],
+) -> Result<Option<Question>, OutOfMemory>
+    ensures { IfOk result (λ asked. asked ≡ ask_named cluster.now (map (λ word. word.now) words.now)) }
+{
+    if !ends_within(words) {
+        return at_once_named(alloc, cluster, words);
+    }
+    let front = &words[..words.len() - 2];
+    let asked = at_once_named(alloc, cluster, front)?;
+    Ok(soon(time_named(words), asked))
 }

@@ -3,11 +3,12 @@
 ghost use Rattle.std.specs.Prelude.{◌≡◌, ◌++◌, map, OnOk, IfOk};
 ghost use Rattle.std.specs.List.{flat_map};
 ghost use Rattle.rh_state.specs.Numbers.{nodes_of, apps_of};
-ghost use Rattle.rh_explore_text.specs.OpenEvents.{node_in, app_in, at_node, at_app, is_open_node, is_open_app, app_place, is_meant, each_app, each_event};
+ghost use Rattle.rh_explore_text.specs.OpenEvents.{node_in, app_in, at_node, at_app, is_open_node, is_open_app, app_place, is_meant, each_app, each_move};
 
 use crate::words::is_star_at;
 use rh_base::OutOfMemory;
 use rh_cluster::{App, Cluster, Node};
+use rh_explore::Move;
 use rh_step::Event;
 
 // The node of an event, if it has one.
@@ -110,41 +111,33 @@ pub fn is_meant(cluster: &Cluster, words: &[&str], event: Event) -> bool
     node_is && app_is
 }
 
-// Adds the event, for each application where that is left open.
+// Adds the event as a move, for each application where that is left open.
 #[tactic(auto, unfolding(rh_state::specs::Numbers::apps_of))]
-fn push_each_app(
-    events: &mut Vec<Event>,
-    cluster: &Cluster,
-    event: Event,
-) -> Result<(), OutOfMemory>
-    ensures { OnOk result (events.new.items ≡ events.old.items ++ each_app cluster.now event) }
+fn push_each_app(moves: &mut Vec<Move>, cluster: &Cluster, event: Event) -> Result<(), OutOfMemory>
+    ensures { OnOk result (moves.new.items ≡ moves.old.items ++ each_app cluster.now event) }
 {
     if !is_open_app(cluster, event) {
-        events.push(event)?;
+        moves.push(Move::Make(event))?;
         return Ok(());
     }
     let count = cluster.app_count();
     'apps: for number in 0..count {
-        events.push(at_app(event, App(number as u8)))?;
+        moves.push(Move::Make(at_app(event, App(number as u8))))?;
     }
     Ok(())
 }
 
-// Adds the event, for each node and each application where these are left open.
+// Adds the event as a move, for each node and each application where these are left open.
 #[tactic(auto, unfolding(rh_state::specs::Numbers::nodes_of))]
-pub fn push_each(
-    events: &mut Vec<Event>,
-    cluster: &Cluster,
-    event: Event,
-) -> Result<(), OutOfMemory>
-    ensures { OnOk result (events.new.items ≡ events.old.items ++ each_event cluster.now event) }
+pub fn push_each(moves: &mut Vec<Move>, cluster: &Cluster, event: Event) -> Result<(), OutOfMemory>
+    ensures { OnOk result (moves.new.items ≡ moves.old.items ++ each_move cluster.now event) }
 {
     if !is_open_node(cluster, event) {
-        return push_each_app(events, cluster, event);
+        return push_each_app(moves, cluster, event);
     }
     let count = cluster.node_count();
     'nodes: for number in 0..count {
-        push_each_app(events, cluster, at_node(event, Node(number as u8)))?;
+        push_each_app(moves, cluster, at_node(event, Node(number as u8)))?;
     }
     Ok(())
 }

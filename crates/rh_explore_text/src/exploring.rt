@@ -119,9 +119,9 @@ fn answer_search(
         steps: search.steps,
         states,
     };
-    let events = search.events.as_slice();
+    let moves = search.moves.as_slice();
     let asks = search.asks.as_slice();
-    let found = explore(alloc, sim.state(), pick, events, &bounds, asks)?;
+    let found = explore(alloc, sim.state(), pick, moves, &bounds, asks)?;
     push_found(
         alloc,
         &mut text,

@@ -1,7 +1,7 @@
 //! What the lines of a search ask: those of its base, and then which events may come and what is asked.
 
 ghost use Rattle.std.specs.Prelude.{◌≡◌, map, IfOk};
-ghost use Rattle.rh_explore_text.specs.SearchLines.{no_line, event_asked, meant, may_line, down_line, steps_at_most, steps_line, question_line, ask_line, search_command, search_words, search_text, search_line_of};
+ghost use Rattle.rh_explore_text.specs.SearchLines.{no_line, event_asked, meant, is_wait, may_line, down_line, steps_at_most, steps_line, question_line, ask_line, search_command, search_words, search_text, search_line_of};
 
 use crate::asks::{Question, ask_named};
 use crate::events::is_meant;
@@ -20,6 +20,8 @@ pub enum SearchLine {
     Plain(Line),
     /// This event may come, and where a name of it is left open, it may with each.
     May(Event),
+    /// Time may pass to the next timer.
+    MayWait,
     /// At most so many nodes are not up.
     Down(u64),
     /// At most so many events follow one another.
@@ -61,10 +63,23 @@ fn meant(cluster: &Cluster, words: &[&str], event: Option<Event>) -> SearchLine
     }
 }
 
-// A line that lets an event come.
+// Are the words `wait` alone?
+fn is_wait(words: &[&str]) -> bool
+    ensures { result ≡ is_wait (map (λ word. word.now) words.now) }
+{
+    match words {
+        [word] => *word == "wait",
+        _ => false,
+    }
+}
+
+// A line that lets an event come, or time pass to the next timer.
 fn may_line(alloc: Global, cluster: &Cluster, words: &[&str]) -> Result<SearchLine, OutOfMemory>
     ensures { IfOk result (λ line. line ≡ may_line cluster.now (map (λ word. word.now) words.now)) }
 {
+    if is_wait(words) {
+        return Ok(SearchLine::MayWait);
+    }
     let command = line_of_words(alloc, words)?;
     let asked = line_of(alloc, cluster, command.as_slice())?;
     Ok(meant(cluster, words, event_asked(asked)))

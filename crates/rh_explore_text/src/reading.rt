@@ -12,9 +12,8 @@ use crate::lines::{SearchLine, search_line_of};
 use rh_base::OutOfMemory;
 use rh_calls::Call;
 use rh_cluster::Cluster;
-use rh_explore::Ask;
+use rh_explore::{Ask, Move};
 use rh_script::{Line, content, split_line};
-use rh_step::Event;
 use std::alloc::Global;
 
 /// What is asked of a search.
@@ -24,8 +23,8 @@ pub struct Search {
     pub base: Vec<Call>,
     /// Whether a line was read that isn't one of the base.
     pub begun: bool,
-    /// The events that may come.
-    pub events: Vec<Event>,
+    /// What may happen.
+    pub moves: Vec<Move>,
     /// At most so many nodes are not up.
     pub down: u64,
     /// At most so many events follow one another.
@@ -51,7 +50,7 @@ fn nothing_asked(alloc: Global, cluster: &Cluster) -> Search
     Search {
         base: Vec::new(alloc),
         begun: false,
-        events: Vec::new(alloc),
+        moves: Vec::new(alloc),
         down: cluster.node_count() as u64,
         steps: u32::MAX,
         asks: Vec::new(alloc),
@@ -89,7 +88,8 @@ fn take_line(cluster: &Cluster, search: &mut Search, asked: SearchLine) -> Resul
 {
     match asked {
         SearchLine::Plain(line) => return take_plain(search, line),
-        SearchLine::May(event) => push_each(&mut search.events, cluster, event)?,
+        SearchLine::May(event) => push_each(&mut search.moves, cluster, event)?,
+        SearchLine::MayWait => search.moves.push(Move::Wait)?,
         SearchLine::Down(number) => search.down = number,
         SearchLine::Steps(number) => search.steps = number,
         SearchLine::Asks(question) => search.asks.push(question.into_ask())?,

@@ -20,16 +20,16 @@ verdicts_on-requires-clause-linked c =
 
 pub verdicts_on-requires-clause-within : goal.verdicts_on-requires-clause-within
 verdicts_on-requires-clause-within c = λ j i at.
-    let w = scope_of c.args.base.now c.args.pick c.args.events.now c.args.bounds.now in
+    let w = scope_of c.args.base.now c.args.pick c.args.moves.now c.args.bounds.now in
     let space = c.in_ok-space.space in
     let k = c.in_ok-space.ensures.kept in
-    let l = failure_within space.failures.firsts.items space.failures.left.items c.args.asks.now (seen_of w space.found.items) k.failures j i
+    let l = failure_within c.args.pick space.failures.firsts.items space.failures.left.items c.args.asks.now (seen_of w space.found.items) k.failures j i
     (ap (λ (fs : List (Option ℕ)). slice_get fs j) (sym (c.as_slice.ensures.value ∙ (λ i. (c.into_found-all.ensures.firsts i).items))) ∙ at) in
     omega (arith, l, length-seen w space.found.items, ap (λ (fs : List Found). length fs) (c.as_slice-found.ensures.value ∙ (λ i. (c.into_found-all.ensures.found i).items)))
 
 pub returns-clause-verdicts : goal.returns-clause-verdicts
 returns-clause-verdicts c =
-    let w = scope_of c.args.base.now c.args.pick c.args.events.now c.args.bounds.now in
+    let w = scope_of c.args.base.now c.args.pick c.args.moves.now c.args.bounds.now in
     let steps = c.args.bounds.now.steps in
     let covered = c.in_ok-space.covered in
     let space = c.in_ok-space.space in
@@ -51,7 +51,7 @@ none = record { last = None; depth = 0 }
 
 pub returns-clause-states : goal.returns-clause-states
 returns-clause-states c =
-    let w = scope_of c.args.base.now c.args.pick c.args.events.now c.args.bounds.now in
+    let w = scope_of c.args.base.now c.args.pick c.args.moves.now c.args.bounds.now in
     let items : List Found = c.in_ok-space.space.found.items in
     let slice : List Found = c.as_slice-found.result.now in
     let value : slice ≡ items = c.as_slice-found.ensures.value ∙ (λ i. (c.into_found-all.ensures.found i).items) in
@@ -76,7 +76,7 @@ returns-clause-states c =
 
 pub returns-clause-deepest : goal.returns-clause-deepest
 returns-clause-deepest c =
-    let w = scope_of c.args.base.now c.args.pick c.args.events.now c.args.bounds.now in
+    let w = scope_of c.args.base.now c.args.pick c.args.moves.now c.args.bounds.now in
     let items : List Found = c.in_ok-space.space.found.items in
     let slice : List Found = c.as_slice-found.result.now in
     let value : slice ≡ items = c.as_slice-found.ensures.value ∙ (λ i. (c.into_found-all.ensures.found i).items) in

@@ -33,7 +33,7 @@ base_linked = record { depths = refl; earlier = λ k f from e at last. absurd (n
 
 pub states-init : goal.states-init
 states-init c =
-    let w = scope_of c.args.base.now c.args.pick c.args.events.now c.args.bounds.now in
+    let w = scope_of c.args.base.now c.args.pick c.args.moves.now c.args.bounds.now in
     let base = read c.args.base.now in
     let space : Space = c.in_ok-space.space in
     let of = c.in_ok-space.ensures in
@@ -43,7 +43,8 @@ states-init c =
       kept = record {
         linked = subst AreLinked (sym of.found) base_linked;
         codes = of.keys ∙ ap (λ (s : List Seen). map (λ x. code (packed_key x.state)) s) (sym is);
-        failures = subst (λ (s : List Seen). AreFailures space.failures.firsts.items space.failures.left.items c.args.asks.now (states_of s)) (sym is) of.failures;
+        failures = subst (λ (s : List Seen). AreFailures c.args.pick space.failures.firsts.items space.failures.left.items c.args.asks.now (states_of s)) (sym is) of.failures;
+        calm = of.calm;
       };
       front = record { idle = of.idle; waiting = of.front ∙ ap (parents_of w) (sym is) };
       searched = subst (λ (seen : List Seen). IsSearched w seen 0) (sym is) (base_searched w c.requires);
@@ -69,7 +70,7 @@ within_of w found next s at =
 
 pub index-requires : goal.index-requires
 index-requires c =
-    let w = scope_of c.args.base.now c.args.pick c.args.events.now c.args.bounds.now in
+    let w = scope_of c.args.base.now c.args.pick c.args.moves.now c.args.bounds.now in
     let found : List Found = c.states.space.found.items in
     let next = c.states.next in
     let k = c.states.invariant.kept in
@@ -79,7 +80,7 @@ index-requires c =
 
 pub returns-then-depth-bounds-clause-searched : goal.returns-then-depth-bounds-clause-searched
 returns-then-depth-bounds-clause-searched c =
-    let w = scope_of c.args.base.now c.args.pick c.args.events.now c.args.bounds.now in
+    let w = scope_of c.args.base.now c.args.pick c.args.moves.now c.args.bounds.now in
     let found : List Found = c.states.space.found.items in
     let next = c.states.next in
     let k = c.states.invariant.kept in
@@ -98,7 +99,7 @@ returns-then-depth-bounds-clause-searched c =
 
 pub visit-requires-clause-short : goal.visit-requires-clause-short
 visit-requires-clause-short c =
-    let w = scope_of c.args.base.now c.args.pick c.args.events.now c.args.bounds.now in
+    let w = scope_of c.args.base.now c.args.pick c.args.moves.now c.args.bounds.now in
     let found : List Found = c.states.space.found.items in
     let next = c.states.next in
     let k = c.states.invariant.kept in
@@ -109,7 +110,7 @@ visit-requires-clause-short c =
 
 pub visit-requires-clause-front : goal.visit-requires-clause-front
 visit-requires-clause-front c =
-    let w = scope_of c.args.base.now c.args.pick c.args.events.now c.args.bounds.now in
+    let w = scope_of c.args.base.now c.args.pick c.args.moves.now c.args.bounds.now in
     let found : List Found = c.states.space.found.items in
     let next = c.states.next in
     let k = c.states.invariant.kept in
@@ -119,7 +120,7 @@ visit-requires-clause-front c =
 
 pub visit-requires-clause-begun : goal.visit-requires-clause-begun
 visit-requires-clause-begun c =
-    let w = scope_of c.args.base.now c.args.pick c.args.events.now c.args.bounds.now in
+    let w = scope_of c.args.base.now c.args.pick c.args.moves.now c.args.bounds.now in
     let found : List Found = c.states.space.found.items in
     let next = c.states.next in
     let k = c.states.invariant.kept in
@@ -134,7 +135,7 @@ visit-requires-clause-begun c =
 
 pub returns-then-not-all-clause-searched : goal.returns-then-not-all-clause-searched
 returns-then-not-all-clause-searched c =
-    let w = scope_of c.args.base.now c.args.pick c.args.events.now c.args.bounds.now in
+    let w = scope_of c.args.base.now c.args.pick c.args.moves.now c.args.bounds.now in
     let found : List Found = c.states.space.found.items in
     let next = c.states.next in
     let k = c.states.invariant.kept in
@@ -154,7 +155,7 @@ returns-then-not-all-clause-searched c =
 
 pub returns-then-not-all-clause-few : goal.returns-then-not-all-clause-few
 returns-then-not-all-clause-few c =
-    let w = scope_of c.args.base.now c.args.pick c.args.events.now c.args.bounds.now in
+    let w = scope_of c.args.base.now c.args.pick c.args.moves.now c.args.bounds.now in
     let found : List Found = c.states.space.found.items in
     let next = c.states.next in
     let k = c.states.invariant.kept in
@@ -173,7 +174,7 @@ returns-then-not-all-clause-few c =
 
 pub returns-then-not-all-clause-covers : goal.returns-then-not-all-clause-covers
 returns-then-not-all-clause-covers c = λ few below.
-    let w = scope_of c.args.base.now c.args.pick c.args.events.now c.args.bounds.now in
+    let w = scope_of c.args.base.now c.args.pick c.args.moves.now c.args.bounds.now in
     let found : List Found = c.states.space.found.items in
     let next = c.states.next in
     let k = c.states.invariant.kept in
@@ -192,7 +193,7 @@ returns-then-not-all-clause-covers c = λ few below.
 
 pub overflow_add-next : goal.overflow_add-next
 overflow_add-next c =
-    let w = scope_of c.args.base.now c.args.pick c.args.events.now c.args.bounds.now in
+    let w = scope_of c.args.base.now c.args.pick c.args.moves.now c.args.bounds.now in
     let found : List Found = c.states.space.found.items in
     let next = c.states.next in
     let k = c.states.invariant.kept in
@@ -202,7 +203,7 @@ overflow_add-next c =
 
 pub states-smaller : goal.states-smaller
 states-smaller c =
-    let w = scope_of c.args.base.now c.args.pick c.args.events.now c.args.bounds.now in
+    let w = scope_of c.args.base.now c.args.pick c.args.moves.now c.args.bounds.now in
     let found : List Found = c.states.space.found.items in
     let next = c.states.next in
     let k = c.states.invariant.kept in
@@ -213,7 +214,7 @@ states-smaller c =
 
 pub states-preserved : goal.states-preserved
 states-preserved c =
-    let w = scope_of c.args.base.now c.args.pick c.args.events.now c.args.bounds.now in
+    let w = scope_of c.args.base.now c.args.pick c.args.moves.now c.args.bounds.now in
     let found : List Found = c.states.space.found.items in
     let next = c.states.next in
     let k = c.states.invariant.kept in
@@ -228,7 +229,7 @@ states-preserved c =
     let deep : f.depth ≡ length x.path = depth_is new next f c.in_ok-all.ensures.kept.linked there in
     let short : length x.path < c.args.bounds.now.steps = omega (arith, c.if-depth-bounds.false, deep) in
     let so = at_true c.in_ok-all.all _ _ c.if-not-all.false c.in_ok-all.ensures.made in
-    let count = length w.events in
+    let count = length w.moves in
     let room = c.in_ok-all.ensures.room in
     let before = c.states.invariant.room in
     record {
@@ -242,7 +243,7 @@ states-preserved c =
 
 pub returns-clause-searched : goal.returns-clause-searched
 returns-clause-searched c =
-    let w = scope_of c.args.base.now c.args.pick c.args.events.now c.args.bounds.now in
+    let w = scope_of c.args.base.now c.args.pick c.args.moves.now c.args.bounds.now in
     let seen = seen_of w c.states.space.found.items in
     let none = at_false c.take_up.result _ _ c.states-test.false c.take_up.ensures.waiting in
     let empty = ap (λ (l : List StateView). length l) (sym none ∙ c.states.invariant.front.waiting) in

@@ -6,11 +6,11 @@ use Rattle.rh_explore.proofs.space.search.Given as goal
 
 abbrev pub invariant-states : goal.invariant-states
 invariant-states l = record {
-  kept : IsKept (scope_of l.base l.pick l.events l.bounds) l.asks l.space;
-  front : IsFront (scope_of l.base l.pick l.events l.bounds) l.space l.next;
-  searched : IsSearched (scope_of l.base l.pick l.events l.bounds) (seen_of (scope_of l.base l.pick l.events l.bounds) l.space.found.items) l.next;
-  near : IsNear (seen_of (scope_of l.base l.pick l.events l.bounds) l.space.found.items) l.next;
-  few : All (λ (x : Seen). length x.path ≤ l.bounds.steps) (seen_of (scope_of l.base l.pick l.events l.bounds) l.space.found.items);
+  kept : IsKept (scope_of l.base l.pick l.moves l.bounds) l.asks l.space;
+  front : IsFront (scope_of l.base l.pick l.moves l.bounds) l.space l.next;
+  searched : IsSearched (scope_of l.base l.pick l.moves l.bounds) (seen_of (scope_of l.base l.pick l.moves l.bounds) l.space.found.items) l.next;
+  near : IsNear (seen_of (scope_of l.base l.pick l.moves l.bounds) l.space.found.items) l.next;
+  few : All (λ (x : Seen). length x.path ≤ l.bounds.steps) (seen_of (scope_of l.base l.pick l.moves l.bounds) l.space.found.items);
   room : length l.space.found.items ≤ max 1 l.bounds.states;
 }
 

@@ -18,7 +18,7 @@ use Rattle.rh_explore_text.proofs.exploring.answer_search.Goals as goal
 pub push_found-requires-clause-come : goal.push_found-requires-clause-come
 push_found-requires-clause-come c =
     let bounds : Bounds = record { down = c.args.search.now.down; steps = c.args.search.now.steps; states = c.args.states } in
-    let w = scope_of c.state.result.now c.args.pick c.as_slice-events.result.now bounds in
+    let w = scope_of c.state.result.now c.args.pick c.as_slice-moves.result.now bounds in
     let found = c.in_ok-found.found in
     let same : read c.state.result.now ≡ read c.state-2.result.now = c.state.ensures.state ∙ sym c.state-2.ensures.state in
     subst (λ (s : StateView). All (CanCome c.args.pick s) found.verdicts.items) same
@@ -32,7 +32,7 @@ returns c =
     let base = search.base.items in
     let found = c.in_ok-found.found in
     let bounds : Bounds = record { down = search.down; steps = search.steps; states = c.args.states } in
-    let w = scope_of c.state.result.now pick c.as_slice-events.result.now bounds in
+    let w = scope_of c.state.result.now pick c.as_slice-moves.result.now bounds in
     let opens : c.in_ok-sim.sim.seen ≡ opened cluster pick = c.in_ok-sim.ensures.seen in
     let sims : c.answers_to.new.sim.seen ≡ sim_after (opened cluster pick) base = c.in_ok-text.ensures.sim
     ∙ ap (λ (s : SimView). sim_after s c.as_slice.result.now) opens
@@ -42,7 +42,7 @@ returns c =
     let scopes : w ≡ scope_in cluster pick (search_view search) = λ i. record {
       base = from i;
       pick = pick;
-      events = c.as_slice-events.ensures.value i;
+      moves = c.as_slice-moves.ensures.value i;
       down = search.down;
     } in
     let answers = answers_text cluster (opened cluster pick) base in

@@ -11,7 +11,7 @@ asks-preserved c =
       all = c.in_ok-push-2.ensures.items ∙ ap (λ (l : List ℕ). l ++ i ∷ []) c.asks.invariant.all ∙ sym (map-range_with_len_more (λ k. k) 0 i i (omega arith));
     }
 
-pub returns : goal.returns
-returns c =
-    none_asked c.args.asks.now c.asks.firsts.items c.asks.left.items c.asks.number
+pub returns-clause-failures : goal.returns-clause-failures
+returns-clause-failures c = λ pick.
+    none_asked pick c.args.asks.now c.asks.firsts.items c.asks.left.items c.asks.number
     (omega (arith, c.asks.auto.number-end, c.asks-test.false)) c.asks.invariant.none c.asks.invariant.all

@@ -1,4 +1,4 @@
-use Rattle.std.proofs.Common.{◌≡◌, ◌<◌, ◌+◌, ◌++◌, ◌∷◌, [], ℕ, List, refl, slice_get, Some, sym, ap, ◌∙◌, subst, arith}
+use Rattle.std.proofs.Common.{◌≡◌, ◌<◌, ◌+◌, ◌++◌, ◌∷◌, [], ℕ, List, refl, slice_get, Some, inr, sym, ap, ◌∙◌, subst, arith}
 use Rattle.std.specs.Prelude.{Contains}
 use Rattle.std.proofs.lemmas.List.{length-map}
 use Rattle.std.proofs.lemmas.Option.{same_Some, slice_get_within}
@@ -10,42 +10,77 @@ use Rattle.rh_rules.specs.declared.event.Event.{Event}
 use Rattle.rh_base.proofs.Truths.{both}
 use Rattle.rh_explore.specs.declared.front.Front.{Front}
 use Rattle.rh_explore.specs.declared.reaching.Way.{Way}
-use Rattle.rh_explore.specs.declared.reaching.Way.TheVariants.{To, Nowhere}
+use Rattle.rh_explore.specs.declared.reaching.Way.TheVariants.{To, Nowhere, AtLimit}
 use Rattle.rh_explore.specs.declared.space.Found.{Found}
 use Rattle.rh_keys.specs.Codes.{code}
+use Rattle.rh_explore.specs.declared.moves.Move.{Move}
 use Rattle.rh_explore.specs.Exploring.{scope_of}
+use Rattle.rh_explore.specs.Moves.{event_in}
 use Rattle.rh_explore.specs.Failures.{AreFailures}
 use Rattle.rh_keys.specs.Packed.{packed_key}
 use Rattle.rh_explore.specs.Spaces.{Seen, StepsTo, IsExpandedAt}
 use Rattle.rh_explore.specs.Kept.{path_by, paths_of, seen_by, seen_of, states_of, codes_of, bytes_of, AreLinked}
+use Rattle.rh_trace.specs.Validity.{IsValid}
 use Rattle.rh_explore.proofs.PathsTo.{path_at, seen_there, seen_push, linked_push, length-seen}
 use Rattle.rh_explore.proofs.OneMore.{more_is, kept_more}
 use Rattle.rh_explore.proofs.Parents.{family_none, family_one}
 use Rattle.rh_keys.proofs.Places.{there_of}
-use Rattle.rh_explore.proofs.Reached.{not_there, known, added}
+use Rattle.rh_explore.proofs.Reached.{no_event, not_there, at_limit, known, added}
 use Rattle.rh_explore.proofs.space.Space.reach.Goals as goal
+
+pub returns-in_default-clause-made : goal.returns-in_default-clause-made
+returns-in_default-clause-made c = λ made is so.
+    let w = scope_of c.args.base.now c.args.pick c.args.moves.now c.args.bounds.now in
+    let seen = seen_of w c.args.self.now.found.items in
+    let u = c.requires.untried.here in
+    let m : Move = c.args.one in
+    no_event w seen c.args.at u.0 u.1 m made is so (ap (λ z. event_in z m) (sym u.2) ∙ sym c.event_in.ensures ∙ c.in_default.is)
+
+pub returns-in_default-clause-family : goal.returns-in_default-clause-family
+returns-in_default-clause-family c =
+    family_none (scope_of c.args.base.now c.args.pick c.args.moves.now c.args.bounds.now) (read c.args.self.now.front.probe.state) c.args.self.now.found.items
 
 pub returns-in-Nowhere-clause-made : goal.returns-in-Nowhere-clause-made
 returns-in-Nowhere-clause-made c = λ made is so.
-    let w = scope_of c.args.base.now c.args.pick c.args.events.now c.args.bounds.now in
+    let w = scope_of c.args.base.now c.args.pick c.args.moves.now c.args.bounds.now in
     let seen = seen_of w c.args.self.now.found.items in
     let u = c.requires.untried.here in
-    let e : Event = c.args.event.now in
+    let m : Move = c.args.one in
+    let e : Event = c.in-Some.event in
+    let now : event_in u.0.state m ≡ Some e = ap (λ z. event_in z m) (sym u.2) ∙ sym c.event_in.ensures ∙ c.in-Some.is in
     let s = read c.args.self.now.front.probe.state in
     let t = read c.make.new.self.state in
-    not_there w seen c.args.at u.0 u.1 e made is so t
+    not_there w seen c.args.at u.0 u.1 m made is so e now t
     (subst (λ (z : StateView). StepsTo c.args.pick c.args.bounds.now.down z e Nowhere t) u.2
     (subst (λ (v : Way). StepsTo c.args.pick c.args.bounds.now.down s e v t) c.in-Nowhere.is c.in_ok-way.ensures.way))
 
-pub returns-then-has_made-clause-made : goal.returns-then-has_made-clause-made
-returns-then-has_made-clause-made c = λ made is so.
-    let w = scope_of c.args.base.now c.args.pick c.args.events.now c.args.bounds.now in
+pub returns-in-AtLimit-clause-made : goal.returns-in-AtLimit-clause-made
+returns-in-AtLimit-clause-made c = λ made is so.
+    let w = scope_of c.args.base.now c.args.pick c.args.moves.now c.args.bounds.now in
     let seen = seen_of w c.args.self.now.found.items in
     let u = c.requires.untried.here in
-    let e : Event = c.args.event.now in
+    let m : Move = c.args.one in
+    let e : Event = c.in-Some.event in
+    let now : event_in u.0.state m ≡ Some e = ap (λ z. event_in z m) (sym u.2) ∙ sym c.event_in.ensures ∙ c.in-Some.is in
+    let s = read c.args.self.now.front.probe.state in
+    let t = read c.make.new.self.state in (
+      so,
+      inr (at_limit w seen c.args.at u.0 u.1 m made is so e now t
+          (subst (λ (z : StateView). StepsTo c.args.pick c.args.bounds.now.down z e AtLimit t) u.2
+          (subst (λ (v : Way). StepsTo c.args.pick c.args.bounds.now.down s e v t) c.in-AtLimit.is c.in_ok-way.ensures.way))),
+    )
+
+pub returns-then-has_made-clause-made : goal.returns-then-has_made-clause-made
+returns-then-has_made-clause-made c = λ made is so.
+    let w = scope_of c.args.base.now c.args.pick c.args.moves.now c.args.bounds.now in
+    let seen = seen_of w c.args.self.now.found.items in
+    let u = c.requires.untried.here in
+    let m : Move = c.args.one in
+    let e : Event = c.in-Some.event in
+    let now : event_in u.0.state m ≡ Some e = ap (λ z. event_in z m) (sym u.2) ∙ sym c.event_in.ensures ∙ c.in-Some.is in
     let s = read c.args.self.now.front.probe.state in
     let t = read c.make.new.self.state in
-    known w seen c.args.at u.0 u.1 e made is so t
+    known w seen c.args.at u.0 u.1 m made is so e now t
     (subst (λ (z : StateView). StepsTo c.args.pick c.args.bounds.now.down z e To t) u.2
     (subst (λ (v : Way). StepsTo c.args.pick c.args.bounds.now.down s e v t) c.in-To.is c.in_ok-way.ensures.way))
     (subst (λ (q : List ℕ). Contains (codes_of seen) q) c.in_ok-make.ensures.key
@@ -53,15 +88,15 @@ returns-then-has_made-clause-made c = λ made is so.
 
 pub returns-in-Nowhere-clause-family : goal.returns-in-Nowhere-clause-family
 returns-in-Nowhere-clause-family c =
-    family_none (scope_of c.args.base.now c.args.pick c.args.events.now c.args.bounds.now) (read c.args.self.now.front.probe.state) c.args.self.now.found.items
+    family_none (scope_of c.args.base.now c.args.pick c.args.moves.now c.args.bounds.now) (read c.args.self.now.front.probe.state) c.args.self.now.found.items
 
 pub returns-in-AtLimit-clause-family : goal.returns-in-AtLimit-clause-family
 returns-in-AtLimit-clause-family c =
-    family_none (scope_of c.args.base.now c.args.pick c.args.events.now c.args.bounds.now) (read c.args.self.now.front.probe.state) c.args.self.now.found.items
+    family_none (scope_of c.args.base.now c.args.pick c.args.moves.now c.args.bounds.now) (read c.args.self.now.front.probe.state) c.args.self.now.found.items
 
 pub returns-then-has_made-clause-family : goal.returns-then-has_made-clause-family
 returns-then-has_made-clause-family c =
-    family_none (scope_of c.args.base.now c.args.pick c.args.events.now c.args.bounds.now) (read c.args.self.now.front.probe.state) c.args.self.now.found.items
+    family_none (scope_of c.args.base.now c.args.pick c.args.moves.now c.args.bounds.now) (read c.args.self.now.front.probe.state) c.args.self.now.found.items
 
 pub overflow_add-found : goal.overflow_add-found
 overflow_add-found c =
@@ -72,17 +107,23 @@ overflow_add-found c =
     let deep : f.depth < c.args.bounds.now.steps = subst (λ (h : Found). h.depth < c.args.bounds.now.steps) f_is s.2 in
     omega (arith, deep, c.ranges)
 
+pub push-requires-clause-valid : goal.push-requires-clause-valid
+push-requires-clause-valid c =
+    subst (λ (z : Stored). IsValid (read z)) (sym c.in_ok-make.ensures.state)
+    ((subst (λ (v : Way). StepsTo c.args.pick c.args.bounds.now.down (read c.args.self.now.front.probe.state) c.in-Some.event v (read c.make.new.self.state)) c.in-To.is
+    c.in_ok-way.ensures.way).3)
+
 pub push-requires-clause-failures : goal.push-requires-clause-failures
 push-requires-clause-failures c =
-    let w = scope_of c.args.base.now c.args.pick c.args.events.now c.args.bounds.now in
+    let w = scope_of c.args.base.now c.args.pick c.args.moves.now c.args.bounds.now in
     let found : List Found = c.args.self.now.found.items in
     (states_of (seen_of w found), sym (length-map (seen_of w found) (λ (x : Seen). x.state) ∙ length-seen w found), c.requires.kept.failures)
 
 pub returns-clause-kept : goal.returns-clause-kept
 returns-clause-kept c =
-    let w = scope_of c.args.base.now c.args.pick c.args.events.now c.args.bounds.now in
+    let w = scope_of c.args.base.now c.args.pick c.args.moves.now c.args.bounds.now in
     let at = c.args.at in
-    let e : Event = c.args.event.now in
+    let e : Event = c.in-Some.event in
     let found : List Found = c.args.self.now.found.items in
     let seen = seen_of w found in
     let s = c.requires.short in
@@ -102,14 +143,15 @@ returns-clause-kept c =
     (subst AreLinked (sym c.in_ok-push.ensures.found) (linked_push found f g at e c.requires.kept.linked there refl refl))
     (ap (seen_of w) c.in_ok-push.ensures.found ∙ seen_push w found g)
     (c.in_ok-push.ensures.keys ∙ ap (λ (k : List ℕ). bytes_of c.args.self.now ++ k ∷ []) (c.in_ok-key.ensures ∙ c.in_ok-make.ensures.key ∙ ap (λ (z : StateView). code (packed_key z)) y_state))
-    (subst (λ (z : StateView). AreFailures c.push.new.self.failures.firsts.items c.push.new.self.failures.left.items c.args.asks.now (states_of seen ++ z ∷ [])) told
+    (subst (λ (z : StateView). AreFailures c.args.pick c.push.new.self.failures.firsts.items c.push.new.self.failures.left.items c.args.asks.now (states_of seen ++ z ∷ [])) told
     (c.in_ok-push.ensures.failures (states_of seen) (sym (length-map seen (λ (z : Seen). z.state) ∙ length-seen w found)) c.requires.kept.failures))
+    c.in_ok-push.ensures.calm
 
 pub returns-clause-made : goal.returns-clause-made
 returns-clause-made c = λ made is so.
-    let w = scope_of c.args.base.now c.args.pick c.args.events.now c.args.bounds.now in
+    let w = scope_of c.args.base.now c.args.pick c.args.moves.now c.args.bounds.now in
     let at = c.args.at in
-    let e : Event = c.args.event.now in
+    let e : Event = c.in-Some.event in
     let found : List Found = c.args.self.now.found.items in
     let seen = seen_of w found in
     let s = c.requires.short in
@@ -119,12 +161,15 @@ returns-clause-made c = λ made is so.
     let u = c.requires.untried.here in
     let x : Seen = seen_by w (path_at found at) in
     let x_is : u.0 ≡ x = same_Some u.0 x (sym u.1 ∙ seen_there w found at f there) in
+    let m : Move = c.args.one in
+    let now : event_in x.state m ≡ Some e =
+    ap (λ z. event_in z m) (sym (u.2 ∙ ap (λ (z : Seen). z.state) x_is)) ∙ sym c.event_in.ensures ∙ c.in-Some.is in
     let t = read c.make.new.self.state in
     let steps = subst (λ (z : StateView). StepsTo c.args.pick c.args.bounds.now.down z e To t) (u.2 ∙ ap (λ (z : Seen). z.state) x_is)
     (subst (λ (v : Way). StepsTo c.args.pick c.args.bounds.now.down (read c.args.self.now.front.probe.state) e v t) c.in-To.is c.in_ok-way.ensures.way) in
     let y : Seen = seen_by w (path_by (paths_of found) g.last) in
     subst (λ (items : List Seen). IsExpandedAt w items at (made + 1)) (sym (ap (seen_of w) c.in_ok-push.ensures.found ∙ seen_push w found g))
-    (added w seen at x (seen_there w found at f there) e made is so t steps
+    (added w seen at x (seen_there w found at f there) m made is so e now t steps
     (λ has. both c.has_made.result (c.has_made.ensures.1 (subst (λ (l : List (List ℕ)). Contains l c.make-2.new.self.key.bytes.items) (sym c.requires.kept.codes)
     (subst (λ (q : List ℕ). Contains (codes_of seen) q) (sym c.in_ok-make.ensures.key) has))) c.if-has_made.false)
     y refl (sym (steps.2 ∙ sym (ap (λ (z : Seen). z.state) (more_is w found at e g refl)))))
@@ -132,25 +177,25 @@ returns-clause-made c = λ made is so.
 pub returns-clause-back : goal.returns-clause-back
 returns-clause-back c = record {
   state = c.take_back-2.ensures.state
-      ∙ ap (λ (p : Front). back exchange p.probe.state p.probe.edits.items) c.in_ok-push.ensures.front
-      ∙ ap (λ (z : Stored). back exchange z c.make.new.self.edits.items) c.in_ok-make.ensures.state
+      ∙ ap (λ (p : Front). back exchange p.probe.state p.probe.tried.edits.items) c.in_ok-push.ensures.front
+      ∙ ap (λ (z : Stored). back exchange z c.make.new.self.tried.edits.items) c.in_ok-make.ensures.state
       ∙ c.in_ok-way.ensures.led.back;
   none = c.take_back-2.ensures.none;
 }
 
 pub returns-clause-family : goal.returns-clause-family
 returns-clause-family c =
-    let w = scope_of c.args.base.now c.args.pick c.args.events.now c.args.bounds.now in
+    let w = scope_of c.args.base.now c.args.pick c.args.moves.now c.args.bounds.now in
     let at = c.args.at in
     let found : List Found = c.args.self.now.found.items in
     let s = c.requires.short in
     let f : Found = c.index.result.now in
     let there : slice_get found at ≡ Some f = there_of found at f (slice_get_within found at s.0 s.1) c.index.ensures in
-    let g : Found = record { last = Some (at, c.args.event.now); depth = f.depth + 1 } in
+    let g : Found = record { last = Some (at, c.in-Some.event); depth = f.depth + 1 } in
     let u = c.requires.untried.here in
     let x : Seen = seen_by w (path_at found at) in
     let x_is : u.0 ≡ x = same_Some u.0 x (sym u.1 ∙ seen_there w found at f there) in
-    family_one w (read c.args.self.now.front.probe.state) found c.push.new.self.found.items g at c.args.event.now refl
+    family_one w (read c.args.self.now.front.probe.state) found c.push.new.self.found.items g at c.in-Some.event refl
     (u.2 ∙ ap (λ (z : Seen). z.state) x_is) c.in_ok-push.ensures.found
 
 pub returns-clause-grown : goal.returns-clause-grown

@@ -8,6 +8,7 @@ use Rattle.rh_state.specs.Records.{CanGoBack}
 use Rattle.rh_state.specs.Stored.{Stored, read}
 use Rattle.rh_explore.specs.declared.reaching.Probe.{Probe}
 use Rattle.rh_explore.specs.declared.space.Found.{Found}
+use Rattle.rh_explore.specs.declared.trial.Trial.{Trial}
 use Rattle.rh_explore.specs.Exploring.{scope_of}
 use Rattle.rh_explore.specs.Kept.{repeated}
 use Rattle.rh_explore.proofs.Begun.{at_true}
@@ -17,7 +18,7 @@ use Rattle.rh_explore.proofs.space.Space.visit.Goals as goal
 
 pub enter-requires-clause-accepted : goal.enter-requires-clause-accepted
 enter-requires-clause-accepted c =
-    let w = scope_of c.args.base.now c.args.pick c.args.events.now c.args.bounds.now in
+    let w = scope_of c.args.base.now c.args.pick c.args.moves.now c.args.bounds.now in
     let at = c.args.at in
     let found : List Found = c.args.self.now.found.items in
     let s = c.requires.short in
@@ -28,7 +29,7 @@ enter-requires-clause-accepted c =
 
 pub enter-requires-clause-valid : goal.enter-requires-clause-valid
 enter-requires-clause-valid c =
-    let w = scope_of c.args.base.now c.args.pick c.args.events.now c.args.bounds.now in
+    let w = scope_of c.args.base.now c.args.pick c.args.moves.now c.args.bounds.now in
     let at = c.args.at in
     let found : List Found = c.args.self.now.found.items in
     let s = c.requires.short in
@@ -39,7 +40,7 @@ enter-requires-clause-valid c =
 
 pub expand-requires-clause-untried : goal.expand-requires-clause-untried
 expand-requires-clause-untried c =
-    let w = scope_of c.args.base.now c.args.pick c.args.events.now c.args.bounds.now in
+    let w = scope_of c.args.base.now c.args.pick c.args.moves.now c.args.bounds.now in
     let at = c.args.at in
     let found : List Found = c.args.self.now.found.items in
     let s = c.requires.short in
@@ -47,7 +48,7 @@ expand-requires-clause-untried c =
     let there : slice_get found at ≡ Some f = there_of found at f (slice_get_within found at s.0 s.1) c.index.ensures in
     let child = child_is w found at f c.requires.kept.linked c.requires.begun.1.searched.each there (read c.args.self.now.front.probe.state) c.requires.front.parent in
     record {
-      none = c.in_ok-enter.ensures.edits ∙ c.requires.front.front.idle.none;
+      none = ap (λ (t : Trial). t.edits.items) c.in_ok-enter.ensures.tried ∙ c.requires.front.front.idle.none;
       here = (child.0, child.1, c.in_ok-enter.ensures.state ∙ child.2.state);
     }
 
@@ -60,13 +61,13 @@ made old new edits later all state same =
 pub leave-requires : goal.leave-requires
 leave-requires c =
     let back = at_true c.in_ok-expand.field-0 _ _ c.if-not-branch.false c.in_ok-expand.ensures.back in
-    subst (λ (p : Probe). AllBack exchange CanGoBack p.state p.entered.items) (sym c.in_ok-keep.ensures.probe)
-    (made c.enter.new.self.state c.expand.new.self.front.probe.state c.enter.new.self.entered.items c.expand.new.self.front.probe.entered.items
-    c.in_ok-enter.ensures.led.all back.state c.in_ok-expand.ensures.front.entered)
+    subst (λ (p : Probe). AllBack exchange CanGoBack p.state p.entered.edits.items) (sym c.in_ok-keep.ensures.probe)
+    (made c.enter.new.self.state c.expand.new.self.front.probe.state c.enter.new.self.entered.edits.items c.expand.new.self.front.probe.entered.edits.items
+    c.in_ok-enter.ensures.led.all back.state (ap (λ (t : Trial). t.edits.items) c.in_ok-expand.ensures.front.entered))
 
 pub returns-clause-front : goal.returns-clause-front
 returns-clause-front c =
-    let w = scope_of c.args.base.now c.args.pick c.args.events.now c.args.bounds.now in
+    let w = scope_of c.args.base.now c.args.pick c.args.moves.now c.args.bounds.now in
     let at = c.args.at in
     let found : List Found = c.args.self.now.found.items in
     let s = c.requires.short in
@@ -77,12 +78,12 @@ returns-clause-front c =
     let one = family.1 in
     let home : c.leave.new.self.state ≡ c.args.self.now.front.probe.state =
     c.leave.ensures.state
-    ∙ ap (λ (p : Probe). back exchange p.state p.entered.items) c.in_ok-keep.ensures.probe
-    ∙ (λ i. back exchange (before.state i) (same.entered i))
+    ∙ ap (λ (p : Probe). back exchange p.state p.entered.edits.items) c.in_ok-keep.ensures.probe
+    ∙ (λ i. back exchange (before.state i) (same.entered i).edits.items)
     ∙ c.in_ok-enter.ensures.led.back in
     front_next w c.args.self.now _ at count (read c.enter.new.self.state)
     c.requires.front
-    (record { none = c.leave.ensures.edits ∙ ap (λ (p : Probe). p.edits.items) c.in_ok-keep.ensures.probe ∙ before.none; unmoved = c.leave.ensures.unmoved })
+    (record { none = ap (λ (t : Trial). t.edits.items) c.leave.ensures.tried ∙ ap (λ (p : Probe). p.tried.edits.items) c.in_ok-keep.ensures.probe ∙ before.none; unmoved = c.leave.ensures.unmoved })
     (c.in_ok-keep.ensures.left ∙ same.left)
     (ap read home)
     (c.in_ok-keep.ensures.parents ∙ (λ i. flat_map repeated (same.parents i) ++ replicate count (read (before.state i))))
