@@ -282,20 +282,25 @@ def reaches_all(counters):
         yield f"random searches: {what}", None if reached[what] >= least else f"{reached[what]} of {least}"
 
 
-# Clusters all of whose nodes are up, crash and boot, while time passes in steps of a second: how many states there are, as another
-# program and a model checker count them, and how many events lead to the last.
-CLOSED = (("any-failures.txt", 1_755, 15), ("five-nodes-sweep.txt", 752, 14))
+# Clusters all of whose nodes are up, crash and boot, while time passes in steps of a second: how many nodes may be down, if not all,
+# how many states there are, as another program and for the first two a model checker count them, and how many events lead to the last.
+CLOSED = (("examples/any-failures.txt", None, 1_755, 15), ("examples/five-nodes-sweep.txt", None, 752, 14),
+          ("tests/clusters/ten-nodes.txt", 2, 5_787, 34), ("tests/clusters/six-nodes.txt", None, 250_130, 29))
 
 
 def closed(program, space):
     """A search without a bound of steps comes to an end, with as many states as are known."""
-    name, states, deepest = space
-    cluster = Path(TOP, "examples", name).read_text(encoding="utf-8").split("===\n")[0]
+    name, down, states, deepest = space
+    cluster = Path(TOP, name).read_text(encoding="utf-8").split("===\n")[0]
     nodes = [part.name for part in model.Rehearsal(cluster, "first").cluster.nodes]
     script = [*(f"boot {node}" for node in nodes), "may crash *", "may boot *", "may tick 1000"]
+    owed = f"explored {states} states deepest {deepest}"
+    if down is not None:
+        script.append(f"down {down}")
+        owed += f" up to {down} down"
     done = run(program, ["explore"], input=(cluster + "===\n" + model.joined(script)).encode())
-    owed = f"explored {states} states deepest {deepest}\n".encode()
-    yield f"all states: {name}", None if done.returncode == 0 and done.stdout.endswith(owed) else f"{done.stdout[-200:]!r}"
+    is_so = done.returncode == 0 and done.stdout.endswith(f"{owed}\n".encode())
+    yield f"all states: {name}", None if is_so else f"{done.stdout[-200:]!r}"
 
 
 TESTS = (Group(closed, CLOSED), Group(explored, [range(begin, begin + AT_ONCE) for begin in range(0, SEARCHES, AT_ONCE)], end=reaches_all),)

@@ -257,15 +257,27 @@ fn verdicts_are_told(rt: HostRuntime) {
     assert!(rt; matches!(found.verdicts[1], Verdict::Holds));
 }
 
+// It is asked whether an application runs somewhere in so many milliseconds.
+fn runs_within(rt: &impl Abort, alloc: Global, app: App, ms: u64) -> Ask {
+    let ask = ask_of(
+        rt,
+        alloc,
+        true,
+        [[Condition::RunsSomewhere(app)].as_slice()].as_slice(),
+    );
+    Ask {
+        always: true,
+        within: Some(ms),
+        any_of: ask.any_of,
+    }
+}
+
 // Where the first node ends, the application is lost until its timer fires, and a wait is as long as that; then no timer is set.
 #[test]
 fn time_passes_to_the_next_timer(rt: HostRuntime) {
     let app = App(0);
-    let somewhere = [[Condition::RunsSomewhere(app)].as_slice()];
-    let mut soon = ask_of(&rt, rt.alloc(), true, somewhere.as_slice());
-    soon.within = Some(5_000);
-    let mut too_soon = ask_of(&rt, rt.alloc(), true, somewhere.as_slice());
-    too_soon.within = Some(4_999);
+    let soon = runs_within(&rt, rt.alloc(), app, 5_000);
+    let too_soon = runs_within(&rt, rt.alloc(), app, 4_999);
     let may = [Move::Make(Event::Crash { node: Node(0) }), Move::Wait];
     let found = explored(
         &rt,
