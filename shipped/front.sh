@@ -61,7 +61,7 @@ read_words() {
         return
         ;;
       -h | --help) asks_help=yes ;;
-      --pick | --workers | --states)
+      --pick | --workers | --states | --memory)
         words+=("${@:1:2}")
         (($# == 1)) || shift
         ;;

@@ -9,6 +9,7 @@ run makes the same searches. That these reach all that they are made for is a te
 import collections
 import copy
 import random
+import re
 from pathlib import Path
 from typing import Iterator, Optional
 
@@ -288,19 +289,40 @@ CLOSED = (("examples/any-failures.txt", None, 1_755, 15), ("examples/five-nodes-
           ("tests/clusters/ten-nodes.txt", 2, 5_787, 34), ("tests/clusters/six-nodes.txt", None, 250_130, 29))
 
 
+def whole_search(name) -> str:
+    """The cluster file of this name, and behind it a search that tries all crashes and boots from where all nodes are up."""
+    cluster = Path(TOP, name).read_text(encoding="utf-8").split("===\n")[0]
+    nodes = [part.name for part in model.Rehearsal(cluster, "first").cluster.nodes]
+    return cluster + "===\n" + model.joined([*(f"boot {node}" for node in nodes), "may crash *", "may boot *", "may tick 1000"])
+
+
 def closed(program, space):
     """A search without a bound of steps comes to an end, with as many states as are known."""
     name, down, states, deepest = space
-    cluster = Path(TOP, name).read_text(encoding="utf-8").split("===\n")[0]
-    nodes = [part.name for part in model.Rehearsal(cluster, "first").cluster.nodes]
-    script = [*(f"boot {node}" for node in nodes), "may crash *", "may boot *", "may tick 1000"]
-    owed = f"explored {states} states deepest {deepest}"
+    text, owed = whole_search(name), f"explored {states} states deepest {deepest}"
     if down is not None:
-        script.append(f"down {down}")
+        text += f"down {down}\n"
         owed += f" up to {down} down"
-    done = run(program, ["explore"], input=(cluster + "===\n" + model.joined(script)).encode())
+    done = run(program, ["explore"], input=text.encode())
     is_so = done.returncode == 0 and done.stdout.endswith(f"{owed}\n".encode())
     yield f"all states: {name}", None if is_so else f"{done.stdout[-200:]!r}"
 
 
-TESTS = (Group(closed, CLOSED), Group(explored, [range(begin, begin + AT_ONCE) for begin in range(0, SEARCHES, AT_ONCE)], end=reaches_all),)
+def bounded(program):
+    """Where keys may take a mebibyte a search ends unfinished, with as many states as have so much: no more are kept once the keys
+    have as many bytes, so those of all but the last have fewer.
+
+    By rh_keys a number of a key takes a byte at least (Codes, `number_code`). There are of each node its mode, the ends of two lists
+    and one of each application (Packed, `packed_node`), and of each application two (Keys, `standing_numbers`): 42 with six nodes
+    and three applications. At most each application stands in a list of each node, and each node and each application has a timer:
+    18 more, and 9 times two and one of nine bytes."""
+    least, most = 6 * (1 + 2 + 3) + 3 * 2, 6 * (1 + 2 + 3) + 3 * 2 + 6 * 3 + 9 * (9 + 2)
+    name, _, whole, _ = CLOSED[-1]
+    done = run(program, ["explore", "--memory", "1"], input=whole_search(name).encode())
+    told = re.search(rb"\nexplored ([0-9]+) states deepest [0-9]+ up to [0-9]+ steps\nunfinished\n$", done.stdout)
+    states = int(told[1]) if told else 0
+    is_so = done.returncode == 10 and (states - 1) * least < 1_048_576 <= states * most and states < whole
+    yield f"keys of a mebibyte: {name}", None if is_so else f"status {done.returncode}, {done.stdout[-200:]!r}"
+
+
+TESTS = (Group(closed, CLOSED), bounded, Group(explored, [range(begin, begin + AT_ONCE) for begin in range(0, SEARCHES, AT_ONCE)], end=reaches_all),)

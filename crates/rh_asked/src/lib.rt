@@ -6,5 +6,5 @@
 mod manner;
 mod program;
 
-pub use manner::{LintManner, Manner};
+pub use manner::{LintManner, Manner, SearchRoom};
 pub use program::Program;

@@ -1,4 +1,4 @@
-//! In which manner a script is run, and what is found listed.
+//! In which manner a script is run and what is found listed, and how much a search may keep.
 
 /// In which manner a script is run.
 #[derive(Clone, Copy, Debug, PartialEq, Eq)]
@@ -18,4 +18,13 @@ pub struct LintManner {
     pub strict: bool,
     /// Each line is an object of JSON.
     pub json: bool,
+}
+
+/// How much a search may keep.
+#[derive(Clone, Copy, Debug, PartialEq, Eq)]
+pub struct SearchRoom {
+    /// At most so many states.
+    pub states: usize,
+    /// No more states once the keys of those that are kept take so many mebibytes (1,048,576 bytes).
+    pub mebibytes: u32,
 }

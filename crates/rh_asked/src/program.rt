@@ -3,7 +3,7 @@
 ghost use Rattle.std.specs.Prelude.{◌≡◌};
 ghost use Rattle.rh_asked.specs.Programs.{is_alone};
 
-use crate::manner::{LintManner, Manner};
+use crate::manner::{LintManner, Manner, SearchRoom};
 use rh_rules::Pick;
 
 /// What is done with the input.
@@ -27,8 +27,8 @@ pub enum Program {
     Verify(Pick),
     /// What is wrong with the input is listed, in a manner.
     Lint(Pick, LintManner),
-    /// All states are searched that events reach from a base, and at most so many are kept.
-    Explore(Pick, usize),
+    /// All states are searched that events reach from a base, in so much room.
+    Explore(Pick, SearchRoom),
     /// Sessions share a cluster.
     Sessions(Pick),
     /// Plans are tried, by so many workers.

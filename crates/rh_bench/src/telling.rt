@@ -11,7 +11,7 @@ use crate::jobs::{Asked, Job};
 use rh_base::OutOfMemory;
 use rh_devices::{Bytes, Text, Watched};
 use rh_lint::LintManner;
-use rh_programs::{Program, rehearse_alone};
+use rh_programs::{Program, SearchRoom, rehearse_alone};
 use rh_rules::Pick;
 use std::alloc::{AllocError, Global};
 use std::io;
@@ -109,10 +109,10 @@ impl<'a, T: Runtime<A = Global>> Teller<'a, T> {
     fn tell_searches(&self, chance: &mut Chance, shape: &Shape, size: usize) -> Result<(), Untold> {
         let alloc = self.rt.alloc();
         let waiting = search_text(alloc, chance, shape, 6)?;
-        let small = Program::Explore(Pick::First, size);
+        let small = Program::Explore(Pick::First, room_for(size));
         let _ = self.tell("explore", small, waiting.as_str())?;
         let middle = search_text(alloc, chance, &MIDDLE, 3)?;
-        let more = Program::Explore(Pick::First, size / 8);
+        let more = Program::Explore(Pick::First, room_for(size / 8));
         let _ = self.tell("explore more", more, middle.as_str())?;
         Ok(())
     }
@@ -137,7 +137,7 @@ impl<'a, T: Runtime<A = Global>> Teller<'a, T> {
         let steps = steps_text(alloc, chance, &LARGEST, size / 16)?;
         let _ = self.tell("lint", Program::Lint(Pick::First, LINT), steps.as_str())?;
         let search = search_text(alloc, chance, &LARGEST, 2)?;
-        let few = Program::Explore(Pick::First, size / 4);
+        let few = Program::Explore(Pick::First, room_for(size / 4));
         let _ = self.tell("explore", few, search.as_str())?;
         Ok(())
     }
@@ -223,4 +223,12 @@ pub fn tell_inputs<T: Runtime<A = Global>>(rt: &T, asked: &Asked) -> Result<(), 
         }
     }
     Ok(())
+}
+
+// Room for so many states, whatever they take.
+fn room_for(states: usize) -> SearchRoom {
+    SearchRoom {
+        states,
+        mebibytes: 1_048_576,
+    }
 }

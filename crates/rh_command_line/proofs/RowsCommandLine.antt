@@ -114,14 +114,17 @@ workers_row : (faults (codes "sweep" ∷ codes "--workers" ∷ codes "0" ∷ [])
 unfolding clap_on_literals subcommand_named
 workers_row = (refl, refl, refl)
 
--- a million states, where no number is given; from 1 to 2^32 - 1
-explore_row : (asks (codes "explore" ∷ []) ≡ Some (Explore First 1000000)) × (faults (codes "explore" ∷ []) ≡ [])
-    × (asks (codes "explore" ∷ codes "--states=4294967295" ∷ codes "--pick=last" ∷ []) ≡ Some (Explore Last 4294967295))
+-- a million states and keys of a gibibyte, where no number is given; from 1 to 2^32 - 1, and to 2^20
+explore_row : (asks (codes "explore" ∷ []) ≡ Some (Explore First (record { states = 1000000; mebibytes = 1024 }))) × (faults (codes "explore" ∷ []) ≡ [])
+    × (asks (codes "explore" ∷ codes "--states=4294967295" ∷ codes "--pick=last" ∷ codes "--memory=1" ∷ [])
+    ≡ Some (Explore Last (record { states = 4294967295; mebibytes = 1 })))
+    × (faults (codes "explore" ∷ codes "--memory" ∷ codes "0" ∷ []) ≡ kind.ValueValidation ∷ [])
+    × (faults (codes "explore" ∷ codes "--memory" ∷ codes "1048577" ∷ []) ≡ kind.ValueValidation ∷ [])
     × (faults (codes "explore" ∷ codes "--states" ∷ codes "0" ∷ []) ≡ kind.ValueValidation ∷ [])
     × (faults (codes "explore" ∷ codes "--states" ∷ codes "4294967296" ∷ []) ≡ kind.ValueValidation ∷ [])
     × (faults (codes "sweep" ∷ codes "--states" ∷ codes "5" ∷ []) ≡ kind.UnknownArgument ∷ [])
 unfolding clap_on_literals subcommand_named
-explore_row = (refl, refl, refl, refl, refl, refl)
+explore_row = (refl, refl, refl, refl, refl, refl, refl, refl)
 
 -- another choice, an option that a subcommand hasn't, one that stands twice
 options_row : (faults (codes "run" ∷ codes "--pick" ∷ codes "middle" ∷ []) ≡ kind.InvalidValue ∷ [])

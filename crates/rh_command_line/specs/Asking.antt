@@ -15,12 +15,13 @@ use Rattle.clap.specs.declared.error.kind.ErrorKind.TheVariants as kind
 use Rattle.rh_rules.specs.declared.pick.Pick.{Pick}
 use Rattle.rh_rules.specs.declared.pick.Pick.TheVariants.{First, Last}
 use Rattle.rh_plans.specs.declared.workers.TheConstants.{MAX_WORKERS}
+use Rattle.rh_asked.specs.declared.manner.SearchRoom.{SearchRoom}
 use Rattle.rh_asked.specs.declared.program.Program.{Program}
 use Rattle.rh_asked.specs.declared.program.Program.TheVariants as program
 use Rattle.rh_asked.specs.Programs.{IsStaffed}
 use Rattle.rh_command_line.specs.Table.{flag_word, subcommand_named}
 use Rattle.rh_command_line.specs.CommandLine.{Picks, ArePicks, line}
-use Rattle.rh_command_line.specs.declared.table.TheConstants.{MOST_STATES}
+use Rattle.rh_command_line.specs.declared.table.TheConstants.{MOST_MEBIBYTES, MOST_STATES}
 use Rattle.rh_command_line.specs.declared.table.Flag.{Flag}
 use Rattle.rh_command_line.specs.declared.table.Flag.TheVariants.{Echo, Strict, Json, Whole, Hints, All}
 use Rattle.rh_command_line.specs.declared.table.Subcommand.{Subcommand}
@@ -64,6 +65,24 @@ states_of text = if is_unsigned_in 1 MOST_STATES text then Some (digits_value 10
 abbrev pub states_in : List Row → Option ℕ
 states_in rows = option_and_then states_of (one_of (codes "states") rows)
 
+-- so for the memory that their keys take, in mebibytes
+abbrev pub allowed_memory : ℕ → Option ℕ
+allowed_memory mebibytes = if nat_le 1 mebibytes && nat_le mebibytes MOST_MEBIBYTES then Some mebibytes else None
+
+abbrev pub memory_of : Text → Option ℕ
+memory_of text = if is_unsigned_in 1 MOST_MEBIBYTES text then Some (digits_value 10 (without_leading_plus text)) else None
+
+abbrev pub memory_in : List Row → Option ℕ
+memory_in rows = option_and_then memory_of (one_of (codes "memory") rows)
+
+-- how much a search may keep
+abbrev pub room_of : Option ℕ → Option ℕ → Option SearchRoom
+room_of None memory = None
+room_of (Some states) memory = option_map (λ mebibytes. record { states = states; mebibytes = mebibytes }) memory
+
+abbrev pub room_in : List Row → Option SearchRoom
+room_in rows = room_of (states_in rows) (memory_in rows)
+
 -- whether a word without a value was given: among the matches it has the text `true` then
 abbrev pub is_given : Option Text → Bool
 is_given None = false
@@ -98,7 +117,7 @@ program_of Lint rows = Some (lint_of (pick_in rows) (flag_in All rows) (flag_in 
 program_of Verify rows = Some (program.Verify (pick_in rows))
 program_of Sessions rows = Some (program.Sessions (pick_in rows))
 program_of Sweep rows = option_map (sweep_of (pick_in rows) (flag_in Json rows)) (workers_in rows)
-program_of Explore rows = option_map (program.Explore (pick_in rows)) (states_in rows)
+program_of Explore rows = option_map (program.Explore (pick_in rows)) (room_in rows)
 
 -- the program of the subcommand with this word and these matches
 abbrev pub program_in : Text → List Row → Option Program

@@ -8,7 +8,7 @@ use Rattle.clap.specs.declared.builder.command.Command.{Command}
 use Rattle.clap.specs.declared.builder.command.Command.TheViews.{out-Command as fields_of}
 use Rattle.clap.specs.declared.builder.value_parser.ValueParser.TheVariants as parser
 use Rattle.rh_plans.specs.declared.workers.TheConstants.{MAX_WORKERS}
-use Rattle.rh_command_line.specs.declared.table.TheConstants.{MOST_STATES}
+use Rattle.rh_command_line.specs.declared.table.TheConstants.{MOST_MEBIBYTES, MOST_STATES}
 use Rattle.rh_command_line.specs.declared.table.Setting.{Setting}
 use Rattle.rh_command_line.specs.declared.table.Setting.TheVariants as setting
 use Rattle.rh_command_line.specs.declared.table.Subcommand.{Subcommand}
@@ -48,6 +48,15 @@ states_option = record (new_rule (codes "states")) {
   parser = Some (parser.Unsigned 1 MOST_STATES);
 }
 
+-- `--memory K`, a number from 1 to 2^20, and 1,024 where it isn't given
+abbrev pub memory_option : Rule
+memory_option = record (new_rule (codes "memory")) {
+  long = Some (codes "memory");
+  action = Some Set;
+  defaults = codes "1024" ∷ [];
+  parser = Some (parser.Unsigned 1 MOST_MEBIBYTES);
+}
+
 -- `--WORD`, which takes no value
 abbrev pub flag_option : Text → Rule
 flag_option word = record (new_rule word) { long = Some word; action = Some SetTrue }
@@ -57,6 +66,7 @@ abbrev pub setting_option : Picks → Setting → Rule
 setting_option picks setting.Pick = pick_option picks
 setting_option picks setting.Workers = workers_option
 setting_option picks setting.States = states_option
+setting_option picks setting.Memory = memory_option
 setting_option picks (setting.Flag flag) = flag_option (flag_word flag)
 
 -- a command with more options

@@ -5,10 +5,10 @@ ghost use Rattle.clap.specs.Words.{App, app_of, kind_of, rule_of};
 ghost use Rattle.clap.specs.declared.error.kind.ErrorKind.{ErrorKind};
 ghost use Rattle.clap.specs.declared.error.kind.ErrorKind.TheVariants as kind;
 ghost use Rattle.rh_command_line.specs.Table.{flag_word};
-ghost use Rattle.rh_command_line.specs.CommandLine.{IsCommand, flag_option, line, pick_option, setting_option, states_option, subcommand_line, with_settings, with_subcommands, workers_option};
+ghost use Rattle.rh_command_line.specs.CommandLine.{IsCommand, flag_option, line, memory_option, pick_option, setting_option, states_option, subcommand_line, with_settings, with_subcommands, workers_option};
 
 use crate::help::{ABOUT, AFTER_HELP};
-use crate::table::{Flag, MOST_STATES, SUBCOMMANDS, Setting, Subcommand};
+use crate::table::{Flag, MOST_MEBIBYTES, MOST_STATES, SUBCOMMANDS, Setting, Subcommand};
 use clap::builder::ValueParser;
 use clap::{Arg, ArgAction, Command, Error};
 use rh_plans::MAX_WORKERS;
@@ -90,6 +90,7 @@ fn argument<'a>(parts: Parts<'a>, setting: Setting) -> Arg<'a>
         Setting::Pick => pick_argument(parts),
         Setting::Workers => workers_argument(parts),
         Setting::States => states_argument(parts),
+        Setting::Memory => memory_argument(parts),
         Setting::Flag(flag) => flag_argument(parts, flag),
     }
 }
@@ -131,6 +132,21 @@ fn states_argument<'a>(parts: Parts<'a>) -> Arg<'a>
         .value_parser(ValueParser::Unsigned(1, MOST_STATES as u64))
         .default_value("1000000")
         .help("Keeps so many states at most, and ends unfinished where there are more")
+}
+
+// How much memory the keys of the states take, as an argument.
+fn memory_argument<'a>(parts: Parts<'a>) -> Arg<'a>
+    ensures rule { rule_of result ≡ memory_option }
+    ensures local { result.global ≡ false }
+{
+    Arg::new(parts.alloc, "memory")
+        .long("memory")
+        .action(ArgAction::Set)
+        .value_parser(ValueParser::Unsigned(1, MOST_MEBIBYTES as u64))
+        .default_value("1024")
+        .help(
+            "Keeps states whose keys take so many MiB at most, and ends unfinished where there are more",
+        )
 }
 
 // A word that takes no value, as an argument.

@@ -400,7 +400,8 @@ and for each `ask`, in their order,
                              no shorter list leads to such a state, whose
                              report stands behind them
   unfinished                 the last line, where there are more states than
-                             `--states` says, or where a limit (S4 or S7)
+                             `--states` says, or their keys take as many MiB as
+                             `--memory` says, or where a limit (S4 or S7)
                              refuses an event: what is told is true up to as
                              many steps as the first line says
 

@@ -7,11 +7,11 @@ ghost use Rattle.rh_rules.specs.declared.pick.Pick.TheVariants as pick;
 ghost use Rattle.rh_plans.specs.Workers.{AreWorkers};
 ghost use Rattle.rh_asked.specs.Programs.{IsStaffed};
 ghost use Rattle.rh_asked.specs.declared.program.Program.TheVariants as program;
-ghost use Rattle.rh_command_line.specs.Asking.{allowed, allowed_states, flag_in, is_given, lint_of, pick_in, program_among, program_in, program_of, run_as, run_of, states_in, sweep_of, workers_in};
+ghost use Rattle.rh_command_line.specs.Asking.{allowed, allowed_memory, allowed_states, flag_in, is_given, lint_of, memory_in, pick_in, program_among, program_in, program_of, room_in, run_as, run_of, states_in, sweep_of, workers_in};
 
-use crate::table::{Flag, MOST_STATES, Subcommand, subcommand_named};
+use crate::table::{Flag, MOST_MEBIBYTES, MOST_STATES, Subcommand, subcommand_named};
 use clap::ArgMatches;
-use rh_asked::{LintManner, Manner, Program};
+use rh_asked::{LintManner, Manner, Program, SearchRoom};
 use rh_plans::MAX_WORKERS;
 use rh_rules::Pick;
 
@@ -60,7 +60,7 @@ fn program_of(subcommand: Subcommand, matches: &ArgMatches<'_>) -> Option<Progra
             flag_in(matches, Flag::Json),
             workers_in(matches)?,
         )),
-        Subcommand::Explore => Some(Program::Explore(pick_in(matches), states_in(matches)?)),
+        Subcommand::Explore => Some(Program::Explore(pick_in(matches), room_in(matches)?)),
     }
 }
 
@@ -200,4 +200,34 @@ fn allowed_states(states: usize) -> Option<usize>
     } else {
         None
     }
+}
+
+// How much memory their keys take, if it may be so much.
+fn memory_in(matches: &ArgMatches<'_>) -> Option<u32>
+    ensures { result ≡ memory_in (rows_of (found_of matches.now)) }
+{
+    match matches.get_one::<usize>("memory") {
+        Some(mebibytes) => allowed_memory(mebibytes),
+        None => None,
+    }
+}
+
+// This many mebibytes, if there may be so many.
+fn allowed_memory(mebibytes: usize) -> Option<u32>
+    ensures { result ≡ allowed_memory mebibytes }
+{
+    if mebibytes >= 1 && mebibytes <= MOST_MEBIBYTES {
+        Some(mebibytes as u32)
+    } else {
+        None
+    }
+}
+
+// How much a search may keep, if it may be so much.
+fn room_in(matches: &ArgMatches<'_>) -> Option<SearchRoom>
+    ensures { result ≡ room_in (rows_of (found_of matches.now)) }
+{
+    let states = states_in(matches)?;
+    let mebibytes = memory_in(matches)?;
+    Some(SearchRoom { states, mebibytes })
 }

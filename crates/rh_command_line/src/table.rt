@@ -58,6 +58,9 @@ impl Flag {
 /// The most states that a search can be asked to keep.
 pub const MOST_STATES: usize = 4_294_967_295;
 
+/// The most mebibytes that the keys of a search can be asked to take: a tebibyte.
+pub const MOST_MEBIBYTES: usize = 1_048_576;
+
 /// An option of a subcommand.
 #[derive(Clone, Copy)]
 pub enum Setting {
@@ -67,6 +70,8 @@ pub enum Setting {
     Workers,
     /// How many states are kept.
     States,
+    /// How much memory their keys take.
+    Memory,
     /// A word without a value.
     Flag(Flag),
 }
@@ -84,7 +89,7 @@ static PICK_ALL_HINTS_JSON: [Setting; 4] = [
     Setting::Flag(Flag::Json),
 ];
 
-static PICK_STATES: [Setting; 2] = [Setting::Pick, Setting::States];
+static PICK_STATES_MEMORY: [Setting; 3] = [Setting::Pick, Setting::States, Setting::Memory];
 
 static PICK_WORKERS_JSON: [Setting; 3] = [
     Setting::Pick,
@@ -181,7 +186,7 @@ impl Subcommand {
             ),
             Subcommand::Explore => entry_of(
                 "explore",
-                PICK_STATES.as_slice(),
+                PICK_STATES_MEMORY.as_slice(),
                 EXPLORE_ABOUT,
                 EXPLORE_AFTER_HELP,
             ),

@@ -1,5 +1,5 @@
 -- States that are alike go on alike, within the scope of a search.
-use Rattle.std.proofs.Common.{◌≡◌, ◌≤◌, ◌+◌, ◌-◌, ℕ, ◌==◌, true, false, nat_le, nat_lt, max, Option, Some, None, List, [], ◌∷◌, length, map, drop, slice_get, is_some, is_none, not, ◌&&◌, ◌||◌, if◌then◌else◌, refl, sym, ap, ◌∙◌, subst, arith}
+use Rattle.std.proofs.Common.{◌≡◌, ◌≤◌, ◌+◌, ℕ, ◌==◌, true, false, nat_le, nat_lt, max, Option, Some, None, List, [], ◌∷◌, length, map, drop, slice_get, is_some, is_none, not, ◌&&◌, ◌||◌, if◌then◌else◌, refl, sym, ap, ◌∙◌, subst, arith}
 use Rattle.std.specs.List.{list_any, list_all}
 use Rattle.std.specs.Option.{option_map}
 use Rattle.std.proofs.lemmas.Option.{same_Some}

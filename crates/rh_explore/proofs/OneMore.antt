@@ -1,6 +1,8 @@
 -- One state more is kept.
-use Rattle.std.proofs.Common.{◌≡◌, ℕ, List, [], ◌∷◌, ◌++◌, Some, sym, ap, ◌∙◌, subst}
+use Rattle.std.proofs.Common.{◌≡◌, ◌+◌, ℕ, sum_by, List, [], ◌∷◌, ◌++◌, Some, sym, ap, ◌∙◌, subst}
 use Rattle.std.proofs.lemmas.List.{map_push}
+use Rattle.std.proofs.lemmas.List.Sums.{sum_by_push}
+use Rattle.rh_explore.specs.Exploring.{key_length}
 use Rattle.rh_state.specs.StateView.{StateView}
 use Rattle.rh_rules.specs.declared.event.Event.{Event}
 use Rattle.rh_step.specs.Runs.{step}
@@ -29,8 +31,9 @@ pub kept_more : (w : Scope) (asks : List Ask) (old new : Space) (y : Seen) → I
     → bytes_of new ≡ bytes_of old ++ code (packed_key y.state) ∷ []
     → AreFailures w.pick new.failures.firsts.items new.failures.left.items asks (states_of (seen_of w old.found.items) ++ y.state ∷ [])
     → new.failures.trial.edits.items ≡ []
+    → new.bytes ≡ old.bytes + key_length y.state
     → IsKept w asks new
-kept_more w asks old new y kept linked more bytes failures calm =
+kept_more w asks old new y kept linked more bytes failures calm longer =
     let seen = seen_of w old.found.items in
     let state_in = λ (x : Seen). x.state in
     record {
@@ -39,4 +42,6 @@ kept_more w asks old new y kept linked more bytes failures calm =
       failures = subst (λ (l : List StateView). AreFailures w.pick new.failures.firsts.items new.failures.left.items asks l)
           (sym (ap states_of more ∙ map_push state_in seen y)) failures;
       calm = calm;
+      bytes = longer ∙ ap (λ n. n + key_length y.state) kept.bytes ∙ sym (sum_by_push (λ (x : Seen). key_length x.state) seen y)
+          ∙ ap (sum_by (λ (x : Seen). key_length x.state)) (sym more);
     }

@@ -1,5 +1,5 @@
 -- What one event adds to what was found.
-use Rattle.std.proofs.Common.{◌≡◌, true, false, inl, inr, ◌<◌, ◌≤◌, ◌+◌, ℕ, List, [], ◌∷◌, ◌++◌, length, get_or, slice_get, Some, All, sym, ap, ◌∙◌, subst, arith}
+use Rattle.std.proofs.Common.{◌≡◌, true, false, inl, inr, ◌<◌, ◌≤◌, ◌+◌, ℕ, List, [], ◌∷◌, ◌++◌, length, sum_by, get_or, slice_get, Some, All, sym, ap, ◌∙◌, subst, arith}
 use Rattle.std.specs.Prelude.{Contains, None}
 use Rattle.std.proofs.lemmas.List.{length-map, get_or-map}
 use Rattle.std.proofs.lemmas.Option.{same_Some, slice_get_within, slice_get-get_or, get_or_from_slice_get}
@@ -7,7 +7,8 @@ use Rattle.rh_state.specs.StateView.{StateView}
 use Rattle.rh_keys.specs.Shifts.{timeless, Alike}
 use Rattle.rh_keys.specs.ShiftLaws.{meets_limit}
 use Rattle.rh_base.proofs.Truths.{both}
-use Rattle.rh_explore.specs.Exploring.{StaysBelowLimits}
+use Rattle.rh_explore.specs.declared.bounds.Bounds.{Bounds}
+use Rattle.rh_explore.specs.Exploring.{key_length, most_bytes, StaysBelowLimits}
 use Rattle.rh_trace.specs.Validity.{IsValid}
 use Rattle.rh_rules.specs.declared.event.Event.{Event}
 use Rattle.rh_explore.specs.declared.reaching.Way.TheVariants.{To, Nowhere, AtLimit}
@@ -119,10 +120,11 @@ module _ (w : Scope) (seen : List Seen) (at : ℕ) (x : Seen) (here : slice_get 
 
   -- ---- the end
   -- below the limits, and while there is room, no event ends the search
-  pub never_cut : (count steps states : ℕ) → IsExpandedAt w seen at count → IsCut w states seen at → length seen < states
-      → length x.path < steps → StaysBelowLimits w steps → ⊥
-  never_cut count steps states so (inl full) few short below = absurd (omega (arith, full, few))
-  never_cut count steps states so (inr met) few short below =
+  pub never_cut : (count steps : ℕ) (bounds : Bounds) → IsExpandedAt w seen at count → IsCut w bounds seen at → length seen < bounds.states
+      → sum_by (λ (y : Seen). key_length y.state) seen < most_bytes bounds → length x.path < steps → StaysBelowLimits w steps → ⊥
+  never_cut count steps bounds so (inl (inl full)) few small short below = absurd (omega (arith, full, few))
+  never_cut count steps bounds so (inl (inr full)) few small short below = absurd (omega (arith, full, small))
+  never_cut count steps bounds so (inr met) few small short below =
       let e = met.1 in
       let x_is : met.0 ≡ x = same_Some met.0 x (sym met.2 ∙ here) in
       let is = at_of (IsSeen w) seen at x (it_is count so).searched.each here in

@@ -1,9 +1,11 @@
 -- What a search answers (ours).
-use Rattle.std.specs.Prelude.{◌≡◌, ◌≤◌, ◌<◌, ℕ, true, false, List, length, All, Any, AllPairs}
+use Rattle.std.specs.Prelude.{◌≡◌, ◌≤◌, ◌<◌, ◌*◌, ℕ, true, false, List, length, All, Any, AllPairs}
 use Rattle.rh_state.specs.StateView.{StateView}
 use Rattle.rh_state.specs.Stored.{Stored, read}
 use Rattle.rh_rules.specs.declared.event.Event.{Event}
 use Rattle.rh_rules.specs.declared.pick.Pick.{Pick}
+use Rattle.rh_keys.specs.Codes.{code}
+use Rattle.rh_keys.specs.Packed.{packed_key}
 use Rattle.rh_keys.specs.Shifts.{Alike}
 use Rattle.rh_keys.specs.ShiftLaws.{meets_limit}
 use Rattle.rh_explore.specs.declared.answers.Verdict.{Verdict}
@@ -15,6 +17,14 @@ use Rattle.rh_explore.specs.declared.bounds.Covered.{Covered}
 use Rattle.rh_explore.specs.declared.bounds.Covered.TheVariants as covered
 use Rattle.rh_explore.specs.Asking.{holds_in, MayWait}
 use Rattle.rh_explore.specs.Reaching.{Scope, IsMove, MayAllCome, Reaches, behind}
+
+-- how many bytes the key of a state has, as it is kept
+abbrev pub key_length : StateView → ℕ
+key_length s = length (code (packed_key s))
+
+-- how many bytes the keys of all states may have
+abbrev pub most_bytes : Bounds → ℕ
+most_bytes bounds = bounds.mebibytes * 1048576
 
 -- the scope of a search
 abbrev pub scope_of : Stored → Pick → List Move → Bounds → Scope

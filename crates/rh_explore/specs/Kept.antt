@@ -1,5 +1,5 @@
 -- What was found, as it is kept (ours).
-use Rattle.std.specs.Prelude.{◌≡◌, ◌<◌, ◌+◌, ◌-◌, ℕ, List, [], ◌∷◌, ◌++◌, Option, Some, None, length, map, fold, take, drop, replicate, unwrap_or, slice_get}
+use Rattle.std.specs.Prelude.{◌≡◌, ◌<◌, ◌+◌, ◌-◌, ℕ, List, [], ◌∷◌, ◌++◌, Option, Some, None, length, sum_by, map, fold, take, drop, replicate, unwrap_or, slice_get}
 use Rattle.std.specs.List.{flat_map}
 use Rattle.rh_state.specs.StateView.{StateView}
 use Rattle.rh_state.specs.Stored.{read}
@@ -14,6 +14,7 @@ use Rattle.rh_explore.specs.declared.reaching.Probe.{Probe}
 use Rattle.rh_explore.specs.declared.space.Found.{Found}
 use Rattle.rh_explore.specs.declared.space.Space.{Space}
 use Rattle.rh_keys.specs.Codes.{code}
+use Rattle.rh_explore.specs.Exploring.{key_length}
 use Rattle.rh_explore.specs.Failures.{AreFailures}
 use Rattle.rh_keys.specs.Packed.{packed_key}
 use Rattle.rh_explore.specs.Reaching.{Scope, behind}
@@ -62,6 +63,7 @@ pub record IsKept (w : Scope) (asks : List Ask) (space : Space) : Type 0 where
   pub codes : bytes_of space ≡ codes_of (seen_of w space.found.items)
   pub failures : AreFailures w.pick space.failures.firsts.items space.failures.left.items asks (states_of (seen_of w space.found.items))
   pub calm : space.failures.trial.edits.items ≡ []
+  pub bytes : space.bytes ≡ sum_by (λ (x : Seen). key_length x.state) (seen_of w space.found.items)
 
 -- ---- the states whose events weren't made yet, by those from which they were found
 

@@ -1,5 +1,5 @@
 -- What is said within a search, where a part of the states is found (ours).
-use Rattle.std.specs.Prelude.{◌≡◌, ◌⊎◌, ◌≤◌, ◌<◌, ◌+◌, ℕ, true, false, List, [], Some, None, length, slice_get, All, AllPairs}
+use Rattle.std.specs.Prelude.{◌≡◌, ◌⊎◌, ◌≤◌, ◌<◌, ◌+◌, ℕ, true, false, List, [], Some, None, length, sum_by, slice_get, All, AllPairs}
 use Rattle.rh_state.specs.StateView.{StateView}
 use Rattle.rh_rules.specs.declared.event.Event.{Event}
 use Rattle.rh_rules.specs.declared.pick.Pick.{Pick}
@@ -12,12 +12,14 @@ use Rattle.rh_explore.specs.declared.answers.Verdict.{Verdict}
 use Rattle.rh_explore.specs.declared.answers.Verdict.TheVariants.{Holds, Fails}
 use Rattle.rh_explore.specs.declared.asking.Ask.{Ask}
 use Rattle.rh_explore.specs.Asking.{holds_in}
+use Rattle.rh_explore.specs.declared.bounds.Bounds.{Bounds}
 use Rattle.rh_explore.specs.declared.bounds.Covered.{Covered}
 use Rattle.rh_explore.specs.declared.bounds.Covered.TheVariants as covered
 use Rattle.rh_explore.specs.declared.moves.Move.{Move}
 use Rattle.rh_explore.specs.declared.reaching.Way.{Way}
 use Rattle.rh_explore.specs.declared.reaching.Way.TheVariants.{To, Nowhere, AtLimit}
 use Rattle.rh_explore.specs.Moves.{event_in}
+use Rattle.rh_explore.specs.Exploring.{key_length, most_bytes}
 use Rattle.rh_explore.specs.Reaching.{Scope, IsMove, MayCome, MayAllCome, not_up_count, behind}
 
 -- the event leads there, within the scope; or it can't be made, or too many nodes are not up behind it; or a limit refuses it
@@ -79,9 +81,13 @@ IsExpandedAt w seen at made = (x : Seen) × IsExpanded w seen at x made
 abbrev pub IsAtLimit : Scope → List Seen → ℕ → Type 0
 IsAtLimit w seen at = (x : Seen) × (e : Event) × (slice_get seen at ≡ Some x) × IsMove w x.state e × (meets_limit x.state e ≡ true)
 
--- the search ends there: as many states were found as may be kept, or a limit refuses an event
-abbrev pub IsCut : Scope → ℕ → List Seen → ℕ → Type 0
-IsCut w states seen at = (states ≤ length seen) ⊎ IsAtLimit w seen at
+-- as many states were found as may be kept, or their keys have as many bytes
+abbrev pub IsFull : Bounds → List Seen → Type 0
+IsFull bounds seen = (bounds.states ≤ length seen) ⊎ (most_bytes bounds ≤ sum_by (λ (x : Seen). key_length x.state) seen)
+
+-- the search ends there: there is no room for another state, or a limit refuses an event
+abbrev pub IsCut : Scope → Bounds → List Seen → ℕ → Type 0
+IsCut w bounds seen at = IsFull bounds seen ⊎ IsAtLimit w seen at
 
 -- the lists of events of which all were looked at
 abbrev pub IsEnd : List Seen → ℕ → Covered → Type 0

@@ -1,11 +1,11 @@
 //! What a search answers.
 
-ghost use Rattle.std.specs.Prelude.{◌≡◌, ◌<◌, ◌≤◌, ℕ, length, slice_get, List, Some, IfOk};
+ghost use Rattle.std.specs.Prelude.{◌≡◌, ◌<◌, ◌≤◌, ℕ, length, sum_by, slice_get, List, Some, IfOk};
 ghost use Rattle.std.specs.List.{AllZip};
 ghost use Rattle.rh_state.specs.StateView.{StateView};
 ghost use Rattle.rh_state.specs.Stored.{read};
 ghost use Rattle.rh_trace.specs.Validity.{IsValid};
-ghost use Rattle.rh_explore.specs.Exploring.{scope_of, StaysBelowLimits, CoversAll, IsVerdict, AreReached};
+ghost use Rattle.rh_explore.specs.Exploring.{scope_of, key_length, most_bytes, StaysBelowLimits, CoversAll, IsVerdict, AreReached};
 ghost use Rattle.rh_explore.specs.Kept.{AreLinked};
 ghost use Rattle.rh_explore.specs.Tellings.{IsTold};
 
@@ -34,6 +34,8 @@ pub struct Explored {
     /// How many states were reached, the base among them. Those that are alike count once: they are equal but for the clock, the
     /// starts of nodes and the start kinds, with timers counted from now, and go on alike.
     pub states: usize,
+    /// How many bytes the keys have by which they are told apart (`rh_keys`).
+    pub bytes: usize,
     /// How many events lead to the last of them; to each other one no more do.
     pub deepest: usize,
     /// The lists of events of which all were looked at.
@@ -56,15 +58,17 @@ pub fn explore(
     // A verdict that what is asked holds is about all covered lists of events. One that it fails has a shortest list that leads to a
     // state in which it does, also among those that aren't covered.
     ensures verdicts { IfOk result (λ x. AllZip (IsVerdict (scope_of base.now pick moves.now bounds.now) bounds.now.steps x.covered) asks.now x.verdicts.items) }
-    // So many states were reached, no two of them alike, and each to which a covered list leads is alike to one of them.
-    ensures states { IfOk result (λ x. (found : List StateView) × (length found ≡ x.states)
+    // So many states were reached, no two of them alike, and each to which a covered list leads is alike to one of them. Their keys have
+    // so many bytes.
+    ensures states { IfOk result (λ x. (found : List StateView) × (length found ≡ x.states) × (sum_by key_length found ≡ x.bytes)
         × AreReached (scope_of base.now pick moves.now bounds.now) x.deepest x.covered found) }
     ensures deepest { IfOk result (λ x. x.deepest ≤ bounds.now.steps) }
-    // All lists within the bound of steps are covered, unless that of states was met, or a limit of starts or of time.
-    ensures covers { IfOk result (λ x. x.states < bounds.now.states → StaysBelowLimits (scope_of base.now pick moves.now bounds.now) bounds.now.steps
+    // All lists within the bound of steps are covered, unless that of states was met, or that of bytes, or a limit of starts or of time.
+    ensures covers { IfOk result (λ x. x.states < bounds.now.states → x.bytes < most_bytes bounds.now → StaysBelowLimits (scope_of base.now pick moves.now bounds.now) bounds.now.steps
         → CoversAll bounds.now.steps x.covered) }
 {
     let (space, covered) = search(alloc, base, pick, moves, bounds, asks)?;
+    let bytes = space.bytes;
     let (all, firsts) = space.into_found();
     let found = all.as_slice();
     let verdicts = verdicts_on(alloc, found, firsts.as_slice())?;
@@ -72,6 +76,7 @@ pub fn explore(
     let deepest = found[states - 1].depth as usize;
     Ok(Explored {
         states,
+        bytes,
         deepest,
         covered,
         verdicts,

@@ -1,5 +1,8 @@
 //! How far a search goes, and how far it came.
 
+ghost use Rattle.std.specs.Prelude.{◌≡◌, ◌<◌, ◌^◌};
+ghost use Rattle.rh_explore.specs.Exploring.{most_bytes};
+
 /// How far a search goes.
 #[derive(Clone, Copy, Debug, PartialEq, Eq)]
 pub struct Bounds {
@@ -9,6 +12,19 @@ pub struct Bounds {
     pub steps: u32,
     /// At most so many states are kept, and at least the base.
     pub states: usize,
+    /// No more states are kept once the keys of those that are take so many mebibytes (1,048,576 bytes). What a search takes beside the
+    /// keys is mostly less.
+    pub mebibytes: u32,
+}
+
+impl Bounds {
+    // How many bytes the keys may have.
+    pub(crate) fn most_bytes(&self) -> usize
+        ensures bytes { result ≡ most_bytes self.now }
+        ensures few { result < 2 ^ 52 }
+    {
+        self.mebibytes as usize * 1_048_576
+    }
 }
 
 /// The lists of events of which all were looked at.

@@ -1,13 +1,13 @@
 //! The states that were found, and the search for them.
 
-ghost use Rattle.std.specs.Prelude.{◌≡◌, ◌<◌, ◌≤◌, ◌+◌, ◌↔◌, ℕ, [], ◌∷◌, ◌++◌, List, length, map, slice_get, max, All, Contains, IfOk, OnOk, IsTrue, MatchBool, None, Some, ⊤};
+ghost use Rattle.std.specs.Prelude.{◌≡◌, ◌<◌, ◌≤◌, ◌+◌, ◌^◌, ◌↔◌, ◌⊎◌, ℕ, [], ◌∷◌, ◌++◌, List, length, map, slice_get, max, All, Contains, IfOk, OnOk, IsTrue, MatchBool, None, Some, ⊤};
 ghost use Rattle.rh_state.specs.StateView.{StateView};
 ghost use Rattle.rh_state.specs.Stored.{read};
 ghost use Rattle.rh_trace.specs.Validity.{IsValid};
 ghost use Rattle.rh_explore.specs.Failures.{AreFailures};
 ghost use Rattle.rh_keys.specs.Codes.{code};
 ghost use Rattle.rh_keys.specs.Packed.{packed_key};
-ghost use Rattle.rh_explore.specs.Exploring.{scope_of, StaysBelowLimits, CoversAll};
+ghost use Rattle.rh_explore.specs.Exploring.{scope_of, key_length, most_bytes, StaysBelowLimits, CoversAll};
 ghost use Rattle.rh_explore.specs.Spaces.{Seen, IsSearched, IsNear, IsEnd, IsCut, IsExpandedAt};
 ghost use Rattle.rh_explore.specs.Kept.{seen_of, bytes_of, waiting_in, IsKept, IsShort, IsUntried, IsIdle, IsFront, IsTakenUp, IsSameFront, IsTakenBack, IsFamily, GoesOnFrom};
 
@@ -44,6 +44,8 @@ pub(crate) struct Space {
     // so that the keys of 2^40 states have one hash and each is compared with all before it. This one takes in 8 bytes at a time to four
     // such numbers, and no way is known to find many keys that it doesn't tell apart.
     keys: IndexSet<Key, BuildHasherDefault<DefaultHasher>>,
+    /// How many bytes these have.
+    pub(crate) bytes: usize,
     // Those whose events weren't made yet. The others aren't needed any more, and a state takes much more memory than its key.
     front: Front,
     maker: KeyMaker,
@@ -59,11 +61,13 @@ impl Space {
         ensures front { IfOk result (λ space. waiting_in space.front ≡ read base.now ∷ []) }
         ensures failures { IfOk result (λ space. AreFailures pick space.failures.firsts.items space.failures.left.items asks.now (read base.now ∷ [])) }
         ensures calm { IfOk result (λ space. space.failures.trial.edits.items ≡ []) }
+        ensures bytes { IfOk result (λ space. space.bytes ≡ key_length (read base.now)) }
     {
         let mut space = Space {
             found: Vec::new(alloc),
             failures: Failures::of(alloc, asks)?,
             keys: IndexSet::with_hasher(alloc, BuildHasherDefault::new()),
+            bytes: 0,
             front: Front::of(alloc, base.copy(alloc)?),
             maker: KeyMaker::new(alloc),
         };
@@ -101,12 +105,14 @@ impl Space {
         asks: &[Ask],
     ) -> Result<(), OutOfMemory>
         requires new { Contains (bytes_of self.old) key.bytes.items → ⊥ }
+        requires few { self.old.bytes + length key.bytes.items < 2 ^ 64 }
         requires valid { IsValid (read self.old.front.probe.state) }
         requires calm { self.old.failures.trial.edits.items ≡ [] }
         requires failures { (states : List StateView) × (length self.old.found.items ≡ length states)
             × AreFailures pick self.old.failures.firsts.items self.old.failures.left.items asks.now states }
         ensures found { OnOk result (self.new.found.items ≡ self.old.found.items ++ found ∷ []) }
         ensures keys { OnOk result (bytes_of self.new ≡ bytes_of self.old ++ key.bytes.items ∷ []) }
+        ensures bytes { OnOk result (self.new.bytes ≡ self.old.bytes + length key.bytes.items) }
         ensures failures { OnOk result ((states : List StateView) → length self.old.found.items ≡ length states
             → AreFailures pick self.old.failures.firsts.items self.old.failures.left.items asks.now states
             → AreFailures pick self.new.failures.firsts.items self.new.failures.left.items asks.now (states ++ read self.old.front.probe.state ∷ [])) }
@@ -116,6 +122,7 @@ impl Space {
         let number = self.found.len();
         let state = &mut self.front.probe.state;
         self.failures.ask(alloc, asks, pick, number, state)?;
+        self.bytes += key.bytes.len();
         self.keys.insert(key)?;
         self.found.push(found)?;
         Ok(())
@@ -126,6 +133,13 @@ impl Space {
         ensures { IsTrue result ↔ Contains (bytes_of self.now) self.now.maker.key.bytes.items }
     {
         self.keys.contains(&self.maker.key)
+    }
+
+    // Is there no room for another state?
+    fn is_full(&self, bounds: &Bounds) -> bool
+        ensures { IsTrue result ↔ ((bounds.now.states ≤ length self.now.found.items) ⊎ (most_bytes bounds.now ≤ self.now.bytes)) }
+    {
+        self.found.len() >= bounds.states || self.bytes >= bounds.most_bytes()
     }
 
     // Makes the state of this number of the one from which it was found, makes each move that it allows, keeps the states behind,
@@ -149,7 +163,7 @@ impl Space {
         ensures made { IfOk result (λ all. MatchBool all
             (IsExpandedAt (scope_of base.now pick moves.now bounds.now) (seen_of (scope_of base.now pick moves.now bounds.now) self.new.found.items) at (length moves.now))
             ((made : ℕ) × IsExpandedAt (scope_of base.now pick moves.now bounds.now) (seen_of (scope_of base.now pick moves.now bounds.now) self.new.found.items) at made
-            × IsCut (scope_of base.now pick moves.now bounds.now) bounds.now.states (seen_of (scope_of base.now pick moves.now bounds.now) self.new.found.items) at)) }
+            × IsCut (scope_of base.now pick moves.now bounds.now) bounds.now (seen_of (scope_of base.now pick moves.now bounds.now) self.new.found.items) at)) }
         ensures front { IfOk result (λ all. MatchBool all (IsFront (scope_of base.now pick moves.now bounds.now) self.new (at + 1)) ⊤) }
         ensures grown { OnOk result (GoesOnFrom self.old.found.items self.new.found.items) }
         ensures room { OnOk result (length self.new.found.items ≤ max (length self.old.found.items) bounds.now.states) }
@@ -183,7 +197,7 @@ impl Space {
         ensures made { IfOk result (λ all. MatchBool all
             (IsExpandedAt (scope_of base.now pick moves.now bounds.now) (seen_of (scope_of base.now pick moves.now bounds.now) self.new.found.items) at (length moves.now))
             ((made : ℕ) × IsExpandedAt (scope_of base.now pick moves.now bounds.now) (seen_of (scope_of base.now pick moves.now bounds.now) self.new.found.items) at made
-            × IsCut (scope_of base.now pick moves.now bounds.now) bounds.now.states (seen_of (scope_of base.now pick moves.now bounds.now) self.new.found.items) at)) }
+            × IsCut (scope_of base.now pick moves.now bounds.now) bounds.now (seen_of (scope_of base.now pick moves.now bounds.now) self.new.found.items) at)) }
         ensures back { IfOk result (λ all. MatchBool all (IsTakenBack self.old.front.probe self.new.front.probe) ⊤) }
         ensures front { OnOk result (IsSameFront self.old.front self.new.front) }
         ensures family { OnOk result (IsFamily (scope_of base.now pick moves.now bounds.now) (read self.old.front.probe.state) self.old.found.items self.new.found.items) }
@@ -222,7 +236,7 @@ impl Space {
             → MatchBool went
             (IsExpandedAt (scope_of base.now pick moves.now bounds.now) (seen_of (scope_of base.now pick moves.now bounds.now) self.new.found.items) at (made + 1))
             (IsExpandedAt (scope_of base.now pick moves.now bounds.now) (seen_of (scope_of base.now pick moves.now bounds.now) self.new.found.items) at made
-            × IsCut (scope_of base.now pick moves.now bounds.now) bounds.now.states (seen_of (scope_of base.now pick moves.now bounds.now) self.new.found.items) at)) }
+            × IsCut (scope_of base.now pick moves.now bounds.now) bounds.now (seen_of (scope_of base.now pick moves.now bounds.now) self.new.found.items) at)) }
         ensures back { IfOk result (λ went. MatchBool went (IsTakenBack self.old.front.probe self.new.front.probe) ⊤) }
         ensures front { OnOk result (IsSameFront self.old.front self.new.front) }
         ensures family { OnOk result (IsFamily (scope_of base.now pick moves.now bounds.now) (read self.old.front.probe.state) self.old.found.items self.new.found.items) }
@@ -250,7 +264,7 @@ impl Space {
             self.front.probe.take_back();
             return Ok(true);
         }
-        if self.found.len() >= bounds.states {
+        if self.is_full(bounds) {
             return Ok(false);
         }
         let key = self.maker.key.copy(alloc)?;
@@ -278,7 +292,7 @@ pub(crate) fn search(
     ensures searched { IfOk result (λ found. (done : ℕ) × IsSearched (scope_of base.now pick moves.now bounds.now) (seen_of (scope_of base.now pick moves.now bounds.now) found.0.found.items) done
         × IsNear (seen_of (scope_of base.now pick moves.now bounds.now) found.0.found.items) done × IsEnd (seen_of (scope_of base.now pick moves.now bounds.now) found.0.found.items) done found.1) }
     ensures few { IfOk result (λ found. All (λ (x : Seen). length x.path ≤ bounds.now.steps) (seen_of (scope_of base.now pick moves.now bounds.now) found.0.found.items)) }
-    ensures covers { IfOk result (λ found. length found.0.found.items < bounds.now.states
+    ensures covers { IfOk result (λ found. length found.0.found.items < bounds.now.states → found.0.bytes < most_bytes bounds.now
         → StaysBelowLimits (scope_of base.now pick moves.now bounds.now) bounds.now.steps → CoversAll bounds.now.steps found.1) }
 {
     let mut space = Space::of(alloc, base, pick, asks)?;

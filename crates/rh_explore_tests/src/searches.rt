@@ -73,6 +73,7 @@ fn up_to(steps: u32) -> Bounds {
         down: 3,
         steps,
         states: 1_000_000,
+        mebibytes: 1_024,
     }
 }
 
@@ -137,6 +138,7 @@ fn few_nodes_may_be_down(rt: HostRuntime) {
         down: 0,
         steps: 5,
         states: 100,
+        mebibytes: 1_024,
     };
     let no_asks = Vec::new(rt.alloc());
     let found = failures_explored(&rt, rt.alloc(), &bounds, no_asks.as_slice());
@@ -207,6 +209,7 @@ fn room_is_wanting(rt: HostRuntime) {
         down: 3,
         steps: 8,
         states: 100,
+        mebibytes: 1_024,
     };
     let no_asks = Vec::new(rt.alloc());
     let found = failures_explored(&rt, rt.alloc(), &bounds, no_asks.as_slice());
@@ -216,6 +219,21 @@ fn room_is_wanting(rt: HostRuntime) {
         Covered::UpTo(steps) => steps,
     };
     assert!(rt; whole < 8);
+}
+
+// Nor does one that has no room for keys: the base alone is kept.
+#[test]
+fn room_for_keys_is_wanting(rt: HostRuntime) {
+    let bounds = Bounds {
+        down: 3,
+        steps: 8,
+        states: 100,
+        mebibytes: 0,
+    };
+    let no_asks = Vec::new(rt.alloc());
+    let found = failures_explored(&rt, rt.alloc(), &bounds, no_asks.as_slice());
+    assert!(rt; found.states == 1);
+    assert!(rt; found.covered == Covered::UpTo(0));
 }
 
 // The lists of the verdicts: the application doesn't run at the third node behind seven events, no fewer (so tells another search),

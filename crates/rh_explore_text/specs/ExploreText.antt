@@ -1,5 +1,5 @@
 -- What a search writes for the bytes that it reads, and how it ends (ours).
-use Rattle.std.specs.Prelude.{◌≡◌, ◌≤◌, ◌<◌, ℕ, List, ◌++◌, length, map, Option, Some, None, Result, Ok, Err}
+use Rattle.std.specs.Prelude.{◌≡◌, ◌≤◌, ◌<◌, ◌*◌, ℕ, List, ◌++◌, length, sum_by, map, Option, Some, None, Result, Ok, Err}
 use Rattle.std.specs.List.{AllZip}
 use Rattle.rh_model.specs.ClusterView.{ClusterView}
 use Rattle.rh_cluster.specs.ClusterOf.{cluster_of}
@@ -10,13 +10,14 @@ use Rattle.rh_trail.specs.SimView.{SimView, state_of}
 use Rattle.rh_trail.specs.Lone.{opened, sim_after}
 use Rattle.rh_script.specs.Lines.{cluster_text, script_lines}
 use Rattle.rh_script.specs.Answers.{fault_text, bad_text}
+use Rattle.rh_asked.specs.declared.manner.SearchRoom.{SearchRoom}
 use Rattle.rh_run.specs.declared.fault.Told.{Told}
 use Rattle.rh_run.specs.declared.fault.Told.TheVariants as told
 use Rattle.rh_run.specs.RunText.{answers_text}
 use Rattle.rh_explore.specs.declared.answers.Explored.{Explored}
 use Rattle.rh_explore.specs.declared.asking.Ask.{Ask}
 use Rattle.rh_explore.specs.Reaching.{Scope}
-use Rattle.rh_explore.specs.Exploring.{IsVerdict, AreReached, StaysBelowLimits, CoversAll}
+use Rattle.rh_explore.specs.Exploring.{key_length, IsVerdict, AreReached, StaysBelowLimits, CoversAll}
 use Rattle.rh_explore_text.specs.declared.lines.SearchLine.{SearchLine}
 use Rattle.rh_explore_text.specs.Asks.{ask_view}
 use Rattle.rh_explore_text.specs.SearchLines.{SearchView, search_lines_asked, bad_search_line, search_of}
@@ -25,13 +26,13 @@ use Rattle.rh_explore_text.specs.FoundText.{found_text, found_end}
 -- ---- what a search finds
 
 -- what is told of each ask is so; so many states were reached, no two of them alike, and each to which a covered list of events leads is
--- alike to one of them; and all lists within the bound of steps are covered, unless so many states were reached as may be kept, or a
--- limit of starts or of time was
-pub record IsFound (w : Scope) (steps states : ℕ) (asks : List Ask) (x : Explored) : Type 0 where
+-- alike to one of them; and all lists within the bound of steps are covered, unless so many states were reached as may be kept, or their
+-- keys take as much, or a limit of starts or of time was reached
+pub record IsFound (w : Scope) (steps : ℕ) (room : SearchRoom) (asks : List Ask) (x : Explored) : Type 0 where
   pub verdicts : AllZip (IsVerdict w steps x.covered) asks x.verdicts.items
-  pub reached : (found : List StateView) × (length found ≡ x.states) × AreReached w x.deepest x.covered found
+  pub reached : (found : List StateView) × (length found ≡ x.states) × (sum_by key_length found ≡ x.bytes) × AreReached w x.deepest x.covered found
   pub deepest : x.deepest ≤ steps
-  pub covers : x.states < states → StaysBelowLimits w steps → CoversAll steps x.covered
+  pub covers : x.states < room.states → x.bytes < room.mebibytes * 1048576 → StaysBelowLimits w steps → CoversAll steps x.covered
 
 -- the simulation behind the commands of the base, and the scope of the search from there
 abbrev pub base_of : ClusterView → Pick → SearchView → SimView
@@ -43,27 +44,27 @@ scope_in c pick q = record { base = state_of (base_of c pick q); pick = pick; mo
 -- ---- the text
 
 -- the answers to the base's commands, as in a run, and then what was found
-abbrev pub MayFind : ClusterView → Pick → ℕ → SearchView → List ℕ → Option Told → Type 0
-MayFind c pick states q text owed =
-    (asks : List Ask) × (x : Explored) × (map ask_view asks ≡ q.asks) × IsFound (scope_in c pick q) q.steps states asks x
+abbrev pub MayFind : ClusterView → Pick → SearchRoom → SearchView → List ℕ → Option Told → Type 0
+MayFind c pick room q text owed =
+    (asks : List Ask) × (x : Explored) × (map ask_view asks ≡ q.asks) × IsFound (scope_in c pick q) q.steps room asks x
     × (text ≡ answers_text c (opened c pick) q.base ++ found_text c pick (state_of (base_of c pick q)) q.down q.steps x)
     × (owed ≡ found_end q.steps x)
 
 -- a bad line alone is told
-abbrev pub MayTellLines : ClusterView → Pick → ℕ → List SearchLine → Option ℕ → List ℕ → Option Told → Type 0
-MayTellLines c pick states lines (Some k) text owed = (text ≡ bad_text k) × (owed ≡ Some (told.BadLine k))
-MayTellLines c pick states lines None text owed = MayFind c pick states (search_of c lines) text owed
+abbrev pub MayTellLines : ClusterView → Pick → SearchRoom → List SearchLine → Option ℕ → List ℕ → Option Told → Type 0
+MayTellLines c pick room lines (Some k) text owed = (text ≡ bad_text k) × (owed ≡ Some (told.BadLine k))
+MayTellLines c pick room lines None text owed = MayFind c pick room (search_of c lines) text owed
 
 -- for a cluster and a script, or for the fault of a text that is no cluster
-abbrev pub MayExploreOver : Pick → ℕ → List (List ℕ) → Result ClusterView ClusterFault → List ℕ → Option Told → Type 0
-MayExploreOver pick states lines (Ok c) text owed =
-    MayTellLines c pick states (search_lines_asked c lines) (bad_search_line (search_lines_asked c lines)) text owed
-MayExploreOver pick states lines (Err f) text owed = (text ≡ fault_text f) × (owed ≡ Some (told.Cluster f))
+abbrev pub MayExploreOver : Pick → SearchRoom → List (List ℕ) → Result ClusterView ClusterFault → List ℕ → Option Told → Type 0
+MayExploreOver pick room lines (Ok c) text owed =
+    MayTellLines c pick room (search_lines_asked c lines) (bad_search_line (search_lines_asked c lines)) text owed
+MayExploreOver pick room lines (Err f) text owed = (text ≡ fault_text f) × (owed ≡ Some (told.Cluster f))
 
--- for these bytes, where at most so many states are kept, this text may be written, which tells this fault at its end, or none
-unfoldable pub MayExplore : Pick → ℕ → List ℕ → List ℕ → Option Told → Type 0
-MayExplore pick states bytes text owed = MayExploreOver pick states (script_lines bytes) (cluster_of (cluster_text bytes)) text owed
+-- for these bytes, in so much room, this text may be written, which tells this fault at its end, or none
+unfoldable pub MayExplore : Pick → SearchRoom → List ℕ → List ℕ → Option Told → Type 0
+MayExplore pick room bytes text owed = MayExploreOver pick room (script_lines bytes) (cluster_of (cluster_text bytes)) text owed
 
 -- what a search owes
-abbrev pub OwesExplore : Pick → ℕ → List ℕ → List ℕ → Option Told → Type 0
-OwesExplore pick states bytes text owed = MayExplore pick states bytes text owed
+abbrev pub OwesExplore : Pick → SearchRoom → List ℕ → List ℕ → Option Told → Type 0
+OwesExplore pick room bytes text owed = MayExplore pick room bytes text owed

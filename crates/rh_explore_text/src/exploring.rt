@@ -12,6 +12,7 @@ ghost use Rattle.rh_explore_text.specs.ExploreText.{MayFind, MayTellLines, MayEx
 
 use crate::reading::{Search, SearchScript, search_in};
 use crate::telling::{found_end, push_found};
+use rh_asked::SearchRoom;
 use rh_base::OutOfMemory;
 use rh_calls::Call;
 use rh_cluster::{Cluster, read_cluster};
@@ -27,11 +28,11 @@ use std::alloc::Global;
 /// base's commands, as [`rh_run::run`] does, and what the search finds from there: how many states its events reach, and of each
 /// ask that it holds, or a shortest list of events behind which it doesn't.
 ///
-/// At most so many states are kept. The input has at most 16,777,216 bytes. Neither device is flushed.
+/// No more states are kept than there is room for. The input has at most 16,777,216 bytes. Neither device is flushed.
 ///
 /// # Errors
 /// `Cluster` and `BadLine` (a line that is no command of the base and none of a search) are told alone. `Differs` is the end of the
-/// text that was written, where what is asked fails, and `Unfinished`, where none does and more states than these were reached, or
+/// text that was written, where what is asked fails, and `Unfinished`, where none does and there are more states than room, or
 /// a limit of starts or of time was. `Read` comes where the reader has failed or the input is too long, and `OutOfMemory` where a growth was
 /// refused: nothing was written. `Write` comes where the writer has failed: a front of the text was written.
 pub fn run_explore<S: Source, K: Sink>(
@@ -39,14 +40,14 @@ pub fn run_explore<S: Source, K: Sink>(
     reader: &mut Watched<S>,
     writer: &mut Watched<K>,
     pick: Pick,
-    states: usize,
+    room: SearchRoom,
 ) -> Result<(), RunFault>
     requires reader { reader.old.failed ≡ false }
     requires writer { writer.old.failed ≡ false }
-    ensures { ProgramGives S.gives S.fails K.takes K.fails (OwesExplore pick states) NoThreads result reader.old reader.new writer.old writer.new }
+    ensures { ProgramGives S.gives S.fails K.takes K.fails (OwesExplore pick room) NoThreads result reader.old reader.new writer.old writer.new }
 {
     let input = read_input(alloc, reader)?;
-    let Ok(answer) = answer_of(alloc, input.as_slice(), pick, states) else {
+    let Ok(answer) = answer_of(alloc, input.as_slice(), pick, room) else {
         return Err(RunFault::OutOfMemory);
     };
     write_text(writer, answer.text.as_slice())?;
@@ -64,8 +65,13 @@ struct Answer {
 
 // What is answered to an input.
 #[tactic(auto, unfolding(crate::specs::ExploreText::MayExplore))]
-fn answer_of(alloc: Global, input: &[u8], pick: Pick, states: usize) -> Result<Answer, OutOfMemory>
-    ensures { IfOk result (λ answer. MayExplore pick states input.now answer.text.items answer.end) }
+fn answer_of(
+    alloc: Global,
+    input: &[u8],
+    pick: Pick,
+    room: SearchRoom,
+) -> Result<Answer, OutOfMemory>
+    ensures { IfOk result (λ answer. MayExplore pick room input.now answer.text.items answer.end) }
 {
     let (text, script) = cut(input);
     match read_cluster(alloc, text) {
@@ -77,7 +83,7 @@ fn answer_of(alloc: Global, input: &[u8], pick: Pick, states: usize) -> Result<A
             let end = Some(Told::Cluster(fault));
             Ok(Answer { text, end })
         }
-        Ok(cluster) => answer_script(alloc, cluster, script, pick, states),
+        Ok(cluster) => answer_script(alloc, cluster, script, pick, room),
     }
 }
 
@@ -87,10 +93,10 @@ fn answer_script(
     cluster: Cluster,
     script: &[u8],
     pick: Pick,
-    states: usize,
+    room: SearchRoom,
 ) -> Result<Answer, OutOfMemory>
     ensures { IfOk result (λ answer. let lines = search_lines_asked cluster (map content (raw_lines script.now)) in
-        MayTellLines cluster pick states lines (bad_search_line lines) answer.text.items answer.end) }
+        MayTellLines cluster pick room lines (bad_search_line lines) answer.text.items answer.end) }
 {
     match search_in(alloc, &cluster, script)? {
         SearchScript::BadLine(number) => {
@@ -98,7 +104,7 @@ fn answer_script(
             let end = Some(Told::BadLine(number));
             Ok(Answer { text, end })
         }
-        SearchScript::Search(search) => answer_search(alloc, cluster, &search, pick, states),
+        SearchScript::Search(search) => answer_search(alloc, cluster, &search, pick, room),
     }
 }
 
@@ -108,16 +114,17 @@ fn answer_search(
     cluster: Cluster,
     search: &Search,
     pick: Pick,
-    states: usize,
+    room: SearchRoom,
 ) -> Result<Answer, OutOfMemory>
-    ensures { IfOk result (λ answer. MayFind cluster pick states (search_view search.now) answer.text.items answer.end) }
+    ensures { IfOk result (λ answer. MayFind cluster pick room (search_view search.now) answer.text.items answer.end) }
 {
     let mut sim = Sim::open(alloc, cluster, pick)?;
     let mut text = answers_to(alloc, &mut sim, search.base.as_slice())?;
     let bounds = Bounds {
         down: search.down as usize,
         steps: search.steps,
-        states,
+        states: room.states,
+        mebibytes: room.mebibytes,
     };
     let moves = search.moves.as_slice();
     let asks = search.asks.as_slice();

@@ -9,6 +9,6 @@
 mod status;
 mod sweeping;
 
-pub use rh_asked::Program;
+pub use rh_asked::{Program, SearchRoom};
 pub use status::{rehearse_alone, rehearse_dialogue, rehearse_together};
 pub use sweeping::{sweep_json, sweep_json_alone};

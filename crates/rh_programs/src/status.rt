@@ -96,7 +96,7 @@ fn ended_alone<S: Source, K: Sink>(
         Program::Story(pick, whole) => run_story(alloc, reader, writer, pick, whole),
         Program::Verify(pick) => run_verify(alloc, reader, writer, pick),
         Program::Lint(pick, manner) => run_lint(alloc, reader, writer, pick, manner),
-        Program::Explore(pick, states) => run_explore(alloc, reader, writer, pick, states),
+        Program::Explore(pick, room) => run_explore(alloc, reader, writer, pick, room),
         Program::Sweep(pick, _) => run_sweep_alone(alloc, reader, writer, pick),
         Program::SweepJson(pick, _) => sweep_json_alone(alloc, reader, writer, pick),
         Program::Sessions(_) => unreachable!(),

@@ -1,9 +1,9 @@
-use Rattle.std.proofs.Common.{◌≡◌, ◌<◌, ◌≤◌, ◌+◌, ◌-◌, ℕ, List, length, get_or, slice_get, Option, Some, None, sym, ap, ◌∙◌, subst, arith}
+use Rattle.std.proofs.Common.{◌≡◌, ◌<◌, ◌≤◌, ◌+◌, ◌-◌, ℕ, List, [], ◌∷◌, fold, map, length, get_or, slice_get, Option, Some, None, refl, sym, ap, ◌∙◌, subst, arith}
 use Rattle.std.specs.List.{AllZip}
 use Rattle.std.proofs.lemmas.List.{length-map}
 use Rattle.std.proofs.lemmas.Option.{slice_get_within, slice_get-get_or}
 use Rattle.rh_explore.specs.declared.space.Found.{Found}
-use Rattle.rh_explore.specs.Exploring.{scope_of, IsVerdict, AreReached}
+use Rattle.rh_explore.specs.Exploring.{scope_of, key_length, IsVerdict, AreReached}
 use Rattle.rh_explore.specs.Spaces.{Seen}
 use Rattle.rh_explore.specs.Kept.{seen_by, seen_of, states_of, AreLinked}
 use Rattle.rh_explore.specs.Tellings.{IsTold}
@@ -46,6 +46,11 @@ returns-clause-verdicts c =
     (subst (λ (found : List Found). AllZip (IsTold found) c.as_slice.result.now c.in_ok-verdicts.verdicts.items)
     (c.as_slice-found.ensures.value ∙ (λ i. (c.into_found-all.ensures.found i).items)) c.in_ok-verdicts.ensures))
 
+-- what is added up over what others are turned into
+sum_map : {A B : Type 0} (g : B → ℕ) (f : A → B) (sum : ℕ) (xs : List A) → fold (λ a x. a + g x) sum (map f xs) ≡ fold (λ a x. a + g (f x)) sum xs
+sum_map g f sum [] = refl
+sum_map g f sum (x ∷ xs) = sum_map g f (sum + g (f x)) xs
+
 abbrev none : Found
 none = record { last = None; depth = 0 }
 
@@ -71,6 +76,7 @@ returns-clause-states c =
     let is_last : last + 1 ≡ length seen = omega (arith, long, some) in (
       states_of seen,
       length-map seen (λ (y : Seen). y.state) ∙ long ∙ sym (ap (λ (xs : List Found). length xs) value),
+      sum_map key_length (λ (y : Seen). y.state) 0 seen ∙ sym c.in_ok-space.ensures.kept.bytes,
       subst (λ (n : ℕ). AreReached w n covered (states_of seen)) (sym (told ∙ deep)) (are_reached w seen s.0 s.1 s.2 last x here is_last covered s.3),
     )
 

@@ -1,4 +1,4 @@
-use Rattle.std.proofs.Common.{rules, ◌≡◌, ◌<◌, ◌≤◌, ◌+◌, ◌∷◌, [], ℕ, zero, suc, List, length, map, drop, slice_get, Some, None, All, refl, sym, ap, ◌∙◌, subst, arith}
+use Rattle.std.proofs.Common.{rules, ◌≡◌, ◌<◌, ◌≤◌, ◌+◌, ◌∷◌, [], ℕ, zero, suc, List, length, sum_by, map, drop, slice_get, Some, None, All, refl, sym, ap, ◌∙◌, subst, arith}
 use Rattle.std.proofs.lemmas.List.{length-map, length-drop}
 use Rattle.std.proofs.lemmas.Option.{same_Some, none-some, slice_get_within}
 use Rattle.rh_state.specs.StateView.{StateView}
@@ -10,7 +10,7 @@ use Rattle.rh_explore.specs.declared.space.Space.{Space}
 use Rattle.rh_keys.specs.Codes.{code}
 use Rattle.rh_explore.specs.Failures.{AreFailures}
 use Rattle.rh_keys.specs.Packed.{packed_key}
-use Rattle.rh_explore.specs.Exploring.{scope_of}
+use Rattle.rh_explore.specs.Exploring.{scope_of, key_length}
 use Rattle.rh_explore.specs.Reaching.{Scope}
 use Rattle.rh_explore.specs.Spaces.{Seen, IsSearched, IsNear}
 use Rattle.rh_explore.specs.Kept.{seen_by, seen_of, states_of, AreLinked, parent_by, parents_of, waiting_in}
@@ -39,12 +39,14 @@ states-init c =
     let of = c.in_ok-space.ensures in
     let is : seen_of w space.found.items ≡ record { path = []; state = base } ∷ [] = ap (seen_of w) of.found in
     let one = ap (λ (xs : List Found). length xs) of.found in
+    let alone : key_length base ≡ 0 + key_length base = omega arith in
     record {
       kept = record {
         linked = subst AreLinked (sym of.found) base_linked;
         codes = of.keys ∙ ap (λ (s : List Seen). map (λ x. code (packed_key x.state)) s) (sym is);
         failures = subst (λ (s : List Seen). AreFailures c.args.pick space.failures.firsts.items space.failures.left.items c.args.asks.now (states_of s)) (sym is) of.failures;
         calm = of.calm;
+        bytes = of.bytes ∙ alone ∙ sym (ap (sum_by (λ (x : Seen). key_length x.state)) is);
       };
       front = record { idle = of.idle; waiting = of.front ∙ ap (parents_of w) (sym is) };
       searched = subst (λ (seen : List Seen). IsSearched w seen 0) (sym is) (base_searched w c.requires);
@@ -173,7 +175,7 @@ returns-then-not-all-clause-few c =
     few_more w seen next x here cut.0 c.args.bounds.now.steps cut.1 short
 
 pub returns-then-not-all-clause-covers : goal.returns-then-not-all-clause-covers
-returns-then-not-all-clause-covers c = λ few below.
+returns-then-not-all-clause-covers c = λ few small below.
     let w = scope_of c.args.base.now c.args.pick c.args.moves.now c.args.bounds.now in
     let found : List Found = c.states.space.found.items in
     let next = c.states.next in
@@ -189,7 +191,8 @@ returns-then-not-all-clause-covers c = λ few below.
     let deep : f.depth ≡ length x.path = depth_is new next f c.in_ok-all.ensures.kept.linked there in
     let short : length x.path < c.args.bounds.now.steps = omega (arith, c.if-depth-bounds.false, deep) in
     let cut = at_false c.in_ok-all.all _ _ c.if-not-all.true c.in_ok-all.ensures.made in
-    absurd (never_cut w seen next x here cut.0 c.args.bounds.now.steps c.args.bounds.now.states cut.1 cut.2 (omega (arith, few, length-seen w new)) short below)
+    absurd (never_cut w seen next x here cut.0 c.args.bounds.now.steps c.args.bounds.now cut.1 cut.2 (omega (arith, few, length-seen w new))
+    (omega (arith, small, c.in_ok-all.ensures.kept.bytes)) short below)
 
 pub overflow_add-next : goal.overflow_add-next
 overflow_add-next c =

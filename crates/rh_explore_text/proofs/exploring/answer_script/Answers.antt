@@ -9,5 +9,5 @@ pub returns-in-Search : goal.returns-in-Search
 returns-in-Search c =
     let lines = search_lines_asked c.args.cluster (map content (raw_lines c.args.script.now)) in
     let read = rw c.in-Search.is at c.in_ok-number.ensures in
-    lines_told c.answer_search.result c.args.cluster c.args.pick c.args.states lines (bad_search_line lines) (search_view c.in-Search.search)
+    lines_told c.answer_search.result c.args.cluster c.args.pick c.args.room lines (bad_search_line lines) (search_view c.in-Search.search)
     read.0 read.1 c.answer_search.ensures

@@ -17,7 +17,7 @@ use Rattle.rh_explore_text.proofs.exploring.answer_search.Goals as goal
 
 pub push_found-requires-clause-come : goal.push_found-requires-clause-come
 push_found-requires-clause-come c =
-    let bounds : Bounds = record { down = c.args.search.now.down; steps = c.args.search.now.steps; states = c.args.states } in
+    let bounds : Bounds = record { down = c.args.search.now.down; steps = c.args.search.now.steps; states = c.args.room.states; mebibytes = c.args.room.mebibytes } in
     let w = scope_of c.state.result.now c.args.pick c.as_slice-moves.result.now bounds in
     let found = c.in_ok-found.found in
     let same : read c.state.result.now ≡ read c.state-2.result.now = c.state.ensures.state ∙ sym c.state-2.ensures.state in
@@ -31,7 +31,7 @@ returns c =
     let search = c.args.search.now in
     let base = search.base.items in
     let found = c.in_ok-found.found in
-    let bounds : Bounds = record { down = search.down; steps = search.steps; states = c.args.states } in
+    let bounds : Bounds = record { down = search.down; steps = search.steps; states = c.args.room.states; mebibytes = c.args.room.mebibytes } in
     let w = scope_of c.state.result.now pick c.as_slice-moves.result.now bounds in
     let opens : c.in_ok-sim.sim.seen ≡ opened cluster pick = c.in_ok-sim.ensures.seen in
     let sims : c.answers_to.new.sim.seen ≡ sim_after (opened cluster pick) base = c.in_ok-text.ensures.sim
@@ -53,7 +53,7 @@ returns c =
       search.asks.items,
       found,
       refl,
-      is_found w (scope_in cluster pick (search_view search)) search.steps c.args.states c.as_slice-asks.result.now search.asks.items found scopes c.as_slice-asks.ensures.value
+      is_found w (scope_in cluster pick (search_view search)) search.steps c.args.room c.as_slice-asks.result.now search.asks.items found scopes c.as_slice-asks.ensures.value
           c.in_ok-found.ensures.verdicts c.in_ok-found.ensures.states c.in_ok-found.ensures.deepest c.in_ok-found.ensures.covers,
       c.in_ok-push_found.ensures
           ∙ ap (λ (t : List ℕ). t ++ found_text c.cluster.result.now pick (read c.state-2.result.now) search.down search.steps found) told

@@ -1,4 +1,4 @@
-use Rattle.std.proofs.Common.{◌≡◌, ◌<◌, ◌+◌, ◌++◌, ◌∷◌, [], ℕ, List, refl, slice_get, Some, inr, sym, ap, ◌∙◌, subst, arith}
+use Rattle.std.proofs.Common.{◌≡◌, ◌⊎◌, ◌<◌, ◌≤◌, ◌+◌, length, ◌++◌, ◌∷◌, [], ℕ, List, refl, slice_get, Some, inl, inr, sym, ap, ◌∙◌, subst, arith}
 use Rattle.std.specs.Prelude.{Contains}
 use Rattle.std.proofs.lemmas.List.{length-map}
 use Rattle.std.proofs.lemmas.Option.{same_Some, slice_get_within}
@@ -12,14 +12,19 @@ use Rattle.rh_explore.specs.declared.front.Front.{Front}
 use Rattle.rh_explore.specs.declared.reaching.Way.{Way}
 use Rattle.rh_explore.specs.declared.reaching.Way.TheVariants.{To, Nowhere, AtLimit}
 use Rattle.rh_explore.specs.declared.space.Found.{Found}
+use Rattle.rh_explore.specs.declared.space.Space.{Space}
+use Rattle.rh_explore.specs.declared.asking.Ask.{Ask}
+use Rattle.rh_explore.specs.declared.bounds.Bounds.{Bounds}
+use Rattle.rh_explore.specs.Reaching.{Scope}
+use Rattle.std.proofs.lemmas.Bool.{cases_lt}
 use Rattle.rh_keys.specs.Codes.{code}
 use Rattle.rh_explore.specs.declared.moves.Move.{Move}
-use Rattle.rh_explore.specs.Exploring.{scope_of}
+use Rattle.rh_explore.specs.Exploring.{scope_of, most_bytes}
 use Rattle.rh_explore.specs.Moves.{event_in}
 use Rattle.rh_explore.specs.Failures.{AreFailures}
 use Rattle.rh_keys.specs.Packed.{packed_key}
-use Rattle.rh_explore.specs.Spaces.{Seen, StepsTo, IsExpandedAt}
-use Rattle.rh_explore.specs.Kept.{path_by, paths_of, seen_by, seen_of, states_of, codes_of, bytes_of, AreLinked}
+use Rattle.rh_explore.specs.Spaces.{Seen, StepsTo, IsExpandedAt, IsFull}
+use Rattle.rh_explore.specs.Kept.{path_by, paths_of, seen_by, seen_of, states_of, codes_of, bytes_of, AreLinked, IsKept}
 use Rattle.rh_trace.specs.Validity.{IsValid}
 use Rattle.rh_explore.proofs.PathsTo.{path_at, seen_there, seen_push, linked_push, length-seen}
 use Rattle.rh_explore.proofs.OneMore.{more_is, kept_more}
@@ -27,6 +32,12 @@ use Rattle.rh_explore.proofs.Parents.{family_none, family_one}
 use Rattle.rh_keys.proofs.Places.{there_of}
 use Rattle.rh_explore.proofs.Reached.{no_event, not_there, at_limit, known, added}
 use Rattle.rh_explore.proofs.space.Space.reach.Goals as goal
+
+-- there is no room, as it is said of what was found
+full : (w : Scope) (space : Space) (asks : List Ask) (bounds : Bounds) → IsKept w asks space
+    → (bounds.states ≤ length space.found.items) ⊎ (most_bytes bounds ≤ space.bytes) → IsFull bounds (seen_of w space.found.items)
+full w space asks bounds kept (inl l) = inl (omega (arith, l, length-seen w space.found.items))
+full w space asks bounds kept (inr l) = inr (omega (arith, l, kept.bytes))
 
 pub returns-in_default-clause-made : goal.returns-in_default-clause-made
 returns-in_default-clause-made c = λ made is so.
@@ -107,6 +118,24 @@ overflow_add-found c =
     let deep : f.depth < c.args.bounds.now.steps = subst (λ (h : Found). h.depth < c.args.bounds.now.steps) f_is s.2 in
     omega (arith, deep, c.ranges)
 
+pub returns-then-is_full-clause-made : goal.returns-then-is_full-clause-made
+returns-then-is_full-clause-made c = λ made is so.
+    let w = scope_of c.args.base.now c.args.pick c.args.moves.now c.args.bounds.now in
+    (so, inl (full w c.args.self.now c.args.asks.now c.args.bounds.now c.requires.kept (c.is_full.ensures.0 c.if-is_full.true)))
+
+pub returns-then-is_full-clause-family : goal.returns-then-is_full-clause-family
+returns-then-is_full-clause-family c =
+    family_none (scope_of c.args.base.now c.args.pick c.args.moves.now c.args.bounds.now) (read c.args.self.now.front.probe.state) c.args.self.now.found.items
+
+pub push-requires-clause-few : goal.push-requires-clause-few
+push-requires-clause-few c =
+    let small : c.args.self.now.bytes < most_bytes c.args.bounds.now =
+    elim (cases_lt c.args.self.now.bytes (most_bytes c.args.bounds.now)) [
+      | inl l ↦ l
+      | inr l ↦ both c.is_full.result (c.is_full.ensures.1 (inr l)) c.if-is_full.false
+    ] in
+    omega (arith, small, c.ranges)
+
 pub push-requires-clause-valid : goal.push-requires-clause-valid
 push-requires-clause-valid c =
     subst (λ (z : Stored). IsValid (read z)) (sym c.in_ok-make.ensures.state)
@@ -146,6 +175,8 @@ returns-clause-kept c =
     (subst (λ (z : StateView). AreFailures c.args.pick c.push.new.self.failures.firsts.items c.push.new.self.failures.left.items c.args.asks.now (states_of seen ++ z ∷ [])) told
     (c.in_ok-push.ensures.failures (states_of seen) (sym (length-map seen (λ (z : Seen). z.state) ∙ length-seen w found)) c.requires.kept.failures))
     c.in_ok-push.ensures.calm
+    (c.in_ok-push.ensures.bytes
+    ∙ ap (λ (q : List ℕ). c.args.self.now.bytes + length q) (c.in_ok-key.ensures ∙ c.in_ok-make.ensures.key ∙ ap (λ (z : StateView). code (packed_key z)) y_state))
 
 pub returns-clause-made : goal.returns-clause-made
 returns-clause-made c = λ made is so.
