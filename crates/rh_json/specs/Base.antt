@@ -1,4 +1,4 @@
--- The base of a sweep: its input without the plans, which is an input of a run (ours).
+-- The base of a sweep or a search: the input without its plans, or without what is searched, which is an input of a run (ours).
 use Rattle.std.specs.Prelude.{ℕ, List, [], ◌∷◌, Bool, true, false, if◌then◌else◌}
 use Rattle.std.specs.List.{concat}
 use Rattle.rh_model.specs.ClusterView.{ClusterView}

@@ -33,8 +33,8 @@ swept_json c pick lines =
     plans_json c (base_sim c pick (sweep_lines_asked c lines)) (plans_of (sweep_lines_asked c lines))
     (why_not_swept (base_sim c pick (sweep_lines_asked c lines)) (plans_of (sweep_lines_asked c lines)))
 
--- the cluster and the answers to the base's commands, as a run tells them: a run takes the line that begins the first plan for no
--- command
+-- the cluster and the answers to the base's commands, as a run tells them: a run takes the line that begins the first plan, or a search,
+-- for no command
 abbrev pub base_json : ClusterView → Pick → List (List ℕ) → List ℕ
 base_json c pick lines = cluster_line c ++ answer_lines c (opened c pick) (asked_in c 1 lines)
 

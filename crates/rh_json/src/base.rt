@@ -1,4 +1,4 @@
-//! The base of a sweep: its input without the plans.
+//! The base of a sweep or a search: the input without its plans, or without what is searched.
 
 ghost use Rattle.std.specs.Prelude.{◌≡◌, ◌≤◌, length, IfOk};
 ghost use Rattle.rh_script.specs.Lines.{content, is_separator};
@@ -28,7 +28,7 @@ fn is_bad(alloc: Global, cluster: &Cluster, line: &[u8]) -> Result<bool, OutOfMe
 }
 
 /// The front of an input up to the first line of its script that is no command. Where each line of a base is one, that begins the
-/// first plan.
+/// first plan, or the search.
 pub fn base_text<'a>(
     alloc: Global,
     cluster: &Cluster,

@@ -5,6 +5,9 @@
 //! there; each field has the text that they write. Laws say that the lines are those of the same commands
 //! ([`commands_are_answered`]), for the base of a sweep too ([`base_is_answered`]), and tell the same notices
 //! ([`notices_are_replied`]).
+//!
+//! What a sweep writes before its plans is what any script has that begins with a base: [`write_check`], [`write_base`] and
+//! [`write_bad`] write that for another program, and [`make_calls`] leads to where the base ends.
 #![tactic(auto)]
 
 mod base;
@@ -17,6 +20,7 @@ mod sweeping;
 
 pub use checking::check_json;
 pub use laws::{commands_are_answered, notices_are_replied};
+pub use parts::write_check;
 pub use running::run_json;
 pub use sweep_laws::base_is_answered;
-pub use sweeping::sweep_json_by;
+pub use sweeping::{make_calls, sweep_json_by, write_bad, write_base};

@@ -122,8 +122,12 @@ fn sweep_lines<C: Crew, K: Sink>(
     }
 }
 
-// Writes that a line is no command, or in a plan no event.
-fn write_bad<K: Sink>(alloc: Global, number: u64, writer: &mut Watched<K>) -> Result<(), WriteFault>
+/// Writes that the line of this number is bad: it is no command, or no event of a plan, or asks nothing that there is.
+pub fn write_bad<K: Sink>(
+    alloc: Global,
+    number: u64,
+    writer: &mut Watched<K>,
+) -> Result<(), WriteFault>
     requires { writer.old.failed ≡ false }
     ensures { Broke K.takes K.fails result (bad_json number) writer.old writer.new }
 {
@@ -143,8 +147,8 @@ fn bad_line(alloc: Global, number: u64) -> Result<Vec<u8>, OutOfMemory>
     Ok(line)
 }
 
-// Writes the cluster of an input, and the answers to the base's commands.
-fn write_base<K: Sink>(
+/// Writes the cluster of an input, and the answers to the commands of its base.
+pub fn write_base<K: Sink>(
     alloc: Global,
     cluster: &Cluster,
     input: &[u8],
@@ -160,8 +164,8 @@ fn write_base<K: Sink>(
     write_run(alloc, base, writer, pick)
 }
 
-// Makes calls one after the other.
-fn make_calls(alloc: Global, sim: &mut Sim, calls: &[Call]) -> Result<(), OutOfMemory>
+/// Makes calls one after the other.
+pub fn make_calls(alloc: Global, sim: &mut Sim, calls: &[Call]) -> Result<(), OutOfMemory>
     ensures sim { OnOk result (sim.new.seen ≡ sim_after sim.old.seen calls.now) }
     ensures cluster { OnOk result (sim.new.seen.cluster ≡ sim.old.seen.cluster) }
 {

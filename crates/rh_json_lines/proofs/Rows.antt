@@ -20,7 +20,7 @@ use Rattle.rh_json_text.specs.Json.{escaped, json_string, json_array}
 use Rattle.rh_json_lines.specs.ClusterLines.{node_json, app_json, group_json, settings_json, cluster_line, refused_json, refused_line}
 use Rattle.rh_json_lines.specs.Starts.{start_json}
 use Rattle.rh_json_lines.specs.Notices.{pair_json, notice_json}
-use Rattle.rh_json_lines.specs.Reports.{started_json, running_json, waiting_json, mode_json, running_list, waiting_list, forbidden_list, lists_json, state_json, standing_json, timer_json, place_json, parts_json, report_json}
+use Rattle.rh_json_lines.specs.Reports.{started_json, running_json, waiting_json, mode_json, running_list, waiting_list, forbidden_list, lists_json, state_json, standing_json, timer_json, place_json, parts_json, report_json, bare_report}
 use Rattle.rh_json_lines.specs.AnswerLines.{head_json, reply_line, bad_json}
 
 -- ---- a cluster: web runs at n1, else at n2 or n3, which rank alike; db is local
@@ -102,6 +102,17 @@ report_row : report_json 4 6 lost
 unfolding report_json place_json parts_json state_json mode_json lists_json running_list waiting_list forbidden_list started_json running_json waiting_json start_json
     standing_json timer_json node_json app_json json_array json_string escaped nodes_of apps_of configured digits
 report_row = refl
+
+-- the same state where no trail is told
+bare_row : bare_report lost
+    ≡ codes "{\"time\":700,\"nodes\":[{\"name\":\"n1\",\"mode\":\"down\",\"starts\":1,\"running\":[],\"waiting\":[],\"forbidden\":[]},"
+    ++ codes "{\"name\":\"n2\",\"mode\":\"up\",\"starts\":2,\"running\":[{\"application\":\"db\",\"restart\":\"transient\",\"start\":\"normal\"}],\"waiting\":[{\"application\":\"web\",\"restart\":\"permanent\"}],\"forbidden\":[\"web\"]},"
+    ++ codes "{\"name\":\"n\\\"3\",\"mode\":\"waiting\",\"starts\":1,\"running\":[],\"waiting\":[],\"forbidden\":[]}],"
+    ++ codes "\"applications\":[{\"name\":\"web\",\"standing\":\"lost\",\"node\":\"n1\"}],"
+    ++ codes "\"timers\":[{\"timer\":\"sync\",\"node\":\"n\\\"3\",\"due\":900},{\"timer\":\"failover\",\"application\":\"web\",\"due\":5700}]}"
+unfolding bare_report parts_json state_json mode_json lists_json running_list waiting_list forbidden_list started_json running_json waiting_json start_json
+    standing_json timer_json node_json app_json json_array json_string escaped nodes_of apps_of configured digits
+bare_row = refl
 
 -- an application that was never started is quiet, one that is wanted may have the node that it came from, and one that runs has its node
 standings_row : (standing_json cluster web standing.Quiet ≡ codes "{\"name\":\"web\",\"standing\":\"quiet\"}")

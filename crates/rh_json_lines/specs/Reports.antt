@@ -102,3 +102,7 @@ parts_json s =
 
 unfoldable pub report_json : ℕ → ℕ → StateView → List ℕ
 report_json cursor trail s = place_json s.time cursor trail ++ parts_json s ++ codes "}"
+
+-- the report of a state that stands on no trail
+unfoldable pub bare_report : StateView → List ℕ
+bare_report s = codes "{\"time\":" ++ decimal s.time ++ parts_json s ++ codes "}"

@@ -1,7 +1,8 @@
 //! What programs read: the lines of JSON that tell of a cluster, of a command and its answer, and of a plan and what came of it.
 //!
 //! Each is the whole line, with its end. What its fields say is what the plain answers of `rh_script` say: their words, the report's
-//! parts, and each notice with its time. [`fired_by`] gives the timers of a tick, whose notices are told with their times.
+//! parts, and each notice with its time. [`fired_by`] gives the timers of a tick, whose notices are told with their times, and
+//! [`push_bare_report`] tells a state that stands on no trail.
 #![tactic(auto)]
 
 mod answers;
@@ -17,3 +18,4 @@ pub use answers::{bad_line, reply_line, seen_line};
 pub use clusters::{cluster_line, fault_line};
 pub use notices::fired_by;
 pub use outcomes::{outcome_line, sweep_fault_line};
+pub use reports::push_bare_report;

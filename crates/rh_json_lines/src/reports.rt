@@ -10,7 +10,7 @@ ghost use Rattle.rh_state.specs.StateView.{standing_of};
 ghost use Rattle.rh_calls.specs.Report.{standing_words, timer_words};
 ghost use Rattle.rh_json_text.specs.Json.{json_string, json_array, behind_comma};
 ghost use Rattle.rh_json_lines.specs.Starts.{first_word};
-ghost use Rattle.rh_json_lines.specs.Reports.{state_json, at_json, standing_json, distributed_in, timed_json, timer_json, place_json, parts_json, report_json};
+ghost use Rattle.rh_json_lines.specs.Reports.{state_json, at_json, standing_json, distributed_in, timed_json, timer_json, place_json, parts_json, report_json, bare_report};
 
 use crate::clusters::push_app;
 use crate::starts::{push_app_at, push_node_at};
@@ -233,6 +233,17 @@ pub fn push_report(
     ensures { OnOk result (out.new.items ≡ out.old.items ++ report_json cursor trail (read state.now)) }
 {
     push_place(alloc, out, state.now(), cursor, trail)?;
+    push_parts(alloc, out, state)?;
+    push_text(out, "}")
+}
+
+/// Adds the report of a state that stands on no trail.
+#[tactic(auto, unfolding(crate::specs::Reports::bare_report))]
+pub fn push_bare_report(alloc: Global, out: &mut Vec<u8>, state: &State) -> Result<(), OutOfMemory>
+    ensures { OnOk result (out.new.items ≡ out.old.items ++ bare_report (read state.now)) }
+{
+    push_text(out, "{\"time\":")?;
+    push_number(alloc, out, state.now() as u128)?;
     push_parts(alloc, out, state)?;
     push_text(out, "}")
 }
