@@ -63,6 +63,10 @@ INPUTS = {
     "sweep": (CLUSTER + b"boot a@x\nplan p\nplan q\ncrash b@x\n", b"ok\nup a@x\nplan p accepted 0 failovers 0 takeovers 0\n"
               b"plan q accepted 0 failovers 0 takeovers 0\nrefused 1 S5 not_alive\n"),
     "explore": (CLUSTER + b"boot a@x\nmay crash *\nmay boot *\nsteps 1\n", b"ok\nup a@x\nexplored 3 states deepest 1 up to 1 steps\n"),
+    "explore --json": (b"{application, web, []}. " + CLUSTER + b"boot a@x\nmay crash a@x\nask app web running or down b@x\n",
+                       b'{"profile":1,"nodes":["a@x","b@x"],"applications":[{"name":"web","distributed":false}]}\n'
+                       b'{"line":1,"command":"boot a@x","answer":"ok","notices":[{"kind":"up","node":"a@x"}]}\n'
+                       b'{"states":2,"deepest":1,"finished":true}\n{"ask":1,"holds":true}\n'),
 }
 
 
@@ -74,7 +78,7 @@ class Devices:
 
     def over(self, word, piece, call, number, how):
         """The finished run."""
-        return run(self.program, [word], input=INPUTS[word][0], env={
+        return run(self.program, word.split(), input=INPUTS[word][0], env={
             **os.environ, "LD_PRELOAD": self.library, "COUNT_FILE": self.counted, "PIECE": str(piece), "FAIL_CALL": call,
             "FAIL_NUMBER": str(number), "FAIL_HOW": str(how)})
 

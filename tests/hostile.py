@@ -27,12 +27,14 @@ def inputs():
     yield "run", cluster + b"boot a@x\ncrash a@x\n" * 40
     yield "sessions", cluster + b"1 boot a@x\n1 crash a@x\n" * 40
     yield "sweep", cluster + b"boot a@x\nplan p\ncrash a@x\n" + b"plan q\n" * 40
+    yield "explore", cluster + b"boot a@x\nundo\n" * 40 + b"may crash *\nmay boot *\n"
+    yield "explore --json", cluster + b"boot a@x\nundo\n" * 20 + b"may crash *\nmay boot *\n"
 
 
 def closed_devices(program):
     """Standard input, output and error that are closed, are open the wrong way, or are full."""
     for word, text in inputs():
-        whole = run(program, [word], input=text).stdout
+        whole = run(program, word.split(), input=text).stdout
         quoted = f"'{program}' {word}"
         for name, line, status, out in [
                 ("closed input", f"{quoted} <&-", 4, b""), ("input that is open for writing", f"{quoted} 0>/dev/null", 4, b""),
@@ -40,15 +42,15 @@ def closed_devices(program):
                 ("a full device", f"{quoted} >/dev/full", 4, b""), ("closed error", f"{quoted} 2>&-", 0, whole),
                 ("nothing open", f"{quoted} <&- >&- 2>&-", 4, b"")]:
             yield f"{word}: {name}", fault_of(run("/bin/sh", ["-c", line], input=text), status, out)
-        done = run(program, [word], input=text, start_new_session=True)
+        done = run(program, word.split(), input=text, start_new_session=True)
         yield f"{word}: no terminal", fault_of(done, 0, whole)
 
 
 def slow_input(program):
     """One byte a write, the next when the one before is read or lies in the pipe."""
     for word, text in inputs():
-        whole = run(program, [word], input=text).stdout
-        with subprocess.Popen([program, word], stdin=subprocess.PIPE, stdout=subprocess.PIPE, stderr=subprocess.PIPE) as process:
+        whole = run(program, word.split(), input=text).stdout
+        with subprocess.Popen([program, *word.split()], stdin=subprocess.PIPE, stdout=subprocess.PIPE, stderr=subprocess.PIPE) as process:
             for place in range(len(text)):
                 os.write(process.stdin.fileno(), text[place:place + 1])
             out, error = process.communicate(timeout=LONGEST_RUN)

@@ -1,4 +1,4 @@
-"""What programs read: `run --json`, `check --json`, `lint --json` and `sweep --json` tell what these tell without it.
+"""What programs read: `run --json`, `check --json`, `lint --json`, `sweep --json` and `explore --json` tell what these tell without it.
 
 Each line is parsed by Python's json. From its fields the other output is written again, and has to be that output, byte for byte.
 What that one doesn't tell is compared with what it was asked: the number and the text of a command's line with the script, the
@@ -7,6 +7,8 @@ cluster's names with the file, and the time of a notice with a run whose ticks a
 import json
 import os
 
+import explored
+import model
 import random_scripts
 from groups import Group
 from row_files import EXAMPLES, ROWS, row_at
@@ -28,6 +30,9 @@ KEYS = {
     "timer": "timer ?node ?application due",
     "outcome": "plan accepted failovers takeovers ?refused applications",
     "event": "event answer",
+    "search": "states deepest ?steps ?down finished",
+    "verdict": "ask holds ?events ?report",
+    "found": "time nodes applications timers",
     "finding": "?line kind code words ?path",
     "counts": "errors warnings hints",
 }
@@ -87,8 +92,8 @@ def timer_line(timer):
     return words("timer", timer["timer"], timer["node" if timer["timer"] == "sync" else "application"], timer["due"])
 
 
-def report_text(report):
-    has_keys("report", report)
+def report_text(report, kind="report"):
+    has_keys(kind, report)
     return (words("now", report["time"]) + "".join(map(node_lines, report["nodes"]))
             + "".join(map(standing_line, report["applications"]))
             + "".join(map(timer_line, report["timers"])))
@@ -145,11 +150,41 @@ def sweep_text(lines):
     return "".join(map(answer_text, base)) + "".join(map(outcome_text, plans))
 
 
+def up_to(found, key, what):
+    """The bound of a search, if it has one."""
+    return f" up to {found[key]} {what}" if key in found else ""
+
+
+def verdict_text(told):
+    """What `explore` prints of an ask."""
+    has_keys("verdict", told)
+    assert told["holds"] is not ("events" in told) and told["holds"] is not ("report" in told), f"events and report: {told}"
+    if told["holds"]:
+        return "holds\n"
+    events = "".join(f"{event}\n" for event in told["events"])
+    return words("fails in", len(told["events"])) + events + report_text(told["report"], "found")
+
+
+def explore_text(lines):
+    """What `explore` prints where `explore --json` prints these lines."""
+    if "bad" in lines[-1]:
+        assert len(lines) == 2, "more is told than the bad line"
+        return words("bad line", has_keys("bad", lines[-1])["line"])
+    if "refused" in lines[0]:
+        return run_text(lines)
+    base, (found, *verdicts) = base_and_plans(lines)
+    has_keys("search", found)
+    assert [told["ask"] for told in verdicts] == [*range(1, len(verdicts) + 1)], "the asks aren't numbered from 1"
+    return ("".join(map(answer_text, base)) + f"explored {found['states']} states deepest {found['deepest']}"
+            + up_to(found, "steps", "steps") + up_to(found, "down", "down") + "\n"
+            + "".join(map(verdict_text, verdicts)) + ("" if found["finished"] else "unfinished\n"))
+
+
 def base_and_plans(lines):
-    """The lines of the base's commands, and those behind them."""
+    """The lines of the base's commands, and those behind them: of plans, or of a search."""
     count = sum("command" in it for it in lines)
     base, plans = lines[1:1 + count], lines[1 + count:]
-    assert all("command" in it for it in base), "a command of the base isn't told before the plans"
+    assert all("command" in it for it in base), "a command of the base isn't told first"
     return base, plans
 
 
@@ -175,15 +210,12 @@ def is_command(line):
     return not line.startswith("#") and line.strip(" ") != ""
 
 
-def begins_plan(line):
-    return is_command(line) and line.split()[0] == "plan"
-
-
-def base_of(text):
-    """An input up to the first line of its script that begins a plan."""
+def base_of(text, *begins):
+    """An input up to the first line of its script that begins with one of these words: that of a plan, or those of a search."""
     front, apart, script = text.partition("===\n")
     lines = script.split("\n")
-    return front + apart + "\n".join(lines[:next((at for at, line in enumerate(lines) if begins_plan(line)), len(lines))])
+    first = next((at for at, line in enumerate(lines) if is_command(line) and line.split()[0] in begins), len(lines))
+    return front + apart + "\n".join(lines[:first])
 
 
 def assert_lines(text, lines):
@@ -283,7 +315,22 @@ def check_sweep(program, options, data):
     assert told_by(program, "sweep", [*others, "--workers", "5"], data) == (lines, status), "by five workers other lines are told"
     if "refused" not in line and "bad" not in lines[-1]:
         base, _ = base_and_plans(lines)
-        text = base_of(data.decode(errors="surrogateescape"))
+        text = base_of(data.decode(errors="surrogateescape"), "plan")
+        assert told_by(program, "run", others, text.encode(errors="surrogateescape"))[0] == [line, *base], "the base isn't that of `run`"
+
+
+def check_explore(program, options, data):
+    """The lines of a search tell what `explore` prints, and its base what `run --json` tells of it."""
+    lines, status = told_by(program, "explore", options, data)
+    plain = run(program, ["explore", *options], input=data)
+    assert status == plain.returncode, f"status {status}, without --json {plain.returncode}"
+    assert explore_text(lines) == plain.stdout.decode(), "it isn't what `explore` prints"
+    [line], _ = told_by(program, "check", [], data)
+    assert line == lines[0], "the first line isn't that of `check`"
+    if "refused" not in line and "bad" not in lines[-1]:
+        base, _ = base_and_plans(lines)
+        text = base_of(data.decode(errors="surrogateescape"), "may", "down", "steps", "ask")
+        others = without(without(options, "--states"), "--memory")
         assert told_by(program, "run", others, text.encode(errors="surrogateescape"))[0] == [line, *base], "the base isn't that of `run`"
 
 
@@ -316,16 +363,17 @@ def json_of_examples(program):
     for path in example_files():
         yield f"json of examples/{os.path.relpath(path, EXAMPLES)}", fault_in(check_run, program, [], read(path))
         yield f"json of a sweep of examples/{os.path.relpath(path, EXAMPLES)}", fault_in(check_sweep, program, [], read(path))
+        yield f"json of a search of examples/{os.path.relpath(path, EXAMPLES)}", fault_in(check_explore, program, [], read(path))
         yield f"json of lint of examples/{os.path.relpath(path, EXAMPLES)}", fault_in(check_lint, program, ["--all"], read(path))
 
 
 def json_of_rows(program):
-    """The inputs of the rows of `run`, `lint` and `sweep`, told as JSON."""
+    """The inputs of the rows of `run`, `lint`, `sweep` and `explore`, told as JSON."""
     for path in files_below(ROWS):
         row = row_at(path)
-        check = {"run": check_run, "lint": check_lint, "sweep": check_sweep}.get(row.words[0] if row.words else "")
+        check = {"run": check_run, "lint": check_lint, "sweep": check_sweep, "explore": check_explore}.get(row.words[0] if row.words else "")
         is_plain = not {"--json", "--echo", "--strict"} & {*row.words} and row.status in (0, 2, 3, 6)
-        if check and (is_plain or check is check_lint and "--json" not in row.words):
+        if check and (is_plain or check in (check_lint, check_explore) and "--json" not in row.words):
             yield f"json of {os.path.relpath(path, ROWS)}", fault_in(check, program, row.words[1:], row.input)
 
 
@@ -338,5 +386,14 @@ def json_of_random_scripts(program, numbers):
             yield f"json of random script {number}", fault_in(check, program, given[1:], text.encode())
 
 
+def json_of_random_searches(program, numbers):
+    """Random searches, told as JSON."""
+    for number in numbers:
+        cluster, lines, most, pick = explored.search(number)
+        text = cluster + "===\n" + model.joined(lines)
+        yield f"json of random search {number}", fault_in(check_explore, program, ["--pick", pick, "--states", str(most)], text.encode())
+
+
 TESTS = (json_of_examples, json_of_rows,
-         Group(json_of_random_scripts, [range(begin, begin + 40) for begin in range(0, 160, 40)]))
+         Group(json_of_random_scripts, [range(begin, begin + 40) for begin in range(0, 160, 40)]),
+         Group(json_of_random_searches, [range(begin, begin + 20) for begin in range(0, 80, 20)]))

@@ -9,6 +9,7 @@ import os
 import shlex
 import tempfile
 
+import json_lines
 import model
 from row_files import EXAMPLE_ROWS, ROWS, row_at
 from support import TOP, chain, fault_of, files_below, run
@@ -114,6 +115,9 @@ def greatest_clusters(program):
     for workers in ("1", "4"):
         done = run(program, ["sweep", "--workers", workers], input=whole.encode())
         yield f"plans of 64 nodes and 128 applications by {workers} workers", fault_of(done, 0, owed)
+    search = text + model.joined(lines[:64] + ["may crash *", "steps 1", "ask always app a127 running", "ask app a0 running or down n63"])
+    fault = json_lines.fault_in(json_lines.check_explore, program, ["--pick", "last"], search.encode())
+    yield "a search of 64 nodes and 128 applications as JSON", fault
 
 
 TESTS = (first_profile, greatest_inputs, longer_chains, greatest_clusters)

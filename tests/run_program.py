@@ -169,8 +169,8 @@ def command_lines(program):
             (["sessions", "--help"], [b"--pick", b"entry S COMMAND", b"final", b"1 boot a@x", b"docs/SCRIPTS.md"]),
             (["sweep", "--help"], [b"--pick", b"--workers", b"plan NAME accepted K failovers K takeovers K", b"bad line K", b"V2", b"V3",
                                    b"docs/SCRIPTS.md"]),
-            (["explore", "--help"], [b"--pick", b"--states", b"--memory", b"may EVENT", b"ask app A running", b"explored K states", b"bad line K",
-                                     b"unfinished", b"docs/SCRIPTS.md"]),
+            (["explore", "--help"], [b"--pick", b"--states", b"--memory", b"--json", b"may EVENT", b"ask app A running",
+                                     b"explored K states", b"bad line K", b"unfinished", b"docs/SCRIPTS.md"]),
             (["--version"], [b"rehearse 0.1.0"])]:
         done = run(program, words, input=b"")
         missing = [text for text in texts if text not in done.stderr]

@@ -29,6 +29,8 @@ pub enum Program {
     Lint(Pick, LintManner),
     /// All states are searched that events reach from a base, in so much room.
     Explore(Pick, SearchRoom),
+    /// The same, as lines of JSON.
+    ExploreJson(Pick, SearchRoom),
     /// Sessions share a cluster.
     Sessions(Pick),
     /// Plans are tried, by so many workers.

@@ -9,7 +9,7 @@ use Rattle.clap.specs.declared.error.kind.ErrorKind.TheVariants as kind
 use Rattle.clap.proofs.OnLiterals.{clap_on_literals}
 use Rattle.rh_rules.specs.declared.pick.Pick.TheVariants.{First, Last}
 use Rattle.rh_asked.specs.declared.program.Program.{Program}
-use Rattle.rh_asked.specs.declared.program.Program.TheVariants.{Check, CheckJson, Run, RunIn, RunJson, Story, Verify, Lint, Explore, Sessions, Sweep, SweepJson}
+use Rattle.rh_asked.specs.declared.program.Program.TheVariants.{Check, CheckJson, Run, RunIn, RunJson, Story, Verify, Lint, Explore, ExploreJson, Sessions, Sweep, SweepJson}
 use Rattle.rh_command_line.specs.CommandLine.{Picks, ArePicks, line}
 use Rattle.rh_command_line.specs.Table.{subcommand_named}
 use Rattle.rh_command_line.specs.Asking.{program_among}
@@ -125,6 +125,14 @@ explore_row : (asks (codes "explore" ∷ []) ≡ Some (Explore First (record { s
     × (faults (codes "sweep" ∷ codes "--states" ∷ codes "5" ∷ []) ≡ kind.UnknownArgument ∷ [])
 unfolding clap_on_literals subcommand_named
 explore_row = (refl, refl, refl, refl, refl, refl, refl, refl)
+
+-- as lines of JSON
+explore_json_row : (asks (codes "explore" ∷ codes "--json" ∷ []) ≡ Some (ExploreJson First (record { states = 1000000; mebibytes = 1024 })))
+    × (faults (codes "explore" ∷ codes "--json" ∷ []) ≡ [])
+    × (asks (codes "explore" ∷ codes "--states=9" ∷ codes "--json" ∷ codes "--pick" ∷ codes "last" ∷ [])
+    ≡ Some (ExploreJson Last (record { states = 9; mebibytes = 1024 })))
+unfolding clap_on_literals subcommand_named
+explore_json_row = (refl, refl, refl)
 
 -- another choice, an option that a subcommand hasn't, one that stands twice
 options_row : (faults (codes "run" ∷ codes "--pick" ∷ codes "middle" ∷ []) ≡ kind.InvalidValue ∷ [])

@@ -108,6 +108,10 @@ lint_of pick all strict json = program.Lint pick (record { all = all; strict = s
 abbrev pub sweep_of : Pick → Bool → ℕ → Program
 sweep_of pick json workers = if json then program.SweepJson pick workers else program.Sweep pick workers
 
+-- a search in so much room, by JSON or not
+abbrev pub explore_of : Pick → Bool → SearchRoom → Program
+explore_of pick json room = if json then program.ExploreJson pick room else program.Explore pick room
+
 -- the program that a subcommand means with these matches
 abbrev pub program_of : Subcommand → List Row → Option Program
 program_of Check rows = Some (if flag_in Json rows then program.CheckJson else program.Check)
@@ -117,7 +121,7 @@ program_of Lint rows = Some (lint_of (pick_in rows) (flag_in All rows) (flag_in 
 program_of Verify rows = Some (program.Verify (pick_in rows))
 program_of Sessions rows = Some (program.Sessions (pick_in rows))
 program_of Sweep rows = option_map (sweep_of (pick_in rows) (flag_in Json rows)) (workers_in rows)
-program_of Explore rows = option_map (program.Explore (pick_in rows)) (room_in rows)
+program_of Explore rows = option_map (explore_of (pick_in rows) (flag_in Json rows)) (room_in rows)
 
 -- the program of the subcommand with this word and these matches
 abbrev pub program_in : Text → List Row → Option Program

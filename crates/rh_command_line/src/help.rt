@@ -412,7 +412,10 @@ these, or a name that the cluster hasn't, is told alone: `bad line K`. K counts
 lines from 1 behind `===`, with blank lines and comments. The status is 9 where
 an `ask` fails, and else 10 where it is unfinished.
 
-docs/SCRIPTS.md explains each line.
+With `--json` each answer, what was found and each `ask` is a line of JSON, for
+programs.
+
+docs/SCRIPTS.md explains each line, and the fields of JSON.
 
 Example:
 

@@ -7,7 +7,7 @@ ghost use Rattle.rh_rules.specs.declared.pick.Pick.TheVariants as pick;
 ghost use Rattle.rh_plans.specs.Workers.{AreWorkers};
 ghost use Rattle.rh_asked.specs.Programs.{IsStaffed};
 ghost use Rattle.rh_asked.specs.declared.program.Program.TheVariants as program;
-ghost use Rattle.rh_command_line.specs.Asking.{allowed, allowed_memory, allowed_states, flag_in, is_given, lint_of, memory_in, pick_in, program_among, program_in, program_of, room_in, run_as, run_of, states_in, sweep_of, workers_in};
+ghost use Rattle.rh_command_line.specs.Asking.{allowed, allowed_memory, allowed_states, explore_of, flag_in, is_given, lint_of, memory_in, pick_in, program_among, program_in, program_of, room_in, run_as, run_of, states_in, sweep_of, workers_in};
 
 use crate::table::{Flag, MOST_MEBIBYTES, MOST_STATES, Subcommand, subcommand_named};
 use clap::ArgMatches;
@@ -60,7 +60,11 @@ fn program_of(subcommand: Subcommand, matches: &ArgMatches<'_>) -> Option<Progra
             flag_in(matches, Flag::Json),
             workers_in(matches)?,
         )),
-        Subcommand::Explore => Some(Program::Explore(pick_in(matches), room_in(matches)?)),
+        Subcommand::Explore => Some(explore_of(
+            pick_in(matches),
+            flag_in(matches, Flag::Json),
+            room_in(matches)?,
+        )),
     }
 }
 
@@ -120,6 +124,18 @@ fn sweep_of(pick: Pick, json: bool, workers: usize) -> Program
         Program::SweepJson(pick, workers)
     } else {
         Program::Sweep(pick, workers)
+    }
+}
+
+// A search in so much room, by JSON or not.
+fn explore_of(pick: Pick, json: bool, room: SearchRoom) -> Program
+    ensures named { result ≡ explore_of pick json room }
+    ensures staffed { IsStaffed result }
+{
+    if json {
+        Program::ExploreJson(pick, room)
+    } else {
+        Program::Explore(pick, room)
     }
 }
 

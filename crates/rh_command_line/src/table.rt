@@ -89,7 +89,12 @@ static PICK_ALL_HINTS_JSON: [Setting; 4] = [
     Setting::Flag(Flag::Json),
 ];
 
-static PICK_STATES_MEMORY: [Setting; 3] = [Setting::Pick, Setting::States, Setting::Memory];
+static PICK_STATES_MEMORY_JSON: [Setting; 4] = [
+    Setting::Pick,
+    Setting::States,
+    Setting::Memory,
+    Setting::Flag(Flag::Json),
+];
 
 static PICK_WORKERS_JSON: [Setting; 3] = [
     Setting::Pick,
@@ -186,7 +191,7 @@ impl Subcommand {
             ),
             Subcommand::Explore => entry_of(
                 "explore",
-                PICK_STATES_MEMORY.as_slice(),
+                PICK_STATES_MEMORY_JSON.as_slice(),
                 EXPLORE_ABOUT,
                 EXPLORE_AFTER_HELP,
             ),

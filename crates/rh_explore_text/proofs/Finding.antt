@@ -13,7 +13,7 @@ use Rattle.rh_explore.specs.Exploring.{key_length, IsVerdict, AreReached, StaysB
 use Rattle.rh_explore_text.specs.declared.exploring.Answer.{Answer}
 use Rattle.rh_explore_text.specs.declared.lines.SearchLine.{SearchLine}
 use Rattle.rh_explore_text.specs.SearchLines.{SearchView, search_of}
-use Rattle.rh_explore_text.specs.ExploreText.{IsFound, MayFind, MayTellLines}
+use Rattle.rh_explore_text.specs.ExploreText.{explored_text, IsFound, MayFind, MayTellLines}
 
 pub is_found : (w v : Scope) (steps : ℕ) (room : SearchRoom) (given asks : List Ask) (x : Explored) → w ≡ v → given ≡ asks
     → AllZip (IsVerdict w steps x.covered) given x.verdicts.items
@@ -26,9 +26,10 @@ is_found w v steps room given asks x same alike verdicts reached deepest covers 
 
 -- all lines fit
 pub lines_told : {E : Type 0} (r : Result Answer E) (c : ClusterView) (pick : Pick) (room : SearchRoom) (lines : List SearchLine) (bad : Option ℕ) (q : SearchView)
-    → bad ≡ None → q ≡ search_of c lines → IfOk r (λ a. MayFind c pick room q a.text.items a.end)
+    → bad ≡ None → q ≡ search_of c lines → IfOk r (λ a. MayFind c pick room q (explored_text c pick q) a.text.items a.end)
     → IfOk r (λ a. MayTellLines c pick room lines bad a.text.items a.end)
 lines_told (Ok a) c pick room lines bad q none is may =
-    let found : MayFind c pick room (search_of c lines) a.text.items a.end = subst (λ v. MayFind c pick room v a.text.items a.end) is may in
+    let found : MayFind c pick room (search_of c lines) (explored_text c pick (search_of c lines)) a.text.items a.end =
+    subst (λ v. MayFind c pick room v (explored_text c pick v) a.text.items a.end) is may in
     subst (λ b. MayTellLines c pick room lines b a.text.items a.end) (sym none) found
 lines_told (Err e) c pick room lines bad q none is may = tt

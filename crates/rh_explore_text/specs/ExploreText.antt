@@ -38,22 +38,30 @@ pub record IsFound (w : Scope) (steps : ℕ) (room : SearchRoom) (asks : List As
 abbrev pub base_of : ClusterView → Pick → SearchView → SimView
 base_of c pick q = sim_after (opened c pick) q.base
 
+abbrev pub scope_from : StateView → Pick → SearchView → Scope
+scope_from s pick q = record { base = s; pick = pick; moves = q.moves; down = q.down }
+
 abbrev pub scope_in : ClusterView → Pick → SearchView → Scope
-scope_in c pick q = record { base = state_of (base_of c pick q); pick = pick; moves = q.moves; down = q.down }
+scope_in c pick q = scope_from (state_of (base_of c pick q)) pick q
+
+-- a search may find something of which this text is told in this way, and with which it ends so
+abbrev pub MayFind : ClusterView → Pick → SearchRoom → SearchView → (Explored → List ℕ) → List ℕ → Option Told → Type 0
+MayFind c pick room q told_of text owed =
+    (asks : List Ask) × (x : Explored) × (map ask_view asks ≡ q.asks) × IsFound (scope_in c pick q) q.steps room asks x
+    × (text ≡ told_of x) × (owed ≡ found_end q.steps x)
 
 -- ---- the text
 
 -- the answers to the base's commands, as in a run, and then what was found
-abbrev pub MayFind : ClusterView → Pick → SearchRoom → SearchView → List ℕ → Option Told → Type 0
-MayFind c pick room q text owed =
-    (asks : List Ask) × (x : Explored) × (map ask_view asks ≡ q.asks) × IsFound (scope_in c pick q) q.steps room asks x
-    × (text ≡ answers_text c (opened c pick) q.base ++ found_text c pick (state_of (base_of c pick q)) q.down q.steps x)
-    × (owed ≡ found_end q.steps x)
+abbrev pub explored_text : ClusterView → Pick → SearchView → Explored → List ℕ
+explored_text c pick q x =
+    answers_text c (opened c pick) q.base ++ found_text c pick (state_of (base_of c pick q)) q.down q.steps x
 
 -- a bad line alone is told
 abbrev pub MayTellLines : ClusterView → Pick → SearchRoom → List SearchLine → Option ℕ → List ℕ → Option Told → Type 0
 MayTellLines c pick room lines (Some k) text owed = (text ≡ bad_text k) × (owed ≡ Some (told.BadLine k))
-MayTellLines c pick room lines None text owed = MayFind c pick room (search_of c lines) text owed
+MayTellLines c pick room lines None text owed =
+    MayFind c pick room (search_of c lines) (explored_text c pick (search_of c lines)) text owed
 
 -- for a cluster and a script, or for the fault of a text that is no cluster
 abbrev pub MayExploreOver : Pick → SearchRoom → List (List ℕ) → Result ClusterView ClusterFault → List ℕ → Option Told → Type 0

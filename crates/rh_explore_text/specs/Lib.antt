@@ -4,4 +4,8 @@ pub mod Asks
 pub mod SearchLines
 pub mod SearchReading
 pub mod FoundText
+pub mod FoundLines
 pub mod ExploreText
+pub mod ExploreJson
+pub mod Findings
+pub mod Laws

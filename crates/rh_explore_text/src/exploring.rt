@@ -8,16 +8,16 @@ ghost use Rattle.rh_run.specs.Programs.{ProgramGives, NoThreads};
 ghost use Rattle.rh_run.specs.RunText.{answers_text};
 ghost use Rattle.rh_explore_text.specs.SearchLines.{search_lines_asked, bad_search_line, search_of};
 ghost use Rattle.rh_explore_text.specs.SearchReading.{search_view};
-ghost use Rattle.rh_explore_text.specs.ExploreText.{MayFind, MayTellLines, MayExplore, OwesExplore};
+ghost use Rattle.rh_explore_text.specs.ExploreText.{explored_text, MayFind, MayTellLines, MayExplore, OwesExplore};
 
 use crate::reading::{Search, SearchScript, search_in};
+use crate::searching::found_from;
 use crate::telling::{found_end, push_found};
 use rh_asked::SearchRoom;
 use rh_base::OutOfMemory;
 use rh_calls::Call;
 use rh_cluster::{Cluster, read_cluster};
 use rh_devices::{Sink, Source, Watched, read_input, write_text};
-use rh_explore::{Bounds, explore};
 use rh_run::{RunFault, Told, ended};
 use rh_script::{answer_text, bad_text, cut, fault_text};
 use rh_step::Pick;
@@ -116,29 +116,22 @@ fn answer_search(
     pick: Pick,
     room: SearchRoom,
 ) -> Result<Answer, OutOfMemory>
-    ensures { IfOk result (λ answer. MayFind cluster pick room (search_view search.now) answer.text.items answer.end) }
+    ensures { IfOk result (λ answer. MayFind cluster pick room (search_view search.now) (explored_text cluster pick (search_view search.now))
+        answer.text.items answer.end) }
 {
     let mut sim = Sim::open(alloc, cluster, pick)?;
     let mut text = answers_to(alloc, &mut sim, search.base.as_slice())?;
-    let bounds = Bounds {
-        down: search.down as usize,
-        steps: search.steps,
-        states: room.states,
-        mebibytes: room.mebibytes,
-    };
-    let moves = search.moves.as_slice();
-    let asks = search.asks.as_slice();
-    let found = explore(alloc, sim.state(), pick, moves, &bounds, asks)?;
+    let found = found_from(alloc, &sim, search, pick, room)?;
     push_found(
         alloc,
         &mut text,
         sim.cluster(),
         sim.state(),
         pick,
-        &bounds,
+        search,
         &found,
     )?;
-    let end = found_end(bounds.steps, &found);
+    let end = found_end(search.steps, &found);
     Ok(Answer { text, end })
 }
 

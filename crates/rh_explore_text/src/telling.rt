@@ -9,10 +9,11 @@ ghost use Rattle.rh_rules.specs.Refusals.{refused};
 ghost use Rattle.rh_step.specs.Runs.{step};
 ghost use Rattle.rh_explore_text.specs.FoundText.{steps_words, down_words, head_line, event_line, fails_text, verdict_text, found_text, last_line, is_failure, is_unfinished, found_end, AllAccepted, CanCome};
 
+use crate::reading::Search;
 use rh_base::OutOfMemory;
 use rh_calls::{Call, report};
 use rh_cluster::Cluster;
-use rh_explore::{Bounds, Covered, Explored, Verdict};
+use rh_explore::{Covered, Explored, Verdict};
 use rh_run::Told;
 use rh_script::command_text;
 use rh_state::State;
@@ -103,7 +104,7 @@ fn make(alloc: Global, state: &mut State, pick: Pick, event: &Event) -> Result<(
 }
 
 // The state behind events none of which is refused.
-fn state_behind(
+pub fn state_behind(
     alloc: Global,
     base: &State,
     pick: Pick,
@@ -185,7 +186,7 @@ fn push_verdicts(
 }
 
 // Did the search end before all was looked at?
-fn is_unfinished(steps: u32, covered: Covered) -> bool
+pub fn is_unfinished(steps: u32, covered: Covered) -> bool
     ensures { result ≡ is_unfinished steps covered }
 {
     match covered {
@@ -211,18 +212,18 @@ pub fn push_found(
     cluster: &Cluster,
     base: &State,
     pick: Pick,
-    bounds: &Bounds,
+    search: &Search,
     found: &Explored,
 ) -> Result<(), OutOfMemory>
     requires come { All (CanCome pick (read base.now)) found.now.verdicts.items }
     requires valid { IsValid (read base.now) }
-    ensures { OnOk result (text.new.items ≡ text.old.items ++ found_text cluster.now pick (read base.now) bounds.now.down bounds.now.steps found.now) }
+    ensures { OnOk result (text.new.items ≡ text.old.items ++ found_text cluster.now pick (read base.now) search.now.down search.now.steps found.now) }
 {
-    let head = head_line(alloc, cluster, bounds.down, found)?;
+    let head = head_line(alloc, cluster, search.down as usize, found)?;
     text.extend_from_slice(head.as_bytes())?;
     let verdicts = found.verdicts.as_slice();
     push_verdicts(alloc, text, cluster, base, pick, verdicts)?;
-    push_last(text, bounds.steps, found.covered)
+    push_last(text, search.steps, found.covered)
 }
 
 // Does it say that what is asked doesn't hold?

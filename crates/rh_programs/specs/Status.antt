@@ -5,7 +5,7 @@ use Rattle.rh_run.specs.declared.fault.RunFault.{RunFault}
 use Rattle.rh_run.specs.declared.fault.RunFault.TheVariants as end
 use Rattle.rh_run.specs.declared.fault.Told.{Told}
 use Rattle.rh_asked.specs.declared.program.Program.{Program}
-use Rattle.rh_asked.specs.declared.program.Program.TheVariants.{Check, CheckJson, Run, RunIn, RunJson, Dialogue, Story, Verify, Lint, Explore, Sessions, Sweep, SweepJson}
+use Rattle.rh_asked.specs.declared.program.Program.TheVariants.{Check, CheckJson, Run, RunIn, RunJson, Dialogue, Story, Verify, Lint, Explore, ExploreJson, Sessions, Sweep, SweepJson}
 use Rattle.rh_devices.specs.declared.watched.Watched.{Watched}
 use Rattle.rh_devices.specs.Devices.{Passed}
 use Rattle.rh_run.specs.Programs.{IsInput, ProgramGives, NoThreads}
@@ -15,6 +15,7 @@ use Rattle.rh_app.specs.Sessions.{MayGive, AskHistory}
 use Rattle.rh_run.specs.SweepText.{OwesSweep}
 use Rattle.rh_manner.specs.DialogueText.{DialogueGives}
 use Rattle.rh_explore_text.specs.ExploreText.{OwesExplore}
+use Rattle.rh_explore_text.specs.ExploreJson.{OwesExploreJson}
 use Rattle.rh_json.specs.CheckJson.{OwesCheckJson}
 use Rattle.rh_json.specs.RunJson.{OwesRunJson}
 use Rattle.rh_manner.specs.MannerText.{OwesRunIn}
@@ -35,6 +36,7 @@ Owes (Story pick whole) = OwesStory pick whole
 Owes (Verify pick) = OwesVerify pick
 Owes (Lint pick manner) = OwesLint manner pick
 Owes (Explore pick room) = OwesExplore pick room
+Owes (ExploreJson pick room) = OwesExploreJson pick room
 Owes (Sessions pick) = MayGive pick
 Owes (Sweep pick workers) = OwesSweep pick
 Owes (SweepJson pick workers) = OwesSweepJson pick

@@ -9,7 +9,7 @@ use crate::sweeping::{sweep_json, sweep_json_alone};
 use rh_app::{run_sessions, run_sweep, run_sweep_alone};
 use rh_asked::Program;
 use rh_devices::{Sink, Source, Watched};
-use rh_explore_text::run_explore;
+use rh_explore_text::{explore_json, run_explore};
 use rh_json::{check_json, run_json};
 use rh_lint::run_lint;
 use rh_manner::{run_dialogue, run_in};
@@ -97,6 +97,7 @@ fn ended_alone<S: Source, K: Sink>(
         Program::Verify(pick) => run_verify(alloc, reader, writer, pick),
         Program::Lint(pick, manner) => run_lint(alloc, reader, writer, pick, manner),
         Program::Explore(pick, room) => run_explore(alloc, reader, writer, pick, room),
+        Program::ExploreJson(pick, room) => explore_json(alloc, reader, writer, pick, room),
         Program::Sweep(pick, _) => run_sweep_alone(alloc, reader, writer, pick),
         Program::SweepJson(pick, _) => sweep_json_alone(alloc, reader, writer, pick),
         Program::Sessions(_) => unreachable!(),

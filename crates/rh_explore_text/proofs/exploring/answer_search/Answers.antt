@@ -6,23 +6,14 @@ use Rattle.rh_calls.specs.declared.call.Call.{Call}
 use Rattle.rh_trail.specs.SimView.{SimView, state_of}
 use Rattle.rh_trail.specs.Lone.{opened, sim_after}
 use Rattle.rh_run.specs.RunText.{answers_text}
-use Rattle.rh_explore.specs.declared.bounds.Bounds.{Bounds}
-use Rattle.rh_explore.specs.Exploring.{scope_of}
 use Rattle.rh_explore_text.specs.FoundText.{CanCome, found_text}
 use Rattle.rh_explore_text.specs.SearchReading.{search_view}
-use Rattle.rh_explore_text.specs.ExploreText.{scope_in}
-use Rattle.rh_explore_text.proofs.Coming.{all_can_come}
-use Rattle.rh_explore_text.proofs.Finding.{is_found}
+use Rattle.rh_explore_text.specs.ExploreText.{IsFound, scope_from}
 use Rattle.rh_explore_text.proofs.exploring.answer_search.Goals as goal
 
 pub push_found-requires-clause-come : goal.push_found-requires-clause-come
 push_found-requires-clause-come c =
-    let bounds : Bounds = record { down = c.args.search.now.down; steps = c.args.search.now.steps; states = c.args.room.states; mebibytes = c.args.room.mebibytes } in
-    let w = scope_of c.state.result.now c.args.pick c.as_slice-moves.result.now bounds in
-    let found = c.in_ok-found.found in
-    let same : read c.state.result.now ≡ read c.state-2.result.now = c.state.ensures.state ∙ sym c.state-2.ensures.state in
-    subst (λ (s : StateView). All (CanCome c.args.pick s) found.verdicts.items) same
-    (all_can_come w bounds.steps found.covered c.as_slice-asks.result.now found.verdicts.items c.in_ok-found.ensures.verdicts)
+    subst (λ (s : StateView). All (CanCome c.args.pick s) c.in_ok-found.found.verdicts.items) (sym c.state.ensures.state) c.in_ok-found.ensures.come
 
 pub returns : goal.returns
 returns c =
@@ -31,20 +22,11 @@ returns c =
     let search = c.args.search.now in
     let base = search.base.items in
     let found = c.in_ok-found.found in
-    let bounds : Bounds = record { down = search.down; steps = search.steps; states = c.args.room.states; mebibytes = c.args.room.mebibytes } in
-    let w = scope_of c.state.result.now pick c.as_slice-moves.result.now bounds in
     let opens : c.in_ok-sim.sim.seen ≡ opened cluster pick = c.in_ok-sim.ensures.seen in
     let sims : c.answers_to.new.sim.seen ≡ sim_after (opened cluster pick) base = c.in_ok-text.ensures.sim
     ∙ ap (λ (s : SimView). sim_after s c.as_slice.result.now) opens
     ∙ ap (λ (calls : List Call). sim_after (opened cluster pick) calls) c.as_slice.ensures.value in
-    let from : read c.state.result.now ≡ state_of (sim_after (opened cluster pick) base) = c.state.ensures.state ∙ ap state_of sims in
-    let behind : read c.state-2.result.now ≡ state_of (sim_after (opened cluster pick) base) = c.state-2.ensures.state ∙ ap state_of sims in
-    let scopes : w ≡ scope_in cluster pick (search_view search) = λ i. record {
-      base = from i;
-      pick = pick;
-      moves = c.as_slice-moves.ensures.value i;
-      down = search.down;
-    } in
+    let behind : read c.state.result.now ≡ state_of (sim_after (opened cluster pick) base) = c.state.ensures.state ∙ ap state_of sims in
     let answers = answers_text cluster (opened cluster pick) base in
     let told : c.in_ok-text.text.items ≡ answers = c.in_ok-text.ensures.text
     ∙ ap (λ (s : SimView). answers_text s.cluster s c.as_slice.result.now) opens
@@ -53,11 +35,11 @@ returns c =
       search.asks.items,
       found,
       refl,
-      is_found w (scope_in cluster pick (search_view search)) search.steps c.args.room c.as_slice-asks.result.now search.asks.items found scopes c.as_slice-asks.ensures.value
-          c.in_ok-found.ensures.verdicts c.in_ok-found.ensures.states c.in_ok-found.ensures.deepest c.in_ok-found.ensures.covers,
+      subst (λ (s : SimView). IsFound (scope_from (state_of s) pick (search_view search)) search.steps c.args.room search.asks.items found) sims
+          c.in_ok-found.ensures.found,
       c.in_ok-push_found.ensures
-          ∙ ap (λ (t : List ℕ). t ++ found_text c.cluster.result.now pick (read c.state-2.result.now) search.down search.steps found) told
-          ∙ ap (λ (k : ClusterView). answers ++ found_text k pick (read c.state-2.result.now) search.down search.steps found) named
+          ∙ ap (λ (t : List ℕ). t ++ found_text c.cluster.result.now pick (read c.state.result.now) search.down search.steps found) told
+          ∙ ap (λ (k : ClusterView). answers ++ found_text k pick (read c.state.result.now) search.down search.steps found) named
           ∙ ap (λ (s : StateView). answers ++ found_text cluster pick s search.down search.steps found) behind,
       c.found_end-end.ensures,
     )

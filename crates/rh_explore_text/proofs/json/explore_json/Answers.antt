@@ -1,0 +1,40 @@
+use Rattle.std.proofs.Common.{Option, sym, subst}
+use Rattle.std.proofs.lemmas.Result.{err_from_is_err_and}
+use Rattle.rh_run.specs.Programs.{IsInput, NoThreads}
+use Rattle.rh_run.specs.declared.fault.Told.{Told}
+use Rattle.rh_run.proofs.Ending.{not_read, not_written, is_written}
+use Rattle.rh_explore_text.specs.ExploreJson.{OwesExploreJson}
+use Rattle.rh_explore_text.specs.Findings.{finding_json, finding_end}
+use Rattle.rh_explore_text.proofs.json.explore_json.Goals as goal
+
+pub returns-in_err-input : goal.returns-in_err-input
+returns-in_err-input g c =
+    let p = err_from_is_err_and c.from_residual.result c.from_residual.ensures.1 in
+    rw (p.1, p.2)
+    (not_read g.S.Source.gives g.S.Source.fails g.K.Sink.takes g.K.Sink.fails (OwesExploreJson c.args.pick c.args.room) NoThreads c.args.reader.now
+    c.read_input.new.reader c.in_err-input.field-0.0 c.args.writer.now c.requires.writer c.in_err-input.ensures.why)
+
+pub returns-in_err-told : goal.returns-in_err-told
+returns-in_err-told g c =
+    let bytes = c.as_slice-bytes.result.now in
+    let input : IsInput g.S.Source.gives c.args.reader.now c.read_input.new.reader bytes =
+    subst (λ bs. IsInput g.S.Source.gives c.args.reader.now c.read_input.new.reader bs) (sym c.as_slice-bytes.ensures.value)
+    (c.in_ok-input.ensures.bytes, c.in_ok-input.ensures.limit, c.in_ok-input.ensures.ok) in
+    let p = err_from_is_err_and c.from_residual-in_err-told.result c.from_residual-in_err-told.ensures.1 in
+    rw (p.1, p.2)
+    (not_written g.S.Source.gives g.S.Source.fails g.K.Sink.takes g.K.Sink.fails (OwesExploreJson c.args.pick c.args.room) NoThreads c.args.reader.now
+    c.read_input.new.reader c.in_err-told.field-0.0 bytes (finding_json c.args.pick bytes c.in-Ok.finding) (finding_end c.in-Ok.finding)
+    c.args.writer.now c.write_finding.new.writer input c.in-Ok.ensures.may c.in_err-told.ensures)
+
+pub returns : goal.returns
+returns g c =
+    let bytes = c.as_slice-bytes.result.now in
+    let input : IsInput g.S.Source.gives c.args.reader.now c.read_input.new.reader bytes =
+    subst (λ bs. IsInput g.S.Source.gives c.args.reader.now c.read_input.new.reader bs) (sym c.as_slice-bytes.ensures.value)
+    (c.in_ok-input.ensures.bytes, c.in_ok-input.ensures.limit, c.in_ok-input.ensures.ok) in
+    rw c.ended.ensures
+    (is_written g.S.Source.gives g.S.Source.fails g.K.Sink.takes g.K.Sink.fails (OwesExploreJson c.args.pick c.args.room) NoThreads c.args.reader.now
+    c.read_input.new.reader c.in_ok-told.told bytes (finding_json c.args.pick bytes c.in-Ok.finding) c.args.writer.now c.write_finding.new.writer input
+    (subst (λ (owed : Option Told). OwesExploreJson c.args.pick c.args.room bytes (finding_json c.args.pick bytes c.in-Ok.finding) owed)
+    c.in_ok-told.ensures.0 c.in-Ok.ensures.may)
+    (c.in_ok-told.ensures.1, c.in_ok-told.ensures.2))

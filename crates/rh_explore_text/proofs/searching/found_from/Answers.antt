@@ -1,0 +1,38 @@
+use Rattle.std.proofs.Common.{◌≡◌, All, subst}
+use Rattle.rh_state.specs.StateView.{StateView}
+use Rattle.rh_trail.specs.SimView.{state_of}
+use Rattle.rh_explore.specs.declared.bounds.Bounds.{Bounds}
+use Rattle.rh_explore.specs.Exploring.{scope_of}
+use Rattle.rh_explore_text.specs.FoundText.{CanCome}
+use Rattle.rh_explore_text.specs.SearchReading.{search_view}
+use Rattle.rh_explore_text.specs.ExploreText.{scope_from}
+use Rattle.rh_explore_text.proofs.Coming.{all_can_come}
+use Rattle.rh_explore_text.proofs.Finding.{is_found}
+use Rattle.rh_explore_text.proofs.searching.found_from.Goals as goal
+
+pub returns-clause-found : goal.returns-clause-found
+returns-clause-found c =
+    let pick = c.args.pick in
+    let search = c.args.search.now in
+    let found = c.in_ok-found.found in
+    let bounds : Bounds = record { down = search.down; steps = search.steps; states = c.args.room.states; mebibytes = c.args.room.mebibytes } in
+    let w = scope_of c.state.result.now pick c.as_slice-moves.result.now bounds in
+    let here = scope_from (state_of c.args.sim.now.seen) pick (search_view search) in
+    let scopes : w ≡ here = λ i. record {
+      base = c.state.ensures.state i;
+      pick = pick;
+      moves = c.as_slice-moves.ensures.value i;
+      down = search.down;
+    } in
+    is_found w here search.steps c.args.room c.as_slice-asks.result.now search.asks.items found scopes c.as_slice-asks.ensures.value
+    c.in_ok-found.ensures.verdicts c.in_ok-found.ensures.states c.in_ok-found.ensures.deepest c.in_ok-found.ensures.covers
+
+pub returns-clause-come : goal.returns-clause-come
+returns-clause-come c =
+    let pick = c.args.pick in
+    let search = c.args.search.now in
+    let found = c.in_ok-found.found in
+    let bounds : Bounds = record { down = search.down; steps = search.steps; states = c.args.room.states; mebibytes = c.args.room.mebibytes } in
+    let w = scope_of c.state.result.now pick c.as_slice-moves.result.now bounds in
+    subst (λ (s : StateView). All (CanCome pick s) found.verdicts.items) c.state.ensures.state
+    (all_can_come w bounds.steps found.covered c.as_slice-asks.result.now found.verdicts.items c.in_ok-found.ensures.verdicts)
