@@ -1,9 +1,8 @@
-"""Every order of losses and repairs, as `rehearse explore` tries it. `report` has it.
+"""Every order of losses and repairs, as `rehearse explore --json` tries it. `report` has it.
 
 The events that may come are a crash of each node, a boot of each, and the longest wait that the program tells. So a list of them has
 what no plan of losses has: nodes that come back while others are lost.
 """
-import re
 from collections.abc import Iterator, Sequence
 from dataclasses import dataclass
 from typing import Optional
@@ -11,12 +10,11 @@ from typing import Optional
 from rehearse_tools.endings import Refused
 from rehearse_tools.inputs import joined
 from rehearse_tools.program import Program
+from rehearse_tools.reading import fields_of
 from rehearse_tools.words import plural
 
 # More states than that aren't kept: of large clusters shorter lists are tried then.
 MOST_STATES = "20000"
-HEAD = re.compile(r"explored ([0-9]+) states? deepest [0-9]+(?: up to ([0-9]+) steps)?(?: up to [0-9]+ down)?")
-FAILS = re.compile("fails in ([0-9]+)")
 
 
 @dataclass(frozen=True)
@@ -58,24 +56,14 @@ class Explored:
         return " ".join(told)
 
 
-def lists_in(lines: Sequence[str]) -> Iterator[Optional[list[str]]]:
-    """A shortest list for each question, of the lines behind the first one, or None where there is none."""
-    for number, line in enumerate(lines):
-        fails = FAILS.fullmatch(line)
-        if fails:
-            yield list(lines[number + 1:number + 1 + int(fails[1])])
-        elif line == "holds":
-            yield None
-
-
 def explored(program: Program, cluster: str, base: Sequence[str], apps: Sequence[str], scope: Scope, source: str) -> Optional[Explored]:
-    """What explore tells, or None where the program is older and hasn't it."""
+    """What explore tells, or None where the program is older and hasn't it, or tells it only for people."""
     lines = program.explored(joined(cluster, [*base, *scope.lines(apps)]), MOST_STATES, source)
     if lines is None:
         return None
-    place = next((number for number, line in enumerate(lines) if HEAD.fullmatch(line)), None)
-    head = None if place is None else HEAD.fullmatch(lines[place])
-    found = [] if place is None else list(lists_in(lines[place + 1:]))
-    if head is None or len(found) != len(apps):
+    told = list(map(fields_of, lines))
+    heads = [fields for fields in told if "states" in fields]
+    lists = [fields.get("events") for fields in told if "ask" in fields]
+    if len(heads) != 1 or len(lists) != len(apps):
         raise Refused(f"{source}: {program.path} isn't the program: explore doesn't answer each question")
-    return Explored(int(head[1]), int(head[2] or scope.steps), dict(zip(apps, found)))
+    return Explored(heads[0]["states"], heads[0].get("steps", scope.steps), dict(zip(apps, lists)))

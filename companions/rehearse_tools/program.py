@@ -15,7 +15,8 @@ from rehearse_tools.reading import Answer, JsonRun, Names, PlainRun, Run
 NOBODY = "{node, nobody, []}.\n"
 GREETED = ['{"profile":1,"nodes":["nobody"],"applications":[]}']
 MOST_OF_A_FAULT = 300
-# How the program ends where it hasn't a subcommand, and how explore does: all is so, something isn't, or it couldn't look at all.
+# How the program ends where it hasn't a subcommand or an option, and how explore does: all is so, something isn't, or it couldn't look
+# at all.
 NO_SUBCOMMAND = 1
 EXPLORED = (0, 9, 10)
 # What the program wrote to standard error, and was handed on: nothing is told twice.
@@ -69,13 +70,13 @@ class Program:
         return findings_in(run.lines)
 
     def explored(self, text: str, states: str, source: str) -> Optional[list[str]]:
-        """The lines of explore for an input, with so many states at most; None where the program is older and hasn't explore."""
-        run, error = self.asked(["explore", "--pick", self.pick, "--states", states], text)
+        """The lines of explore for an input, as JSON, with so many states at most; None where the program is older and hasn't them."""
+        run, error = self.asked(["explore", "--json", "--pick", self.pick, "--states", states], text)
         if run.status == NO_SUBCOMMAND:
             return None
         hand_on(error)
         if run.status not in EXPLORED:
-            raise Refused(f"{source}: explore: {self.ended(run)}")
+            raise Refused(f"{source}: explore: {self.ended(JsonRun(run.status, run.lines))}")
         return run.lines
 
     def run(self, cluster: str, script: Sequence[str]) -> JsonRun:

@@ -1,6 +1,7 @@
 """Tests of rehearse-tools report. What a report owes is worked out by hand from docs/RULES.md, and from docs/LIVE_OTP.md what live nodes
 would do otherwise."""
 import html
+import json
 import os
 import re
 import subprocess
@@ -137,10 +138,16 @@ def lists(program, folder):
     """Where explore finds a list behind which an application runs nowhere, which survives each loss, it isn't safe, and the list is
     shown. No cluster is known for which it does: so a program stands in that says so."""
     path = written(folder, cluster(PAIR, WEB))
-    lines = "explored 7 states deepest 3 up to 3 steps up to 1 down\nfails in 2\ncrash a@x\nboot a@x\nnow 0\nnode a@x up 2\nunfinished\n"
+    lines = [{"line": 1, "command": "boot a@x", "answer": "ok", "notices": []},
+             {"states": 7, "deepest": 3, "steps": 3, "down": 1, "finished": False},
+             {"ask": 1, "holds": False, "events": ["crash a@x", "boot a@x"],
+              "report": {"time": 0, "nodes": [], "applications": [], "timers": []}}]
+    told = "\n".join(map(json.dumps, lines))
     script = written(folder, f"""#!/bin/sh
-[ "$1" = explore ] || exec "{program}" "$@"
-printf '{lines}'
+[ "$1 $2" = 'explore --json' ] || exec "{program}" "$@"
+cat << 'EOF'
+{told}
+EOF
 exit 9
 """, "program")
     os.chmod(script, 0o700)
@@ -154,7 +161,7 @@ exit 9
 
 
 def no_lists(program, folder):
-    """Without explore nothing is said of lists; one that answers nothing is refused."""
+    """Without explore, or where it tells nothing as JSON, nothing is said of lists; one that answers nothing is refused."""
     path = written(folder, cluster(PAIR, WEB))
     others = {status: written(folder, f"""#!/bin/sh
 [ "$1" = explore ] && exit {status}
