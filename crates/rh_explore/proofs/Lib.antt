@@ -8,6 +8,11 @@ pub mod Searched
 pub mod OneMore
 pub mod Parents
 pub mod Reached
+pub mod InTurn
+pub mod Answered
+pub mod SameEvents
+pub mod OneOrder
+pub mod OneAnswer
 pub mod Told
 pub mod Zips
 pub mod Begun

@@ -14,12 +14,12 @@ use Rattle.rh_explore.specs.declared.front.Parent.{Parent}
 use Rattle.rh_explore.specs.declared.reaching.Probe.{Probe}
 use Rattle.rh_explore.specs.declared.space.Found.{Found}
 use Rattle.rh_explore.specs.declared.space.Space.{Space}
-use Rattle.rh_explore.specs.Reaching.{Scope, MayCome, MayAllCome, behind}
+use Rattle.rh_explore.specs.Reaching.{Scope, behind}
 use Rattle.rh_explore.specs.Spaces.{Seen, IsSeen}
 use Rattle.rh_explore.specs.Kept.{path_by, paths_of, seen_by, seen_of, AreLinked, parent_by, parents_of, child_by, repeated, IsIdle, IsFront, IsTakenUp, IsTakenBack, IsUntried, IsFamily, GoesOnFrom}
 use Rattle.rh_keys.proofs.Places.{at_of}
 use Rattle.rh_explore.proofs.PathsTo.{path_at, path_is, path_stays, seen_there, seen_push, found_stays, length-seen}
-use Rattle.rh_explore.proofs.Searched.{behind_push}
+use Rattle.rh_explore.proofs.Searched.{behind_push, may_last}
 
 -- ---- the last event of a list
 before_last : (es : List Event) (e : Event) → take (length (es ++ e ∷ []) - 1) (es ++ e ∷ []) ≡ es
@@ -27,10 +27,6 @@ before_last es e = take_at es (e ∷ []) (length (es ++ e ∷ []) - 1) (omega (a
 
 pub parent_push : (w : Scope) (es : List Event) (e : Event) → parent_by w (seen_by w (es ++ e ∷ [])) ≡ behind w w.base es
 parent_push w es e = ap (behind w w.base) (before_last es e)
-
-may_last : (w : Scope) (s : StateView) (es : List Event) (e : Event) → MayAllCome w s (es ++ e ∷ []) → MayCome w (behind w s es) e
-may_last w s [] e all = all.0
-may_last w s (x ∷ es) e all = may_last w (step w.pick s x) es e all.1
 
 -- ---- a state is made again of that from which it was found
 pub record IsChild (w : Scope) (s : StateView) (last : Option (ℕ × Event)) (child : StateView) : Type 0 where

@@ -1,14 +1,15 @@
 -- What one event adds to what was found.
-use Rattle.std.proofs.Common.{◌≡◌, true, false, inl, inr, ◌<◌, ◌≤◌, ◌+◌, ℕ, List, [], ◌∷◌, ◌++◌, length, sum_by, get_or, slice_get, Some, All, sym, ap, ◌∙◌, subst, arith}
+use Rattle.std.proofs.Common.{◌≡◌, true, false, inl, inr, ◌<◌, ◌≤◌, ◌+◌, ℕ, List, [], ◌∷◌, ◌++◌, length, sum_by, get_or, slice_get, Some, All, refl, sym, ap, ◌∙◌, subst, arith}
 use Rattle.std.specs.Prelude.{Contains, None}
 use Rattle.std.proofs.lemmas.List.{length-map, get_or-map}
+use Rattle.std.proofs.lemmas.List.Elements.{All-map}
 use Rattle.std.proofs.lemmas.Option.{same_Some, slice_get_within, slice_get-get_or, get_or_from_slice_get}
 use Rattle.rh_state.specs.StateView.{StateView}
 use Rattle.rh_keys.specs.Shifts.{timeless, Alike}
 use Rattle.rh_keys.specs.ShiftLaws.{meets_limit}
 use Rattle.rh_base.proofs.Truths.{both}
 use Rattle.rh_explore.specs.declared.bounds.Bounds.{Bounds}
-use Rattle.rh_explore.specs.Exploring.{key_length, most_bytes, StaysBelowLimits}
+use Rattle.rh_explore.specs.Exploring.{key_length, most_bytes, StaysBelowLimits, IsFull, IsTooMuch}
 use Rattle.rh_trace.specs.Validity.{IsValid}
 use Rattle.rh_rules.specs.declared.event.Event.{Event}
 use Rattle.rh_explore.specs.declared.reaching.Way.TheVariants.{To, Nowhere, AtLimit}
@@ -18,8 +19,8 @@ use Rattle.rh_keys.specs.Packed.{packed_key}
 use Rattle.rh_keys.proofs.CodesApart.{code_same}
 use Rattle.rh_explore.specs.declared.moves.Move.{Move}
 use Rattle.rh_explore.specs.Moves.{event_in}
-use Rattle.rh_explore.specs.Reaching.{Scope, IsMove, MayCome}
-use Rattle.rh_explore.specs.Spaces.{Seen, StepsTo, IsSeen, IsSearched, IsNear, IsExpanded, IsExpandedAt, IsAtLimit, IsCut, IsEnd}
+use Rattle.rh_explore.specs.Reaching.{Scope, IsMove, MayCome, MayAllCome, behind}
+use Rattle.rh_explore.specs.Spaces.{Seen, states_of, StepsTo, IsSeen, IsSearched, IsNear, IsExpanded, IsExpandedAt, IsFoundInTurn, IsCut, IsEnd}
 use Rattle.rh_explore.specs.Kept.{code_in, codes_of}
 use Rattle.rh_keys.proofs.Places.{at_of}
 use Rattle.rh_explore.proofs.Alikes.{accepted_alike, few_alike}
@@ -53,8 +54,8 @@ module _ (w : Scope) (seen : List Seen) (at : ℕ) (x : Seen) (here : slice_get 
           not.1 (accepted_alike w s x.state e alike may not.0) (few_alike w s x.state e valid is_here.valid alike may)),
     )
 
-    pub at_limit : (t : StateView) → StepsTo w.pick w.down x.state e AtLimit t → IsAtLimit w seen at
-    at_limit t met = (x, e, here, listed, met)
+    pub at_limit : (bounds : Bounds) (t : StateView) → StepsTo w.pick w.down x.state e AtLimit t → IsCut w bounds seen at
+    at_limit bounds t met = (x, e, here, inr (listed, met))
 
     module _ (t : StateView) (steps : StepsTo w.pick w.down x.state e To t) where
       may : MayCome w x.state e
@@ -96,6 +97,32 @@ module _ (w : Scope) (seen : List Seen) (at : ℕ) (x : Seen) (here : slice_get 
               get_or-map code_in seen k d (code (packed_key t)) l ∙ ap code (packed_alike (get_or seen k d).state t same),
             )
 
+        -- there is no room for it
+        pub too_many : (bounds : Bounds) → IsFull bounds (states_of seen) → IsCut w bounds seen at
+        too_many bounds full = (
+          x,
+          e,
+          here,
+          inl (
+            full,
+            may,
+            subst (λ s. All (λ u. Alike u s → ⊥) (states_of seen)) steps.2 (All-map (λ u. Alike u t → ⊥) (λ (y : Seen). y.state) seen fresh),
+          ),
+        )
+
+        pub turn : IsFoundInTurn w seen (record { path = x.path ++ e ∷ []; state = t })
+        turn = record {
+          at = at;
+          from = x;
+          place = made;
+          move = m;
+          event = e;
+          expanded = it_is made so;
+          listed = is;
+          is = now;
+          path = refl;
+        }
+
         pub added : (y : Seen) → y.path ≡ x.path ++ e ∷ [] → y.state ≡ t → IsExpandedAt w (seen ++ y ∷ []) at (made + 1)
         added y path state =
             let one = one_new w seen at x made m is (it_is made so) e now t steps.2 may steps.3 steps.4 fresh in
@@ -120,18 +147,25 @@ module _ (w : Scope) (seen : List Seen) (at : ℕ) (x : Seen) (here : slice_get 
 
   -- ---- the end
   -- below the limits, and while there is room, no event ends the search
-  pub never_cut : (count steps : ℕ) (bounds : Bounds) → IsExpandedAt w seen at count → IsCut w bounds seen at → length seen < bounds.states
-      → sum_by (λ (y : Seen). key_length y.state) seen < most_bytes bounds → length x.path < steps → StaysBelowLimits w steps → ⊥
-  never_cut count steps bounds so (inl (inl full)) few small short below = absurd (omega (arith, full, few))
-  never_cut count steps bounds so (inl (inr full)) few small short below = absurd (omega (arith, full, small))
-  never_cut count steps bounds so (inr met) few small short below =
-      let e = met.1 in
-      let x_is : met.0 ≡ x = same_Some met.0 x (sym met.2 ∙ here) in
-      let is = at_of (IsSeen w) seen at x (it_is count so).searched.each here in
+  pub never_cut : (count steps : ℕ) (bounds : Bounds) → IsExpandedAt w seen at count → IsCut w bounds seen at → length (states_of seen) < bounds.states
+      → sum_by key_length (states_of seen) < most_bytes bounds → length x.path < steps → StaysBelowLimits w steps → ⊥
+  never_cut count steps bounds so (y, e, there, inl (inl full, can, new)) few small short below = absurd (omega (arith, full, few))
+  never_cut count steps bounds so (y, e, there, inl (inr full, can, new)) few small short below = absurd (omega (arith, full, small))
+  never_cut count steps bounds so (y, e, there, inr (is, met)) few small short below =
+      let x_is : y ≡ x = same_Some y x (sym there ∙ here) in
+      let here_is = at_of (IsSeen w) seen at x (it_is count so).searched.each here in
       both (meets_limit x.state e)
-      (subst (λ (y : Seen). meets_limit y.state e ≡ true) x_is met.4)
-      (subst (λ (s : StateView). meets_limit s e ≡ false) is.leads
-      (below x.path e is.may_come short (subst (λ (s : StateView). IsMove w s e) (ap (λ (y : Seen). y.state) x_is ∙ sym is.leads) met.3)))
+      (subst (λ (y : Seen). meets_limit y.state e ≡ true) x_is met)
+      (subst (λ (s : StateView). meets_limit s e ≡ false) here_is.leads
+      (below x.path e here_is.may_come short (subst (λ (s : StateView). IsMove w s e) (ap (λ (y : Seen). y.state) x_is ∙ sym here_is.leads) is)))
+
+  -- where it ends so, an event behind the list that leads there was too much
+  pub cut_behind : (count : ℕ) (bounds : Bounds) → IsExpandedAt w seen at count → IsCut w bounds seen at
+      → (e : Event) × MayAllCome w w.base x.path × IsTooMuch w bounds (states_of seen) (behind w w.base x.path) e
+  cut_behind count bounds so cut =
+      let x_is : cut.0 ≡ x = same_Some cut.0 x (sym cut.2 ∙ here) in
+      let is = at_of (IsSeen w) seen at x (it_is count so).searched.each here in
+      (cut.1, is.may_come, subst (λ s. IsTooMuch w bounds (states_of seen) s cut.1) (ap (λ (y : Seen). y.state) x_is ∙ sym is.leads) cut.3)
 
   pub searched_still : (count : ℕ) → IsExpandedAt w seen at count → IsSearched w seen at
   searched_still count so = (it_is count so).searched

@@ -1,5 +1,6 @@
 -- Worked rows: three nodes n1, n2 and n3, and a distributed application, web, which may run at all of them.
-use Rattle.std.proofs.Common.{◌≡◌, true, false, Some, None, [], ◌∷◌, codes, refl}
+use Rattle.std.proofs.Common.{◌≡◌, ◌≤◌, ℕ, zero, suc, true, false, Some, None, [], ◌∷◌, codes, slice_get, inl, inr, refl, ap, ◌∙◌, arith}
+use Rattle.std.proofs.lemmas.Option.{same_Some}
 use Rattle.rh_model.specs.ClusterView.{ClusterView, NodeView, numbered, app_numbered}
 use Rattle.rh_model.specs.declared.node.Node.{Node}
 use Rattle.rh_model.specs.declared.node.App.{App}
@@ -11,8 +12,10 @@ use Rattle.rh_state.specs.declared.status.Standing.TheVariants as standing
 use Rattle.rh_state.specs.declared.status.Timer.TheVariants.{Sync, Failover}
 use Rattle.rh_state.specs.First.{first}
 use Rattle.rh_state.specs.StateView.{StateView}
-use Rattle.rh_rules.specs.declared.event.Event.TheVariants.{Tick}
-use Rattle.rh_explore.specs.declared.moves.Move.TheVariants.{Wait}
+use Rattle.rh_rules.specs.declared.event.Event.TheVariants.{Crash, Tick}
+use Rattle.rh_rules.specs.declared.pick.Pick.TheVariants.{First}
+use Rattle.rh_explore.specs.declared.moves.Move.{Move}
+use Rattle.rh_explore.specs.declared.moves.Move.TheVariants.{Make, Wait}
 use Rattle.rh_explore.specs.declared.asking.Condition.TheVariants.{RunsSomewhere, RunsNowhere, RunsAt, IsUp, IsNotUp}
 use Rattle.rh_explore.specs.declared.bounds.Covered.TheVariants as covered
 use Rattle.rh_explore.specs.Asking.{has_timer, is_so}
@@ -20,7 +23,8 @@ use Rattle.rh_explore.specs.Exploring.{CoversAll}
 use Rattle.rh_explore.specs.Moves.{ms_to, event_in}
 use Rattle.rh_keys.specs.Keys.{key_of, node_numbers, pair_numbers, app_numbers}
 use Rattle.rh_keys.specs.Packed.{packed_key, packed_node, packed_pair}
-use Rattle.rh_explore.specs.Reaching.{not_up_count}
+use Rattle.rh_explore.specs.Reaching.{Scope, not_up_count}
+use Rattle.rh_explore.specs.Before.{ComesBefore}
 
 abbrev n1 : Node
 n1 = numbered 0
@@ -148,6 +152,23 @@ row_packed : packed_key lost
     ∷ 500 ∷ 0 ∷ 1 ∷ 4900 ∷ 1 ∷ 0 ∷ []
 unfolding packed_key packed_node packed_pair app_numbers nodes_of apps_of
 row_packed = refl
+
+-- ---- the order of lists: a shorter one comes first, and of those that are as long the one whose event is the earlier move
+abbrev scope : Scope
+scope = record { base = running; pick = First; moves = Make (Crash n1) ∷ Make (Crash n2) ∷ []; down = 3 }
+
+row_shorter_first : ComesBefore scope (Crash n2 ∷ []) (Crash n1 ∷ Crash n2 ∷ [])
+row_shorter_first = inl (omega arith)
+
+row_earlier_move_first : ComesBefore scope (Crash n1 ∷ []) (Crash n2 ∷ [])
+row_earlier_move_first = inr (refl, inl (record { place = 0; move = Make (Crash n1); listed = refl; is = refl; first = not_before }))
+  where
+    not_before : (k : ℕ) (m : Move) → k ≤ 0 → slice_get scope.moves k ≡ Some m → event_in running m ≡ Some (Crash n2) → ⊥
+    not_before zero m l at is =
+        let same : Some (Crash n1) ≡ Some (Crash n2) = ap (event_in running) (same_Some (Make (Crash n1)) m at) ∙ is in
+        let nodes : n1 ≡ n2 = cc same in
+        omega (arith, ap (λ (n : Node). n.0) nodes)
+    not_before (suc k) m l at is = omega (arith, l)
 
 -- ---- what is covered
 row_all_covered : CoversAll 12 covered.All

@@ -1,5 +1,5 @@
 -- What follows of what a search has found.
-use Rattle.std.proofs.Common.{◌≡◌, ◌<◌, ◌≤◌, ◌+◌, ℕ, true, false, nat_lt, None, List, [], ◌∷◌, ◌++◌, length, get_or, map, slice_get, Some, All, refl, sym, ap, ◌∙◌, subst, arith}
+use Rattle.std.proofs.Common.{◌≡◌, ◌<◌, ◌≤◌, ◌+◌, ℕ, true, nat_lt, take, None, List, [], ◌∷◌, ◌++◌, length, get_or, slice_get, Some, All, refl, sym, ap, ◌∙◌, subst, arith}
 use Rattle.std.proofs.lemmas.List.{length_push, length-map, get_or-map}
 use Rattle.std.proofs.lemmas.List.Elements.{All-push}
 use Rattle.std.proofs.lemmas.List.Quantifiers.{all_pairs_push}
@@ -18,10 +18,8 @@ use Rattle.rh_explore.specs.Asking.{holds_in, MayWait}
 use Rattle.rh_explore.specs.declared.moves.Move.{Move}
 use Rattle.rh_explore.specs.Moves.{event_in}
 use Rattle.rh_explore.specs.Reaching.{Scope, MayCome, MayAllCome, behind}
-use Rattle.rh_explore.specs.declared.answers.Verdict.{Verdict}
-use Rattle.rh_explore.specs.declared.answers.Verdict.TheVariants.{Holds, Fails}
-use Rattle.rh_explore.specs.Exploring.{IsCovered, HoldsWithin, IsShortest, IsVerdict, AreReached}
-use Rattle.rh_explore.specs.Spaces.{Seen, IsSeen, HasWithin, LeadsOn, MovesOn, IsSearched, IsNear, IsExpanded, IsEnd, FirstFails}
+use Rattle.rh_explore.specs.Exploring.{IsCovered, HoldsWithin, IsNext, AreReached}
+use Rattle.rh_explore.specs.Spaces.{Seen, states_of, IsSeen, HasWithin, LeadsOn, MovesOn, IsSearched, IsNear, IsExpanded, IsEnd}
 use Rattle.rh_explore.proofs.Alikes.{step_valid, step_alike, move_alike, asked_alike}
 use Rattle.rh_keys.proofs.Places.{at_front, at_of, pair_of}
 
@@ -36,8 +34,17 @@ pub behind_push : (w : Scope) (s : StateView) (es : List Event) (e : Event) → 
 behind_push w s [] e = refl
 behind_push w s (x ∷ es) e = behind_push w (step w.pick s x) es e
 
+-- each of them but the last may come, and it behind them
+pub may_front : (w : Scope) (s : StateView) (es : List Event) (e : Event) → MayAllCome w s (es ++ e ∷ []) → MayAllCome w s es
+may_front w s [] e all = tt
+may_front w s (x ∷ es) e all = (all.0, may_front w (step w.pick s x) es e all.1)
+
+pub may_last : (w : Scope) (s : StateView) (es : List Event) (e : Event) → MayAllCome w s (es ++ e ∷ []) → MayCome w (behind w s es) e
+may_last w s [] e all = all.0
+may_last w s (x ∷ es) e all = may_last w (step w.pick s x) es e all.1
+
 -- a state behind events that may come is valid
-behind_valid : (w : Scope) (s : StateView) (es : List Event) → IsValid s → MayAllCome w s es → IsValid (behind w s es)
+pub behind_valid : (w : Scope) (s : StateView) (es : List Event) → IsValid s → MayAllCome w s es → IsValid (behind w s es)
 behind_valid w s [] valid may = valid
 behind_valid w s (e ∷ es) valid may = behind_valid w (step w.pick s e) es (step_valid w s e valid may.0) may.1
 
@@ -251,7 +258,7 @@ module _ (w : Scope) (seen : List Seen) (done : ℕ) (so : IsSearched w seen don
   base_valid = valid_at 0 (record { path = []; state = w.base }) so.begins
 
   -- what holds in a state that was found holds behind events that lead to one that is alike
-  holds_behind : (ask : Ask) (es : List Event) → MayAllCome w w.base es → MayWait ask.within (behind w w.base es) → (k : ℕ) (x : Seen)
+  pub holds_behind : (ask : Ask) (es : List Event) → MayAllCome w w.base es → MayWait ask.within (behind w w.base es) → (k : ℕ) (x : Seen)
       → slice_get seen k ≡ Some x → Alike (behind w w.base es) x.state → holds_in w.pick ask x.state ≡ true → holds_in w.pick ask (behind w w.base es) ≡ true
   holds_behind ask es may wait k x here alike holds =
       asked_alike w.pick ask (behind w w.base es) x.state (behind_valid w w.base es base_valid may) (valid_at k x here) alike wait holds
@@ -286,18 +293,6 @@ module _ (w : Scope) (seen : List Seen) (done : ℕ) (so : IsSearched w seen don
           found.3,
         )
 
-    pub fails_shortest : (steps : ℕ) (ask : Ask) → length x.path ≤ steps → holds_in w.pick ask x.state ≡ false
-        → ((k : ℕ) (y : Seen) → k < i → slice_get seen k ≡ Some y → holds_in w.pick ask y.state ≡ true) → IsShortest w steps ask x.path
-    fails_shortest steps ask few fails earlier =
-        let seen_x = at_of (IsSeen w) seen i x so.each here in record {
-          may_come = seen_x.may_come;
-          few = few;
-          fails = ap (holds_in w.pick ask) seen_x.leads ∙ fails;
-          shortest = λ other may l wait.
-              let found = shorter_found other may l in
-              holds_behind ask other may wait found.0 found.1 found.3 found.4 (earlier found.0 found.1 found.2 found.3);
-        }
-
   -- ---- all states
   -- no shorter list leads to a state that was found
   pub path_is_shortest : IsNear seen done → (i : ℕ) (x : Seen) → slice_get seen i ≡ Some x → (es : List Event) → MayAllCome w w.base es
@@ -308,8 +303,9 @@ module _ (w : Scope) (seen : List Seen) (done : ℕ) (so : IsSearched w seen don
       (λ f. is_above (length es) (length x.path) f)
 
   module _ (near : IsNear seen done) (last : ℕ) (x : Seen) (here : slice_get seen last ≡ Some x) (is_last : last + 1 ≡ length seen) where
-    pub are_reached : (covered : Covered) → IsEnd seen done covered → AreReached w (length x.path) covered (map (λ (y : Seen). y.state) seen)
-    are_reached covered end =
+    pub are_reached : (covered : Covered) → IsEnd seen done covered → ((k : ℕ) (s : StateView) → slice_get (states_of seen) k ≡ Some s → IsNext w (take k (states_of seen)) s)
+        → AreReached w (length x.path) covered (states_of seen)
+    are_reached covered end in_order =
         let base : Seen = record { path = []; state = w.base } in
         let state = λ (y : Seen). y.state in
         let long = length-map seen state in
@@ -320,6 +316,7 @@ module _ (w : Scope) (seen : List Seen) (done : ℕ) (so : IsSearched w seen don
               let ai = get_or-map state seen i base d i_in in
               let aj = get_or-map state seen j base d j_in in
               λ same. so.different i j base l j_in (ap timeless (sym ai) ∙ same ∙ ap timeless aj);
+          in_order = in_order;
           reached = λ k d l.
               let k_in : k < length seen = omega (arith, l, long) in
               let y = get_or seen k base in
@@ -349,11 +346,3 @@ module _ (w : Scope) (seen : List Seen) (done : ℕ) (so : IsSearched w seen don
                 found.3,
               );
         }
-
-  -- ---- the verdict on an ask
-  pub verdict_so : IsNear seen done → (steps : ℕ) → All (λ (x : Seen). length x.path ≤ steps) seen → (covered : Covered) → IsEnd seen done covered
-      → (ask : Ask) (v : Verdict) → FirstFails w.pick seen ask v → IsVerdict w steps covered ask v
-  verdict_so near steps few covered end ask Holds all = holds_within ask covered end all
-  verdict_so near steps few covered end ask (Fails es) first =
-      subst (IsShortest w steps ask) (sym first.3)
-      (fails_shortest near first.0 first.1 first.2 steps ask (at_of (λ (x : Seen). length x.path ≤ steps) seen first.0 first.1 few first.2) first.4 first.5)

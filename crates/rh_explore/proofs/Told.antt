@@ -11,9 +11,9 @@ use Rattle.rh_explore.specs.declared.asking.Ask.{Ask}
 use Rattle.rh_explore.specs.declared.space.Found.{Found}
 use Rattle.rh_explore.specs.Asking.{holds_in}
 use Rattle.rh_explore.specs.Failures.{HoldsInAll, AreFailures}
-use Rattle.rh_explore.specs.Kept.{paths_of, seen_by, seen_of, states_of}
+use Rattle.rh_explore.specs.Kept.{paths_of, seen_by, seen_of}
 use Rattle.rh_explore.specs.Reaching.{Scope}
-use Rattle.rh_explore.specs.Spaces.{Seen, FirstFails}
+use Rattle.rh_explore.specs.Spaces.{Seen, states_of, FirstFails}
 use Rattle.rh_explore.specs.Tellings.{IsTold}
 use Rattle.rh_explore.proofs.FailuresTold.{in_list}
 

@@ -14,11 +14,11 @@ use Rattle.rh_explore.specs.declared.reaching.Probe.{Probe}
 use Rattle.rh_explore.specs.declared.space.Found.{Found}
 use Rattle.rh_explore.specs.declared.space.Space.{Space}
 use Rattle.rh_keys.specs.Codes.{code}
-use Rattle.rh_explore.specs.Exploring.{key_length}
+use Rattle.rh_explore.specs.Exploring.{key_length, HadRoom}
 use Rattle.rh_explore.specs.Failures.{AreFailures}
 use Rattle.rh_keys.specs.Packed.{packed_key}
 use Rattle.rh_explore.specs.Reaching.{Scope, behind}
-use Rattle.rh_explore.specs.Spaces.{Seen}
+use Rattle.rh_explore.specs.Spaces.{Seen, states_of, AreInTurn}
 
 -- the list of events that leads to a state, by those that lead to the states before it
 abbrev pub path_by : List (List Event) → Option (ℕ × Event) → List Event
@@ -39,9 +39,6 @@ seen_by w path = record { path = path; state = behind w w.base path }
 abbrev pub seen_of : Scope → List Found → List Seen
 seen_of w found = map (seen_by w) (paths_of found)
 
-abbrev pub states_of : List Seen → List StateView
-states_of seen = map (λ x. x.state) seen
-
 -- each but the base was found behind an earlier one, and it is told how many events lead to it
 pub record AreLinked (found : List Found) : Type 0 where
   pub depths : map (λ f. f.depth) found ≡ map (λ (path : List Event). length path) (paths_of found)
@@ -57,13 +54,15 @@ codes_of seen = map code_in seen
 abbrev pub bytes_of : Space → List (List ℕ)
 bytes_of space = map (λ key. key.bytes.items) space.keys.keys
 
--- the key of each is kept, and what fails in which
-pub record IsKept (w : Scope) (asks : List Ask) (space : Space) : Type 0 where
+-- the key of each is kept, and what fails in which; each was found in its turn, and had room
+pub record IsKept (w : Scope) (bounds : Bounds) (asks : List Ask) (space : Space) : Type 0 where
   pub linked : AreLinked space.found.items
   pub codes : bytes_of space ≡ codes_of (seen_of w space.found.items)
   pub failures : AreFailures w.pick space.failures.firsts.items space.failures.left.items asks (states_of (seen_of w space.found.items))
   pub calm : space.failures.trial.edits.items ≡ []
-  pub bytes : space.bytes ≡ sum_by (λ (x : Seen). key_length x.state) (seen_of w space.found.items)
+  pub bytes : space.bytes ≡ sum_by key_length (states_of (seen_of w space.found.items))
+  pub in_turn : AreInTurn w (seen_of w space.found.items)
+  pub room : HadRoom bounds (states_of (seen_of w space.found.items))
 
 -- ---- the states whose events weren't made yet, by those from which they were found
 

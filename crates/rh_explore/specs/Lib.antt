@@ -1,6 +1,7 @@
 pub mod Asking
 pub mod Moves
 pub mod Reaching
+pub mod Before
 pub mod Exploring
 pub mod Spaces
 pub mod Failures

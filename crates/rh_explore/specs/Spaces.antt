@@ -1,5 +1,5 @@
 -- What is said within a search, where a part of the states is found (ours).
-use Rattle.std.specs.Prelude.{◌≡◌, ◌⊎◌, ◌≤◌, ◌<◌, ◌+◌, ℕ, true, false, List, [], Some, None, length, sum_by, slice_get, All, AllPairs}
+use Rattle.std.specs.Prelude.{◌≡◌, ◌≤◌, ◌<◌, ◌+◌, ℕ, true, false, List, [], ◌∷◌, ◌++◌, Some, None, length, map, take, slice_get, All, AllPairs}
 use Rattle.rh_state.specs.StateView.{StateView}
 use Rattle.rh_rules.specs.declared.event.Event.{Event}
 use Rattle.rh_rules.specs.declared.pick.Pick.{Pick}
@@ -19,8 +19,8 @@ use Rattle.rh_explore.specs.declared.moves.Move.{Move}
 use Rattle.rh_explore.specs.declared.reaching.Way.{Way}
 use Rattle.rh_explore.specs.declared.reaching.Way.TheVariants.{To, Nowhere, AtLimit}
 use Rattle.rh_explore.specs.Moves.{event_in}
-use Rattle.rh_explore.specs.Exploring.{key_length, most_bytes}
-use Rattle.rh_explore.specs.Reaching.{Scope, IsMove, MayCome, MayAllCome, not_up_count, behind}
+use Rattle.rh_explore.specs.Exploring.{IsTooMuch}
+use Rattle.rh_explore.specs.Reaching.{Scope, MayCome, MayAllCome, not_up_count, behind}
 
 -- the event leads there, within the scope; or it can't be made, or too many nodes are not up behind it; or a limit refuses it
 abbrev pub StepsTo : Pick → ℕ → StateView → Event → Way → StateView → Type 0
@@ -32,6 +32,9 @@ StepsTo pick down s e To t = (refused s e ≡ None) × (not_up_count (step pick 
 pub record Seen : Type 0 where
   pub path : List Event
   pub state : StateView
+
+abbrev pub states_of : List Seen → List StateView
+states_of seen = map (λ x. x.state) seen
 
 -- the list may come from the base, and leads there
 pub record IsSeen (w : Scope) (x : Seen) : Type 0 where
@@ -77,17 +80,25 @@ pub record IsExpanded (w : Scope) (seen : List Seen) (at : ℕ) (x : Seen) (coun
 abbrev pub IsExpandedAt : Scope → List Seen → ℕ → ℕ → Type 0
 IsExpandedAt w seen at made = (x : Seen) × IsExpanded w seen at x made
 
--- a limit of starts or of time refuses one of the events in the state of this number
-abbrev pub IsAtLimit : Scope → List Seen → ℕ → Type 0
-IsAtLimit w seen at = (x : Seen) × (e : Event) × (slice_get seen at ≡ Some x) × IsMove w x.state e × (meets_limit x.state e ≡ true)
+-- a state was found in its turn: by a move of an earlier one, while no other was there than those to which the moves before it lead
+pub record IsFoundInTurn (w : Scope) (earlier : List Seen) (y : Seen) : Type 0 where
+  pub at : ℕ
+  pub from : Seen
+  pub place : ℕ
+  pub move : Move
+  pub event : Event
+  pub expanded : IsExpanded w earlier at from place
+  pub listed : slice_get w.moves place ≡ Some move
+  pub is : event_in from.state move ≡ Some event
+  pub path : y.path ≡ from.path ++ event ∷ []
 
--- as many states were found as may be kept, or their keys have as many bytes
-abbrev pub IsFull : Bounds → List Seen → Type 0
-IsFull bounds seen = (bounds.states ≤ length seen) ⊎ (most_bytes bounds ≤ sum_by (λ (x : Seen). key_length x.state) seen)
+-- so was each but the base
+abbrev pub AreInTurn : Scope → List Seen → Type 0
+AreInTurn w seen = (k : ℕ) (y : Seen) → 0 < k → slice_get seen k ≡ Some y → IsFoundInTurn w (take k seen) y
 
--- the search ends there: there is no room for another state, or a limit refuses an event
+-- the search ends there: an event in the state of this number is too much
 abbrev pub IsCut : Scope → Bounds → List Seen → ℕ → Type 0
-IsCut w bounds seen at = IsFull bounds seen ⊎ IsAtLimit w seen at
+IsCut w bounds seen at = (x : Seen) × (e : Event) × (slice_get seen at ≡ Some x) × IsTooMuch w bounds (states_of seen) x.state e
 
 -- the lists of events of which all were looked at
 abbrev pub IsEnd : List Seen → ℕ → Covered → Type 0

@@ -1,11 +1,10 @@
 //! What a search answers.
 
-ghost use Rattle.std.specs.Prelude.{◌≡◌, ◌<◌, ◌≤◌, ℕ, length, sum_by, slice_get, List, Some, IfOk};
+ghost use Rattle.std.specs.Prelude.{◌≡◌, ◌<◌, ℕ, length, slice_get, Some, IfOk};
 ghost use Rattle.std.specs.List.{AllZip};
-ghost use Rattle.rh_state.specs.StateView.{StateView};
 ghost use Rattle.rh_state.specs.Stored.{read};
 ghost use Rattle.rh_trace.specs.Validity.{IsValid};
-ghost use Rattle.rh_explore.specs.Exploring.{scope_of, key_length, most_bytes, StaysBelowLimits, CoversAll, IsVerdict, AreReached};
+ghost use Rattle.rh_explore.specs.Exploring.{scope_of, IsAnswer};
 ghost use Rattle.rh_explore.specs.Kept.{AreLinked};
 ghost use Rattle.rh_explore.specs.Tellings.{IsTold};
 
@@ -46,6 +45,11 @@ pub struct Explored {
 
 /// What holds in all states that these moves reach from a base, each as often as one likes and in every order in which the rules
 /// accept them. The base is one that a cluster reaches, as that of each simulation.
+///
+/// The states are found in the order of the lists of events that lead to them, shorter ones first, and those that are as long in the
+/// order of the moves; so a verdict that what is asked fails has the first list of all that lead to a state in which it does. The search
+/// ends when nothing is left, behind so many events as may follow one another, or at the first state for which there is no room; or
+/// where a limit of starts or of time refuses an event, since it may be accepted in a state that is alike.
 pub fn explore(
     alloc: Global,
     base: &State,
@@ -55,17 +59,7 @@ pub fn explore(
     asks: &[Ask],
 ) -> Result<Explored, OutOfMemory>
     requires { IsValid (read base.now) }
-    // A verdict that what is asked holds is about all covered lists of events. One that it fails has a shortest list that leads to a
-    // state in which it does, also among those that aren't covered.
-    ensures verdicts { IfOk result (λ x. AllZip (IsVerdict (scope_of base.now pick moves.now bounds.now) bounds.now.steps x.covered) asks.now x.verdicts.items) }
-    // So many states were reached, no two of them alike, and each to which a covered list leads is alike to one of them. Their keys have
-    // so many bytes.
-    ensures states { IfOk result (λ x. (found : List StateView) × (length found ≡ x.states) × (sum_by key_length found ≡ x.bytes)
-        × AreReached (scope_of base.now pick moves.now bounds.now) x.deepest x.covered found) }
-    ensures deepest { IfOk result (λ x. x.deepest ≤ bounds.now.steps) }
-    // All lists within the bound of steps are covered, unless that of states was met, or that of bytes, or a limit of starts or of time.
-    ensures covers { IfOk result (λ x. x.states < bounds.now.states → x.bytes < most_bytes bounds.now → StaysBelowLimits (scope_of base.now pick moves.now bounds.now) bounds.now.steps
-        → CoversAll bounds.now.steps x.covered) }
+    ensures { IfOk result (IsAnswer (scope_of base.now pick moves.now bounds.now) bounds.now asks.now) }
 {
     let (space, covered) = search(alloc, base, pick, moves, bounds, asks)?;
     let bytes = space.bytes;

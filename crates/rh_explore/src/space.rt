@@ -1,14 +1,14 @@
 //! The states that were found, and the search for them.
 
-ghost use Rattle.std.specs.Prelude.{◌≡◌, ◌<◌, ◌≤◌, ◌+◌, ◌^◌, ◌↔◌, ◌⊎◌, ℕ, [], ◌∷◌, ◌++◌, List, length, map, slice_get, max, All, Contains, IfOk, OnOk, IsTrue, MatchBool, None, Some, ⊤};
+ghost use Rattle.std.specs.Prelude.{◌≡◌, ◌<◌, ◌≤◌, ◌+◌, ◌-◌, ◌^◌, ◌↔◌, ◌⊎◌, ℕ, [], ◌∷◌, ◌++◌, List, length, map, slice_get, max, All, Contains, IfOk, OnOk, IsTrue, MatchBool, None, Some, ⊤};
 ghost use Rattle.rh_state.specs.StateView.{StateView};
 ghost use Rattle.rh_state.specs.Stored.{read};
 ghost use Rattle.rh_trace.specs.Validity.{IsValid};
 ghost use Rattle.rh_explore.specs.Failures.{AreFailures};
 ghost use Rattle.rh_keys.specs.Codes.{code};
 ghost use Rattle.rh_keys.specs.Packed.{packed_key};
-ghost use Rattle.rh_explore.specs.Exploring.{scope_of, key_length, most_bytes, StaysBelowLimits, CoversAll};
-ghost use Rattle.rh_explore.specs.Spaces.{Seen, IsSearched, IsNear, IsEnd, IsCut, IsExpandedAt};
+ghost use Rattle.rh_explore.specs.Exploring.{scope_of, key_length, most_bytes, StaysBelowLimits, CoversAll, IsEndOf};
+ghost use Rattle.rh_explore.specs.Spaces.{Seen, states_of, IsSearched, IsNear, IsEnd, IsCut, IsExpandedAt};
 ghost use Rattle.rh_explore.specs.Kept.{seen_of, bytes_of, waiting_in, IsKept, IsShort, IsUntried, IsIdle, IsFront, IsTakenUp, IsSameFront, IsTakenBack, IsFamily, GoesOnFrom};
 
 use crate::asking::Ask;
@@ -155,11 +155,11 @@ impl Space {
         bounds: &Bounds,
         asks: &[Ask],
     ) -> Result<bool, OutOfMemory>
-        requires kept { IsKept (scope_of base.now pick moves.now bounds.now) asks.now self.old }
+        requires kept { IsKept (scope_of base.now pick moves.now bounds.now) bounds.now asks.now self.old }
         requires short { IsShort bounds.now self.old.found.items at }
         requires front { IsTakenUp (scope_of base.now pick moves.now bounds.now) self.old at }
         requires begun { IsExpandedAt (scope_of base.now pick moves.now bounds.now) (seen_of (scope_of base.now pick moves.now bounds.now) self.old.found.items) at 0 }
-        ensures kept { OnOk result (IsKept (scope_of base.now pick moves.now bounds.now) asks.now self.new) }
+        ensures kept { OnOk result (IsKept (scope_of base.now pick moves.now bounds.now) bounds.now asks.now self.new) }
         ensures made { IfOk result (λ all. MatchBool all
             (IsExpandedAt (scope_of base.now pick moves.now bounds.now) (seen_of (scope_of base.now pick moves.now bounds.now) self.new.found.items) at (length moves.now))
             ((made : ℕ) × IsExpandedAt (scope_of base.now pick moves.now bounds.now) (seen_of (scope_of base.now pick moves.now bounds.now) self.new.found.items) at made
@@ -189,11 +189,11 @@ impl Space {
         bounds: &Bounds,
         asks: &[Ask],
     ) -> Result<bool, OutOfMemory>
-        requires kept { IsKept (scope_of base.now pick moves.now bounds.now) asks.now self.old }
+        requires kept { IsKept (scope_of base.now pick moves.now bounds.now) bounds.now asks.now self.old }
         requires short { IsShort bounds.now self.old.found.items at }
         requires untried { IsUntried self.old.front.probe (seen_of (scope_of base.now pick moves.now bounds.now) self.old.found.items) at }
         requires begun { IsExpandedAt (scope_of base.now pick moves.now bounds.now) (seen_of (scope_of base.now pick moves.now bounds.now) self.old.found.items) at 0 }
-        ensures kept { OnOk result (IsKept (scope_of base.now pick moves.now bounds.now) asks.now self.new) }
+        ensures kept { OnOk result (IsKept (scope_of base.now pick moves.now bounds.now) bounds.now asks.now self.new) }
         ensures made { IfOk result (λ all. MatchBool all
             (IsExpandedAt (scope_of base.now pick moves.now bounds.now) (seen_of (scope_of base.now pick moves.now bounds.now) self.new.found.items) at (length moves.now))
             ((made : ℕ) × IsExpandedAt (scope_of base.now pick moves.now bounds.now) (seen_of (scope_of base.now pick moves.now bounds.now) self.new.found.items) at made
@@ -225,12 +225,12 @@ impl Space {
         bounds: &Bounds,
         asks: &[Ask],
     ) -> Result<bool, OutOfMemory>
-        requires kept { IsKept (scope_of base.now pick moves.now bounds.now) asks.now self.old }
+        requires kept { IsKept (scope_of base.now pick moves.now bounds.now) bounds.now asks.now self.old }
         requires short { IsShort bounds.now self.old.found.items at }
         requires untried { IsUntried self.old.front.probe (seen_of (scope_of base.now pick moves.now bounds.now) self.old.found.items) at }
         requires begun { (made : ℕ) × (slice_get moves.now made ≡ Some one)
             × IsExpandedAt (scope_of base.now pick moves.now bounds.now) (seen_of (scope_of base.now pick moves.now bounds.now) self.old.found.items) at made }
-        ensures kept { OnOk result (IsKept (scope_of base.now pick moves.now bounds.now) asks.now self.new) }
+        ensures kept { OnOk result (IsKept (scope_of base.now pick moves.now bounds.now) bounds.now asks.now self.new) }
         ensures made { IfOk result (λ went. (made : ℕ) → slice_get moves.now made ≡ Some one
             → IsExpandedAt (scope_of base.now pick moves.now bounds.now) (seen_of (scope_of base.now pick moves.now bounds.now) self.old.found.items) at made
             → MatchBool went
@@ -288,10 +288,12 @@ pub(crate) fn search(
     asks: &[Ask],
 ) -> Result<(Space, Covered), OutOfMemory>
     requires { IsValid (read base.now) }
-    ensures kept { IfOk result (λ found. IsKept (scope_of base.now pick moves.now bounds.now) asks.now found.0) }
+    ensures kept { IfOk result (λ found. IsKept (scope_of base.now pick moves.now bounds.now) bounds.now asks.now found.0) }
     ensures searched { IfOk result (λ found. (done : ℕ) × IsSearched (scope_of base.now pick moves.now bounds.now) (seen_of (scope_of base.now pick moves.now bounds.now) found.0.found.items) done
         × IsNear (seen_of (scope_of base.now pick moves.now bounds.now) found.0.found.items) done × IsEnd (seen_of (scope_of base.now pick moves.now bounds.now) found.0.found.items) done found.1) }
     ensures few { IfOk result (λ found. All (λ (x : Seen). length x.path ≤ bounds.now.steps) (seen_of (scope_of base.now pick moves.now bounds.now) found.0.found.items)) }
+    ensures end { IfOk result (λ found. (x : Seen) → slice_get (seen_of (scope_of base.now pick moves.now bounds.now) found.0.found.items) (length found.0.found.items - 1) ≡ Some x
+        → IsEndOf (scope_of base.now pick moves.now bounds.now) bounds.now (length x.path) (states_of (seen_of (scope_of base.now pick moves.now bounds.now) found.0.found.items)) found.1) }
     ensures covers { IfOk result (λ found. length found.0.found.items < bounds.now.states → found.0.bytes < most_bytes bounds.now
         → StaysBelowLimits (scope_of base.now pick moves.now bounds.now) bounds.now.steps → CoversAll bounds.now.steps found.1) }
 {

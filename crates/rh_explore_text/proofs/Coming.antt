@@ -17,15 +17,15 @@ accepted : (w : Scope) (s : StateView) (es : List Event) → MayAllCome w s es �
 accepted w s [] may = tt
 accepted w s (e ∷ es) may = (may.0.accepted, accepted w (step w.pick s e) es may.1)
 
-can_come : (w : Scope) (steps : ℕ) (covered : Covered) (ask : Ask) (verdict : Verdict) → IsVerdict w steps covered ask verdict
+can_come : (w : Scope) (steps : ℕ) (covered : Covered) (found : List StateView) (ask : Ask) (verdict : Verdict) → IsVerdict w steps covered found ask verdict
     → CanCome w.pick w.base verdict
-can_come w steps covered ask Holds is = tt
-can_come w steps covered ask (Fails es) is = accepted w w.base es.items is.may_come
+can_come w steps covered found ask Holds is = tt
+can_come w steps covered found ask (Fails es) is = accepted w w.base es.items is.0.may_come
 
-pub all_can_come : (w : Scope) (steps : ℕ) (covered : Covered) (asks : List Ask) (verdicts : List Verdict)
-    → AllZip (IsVerdict w steps covered) asks verdicts → All (CanCome w.pick w.base) verdicts
-all_can_come w steps covered [] [] all = All-nil (CanCome w.pick w.base)
-all_can_come w steps covered [] (v ∷ verdicts) all = absurd all
-all_can_come w steps covered (a ∷ asks) [] all = absurd all
-all_can_come w steps covered (a ∷ asks) (v ∷ verdicts) all =
-    All-cons (CanCome w.pick w.base) v verdicts (can_come w steps covered a v all.0) (all_can_come w steps covered asks verdicts all.1)
+pub all_can_come : (w : Scope) (steps : ℕ) (covered : Covered) (found : List StateView) (asks : List Ask) (verdicts : List Verdict)
+    → AllZip (IsVerdict w steps covered found) asks verdicts → All (CanCome w.pick w.base) verdicts
+all_can_come w steps covered found [] [] all = All-nil (CanCome w.pick w.base)
+all_can_come w steps covered found [] (v ∷ verdicts) all = absurd all
+all_can_come w steps covered found (a ∷ asks) [] all = absurd all
+all_can_come w steps covered found (a ∷ asks) (v ∷ verdicts) all =
+    All-cons (CanCome w.pick w.base) v verdicts (can_come w steps covered found a v all.0) (all_can_come w steps covered found asks verdicts all.1)

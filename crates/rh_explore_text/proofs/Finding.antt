@@ -1,28 +1,21 @@
 -- What was found is told of the scope, the questions and the lines that were read.
-use Rattle.std.proofs.Common.{◌≡◌, ◌≤◌, ◌<◌, ◌*◌, ℕ, List, length, sum_by, Option, None, Result, Ok, Err, subst, sym}
+use Rattle.std.proofs.Common.{◌≡◌, ℕ, List, Option, None, Result, Ok, Err, subst, sym}
 use Rattle.std.specs.Prelude.{IfOk}
-use Rattle.std.specs.List.{AllZip}
 use Rattle.rh_model.specs.ClusterView.{ClusterView}
-use Rattle.rh_state.specs.StateView.{StateView}
 use Rattle.rh_rules.specs.declared.pick.Pick.{Pick}
 use Rattle.rh_asked.specs.declared.manner.SearchRoom.{SearchRoom}
 use Rattle.rh_explore.specs.declared.answers.Explored.{Explored}
 use Rattle.rh_explore.specs.declared.asking.Ask.{Ask}
 use Rattle.rh_explore.specs.Reaching.{Scope}
-use Rattle.rh_explore.specs.Exploring.{key_length, IsVerdict, AreReached, StaysBelowLimits, CoversAll}
 use Rattle.rh_explore_text.specs.declared.exploring.Answer.{Answer}
 use Rattle.rh_explore_text.specs.declared.lines.SearchLine.{SearchLine}
 use Rattle.rh_explore_text.specs.SearchLines.{SearchView, search_of}
 use Rattle.rh_explore_text.specs.ExploreText.{explored_text, IsFound, MayFind, MayTellLines}
 
 pub is_found : (w v : Scope) (steps : ℕ) (room : SearchRoom) (given asks : List Ask) (x : Explored) → w ≡ v → given ≡ asks
-    → AllZip (IsVerdict w steps x.covered) given x.verdicts.items
-    → ((found : List StateView) × (length found ≡ x.states) × (sum_by key_length found ≡ x.bytes) × AreReached w x.deepest x.covered found)
-    → x.deepest ≤ steps → (x.states < room.states → x.bytes < room.mebibytes * 1048576 → StaysBelowLimits w steps → CoversAll steps x.covered) → IsFound v steps room asks x
-is_found w v steps room given asks x same alike verdicts reached deepest covers =
-    let here : IsFound w steps room given x = record { verdicts = verdicts; reached = reached; deepest = deepest; covers = covers } in
-    let there : IsFound v steps room given x = subst (λ s. IsFound s steps room given x) same here in
-    subst (λ qs. IsFound v steps room qs x) alike there
+    → IsFound w steps room given x → IsFound v steps room asks x
+is_found w v steps room given asks x same alike found =
+    subst (λ qs. IsFound v steps room qs x) alike (subst (λ s. IsFound s steps room given x) same found)
 
 -- all lines fit
 pub lines_told : {E : Type 0} (r : Result Answer E) (c : ClusterView) (pick : Pick) (room : SearchRoom) (lines : List SearchLine) (bad : Option ℕ) (q : SearchView)

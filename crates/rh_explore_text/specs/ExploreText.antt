@@ -1,6 +1,5 @@
 -- What a search writes for the bytes that it reads, and how it ends (ours).
-use Rattle.std.specs.Prelude.{◌≡◌, ◌≤◌, ◌<◌, ◌*◌, ℕ, List, ◌++◌, length, sum_by, map, Option, Some, None, Result, Ok, Err}
-use Rattle.std.specs.List.{AllZip}
+use Rattle.std.specs.Prelude.{◌≡◌, ℕ, List, ◌++◌, map, Option, Some, None, Result, Ok, Err}
 use Rattle.rh_model.specs.ClusterView.{ClusterView}
 use Rattle.rh_cluster.specs.ClusterOf.{cluster_of}
 use Rattle.rh_cluster.specs.declared.fault.ClusterFault.{ClusterFault}
@@ -17,7 +16,7 @@ use Rattle.rh_run.specs.RunText.{answers_text}
 use Rattle.rh_explore.specs.declared.answers.Explored.{Explored}
 use Rattle.rh_explore.specs.declared.asking.Ask.{Ask}
 use Rattle.rh_explore.specs.Reaching.{Scope}
-use Rattle.rh_explore.specs.Exploring.{key_length, IsVerdict, AreReached, StaysBelowLimits, CoversAll}
+use Rattle.rh_explore.specs.Exploring.{IsAnswer}
 use Rattle.rh_explore_text.specs.declared.lines.SearchLine.{SearchLine}
 use Rattle.rh_explore_text.specs.Asks.{ask_view}
 use Rattle.rh_explore_text.specs.SearchLines.{SearchView, search_lines_asked, bad_search_line, search_of}
@@ -25,14 +24,10 @@ use Rattle.rh_explore_text.specs.FoundText.{found_text, found_end}
 
 -- ---- what a search finds
 
--- what is told of each ask is so; so many states were reached, no two of them alike, and each to which a covered list of events leads is
--- alike to one of them; and all lists within the bound of steps are covered, unless so many states were reached as may be kept, or their
--- keys take as much, or a limit of starts or of time was reached
-pub record IsFound (w : Scope) (steps : ℕ) (room : SearchRoom) (asks : List Ask) (x : Explored) : Type 0 where
-  pub verdicts : AllZip (IsVerdict w steps x.covered) asks x.verdicts.items
-  pub reached : (found : List StateView) × (length found ≡ x.states) × (sum_by key_length found ≡ x.bytes) × AreReached w x.deepest x.covered found
-  pub deepest : x.deepest ≤ steps
-  pub covers : x.states < room.states → x.bytes < room.mebibytes * 1048576 → StaysBelowLimits w steps → CoversAll steps x.covered
+-- what a search answers in so much room
+abbrev pub IsFound : Scope → ℕ → SearchRoom → List Ask → Explored → Type 0
+IsFound w steps room asks x =
+    IsAnswer w (record { down = w.down; steps = steps; states = room.states; mebibytes = room.mebibytes }) asks x
 
 -- the simulation behind the commands of the base, and the scope of the search from there
 abbrev pub base_of : ClusterView → Pick → SearchView → SimView

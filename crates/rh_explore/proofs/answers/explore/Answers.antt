@@ -1,15 +1,16 @@
-use Rattle.std.proofs.Common.{◌≡◌, ◌<◌, ◌≤◌, ◌+◌, ◌-◌, ℕ, List, [], ◌∷◌, fold, map, length, get_or, slice_get, Option, Some, None, refl, sym, ap, ◌∙◌, subst, arith}
+use Rattle.std.proofs.Common.{◌≡◌, ◌<◌, ◌≤◌, ◌+◌, ◌-◌, ℕ, List, length, get_or, slice_get, Option, Some, None, sym, ap, ◌∙◌, subst, arith}
 use Rattle.std.specs.List.{AllZip}
 use Rattle.std.proofs.lemmas.List.{length-map}
 use Rattle.std.proofs.lemmas.Option.{slice_get_within, slice_get-get_or}
 use Rattle.rh_explore.specs.declared.space.Found.{Found}
-use Rattle.rh_explore.specs.Exploring.{scope_of, key_length, IsVerdict, AreReached}
-use Rattle.rh_explore.specs.Spaces.{Seen}
-use Rattle.rh_explore.specs.Kept.{seen_by, seen_of, states_of, AreLinked}
+use Rattle.rh_explore.specs.Exploring.{scope_of, IsVerdict, AreReached, IsEndOf}
+use Rattle.rh_explore.specs.Spaces.{Seen, states_of}
+use Rattle.rh_explore.specs.Kept.{seen_by, seen_of, AreLinked}
 use Rattle.rh_explore.specs.Tellings.{IsTold}
 use Rattle.rh_keys.proofs.Places.{at_of}
 use Rattle.rh_explore.proofs.PathsTo.{path_at, seen_there, depth_is, length-seen}
-use Rattle.rh_explore.proofs.Searched.{verdict_so, are_reached}
+use Rattle.rh_explore.proofs.Searched.{are_reached}
+use Rattle.rh_explore.proofs.Answered.{next_in_order, verdict_so}
 use Rattle.rh_explore.proofs.Told.{told_first, failure_within}
 use Rattle.rh_explore.proofs.Zips.{zip_through}
 use Rattle.rh_explore.proofs.answers.explore.Goals as goal
@@ -27,66 +28,22 @@ verdicts_on-requires-clause-within c = λ j i at.
     (ap (λ (fs : List (Option ℕ)). slice_get fs j) (sym (c.as_slice.ensures.value ∙ (λ i. (c.into_found-all.ensures.firsts i).items))) ∙ at) in
     omega (arith, l, length-seen w space.found.items, ap (λ (fs : List Found). length fs) (c.as_slice-found.ensures.value ∙ (λ i. (c.into_found-all.ensures.found i).items)))
 
-pub returns-clause-verdicts : goal.returns-clause-verdicts
-returns-clause-verdicts c =
-    let w = scope_of c.args.base.now c.args.pick c.args.moves.now c.args.bounds.now in
-    let steps = c.args.bounds.now.steps in
-    let covered = c.in_ok-space.covered in
-    let space = c.in_ok-space.space in
-    let items : List Found = space.found.items in
-    let s = c.in_ok-space.ensures.searched in
-    let k = c.in_ok-space.ensures.kept in
-    let firsts = space.failures.firsts.items in
-    zip_through (IsTold items) (IsVerdict w steps covered) firsts c.args.asks.now c.in_ok-verdicts.verdicts.items k.failures.count
-    (λ j first ask v at there told.
-    verdict_so w (seen_of w items) s.0 s.1 s.2 steps c.in_ok-space.ensures.few covered s.3 ask v
-    (told_first w items firsts space.failures.left.items c.args.asks.now k.failures j first ask v at there told))
-    (subst (λ (fs : List (Option ℕ)). AllZip (IsTold items) fs c.in_ok-verdicts.verdicts.items)
-    (c.as_slice.ensures.value ∙ (λ i. (c.into_found-all.ensures.firsts i).items))
-    (subst (λ (found : List Found). AllZip (IsTold found) c.as_slice.result.now c.in_ok-verdicts.verdicts.items)
-    (c.as_slice-found.ensures.value ∙ (λ i. (c.into_found-all.ensures.found i).items)) c.in_ok-verdicts.ensures))
-
--- what is added up over what others are turned into
-sum_map : {A B : Type 0} (g : B → ℕ) (f : A → B) (sum : ℕ) (xs : List A) → fold (λ a x. a + g x) sum (map f xs) ≡ fold (λ a x. a + g (f x)) sum xs
-sum_map g f sum [] = refl
-sum_map g f sum (x ∷ xs) = sum_map g f (sum + g (f x)) xs
-
 abbrev none : Found
 none = record { last = None; depth = 0 }
 
-pub returns-clause-states : goal.returns-clause-states
-returns-clause-states c =
+pub returns : goal.returns
+returns c =
     let w = scope_of c.args.base.now c.args.pick c.args.moves.now c.args.bounds.now in
-    let items : List Found = c.in_ok-space.space.found.items in
-    let slice : List Found = c.as_slice-found.result.now in
-    let value : slice ≡ items = c.as_slice-found.ensures.value ∙ (λ i. (c.into_found-all.ensures.found i).items) in
-    let s = c.in_ok-space.ensures.searched in
-    let seen = seen_of w items in
-    let long = length-seen w items in
-    let some = slice_get_within seen 0 _ s.1.begins in
-    let last = length items - 1 in
-    let f = get_or items last none in
-    let within : last < length items = omega (arith, long, some) in
-    let there : slice_get items last ≡ Some f = slice_get-get_or items last none within in
-    let here = seen_there w items last f there in
-    let x : Seen = seen_by w (path_at items last) in
-    let deep : f.depth ≡ length x.path = depth_is items last f c.in_ok-space.ensures.kept.linked there in
-    let told : (get_or slice (length slice - 1) none).depth ≡ f.depth = ap (λ (fs : List Found). (get_or fs (length fs - 1) none).depth) value in
+    let bounds = c.args.bounds.now in
+    let steps = bounds.steps in
     let covered = c.in_ok-space.covered in
-    let is_last : last + 1 ≡ length seen = omega (arith, long, some) in (
-      states_of seen,
-      length-map seen (λ (y : Seen). y.state) ∙ long ∙ sym (ap (λ (xs : List Found). length xs) value),
-      sum_map key_length (λ (y : Seen). y.state) 0 seen ∙ sym c.in_ok-space.ensures.kept.bytes,
-      subst (λ (n : ℕ). AreReached w n covered (states_of seen)) (sym (told ∙ deep)) (are_reached w seen s.0 s.1 s.2 last x here is_last covered s.3),
-    )
-
-pub returns-clause-deepest : goal.returns-clause-deepest
-returns-clause-deepest c =
-    let w = scope_of c.args.base.now c.args.pick c.args.moves.now c.args.bounds.now in
-    let items : List Found = c.in_ok-space.space.found.items in
+    let space = c.in_ok-space.space in
+    let items : List Found = space.found.items in
     let slice : List Found = c.as_slice-found.result.now in
     let value : slice ≡ items = c.as_slice-found.ensures.value ∙ (λ i. (c.into_found-all.ensures.found i).items) in
+    let many = ap (λ (xs : List Found). length xs) value in
     let s = c.in_ok-space.ensures.searched in
+    let k = c.in_ok-space.ensures.kept in
     let seen = seen_of w items in
     let long = length-seen w items in
     let some = slice_get_within seen 0 _ s.1.begins in
@@ -96,8 +53,26 @@ returns-clause-deepest c =
     let there : slice_get items last ≡ Some f = slice_get-get_or items last none within in
     let here = seen_there w items last f there in
     let x : Seen = seen_by w (path_at items last) in
-    let deep : f.depth ≡ length x.path = depth_is items last f c.in_ok-space.ensures.kept.linked there in
+    let deep : f.depth ≡ length x.path = depth_is items last f k.linked there in
     let told : (get_or slice (length slice - 1) none).depth ≡ f.depth = ap (λ (fs : List Found). (get_or fs (length fs - 1) none).depth) value in
-    let steps = c.args.bounds.now.steps in
+    let is_last : last + 1 ≡ length seen = omega (arith, long, some) in
     let few = at_of (λ (y : Seen). length y.path ≤ steps) seen last x c.in_ok-space.ensures.few here in
-    omega (arith, few, deep, told)
+    let firsts = space.failures.firsts.items in
+    record {
+      found = states_of seen;
+      states = length-map seen (λ (y : Seen). y.state) ∙ long ∙ sym many;
+      bytes = sym k.bytes;
+      reached = subst (λ (n : ℕ). AreReached w n covered (states_of seen)) (sym (told ∙ deep))
+          (are_reached w seen s.0 s.1 s.2 last x here is_last covered s.3 (next_in_order w seen s.0 s.1 k.in_turn));
+      deepest = omega (arith, few, deep, told);
+      room = k.room;
+      end = subst (λ (n : ℕ). IsEndOf w bounds n (states_of seen) covered) (sym (told ∙ deep)) (c.in_ok-space.ensures.end x here);
+      covers = λ less small below. c.in_ok-space.ensures.covers (omega (arith, less, many)) small below;
+      verdicts = zip_through (IsTold items) (IsVerdict w steps covered (states_of seen)) firsts c.args.asks.now c.in_ok-verdicts.verdicts.items k.failures.count
+          (λ j first ask v at that is.
+          verdict_so w seen s.0 s.1 k.in_turn steps c.in_ok-space.ensures.few covered s.3 ask v
+          (told_first w items firsts space.failures.left.items c.args.asks.now k.failures j first ask v at that is))
+          (subst (λ (fs : List (Option ℕ)). AllZip (IsTold items) fs c.in_ok-verdicts.verdicts.items)
+          (c.as_slice.ensures.value ∙ (λ i. (c.into_found-all.ensures.firsts i).items))
+          (subst (λ (found : List Found). AllZip (IsTold found) c.as_slice.result.now c.in_ok-verdicts.verdicts.items) value c.in_ok-verdicts.ensures));
+    }

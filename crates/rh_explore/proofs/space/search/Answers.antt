@@ -1,4 +1,4 @@
-use Rattle.std.proofs.Common.{rules, ◌≡◌, ◌<◌, ◌≤◌, ◌+◌, ◌∷◌, [], ℕ, zero, suc, List, length, sum_by, map, drop, slice_get, Some, None, All, refl, sym, ap, ◌∙◌, subst, arith}
+use Rattle.std.proofs.Common.{rules, ◌≡◌, ◌<◌, ◌≤◌, ◌+◌, ◌-◌, ◌∷◌, [], ℕ, zero, suc, inl, inr, List, length, sum_by, map, drop, slice_get, Some, None, All, refl, sym, ap, ◌∙◌, subst, arith}
 use Rattle.std.proofs.lemmas.List.{length-map, length-drop}
 use Rattle.std.proofs.lemmas.Option.{same_Some, none-some, slice_get_within}
 use Rattle.rh_state.specs.StateView.{StateView}
@@ -10,15 +10,15 @@ use Rattle.rh_explore.specs.declared.space.Space.{Space}
 use Rattle.rh_keys.specs.Codes.{code}
 use Rattle.rh_explore.specs.Failures.{AreFailures}
 use Rattle.rh_keys.specs.Packed.{packed_key}
-use Rattle.rh_explore.specs.Exploring.{scope_of, key_length}
+use Rattle.rh_explore.specs.Exploring.{scope_of, key_length, HadRoom}
 use Rattle.rh_explore.specs.Reaching.{Scope}
-use Rattle.rh_explore.specs.Spaces.{Seen, IsSearched, IsNear}
-use Rattle.rh_explore.specs.Kept.{seen_by, seen_of, states_of, AreLinked, parent_by, parents_of, waiting_in}
+use Rattle.rh_explore.specs.Spaces.{Seen, states_of, IsSearched, IsNear, AreInTurn}
+use Rattle.rh_explore.specs.Kept.{seen_by, seen_of, AreLinked, parent_by, parents_of, waiting_in}
 use Rattle.rh_explore.proofs.Begun.{base_near, base_few, at_true, at_false}
-use Rattle.rh_keys.proofs.Places.{there_of}
+use Rattle.rh_keys.proofs.Places.{at_of, there_of}
 use Rattle.rh_explore.proofs.PathsTo.{path_at, seen_there, found_stays, depth_is, drop_first, length-seen}
-use Rattle.rh_explore.proofs.Reached.{begun, done_next, near_next, few_more, searched_still, near_still, never_cut, up_to}
-use Rattle.rh_explore.proofs.Searched.{base_searched}
+use Rattle.rh_explore.proofs.Reached.{begun, done_next, near_next, few_more, searched_still, near_still, never_cut, cut_behind, up_to}
+use Rattle.rh_explore.proofs.Searched.{base_searched, ordered_at}
 use Rattle.rh_explore.proofs.space.search.Goals as goal
 
 abbrev first : Found
@@ -46,8 +46,11 @@ states-init c =
         codes = of.keys ∙ ap (λ (s : List Seen). map (λ x. code (packed_key x.state)) s) (sym is);
         failures = subst (λ (s : List Seen). AreFailures c.args.pick space.failures.firsts.items space.failures.left.items c.args.asks.now (states_of s)) (sym is) of.failures;
         calm = of.calm;
-        bytes = of.bytes ∙ alone ∙ sym (ap (sum_by (λ (x : Seen). key_length x.state)) is);
+        bytes = of.bytes ∙ alone ∙ sym (ap (λ (s : List Seen). sum_by key_length (states_of s)) is);
+        in_turn = subst (AreInTurn w) (sym is) (λ k y some at. absurd (omega (arith, some, slice_get_within (record { path = []; state = base } ∷ []) k y at)));
+        room = subst (λ (s : List Seen). HadRoom c.args.bounds.now (states_of s)) (sym is) (λ k some l. absurd (omega (arith, some, l)));
       };
+      spent = λ k x l. absurd (omega (arith, l));
       front = record { idle = of.idle; waiting = of.front ∙ ap (parents_of w) (sym is) };
       searched = subst (λ (seen : List Seen). IsSearched w seen 0) (sym is) (base_searched w c.requires);
       near = subst (λ (seen : List Seen). IsNear seen 0) (sym is) (base_near base);
@@ -98,6 +101,24 @@ returns-then-depth-bounds-clause-searched c =
       c.states.invariant.near,
       up_to w (seen_of w found) next x here c.args.bounds.now.steps c.states.invariant.searched (omega (arith, c.if-depth-bounds.true, deep)),
     )
+
+pub returns-then-depth-bounds-clause-end : goal.returns-then-depth-bounds-clause-end
+returns-then-depth-bounds-clause-end c = λ last last_is.
+    let w = scope_of c.args.base.now c.args.pick c.args.moves.now c.args.bounds.now in
+    let found : List Found = c.states.space.found.items in
+    let next = c.states.next in
+    let k = c.states.invariant.kept in
+    let t = taken w c.states.space c.take_up.new.self next c.states.invariant.front.waiting (at_true c.take_up.result _ _ c.states-test.true c.take_up.ensures.waiting) in
+    let within : next < length found = within_of w found next (read c.take_up.new.self.probe.state) t.0 in
+    let f : Found = c.index.result.now in
+    let there : slice_get found next ≡ Some f = there_of found next f within c.index.ensures in
+    let seen = seen_of w found in
+    let x : Seen = seen_by w (path_at found next) in
+    let here : slice_get seen next ≡ Some x = seen_there w found next f there in
+    let deep : f.depth ≡ length x.path = depth_is found next f k.linked there in
+    let few = at_of (λ (y : Seen). length y.path ≤ c.args.bounds.now.steps) seen (length found - 1) last c.states.invariant.few last_is in
+    let order = ordered_at w seen next c.states.invariant.searched next (length found - 1) x last (omega (arith, within)) here last_is in
+    inl (refl, omega (arith, few, order, deep, c.if-depth-bounds.true))
 
 pub visit-requires-clause-short : goal.visit-requires-clause-short
 visit-requires-clause-short c =
@@ -191,8 +212,28 @@ returns-then-not-all-clause-covers c = λ few small below.
     let deep : f.depth ≡ length x.path = depth_is new next f c.in_ok-all.ensures.kept.linked there in
     let short : length x.path < c.args.bounds.now.steps = omega (arith, c.if-depth-bounds.false, deep) in
     let cut = at_false c.in_ok-all.all _ _ c.if-not-all.true c.in_ok-all.ensures.made in
-    absurd (never_cut w seen next x here cut.0 c.args.bounds.now.steps c.args.bounds.now cut.1 cut.2 (omega (arith, few, length-seen w new))
+    absurd (never_cut w seen next x here cut.0 c.args.bounds.now.steps c.args.bounds.now cut.1 cut.2
+    (omega (arith, few, length-seen w new, length-map seen (λ (y : Seen). y.state)))
     (omega (arith, small, c.in_ok-all.ensures.kept.bytes)) short below)
+
+pub returns-then-not-all-clause-end : goal.returns-then-not-all-clause-end
+returns-then-not-all-clause-end c = λ last last_is.
+    let w = scope_of c.args.base.now c.args.pick c.args.moves.now c.args.bounds.now in
+    let found : List Found = c.states.space.found.items in
+    let next = c.states.next in
+    let k = c.states.invariant.kept in
+    let t = taken w c.states.space c.take_up.new.self next c.states.invariant.front.waiting (at_true c.take_up.result _ _ c.states-test.true c.take_up.ensures.waiting) in
+    let within : next < length found = within_of w found next (read c.take_up.new.self.probe.state) t.0 in
+    let f : Found = c.index.result.now in
+    let new : List Found = c.visit.new.self.found.items in
+    let there : slice_get new next ≡ Some f = found_stays found new next f c.in_ok-all.ensures.grown (there_of found next f within c.index.ensures) in
+    let seen = seen_of w new in
+    let x : Seen = seen_by w (path_at new next) in
+    let here : slice_get seen next ≡ Some x = seen_there w new next f there in
+    let deep : f.depth ≡ length x.path = depth_is new next f c.in_ok-all.ensures.kept.linked there in
+    let cut = at_false c.in_ok-all.all _ _ c.if-not-all.true c.in_ok-all.ensures.made in
+    let b = cut_behind w seen next x here cut.0 c.args.bounds.now cut.1 cut.2 in
+    inr (omega (arith, c.if-depth-bounds.false), x.path, b.0, b.1, sym deep, b.2)
 
 pub overflow_add-next : goal.overflow_add-next
 overflow_add-next c =
@@ -241,6 +282,7 @@ states-preserved c =
       searched = done_next w seen next x here so;
       near = near_next w seen next x here count so;
       few = few_more w seen next x here count c.args.bounds.now.steps so short;
+      spent = λ j y l at. let order = ordered_at w seen next (searched_still w seen next x here count so) j next y x (omega (arith, l)) at here in omega (arith, order, short);
       room = omega (arith, room, before);
     }
 
@@ -253,3 +295,15 @@ returns-clause-searched c =
     let left = length-drop c.states.next (parents_of w seen) in
     let parents = length-map seen (parent_by w) in
     (c.states.next, c.states.invariant.searched, c.states.invariant.near, omega (arith, empty, left, parents))
+
+pub returns-clause-end : goal.returns-clause-end
+returns-clause-end c = λ x last.
+    let w = scope_of c.args.base.now c.args.pick c.args.moves.now c.args.bounds.now in
+    let found : List Found = c.states.space.found.items in
+    let seen = seen_of w found in
+    let none = at_false c.take_up.result _ _ c.states-test.false c.take_up.ensures.waiting in
+    let empty = ap (λ (l : List StateView). length l) (sym none ∙ c.states.invariant.front.waiting) in
+    let left = length-drop c.states.next (parents_of w seen) in
+    let parents = length-map seen (parent_by w) in
+    let within = slice_get_within seen (length found - 1) x last in
+    c.states.invariant.spent (length found - 1) x (omega (arith, empty, left, parents, within, length-seen w found)) last

@@ -1,4 +1,4 @@
-use Rattle.std.proofs.Common.{◌++◌, List, ℕ, Ok, Err, subst}
+use Rattle.std.proofs.Common.{subst}
 use Rattle.std.proofs.lemmas.Result.{err_from_is_err_and}
 use Rattle.rh_model.specs.ClusterView.{ClusterView}
 use Rattle.rh_script.specs.Lines.{script_lines}

@@ -1,4 +1,4 @@
-use Rattle.std.proofs.Common.{◌++◌, List, ℕ, Ok, Err, refl, subst}
+use Rattle.std.proofs.Common.{refl}
 use Rattle.std.proofs.lemmas.Result.{err_from_is_err_and}
 use Rattle.rh_devices.proofs.Passing.{fault_before, fault_behind, passed_more}
 use Rattle.rh_json_lines.specs.AnswerLines.{bad_json}

@@ -25,7 +25,7 @@ returns-clause-found c =
       down = search.down;
     } in
     is_found w here search.steps c.args.room c.as_slice-asks.result.now search.asks.items found scopes c.as_slice-asks.ensures.value
-    c.in_ok-found.ensures.verdicts c.in_ok-found.ensures.states c.in_ok-found.ensures.deepest c.in_ok-found.ensures.covers
+    c.in_ok-found.ensures
 
 pub returns-clause-come : goal.returns-clause-come
 returns-clause-come c =
@@ -35,4 +35,4 @@ returns-clause-come c =
     let bounds : Bounds = record { down = search.down; steps = search.steps; states = c.args.room.states; mebibytes = c.args.room.mebibytes } in
     let w = scope_of c.state.result.now pick c.as_slice-moves.result.now bounds in
     subst (λ (s : StateView). All (CanCome pick s) found.verdicts.items) c.state.ensures.state
-    (all_can_come w bounds.steps found.covered c.as_slice-asks.result.now found.verdicts.items c.in_ok-found.ensures.verdicts)
+    (all_can_come w bounds.steps found.covered c.in_ok-found.ensures.found c.as_slice-asks.result.now found.verdicts.items c.in_ok-found.ensures.verdicts)

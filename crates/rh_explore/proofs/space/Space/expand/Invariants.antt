@@ -7,7 +7,7 @@ use Rattle.rh_explore.proofs.space.Space.expand.Given as goal
 
 abbrev pub invariant-moves : goal.invariant-moves
 invariant-moves l = record {
-  kept : IsKept (scope_of l.base l.pick l.moves l.bounds) l.asks l.self;
+  kept : IsKept (scope_of l.base l.pick l.moves l.bounds) l.bounds l.asks l.self;
   short : IsShort l.bounds l.self.found.items l.at;
   expanded : IsExpandedAt (scope_of l.base l.pick l.moves l.bounds) (seen_of (scope_of l.base l.pick l.moves l.bounds) l.self.found.items) l.at l.one-index;
   untried : IsUntried l.self.front.probe (seen_of (scope_of l.base l.pick l.moves l.bounds) l.self.found.items) l.at;

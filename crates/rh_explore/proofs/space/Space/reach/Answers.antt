@@ -1,4 +1,4 @@
-use Rattle.std.proofs.Common.{◌≡◌, ◌⊎◌, ◌<◌, ◌≤◌, ◌+◌, length, ◌++◌, ◌∷◌, [], ℕ, List, refl, slice_get, Some, inl, inr, sym, ap, ◌∙◌, subst, arith}
+use Rattle.std.proofs.Common.{◌≡◌, ◌⊎◌, Bool, true, false, ◌<◌, ◌≤◌, ◌+◌, length, ◌++◌, ◌∷◌, [], ℕ, List, refl, slice_get, Some, inl, inr, sym, ap, ◌∙◌, subst, arith}
 use Rattle.std.specs.Prelude.{Contains}
 use Rattle.std.proofs.lemmas.List.{length-map}
 use Rattle.std.proofs.lemmas.Option.{same_Some, slice_get_within}
@@ -19,25 +19,40 @@ use Rattle.rh_explore.specs.Reaching.{Scope}
 use Rattle.std.proofs.lemmas.Bool.{cases_lt}
 use Rattle.rh_keys.specs.Codes.{code}
 use Rattle.rh_explore.specs.declared.moves.Move.{Move}
-use Rattle.rh_explore.specs.Exploring.{scope_of, most_bytes}
+use Rattle.rh_explore.specs.Exploring.{scope_of, most_bytes, IsFull}
 use Rattle.rh_explore.specs.Moves.{event_in}
 use Rattle.rh_explore.specs.Failures.{AreFailures}
 use Rattle.rh_keys.specs.Packed.{packed_key}
-use Rattle.rh_explore.specs.Spaces.{Seen, StepsTo, IsExpandedAt, IsFull}
-use Rattle.rh_explore.specs.Kept.{path_by, paths_of, seen_by, seen_of, states_of, codes_of, bytes_of, AreLinked, IsKept}
+use Rattle.rh_explore.specs.Spaces.{Seen, states_of, StepsTo, IsExpandedAt, IsFoundInTurn}
+use Rattle.rh_explore.specs.Kept.{path_by, paths_of, seen_by, seen_of, codes_of, bytes_of, AreLinked, IsKept}
 use Rattle.rh_trace.specs.Validity.{IsValid}
 use Rattle.rh_explore.proofs.PathsTo.{path_at, seen_there, seen_push, linked_push, length-seen}
 use Rattle.rh_explore.proofs.OneMore.{more_is, kept_more}
 use Rattle.rh_explore.proofs.Parents.{family_none, family_one}
 use Rattle.rh_keys.proofs.Places.{there_of}
-use Rattle.rh_explore.proofs.Reached.{no_event, not_there, at_limit, known, added}
+use Rattle.rh_explore.proofs.Reached.{no_event, not_there, at_limit, known, too_many, turn, added}
 use Rattle.rh_explore.proofs.space.Space.reach.Goals as goal
 
 -- there is no room, as it is said of what was found
-full : (w : Scope) (space : Space) (asks : List Ask) (bounds : Bounds) → IsKept w asks space
-    → (bounds.states ≤ length space.found.items) ⊎ (most_bytes bounds ≤ space.bytes) → IsFull bounds (seen_of w space.found.items)
-full w space asks bounds kept (inl l) = inl (omega (arith, l, length-seen w space.found.items))
+full : (w : Scope) (space : Space) (asks : List Ask) (bounds : Bounds) → IsKept w bounds asks space
+    → (bounds.states ≤ length space.found.items) ⊎ (most_bytes bounds ≤ space.bytes) → IsFull bounds (states_of (seen_of w space.found.items))
+full w space asks bounds kept (inl l) =
+    inl (omega (arith, l, length-map (seen_of w space.found.items) (λ (x : Seen). x.state), length-seen w space.found.items))
 full w space asks bounds kept (inr l) = inr (omega (arith, l, kept.bytes))
+
+-- there is room
+room_left : (bounds : Bounds) (found : List Found) (bytes : ℕ) (full : Bool) → ((bounds.states ≤ length found) ⊎ (most_bytes bounds ≤ bytes) → full ≡ true)
+    → full ≡ false → (length found < bounds.states) × (bytes < most_bytes bounds)
+room_left bounds found bytes full so not = (
+  elim (cases_lt (length found) bounds.states) [
+    | inl l ↦ l
+    | inr l ↦ absurd (both full (so (inl l)) not)
+  ],
+  elim (cases_lt bytes (most_bytes bounds)) [
+    | inl l ↦ l
+    | inr l ↦ absurd (both full (so (inr l)) not)
+  ],
+)
 
 pub returns-in_default-clause-made : goal.returns-in_default-clause-made
 returns-in_default-clause-made c = λ made is so.
@@ -76,9 +91,9 @@ returns-in-AtLimit-clause-made c = λ made is so.
     let s = read c.args.self.now.front.probe.state in
     let t = read c.make.new.self.state in (
       so,
-      inr (at_limit w seen c.args.at u.0 u.1 m made is so e now t
+      at_limit w seen c.args.at u.0 u.1 m made is so e now c.args.bounds.now t
           (subst (λ (z : StateView). StepsTo c.args.pick c.args.bounds.now.down z e AtLimit t) u.2
-          (subst (λ (v : Way). StepsTo c.args.pick c.args.bounds.now.down s e v t) c.in-AtLimit.is c.in_ok-way.ensures.way))),
+          (subst (λ (v : Way). StepsTo c.args.pick c.args.bounds.now.down s e v t) c.in-AtLimit.is c.in_ok-way.ensures.way)),
     )
 
 pub returns-then-has_made-clause-made : goal.returns-then-has_made-clause-made
@@ -121,7 +136,21 @@ overflow_add-found c =
 pub returns-then-is_full-clause-made : goal.returns-then-is_full-clause-made
 returns-then-is_full-clause-made c = λ made is so.
     let w = scope_of c.args.base.now c.args.pick c.args.moves.now c.args.bounds.now in
-    (so, inl (full w c.args.self.now c.args.asks.now c.args.bounds.now c.requires.kept (c.is_full.ensures.0 c.if-is_full.true)))
+    let seen = seen_of w c.args.self.now.found.items in
+    let u = c.requires.untried.here in
+    let m : Move = c.args.one in
+    let e : Event = c.in-Some.event in
+    let now : event_in u.0.state m ≡ Some e = ap (λ z. event_in z m) (sym u.2) ∙ sym c.event_in.ensures ∙ c.in-Some.is in
+    let s = read c.args.self.now.front.probe.state in
+    let t = read c.make.new.self.state in (
+      so,
+      too_many w seen c.args.at u.0 u.1 m made is so e now t
+          (subst (λ (z : StateView). StepsTo c.args.pick c.args.bounds.now.down z e To t) u.2
+          (subst (λ (v : Way). StepsTo c.args.pick c.args.bounds.now.down s e v t) c.in-To.is c.in_ok-way.ensures.way))
+          (λ has. both c.has_made.result (c.has_made.ensures.1 (subst (λ (l : List (List ℕ)). Contains l c.make-2.new.self.key.bytes.items) (sym c.requires.kept.codes)
+          (subst (λ (q : List ℕ). Contains (codes_of seen) q) (sym c.in_ok-make.ensures.key) has))) c.if-has_made.false)
+          c.args.bounds.now (full w c.args.self.now c.args.asks.now c.args.bounds.now c.requires.kept (c.is_full.ensures.0 c.if-is_full.true)),
+    )
 
 pub returns-then-is_full-clause-family : goal.returns-then-is_full-clause-family
 returns-then-is_full-clause-family c =
@@ -129,11 +158,7 @@ returns-then-is_full-clause-family c =
 
 pub push-requires-clause-few : goal.push-requires-clause-few
 push-requires-clause-few c =
-    let small : c.args.self.now.bytes < most_bytes c.args.bounds.now =
-    elim (cases_lt c.args.self.now.bytes (most_bytes c.args.bounds.now)) [
-      | inl l ↦ l
-      | inr l ↦ both c.is_full.result (c.is_full.ensures.1 (inr l)) c.if-is_full.false
-    ] in
+    let small = (room_left c.args.bounds.now c.args.self.now.found.items c.args.self.now.bytes c.is_full.result c.is_full.ensures.1 c.if-is_full.false).1 in
     omega (arith, small, c.ranges)
 
 pub push-requires-clause-valid : goal.push-requires-clause-valid
@@ -168,7 +193,16 @@ returns-clause-kept c =
     let y : Seen = seen_by w (path_by (paths_of found) g.last) in
     let y_state : t ≡ y.state = steps.2 ∙ sym (ap (λ (z : Seen). z.state) (more_is w found at e g refl)) in
     let told : read c.make-2.new.state ≡ y.state = ap read c.in_ok-make.ensures.state ∙ y_state in
-    kept_more w c.args.asks.now c.args.self.now _ y c.requires.kept
+    let b = c.requires.begun in
+    let x_here : slice_get seen at ≡ Some x = seen_there w found at f there in
+    let now : event_in x.state c.args.one ≡ Some e =
+    ap (λ z. event_in z c.args.one) (sym (u.2 ∙ ap (λ (z : Seen). z.state) x_is)) ∙ sym c.event_in.ensures ∙ c.in-Some.is in
+    let y_is : record { path = x.path ++ e ∷ []; state = t } ≡ y =
+    (λ i. record { path = x.path ++ e ∷ []; state = steps.2 i }) ∙ sym (more_is w found at e g refl) in
+    let turn = turn w seen at x x_here c.args.one b.0 b.1 b.2 e now t steps
+    (λ has. both c.has_made.result (c.has_made.ensures.1 (subst (λ (l : List (List ℕ)). Contains l c.make-2.new.self.key.bytes.items) (sym c.requires.kept.codes)
+    (subst (λ (q : List ℕ). Contains (codes_of seen) q) (sym c.in_ok-make.ensures.key) has))) c.if-has_made.false) in
+    kept_more w c.args.bounds.now c.args.asks.now c.args.self.now _ y c.requires.kept
     (subst AreLinked (sym c.in_ok-push.ensures.found) (linked_push found f g at e c.requires.kept.linked there refl refl))
     (ap (seen_of w) c.in_ok-push.ensures.found ∙ seen_push w found g)
     (c.in_ok-push.ensures.keys ∙ ap (λ (k : List ℕ). bytes_of c.args.self.now ++ k ∷ []) (c.in_ok-key.ensures ∙ c.in_ok-make.ensures.key ∙ ap (λ (z : StateView). code (packed_key z)) y_state))
@@ -177,6 +211,9 @@ returns-clause-kept c =
     c.in_ok-push.ensures.calm
     (c.in_ok-push.ensures.bytes
     ∙ ap (λ (q : List ℕ). c.args.self.now.bytes + length q) (c.in_ok-key.ensures ∙ c.in_ok-make.ensures.key ∙ ap (λ (z : StateView). code (packed_key z)) y_state))
+    (subst (IsFoundInTurn w seen) y_is turn)
+    (room_left c.args.bounds.now c.args.self.now.found.items c.args.self.now.bytes c.is_full.result c.is_full.ensures.1 c.if-is_full.false).0
+    (room_left c.args.bounds.now c.args.self.now.found.items c.args.self.now.bytes c.is_full.result c.is_full.ensures.1 c.if-is_full.false).1
 
 pub returns-clause-made : goal.returns-clause-made
 returns-clause-made c = λ made is so.
