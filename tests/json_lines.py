@@ -303,35 +303,39 @@ def check_run(program, options, data):
             assert_times(program, options, text, commands)
 
 
-def check_sweep(program, options, data):
-    """The lines of a sweep tell what `sweep` prints, its base what `run --json` tells of it, and workers make no difference."""
-    lines, status = told_by(program, "sweep", options, data)
-    plain = run(program, ["sweep", *options], input=data)
+def told_as_printed(program, word, options, data, text_of):
+    """The lines of a program, and how it ends. They tell what it prints without --json, and the first one is that of `check`."""
+    lines, status = told_by(program, word, options, data)
+    plain = run(program, [word, *options], input=data)
     assert status == plain.returncode, f"status {status}, without --json {plain.returncode}"
-    assert sweep_text(lines) == plain.stdout.decode(), "it isn't what `sweep` prints"
+    assert text_of(lines) == plain.stdout.decode(), f"it isn't what `{word}` prints"
     [line], _ = told_by(program, "check", [], data)
     assert line == lines[0], "the first line isn't that of `check`"
+    return lines, status
+
+
+def check_base(program, options, data, lines, *words):
+    """The lines of the base, behind which one begins with one of these words, are those of `run --json`."""
+    if "refused" in lines[0] or "bad" in lines[-1]:
+        return
+    base, _ = base_and_plans(lines)
+    text = base_of(data.decode(errors="surrogateescape"), *words)
+    told = told_by(program, "run", options, text.encode(errors="surrogateescape"))[0]
+    assert told == [lines[0], *base], "the base isn't that of `run`"
+
+
+def check_sweep(program, options, data):
+    """The lines of a sweep tell what `sweep` prints, its base what `run --json` tells of it, and workers make no difference."""
+    lines, status = told_as_printed(program, "sweep", options, data, sweep_text)
     others = without(options, "--workers")
     assert told_by(program, "sweep", [*others, "--workers", "5"], data) == (lines, status), "by five workers other lines are told"
-    if "refused" not in line and "bad" not in lines[-1]:
-        base, _ = base_and_plans(lines)
-        text = base_of(data.decode(errors="surrogateescape"), "plan")
-        assert told_by(program, "run", others, text.encode(errors="surrogateescape"))[0] == [line, *base], "the base isn't that of `run`"
+    check_base(program, others, data, lines, "plan")
 
 
 def check_explore(program, options, data):
     """The lines of a search tell what `explore` prints, and its base what `run --json` tells of it."""
-    lines, status = told_by(program, "explore", options, data)
-    plain = run(program, ["explore", *options], input=data)
-    assert status == plain.returncode, f"status {status}, without --json {plain.returncode}"
-    assert explore_text(lines) == plain.stdout.decode(), "it isn't what `explore` prints"
-    [line], _ = told_by(program, "check", [], data)
-    assert line == lines[0], "the first line isn't that of `check`"
-    if "refused" not in line and "bad" not in lines[-1]:
-        base, _ = base_and_plans(lines)
-        text = base_of(data.decode(errors="surrogateescape"), "may", "down", "steps", "ask")
-        others = without(without(options, "--states"), "--memory")
-        assert told_by(program, "run", others, text.encode(errors="surrogateescape"))[0] == [line, *base], "the base isn't that of `run`"
+    lines, _ = told_as_printed(program, "explore", options, data, explore_text)
+    check_base(program, without(without(options, "--states"), "--memory"), data, lines, "may", "down", "steps", "ask")
 
 
 def finding_text(line):
