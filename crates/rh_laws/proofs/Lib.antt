@@ -1,3 +1,4 @@
+pub mod ClockAlone
 pub mod FailsOver
 pub mod Apart
 pub mod OneAnswer

@@ -1,5 +1,5 @@
 -- Laws of whole steps, in the field's own words (ours).
-use Rattle.std.specs.Prelude.{◌≡◌, ◌≢◌, ◌≤◌, ◌+◌, ◌++◌, ◌↔◌, ℕ, true, List, [], ◌∷◌, fold, All}
+use Rattle.std.specs.Prelude.{◌≡◌, ◌≢◌, ◌<◌, ◌≤◌, ◌+◌, ◌++◌, ◌↔◌, ℕ, true, List, [], ◌∷◌, fold, All}
 use Rattle.std.specs.Prelude.{AllPairs, Option, Some, None, IsSome}
 use Rattle.std.specs.List.{filter}
 use Rattle.rh_model.specs.ClusterView.{ClusterView, group_of}
@@ -9,6 +9,7 @@ use Rattle.rh_model.specs.declared.settings.Restart.{Restart}
 use Rattle.rh_state.specs.declared.status.Standing.TheVariants.{Running, Lost}
 use Rattle.rh_state.specs.declared.status.Timer.TheVariants.{Failover}
 use Rattle.rh_state.specs.Numbers.{nodes_of}
+use Rattle.rh_state.specs.Setters.{with_time}
 use Rattle.rh_state.specs.StateView.{StateView, runs_at, is_started, standing_of, due_of}
 use Rattle.rh_rules.specs.declared.pick.Pick.{Pick}
 use Rattle.rh_rules.specs.declared.pick.Pick.TheVariants.{First, Last}
@@ -25,6 +26,13 @@ use Rattle.rh_rules.specs.Steps.{change, Allowed, Outcome, outcome, outcome_of, 
 use Rattle.rh_rules.specs.NodesStart.{ready_come_up}
 use Rattle.rh_rules.specs.Everywhere.{targets}
 use Rattle.rh_rules.specs.Refusals.{refused}
+
+-- while no timer is due a tick moves the clock alone, and tells nothing: nothing comes of time itself
+-- (kernel(6), sync_nodes_timeout, distributed)
+abbrev pub OnlyTheClockMoves : Type 0
+OnlyTheClockMoves =
+    (s : StateView) (ms : ℕ) (pick : Pick) → All (λ entry. s.time + ms < entry.0) s.timers
+    → next s (Tick ms) pick ≡ outcome (with_time s (s.time + ms)) []
 
 -- an application runs at a node, and stands so
 abbrev pub RunsAgain : StateView → App → Type 0

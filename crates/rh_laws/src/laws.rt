@@ -1,8 +1,13 @@
 //! Laws of the definitions of a step, of a report and of what is found in a step. Each function does nothing: its contract is the law.
 
-ghost use Rattle.rh_laws.specs.Laws.{FailsOverInTime, PlacedAtBestNodes, OneAnswer, StartAllIsStarts, StopAllIsStops};
+ghost use Rattle.rh_laws.specs.Laws.{OnlyTheClockMoves, FailsOverInTime, PlacedAtBestNodes, OneAnswer, StartAllIsStarts, StopAllIsStops};
 ghost use Rattle.rh_laws.specs.Reports.{DueWithinLimits, ReportTellsState};
 ghost use Rattle.rh_laws.specs.Readiness.{ComesUpIfReady};
+
+/// While no timer is due, a tick moves the clock alone, and tells nothing.
+pub fn only_the_clock_moves()
+    ensures { OnlyTheClockMoves }
+{}
 
 /// An application that was lost runs again behind a tick that reaches its timer, if a node of its list can run it then.
 pub fn fails_over_in_time()
