@@ -4,8 +4,8 @@
 The table has a row for each input: the subcommand, what the input is, its size in MiB, the exit status, the seconds, those of
 all processors together, and the peak memory in MiB. First come rehearsals of a cluster of 32 nodes and 64 applications, each of
 which is distributed over eight nodes, and sweeps of 20,000 plans of 10 to 30 events from a base of 100 steps; then those of
-64 nodes and 128 applications in the second profile. Then come the inputs of hostile_texts.py, which are made to take long or
-much memory. Where words are given, these are the rows whose text has them all.
+64 nodes and 128 applications in the second profile, and searches through all failures of small clusters. Then come the inputs of
+hostile_texts.py, which are made to take long or much memory. Where words are given, these are the rows whose text has them all.
 
 A run is ended after 20 seconds, and is refused memory behind 4 GiB; its output is thrown away. Nothing is asserted: the times
 depend on the machine. With --against another program that takes the same command line is measured in turn with this one
@@ -19,6 +19,7 @@ import tempfile
 
 import against
 import hostile_texts
+from explored import whole_search
 from hostile_texts import MIB
 from support import chain
 
@@ -116,6 +117,12 @@ def rehearsals(kind, front, node_count, app_count):
             text + steps(nodes, node_count + 68) + plans(nodes, 20_000))
 
 
+def searches():
+    """Triples as those of hostile_texts.py: searches through all crashes and boots, while time passes in steps of a second."""
+    for name, what in (("examples/any-failures.txt", "1,755 states of three nodes"), ("tests/clusters/six-nodes.txt", "250,130 states of six nodes")):
+        yield ["explore"], what, lambda name=name: whole_search(name).encode()
+
+
 # Runs the program from a process that is small: a peak counts that of the process that it began as.
 MEASURING = """
 import os, resource, subprocess, sys, time
@@ -150,6 +157,7 @@ def measured(program, text, words):
 def rows():
     yield from rehearsals("a large cluster", b"", 32, 64)
     yield from rehearsals("the second profile", b"{profile, 2}.\n", 64, 128)
+    yield from searches()
     yield from hostile_texts.texts()
 
 

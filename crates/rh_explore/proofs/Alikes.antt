@@ -7,6 +7,7 @@ use Rattle.rh_base.proofs.Lists.{cases}
 use Rattle.rh_base.proofs.Truths.{or_left, or_right, same_number}
 use Rattle.rh_trace.proofs.NextMoves.{left_true, right_true}
 use Rattle.std.proofs.lemmas.Bool.Decides.{nat_tests}
+use Rattle.rh_state.specs.declared.status.Kind.{Kind}
 use Rattle.rh_state.specs.declared.status.Timer.{Timer}
 use Rattle.rh_state.specs.Limits.{time_limit}
 use Rattle.rh_state.specs.StateView.{StateView}
@@ -19,6 +20,7 @@ use Rattle.rh_keys.specs.ShiftLaws.{meets_limit}
 use Rattle.rh_keys.specs.Shifts.{seen_from, timeless, Alike}
 use Rattle.rh_keys.proofs.Accepting.{alike_accept_alike}
 use Rattle.rh_keys.proofs.GoingOn.{next_commutes_with_shifts}
+use Rattle.rh_keys.proofs.Reading.{other}
 use Rattle.rh_trace.specs.Validity.{IsValid}
 use Rattle.rh_trace.proofs.Entries.{is_below}
 use Rattle.rh_step.proofs.Validity.{next_valid}
@@ -72,15 +74,20 @@ timer_seen : (now : ℕ) (timers : List (ℕ × Timer)) → is_some (slice_get (
 timer_seen now [] = refl
 timer_seen now (x ∷ xs) = refl
 
-so_timeless : (s : StateView) (c : Condition) → is_so (timeless s) c ≡ is_so s c
-so_timeless s (RunsSomewhere a) = refl
-so_timeless s (RunsNowhere a) = refl
-so_timeless s (RunsAt a n) = refl
-so_timeless s (IsUp n) = refl
-so_timeless s (IsNotUp n) = refl
+-- that doesn't hang on the time, the timers, the incarnations and the start kinds
+module _ (s : StateView) (time : ℕ) (incarnations : List ℕ) (kinds : List (List Kind)) (timers : List (ℕ × Timer)) where
+  so_same : (c : Condition) → is_so (other s time incarnations kinds timers) c ≡ is_so s c
+  so_same (RunsSomewhere a) = refl
+  so_same (RunsNowhere a) = refl
+  so_same (RunsAt a n) = refl
+  so_same (IsUp n) = refl
+  so_same (IsNotUp n) = refl
+
+  pub met_same : (ask : Ask) → is_met ask (other s time incarnations kinds timers) ≡ is_met ask s
+  met_same ask = λ i. list_any (λ conditions. list_all (λ c. so_same c i) conditions.items) ask.any_of.items
 
 met_timeless : (ask : Ask) (s : StateView) → is_met ask (timeless s) ≡ is_met ask s
-met_timeless ask s = λ i. list_any (λ conditions. list_all (λ c. so_timeless s c i) conditions.items) ask.any_of.items
+met_timeless ask s = met_same s 0 [] [] (map (seen_from s.time) s.timers) ask
 
 met_alike : (ask : Ask) (s t : StateView) → Alike s t → is_met ask s ≡ is_met ask t
 met_alike ask s t alike = sym (met_timeless ask s) ∙ ap (is_met ask) alike ∙ met_timeless ask t
@@ -88,11 +95,11 @@ met_alike ask s t alike = sym (met_timeless ask s) ∙ ap (is_met ask) alike ∙
 timer_alike : (s t : StateView) → Alike s t → has_timer s ≡ has_timer t
 timer_alike s t alike = sym (timer_seen s.time s.timers) ∙ ap has_timer alike ∙ timer_seen t.time t.timers
 
-at_most : (n m : ℕ) → nat_le n m ≡ true → n ≤ m
+pub at_most : (n m : ℕ) → nat_le n m ≡ true → n ≤ m
 at_most n m t = grind (arith, nat_tests)
 
 -- below the limit of time a tick is accepted
-tick_accepted : (s : StateView) (n : ℕ) → 1 ≤ n → s.time + n ≤ time_limit → refused s (Tick n) ≡ None
+pub tick_accepted : (s : StateView) (n : ℕ) → 1 ≤ n → s.time + n ≤ time_limit → refused s (Tick n) ≡ None
 unfolding refused
 tick_accepted s n some few =
     let long : (n == 0) ≡ false = cases (n == 0) (λ t. absurd (omega (arith, some, same_number n 0 t))) (λ f. f) in

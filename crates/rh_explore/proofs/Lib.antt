@@ -17,4 +17,6 @@ pub mod Told
 pub mod Zips
 pub mod Begun
 pub mod GoesOn
+pub mod TimersLeft
+pub mod Between
 mod Rows

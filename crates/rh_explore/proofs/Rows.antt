@@ -1,19 +1,30 @@
 -- Worked rows: three nodes n1, n2 and n3, and a distributed application, web, which may run at all of them.
-use Rattle.std.proofs.Common.{◌≡◌, ◌≤◌, ℕ, zero, suc, true, false, Some, None, [], ◌∷◌, codes, slice_get, inl, inr, refl, ap, ◌∙◌, arith}
+use Rattle.std.proofs.Common.{◌≡◌, ◌≤◌, ◌+◌, ◌-◌, ℕ, zero, suc, true, false, Some, None, [], ◌∷◌, codes, slice_get, inl, inr, refl, ap, ◌∙◌, arith}
 use Rattle.std.proofs.lemmas.Option.{same_Some}
 use Rattle.rh_model.specs.ClusterView.{ClusterView, NodeView, numbered, app_numbered}
 use Rattle.rh_model.specs.declared.node.Node.{Node}
 use Rattle.rh_model.specs.declared.node.App.{App}
-use Rattle.rh_model.specs.declared.settings.SyncWait.TheVariants.{Unset}
+use Rattle.rh_model.specs.declared.settings.SyncWait.TheVariants.{After, Unset}
 use Rattle.rh_state.specs.Numbers.{nodes_of, apps_of}
 use Rattle.rh_state.specs.declared.status.Mode.TheVariants as mode
 use Rattle.rh_state.specs.declared.status.Kind.TheVariants as kind
 use Rattle.rh_state.specs.declared.status.Standing.TheVariants as standing
 use Rattle.rh_state.specs.declared.status.Timer.TheVariants.{Sync, Failover}
-use Rattle.rh_state.specs.First.{first}
+use Rattle.rh_state.specs.First.{configured, first}
+use Rattle.rh_state.specs.Limits.{time_limit}
 use Rattle.rh_state.specs.StateView.{StateView}
 use Rattle.rh_rules.specs.declared.event.Event.TheVariants.{Crash, Tick}
 use Rattle.rh_rules.specs.declared.pick.Pick.TheVariants.{First}
+use Rattle.rh_rules.specs.declared.refusal.Refusal.TheVariants.{TimeLimit}
+use Rattle.rh_rules.specs.Placing.{deps_run, is_operational, best, candidates}
+use Rattle.rh_rules.specs.Moves.{can_start, local_moves, placements, calls_away, takeovers}
+use Rattle.rh_rules.specs.Settling.{next_moves, moved_by, all_moved}
+use Rattle.rh_rules.specs.NodesStart.{all_alive, is_ready, come_up_if_ready, ready_come_up}
+use Rattle.rh_rules.specs.NodesEnd.{cleared, lost_if_ran, all_lost, ended}
+use Rattle.rh_rules.specs.Refusals.{refused}
+use Rattle.rh_rules.specs.Steps.{next}
+use Rattle.rh_rules.specs.Time.{fired, fired_by, all_fired, ticked}
+use Rattle.rh_step.specs.Runs.{step}
 use Rattle.rh_explore.specs.declared.moves.Move.{Move}
 use Rattle.rh_explore.specs.declared.moves.Move.TheVariants.{Make, Wait}
 use Rattle.rh_explore.specs.declared.asking.Condition.TheVariants.{RunsSomewhere, RunsNowhere, RunsAt, IsUp, IsNotUp}
@@ -122,6 +133,64 @@ row_up = refl
 
 row_unknown : is_so running (IsNotUp n4) ≡ true
 row_unknown = refl
+
+-- ---- what is to be met in time
+-- web was lost with n1, and waits at n3: from its timer on it runs there, and not a millisecond before
+abbrev failing_over : StateView
+failing_over = record (first cluster) {
+  modes = mode.Down ∷ mode.Down ∷ mode.Up ∷ [];
+  waiting = [] ∷ [] ∷ (web ∷ []) ∷ [];
+  standings = standing.Lost n1 ∷ [];
+  timers = (5000, Failover web) ∷ [];
+}
+
+row_before_its_timer : is_so (step First failing_over (Tick 4999)) (RunsAt web n3) ≡ false
+unfolding fired_by all_fired ticked next step
+row_before_its_timer = refl
+
+row_at_its_timer : is_so (step First failing_over (Tick 5000)) (RunsAt web n3) ≡ true
+unfolding nodes_of apps_of configured all_alive is_ready come_up_if_ready ready_come_up is_operational deps_run best candidates can_start local_moves
+    placements calls_away takeovers next_moves moved_by all_moved fired fired_by all_fired ticked next step
+row_at_its_timer = refl
+
+row_behind_its_timer : is_so (step First failing_over (Tick 9000)) (RunsAt web n3) ≡ true
+unfolding nodes_of apps_of configured all_alive is_ready come_up_if_ready ready_come_up is_operational deps_run best candidates can_start local_moves
+    placements calls_away takeovers next_moves moved_by all_moved fired fired_by all_fired ticked next step
+row_behind_its_timer = refl
+
+-- were web to stand as running at n2 while that waits for n1, the end of the wait would set a timer. Behind a tick to that one web runs
+-- at n3, and behind none to a timer of now that is due so soon: that a cluster reaches the state is needed. (In a tick at most as
+-- many timers fire as are set when it begins, so a second one is set here.)
+abbrev amiss : StateView
+amiss = record (first (record cluster { nodes = alone ∷ record alone { mandatory = n1 ∷ []; sync_wait = After 1200 } ∷ alone ∷ [] })) {
+  modes = mode.Down ∷ mode.Waiting ∷ mode.Up ∷ [];
+  waiting = [] ∷ [] ∷ (web ∷ []) ∷ [];
+  standings = standing.Running n2 ∷ [];
+  timers = (1200, Sync n2) ∷ (9000, Sync n1) ∷ [];
+}
+
+row_not_at_the_timer : is_so (step First amiss (Tick 1200)) (RunsAt web n3) ≡ false
+unfolding nodes_of apps_of configured all_alive is_ready come_up_if_ready ready_come_up cleared lost_if_ran all_lost ended is_operational deps_run best
+    candidates can_start local_moves placements calls_away takeovers next_moves moved_by all_moved fired fired_by all_fired ticked next step
+row_not_at_the_timer = refl
+
+row_at_another_tick : is_so (step First amiss (Tick 6200)) (RunsAt web n3) ≡ true
+unfolding nodes_of apps_of configured all_alive is_ready come_up_if_ready ready_come_up cleared lost_if_ran all_lost ended is_operational deps_run best
+    candidates can_start local_moves placements calls_away takeovers next_moves moved_by all_moved fired fired_by all_fired ticked next step
+row_at_another_tick = refl
+
+-- where the limit of time is nearer than the timer, the tick that would reach it is refused: that the limit lets it wait is needed
+abbrev at_the_limit : StateView
+at_the_limit = record failing_over { time = time_limit - 100; timers = (time_limit + 50, Failover web) ∷ [] }
+
+row_past_the_limit : refused at_the_limit (Tick 150) ≡ Some TimeLimit
+unfolding refused
+row_past_the_limit = refl
+
+row_met_past_it : is_so (step First at_the_limit (Tick 150)) (RunsAt web n3) ≡ true
+unfolding nodes_of apps_of configured all_alive is_ready come_up_if_ready ready_come_up is_operational deps_run best candidates can_start local_moves
+    placements calls_away takeovers next_moves moved_by all_moved fired fired_by all_fired ticked next step
+row_met_past_it = refl
 
 -- ---- how many are not up
 row_two_not_up : not_up_count lost ≡ 2

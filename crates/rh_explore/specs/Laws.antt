@@ -1,7 +1,9 @@
 -- Laws of what is reached (ours).
-use Rattle.std.specs.Prelude.{◌≡◌, ◌≤◌, ◌+◌, ℕ, List, map, Option, Some, None, All}
+use Rattle.std.specs.Prelude.{◌≡◌, ◌⊎◌, ◌↔◌, ◌<◌, ◌≤◌, ◌+◌, ℕ, true, List, map, Option, Some, None, All}
 use Rattle.rh_state.specs.StateView.{StateView}
 use Rattle.rh_rules.specs.declared.event.Event.{Event}
+use Rattle.rh_rules.specs.declared.event.Event.TheVariants.{Tick}
+use Rattle.rh_rules.specs.declared.pick.Pick.{Pick}
 use Rattle.rh_step.specs.Runs.{step}
 use Rattle.rh_trace.specs.Validity.{IsValid}
 use Rattle.rh_explore.specs.declared.answers.Explored.{Explored}
@@ -9,7 +11,7 @@ use Rattle.rh_explore.specs.declared.answers.Verdict.{Verdict}
 use Rattle.rh_explore.specs.declared.answers.Verdict.TheVariants.{Holds, Fails}
 use Rattle.rh_explore.specs.declared.asking.Ask.{Ask}
 use Rattle.rh_explore.specs.declared.bounds.Bounds.{Bounds}
-use Rattle.rh_explore.specs.Asking.{MayWait}
+use Rattle.rh_explore.specs.Asking.{MayWait, is_met, is_met_by}
 use Rattle.rh_explore.specs.Exploring.{IsAnswer, StaysBelowLimits}
 use Rattle.rh_explore.specs.Reaching.{Scope, MayCome, MayAllCome, Reaches, behind}
 
@@ -18,6 +20,17 @@ pub record ReachesGoOn : Type 0 where
   pub base : (w : Scope) → Reaches w 0 w.base
   pub more : (w : Scope) (n m : ℕ) (s : StateView) → n ≤ m → Reaches w n s → Reaches w m s
   pub further : (w : Scope) (n : ℕ) (s : StateView) (e : Event) → Reaches w n s → MayCome w s e → Reaches w (n + 1) (step w.pick s e)
+
+-- some tick of at most so many milliseconds leads to where what is asked is met
+abbrev pub IsMetBehindATick : Pick → Ask → ℕ → StateView → Type 0
+IsMetBehindATick pick ask ms s = (t : ℕ) × (0 < t) × (t ≤ ms) × (is_met ask (step pick s (Tick t)) ≡ true)
+
+-- what is to be met within so many milliseconds is met exactly where it is at once, or behind some tick of at most as many, where the
+-- limit of time lets it wait: what passes between two timers needn't be looked at
+abbrev pub IsMetInTime : Type 0
+IsMetInTime =
+    (s : StateView) (pick : Pick) (ask : Ask) (ms : ℕ) → IsValid s → MayWait (Some ms) s
+    → (is_met_by pick ask (Some ms) s ≡ true) ↔ ((is_met ask s ≡ true) ⊎ IsMetBehindATick pick ask ms s)
 
 -- the events that a verdict tells, if it tells any
 abbrev pub told_of : Verdict → Option (List Event)

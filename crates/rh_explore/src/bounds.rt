@@ -12,8 +12,8 @@ pub struct Bounds {
     pub steps: u32,
     /// At most so many states are kept, and at least the base.
     pub states: usize,
-    /// No more states are kept once the keys of those that are take so many mebibytes (1,048,576 bytes). What a search takes beside the
-    /// keys is mostly less.
+    /// No more states are kept once the keys of those that are take so many mebibytes (1,048,576 bytes). A search takes more than its
+    /// keys, up to six times as much where these are short.
     pub mebibytes: u32,
 }
 

@@ -19,5 +19,5 @@ mod trial;
 pub use answers::{Explored, Verdict, explore};
 pub use asking::{Ask, Condition};
 pub use bounds::{Bounds, Covered};
-pub use laws::{answers_are_one, reaches_go_on};
+pub use laws::{answers_are_one, reaches_go_on, within_is_met_in_time};
 pub use moves::Move;
