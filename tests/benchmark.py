@@ -119,8 +119,10 @@ def rehearsals(kind, front, node_count, app_count):
 
 def searches():
     """Triples as those of hostile_texts.py: searches through all crashes and boots, while time passes in steps of a second."""
-    for name, what in (("examples/any-failures.txt", "1,755 states of three nodes"), ("tests/clusters/six-nodes.txt", "250,130 states of six nodes")):
-        yield ["explore"], what, lambda name=name: whole_search(name).encode()
+    three, six = "examples/any-failures.txt", "tests/clusters/six-nodes.txt"
+    yield ["explore"], "1,755 states of three nodes", lambda: whole_search(three).encode()
+    for workers in ("1", "2", "4"):
+        yield ["explore", "--workers", workers], f"250,130 states of six nodes by {workers} workers", lambda: whole_search(six).encode()
 
 
 # Runs the program from a process that is small: a peak counts that of the process that it began as.

@@ -8,8 +8,10 @@ run makes the same searches. That these reach all that they are made for is a te
 """
 import collections
 import copy
+import os
 import random
 import re
+import subprocess
 from pathlib import Path
 from typing import Iterator, Optional
 
@@ -243,13 +245,14 @@ def search(number: int) -> tuple[str, list[str], int, str]:
 
 
 def explored(program, numbers):
-    """Each search of these numbers is answered as by the model. Returns what they reach."""
+    """Each search of these numbers is answered as by the model, by however many workers. Returns what they reach."""
     reached = collections.Counter()
     for number in numbers:
+        workers = str((1, 2, 3, 16)[number % 4])
         cluster, lines, most, pick = search(number)
         owed = Search(cluster, lines, most, pick)
         text = cluster + "===\n" + model.joined(lines)
-        done = run(program, ["explore", "--pick", pick, "--states", str(most)], input=text.encode())
+        done = run(program, ["explore", "--workers", workers, "--pick", pick, "--states", str(most)], input=text.encode())
         yield f"random search {number}", fault_of(done, owed.status, owed.text.encode())
         reached["states"] += len(owed.found)
         reached["holds"] += sum(verdict is None for verdict in owed.verdicts)
@@ -297,20 +300,21 @@ def whole_search(name) -> str:
 
 
 def closed(program, space):
-    """A search without a bound of steps comes to an end, with as many states as are known."""
+    """A search without a bound of steps comes to an end, with as many states as are known, by one worker and by four."""
     name, down, states, deepest = space
     text, owed = whole_search(name), f"explored {states} states deepest {deepest}"
     if down is not None:
         text += f"down {down}\n"
         owed += f" up to {down} down"
-    done = run(program, ["explore"], input=text.encode())
-    is_so = done.returncode == 0 and done.stdout.endswith(f"{owed}\n".encode())
-    yield f"all states: {name}", None if is_so else f"{done.stdout[-200:]!r}"
+    for workers in ("1", "4"):
+        done = run(program, ["explore", "--workers", workers], input=text.encode())
+        is_so = done.returncode == 0 and done.stdout.endswith(f"{owed}\n".encode())
+        yield f"all states by {workers} workers: {name}", None if is_so else f"{done.stdout[-200:]!r}"
 
 
 def bounded(program):
     """Where keys may take a mebibyte a search ends unfinished, with as many states as have so much: no more are kept once the keys
-    have as many bytes, so those of all but the last have fewer.
+    have as many bytes, so those of all but the last have fewer. Workers make no difference to where that is.
 
     By rh_keys a number of a key takes a byte at least (Codes, `number_code`). There are of each node its mode, the ends of two lists
     and one of each application (Packed, `packed_node`), and of each application two (Keys, `standing_numbers`): 42 with six nodes
@@ -318,11 +322,32 @@ def bounded(program):
     18 more, and 9 times two and one of nine bytes."""
     least, most = 6 * (1 + 2 + 3) + 3 * 2, 6 * (1 + 2 + 3) + 3 * 2 + 6 * 3 + 9 * (9 + 2)
     name, _, whole, _ = CLOSED[-1]
-    done = run(program, ["explore", "--memory", "1"], input=whole_search(name).encode())
+    done, others = (run(program, ["explore", "--memory", "1", *more], input=whole_search(name).encode()) for more in ([], ["--workers", "3"]))
     told = re.search(rb"\nexplored ([0-9]+) states deepest [0-9]+ up to [0-9]+ steps\nunfinished\n$", done.stdout)
     states = int(told[1]) if told else 0
     is_so = done.returncode == 10 and (states - 1) * least < 1_048_576 <= states * most and states < whole
     yield f"keys of a mebibyte: {name}", None if is_so else f"status {done.returncode}, {done.stdout[-200:]!r}"
+    yield f"keys of a mebibyte by three workers: {name}", fault_of(others, 10, done.stdout)
 
 
-TESTS = (Group(closed, CLOSED), bounded, Group(explored, [range(begin, begin + AT_ONCE) for begin in range(0, SEARCHES, AT_ONCE)], end=reaches_all),)
+def watched(program):
+    """On a terminal a line tells each second how far a search is: no fewer states than before, and no more than there are. It is taken
+    off in the end, and the answer is the same. Where standard error is no terminal nothing is told there."""
+    name, _, states, deepest = CLOSED[-1]
+    text = whole_search(name).encode()
+    owed = run(program, ["explore"], input=text)
+    yield "a search tells a pipe nothing", None if owed.stderr == b"" else f"{owed.stderr[:200]!r}"
+    leader, follower = os.openpty()
+    with open(leader, "rb", buffering=0) as terminal:
+        with open(follower, "wb", buffering=0) as errors:
+            done = subprocess.run([program, "explore"], input=text, stdout=subprocess.PIPE, stderr=errors)
+            told = terminal.read(65_536)
+    yield "a search that is watched", fault_of(done, owed.returncode, owed.stdout)
+    seen = [tuple(map(int, numbers)) for numbers in re.findall(rb"\r([0-9]+) states, ([0-9]+) events deep, ([0-9]+) states a second ", told)]
+    is_so = seen == sorted(seen, key=lambda line: line[:2]) and all(1 <= line[0] <= states and line[1] <= deepest for line in seen)
+    line = rb"\r[0-9]+ states, [0-9]+ events deep, [0-9]+ states a second "
+    is_so = is_so and re.fullmatch(rb"(%b)+\r\x1b\[K" % line, told)
+    yield "what a terminal is told of a search", None if is_so else f"{told[-300:]!r}"
+
+
+TESTS = (Group(closed, CLOSED), bounded, watched, Group(explored, [range(begin, begin + AT_ONCE) for begin in range(0, SEARCHES, AT_ONCE)], end=reaches_all),)

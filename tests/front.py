@@ -203,6 +203,7 @@ def options(program, folder):
             (["sweep", "--workers", "4", "c", "--pick", "first"], "--workers 4 --pick first", b""),
             (["sweep", "--workers=4", "--", "c", "-x", "--", "last"], "--workers=4", b"x\ny\nz\n"),
             (["explore", "--states", "5", "c", "--pick=last"], "--states 5 --pick=last", b""),
+            (["explore", "--workers", "4", "c", "--states=5"], "--workers 4 --states=5", b""),
             (["explore", "--memory", "5", "c"], "--memory 5", b""), (["explore", "--json", "--memory=5", "c"], "--json --memory=5", b""),
             (["check", "--never-seen", "c"], "--never-seen", b""), (["run", "--", "c", "--"], "", b"y\n")):
         line = " ".join([words[0], passed]).strip().encode() + b"\n"

@@ -333,9 +333,11 @@ def check_sweep(program, options, data):
 
 
 def check_explore(program, options, data):
-    """The lines of a search tell what `explore` prints, and its base what `run --json` tells of it."""
-    lines, _ = told_as_printed(program, "explore", options, data, explore_text)
-    check_base(program, without(without(options, "--states"), "--memory"), data, lines, "may", "down", "steps", "ask")
+    """The lines of a search tell what `explore` prints, its base what `run --json` tells of it, and workers make no difference."""
+    lines, status = told_as_printed(program, "explore", options, data, explore_text)
+    others = without(options, "--workers")
+    assert told_by(program, "explore", [*others, "--workers", "5"], data) == (lines, status), "by five workers other lines are told"
+    check_base(program, without(without(others, "--states"), "--memory"), data, lines, "may", "down", "steps", "ask")
 
 
 def finding_text(line):
@@ -377,7 +379,8 @@ def json_of_rows(program):
         row = row_at(path)
         check = {"run": check_run, "lint": check_lint, "sweep": check_sweep, "explore": check_explore}.get(row.words[0] if row.words else "")
         is_plain = not {"--json", "--echo", "--strict"} & {*row.words} and row.status in (0, 2, 3, 6)
-        if check and (is_plain or check in (check_lint, check_explore) and "--json" not in row.words):
+        # With status 1 nothing is told: it is no command line.
+        if check and row.status != 1 and (is_plain or check in (check_lint, check_explore) and "--json" not in row.words):
             yield f"json of {os.path.relpath(path, ROWS)}", fault_in(check, program, row.words[1:], row.input)
 
 

@@ -169,7 +169,7 @@ def command_lines(program):
             (["sessions", "--help"], [b"--pick", b"entry S COMMAND", b"final", b"1 boot a@x", b"docs/SCRIPTS.md"]),
             (["sweep", "--help"], [b"--pick", b"--workers", b"plan NAME accepted K failovers K takeovers K", b"bad line K", b"V2", b"V3",
                                    b"docs/SCRIPTS.md"]),
-            (["explore", "--help"], [b"--pick", b"--states", b"--memory", b"--json", b"may EVENT", b"ask app A running",
+            (["explore", "--help"], [b"--pick", b"--workers", b"--states", b"--memory", b"--json", b"may EVENT", b"ask app A running",
                                      b"explored K states", b"bad line K", b"unfinished", b"docs/SCRIPTS.md"]),
             (["--version"], [b"rehearse 0.1.0"])]:
         done = run(program, words, input=b"")
@@ -236,23 +236,30 @@ def failing_devices(program):
 
 
 def no_threads(program):
-    """Sessions and sweeps where each thread is refused: one part of the work is done after the other, with the same text."""
+    """Sessions, sweeps and searches where each thread is refused: one part of the work is done after the other, with the same text."""
     with tempfile.TemporaryDirectory() as folder:
         alone, refused = without_threads(program, folder)
         wrong = history_fault(alone, read(BY_CHANCE))
         yield "sessions without threads", wrong or (None if refused() else "no thread was asked for")
-        for path in files_below(os.path.join(ROWS, "sweep")):
-            row = row_at(path)
-            if "--workers" in row.words and row.status in (0, 6):
-                done = run(alone, row.words, input=row.input)
-                yield f"{os.path.relpath(path, ROWS)} without threads", fault_of(done, row.status, row.output)
-        yield "sweeps without threads", None if refused() else "no thread was asked for"
+        for kind in ("sweep", "explore"):
+            for path in files_below(os.path.join(ROWS, kind)):
+                row = row_at(path)
+                if "--workers" in row.words and row.status in (0, 6, 9, 10):
+                    done = run(alone, row.words, input=row.input)
+                    yield f"{os.path.relpath(path, ROWS)} without threads", fault_of(done, row.status, row.output)
+            yield f"rows of {kind} without threads", None if refused() else "no thread was asked for"
         for workers in (1, 2, 5, 16):
             done = run(alone, ["sweep", "--workers", str(workers)], input=read(sweeps.EXAMPLE))
             # The caller's own thread is one of the workers.
             asked, owed = refused(), workers - 1
             wrong = None if done.returncode == 0 and asked == owed else f"status {done.returncode}, {asked} threads in place of {owed}"
             yield f"threads that a sweep by {workers} asks for", wrong
+            done = run(alone, ["explore", "--workers", str(workers)], input=read(os.path.join(TOP, "examples", "any-failures.txt")))
+            # So it is each time that states are shared out, however often that is.
+            asked, owed = refused(), workers - 1
+            is_so = asked > 0 and asked % owed == 0 if owed else asked == 0
+            wrong = None if done.returncode == 9 and is_so else f"status {done.returncode}, {asked} threads in place of {owed} each time"
+            yield f"threads that a search by {workers} asks for", wrong
 
 
 def named_rows(program, path):

@@ -2,12 +2,15 @@
 #![tactic(auto)]
 
 mod process;
+mod progress;
 mod standard;
 
 use process::process;
+use progress::Progress;
 use rh_command_line::Words;
 use rh_devices::{Buffered, Reader};
 use standard::{HostThreads, StandardError};
+use std::io::IsTerminal;
 use std::process::ExitCode;
 use std::{env, io};
 
@@ -35,5 +38,14 @@ fn main(rt: HostRuntime) -> ExitCode {
     let writer = Buffered::new(alloc, io::writer(&rt));
     let mut errors = StandardError::new(&rt);
     let threads = HostThreads::new(&rt);
-    ExitCode::from(process(alloc, &words, reader, writer, &mut errors, &threads))
+    let mut progress = Progress::new(&rt, rt.stderr().is_terminal());
+    ExitCode::from(process(
+        alloc,
+        &words,
+        reader,
+        writer,
+        &mut errors,
+        &threads,
+        &mut progress,
+    ))
 }

@@ -10,7 +10,7 @@ use clap::Error;
 use rh_asked::Program;
 use rh_command_line::{Asked, Words, asked_of};
 use rh_devices::{Failed, Sink, Source, Watched};
-use rh_programs::rehearse_alone;
+use rh_programs::{Watch, rehearse_alone};
 use std::alloc::Global;
 
 // The status of a command line that is refused, or asks for help.
@@ -35,12 +35,13 @@ pub trait Together {
     ghost ready: { Self → Type 0 };
 
     /// Runs such a program over its devices, and answers the exit status.
-    fn rehearse<S: Source, K: Sink>(
+    fn rehearse<S: Source, K: Sink, W: Watch>(
         &self,
         alloc: Global,
         program: Program,
         reader: &mut Watched<S>,
         writer: &mut Watched<K>,
+        watch: &mut W,
     ) -> u8
         requires ready { ready self.now }
         requires reader { reader.old.failed ≡ false }
@@ -54,21 +55,23 @@ pub trait Together {
 /// Does what the words ask, and answers the status with which the process ends. Where they ask for a program, it runs over the
 /// reader and the writer; else neither is touched. There is no writer where there was no memory for its buffer.
 ///
-/// It waits for nothing, unless the call of `threads` does, which is made for a program that starts threads. That has to be ready.
-pub fn process<S: Source + Drop, K: Sink + Drop, E: Complain, H: Together>(
+/// It waits for nothing, unless the call of `threads` does, which is made for a program that starts threads. That has to be ready. Who
+/// watches is told how far a search is.
+pub fn process<S: Source + Drop, K: Sink + Drop, E: Complain, H: Together, W: Watch>(
     alloc: Global,
     words: &Words,
     reader: S,
     writer: Result<K, Failed>,
     errors: &mut E,
     threads: &H,
+    watch: &mut W,
 ) -> u8
     requires { H.ready threads.now }
     ensures { ProcessGives S.gives S.fails K.takes K.flushes K.fails E.tells words.now reader writer errors.old errors.new result }
 {
     match asked_of(alloc, words) {
         Asked::For(program) => match writer {
-            Ok(writer) => over_devices(alloc, program, reader, writer, threads),
+            Ok(writer) => over_devices(alloc, program, reader, writer, threads, watch),
             Err(_) => NO_MEMORY,
         },
         Asked::Refused(error) => {
@@ -80,12 +83,13 @@ pub fn process<S: Source + Drop, K: Sink + Drop, E: Complain, H: Together>(
 }
 
 // Runs a program over devices that haven't failed.
-fn over_devices<S: Source + Drop, K: Sink + Drop, H: Together>(
+fn over_devices<S: Source + Drop, K: Sink + Drop, H: Together, W: Watch>(
     alloc: Global,
     program: Program,
     reader: S,
     writer: K,
     threads: &H,
+    watch: &mut W,
 ) -> u8
     requires staffed { IsStaffed program }
     requires ready { H.ready threads.now }
@@ -94,8 +98,8 @@ fn over_devices<S: Source + Drop, K: Sink + Drop, H: Together>(
     let mut reader = Watched::new(reader);
     let mut writer = Watched::new(writer);
     if program.is_alone() {
-        rehearse_alone(alloc, program, &mut reader, &mut writer)
+        rehearse_alone(alloc, program, &mut reader, &mut writer, watch)
     } else {
-        threads.rehearse(alloc, program, &mut reader, &mut writer)
+        threads.rehearse(alloc, program, &mut reader, &mut writer, watch)
     }
 }

@@ -9,7 +9,7 @@ use crate::process::{Complain, Together};
 use clap::Error;
 use rh_asked::Program;
 use rh_devices::{Sink, Source, Watched};
-use rh_programs::rehearse_together;
+use rh_programs::{Watch, rehearse_together};
 use std::alloc::Global;
 use std::sync::Wait;
 use std::thread::Threads;
@@ -52,13 +52,14 @@ impl<T: Threads + Wait + Sync> Together for HostThreads<'_, T> {
     // Threads may share the host.
     ghost ready = { λ threads. IsSync T.row };
 
-    fn rehearse<S: Source, K: Sink>(
+    fn rehearse<S: Source, K: Sink, W: Watch>(
         &self,
         alloc: Global,
         program: Program,
         reader: &mut Watched<S>,
         writer: &mut Watched<K>,
+        watch: &mut W,
     ) -> u8 {
-        rehearse_together(self.host, alloc, program, reader, writer)
+        rehearse_together(self.host, alloc, program, reader, writer, watch)
     }
 }

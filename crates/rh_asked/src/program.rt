@@ -27,10 +27,10 @@ pub enum Program {
     Verify(Pick),
     /// What is wrong with the input is listed, in a manner.
     Lint(Pick, LintManner),
-    /// All states are searched that events reach from a base, in so much room.
-    Explore(Pick, SearchRoom),
+    /// All states are searched that events reach from a base, in so much room, by so many workers.
+    Explore(Pick, SearchRoom, usize),
     /// The same, as lines of JSON.
-    ExploreJson(Pick, SearchRoom),
+    ExploreJson(Pick, SearchRoom, usize),
     /// Sessions share a cluster.
     Sessions(Pick),
     /// Plans are tried, by so many workers.
@@ -40,12 +40,13 @@ pub enum Program {
 }
 
 impl Program {
-    /// Whether it starts no threads: a sweep by one worker needs none beside the caller's.
+    /// Whether it starts no threads: a search or a sweep by one worker needs none beside the caller's.
     pub fn is_alone(self) -> bool
         ensures { result ≡ is_alone self }
     {
         match self {
             Program::Sessions(_) => false,
+            Program::Explore(_, _, workers) | Program::ExploreJson(_, _, workers) => workers == 1,
             Program::Sweep(_, workers) | Program::SweepJson(_, workers) => workers == 1,
             _ => true,
         }

@@ -11,7 +11,7 @@ use crate::jobs::{Asked, Job};
 use rh_base::OutOfMemory;
 use rh_devices::{Bytes, Text, Watched};
 use rh_lint::LintManner;
-use rh_programs::{Program, SearchRoom, rehearse_alone};
+use rh_programs::{Nobody, Program, SearchRoom, rehearse_alone};
 use rh_rules::Pick;
 use std::alloc::{AllocError, Global};
 use std::io;
@@ -66,7 +66,7 @@ fn answer_of(alloc: Global, program: Program, input: &[u8]) -> Option<(u8, Vec<u
     }
     let mut reader = Watched::new(Bytes::new(input));
     let mut writer = Watched::new(Text::new(alloc));
-    let status = rehearse_alone(alloc, program, &mut reader, &mut writer);
+    let status = rehearse_alone(alloc, program, &mut reader, &mut writer, &mut Nobody);
     let bytes = writer.into_inner().into_bytes()?;
     Some((status, bytes))
 }
@@ -109,10 +109,10 @@ impl<'a, T: Runtime<A = Global>> Teller<'a, T> {
     fn tell_searches(&self, chance: &mut Chance, shape: &Shape, size: usize) -> Result<(), Untold> {
         let alloc = self.rt.alloc();
         let waiting = search_text(alloc, chance, shape, 6)?;
-        let small = Program::Explore(Pick::First, room_for(size));
+        let small = Program::Explore(Pick::First, room_for(size), 1);
         let _ = self.tell("explore", small, waiting.as_str())?;
         let middle = search_text(alloc, chance, &MIDDLE, 3)?;
-        let more = Program::Explore(Pick::First, room_for(size / 8));
+        let more = Program::Explore(Pick::First, room_for(size / 8), 1);
         let _ = self.tell("explore more", more, middle.as_str())?;
         Ok(())
     }
@@ -137,7 +137,7 @@ impl<'a, T: Runtime<A = Global>> Teller<'a, T> {
         let steps = steps_text(alloc, chance, &LARGEST, size / 16)?;
         let _ = self.tell("lint", Program::Lint(Pick::First, LINT), steps.as_str())?;
         let search = search_text(alloc, chance, &LARGEST, 2)?;
-        let few = Program::Explore(Pick::First, room_for(size / 4));
+        let few = Program::Explore(Pick::First, room_for(size / 4), 1);
         let _ = self.tell("explore", few, search.as_str())?;
         Ok(())
     }

@@ -111,26 +111,29 @@ sweep_json_row = (refl, refl, refl)
 workers_row : (faults (codes "sweep" ∷ codes "--workers" ∷ codes "0" ∷ []) ≡ kind.ValueValidation ∷ [])
     × (faults (codes "sweep" ∷ codes "--workers" ∷ codes "17" ∷ []) ≡ kind.ValueValidation ∷ [])
     × (faults (codes "sweep" ∷ codes "--workers" ∷ codes "many" ∷ []) ≡ kind.ValueValidation ∷ [])
+    × (faults (codes "explore" ∷ codes "--workers" ∷ codes "0" ∷ []) ≡ kind.ValueValidation ∷ [])
+    × (faults (codes "explore" ∷ codes "--workers" ∷ codes "17" ∷ []) ≡ kind.ValueValidation ∷ [])
 unfolding clap_on_literals subcommand_named
-workers_row = (refl, refl, refl)
+workers_row = (refl, refl, refl, refl, refl)
 
--- a million states and keys of a gibibyte, where no number is given; from 1 to 2^32 - 1, and to 2^20
-explore_row : (asks (codes "explore" ∷ []) ≡ Some (Explore First (record { states = 1000000; mebibytes = 1024 }))) × (faults (codes "explore" ∷ []) ≡ [])
-    × (asks (codes "explore" ∷ codes "--states=4294967295" ∷ codes "--pick=last" ∷ codes "--memory=1" ∷ [])
-    ≡ Some (Explore Last (record { states = 4294967295; mebibytes = 1 })))
+-- a million states, keys of a gibibyte and one worker, where no number is given; from 1 to 2^32 - 1, to 2^20 and to 16
+explore_row : (asks (codes "explore" ∷ []) ≡ Some (Explore First (record { states = 1000000; mebibytes = 1024 }) 1)) × (faults (codes "explore" ∷ []) ≡ [])
+    × (asks (codes "explore" ∷ codes "--states=4294967295" ∷ codes "--pick=last" ∷ codes "--memory=1" ∷ codes "--workers=16" ∷ [])
+    ≡ Some (Explore Last (record { states = 4294967295; mebibytes = 1 }) 16))
+    × (faults (codes "explore" ∷ codes "--states=4294967295" ∷ codes "--pick=last" ∷ codes "--memory=1" ∷ codes "--workers=16" ∷ []) ≡ [])
     × (faults (codes "explore" ∷ codes "--memory" ∷ codes "0" ∷ []) ≡ kind.ValueValidation ∷ [])
     × (faults (codes "explore" ∷ codes "--memory" ∷ codes "1048577" ∷ []) ≡ kind.ValueValidation ∷ [])
     × (faults (codes "explore" ∷ codes "--states" ∷ codes "0" ∷ []) ≡ kind.ValueValidation ∷ [])
     × (faults (codes "explore" ∷ codes "--states" ∷ codes "4294967296" ∷ []) ≡ kind.ValueValidation ∷ [])
     × (faults (codes "sweep" ∷ codes "--states" ∷ codes "5" ∷ []) ≡ kind.UnknownArgument ∷ [])
 unfolding clap_on_literals subcommand_named
-explore_row = (refl, refl, refl, refl, refl, refl, refl, refl)
+explore_row = (refl, refl, refl, refl, refl, refl, refl, refl, refl)
 
--- as lines of JSON
-explore_json_row : (asks (codes "explore" ∷ codes "--json" ∷ []) ≡ Some (ExploreJson First (record { states = 1000000; mebibytes = 1024 })))
+-- as lines of JSON, by one worker or by several
+explore_json_row : (asks (codes "explore" ∷ codes "--json" ∷ []) ≡ Some (ExploreJson First (record { states = 1000000; mebibytes = 1024 }) 1))
     × (faults (codes "explore" ∷ codes "--json" ∷ []) ≡ [])
-    × (asks (codes "explore" ∷ codes "--states=9" ∷ codes "--json" ∷ codes "--pick" ∷ codes "last" ∷ [])
-    ≡ Some (ExploreJson Last (record { states = 9; mebibytes = 1024 })))
+    × (asks (codes "explore" ∷ codes "--workers=3" ∷ codes "--states=9" ∷ codes "--json" ∷ codes "--pick" ∷ codes "last" ∷ [])
+    ≡ Some (ExploreJson Last (record { states = 9; mebibytes = 1024 }) 3))
 unfolding clap_on_literals subcommand_named
 explore_json_row = (refl, refl, refl)
 

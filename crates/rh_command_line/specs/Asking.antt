@@ -108,9 +108,14 @@ lint_of pick all strict json = program.Lint pick (record { all = all; strict = s
 abbrev pub sweep_of : Pick → Bool → ℕ → Program
 sweep_of pick json workers = if json then program.SweepJson pick workers else program.Sweep pick workers
 
--- a search in so much room, by JSON or not
-abbrev pub explore_of : Pick → Bool → SearchRoom → Program
-explore_of pick json room = if json then program.ExploreJson pick room else program.Explore pick room
+-- a search in so much room by so many workers, by JSON or not
+abbrev pub explore_of : Pick → Bool → SearchRoom → ℕ → Program
+explore_of pick json room workers = if json then program.ExploreJson pick room workers else program.Explore pick room workers
+
+-- where there may be so much room, and so many workers
+abbrev pub explore_with : Pick → Bool → Option SearchRoom → Option ℕ → Option Program
+explore_with pick json None workers = None
+explore_with pick json (Some room) workers = option_map (explore_of pick json room) workers
 
 -- the program that a subcommand means with these matches
 abbrev pub program_of : Subcommand → List Row → Option Program
@@ -121,7 +126,7 @@ program_of Lint rows = Some (lint_of (pick_in rows) (flag_in All rows) (flag_in 
 program_of Verify rows = Some (program.Verify (pick_in rows))
 program_of Sessions rows = Some (program.Sessions (pick_in rows))
 program_of Sweep rows = option_map (sweep_of (pick_in rows) (flag_in Json rows)) (workers_in rows)
-program_of Explore rows = option_map (explore_of (pick_in rows) (flag_in Json rows)) (room_in rows)
+program_of Explore rows = explore_with (pick_in rows) (flag_in Json rows) (room_in rows) (workers_in rows)
 
 -- the program of the subcommand with this word and these matches
 abbrev pub program_in : Text → List Row → Option Program

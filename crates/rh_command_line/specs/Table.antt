@@ -26,7 +26,7 @@ entry_of Story = (codes "story", setting.Pick ∷ setting.Flag Whole ∷ [])
 entry_of Verify = (codes "verify", setting.Pick ∷ [])
 entry_of Sessions = (codes "sessions", setting.Pick ∷ [])
 entry_of Sweep = (codes "sweep", setting.Pick ∷ setting.Workers ∷ setting.Flag Json ∷ [])
-entry_of Explore = (codes "explore", setting.Pick ∷ setting.States ∷ setting.Memory ∷ setting.Flag Json ∷ [])
+entry_of Explore = (codes "explore", setting.Pick ∷ setting.Workers ∷ setting.States ∷ setting.Memory ∷ setting.Flag Json ∷ [])
 
 abbrev pub word_of : Subcommand → List ℕ
 word_of s = (entry_of s).0

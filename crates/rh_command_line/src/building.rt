@@ -118,7 +118,7 @@ fn workers_argument<'a>(parts: Parts<'a>) -> Arg<'a>
         .action(ArgAction::Set)
         .value_parser(ValueParser::Unsigned(1, MAX_WORKERS as u64))
         .default_value("1")
-        .help("Shares the plans among so many threads, 1 to 16")
+        .help("Shares the work among so many threads, 1 to 16")
 }
 
 // The number of states that are kept, as an argument.

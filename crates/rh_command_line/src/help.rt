@@ -407,6 +407,9 @@ and for each `ask`, in their order,
 
 Time passes only by `may tick D` and `may wait`.
 
+The states are expanded among as many threads as `--workers` says; what is told
+is the same for any.
+
 All lines are read first. A line that is no command of the base and none of
 these, or a name that the cluster hasn't, is told alone: `bad line K`. K counts
 lines from 1 behind `===`, with blank lines and comments. The status is 9 where

@@ -64,6 +64,7 @@ fn program_of(subcommand: Subcommand, matches: &ArgMatches<'_>) -> Option<Progra
             pick_in(matches),
             flag_in(matches, Flag::Json),
             room_in(matches)?,
+            workers_in(matches)?,
         )),
     }
 }
@@ -127,15 +128,16 @@ fn sweep_of(pick: Pick, json: bool, workers: usize) -> Program
     }
 }
 
-// A search in so much room, by JSON or not.
-fn explore_of(pick: Pick, json: bool, room: SearchRoom) -> Program
-    ensures named { result ≡ explore_of pick json room }
+// A search in so much room by so many workers, by JSON or not.
+fn explore_of(pick: Pick, json: bool, room: SearchRoom, workers: usize) -> Program
+    requires { AreWorkers workers }
+    ensures named { result ≡ explore_of pick json room workers }
     ensures staffed { IsStaffed result }
 {
     if json {
-        Program::ExploreJson(pick, room)
+        Program::ExploreJson(pick, room, workers)
     } else {
-        Program::Explore(pick, room)
+        Program::Explore(pick, room, workers)
     }
 }
 

@@ -89,16 +89,17 @@ static PICK_ALL_HINTS_JSON: [Setting; 4] = [
     Setting::Flag(Flag::Json),
 ];
 
-static PICK_STATES_MEMORY_JSON: [Setting; 4] = [
-    Setting::Pick,
-    Setting::States,
-    Setting::Memory,
-    Setting::Flag(Flag::Json),
-];
-
 static PICK_WORKERS_JSON: [Setting; 3] = [
     Setting::Pick,
     Setting::Workers,
+    Setting::Flag(Flag::Json),
+];
+
+static PICK_WORKERS_STATES_MEMORY_JSON: [Setting; 5] = [
+    Setting::Pick,
+    Setting::Workers,
+    Setting::States,
+    Setting::Memory,
     Setting::Flag(Flag::Json),
 ];
 
@@ -191,7 +192,7 @@ impl Subcommand {
             ),
             Subcommand::Explore => entry_of(
                 "explore",
-                PICK_STATES_MEMORY_JSON.as_slice(),
+                PICK_WORKERS_STATES_MEMORY_JSON.as_slice(),
                 EXPLORE_ABOUT,
                 EXPLORE_AFTER_HELP,
             ),

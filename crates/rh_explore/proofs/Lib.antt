@@ -1,12 +1,12 @@
 pub mod KeyLists
+pub mod Popped
 pub mod Asked
 pub mod Stepped
 pub mod Alikes
 pub mod PathsTo
-pub mod FailuresTold
+pub mod FirstsTold
 pub mod Searched
 pub mod OneMore
-pub mod Parents
 pub mod Reached
 pub mod InTurn
 pub mod Answered
@@ -19,4 +19,15 @@ pub mod Begun
 pub mod GoesOn
 pub mod TimersLeft
 pub mod Between
+pub mod Taken
+pub mod Untold
+pub mod Finds
+pub mod NothingNew
+pub mod OneFound
+pub mod UnderWay
+pub mod Ends
+pub mod Leading
+pub mod FrontLists
+pub mod Pieces
+pub mod Crossing
 mod Rows

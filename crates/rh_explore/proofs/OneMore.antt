@@ -3,7 +3,7 @@ use Rattle.std.proofs.Common.{◌≡◌, ◌<◌, ◌+◌, ℕ, sum_by, get_or, 
 use Rattle.std.proofs.lemmas.List.{map_push, length-map}
 use Rattle.std.proofs.lemmas.Option.{slice_get-get_or}
 use Rattle.std.proofs.lemmas.List.Sums.{sum_by_push}
-use Rattle.rh_explore.specs.Exploring.{key_length, most_bytes, HadRoom}
+use Rattle.rh_explore.specs.Exploring.{key_of, key_length, most_bytes, HadRoom}
 use Rattle.rh_explore.specs.declared.bounds.Bounds.{Bounds}
 use Rattle.rh_state.specs.StateView.{StateView}
 use Rattle.rh_rules.specs.declared.event.Event.{Event}
@@ -11,9 +11,7 @@ use Rattle.rh_step.specs.Runs.{step}
 use Rattle.rh_explore.specs.declared.asking.Ask.{Ask}
 use Rattle.rh_explore.specs.declared.space.Found.{Found}
 use Rattle.rh_explore.specs.declared.space.Space.{Space}
-use Rattle.rh_keys.specs.Codes.{code}
-use Rattle.rh_explore.specs.Failures.{AreFailures}
-use Rattle.rh_keys.specs.Packed.{packed_key}
+use Rattle.rh_explore.specs.Failures.{AreFirsts}
 use Rattle.rh_explore.specs.Reaching.{Scope, behind}
 use Rattle.rh_explore.specs.Spaces.{Seen, states_of, IsFoundInTurn, AreInTurn}
 use Rattle.rh_explore.specs.Kept.{path_by, paths_of, seen_by, seen_of, code_in, codes_of, bytes_of, AreLinked, IsKept}
@@ -39,23 +37,20 @@ room_push bounds states s room few small k some within =
 pub kept_more : (w : Scope) (bounds : Bounds) (asks : List Ask) (old new : Space) (y : Seen) → IsKept w bounds asks old
     → AreLinked new.found.items
     → seen_of w new.found.items ≡ seen_of w old.found.items ++ y ∷ []
-    → bytes_of new ≡ bytes_of old ++ code (packed_key y.state) ∷ []
-    → AreFailures w.pick new.failures.firsts.items new.failures.left.items asks (states_of (seen_of w old.found.items) ++ y.state ∷ [])
-    → new.failures.trial.edits.items ≡ []
+    → bytes_of new ≡ bytes_of old ++ key_of y.state ∷ []
+    → AreFirsts w.pick new.firsts.items asks (states_of (seen_of w old.found.items) ++ y.state ∷ [])
     → new.bytes ≡ old.bytes + key_length y.state
     → IsFoundInTurn w (seen_of w old.found.items) y
     → length old.found.items < bounds.states → old.bytes < most_bytes bounds
     → IsKept w bounds asks new
-kept_more w bounds asks old new y kept linked more bytes failures calm longer turn few small =
+kept_more w bounds asks old new y kept linked more bytes firsts longer turn few small =
     let seen = seen_of w old.found.items in
     let state_in = λ (x : Seen). x.state in
     let states : states_of (seen_of w new.found.items) ≡ states_of seen ++ y.state ∷ [] = ap states_of more ∙ map_push state_in seen y in
     record {
       linked = linked;
-      codes = bytes ∙ ap (λ (l : List (List ℕ)). l ++ code (packed_key y.state) ∷ []) kept.codes ∙ sym (map_push code_in seen y) ∙ ap codes_of (sym more);
-      failures = subst (λ (l : List StateView). AreFailures w.pick new.failures.firsts.items new.failures.left.items asks l)
-          (sym states) failures;
-      calm = calm;
+      codes = bytes ∙ ap (λ (l : List (List ℕ)). l ++ key_of y.state ∷ []) kept.codes ∙ sym (map_push code_in seen y) ∙ ap codes_of (sym more);
+      firsts = subst (AreFirsts w.pick new.firsts.items asks) (sym states) firsts;
       bytes = longer ∙ ap (λ n. n + key_length y.state) kept.bytes ∙ sym (sum_by_push key_length (states_of seen) y.state) ∙ ap (sum_by key_length) (sym states);
       in_turn = subst (AreInTurn w) (sym more) (turn_push w seen y kept.in_turn turn);
       room = subst (HadRoom bounds) (sym states) (room_push bounds (states_of seen) y.state kept.room

@@ -7,6 +7,7 @@ use Rattle.std.proofs.lemmas.Option.{slice_get-map, slice_get_within, slice_get-
 use Rattle.rh_rules.specs.declared.event.Event.{Event}
 use Rattle.rh_explore.specs.declared.space.Found.{Found}
 use Rattle.rh_explore.specs.Reaching.{Scope}
+use Rattle.rh_explore.specs.Spaces.{Seen}
 use Rattle.rh_explore.specs.Kept.{path_by, with_path, paths_of, seen_by, seen_of, AreLinked, GoesOnFrom}
 use Rattle.rh_keys.proofs.Places.{at_front}
 
@@ -140,6 +141,17 @@ path_stays old new k on l =
     ap (λ (fs : List Found). path_at fs k) on.1
     ∙ ap (λ (ps : List (List Event)). unwrap_or (slice_get ps k) []) (fold_on [] old on.0)
     ∙ ap (λ (o : Option (List Event)). unwrap_or o []) (front_of (paths_of old) on.0 k (omega (arith, l, length-paths old)))
+
+pub seen_stays : (w : Scope) (old new : List Found) (k : ℕ) (x : Seen) → GoesOnFrom old new → slice_get (seen_of w old) k ≡ Some x → slice_get (seen_of w new) k ≡ Some x
+seen_stays w old new k x on here =
+    let within = slice_get_within (seen_of w old) k x here in
+    slice_get-map (seen_by w) (paths_of new) k
+    ∙ ap (option_map (seen_by w))
+    (ap (λ (fs : List Found). slice_get (paths_of fs) k) on.1
+    ∙ ap (λ (ps : List (List Event)). slice_get ps k) (fold_on [] old on.0)
+    ∙ front_of (paths_of old) on.0 k (omega (arith, within, length-map (paths_of old) (seen_by w))))
+    ∙ sym (slice_get-map (seen_by w) (paths_of old) k)
+    ∙ here
 
 pub goes_on : (old mid new : List Found) → GoesOnFrom old mid → GoesOnFrom mid new → GoesOnFrom old new
 goes_on old mid new a b = (a.0 ++ b.0, b.1 ∙ ap (λ (l : List Found). l ++ b.0) a.1 ∙ append_assoc old a.0 b.0)

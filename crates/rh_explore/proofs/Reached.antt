@@ -1,29 +1,30 @@
 -- What one event adds to what was found.
-use Rattle.std.proofs.Common.{◌≡◌, true, false, inl, inr, ◌<◌, ◌≤◌, ◌+◌, ℕ, List, [], ◌∷◌, ◌++◌, length, sum_by, get_or, slice_get, Some, All, refl, sym, ap, ◌∙◌, subst, arith}
+use Rattle.std.proofs.Common.{◌≡◌, true, false, inl, inr, ◌<◌, ◌≤◌, ◌+◌, ℕ, List, [], ◌∷◌, ◌++◌, length, sum_by, get_or, slice_get, Some, None, All, refl, sym, ap, ◌∙◌, subst, arith}
 use Rattle.std.specs.Prelude.{Contains, None}
 use Rattle.std.proofs.lemmas.List.{length-map, get_or-map}
 use Rattle.std.proofs.lemmas.List.Elements.{All-map}
 use Rattle.std.proofs.lemmas.Option.{same_Some, slice_get_within, slice_get-get_or, get_or_from_slice_get}
 use Rattle.rh_state.specs.StateView.{StateView}
-use Rattle.rh_keys.specs.Shifts.{timeless, Alike}
+use Rattle.rh_keys.specs.Shifts.{Alike}
 use Rattle.rh_keys.specs.ShiftLaws.{meets_limit}
 use Rattle.rh_base.proofs.Truths.{both}
 use Rattle.rh_explore.specs.declared.bounds.Bounds.{Bounds}
 use Rattle.rh_explore.specs.Exploring.{key_length, most_bytes, StaysBelowLimits, IsFull, IsTooMuch}
 use Rattle.rh_trace.specs.Validity.{IsValid}
 use Rattle.rh_rules.specs.declared.event.Event.{Event}
-use Rattle.rh_explore.specs.declared.reaching.Way.TheVariants.{To, Nowhere, AtLimit}
+use Rattle.rh_rules.specs.Refusals.{refused}
+use Rattle.rh_step.specs.Runs.{step}
 use Rattle.rh_explore.specs.declared.bounds.Covered.TheVariants as covered
 use Rattle.rh_keys.specs.Codes.{code}
 use Rattle.rh_keys.specs.Packed.{packed_key}
 use Rattle.rh_keys.proofs.CodesApart.{code_same}
 use Rattle.rh_explore.specs.declared.moves.Move.{Move}
 use Rattle.rh_explore.specs.Moves.{event_in}
-use Rattle.rh_explore.specs.Reaching.{Scope, IsMove, MayCome, MayAllCome, behind}
-use Rattle.rh_explore.specs.Spaces.{Seen, states_of, StepsTo, IsSeen, IsSearched, IsNear, IsExpanded, IsExpandedAt, IsFoundInTurn, IsCut, IsEnd}
+use Rattle.rh_explore.specs.Reaching.{Scope, IsMove, MayCome, MayAllCome, not_up_count, behind}
+use Rattle.rh_explore.specs.Spaces.{Seen, states_of, IsSeen, IsSearched, IsNear, IsExpanded, IsExpandedAt, IsFoundInTurn, IsCut, IsEnd}
 use Rattle.rh_explore.specs.Kept.{code_in, codes_of}
 use Rattle.rh_keys.proofs.Places.{at_of}
-use Rattle.rh_explore.proofs.Alikes.{accepted_alike, few_alike}
+use Rattle.rh_explore.proofs.Alikes.{accepted_alike, few_alike, step_valid}
 use Rattle.rh_keys.proofs.KeysApart.{packed_apart, packed_alike}
 use Rattle.rh_explore.proofs.Searched.{one_idle, one_left_out, one_known, one_new, expand_begins, expand_ends, expand_near, ordered_at}
 
@@ -46,24 +47,30 @@ module _ (w : Scope) (seen : List Seen) (at : ℕ) (x : Seen) (here : slice_get 
     pub here_valid : IsValid x.state
     here_valid = is_here.valid
 
-    pub not_there : (t : StateView) → StepsTo w.pick w.down x.state e Nowhere t → IsExpandedAt w seen at (made + 1)
-    not_there t not = (
+    pub not_there : meets_limit x.state e ≡ false → (refused x.state e ≡ None → not_up_count (step w.pick x.state e) ≤ w.down → ⊥) → IsExpandedAt w seen at (made + 1)
+    not_there below not = (
       x,
       one_left_out w seen at x made m is (it_is made so) e now
           (λ (s : StateView) (alike : Alike s x.state) (valid : IsValid s) (may : MayCome w s e).
-          not.1 (accepted_alike w s x.state e alike may not.0) (few_alike w s x.state e valid is_here.valid alike may)),
+          not (accepted_alike w s x.state e alike may below) (few_alike w s x.state e valid is_here.valid alike may)),
     )
 
-    pub at_limit : (bounds : Bounds) (t : StateView) → StepsTo w.pick w.down x.state e AtLimit t → IsCut w bounds seen at
-    at_limit bounds t met = (x, e, here, inr (listed, met))
+    pub at_limit : (bounds : Bounds) → meets_limit x.state e ≡ true → IsCut w bounds seen at
+    at_limit bounds met = (x, e, here, inr (listed, met))
 
-    module _ (t : StateView) (steps : StepsTo w.pick w.down x.state e To t) where
+    module _ (accepted : refused x.state e ≡ None) (few : not_up_count (step w.pick x.state e) ≤ w.down) (cluster : (step w.pick x.state e).cluster ≡ x.state.cluster) where
+      abbrev t : StateView
+      t = step w.pick x.state e
+
       may : MayCome w x.state e
       may = record {
         listed = listed;
-        accepted = steps.0;
-        few = steps.1;
+        accepted = accepted;
+        few = few;
       }
+
+      valid : IsValid t
+      valid = step_valid w x.state e is_here.valid may
 
       is_seen : (k : ℕ) (y : Seen) → slice_get seen k ≡ Some y → IsSeen w y
       is_seen k y there = at_of (IsSeen w) seen k y (it_is made so).searched.each there
@@ -72,7 +79,7 @@ module _ (w : Scope) (seen : List Seen) (at : ℕ) (x : Seen) (here : slice_get 
       same_key : (k : ℕ) (y : Seen) → slice_get seen k ≡ Some y → packed_key y.state ≡ packed_key t → Alike y.state t
       same_key k y there keys =
           let that = is_seen k y there in
-          packed_apart y.state t that.valid.sound.shaped steps.3.sound.shaped (steps.4 ∙ is_here.cluster ∙ sym that.cluster) keys
+          packed_apart y.state t that.valid.sound.shaped valid.sound.shaped (cluster ∙ is_here.cluster ∙ sym that.cluster) keys
 
       pub known : Contains (codes_of seen) (code (packed_key t)) → IsExpandedAt w seen at (made + 1)
       known has =
@@ -85,7 +92,7 @@ module _ (w : Scope) (seen : List Seen) (at : ℕ) (x : Seen) (here : slice_get 
           let near = at_of (λ (z : Seen). length z.path ≤ length x.path + 1) seen k y (it_is made so).near there in (
             x,
             one_known w seen at x made m is (it_is made so) e now
-                (k, y, there, sym (same_key k y there keys ∙ ap timeless steps.2), near),
+                (k, y, there, sym (same_key k y there keys), near),
           )
 
       module _ (new : Contains (codes_of seen) (code (packed_key t)) → ⊥) where
@@ -106,7 +113,7 @@ module _ (w : Scope) (seen : List Seen) (at : ℕ) (x : Seen) (here : slice_get 
           inl (
             full,
             may,
-            subst (λ s. All (λ u. Alike u s → ⊥) (states_of seen)) steps.2 (All-map (λ u. Alike u t → ⊥) (λ (y : Seen). y.state) seen fresh),
+            All-map (λ u. Alike u t → ⊥) (λ (y : Seen). y.state) seen fresh,
           ),
         )
 
@@ -125,7 +132,7 @@ module _ (w : Scope) (seen : List Seen) (at : ℕ) (x : Seen) (here : slice_get 
 
         pub added : (y : Seen) → y.path ≡ x.path ++ e ∷ [] → y.state ≡ t → IsExpandedAt w (seen ++ y ∷ []) at (made + 1)
         added y path state =
-            let one = one_new w seen at x made m is (it_is made so) e now t steps.2 may steps.3 steps.4 fresh in
+            let one = one_new w seen at x made m is (it_is made so) e now t refl may valid cluster fresh in
             let last : y ≡ record { path = x.path ++ e ∷ []; state = t } = λ i. record { path = path i; state = state i } in (
               x,
               subst (λ (seen' : List Seen). IsExpanded w seen' at x (made + 1)) (ap (λ (z : Seen). seen ++ z ∷ []) (sym last)) one,

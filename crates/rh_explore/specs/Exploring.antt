@@ -2,9 +2,8 @@
 use Rattle.std.specs.Prelude.{◌≡◌, ◌⊎◌, ◌≤◌, ◌<◌, ◌*◌, ℕ, true, false, List, length, sum_by, take, slice_get, Some, All, Any, AllPairs, Contains}
 use Rattle.std.specs.List.{AllZip}
 use Rattle.rh_state.specs.StateView.{StateView}
-use Rattle.rh_state.specs.Stored.{Stored, read}
+use Rattle.rh_state.specs.Stored.{read}
 use Rattle.rh_rules.specs.declared.event.Event.{Event}
-use Rattle.rh_rules.specs.declared.pick.Pick.{Pick}
 use Rattle.rh_step.specs.Runs.{step}
 use Rattle.rh_keys.specs.Codes.{code}
 use Rattle.rh_keys.specs.Packed.{packed_key}
@@ -14,7 +13,7 @@ use Rattle.rh_explore.specs.declared.answers.Explored.{Explored}
 use Rattle.rh_explore.specs.declared.answers.Verdict.{Verdict}
 use Rattle.rh_explore.specs.declared.answers.Verdict.TheVariants.{Holds, Fails}
 use Rattle.rh_explore.specs.declared.asking.Ask.{Ask}
-use Rattle.rh_explore.specs.declared.moves.Move.{Move}
+use Rattle.rh_explore.specs.declared.search.Search.{Search}
 use Rattle.rh_explore.specs.declared.bounds.Bounds.{Bounds}
 use Rattle.rh_explore.specs.declared.bounds.Covered.{Covered}
 use Rattle.rh_explore.specs.declared.bounds.Covered.TheVariants as covered
@@ -22,17 +21,20 @@ use Rattle.rh_explore.specs.Asking.{holds_in, MayWait}
 use Rattle.rh_explore.specs.Reaching.{Scope, IsMove, MayCome, MayAllCome, Reaches, behind}
 use Rattle.rh_explore.specs.Before.{ComesBefore}
 
--- how many bytes the key of a state has, as it is kept
+-- the key of a state, as it is kept, and how many bytes it has
+abbrev pub key_of : StateView → List ℕ
+key_of s = code (packed_key s)
+
 abbrev pub key_length : StateView → ℕ
-key_length s = length (code (packed_key s))
+key_length s = length (key_of s)
 
 -- how many bytes the keys of all states may have
 abbrev pub most_bytes : Bounds → ℕ
 most_bytes bounds = bounds.mebibytes * 1048576
 
 -- the scope of a search
-abbrev pub scope_of : Stored → Pick → List Move → Bounds → Scope
-scope_of base pick moves bounds = record { base = read base; pick = pick; moves = moves; down = bounds.down }
+abbrev pub scope_of : Search → Scope
+scope_of search = record { base = read search.base.now; pick = search.pick; moves = search.moves.now; down = search.bounds.down }
 
 -- the list is one of those of which all were looked at
 abbrev pub IsCovered : Covered → List Event → Type 0

@@ -1,22 +1,18 @@
 -- What was found, as it is kept (ours).
-use Rattle.std.specs.Prelude.{◌≡◌, ◌<◌, ◌+◌, ◌-◌, ℕ, List, [], ◌∷◌, ◌++◌, Option, Some, None, length, sum_by, map, fold, take, drop, replicate, unwrap_or, slice_get}
-use Rattle.std.specs.List.{flat_map}
+use Rattle.std.specs.Prelude.{◌≡◌, ◌<◌, ◌+◌, ℕ, List, [], ◌∷◌, ◌++◌, Option, Some, None, length, sum_by, map, fold, drop, unwrap_or, slice_get, All, Contains}
 use Rattle.rh_state.specs.StateView.{StateView}
-use Rattle.rh_state.specs.Stored.{read}
 use Rattle.rh_rules.specs.declared.event.Event.{Event}
 use Rattle.rh_explore.specs.declared.asking.Ask.{Ask}
 use Rattle.rh_explore.specs.declared.bounds.Bounds.{Bounds}
-use Rattle.rh_rules.specs.declared.pick.Pick.{Pick}
-use Rattle.rh_step.specs.Runs.{step}
-use Rattle.rh_explore.specs.declared.front.Front.{Front}
-use Rattle.rh_explore.specs.declared.front.Parent.{Parent}
-use Rattle.rh_explore.specs.declared.reaching.Probe.{Probe}
+use Rattle.rh_explore.specs.declared.families.Front.{Front}
+use Rattle.rh_explore.specs.declared.leads.Expansion.{Expansion}
+use Rattle.rh_explore.specs.declared.leads.Marks.{Marks}
+use Rattle.rh_explore.specs.declared.search.Search.{Search}
 use Rattle.rh_explore.specs.declared.space.Found.{Found}
 use Rattle.rh_explore.specs.declared.space.Space.{Space}
-use Rattle.rh_keys.specs.Codes.{code}
-use Rattle.rh_explore.specs.Exploring.{key_length, HadRoom}
-use Rattle.rh_explore.specs.Failures.{AreFailures}
-use Rattle.rh_keys.specs.Packed.{packed_key}
+use Rattle.rh_explore.specs.Exploring.{scope_of, key_of, key_length, HadRoom}
+use Rattle.rh_explore.specs.Failures.{AreFirsts, all_told}
+use Rattle.rh_explore.specs.Families.{Knowing, child_by, waiting_in, IsAccepted, IsFamily, ExpandsSo}
 use Rattle.rh_explore.specs.Reaching.{Scope, behind}
 use Rattle.rh_explore.specs.Spaces.{Seen, states_of, AreInTurn}
 
@@ -46,7 +42,7 @@ pub record AreLinked (found : List Found) : Type 0 where
 
 -- the keys of states, as they are kept
 abbrev pub code_in : Seen → List ℕ
-code_in x = code (packed_key x.state)
+code_in x = key_of x.state
 
 abbrev pub codes_of : List Seen → List (List ℕ)
 codes_of seen = map code_in seen
@@ -58,74 +54,70 @@ bytes_of space = map (λ key. key.bytes.items) space.keys.keys
 pub record IsKept (w : Scope) (bounds : Bounds) (asks : List Ask) (space : Space) : Type 0 where
   pub linked : AreLinked space.found.items
   pub codes : bytes_of space ≡ codes_of (seen_of w space.found.items)
-  pub failures : AreFailures w.pick space.failures.firsts.items space.failures.left.items asks (states_of (seen_of w space.found.items))
-  pub calm : space.failures.trial.edits.items ≡ []
+  pub firsts : AreFirsts w.pick space.firsts.items asks (states_of (seen_of w space.found.items))
   pub bytes : space.bytes ≡ sum_by key_length (states_of (seen_of w space.found.items))
   pub in_turn : AreInTurn w (seen_of w space.found.items)
   pub room : HadRoom bounds (states_of (seen_of w space.found.items))
 
--- ---- the states whose events weren't made yet, by those from which they were found
+abbrev pub seen_in : Search → Space → List Seen
+seen_in search space = seen_of (scope_of search) space.found.items
 
--- the state from which one was found: that behind all of its events but the last one
-abbrev pub parent_by : Scope → Seen → StateView
-parent_by w x = behind w w.base (take (length x.path - 1) x.path)
+-- what was found stays, and more is found
+abbrev pub GoesOnFrom : List Found → List Found → Type 0
+GoesOnFrom old new = (more : List Found) × (new ≡ old ++ more)
 
-abbrev pub parents_of : Scope → List Seen → List StateView
-parents_of w seen = map (parent_by w) seen
+-- ---- one state more
 
--- the state that was found from it
-abbrev pub child_by : Pick → StateView → Option (ℕ × Event) → StateView
-child_by pick s None = s
-child_by pick s (Some (from, e)) = step pick s e
+-- it is there, and all that is kept of it
+pub record HasOneMore (one : Found) (marks : Marks) (old new : Space) : Type 0 where
+  pub found : new.found.items ≡ old.found.items ++ one ∷ []
+  pub keys : bytes_of new ≡ bytes_of old ++ marks.key.bytes.items ∷ []
+  pub bytes : new.bytes ≡ old.bytes + length marks.key.bytes.items
+  pub firsts : new.firsts.items ≡ all_told (length old.found.items) old.firsts.items marks.fails.items
 
--- a state, as often as others were found from it
-abbrev pub repeated : Parent → List StateView
-repeated p = read p.state ∷ replicate p.more (read p.state)
-
--- those from which the states that are left were found
-abbrev pub waiting_in : Front → List StateView
-waiting_in front = replicate front.left (read front.probe.state) ++ flat_map repeated front.parents.items
-
--- no event is made
-pub record IsIdle (probe : Probe) : Type 0 where
-  pub none : probe.tried.edits.items ≡ []
-  pub unmoved : probe.entered.edits.items ≡ []
-
--- all but the first so many states are left, in their order
-pub record IsFront (w : Scope) (space : Space) (done : ℕ) : Type 0 where
-  pub idle : IsIdle space.front.probe
-  pub waiting : waiting_in space.front ≡ drop done (parents_of w (seen_of w space.found.items))
-
--- and the next one is made of that of the probe
-pub record IsTakenUp (w : Scope) (space : Space) (at : ℕ) : Type 0 where
-  pub parent : slice_get (parents_of w (seen_of w space.found.items)) at ≡ Some (read space.front.probe.state)
-  pub front : IsFront w space (at + 1)
-
--- what is left stays, and how the state of the probe was found
-pub record IsSameFront (old new : Front) : Type 0 where
-  pub parents : new.parents.items ≡ old.parents.items
-  pub left : new.left ≡ old.left
-  pub entered : new.probe.entered ≡ old.probe.entered
-
--- the event that was tried is taken back
-pub record IsTakenBack (old new : Probe) : Type 0 where
-  pub state : new.state ≡ old.state
-  pub none : new.tried.edits.items ≡ []
-
--- all that were found since were found from this state
-abbrev pub IsFamily : Scope → StateView → List Found → List Found → Type 0
-IsFamily w s old new =
-    (n : ℕ) × (length new ≡ length old + n) × (parents_of w (seen_of w new) ≡ parents_of w (seen_of w old) ++ replicate n s)
+-- none is
+pub record HasTheSame (old new : Space) : Type 0 where
+  pub found : new.found.items ≡ old.found.items
+  pub keys : bytes_of new ≡ bytes_of old
+  pub bytes : new.bytes ≡ old.bytes
+  pub firsts : new.firsts.items ≡ old.firsts.items
 
 -- events may follow in the state of this number
 abbrev pub IsShort : Bounds → List Found → ℕ → Type 0
 IsShort bounds found at = (f : Found) × (slice_get found at ≡ Some f) × (f.depth < bounds.steps)
 
--- no event is tried in the state of this number
-pub record IsUntried (probe : Probe) (seen : List Seen) (at : ℕ) : Type 0 where
-  pub none : probe.tried.edits.items ≡ []
-  pub here : (x : Seen) × (slice_get seen at ≡ Some x) × (read probe.state ≡ x.state)
+-- ---- what is known
 
--- what was found stays, and more is found
-abbrev pub GoesOnFrom : List Found → List Found → Type 0
-GoesOnFrom old new = (more : List Found) × (new ≡ old ++ more)
+abbrev pub knowing_in : Space → Knowing
+knowing_in space = record { keys = bytes_of space; firsts = space.firsts.items }
+
+-- no less is known later
+pub record IsKnown (k : Knowing) (space : Space) : Type 0 where
+  pub keys : (q : List ℕ) → Contains k.keys q → Contains (bytes_of space) q
+  pub count : length k.firsts ≡ length space.firsts.items
+  pub firsts : (j : ℕ) → slice_get space.firsts.items j ≡ Some None → slice_get k.firsts j ≡ Some None
+
+-- this is so of the state of a number, by what was known when it was expanded
+abbrev pub LeadAt : Search → Space → ℕ → (Knowing → StateView → Type 0) → Type 0
+LeadAt search space at Q = (k : Knowing) × (x : Seen) × (slice_get (seen_in search space) at ≡ Some x) × IsKnown k space × Q k x.state
+
+-- these events of the state of a number lead to all that were found since
+pub record FindsFrom (search : Search) (s : StateView) (old new : Space) (events : List (Option Event)) : Type 0 where
+  pub states : states_of (seen_in search new) ≡ states_of (seen_in search old) ++ map (child_by search.pick s) events
+  pub accepted : All (IsAccepted s) events
+  pub known : IsKnown (knowing_in old) new
+
+abbrev pub FindsAt : Search → ℕ → Space → Space → List (Option Event) → Type 0
+FindsAt search at old new events = (x : Seen) → slice_get (seen_in search old) at ≡ Some x → FindsFrom search x.state old new events
+
+-- ---- what is to be expanded
+
+-- these states are next, and then those of the families
+pub record IsFrontOf (search : Search) (space : Space) (front : Front) (states : List StateView) : Type 0 where
+  pub families : All IsFamily front.families.items
+  pub waiting : states ++ waiting_in search.pick front.families.items ≡ drop front.next (states_of (seen_in search space))
+
+-- this came of the next one, by what was known when it was expanded
+abbrev pub IsExpandedNext : Search → Space → Front → Expansion → Type 0
+IsExpandedNext search space front expansion = (k : Knowing) × (s : StateView) × (states : List StateView) × IsKnown k space
+    × ExpandsSo (scope_of search) search.asks.now k s expansion × IsFrontOf search space front (s ∷ states)

@@ -5,6 +5,8 @@ pub mod Before
 pub mod Exploring
 pub mod Spaces
 pub mod Failures
+pub mod Families
+pub mod Workers
 pub mod Kept
 pub mod Tellings
 pub mod Laws

@@ -1,11 +1,9 @@
 -- What is said within a search, where a part of the states is found (ours).
-use Rattle.std.specs.Prelude.{◌≡◌, ◌≤◌, ◌<◌, ◌+◌, ℕ, true, false, List, [], ◌∷◌, ◌++◌, Some, None, length, map, take, slice_get, All, AllPairs}
+use Rattle.std.specs.Prelude.{◌≡◌, ◌≤◌, ◌<◌, ◌+◌, ◌-◌, max, sum_by, ℕ, true, false, List, [], ◌∷◌, ◌++◌, Some, length, map, take, slice_get, All, AllPairs}
 use Rattle.rh_state.specs.StateView.{StateView}
 use Rattle.rh_rules.specs.declared.event.Event.{Event}
 use Rattle.rh_rules.specs.declared.pick.Pick.{Pick}
-use Rattle.rh_rules.specs.Refusals.{refused}
 use Rattle.rh_keys.specs.Shifts.{Alike}
-use Rattle.rh_keys.specs.ShiftLaws.{meets_limit}
 use Rattle.rh_trace.specs.Validity.{IsValid}
 use Rattle.rh_step.specs.Runs.{step}
 use Rattle.rh_explore.specs.declared.answers.Verdict.{Verdict}
@@ -16,17 +14,9 @@ use Rattle.rh_explore.specs.declared.bounds.Bounds.{Bounds}
 use Rattle.rh_explore.specs.declared.bounds.Covered.{Covered}
 use Rattle.rh_explore.specs.declared.bounds.Covered.TheVariants as covered
 use Rattle.rh_explore.specs.declared.moves.Move.{Move}
-use Rattle.rh_explore.specs.declared.reaching.Way.{Way}
-use Rattle.rh_explore.specs.declared.reaching.Way.TheVariants.{To, Nowhere, AtLimit}
 use Rattle.rh_explore.specs.Moves.{event_in}
-use Rattle.rh_explore.specs.Exploring.{IsTooMuch}
-use Rattle.rh_explore.specs.Reaching.{Scope, MayCome, MayAllCome, not_up_count, behind}
-
--- the event leads there, within the scope; or it can't be made, or too many nodes are not up behind it; or a limit refuses it
-abbrev pub StepsTo : Pick → ℕ → StateView → Event → Way → StateView → Type 0
-StepsTo pick down s e Nowhere t = (meets_limit s e ≡ false) × (refused s e ≡ None → not_up_count (step pick s e) ≤ down → ⊥)
-StepsTo pick down s e AtLimit t = meets_limit s e ≡ true
-StepsTo pick down s e To t = (refused s e ≡ None) × (not_up_count (step pick s e) ≤ down) × (t ≡ step pick s e) × IsValid t × (t.cluster ≡ s.cluster)
+use Rattle.rh_explore.specs.Exploring.{key_length, most_bytes, StaysBelowLimits, CoversAll, IsTooMuch, IsEndOf}
+use Rattle.rh_explore.specs.Reaching.{Scope, MayCome, MayAllCome, behind}
 
 -- a state that was found, and a list of events that leads to it
 pub record Seen : Type 0 where
@@ -104,6 +94,24 @@ IsCut w bounds seen at = (x : Seen) × (e : Event) × (slice_get seen at ≡ Som
 abbrev pub IsEnd : List Seen → ℕ → Covered → Type 0
 IsEnd seen done covered.All = length seen ≤ done
 IsEnd seen done (covered.UpTo n) = (k : ℕ) (x : Seen) → done ≤ k → slice_get seen k ≡ Some x → n ≤ length x.path
+
+-- the first `next` of the states were expanded, none of them behind as many events as may come
+pub record IsUnderWay (w : Scope) (bounds : Bounds) (seen : List Seen) (next : ℕ) : Type 0 where
+  pub searched : IsSearched w seen next
+  pub near : IsNear seen next
+  pub spent : (k : ℕ) (x : Seen) → k < next → slice_get seen k ≡ Some x → length x.path < bounds.steps
+  pub few : All (λ (x : Seen). length x.path ≤ bounds.steps) seen
+  pub room : length seen ≤ max 1 bounds.states
+
+-- the search ended so
+pub record IsEnded (w : Scope) (bounds : Bounds) (seen : List Seen) (covered : Covered) : Type 0 where
+  pub done : ℕ
+  pub searched : IsSearched w seen done
+  pub near : IsNear seen done
+  pub few : All (λ (x : Seen). length x.path ≤ bounds.steps) seen
+  pub end : IsEnd seen done covered
+  pub why : (x : Seen) → slice_get seen (length seen - 1) ≡ Some x → IsEndOf w bounds (length x.path) (states_of seen) covered
+  pub covers : length seen < bounds.states → sum_by key_length (states_of seen) < most_bytes bounds → StaysBelowLimits w bounds.steps → CoversAll bounds.steps covered
 
 -- what is asked holds in all states that were found; or it doesn't hold in one to which these events lead, and in all before it
 abbrev pub FirstFails : Pick → List Seen → Ask → Verdict → Type 0

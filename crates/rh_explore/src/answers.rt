@@ -8,14 +8,14 @@ ghost use Rattle.rh_explore.specs.Exploring.{scope_of, IsAnswer};
 ghost use Rattle.rh_explore.specs.Kept.{AreLinked};
 ghost use Rattle.rh_explore.specs.Tellings.{IsTold};
 
-use crate::asking::Ask;
-use crate::bounds::{Bounds, Covered};
-use crate::moves::Move;
+use crate::bounds::Covered;
+use crate::crew::Crew;
 use crate::paths::path_to;
-use crate::space::{Found, search};
+use crate::search::Search;
+use crate::space::{Found, search_by};
+use crate::watch::Watch;
 use rh_base::OutOfMemory;
-use rh_state::State;
-use rh_step::{Event, Pick};
+use rh_step::Event;
 use std::alloc::Global;
 
 /// What was found of an [`Ask`].
@@ -43,25 +43,26 @@ pub struct Explored {
     pub verdicts: Vec<Verdict>,
 }
 
-/// What holds in all states that these moves reach from a base, each as often as one likes and in every order in which the rules
-/// accept them. The base is one that a cluster reaches, as that of each simulation.
+/// What holds in all states that the moves of a search reach from its base, each as often as one likes and in every order in which the
+/// rules accept them.
 ///
 /// The states are found in the order of the lists of events that lead to them, shorter ones first, and those that are as long in the
 /// order of the moves; so a verdict that what is asked fails has the first list of all that lead to a state in which it does. The search
 /// ends when nothing is left, behind so many events as may follow one another, or at the first state for which there is no room; or
 /// where a limit of starts or of time refuses an event, since it may be accepted in a state that is alike.
-pub fn explore(
+///
+/// The work is done by a crew, and somebody may watch. What is answered depends on neither.
+pub fn explore<C: Crew, W: Watch>(
+    crew: &C,
+    watch: &mut W,
     alloc: Global,
-    base: &State,
-    pick: Pick,
-    moves: &[Move],
-    bounds: &Bounds,
-    asks: &[Ask],
+    search: &Search,
 ) -> Result<Explored, OutOfMemory>
-    requires { IsValid (read base.now) }
-    ensures { IfOk result (IsAnswer (scope_of base.now pick moves.now bounds.now) bounds.now asks.now) }
+    requires ready { C.ready crew.now }
+    requires valid { IsValid (read search.now.base.now) }
+    ensures { IfOk result (IsAnswer (scope_of search.now) search.now.bounds search.now.asks.now) }
 {
-    let (space, covered) = search(alloc, base, pick, moves, bounds, asks)?;
+    let (space, covered) = search_by(crew, watch, alloc, search)?;
     let bytes = space.bytes;
     let (all, firsts) = space.into_found();
     let found = all.as_slice();

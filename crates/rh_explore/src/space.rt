@@ -1,29 +1,32 @@
 //! The states that were found, and the search for them.
 
-ghost use Rattle.std.specs.Prelude.{◌≡◌, ◌<◌, ◌≤◌, ◌+◌, ◌-◌, ◌^◌, ◌↔◌, ◌⊎◌, ℕ, [], ◌∷◌, ◌++◌, List, length, map, slice_get, max, All, Contains, IfOk, OnOk, IsTrue, MatchBool, None, Some, ⊤};
+ghost use Rattle.std.specs.Prelude.{◌≡◌, ◌<◌, ◌≤◌, ◌+◌, ◌^◌, ◌↔◌, ◌⊎◌, max, ℕ, [], ◌∷◌, ◌++◌, List, length, replicate, slice_get, All, Contains, IfOk, OnOk, IsTrue, IsFalse, IfSome, IfNone, MatchBool, Option, None, Some, true};
+ghost use Rattle.std.specs.List.{AllZip, list_any};
 ghost use Rattle.rh_state.specs.StateView.{StateView};
 ghost use Rattle.rh_state.specs.Stored.{read};
+ghost use Rattle.rh_rules.specs.declared.event.Event.{Event};
 ghost use Rattle.rh_trace.specs.Validity.{IsValid};
-ghost use Rattle.rh_explore.specs.Failures.{AreFailures};
-ghost use Rattle.rh_keys.specs.Codes.{code};
-ghost use Rattle.rh_keys.specs.Packed.{packed_key};
-ghost use Rattle.rh_explore.specs.Exploring.{scope_of, key_length, most_bytes, StaysBelowLimits, CoversAll, IsEndOf};
-ghost use Rattle.rh_explore.specs.Spaces.{Seen, states_of, IsSearched, IsNear, IsEnd, IsCut, IsExpandedAt};
-ghost use Rattle.rh_explore.specs.Kept.{seen_of, bytes_of, waiting_in, IsKept, IsShort, IsUntried, IsIdle, IsFront, IsTakenUp, IsSameFront, IsTakenBack, IsFamily, GoesOnFrom};
+ghost use Rattle.rh_explore.specs.declared.moves.Move.{Move};
+ghost use Rattle.rh_explore.specs.Exploring.{scope_of, most_bytes};
+ghost use Rattle.rh_explore.specs.Failures.{told_at, all_told};
+ghost use Rattle.rh_explore.specs.Families.{Knowing, knowing, LeadsSo, AreLeads, is_new, ExpandsSo};
+ghost use Rattle.rh_explore.specs.Kept.{seen_in, bytes_of, knowing_in, HasOneMore, HasTheSame, IsKept, IsShort, IsKnown, LeadAt, FindsAt, IsFrontOf, IsExpandedNext, GoesOnFrom};
+ghost use Rattle.rh_explore.specs.Spaces.{Seen, IsExpandedAt, IsCut, IsUnderWay, IsEnded};
 
-use crate::asking::Ask;
+use crate::alone::find_alone;
 use crate::bounds::{Bounds, Covered};
-use crate::failures::Failures;
-use crate::front::Front;
-use crate::moves::Move;
-use crate::reaching::Way;
+use crate::crew::Crew;
+use crate::families::Front;
+use crate::leads::{Expansion, Lead, Marks};
+use crate::search::Search;
+use crate::watch::Watch;
+use crate::worker::{Keys, Known, base_marks};
 use indexmap::IndexSet;
 use rh_base::OutOfMemory;
-use rh_keys::{Key, KeyMaker};
-use rh_state::State;
-use rh_step::{Event, Pick};
+use rh_step::Event;
 use std::alloc::Global;
-use std::hash::{BuildHasherDefault, DefaultHasher};
+use std::collections::VecDeque;
+use std::hash::BuildHasherDefault;
 
 /// How a state was found.
 #[derive(Clone, Copy, Debug, PartialEq, Eq)]
@@ -38,46 +41,35 @@ pub(crate) struct Found {
 #[derive(Drop)]
 pub(crate) struct Space {
     pub(crate) found: Vec<Found>,
-    pub(crate) failures: Failures,
-    // Their keys, in the same order. Whoever writes a cluster's file chooses a part of each key, and the table's usual hash of a key is
-    // one number of 64 bits that takes in 16 bytes at a time: eight bytes that are equal to it make it 0, and a file can keep it there,
-    // so that the keys of 2^40 states have one hash and each is compared with all before it. This one takes in 8 bytes at a time to four
-    // such numbers, and no way is known to find many keys that it doesn't tell apart.
-    keys: IndexSet<Key, BuildHasherDefault<DefaultHasher>>,
+    /// The number of the first state in which each ask fails, if there is one.
+    pub(crate) firsts: Vec<Option<usize>>,
+    // Their keys, in the same order.
+    keys: Keys,
     /// How many bytes these have.
     pub(crate) bytes: usize,
-    // Those whose events weren't made yet. The others aren't needed any more, and a state takes much more memory than its key.
-    front: Front,
-    maker: KeyMaker,
 }
 
 impl Space {
-    // The base alone.
-    fn of(alloc: Global, base: &State, pick: Pick, asks: &[Ask]) -> Result<Space, OutOfMemory>
-        requires { IsValid (read base.now) }
+    /// The base alone.
+    pub(crate) fn of(alloc: Global, search: &Search) -> Result<Space, OutOfMemory>
+        requires { IsValid (read search.now.base.now) }
+        ensures kept { IfOk result (λ space. IsKept (scope_of search.now) search.now.bounds search.now.asks.now space) }
         ensures found { IfOk result (λ space. space.found.items ≡ record { last = None; depth = 0 } ∷ []) }
-        ensures keys { IfOk result (λ space. bytes_of space ≡ code (packed_key (read base.now)) ∷ []) }
-        ensures idle { IfOk result (λ space. IsIdle space.front.probe) }
-        ensures front { IfOk result (λ space. waiting_in space.front ≡ read base.now ∷ []) }
-        ensures failures { IfOk result (λ space. AreFailures pick space.failures.firsts.items space.failures.left.items asks.now (read base.now ∷ [])) }
-        ensures calm { IfOk result (λ space. space.failures.trial.edits.items ≡ []) }
-        ensures bytes { IfOk result (λ space. space.bytes ≡ key_length (read base.now)) }
     {
+        let firsts = nothing_fails(alloc, search.asks.len())?;
         let mut space = Space {
             found: Vec::new(alloc),
-            failures: Failures::of(alloc, asks)?,
+            firsts,
             keys: IndexSet::with_hasher(alloc, BuildHasherDefault::new()),
             bytes: 0,
-            front: Front::of(alloc, base.copy(alloc)?),
-            maker: KeyMaker::new(alloc),
         };
-        space.maker.make(&mut space.front.probe.state)?;
-        let key = space.maker.key.copy(alloc)?;
+        let marks = base_marks(alloc, search, &space.known())?;
         let found = Found {
             last: None,
             depth: 0,
         };
-        space.push(alloc, key, found, pick, asks)?;
+        // It is new, since no key was there.
+        let _new = space.push(found, marks)?;
         Ok(space)
     }
 
@@ -85,230 +77,288 @@ impl Space {
     /// take their place.
     pub(crate) fn into_found(self) -> (Vec<Found>, Vec<Option<usize>>)
         ensures found { result.0 ≡ self.found }
-        ensures firsts { result.1 ≡ self.failures.firsts }
+        ensures firsts { result.1 ≡ self.firsts }
     {
-        let Space {
-            found,
-            failures,
-            ..
-        } = self;
-        (found, failures.into_firsts())
+        (self.found, self.firsts)
     }
 
-    // Adds the state of the probe with its key, which isn't there.
-    fn push(
-        &mut self,
-        alloc: Global,
-        key: Key,
-        found: Found,
-        pick: Pick,
-        asks: &[Ask],
-    ) -> Result<(), OutOfMemory>
-        requires new { Contains (bytes_of self.old) key.bytes.items → ⊥ }
-        requires few { self.old.bytes + length key.bytes.items < 2 ^ 64 }
-        requires valid { IsValid (read self.old.front.probe.state) }
-        requires calm { self.old.failures.trial.edits.items ≡ [] }
-        requires failures { (states : List StateView) × (length self.old.found.items ≡ length states)
-            × AreFailures pick self.old.failures.firsts.items self.old.failures.left.items asks.now states }
-        ensures found { OnOk result (self.new.found.items ≡ self.old.found.items ++ found ∷ []) }
-        ensures keys { OnOk result (bytes_of self.new ≡ bytes_of self.old ++ key.bytes.items ∷ []) }
-        ensures bytes { OnOk result (self.new.bytes ≡ self.old.bytes + length key.bytes.items) }
-        ensures failures { OnOk result ((states : List StateView) → length self.old.found.items ≡ length states
-            → AreFailures pick self.old.failures.firsts.items self.old.failures.left.items asks.now states
-            → AreFailures pick self.new.failures.firsts.items self.new.failures.left.items asks.now (states ++ read self.old.front.probe.state ∷ [])) }
-        ensures calm { OnOk result (self.new.failures.trial.edits.items ≡ []) }
-        ensures front { OnOk result (self.new.front ≡ self.old.front) }
+    /// What is known.
+    pub(crate) fn known(&self) -> Known<'_>
+        ensures { knowing result ≡ knowing_in self.now }
     {
+        Known {
+            keys: &self.keys,
+            firsts: self.firsts.as_slice(),
+        }
+    }
+
+    /// Tells how far the search is.
+    pub(crate) fn tell<W: Watch>(&self, watch: &mut W) {
+        if let Some(last) = self.found.last() {
+            watch.tell(self.found.len(), last.depth);
+        }
+    }
+
+    // Adds a state with its key, unless that is there already. Was it new?
+    fn push(&mut self, found: Found, marks: Marks) -> Result<bool, OutOfMemory>
+        requires few { self.old.bytes + length marks.key.bytes.items < 2 ^ 64 }
+        requires fails { All (λ j. j < length self.old.firsts.items) marks.fails.items }
+        ensures new { IfOk result (λ new. MatchBool new
+            (Contains (bytes_of self.old) marks.key.bytes.items → ⊥)
+            (Contains (bytes_of self.old) marks.key.bytes.items)) }
+        ensures added { IfOk result (λ new. MatchBool new (HasOneMore found marks self.old self.new) (HasTheSame self.old self.new)) }
+    {
+        let Marks { key, fails } = marks;
+        let bytes = key.bytes.len();
+        let added = self.keys.insert(key)?;
+        if !added {
+            return Ok(false);
+        }
         let number = self.found.len();
-        let state = &mut self.front.probe.state;
-        self.failures.ask(alloc, asks, pick, number, state)?;
-        self.bytes += key.bytes.len();
-        self.keys.insert(key)?;
+        fail_at(&mut self.firsts, number, fails.as_slice());
+        self.bytes += bytes;
         self.found.push(found)?;
-        Ok(())
-    }
-
-    // Is a state with the key that was made last there?
-    fn has_made(&self) -> bool
-        ensures { IsTrue result ↔ Contains (bytes_of self.now) self.now.maker.key.bytes.items }
-    {
-        self.keys.contains(&self.maker.key)
+        Ok(true)
     }
 
     // Is there no room for another state?
     fn is_full(&self, bounds: &Bounds) -> bool
-        ensures { IsTrue result ↔ ((bounds.now.states ≤ length self.now.found.items) ⊎ (most_bytes bounds.now ≤ self.now.bytes)) }
+        ensures full { IsTrue result ↔ ((bounds.now.states ≤ length self.now.found.items) ⊎ (most_bytes bounds.now ≤ self.now.bytes)) }
+        ensures small { IsFalse result → self.now.bytes < 2 ^ 52 }
     {
         self.found.len() >= bounds.states || self.bytes >= bounds.most_bytes()
     }
 
-    // Makes the state of this number of the one from which it was found, makes each move that it allows, keeps the states behind,
-    // and goes back. It is false if there was one too many, or if a limit of starts or of time refused one: a state that is alike might
-    // accept it.
-    fn visit(
+    // Keeps what came of the states that come next, and the families in which others were found. If the search ends there, it answers how
+    // far it came.
+    fn take_in(
         &mut self,
         alloc: Global,
-        at: usize,
-        base: &State,
-        pick: Pick,
-        moves: &[Move],
-        bounds: &Bounds,
-        asks: &[Ask],
-    ) -> Result<bool, OutOfMemory>
-        requires kept { IsKept (scope_of base.now pick moves.now bounds.now) bounds.now asks.now self.old }
-        requires short { IsShort bounds.now self.old.found.items at }
-        requires front { IsTakenUp (scope_of base.now pick moves.now bounds.now) self.old at }
-        requires begun { IsExpandedAt (scope_of base.now pick moves.now bounds.now) (seen_of (scope_of base.now pick moves.now bounds.now) self.old.found.items) at 0 }
-        ensures kept { OnOk result (IsKept (scope_of base.now pick moves.now bounds.now) bounds.now asks.now self.new) }
-        ensures made { IfOk result (λ all. MatchBool all
-            (IsExpandedAt (scope_of base.now pick moves.now bounds.now) (seen_of (scope_of base.now pick moves.now bounds.now) self.new.found.items) at (length moves.now))
-            ((made : ℕ) × IsExpandedAt (scope_of base.now pick moves.now bounds.now) (seen_of (scope_of base.now pick moves.now bounds.now) self.new.found.items) at made
-            × IsCut (scope_of base.now pick moves.now bounds.now) bounds.now (seen_of (scope_of base.now pick moves.now bounds.now) self.new.found.items) at)) }
-        ensures front { IfOk result (λ all. MatchBool all (IsFront (scope_of base.now pick moves.now bounds.now) self.new (at + 1)) ⊤) }
-        ensures grown { OnOk result (GoesOnFrom self.old.found.items self.new.found.items) }
-        ensures room { OnOk result (length self.new.found.items ≤ max (length self.old.found.items) bounds.now.states) }
+        search: &Search,
+        front: &mut Front,
+        expansions: VecDeque<Expansion>,
+    ) -> Result<Option<Covered>, OutOfMemory>
+        requires kept { IsKept (scope_of search.now) search.now.bounds search.now.asks.now self.old }
+        requires under_way { IsUnderWay (scope_of search.now) search.now.bounds (seen_in search.now self.old) front.old.next }
+        requires front { (states : List StateView) × AllZip (ExpandsSo (scope_of search.now) search.now.asks.now (knowing_in self.old)) states expansions.items
+            × IsFrontOf search.now self.old front.old states }
+        ensures kept { OnOk result (IsKept (scope_of search.now) search.now.bounds search.now.asks.now self.new) }
+        ensures next { IfOk result (λ end. IfNone end (front.new.next ≡ front.old.next + length expansions.items)) }
+        ensures under_way { IfOk result (λ end. IfNone end (IsUnderWay (scope_of search.now) search.now.bounds (seen_in search.now self.new) front.new.next)) }
+        ensures front { IfOk result (λ end. IfNone end (IsFrontOf search.now self.new front.new [])) }
+        ensures ended { IfOk result (λ end. IfSome end (IsEnded (scope_of search.now) search.now.bounds (seen_in search.now self.new))) }
     {
-        self.front.probe.enter(alloc, self.found[at].last, pick)?;
-        let before = self.found.len();
-        if !self.expand(alloc, at, base, pick, moves, bounds, asks)? {
-            return Ok(false);
-        }
-        self.front.keep(alloc, self.found.len() - before)?;
-        self.front.probe.leave();
-        Ok(true)
-    }
-
-    // Makes each move in the state of this number, where it may come, and keeps what was found. It is false where `visit` is.
-    fn expand(
-        &mut self,
-        alloc: Global,
-        at: usize,
-        base: &State,
-        pick: Pick,
-        moves: &[Move],
-        bounds: &Bounds,
-        asks: &[Ask],
-    ) -> Result<bool, OutOfMemory>
-        requires kept { IsKept (scope_of base.now pick moves.now bounds.now) bounds.now asks.now self.old }
-        requires short { IsShort bounds.now self.old.found.items at }
-        requires untried { IsUntried self.old.front.probe (seen_of (scope_of base.now pick moves.now bounds.now) self.old.found.items) at }
-        requires begun { IsExpandedAt (scope_of base.now pick moves.now bounds.now) (seen_of (scope_of base.now pick moves.now bounds.now) self.old.found.items) at 0 }
-        ensures kept { OnOk result (IsKept (scope_of base.now pick moves.now bounds.now) bounds.now asks.now self.new) }
-        ensures made { IfOk result (λ all. MatchBool all
-            (IsExpandedAt (scope_of base.now pick moves.now bounds.now) (seen_of (scope_of base.now pick moves.now bounds.now) self.new.found.items) at (length moves.now))
-            ((made : ℕ) × IsExpandedAt (scope_of base.now pick moves.now bounds.now) (seen_of (scope_of base.now pick moves.now bounds.now) self.new.found.items) at made
-            × IsCut (scope_of base.now pick moves.now bounds.now) bounds.now (seen_of (scope_of base.now pick moves.now bounds.now) self.new.found.items) at)) }
-        ensures back { IfOk result (λ all. MatchBool all (IsTakenBack self.old.front.probe self.new.front.probe) ⊤) }
-        ensures front { OnOk result (IsSameFront self.old.front self.new.front) }
-        ensures family { OnOk result (IsFamily (scope_of base.now pick moves.now bounds.now) (read self.old.front.probe.state) self.old.found.items self.new.found.items) }
-        ensures grown { OnOk result (GoesOnFrom self.old.found.items self.new.found.items) }
-        ensures room { OnOk result (length self.new.found.items ≤ max (length self.old.found.items) bounds.now.states) }
-    {
-        'moves: for one in moves {
-            if !self.reach(alloc, at, *one, base, pick, moves, bounds, asks)? {
-                return Ok(false);
+        let mut rest = expansions;
+        'expansions: while let Some(expansion) = rest.pop_front() {
+            if let Some(covered) = self.take_one(alloc, search, front, expansion)? {
+                return Ok(Some(covered));
             }
         }
-        Ok(true)
+        Ok(None)
     }
 
-    // Makes a move in the state of this number, if it may come there, and keeps what was found. It is false if it is one too many, or
-    // if a limit refused the event.
-    fn reach(
+    /// Keeps what came of the state that comes next, and its family, if others were found from it. If the search ends there, it answers
+    /// how far it came.
+    pub(crate) fn take_one(
         &mut self,
         alloc: Global,
+        search: &Search,
+        front: &mut Front,
+        expansion: Expansion,
+    ) -> Result<Option<Covered>, OutOfMemory>
+        requires kept { IsKept (scope_of search.now) search.now.bounds search.now.asks.now self.old }
+        requires under_way { IsUnderWay (scope_of search.now) search.now.bounds (seen_in search.now self.old) front.old.next }
+        requires front { IsExpandedNext search.now self.old front.old expansion }
+        ensures kept { OnOk result (IsKept (scope_of search.now) search.now.bounds search.now.asks.now self.new) }
+        ensures known { IfOk result (λ end. IfNone end (IsKnown (knowing_in self.old) self.new)) }
+        ensures next { IfOk result (λ end. IfNone end (front.new.next ≡ front.old.next + 1)) }
+        ensures under_way { IfOk result (λ end. IfNone end (IsUnderWay (scope_of search.now) search.now.bounds (seen_in search.now self.new) front.new.next)) }
+        ensures front { IfOk result (λ end. IfNone end ((s : StateView) (states : List StateView)
+            → IsFrontOf search.now self.old front.old (s ∷ states) → IsFrontOf search.now self.new front.new states)) }
+        ensures ended { IfOk result (λ end. IfSome end (IsEnded (scope_of search.now) search.now.bounds (seen_in search.now self.new))) }
+    {
+        let at = front.next;
+        let depth = self.found[at].depth;
+        if depth >= search.bounds.steps {
+            return Ok(Some(Covered::UpTo(search.bounds.steps)));
+        }
+        let Some(events) = self.take_leads(alloc, search, at, expansion.leads)? else {
+            return Ok(Some(Covered::UpTo(depth)));
+        };
+        front.keep(expansion.state, events)?;
+        Ok(None)
+    }
+
+    // Keeps the states to which the moves lead in the state of this number, and answers the events that lead to them. There is no answer
+    // if there was a state too many, or if a limit of starts or of time refused an event: a state that is alike might accept it.
+    fn take_leads(
+        &mut self,
+        alloc: Global,
+        search: &Search,
         at: usize,
-        one: Move,
-        base: &State,
-        pick: Pick,
-        moves: &[Move],
-        bounds: &Bounds,
-        asks: &[Ask],
+        leads: Vec<Lead>,
+    ) -> Result<Option<Vec<Option<Event>>>, OutOfMemory>
+        requires kept { IsKept (scope_of search.now) search.now.bounds search.now.asks.now self.old }
+        requires short { IsShort search.now.bounds self.old.found.items at }
+        requires begun { IsExpandedAt (scope_of search.now) (seen_in search.now self.old) at 0 }
+        requires leads { LeadAt search.now self.old at (λ k s. AreLeads (LeadsSo (scope_of search.now) search.now.asks.now k s) search.now.moves.now leads.items) }
+        ensures kept { OnOk result (IsKept (scope_of search.now) search.now.bounds search.now.asks.now self.new) }
+        ensures grown { OnOk result (GoesOnFrom self.old.found.items self.new.found.items) }
+        ensures room { OnOk result (length self.new.found.items ≤ max (length self.old.found.items) search.now.bounds.states) }
+        ensures all { IfOk result (λ found. IfSome found (λ events.
+            IsExpandedAt (scope_of search.now) (seen_in search.now self.new) at (length search.now.moves.now))) }
+        ensures cut { IfOk result (λ found. IfNone found ((made : ℕ) × IsExpandedAt (scope_of search.now) (seen_in search.now self.new) at made
+            × IsCut (scope_of search.now) search.now.bounds (seen_in search.now self.new) at)) }
+        ensures finds { IfOk result (λ found. IfSome found (λ events. FindsAt search.now at self.old self.new events.items)) }
+        ensures new { IfOk result (λ found. IfSome found (λ events. 0 < length events.items → list_any is_new leads.items ≡ true)) }
+    {
+        let mut rest = VecDeque::from(leads);
+        let mut events = Vec::new(alloc);
+        'leads: while let Some(lead) = rest.pop_front() {
+            if !self.take_lead(search, at, lead, &mut events)? {
+                return Ok(None);
+            }
+        }
+        Ok(Some(events))
+    }
+
+    // Keeps the state to which a move leads in the state of this number, and its event, unless it is there already. It is false where
+    // there is no answer.
+    fn take_lead(
+        &mut self,
+        search: &Search,
+        at: usize,
+        lead: Lead,
+        events: &mut Vec<Option<Event>>,
     ) -> Result<bool, OutOfMemory>
-        requires kept { IsKept (scope_of base.now pick moves.now bounds.now) bounds.now asks.now self.old }
-        requires short { IsShort bounds.now self.old.found.items at }
-        requires untried { IsUntried self.old.front.probe (seen_of (scope_of base.now pick moves.now bounds.now) self.old.found.items) at }
-        requires begun { (made : ℕ) × (slice_get moves.now made ≡ Some one)
-            × IsExpandedAt (scope_of base.now pick moves.now bounds.now) (seen_of (scope_of base.now pick moves.now bounds.now) self.old.found.items) at made }
-        ensures kept { OnOk result (IsKept (scope_of base.now pick moves.now bounds.now) bounds.now asks.now self.new) }
-        ensures made { IfOk result (λ went. (made : ℕ) → slice_get moves.now made ≡ Some one
-            → IsExpandedAt (scope_of base.now pick moves.now bounds.now) (seen_of (scope_of base.now pick moves.now bounds.now) self.old.found.items) at made
+        requires kept { IsKept (scope_of search.now) search.now.bounds search.now.asks.now self.old }
+        requires short { IsShort search.now.bounds self.old.found.items at }
+        requires leads { LeadAt search.now self.old at (λ k s. (made : ℕ) × (m : Move) × (slice_get search.now.moves.now made ≡ Some m)
+            × IsExpandedAt (scope_of search.now) (seen_in search.now self.old) at made × LeadsSo (scope_of search.now) search.now.asks.now k s m lead) }
+        ensures kept { OnOk result (IsKept (scope_of search.now) search.now.bounds search.now.asks.now self.new) }
+        ensures grown { OnOk result (GoesOnFrom self.old.found.items self.new.found.items) }
+        ensures room { OnOk result (length self.new.found.items ≤ max (length self.old.found.items) search.now.bounds.states) }
+        ensures made { IfOk result (λ went. (k : Knowing) (x : Seen) (made : ℕ) (m : Move) → slice_get (seen_in search.now self.old) at ≡ Some x
+            → IsKnown k self.old → slice_get search.now.moves.now made ≡ Some m
+            → IsExpandedAt (scope_of search.now) (seen_in search.now self.old) at made → LeadsSo (scope_of search.now) search.now.asks.now k x.state m lead
             → MatchBool went
-            (IsExpandedAt (scope_of base.now pick moves.now bounds.now) (seen_of (scope_of base.now pick moves.now bounds.now) self.new.found.items) at (made + 1))
-            (IsExpandedAt (scope_of base.now pick moves.now bounds.now) (seen_of (scope_of base.now pick moves.now bounds.now) self.new.found.items) at made
-            × IsCut (scope_of base.now pick moves.now bounds.now) bounds.now (seen_of (scope_of base.now pick moves.now bounds.now) self.new.found.items) at)) }
-        ensures back { IfOk result (λ went. MatchBool went (IsTakenBack self.old.front.probe self.new.front.probe) ⊤) }
-        ensures front { OnOk result (IsSameFront self.old.front self.new.front) }
-        ensures family { OnOk result (IsFamily (scope_of base.now pick moves.now bounds.now) (read self.old.front.probe.state) self.old.found.items self.new.found.items) }
-        ensures grown { OnOk result (GoesOnFrom self.old.found.items self.new.found.items) }
-        ensures room { OnOk result (length self.new.found.items ≤ max (length self.old.found.items) bounds.now.states) }
+            (IsExpandedAt (scope_of search.now) (seen_in search.now self.new) at (made + 1))
+            (IsExpandedAt (scope_of search.now) (seen_in search.now self.new) at made
+            × IsCut (scope_of search.now) search.now.bounds (seen_in search.now self.new) at)) }
+        ensures finds { OnOk result ((more : List (Option Event)) × (events.new.items ≡ events.old.items ++ more) × FindsAt search.now at self.old self.new more
+            × (0 < length more → is_new lead ≡ true)) }
     {
-        // Only the contract speaks of these.
-        let _ = base;
-        let _ = moves;
-        let _steps = bounds.steps;
-        let Some(event) = one.event_in(&self.front.probe.state) else {
-            return Ok(true);
-        };
-        let way = self.front.probe.make(alloc, &event, pick, bounds.down)?;
-        match way {
-            Way::To => {}
-            Way::Nowhere => {
-                self.front.probe.take_back();
-                return Ok(true);
+        match lead {
+            Lead::Nowhere | Lead::Known => Ok(true),
+            Lead::AtLimit => Ok(false),
+            Lead::To(event, marks) => {
+                if self.is_full(&search.bounds) {
+                    let known = self.keys.contains(&marks.key);
+                    return Ok(known);
+                }
+                // Fewer events than these lead to the state that is expanded, so that one more can be counted.
+                let _most = search.bounds.steps;
+                let found = Found {
+                    last: Some((at, event)),
+                    depth: self.found[at].depth + 1,
+                };
+                let new = self.push(found, marks)?;
+                if !new {
+                    return Ok(true);
+                }
+                events.push(Some(event))?;
+                Ok(true)
             }
-            Way::AtLimit => return Ok(false),
         }
-        self.maker.make(&mut self.front.probe.state)?;
-        if self.has_made() {
-            self.front.probe.take_back();
-            return Ok(true);
-        }
-        if self.is_full(bounds) {
-            return Ok(false);
-        }
-        let key = self.maker.key.copy(alloc)?;
-        let found = Found {
-            last: Some((at, event)),
-            depth: self.found[at].depth + 1,
-        };
-        self.push(alloc, key, found, pick, asks)?;
-        self.front.probe.take_back();
-        Ok(true)
     }
 }
 
-/// All states that these moves reach from the base, within the bounds, which lists of events were looked at, and what holds in them.
-pub(crate) fn search(
-    alloc: Global,
-    base: &State,
-    pick: Pick,
-    moves: &[Move],
-    bounds: &Bounds,
-    asks: &[Ask],
-) -> Result<(Space, Covered), OutOfMemory>
-    requires { IsValid (read base.now) }
-    ensures kept { IfOk result (λ found. IsKept (scope_of base.now pick moves.now bounds.now) bounds.now asks.now found.0) }
-    ensures searched { IfOk result (λ found. (done : ℕ) × IsSearched (scope_of base.now pick moves.now bounds.now) (seen_of (scope_of base.now pick moves.now bounds.now) found.0.found.items) done
-        × IsNear (seen_of (scope_of base.now pick moves.now bounds.now) found.0.found.items) done × IsEnd (seen_of (scope_of base.now pick moves.now bounds.now) found.0.found.items) done found.1) }
-    ensures few { IfOk result (λ found. All (λ (x : Seen). length x.path ≤ bounds.now.steps) (seen_of (scope_of base.now pick moves.now bounds.now) found.0.found.items)) }
-    ensures end { IfOk result (λ found. (x : Seen) → slice_get (seen_of (scope_of base.now pick moves.now bounds.now) found.0.found.items) (length found.0.found.items - 1) ≡ Some x
-        → IsEndOf (scope_of base.now pick moves.now bounds.now) bounds.now (length x.path) (states_of (seen_of (scope_of base.now pick moves.now bounds.now) found.0.found.items)) found.1) }
-    ensures covers { IfOk result (λ found. length found.0.found.items < bounds.now.states → found.0.bytes < most_bytes bounds.now
-        → StaysBelowLimits (scope_of base.now pick moves.now bounds.now) bounds.now.steps → CoversAll bounds.now.steps found.1) }
+// In the state of this number these asks fail; it is the first one for those that failed in none before.
+fn fail_at(firsts: &mut Vec<Option<usize>>, number: usize, fails: &[usize])
+    requires { All (λ j. j < length firsts.old.items) fails.now }
+    ensures { firsts.new.items ≡ all_told number firsts.old.items fails.now }
 {
-    let mut space = Space::of(alloc, base, pick, asks)?;
-    let mut next = 0;
-    'states: while space.front.take_up() {
-        let depth = space.found[next].depth;
-        if depth >= bounds.steps {
-            return Ok((space, Covered::UpTo(bounds.steps)));
+    'fails: for ask in fails {
+        tell_at(firsts, number, *ask);
+    }
+}
+
+// In the state of this number this ask fails.
+fn tell_at(firsts: &mut Vec<Option<usize>>, number: usize, ask: usize)
+    requires { ask < length firsts.old.items }
+    ensures { firsts.new.items ≡ told_at number firsts.old.items ask }
+{
+    if firsts[ask].is_some() {
+        return;
+    }
+    firsts[ask] = Some(number);
+}
+
+// About how many moves a worker makes before what came of them is kept. What they lead to is in memory as long, and a state that was found
+// among them isn't known yet; but work that is shared out more often takes more time.
+const MOVES_AT_ONCE: usize = 4_096;
+
+// How many states are expanded in a piece, where each has so many moves.
+fn states_at_once(moves: usize) -> usize
+    ensures { 0 < result }
+{
+    (MOVES_AT_ONCE / moves.max(1)).max(1)
+}
+
+// No ask failed yet.
+fn nothing_fails(alloc: Global, count: usize) -> Result<Vec<Option<usize>>, OutOfMemory>
+    ensures { IfOk result (λ firsts. firsts.items ≡ replicate count None) }
+{
+    let mut firsts = Vec::with_capacity(alloc, count)?;
+    'asks: for _number in 0..count {
+        firsts.push(None)?;
+    }
+    Ok(firsts)
+}
+
+/// All states that a search finds, by this crew, and which lists of events were looked at.
+pub(crate) fn search_by<C: Crew, W: Watch>(
+    crew: &C,
+    watch: &mut W,
+    alloc: Global,
+    search: &Search,
+) -> Result<(Space, Covered), OutOfMemory>
+    requires ready { C.ready crew.now }
+    requires valid { IsValid (read search.now.base.now) }
+    ensures kept { IfOk result (λ found. IsKept (scope_of search.now) search.now.bounds search.now.asks.now found.0) }
+    ensures ended { IfOk result (λ found. IsEnded (scope_of search.now) search.now.bounds (seen_in search.now found.0) found.1) }
+{
+    let found = if crew.count() > 1 {
+        find_together(crew, watch, alloc, search)
+    } else {
+        find_alone(watch, alloc, search)
+    };
+    watch.end();
+    found
+}
+
+// The same by several, who expand many states before what came of them is kept.
+fn find_together<C: Crew, W: Watch>(
+    crew: &C,
+    watch: &mut W,
+    alloc: Global,
+    search: &Search,
+) -> Result<(Space, Covered), OutOfMemory>
+    requires ready { C.ready crew.now }
+    requires valid { IsValid (read search.now.base.now) }
+    ensures kept { IfOk result (λ found. IsKept (scope_of search.now) search.now.bounds search.now.asks.now found.0) }
+    ensures ended { IfOk result (λ found. IsEnded (scope_of search.now) search.now.bounds (seen_in search.now found.0) found.1) }
+{
+    let mut space = Space::of(alloc, search)?;
+    let mut front = Front::of(alloc, search.base.copy(alloc)?)?;
+    let most = states_at_once(search.moves.len());
+    'turns: while !front.families.is_empty() {
+        space.tell(watch);
+        let pieces = front.take_up(alloc, crew.count(), most)?;
+        let expansions = crew.expand(alloc, search, &space.known(), pieces)?;
+        if let Some(covered) = space.take_in(alloc, search, &mut front, expansions)? {
+            return Ok((space, covered));
         }
-        let all = space.visit(alloc, next, base, pick, moves, bounds, asks)?;
-        if !all {
-            return Ok((space, Covered::UpTo(depth)));
-        }
-        next += 1;
     }
     Ok((space, Covered::All))
 }

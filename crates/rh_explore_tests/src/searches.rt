@@ -1,12 +1,16 @@
 //! Searches through all states of the clusters of the tests.
 
 use rh_cluster::{App, Node, read_cluster};
-use rh_explore::{Ask, Bounds, Condition, Covered, Explored, Move, Verdict, explore};
+use rh_explore::{
+    Alone, Ask, Bounds, Condition, Covered, Explored, Move, Nobody, Search, Threaded, Verdict,
+    explore,
+};
 use rh_samples::{CAVE, ONE_NODE};
 use rh_step::{Event, Pick};
 use rh_trail::Sim;
 use std::alloc::Global;
 use std::process::Abort;
+use std::thread::Threads;
 
 // What may happen to three nodes: crashes, boots, and a second that passes.
 static FAILURES: [Move; 7] = [
@@ -30,6 +34,20 @@ static ONE_BOOTS: [Move; 2] = [
     Move::Make(Event::Crash { node: Node(0) }),
 ];
 
+// A simulation on the cluster that a text describes, behind the first events.
+fn sim_behind(rt: &impl Abort, alloc: Global, text: &str, first: &[Event]) -> Sim {
+    let cluster = read_cluster(alloc, text.as_bytes())
+        .ok()
+        .expect(rt, "a cluster");
+    let mut sim = Sim::open(alloc, cluster, Pick::First)
+        .ok()
+        .expect(rt, "memory");
+    for event in first {
+        assert!(rt; sim.step(alloc, *event).is_ok());
+    }
+    sim
+}
+
 // What is found on the cluster that a text describes, from the state behind the first events.
 fn explored(
     rt: &impl Abort,
@@ -40,16 +58,15 @@ fn explored(
     bounds: &Bounds,
     asks: &[Ask],
 ) -> Explored {
-    let cluster = read_cluster(alloc, text.as_bytes())
-        .ok()
-        .expect(rt, "a cluster");
-    let mut sim = Sim::open(alloc, cluster, Pick::First)
-        .ok()
-        .expect(rt, "memory");
-    for event in first {
-        assert!(rt; sim.step(alloc, *event).is_ok());
-    }
-    explore(alloc, sim.state(), Pick::First, may, bounds, asks)
+    let sim = sim_behind(rt, alloc, text, first);
+    let search = Search {
+        base: sim.state(),
+        pick: Pick::First,
+        moves: may,
+        bounds: *bounds,
+        asks,
+    };
+    explore(&Alone, &mut Nobody, alloc, &search)
         .ok()
         .expect(rt, "memory")
 }
@@ -236,14 +253,13 @@ fn room_for_keys_is_wanting(rt: HostRuntime) {
     assert!(rt; found.covered == Covered::UpTo(0));
 }
 
-// The lists of the verdicts: the application doesn't run at the third node behind seven events, no fewer (so tells another search),
-// while it runs somewhere as long as two nodes are up and no timer is set.
-#[test]
-fn verdicts_are_told(rt: HostRuntime) {
+// Two asks: that the application doesn't run at the third node; and that it runs somewhere as long as two nodes are up and no timer
+// is set.
+fn two_asks(rt: &impl Abort, alloc: Global) -> [Ask; 2] {
     let app = App(0);
     let elsewhere = ask_of(
-        &rt,
-        rt.alloc(),
+        rt,
+        alloc,
         true,
         [
             [Condition::RunsNowhere(app)].as_slice(),
@@ -253,8 +269,8 @@ fn verdicts_are_told(rt: HostRuntime) {
         .as_slice(),
     );
     let somewhere = ask_of(
-        &rt,
-        rt.alloc(),
+        rt,
+        alloc,
         false,
         [
             [Condition::RunsSomewhere(app)].as_slice(),
@@ -264,8 +280,11 @@ fn verdicts_are_told(rt: HostRuntime) {
         ]
         .as_slice(),
     );
-    let asks = [elsewhere, somewhere];
-    let found = failures_explored(&rt, rt.alloc(), &up_to(8), asks.as_slice());
+    [elsewhere, somewhere]
+}
+
+// The first of them fails behind seven events, no fewer (so tells another search), and the second holds.
+fn are_right(rt: &impl Abort, found: &Explored) {
     assert_eq!(rt; found.verdicts.len(), 2);
     let length = match &found.verdicts[0] {
         Verdict::Holds => 0,
@@ -273,6 +292,55 @@ fn verdicts_are_told(rt: HostRuntime) {
     };
     assert!(rt; length == 7);
     assert!(rt; matches!(found.verdicts[1], Verdict::Holds));
+}
+
+#[test]
+fn verdicts_are_told(rt: HostRuntime) {
+    let asks = two_asks(&rt, rt.alloc());
+    let found = failures_explored(&rt, rt.alloc(), &up_to(8), asks.as_slice());
+    are_right(&rt, &found);
+}
+
+// What so many workers find of the three nodes, each in a thread of its own.
+fn found_by<R: Threads + Abort + Sync>(
+    rt: &R,
+    alloc: Global,
+    workers: usize,
+    bounds: &Bounds,
+    asks: &[Ask],
+) -> Explored {
+    let sim = sim_behind(rt, alloc, CAVE, ALL_BOOT.as_slice());
+    let search = Search {
+        base: sim.state(),
+        pick: Pick::First,
+        moves: FAILURES.as_slice(),
+        bounds: *bounds,
+        asks,
+    };
+    let crew = Threaded::new(rt, workers);
+    explore(&crew, &mut Nobody, alloc, &search)
+        .ok()
+        .expect(rt, "memory")
+}
+
+// What others count and tell (above) is found by any number of workers.
+fn find_the_same<R: Threads + Abort + Sync>(rt: &R, alloc: Global) {
+    let asks = two_asks(rt, alloc);
+    let no_asks = Vec::new(alloc);
+    for workers in [1, 2, 4, 16] {
+        let eight = found_by(rt, alloc, workers, &up_to(8), asks.as_slice());
+        assert!(rt; eight.states == 399);
+        assert!(rt; eight.covered == Covered::UpTo(8));
+        are_right(rt, &eight);
+        let all = found_by(rt, alloc, workers, &up_to(100), no_asks.as_slice());
+        assert!(rt; all.states == 1_755);
+        assert!(rt; all.covered == Covered::All);
+    }
+}
+
+#[test]
+fn the_number_of_workers_has_no_effect(rt: HostRuntime) {
+    find_the_same(&rt, rt.alloc());
 }
 
 // It is asked whether an application runs somewhere in so many milliseconds.

@@ -18,6 +18,7 @@ use rh_base::OutOfMemory;
 use rh_calls::Call;
 use rh_cluster::{Cluster, read_cluster};
 use rh_devices::{Sink, Source, Watched, read_input, write_text};
+use rh_explore::{Crew, Watch};
 use rh_run::{RunFault, Told, ended};
 use rh_script::{answer_text, bad_text, cut, fault_text};
 use rh_step::Pick;
@@ -28,14 +29,17 @@ use std::alloc::Global;
 /// base's commands, as [`rh_run::run`] does, and what the search finds from there: how many states its events reach, and of each
 /// ask that it holds, or a shortest list of events behind which it doesn't.
 ///
-/// No more states are kept than there is room for. The input has at most 16,777,216 bytes. Neither device is flushed.
+/// The states are expanded by this crew, and somebody may watch. What is written depends on neither. No more states are kept than there
+/// is room for. The input has at most 16,777,216 bytes. Neither device is flushed.
 ///
 /// # Errors
 /// `Cluster` and `BadLine` (a line that is no command of the base and none of a search) are told alone. `Differs` is the end of the
 /// text that was written, where what is asked fails, and `Unfinished`, where none does and there are more states than room, or
 /// a limit of starts or of time was. `Read` comes where the reader has failed or the input is too long, and `OutOfMemory` where a growth was
 /// refused: nothing was written. `Write` comes where the writer has failed: a front of the text was written.
-pub fn run_explore<S: Source, K: Sink>(
+pub fn run_explore<C: Crew, W: Watch, S: Source, K: Sink>(
+    crew: &C,
+    watch: &mut W,
     alloc: Global,
     reader: &mut Watched<S>,
     writer: &mut Watched<K>,
@@ -44,10 +48,11 @@ pub fn run_explore<S: Source, K: Sink>(
 ) -> Result<(), RunFault>
     requires reader { reader.old.failed ≡ false }
     requires writer { writer.old.failed ≡ false }
+    requires ready { C.ready crew.now }
     ensures { ProgramGives S.gives S.fails K.takes K.fails (OwesExplore pick room) NoThreads result reader.old reader.new writer.old writer.new }
 {
     let input = read_input(alloc, reader)?;
-    let Ok(answer) = answer_of(alloc, input.as_slice(), pick, room) else {
+    let Ok(answer) = answer_of(crew, watch, alloc, input.as_slice(), pick, room) else {
         return Err(RunFault::OutOfMemory);
     };
     write_text(writer, answer.text.as_slice())?;
@@ -65,12 +70,15 @@ struct Answer {
 
 // What is answered to an input.
 #[tactic(auto, unfolding(crate::specs::ExploreText::MayExplore))]
-fn answer_of(
+fn answer_of<C: Crew, W: Watch>(
+    crew: &C,
+    watch: &mut W,
     alloc: Global,
     input: &[u8],
     pick: Pick,
     room: SearchRoom,
 ) -> Result<Answer, OutOfMemory>
+    requires { C.ready crew.now }
     ensures { IfOk result (λ answer. MayExplore pick room input.now answer.text.items answer.end) }
 {
     let (text, script) = cut(input);
@@ -83,18 +91,21 @@ fn answer_of(
             let end = Some(Told::Cluster(fault));
             Ok(Answer { text, end })
         }
-        Ok(cluster) => answer_script(alloc, cluster, script, pick, room),
+        Ok(cluster) => answer_script(crew, watch, alloc, cluster, script, pick, room),
     }
 }
 
 // What is answered to a script.
-fn answer_script(
+fn answer_script<C: Crew, W: Watch>(
+    crew: &C,
+    watch: &mut W,
     alloc: Global,
     cluster: Cluster,
     script: &[u8],
     pick: Pick,
     room: SearchRoom,
 ) -> Result<Answer, OutOfMemory>
+    requires { C.ready crew.now }
     ensures { IfOk result (λ answer. let lines = search_lines_asked cluster (map content (raw_lines script.now)) in
         MayTellLines cluster pick room lines (bad_search_line lines) answer.text.items answer.end) }
 {
@@ -104,24 +115,29 @@ fn answer_script(
             let end = Some(Told::BadLine(number));
             Ok(Answer { text, end })
         }
-        SearchScript::Search(search) => answer_search(alloc, cluster, &search, pick, room),
+        SearchScript::Search(search) => answer_search(
+            crew, watch, alloc, cluster, &search, pick, room,
+        ),
     }
 }
 
 // What is answered to what is asked of a search.
-fn answer_search(
+fn answer_search<C: Crew, W: Watch>(
+    crew: &C,
+    watch: &mut W,
     alloc: Global,
     cluster: Cluster,
     search: &Search,
     pick: Pick,
     room: SearchRoom,
 ) -> Result<Answer, OutOfMemory>
+    requires { C.ready crew.now }
     ensures { IfOk result (λ answer. MayFind cluster pick room (search_view search.now) (explored_text cluster pick (search_view search.now))
         answer.text.items answer.end) }
 {
     let mut sim = Sim::open(alloc, cluster, pick)?;
     let mut text = answers_to(alloc, &mut sim, search.base.as_slice())?;
-    let found = found_from(alloc, &sim, search, pick, room)?;
+    let found = found_from(crew, watch, alloc, &sim, search, pick, room)?;
     push_found(
         alloc,
         &mut text,

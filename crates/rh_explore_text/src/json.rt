@@ -20,7 +20,7 @@ use crate::telling::found_end;
 use rh_asked::SearchRoom;
 use rh_cluster::Cluster;
 use rh_devices::{Sink, Source, Watched, WriteFault, read_input, write_text};
-use rh_explore::Verdict;
+use rh_explore::{Crew, Verdict, Watch};
 use rh_json::{write_bad, write_base, write_check};
 use rh_run::{RunFault, Told, ended};
 use rh_state::State;
@@ -31,12 +31,14 @@ use std::alloc::Global;
 /// cluster, each command of the base with its answer, as [`rh_json::run_json`] does, what the search finds from there, and each ask
 /// with the verdict on it.
 ///
-/// The search is made before anything is written. No more states are kept than there is room for. The input has at most 16,777,216
-/// bytes. Neither device is flushed.
+/// The search is made before anything is written. Its states are expanded by this crew, and somebody may watch. What is written depends
+/// on neither. No more states are kept than there is room for. The input has at most 16,777,216 bytes. Neither device is flushed.
 ///
 /// # Errors
 /// Those of [`crate::run_explore`], for the same inputs: `Cluster` and `BadLine` are what the last line tells.
-pub fn explore_json<S: Source, K: Sink>(
+pub fn explore_json<C: Crew, W: Watch, S: Source, K: Sink>(
+    crew: &C,
+    watch: &mut W,
     alloc: Global,
     reader: &mut Watched<S>,
     writer: &mut Watched<K>,
@@ -45,11 +47,12 @@ pub fn explore_json<S: Source, K: Sink>(
 ) -> Result<(), RunFault>
     requires reader { reader.old.failed ≡ false }
     requires writer { writer.old.failed ≡ false }
+    requires ready { C.ready crew.now }
     ensures { ProgramGives S.gives S.fails K.takes K.fails (OwesExploreJson pick room) NoThreads result reader.old reader.new writer.old writer.new }
 {
     let input = read_input(alloc, reader)?;
     let bytes = input.as_slice();
-    let Ok(finding) = finding_of(alloc, bytes, pick, room) else {
+    let Ok(finding) = finding_of(crew, watch, alloc, bytes, pick, room) else {
         return Err(RunFault::OutOfMemory);
     };
     let told = write_finding(alloc, bytes, finding, writer, pick)?;

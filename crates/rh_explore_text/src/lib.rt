@@ -3,7 +3,7 @@
 //! [`run_explore`] reads a cluster file, a base, and behind it which events may come and what is asked of each state that they
 //! reach. It tells of each ask that it holds, or the shortest list of events behind which it doesn't. [`explore_json`] tells the same
 //! by lines of JSON, for programs; a law says that its lines of the base are those of the same commands
-//! ([`search_base_is_answered`]).
+//! ([`search_base_is_answered`]). A [`rh_explore::Crew`] expands the states for both, and what is told is the same for any.
 #![tactic(auto)]
 
 mod asks;

@@ -16,7 +16,7 @@ use crate::reading::{Search, SearchScript, search_in};
 use rh_asked::SearchRoom;
 use rh_base::OutOfMemory;
 use rh_cluster::{Cluster, ClusterFault, read_cluster};
-use rh_explore::{Bounds, Explored, explore};
+use rh_explore::{Bounds, Crew, Explored, Search as StateSearch, Watch, explore};
 use rh_json::make_calls;
 use rh_script::cut;
 use rh_step::Pick;
@@ -45,14 +45,17 @@ pub enum Finding {
     Search(Searched),
 }
 
-/// What a search finds from where a simulation stands.
-pub fn found_from(
+/// What a search by this crew finds from where a simulation stands.
+pub fn found_from<C: Crew, W: Watch>(
+    crew: &C,
+    watch: &mut W,
     alloc: Global,
     sim: &Sim,
     search: &Search,
     pick: Pick,
     room: SearchRoom,
 ) -> Result<Explored, OutOfMemory>
+    requires ready { C.ready crew.now }
     ensures found { IfOk result
         (IsFound (scope_from (state_of sim.now.seen) pick (search_view search.now)) search.now.steps room search.now.asks.items) }
     ensures come { IfOk result (λ x. All (CanCome pick (state_of sim.now.seen)) x.verdicts.items) }
@@ -65,18 +68,28 @@ pub fn found_from(
     };
     let moves = search.moves.as_slice();
     let asks = search.asks.as_slice();
-    let found = explore(alloc, sim.state(), pick, moves, &bounds, asks)?;
+    let whole = StateSearch {
+        base: sim.state(),
+        pick,
+        moves,
+        bounds,
+        asks,
+    };
+    let found = explore(crew, watch, alloc, &whole)?;
     Ok(found)
 }
 
-/// What is known of an input.
+/// What is known of an input, by this crew.
 #[tactic(auto, unfolding(crate::specs::ExploreJson::MayExploreJson, rh_json::specs::CheckJson::check_json))]
-pub fn finding_of(
+pub fn finding_of<C: Crew, W: Watch>(
+    crew: &C,
+    watch: &mut W,
     alloc: Global,
     input: &[u8],
     pick: Pick,
     room: SearchRoom,
 ) -> Result<Finding, OutOfMemory>
+    requires ready { C.ready crew.now }
     ensures may { IfOk result (λ it. MayExploreJson pick room input.now (finding_json pick input.now it) (finding_end it)) }
     ensures told { IfOk result (CanBeTold pick input.now) }
 {
@@ -88,19 +101,22 @@ pub fn finding_of(
             }
             Ok(Finding::NoCluster(fault))
         }
-        Ok(cluster) => finding_in(alloc, cluster, input, pick, room),
+        Ok(cluster) => finding_in(crew, watch, alloc, cluster, input, pick, room),
     }
 }
 
 // What is known of an input that has this cluster.
-fn finding_in(
+fn finding_in<C: Crew, W: Watch>(
+    crew: &C,
+    watch: &mut W,
     alloc: Global,
     cluster: Cluster,
     input: &[u8],
     pick: Pick,
     room: SearchRoom,
 ) -> Result<Finding, OutOfMemory>
-    requires { cluster_of (cluster_text input.now) ≡ Ok cluster }
+    requires ready { C.ready crew.now }
+    requires cluster { cluster_of (cluster_text input.now) ≡ Ok cluster }
     ensures may { IfOk result (λ it. MayTellJson cluster pick room (script_lines input.now)
         (bad_search_line (search_lines_asked cluster (script_lines input.now))) (finding_json pick input.now it) (finding_end it)) }
     ensures told { IfOk result (CanBeTold pick input.now) }
@@ -109,20 +125,23 @@ fn finding_in(
     match search_in(alloc, &cluster, script)? {
         SearchScript::BadLine(number) => Ok(Finding::BadLine(number)),
         SearchScript::Search(search) => {
-            let searched = search_from(alloc, cluster, search, pick, room)?;
+            let searched = search_from(crew, watch, alloc, cluster, search, pick, room)?;
             Ok(Finding::Search(searched))
         }
     }
 }
 
-// Makes a search in a cluster.
-fn search_from(
+// Makes a search in a cluster, by this crew.
+fn search_from<C: Crew, W: Watch>(
+    crew: &C,
+    watch: &mut W,
     alloc: Global,
     cluster: Cluster,
     search: Search,
     pick: Pick,
     room: SearchRoom,
 ) -> Result<Searched, OutOfMemory>
+    requires ready { C.ready crew.now }
     ensures search { IfOk result (λ it. it.search ≡ search) }
     ensures base { IfOk result (λ it. it.sim.seen ≡ base_of cluster pick (search_view it.search)) }
     ensures cluster { IfOk result (λ it. it.sim.seen.cluster ≡ cluster) }
@@ -132,6 +151,6 @@ fn search_from(
 {
     let mut sim = Sim::open(alloc, cluster, pick)?;
     make_calls(alloc, &mut sim, search.base.as_slice())?;
-    let found = found_from(alloc, &sim, &search, pick, room)?;
+    let found = found_from(crew, watch, alloc, &sim, &search, pick, room)?;
     Ok(Searched { sim, search, found })
 }

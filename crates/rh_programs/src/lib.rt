@@ -10,5 +10,6 @@ mod status;
 mod sweeping;
 
 pub use rh_asked::{Program, SearchRoom};
+pub use rh_explore::{Nobody, Watch};
 pub use status::{rehearse_alone, rehearse_dialogue, rehearse_together};
 pub use sweeping::{sweep_json, sweep_json_alone};

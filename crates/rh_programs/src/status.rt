@@ -9,6 +9,7 @@ use crate::sweeping::{sweep_json, sweep_json_alone};
 use rh_app::{run_sessions, run_sweep, run_sweep_alone};
 use rh_asked::Program;
 use rh_devices::{Sink, Source, Watched};
+use rh_explore::{Alone, Threaded, Watch};
 use rh_explore_text::{explore_json, run_explore};
 use rh_json::{check_json, run_json};
 use rh_lint::run_lint;
@@ -22,17 +23,18 @@ use std::sync::Wait;
 use std::thread::Threads;
 
 /// Runs a program that starts no threads over its devices, flushes the writer, however it ended, and answers the exit status.
-/// It is lent nothing by which it could wait.
+/// It is lent nothing by which it could wait. Of a search it is told how far that is.
 ///
 /// 0 says that the whole text of all that was read was written and flushed, and tells no fault. 2 is a text that describes no
 /// cluster, 3 a bad line, 4 a device that failed or an input that is too long, 5 want of memory, 6 plans that can't be swept,
 /// 9 a step that was refused where the program was asked to be strict, or what a script expects or asks and doesn't hold, or an
 /// input in which lint finds what counts, 10 a search that ended before all was looked at.
-pub fn rehearse_alone<S: Source, K: Sink>(
+pub fn rehearse_alone<S: Source, K: Sink, W: Watch>(
     alloc: Global,
     program: Program,
     reader: &mut Watched<S>,
     writer: &mut Watched<K>,
+    watch: &mut W,
 ) -> u8
     requires reader { reader.old.failed ≡ false }
     requires writer { writer.old.failed ≡ false }
@@ -40,7 +42,7 @@ pub fn rehearse_alone<S: Source, K: Sink>(
     ensures ends { StatusGives S.gives S.fails K.takes K.flushes K.fails program result reader.old reader.new writer.old writer.new }
     ensures done { result ≡ 0 → IsDone S.gives K.takes K.flushes program reader.old reader.new writer.old writer.new }
 {
-    let ended = ended_alone(alloc, program, reader, writer);
+    let ended = ended_alone(alloc, program, reader, writer, watch);
     flushed(ended, writer)
 }
 
@@ -48,12 +50,13 @@ pub fn rehearse_alone<S: Source, K: Sink>(
 /// exit status. It may wait for its threads: the contract holds if it returns.
 ///
 /// The status is that of [`rehearse_alone`]; and 6 is sessions whose threads made no one history, too.
-pub fn rehearse_together<T: Threads + Wait + Sync, S: Source, K: Sink>(
+pub fn rehearse_together<T: Threads + Wait + Sync, S: Source, K: Sink, W: Watch>(
     rt: &T,
     alloc: Global,
     program: Program,
     reader: &mut Watched<S>,
     writer: &mut Watched<K>,
+    watch: &mut W,
 ) -> u8
     requires reader { reader.old.failed ≡ false }
     requires writer { writer.old.failed ≡ false }
@@ -61,7 +64,7 @@ pub fn rehearse_together<T: Threads + Wait + Sync, S: Source, K: Sink>(
     ensures ends { StatusGives S.gives S.fails K.takes K.flushes K.fails program result reader.old reader.new writer.old writer.new }
     ensures done { result ≡ 0 → IsDone S.gives K.takes K.flushes program reader.old reader.new writer.old writer.new }
 {
-    let ended = ended_together(rt, alloc, program, reader, writer);
+    let ended = ended_together(rt, alloc, program, reader, writer, watch);
     flushed(ended, writer)
 }
 
@@ -76,11 +79,12 @@ pub fn rehearse_dialogue<D: Source + Sink>(alloc: Global, pick: Pick, device: &m
 }
 
 // Runs a program that starts no threads over its devices.
-fn ended_alone<S: Source, K: Sink>(
+fn ended_alone<S: Source, K: Sink, W: Watch>(
     alloc: Global,
     program: Program,
     reader: &mut Watched<S>,
     writer: &mut Watched<K>,
+    watch: &mut W,
 ) -> Result<(), RunFault>
     requires reader { reader.old.failed ≡ false }
     requires writer { writer.old.failed ≡ false }
@@ -96,8 +100,12 @@ fn ended_alone<S: Source, K: Sink>(
         Program::Story(pick, whole) => run_story(alloc, reader, writer, pick, whole),
         Program::Verify(pick) => run_verify(alloc, reader, writer, pick),
         Program::Lint(pick, manner) => run_lint(alloc, reader, writer, pick, manner),
-        Program::Explore(pick, room) => run_explore(alloc, reader, writer, pick, room),
-        Program::ExploreJson(pick, room) => explore_json(alloc, reader, writer, pick, room),
+        Program::Explore(pick, room, _) => {
+            run_explore(&Alone, watch, alloc, reader, writer, pick, room)
+        }
+        Program::ExploreJson(pick, room, _) => {
+            explore_json(&Alone, watch, alloc, reader, writer, pick, room)
+        }
         Program::Sweep(pick, _) => run_sweep_alone(alloc, reader, writer, pick),
         Program::SweepJson(pick, _) => sweep_json_alone(alloc, reader, writer, pick),
         Program::Sessions(_) => unreachable!(),
@@ -105,12 +113,13 @@ fn ended_alone<S: Source, K: Sink>(
 }
 
 // Runs a program over its devices, with threads where it starts any.
-fn ended_together<T: Threads + Wait + Sync, S: Source, K: Sink>(
+fn ended_together<T: Threads + Wait + Sync, S: Source, K: Sink, W: Watch>(
     rt: &T,
     alloc: Global,
     program: Program,
     reader: &mut Watched<S>,
     writer: &mut Watched<K>,
+    watch: &mut W,
 ) -> Result<(), RunFault>
     requires reader { reader.old.failed ≡ false }
     requires writer { writer.old.failed ≡ false }
@@ -118,12 +127,20 @@ fn ended_together<T: Threads + Wait + Sync, S: Source, K: Sink>(
     ensures { ProgramGives S.gives S.fails K.takes K.fails (Owes program) (MayTear program) result reader.old reader.new writer.old writer.new }
 {
     match program {
+        Program::Explore(pick, room, workers) => {
+            let crew = Threaded::new(rt, workers);
+            run_explore(&crew, watch, alloc, reader, writer, pick, room)
+        }
+        Program::ExploreJson(pick, room, workers) => {
+            let crew = Threaded::new(rt, workers);
+            explore_json(&crew, watch, alloc, reader, writer, pick, room)
+        }
         Program::Sessions(pick) => run_sessions(rt, alloc, reader, writer, pick),
         Program::Sweep(pick, workers) => run_sweep(rt, alloc, reader, writer, pick, workers),
         Program::SweepJson(pick, workers) => {
             sweep_json(rt, alloc, reader, writer, pick, workers)
         }
-        _ => ended_alone(alloc, program, reader, writer),
+        _ => ended_alone(alloc, program, reader, writer, watch),
     }
 }
 

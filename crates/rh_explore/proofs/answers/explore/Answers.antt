@@ -16,15 +16,15 @@ use Rattle.rh_explore.proofs.Zips.{zip_through}
 use Rattle.rh_explore.proofs.answers.explore.Goals as goal
 
 pub verdicts_on-requires-clause-linked : goal.verdicts_on-requires-clause-linked
-verdicts_on-requires-clause-linked c =
+verdicts_on-requires-clause-linked g c =
     subst AreLinked (sym (c.as_slice-found.ensures.value ∙ (λ i. (c.into_found-all.ensures.found i).items))) c.in_ok-space.ensures.kept.linked
 
 pub verdicts_on-requires-clause-within : goal.verdicts_on-requires-clause-within
-verdicts_on-requires-clause-within c = λ j i at.
-    let w = scope_of c.args.base.now c.args.pick c.args.moves.now c.args.bounds.now in
+verdicts_on-requires-clause-within g c = λ j i at.
+    let w = scope_of c.args.search.now in
     let space = c.in_ok-space.space in
     let k = c.in_ok-space.ensures.kept in
-    let l = failure_within c.args.pick space.failures.firsts.items space.failures.left.items c.args.asks.now (seen_of w space.found.items) k.failures j i
+    let l = failure_within c.args.search.now.pick space.firsts.items c.args.search.now.asks.now (seen_of w space.found.items) k.firsts j i
     (ap (λ (fs : List (Option ℕ)). slice_get fs j) (sym (c.as_slice.ensures.value ∙ (λ i. (c.into_found-all.ensures.firsts i).items))) ∙ at) in
     omega (arith, l, length-seen w space.found.items, ap (λ (fs : List Found). length fs) (c.as_slice-found.ensures.value ∙ (λ i. (c.into_found-all.ensures.found i).items)))
 
@@ -32,9 +32,9 @@ abbrev none : Found
 none = record { last = None; depth = 0 }
 
 pub returns : goal.returns
-returns c =
-    let w = scope_of c.args.base.now c.args.pick c.args.moves.now c.args.bounds.now in
-    let bounds = c.args.bounds.now in
+returns g c =
+    let w = scope_of c.args.search.now in
+    let bounds = c.args.search.now.bounds in
     let steps = bounds.steps in
     let covered = c.in_ok-space.covered in
     let space = c.in_ok-space.space in
@@ -42,11 +42,11 @@ returns c =
     let slice : List Found = c.as_slice-found.result.now in
     let value : slice ≡ items = c.as_slice-found.ensures.value ∙ (λ i. (c.into_found-all.ensures.found i).items) in
     let many = ap (λ (xs : List Found). length xs) value in
-    let s = c.in_ok-space.ensures.searched in
+    let e = c.in_ok-space.ensures.ended in
     let k = c.in_ok-space.ensures.kept in
     let seen = seen_of w items in
     let long = length-seen w items in
-    let some = slice_get_within seen 0 _ s.1.begins in
+    let some = slice_get_within seen 0 _ e.searched.begins in
     let last = length items - 1 in
     let f = get_or items last none in
     let within : last < length items = omega (arith, long, some) in
@@ -56,22 +56,22 @@ returns c =
     let deep : f.depth ≡ length x.path = depth_is items last f k.linked there in
     let told : (get_or slice (length slice - 1) none).depth ≡ f.depth = ap (λ (fs : List Found). (get_or fs (length fs - 1) none).depth) value in
     let is_last : last + 1 ≡ length seen = omega (arith, long, some) in
-    let few = at_of (λ (y : Seen). length y.path ≤ steps) seen last x c.in_ok-space.ensures.few here in
-    let firsts = space.failures.firsts.items in
+    let few = at_of (λ (y : Seen). length y.path ≤ steps) seen last x e.few here in
+    let firsts = space.firsts.items in
     record {
       found = states_of seen;
       states = length-map seen (λ (y : Seen). y.state) ∙ long ∙ sym many;
       bytes = sym k.bytes;
       reached = subst (λ (n : ℕ). AreReached w n covered (states_of seen)) (sym (told ∙ deep))
-          (are_reached w seen s.0 s.1 s.2 last x here is_last covered s.3 (next_in_order w seen s.0 s.1 k.in_turn));
+          (are_reached w seen e.done e.searched e.near last x here is_last covered e.end (next_in_order w seen e.done e.searched k.in_turn));
       deepest = omega (arith, few, deep, told);
       room = k.room;
-      end = subst (λ (n : ℕ). IsEndOf w bounds n (states_of seen) covered) (sym (told ∙ deep)) (c.in_ok-space.ensures.end x here);
-      covers = λ less small below. c.in_ok-space.ensures.covers (omega (arith, less, many)) small below;
-      verdicts = zip_through (IsTold items) (IsVerdict w steps covered (states_of seen)) firsts c.args.asks.now c.in_ok-verdicts.verdicts.items k.failures.count
+      end = subst (λ (n : ℕ). IsEndOf w bounds n (states_of seen) covered) (sym (told ∙ deep)) (e.why x (ap (slice_get seen) (omega (arith, long)) ∙ here));
+      covers = λ less small below. e.covers (omega (arith, less, many, long)) (omega (arith, small, k.bytes)) below;
+      verdicts = zip_through (IsTold items) (IsVerdict w steps covered (states_of seen)) firsts c.args.search.now.asks.now c.in_ok-verdicts.verdicts.items k.firsts.count
           (λ j first ask v at that is.
-          verdict_so w seen s.0 s.1 k.in_turn steps c.in_ok-space.ensures.few covered s.3 ask v
-          (told_first w items firsts space.failures.left.items c.args.asks.now k.failures j first ask v at that is))
+          verdict_so w seen e.done e.searched k.in_turn steps e.few covered e.end ask v
+          (told_first w items firsts c.args.search.now.asks.now k.firsts j first ask v at that is))
           (subst (λ (fs : List (Option ℕ)). AllZip (IsTold items) fs c.in_ok-verdicts.verdicts.items)
           (c.as_slice.ensures.value ∙ (λ i. (c.into_found-all.ensures.firsts i).items))
           (subst (λ (found : List Found). AllZip (IsTold found) c.as_slice.result.now c.in_ok-verdicts.verdicts.items) value c.in_ok-verdicts.ensures));

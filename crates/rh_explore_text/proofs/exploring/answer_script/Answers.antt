@@ -6,7 +6,7 @@ use Rattle.rh_explore_text.proofs.Finding.{lines_told}
 use Rattle.rh_explore_text.proofs.exploring.answer_script.Goals as goal
 
 pub returns-in-Search : goal.returns-in-Search
-returns-in-Search c =
+returns-in-Search g c =
     let lines = search_lines_asked c.args.cluster (map content (raw_lines c.args.script.now)) in
     let read = rw c.in-Search.is at c.in_ok-number.ensures in
     lines_told c.answer_search.result c.args.cluster c.args.pick c.args.room lines (bad_search_line lines) (search_view c.in-Search.search)

@@ -12,11 +12,11 @@ use Rattle.rh_explore_text.specs.ExploreText.{IsFound, scope_from}
 use Rattle.rh_explore_text.proofs.exploring.answer_search.Goals as goal
 
 pub push_found-requires-clause-come : goal.push_found-requires-clause-come
-push_found-requires-clause-come c =
+push_found-requires-clause-come g c =
     subst (λ (s : StateView). All (CanCome c.args.pick s) c.in_ok-found.found.verdicts.items) (sym c.state.ensures.state) c.in_ok-found.ensures.come
 
 pub returns : goal.returns
-returns c =
+returns g c =
     let cluster = c.args.cluster in
     let pick = c.args.pick in
     let search = c.args.search.now in

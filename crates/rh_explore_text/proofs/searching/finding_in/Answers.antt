@@ -6,15 +6,15 @@ use Rattle.rh_explore_text.proofs.KnownTold.{bad_told, search_told}
 use Rattle.rh_explore_text.proofs.searching.finding_in.Goals as goal
 
 pub returns-in-BadLine-clause-may : goal.returns-in-BadLine-clause-may
-returns-in-BadLine-clause-may c =
+returns-in-BadLine-clause-may g c =
     let cluster = c.args.cluster in
     let bytes = c.args.input.now in
     let read = rw c.in-BadLine.is at c.in_ok-number.ensures in
     let is = ap (λ (ls : List (List ℕ)). bad_search_line (search_lines_asked cluster ls)) (sym c.cut.ensures.script) ∙ read in
-    bad_told cluster c.args.pick c.args.room bytes (bad_search_line (search_lines_asked cluster (script_lines bytes))) c.in-BadLine.number c.requires is
+    bad_told cluster c.args.pick c.args.room bytes (bad_search_line (search_lines_asked cluster (script_lines bytes))) c.in-BadLine.number c.requires.cluster is
 
 pub returns-in_ok-searched-in-Search-clause-may : goal.returns-in_ok-searched-in-Search-clause-may
-returns-in_ok-searched-in-Search-clause-may c =
+returns-in_ok-searched-in-Search-clause-may g c =
     let cluster = c.args.cluster in
     let bytes = c.args.input.now in
     let it = c.in_ok-searched-in-Search.searched in
@@ -26,5 +26,5 @@ returns-in_ok-searched-in-Search-clause-may c =
     c.in_ok-searched-in-Search.ensures.found
 
 pub returns-in_ok-searched-in-Search-clause-told : goal.returns-in_ok-searched-in-Search-clause-told
-returns-in_ok-searched-in-Search-clause-told c =
-    (c.requires ∙ ap Ok (sym c.in_ok-searched-in-Search.ensures.cluster), c.in_ok-searched-in-Search.ensures.come)
+returns-in_ok-searched-in-Search-clause-told g c =
+    (c.requires.cluster ∙ ap Ok (sym c.in_ok-searched-in-Search.ensures.cluster), c.in_ok-searched-in-Search.ensures.come)
