@@ -1,5 +1,6 @@
 pub mod LookedShapes
 pub mod FoundInKept
-mod Rows
+mod RowsCuts
+mod RowsDiffering
 mod RowsHints
 mod RowsWays

@@ -7,9 +7,13 @@ pub mod File
 pub mod Text
 pub mod Blame
 pub mod Constructs
+pub mod Cuts
+pub mod Differing
 pub mod Expected
 pub mod Hints
+pub mod Sides
 pub mod Spans
 pub mod Telling
+pub mod Told
 pub mod Ways
 pub mod Words

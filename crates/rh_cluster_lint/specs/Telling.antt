@@ -1,20 +1,18 @@
 -- How a fault is told with its place (ours).
-use Rattle.std.specs.Prelude.{ℕ, List, [], ◌++◌, codes, length, take, drop, nat_lt, ◌==◌, Option, Some, None, if◌then◌else◌}
+use Rattle.std.specs.Prelude.{ℕ, ◌-◌, List, [], ◌++◌, codes, fold, length, take, slice_get, nat_lt, ◌&&◌, ◌==◌, Option, Some, None, if◌then◌else◌}
 use Rattle.std.specs.List.{before_first}
 use Rattle.rh_cluster.specs.declared.fault.ClusterFault.{ClusterFault}
 use Rattle.rh_cluster.specs.declared.fault.ClusterFault.TheVariants as fault
 use Rattle.rh_findings.specs.declared.finding.Finding.{Finding}
-use Rattle.rh_cluster_lint.specs.Faults.{fault_finding}
-use Rattle.rh_findings.specs.declared.tuples.Tuple.{Tuple}
+use Rattle.rh_cluster_lint.specs.declared.blame.Step.{Step}
 use Rattle.rh_cluster_lint.specs.declared.telling.TheConstants.{MOST_SHOWN}
-use Rattle.rh_cluster_lint.specs.Blame.{blamed}
 use Rattle.rh_cluster_lint.specs.Expected.{expected}
 use Rattle.rh_cluster_lint.specs.Hints.{hint_words}
 use Rattle.rh_cluster_lint.specs.Spans.{span}
-use Rattle.rh_cluster_lint.specs.Ways.{way}
+use Rattle.rh_cluster_lint.specs.Ways.{is_named, way}
 use Rattle.rh_cluster_lint.specs.Words.{words_of, first_word}
 
--- what is shown of the bytes of a tuple: their first line, cut where it is long, and dots behind it where that isn't all
+-- what is shown of the bytes of a part: their first line, cut where it is long, and dots behind it where that isn't all
 abbrev pub front : List ℕ → List ℕ
 front bytes = take MOST_SHOWN (before_first (λ b. b == 10) bytes)
 
@@ -24,32 +22,35 @@ dots bytes = if nat_lt (length (front bytes)) (length bytes) then codes ".." els
 abbrev pub shown : List ℕ → List ℕ
 shown bytes = words_of (front bytes) ++ dots bytes
 
--- what is said of what a tuple takes, where it takes something else than it has
-abbrev pub takes : ClusterFault → List ℕ → List ℕ
-takes fault.BadValue bytes = expected (first_word bytes)
-takes _ bytes = []
+-- what is said of what stands in a section, a key or a parameter
+abbrev pub expected_in : List ℕ → Step → List ℕ
+expected_in text s = if nat_lt 0 s.part.depth && is_named text s then expected (first_word (span text s.part)) else []
+
+-- of the last of these of which something is said
+abbrev pub or_before : List ℕ → List ℕ → List ℕ
+or_before told more = if length more == 0 then told else more
+
+abbrev pub expected_on : List ℕ → List Step → List ℕ
+expected_on text steps = fold (λ told s. or_before told (expected_in text s)) [] steps
+
+-- where something else stands there
+abbrev pub takes : List ℕ → ClusterFault → List Step → List ℕ
+takes text fault.BadValue steps = expected_on text steps
+takes text _ steps = []
 
 -- a finding with what may have been meant
 unfoldable pub hinted : List ℕ → ClusterFault → Finding → Finding
 hinted text fault f = record { line = f.line; kind = f.kind; text = f.text ++ hint_words text fault f.line; path = None }
 
--- a finding with the place of a tuple, and the way there
-abbrev pub placed : List ℕ → ClusterFault → Finding → Tuple → Finding
-placed text fault f t = record {
-  line = Some t.line;
+-- a finding with the place of the part at the end of the way, and the way there
+abbrev pub placed_at : List ℕ → ClusterFault → Finding → List Step → Option Step → Finding
+placed_at text fault f steps None = f
+placed_at text fault f steps (Some s) = record {
+  line = Some s.part.line;
   kind = f.kind;
-  text = f.text ++ (codes ": " ++ (shown (span text t) ++ takes fault (span text t)));
-  path = Some (way text t);
+  text = f.text ++ (codes ": " ++ (shown (span text s.part) ++ takes text fault steps));
+  path = Some (way text steps);
 }
 
-abbrev pub placed_if : List ℕ → ClusterFault → Finding → Option Tuple → Finding
-placed_if text fault f None = f
-placed_if text fault f (Some t) = placed text fault f t
-
--- the fault itself, where it names its line; else with the place of the tuple that is at fault
-abbrev pub told_in : List ℕ → ClusterFault → Finding → Option ℕ → Finding
-told_in text fault f (Some line) = f
-told_in text fault f None = placed_if text fault f (blamed text fault)
-
-unfoldable pub fault_in : List ℕ → ClusterFault → Finding
-fault_in text fault = told_in text fault (hinted text fault (fault_finding fault)) (hinted text fault (fault_finding fault)).line
+unfoldable pub placed : List ℕ → ClusterFault → Finding → List Step → Finding
+placed text fault f steps = placed_at text fault f steps (slice_get steps (length steps - 1))

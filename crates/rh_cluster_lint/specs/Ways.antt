@@ -1,29 +1,25 @@
--- The way to a tuple (ours).
-use Rattle.std.specs.Prelude.{ℕ, List, [], ◌++◌, codes, nat_le, Bool, ◌&&◌, Option, Some, None}
-use Rattle.std.specs.List.{find}
-use Rattle.rh_findings.specs.declared.tuples.Tuple.{Tuple}
-use Rattle.rh_findings.specs.Tuples.{tuples_at}
+-- The way to a part (ours).
+use Rattle.std.specs.Prelude.{ℕ, List, [], ◌∷◌, ◌++◌, codes, length, nat_lt, Bool, not, ◌&&◌, ◌==◌, flat_map, if◌then◌else◌}
+use Rattle.std.specs.Fmt.{decimal}
+use Rattle.rh_cluster_lint.specs.declared.blame.Step.{Step}
 use Rattle.rh_cluster_lint.specs.Spans.{span}
-use Rattle.rh_cluster_lint.specs.Words.{first_word, second_word}
+use Rattle.rh_cluster_lint.specs.Words.{first_word, second_word, is_tuple}
 
--- a tuple stands in another one, or is it
-abbrev pub holds : Tuple → Tuple → Bool
-holds t outer = nat_le outer.from t.from && nat_le t.to outer.to
+-- the term's kind and name, as `node a@x`; one that is no tuple by its number
+unfoldable pub term_way : List ℕ → Step → List ℕ
+term_way text s =
+    if is_tuple (span text s.part) then first_word (span text s.part) ++ (codes " " ++ second_word (span text s.part))
+    else codes "term " ++ decimal s.number
 
--- the tuple of a depth in which it stands, or that it is
-abbrev pub holder : List ℕ → ℕ → Tuple → Option Tuple
-holder text depth t = find (holds t) (tuples_at depth text)
+-- a section, a key or a parameter has a name
+abbrev pub is_named : List ℕ → Step → Bool
+is_named text s = nat_lt s.part.depth 6 && is_tuple (span text s.part) && not (length (first_word (span text s.part)) == 0)
 
--- the term's kind and name, as `node a@x`
-unfoldable pub term_way : List ℕ → Option Tuple → List ℕ
-term_way text None = []
-term_way text (Some t) = first_word (span text t) ++ (codes " " ++ second_word (span text t))
+-- it by its name, another element by its number
+unfoldable pub step_way : List ℕ → Step → List ℕ
+step_way text s = if is_named text s then codes ", " ++ first_word (span text s.part) else codes ", element " ++ decimal s.number
 
--- the name of a part
-unfoldable pub part_way : List ℕ → Option Tuple → List ℕ
-part_way text None = []
-part_way text (Some t) = codes ", " ++ first_word (span text t)
-
--- from the term on: it, the section or the key in it, and the parameter
-unfoldable pub way : List ℕ → Tuple → List ℕ
-way text t = term_way text (holder text 1 t) ++ (part_way text (holder text 3 t) ++ part_way text (holder text 5 t))
+-- from the term on
+unfoldable pub way : List ℕ → List Step → List ℕ
+way text [] = []
+way text (s ∷ ss) = term_way text s ++ flat_map (step_way text) ss

@@ -1,29 +1,46 @@
-//! The tuple that is at fault.
+//! The part that is at fault.
 
-ghost use Rattle.std.specs.Prelude.{◌≡◌, IfOk, take, drop};
-ghost use Rattle.rh_cluster.specs.ClusterOf.{cluster_of};
-ghost use Rattle.rh_cluster_lint.specs.Blame.{put, number, came, come_without, tries, candidates, blamed_among, blamed};
+ghost use Rattle.std.specs.Prelude.{◌≡◌, IfOk, filter, not};
+ghost use Rattle.rh_terms.specs.declared.fault.TermFault.{TermFault};
+ghost use Rattle.rh_cluster_lint.specs.Blame.{term_number, number, is_refused, up_to, before, first_from, unless_before, tries, fault_among, narrowed, depths, way_among, is_application, way_in_terms, way_in_lists, blamed};
+ghost use Rattle.rh_cluster_lint.specs.Spans.{parts_in};
 
+use crate::cuts::{Cut, cut_at, emptied};
+use crate::spans::{parts_in, span};
+use crate::words::is_headed;
 use rh_base::OutOfMemory;
 use rh_cluster::{ClusterFault, read_cluster};
-use rh_findings::{Tuple, tuples_at};
+use rh_findings::{Part, parts_at};
+use rh_terms::TermFault;
 use std::alloc::Global;
 
-/// So many tuples are tried at most.
+/// So many parts of one list are tried at most.
 pub const MOST_TRIED: usize = 1_000;
 
-/// So many bytes are read at most to try them.
+/// So many bytes are read at most to try those of one list.
 pub const MOST_READ: usize = 33_554_432;
 
-/// What comes of a file in which something is put in a tuple's place.
+/// A part on the way to what is at fault.
 #[derive(Clone, Copy, Debug, PartialEq, Eq)]
-pub enum Tried {
-    /// It is accepted.
-    Accepted,
-    /// It is refused for another reason, and not for the tuple that was put there.
-    Otherwise,
-    /// It is refused for the same reason, or for that tuple.
-    AsBefore,
+pub struct Step {
+    /// Where it stands.
+    pub part: Part,
+    /// Its number among the terms of the file or the elements of its list, counted from 1.
+    pub number: usize,
+}
+
+// The number of a fault of terms.
+fn term_number(fault: &TermFault) -> u8
+    ensures { result ≡ term_number fault.now }
+{
+    match fault {
+        TermFault::Syntax { .. } => 21,
+        TermFault::Unsupported { .. } => 22,
+        TermFault::NotUtf8 => 23,
+        TermFault::TooDeep => 24,
+        TermFault::IntRange => 25,
+        TermFault::OutOfMemory => 26,
+    }
 }
 
 // The number of a fault's code.
@@ -31,7 +48,7 @@ fn number(fault: &ClusterFault) -> u8
     ensures { result ≡ number fault.now }
 {
     match fault {
-        ClusterFault::Term(_) => 1,
+        ClusterFault::Term(fault) => term_number(fault),
         ClusterFault::NoNodes => 2,
         ClusterFault::TooMany => 3,
         ClusterFault::DuplicateName => 4,
@@ -46,112 +63,274 @@ fn number(fault: &ClusterFault) -> u8
     }
 }
 
-// The text up to a place.
-pub fn before(text: &[u8], at: usize) -> &[u8]
-    ensures { result.now ≡ take at text.now }
-{
-    if at < text.len() { &text[..at] } else { text }
-}
-
-// The text from a place on.
-pub fn behind(text: &[u8], at: usize) -> &[u8]
-    ensures { result.now ≡ drop at text.now }
-{
-    if at < text.len() { &text[at..] } else { &[] }
-}
-
-// The text with a tuple in a tuple's place that nothing reads.
-#[tactic(auto, unfolding(crate::specs::Blame::put))]
-fn put(alloc: Global, text: &[u8], tuple: Tuple) -> Result<Vec<u8>, OutOfMemory>
-    ensures { IfOk result (λ other. other.items ≡ put text.now tuple) }
-{
-    let mut other = Vec::from_slice(alloc, before(text, tuple.from))?;
-    other.extend_from_slice(b"{x, []}")?;
-    other.extend_from_slice(behind(text, tuple.to))?;
-    Ok(other)
-}
-
-// What comes of a text, where another was refused with a code of this number before.
-#[tactic(auto, unfolding(crate::specs::Blame::came))]
-fn came(alloc: Global, text: &[u8], before: u8) -> Result<Tried, OutOfMemory>
-    ensures { IfOk result (λ tried. tried ≡ came before (cluster_of text.now)) }
+// Is a text refused with the fault of this number?
+fn is_refused(alloc: Global, code: u8, text: &[u8]) -> Result<bool, OutOfMemory>
+    ensures { IfOk result (λ refused. refused ≡ is_refused code text.now) }
 {
     match read_cluster(alloc, text) {
-        Ok(_) => Ok(Tried::Accepted),
+        Ok(_) => Ok(false),
         Err(fault) => {
             if fault.is_memory() {
                 Err(OutOfMemory)
-            } else if number(&fault) == before || number(&fault) == 10 {
-                Ok(Tried::AsBefore)
             } else {
-                Ok(Tried::Otherwise)
+                Ok(number(&fault) == code)
             }
         }
     }
 }
 
-// What comes of the text without a tuple.
-#[tactic(auto, unfolding(crate::specs::Blame::come_without))]
-fn come_without(alloc: Global, text: &[u8], before: u8, tuple: Tuple) -> Result<Tried, OutOfMemory>
-    ensures { IfOk result (λ tried. tried ≡ come_without text.now before tuple) }
+// The file up to the end of a part.
+#[tactic(auto, unfolding(crate::specs::Blame::up_to))]
+fn up_to(alloc: Global, cut: Cut, text: &[u8], part: Part) -> Result<Vec<u8>, OutOfMemory>
+    ensures { IfOk result (λ file. file.items ≡ up_to cut text.now part) }
 {
-    let other = put(alloc, text, tuple)?;
-    came(alloc, other.as_slice(), before)
+    let mut file = cut_at(alloc, cut, part.to, text)?;
+    match cut {
+        Cut::Headers => file.push(b'.')?,
+        _ => {}
+    }
+    Ok(file)
 }
 
-// The first of these tuples without which the file is accepted; where there is none, the first without which it is refused for
-// another reason.
-#[tactic(auto, unfolding(crate::specs::Blame::blamed_among))]
-fn blamed_among(
+// Is the file refused so up to the end of a part?
+fn is_refused_with(
     alloc: Global,
+    cut: Cut,
     text: &[u8],
-    before: u8,
-    tuples: &[Tuple],
-) -> Result<Option<Tuple>, OutOfMemory>
-    ensures { IfOk result (λ found. found ≡ blamed_among text.now before tuples.now) }
+    code: u8,
+    part: Part,
+) -> Result<bool, OutOfMemory>
+    ensures { IfOk result (λ refused. refused ≡ is_refused code (up_to cut text.now part)) }
 {
-    let mut other = None;
-    for number in 0..tuples.len() {
-        let tuple = tuples[number];
-        match come_without(alloc, text, before, tuple)? {
-            Tried::Accepted => return Ok(Some(tuple)),
-            Tried::Otherwise => other = other.or(Some(tuple)),
-            Tried::AsBefore => {}
+    let file = up_to(alloc, cut, text, part)?;
+    is_refused(alloc, code, file.as_slice())
+}
+
+// Is the file refused so up to where a part begins?
+fn is_refused_before(
+    alloc: Global,
+    cut: Cut,
+    text: &[u8],
+    code: u8,
+    part: Part,
+) -> Result<bool, OutOfMemory>
+    ensures { IfOk result (λ refused. refused ≡ is_refused code (before cut text.now part)) }
+{
+    let file = cut_at(alloc, cut, part.from, text)?;
+    is_refused(alloc, code, file.as_slice())
+}
+
+// The first of these parts up to which the file is refused so.
+fn first_of(
+    alloc: Global,
+    cut: Cut,
+    text: &[u8],
+    code: u8,
+    parts: &[Part],
+) -> Result<Option<Step>, OutOfMemory>
+    ensures { IfOk result (λ found. found ≡ first_from cut text.now code 1 parts.now) }
+{
+    for index in 0..parts.len() {
+        let part = parts[index];
+        if is_refused_with(alloc, cut, text, code, part)? {
+            return Ok(Some(Step {
+                part,
+                number: index + 1,
+            }));
         }
     }
-    Ok(other)
+    Ok(None)
 }
 
-// How many are tried.
+// The same, unless the file is refused so up to where it begins.
+fn unless_before(
+    alloc: Global,
+    cut: Cut,
+    text: &[u8],
+    code: u8,
+    found: Option<Step>,
+) -> Result<Option<Step>, OutOfMemory>
+    ensures { IfOk result (λ kept. kept ≡ unless_before cut text.now code found) }
+{
+    match found {
+        None => Ok(None),
+        Some(step) => {
+            if is_refused_before(alloc, cut, text, code, step.part)? {
+                Ok(None)
+            } else {
+                Ok(Some(step))
+            }
+        }
+    }
+}
+
+// How many parts of a list are tried.
 fn tries(text: &[u8]) -> usize
     ensures { result ≡ tries text.now }
 {
     MOST_TRIED.min(MOST_READ / text.len().saturating_add(1))
 }
 
-// The tuples that are tried.
-#[tactic(auto, unfolding(crate::specs::Blame::candidates))]
-fn candidates(alloc: Global, text: &[u8]) -> Result<Vec<Tuple>, OutOfMemory>
-    ensures { IfOk result (λ tuples. tuples.items ≡ candidates text.now) }
+// The one of these parts at which the fault is.
+#[tactic(auto, unfolding(crate::specs::Blame::fault_among))]
+fn fault_among(
+    alloc: Global,
+    cut: Cut,
+    text: &[u8],
+    code: u8,
+    mut parts: Vec<Part>,
+) -> Result<Option<Step>, OutOfMemory>
+    ensures { IfOk result (λ found. found ≡ fault_among cut text.now code parts.items) }
 {
-    let mut tuples = tuples_at(alloc, text, 5)?;
-    let sections = tuples_at(alloc, text, 3)?;
-    tuples.extend_from_slice(sections.as_slice())?;
-    tuples.truncate(tries(text));
-    Ok(tuples)
+    parts.truncate(tries(text));
+    let found = first_of(alloc, cut, text, code, parts.as_slice())?;
+    unless_before(alloc, cut, text, code, found)
 }
 
-/// The tuple that is at fault in a file which was refused with this fault: of at most [`MOST_TRIED`] parameters, sections and keys,
-/// and fewer of a long file ([`MOST_READ`]), the first without which it is accepted; where there is none, the first without which it
-/// is refused for another reason. `None` where no tuple makes a difference.
-#[tactic(auto, unfolding(crate::specs::Blame::blamed))]
-pub fn blamed(
+// The part of so many lists and tuples in a part at which the fault is.
+fn fault_in(
+    alloc: Global,
+    cut: Cut,
+    text: &[u8],
+    code: u8,
+    depth: u64,
+    outer: Part,
+) -> Result<Option<Step>, OutOfMemory>
+    ensures { IfOk result (λ found. found ≡ fault_among cut text.now code (parts_in text.now depth outer)) }
+{
+    let parts = parts_in(alloc, text, depth, outer)?;
+    fault_among(alloc, cut, text, code, parts)
+}
+
+// From a term on: it, the part of its list at which the fault is, and so on.
+fn narrowed(
+    alloc: Global,
+    cut: Cut,
+    text: &[u8],
+    code: u8,
+    found: Option<Step>,
+    depths: &[u64],
+) -> Result<Vec<Step>, OutOfMemory>
+    ensures { IfOk result (λ steps. steps.items ≡ narrowed cut text.now code found depths.now) }
+{
+    let mut steps = Vec::new(alloc);
+    let mut next = found;
+    for index in 0..depths.len() {
+        let Some(step) = next else {
+            return Ok(steps);
+        };
+        steps.push(step)?;
+        next = fault_in(alloc, cut, text, code, depths[index], step.part)?;
+    }
+    if let Some(step) = next {
+        steps.push(step)?;
+    }
+    Ok(steps)
+}
+
+// A section or a key, a parameter, an element of its list, an element of the list of that.
+static DEPTHS: [u64; 4] = [2, 4, 6, 8];
+
+// The way to the fault from one of these terms on.
+#[tactic(auto, unfolding(crate::specs::Blame::way_among))]
+fn way_among(
+    alloc: Global,
+    cut: Cut,
+    text: &[u8],
+    code: u8,
+    terms: Vec<Part>,
+) -> Result<Vec<Step>, OutOfMemory>
+    ensures { IfOk result (λ steps. steps.items ≡ way_among cut text.now code terms.items) }
+{
+    let found = fault_among(alloc, cut, text, code, terms)?;
+    narrowed(alloc, cut, text, code, found, DEPTHS.as_slice())
+}
+
+// Is a term an application's?
+fn is_application(text: &[u8], term: Part) -> bool
+    ensures { result ≡ is_application text.now term }
+{
+    is_headed("application", span(text, term))
+}
+
+// Those of these terms that are applications'.
+fn applications(alloc: Global, text: &[u8], terms: &[Part]) -> Result<Vec<Part>, OutOfMemory>
+    ensures { IfOk result (λ found. found.items ≡ filter (is_application text.now) terms.now) }
+{
+    let mut found = Vec::new(alloc);
+    for number in 0..terms.len() {
+        if is_application(text, terms[number]) {
+            found.push(terms[number])?;
+        }
+    }
+    Ok(found)
+}
+
+// Those that aren't.
+fn others(alloc: Global, text: &[u8], terms: &[Part]) -> Result<Vec<Part>, OutOfMemory>
+    ensures { IfOk result (λ found. found.items ≡ filter (λ p. not (is_application text.now p)) terms.now) }
+{
+    let mut found = Vec::new(alloc);
+    for number in 0..terms.len() {
+        if !is_application(text, terms[number]) {
+            found.push(terms[number])?;
+        }
+    }
+    Ok(found)
+}
+
+// The way to a fault that is in the lists of nodes, or else of applications.
+#[tactic(auto, unfolding(crate::specs::Blame::way_in_terms))]
+fn way_in_terms(
+    alloc: Global,
+    text: &[u8],
+    code: u8,
+    terms: &[Part],
+) -> Result<Vec<Step>, OutOfMemory>
+    ensures { IfOk result (λ steps. steps.items ≡ way_in_terms text.now code terms.now) }
+{
+    let nodes = others(alloc, text, terms)?;
+    let way = way_among(alloc, Cut::Lists, text, code, nodes)?;
+    if !way.is_empty() {
+        return Ok(way);
+    }
+    let apps = applications(alloc, text, terms)?;
+    way_among(alloc, Cut::Applications, text, code, apps)
+}
+
+// The way to a fault that is in the lists of terms.
+#[tactic(auto, unfolding(crate::specs::Blame::way_in_lists))]
+fn way_in_lists(
     alloc: Global,
     text: &[u8],
     fault: &ClusterFault,
-) -> Result<Option<Tuple>, OutOfMemory>
-    ensures { IfOk result (λ found. found ≡ blamed text.now fault.now) }
+    terms: Vec<Part>,
+) -> Result<Vec<Step>, OutOfMemory>
+    ensures { IfOk result (λ steps. steps.items ≡ way_in_lists text.now fault.now terms.items) }
 {
-    let tuples = candidates(alloc, text)?;
-    blamed_among(alloc, text, number(fault), tuples.as_slice())
+    match fault {
+        ClusterFault::BootNotListed => way_among(alloc, Cut::Boots, text, number(fault), terms),
+        _ => way_in_terms(alloc, text, number(fault), terms.as_slice()),
+    }
+}
+
+/// The way to what is at fault in a file that was refused with this fault, from a term on; nothing where it isn't found. At each step
+/// it is the first part up to whose end the file is refused with this fault, and up to whose beginning it isn't, where what stands
+/// behind is taken out and all terms keep their names ([`Cut`]). At most [`MOST_TRIED`] parts are tried at each step, and fewer of a
+/// long file ([`MOST_READ`]).
+#[tactic(auto, unfolding(crate::specs::Blame::blamed))]
+pub fn blamed(alloc: Global, text: &[u8], fault: &ClusterFault) -> Result<Vec<Step>, OutOfMemory>
+    ensures { IfOk result (λ steps. steps.items ≡ blamed text.now fault.now) }
+{
+    let terms = parts_at(alloc, text, 0)?;
+    let code = number(fault);
+    let headers = emptied(alloc, text)?;
+    if !is_refused(alloc, code, headers.as_slice())? {
+        return way_in_lists(alloc, text, fault, terms);
+    }
+    let mut steps = Vec::new(alloc);
+    if let Some(step) = fault_among(alloc, Cut::Headers, text, code, terms)? {
+        steps.push(step)?;
+    }
+    Ok(steps)
 }

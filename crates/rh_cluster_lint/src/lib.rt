@@ -3,13 +3,14 @@
 //! [`text_findings`] tells the names that are skipped and nearly one that is read, and what a cluster file says that can't be meant, or
 //! that a live OTP takes otherwise. [`fault_finding`] tells the fault of a text that is no cluster.
 //!
-//! A check tells one fault by its code, and mostly not where it is. [`blamed`] finds the tuple without which the file would be
-//! accepted, or would be refused for another reason: parameters, sections and keys are tried one at a time. [`fault_in`] tells the
-//! fault with its line, the way there and what was expected.
+//! A check tells one fault by its code, and mostly not where it is. [`blamed`] finds the part up to which the file is refused so, where
+//! what stands behind is taken out: term, section or key, parameter and element, one after the other. [`fault_in`] tells the fault with
+//! its line, the way there and what was expected.
 #![tactic(auto)]
 
 mod blame;
 mod constructs;
+mod cuts;
 mod expected;
 mod fault;
 mod file;
@@ -18,13 +19,20 @@ mod hints;
 mod lines;
 mod looked;
 mod shapes;
+mod sides;
+mod spans;
+mod taking_part;
 mod telling;
 mod terms;
 mod text;
+mod told;
+mod waits;
 mod ways;
 mod words;
 
-pub use blame::{MOST_READ, MOST_TRIED, blamed};
+pub use blame::{MOST_READ, MOST_TRIED, Step, blamed};
+pub use cuts::Cut;
 pub use fault::fault_finding;
-pub use telling::{MOST_SHOWN, fault_in};
+pub use telling::MOST_SHOWN;
 pub use text::text_findings;
+pub use told::fault_in;

@@ -9,9 +9,9 @@ ghost use Rattle.rh_cluster_lint.specs.Lines.{place_here, places_of};
 use rh_base::{OutOfMemory, Str, Term};
 use std::alloc::Global;
 
-// The name that an atom is.
+/// The name that an atom is.
 #[tactic(auto, unfolding(rh_cluster::specs::Shapes::as_atom))]
-fn atom(term: &Term) -> Option<&Str>
+pub fn atom(term: &Term) -> Option<&Str>
     ensures { option_map (λ name. name.now) result ≡ as_atom (tree_of term.now) }
 {
     match term {
@@ -20,9 +20,9 @@ fn atom(term: &Term) -> Option<&Str>
     }
 }
 
-// The parts of a tuple.
+/// The parts of a tuple.
 #[tactic(auto, unfolding(rh_cluster::specs::Shapes::as_tuple))]
-fn tuple(term: &Term) -> Option<&[Term]>
+pub fn tuple(term: &Term) -> Option<&[Term]>
     ensures { option_map (λ terms. map tree_of terms.now) result ≡ as_tuple (tree_of term.now) }
 {
     match term {

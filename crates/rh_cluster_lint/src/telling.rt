@@ -1,34 +1,26 @@
 //! A fault with its place.
 
-ghost use Rattle.std.specs.Prelude.{◌≡◌, ◌++◌, IfOk, take, drop};
+ghost use Rattle.std.specs.Prelude.{◌≡◌, ◌++◌, [], IfOk, fold};
 ghost use Rattle.rh_cluster_lint.specs.Words.{words_of};
-ghost use Rattle.rh_cluster_lint.specs.Spans.{span};
-ghost use Rattle.rh_cluster_lint.specs.Telling.{front, dots, takes, hinted, placed, fault_in};
+ghost use Rattle.rh_cluster_lint.specs.Telling.{front, dots, expected_in, or_before, expected_on, takes, hinted, placed};
 
-use crate::blame::{before, behind, blamed};
+use crate::blame::Step;
 use crate::expected::expected;
-use crate::fault::fault_finding;
 use crate::hints::hint_words;
-use crate::ways::way;
+use crate::spans::{before, span};
+use crate::ways::{is_named, way};
 use crate::words::{first_word, words_of};
 use rh_base::{OutOfMemory, Str};
 use rh_cluster::ClusterFault;
-use rh_findings::{Finding, Tuple};
+use rh_findings::Finding;
 use rh_json_text::before_first;
 use std::alloc::Global;
 
-/// So many bytes of a tuple are shown at most.
+/// So many bytes of a part are shown at most.
 pub const MOST_SHOWN: usize = 40;
 
-/// The bytes of a tuple.
-pub fn span(text: &[u8], tuple: Tuple) -> &[u8]
-    ensures { result.now ≡ span text.now tuple }
-{
-    behind(before(text, tuple.to), tuple.from)
-}
-
-// What is shown of the bytes of a tuple: the first line of them, cut where it is long, and then dots.
-fn shown(bytes: &[u8]) -> (&str, &'static str)
+// What is shown of the bytes of a part: the first line of them, cut where it is long, and then dots.
+pub fn shown(bytes: &[u8]) -> (&str, &'static str)
     ensures front { result.0.now ≡ words_of (front bytes.now) }
     ensures rest { result.1.now ≡ dots bytes.now }
 {
@@ -37,19 +29,48 @@ fn shown(bytes: &[u8]) -> (&str, &'static str)
     (words_of(front), dots)
 }
 
-// What is said of what a tuple takes, where it takes something else than it has.
-fn takes(fault: &ClusterFault, bytes: &[u8]) -> &'static str
-    ensures { result.now ≡ takes fault.now bytes.now }
+// What is said of what stands in a section, a key or a parameter.
+fn expected_in(text: &[u8], step: Step) -> &'static str
+    ensures { result.now ≡ expected_in text.now step }
+{
+    if 0 < step.part.depth && is_named(text, step) {
+        expected(first_word(span(text, step.part)))
+    } else {
+        ""
+    }
+}
+
+// What is said last, if anything is.
+fn or_before(told: &'static str, more: &'static str) -> &'static str
+    ensures { result.now ≡ or_before told.now more.now }
+{
+    if more.is_empty() { told } else { more }
+}
+
+// What is said of the last of these of which something is.
+fn expected_on(text: &[u8], steps: &[Step]) -> &'static str
+    ensures { result.now ≡ expected_on text.now steps.now }
+{
+    let mut told = "";
+    for step in steps {
+        told = or_before(told, expected_in(text, *step));
+    }
+    told
+}
+
+// What is said of what stands there, where something else does.
+fn takes(text: &[u8], fault: &ClusterFault, steps: &[Step]) -> &'static str
+    ensures { result.now ≡ takes text.now fault.now steps.now }
 {
     match fault {
-        ClusterFault::BadValue => expected(first_word(bytes)),
+        ClusterFault::BadValue => expected_on(text, steps),
         _ => "",
     }
 }
 
 // A finding with what may have been meant.
 #[tactic(auto, unfolding(crate::specs::Telling::hinted))]
-fn hinted(
+pub fn hinted(
     alloc: Global,
     text: &[u8],
     fault: &ClusterFault,
@@ -68,42 +89,30 @@ fn hinted(
     })
 }
 
-// A finding with the place of a tuple.
-fn placed(
+// A finding with the place of the part at the end of a way, and the way there.
+#[tactic(auto, unfolding(crate::specs::Telling::placed))]
+pub fn placed(
     alloc: Global,
     text: &[u8],
     fault: &ClusterFault,
     finding: Finding,
-    tuple: Tuple,
+    steps: &[Step],
 ) -> Result<Finding, OutOfMemory>
-    ensures { IfOk result (λ told. told ≡ placed text.now fault.now finding tuple) }
+    ensures { IfOk result (λ told. told ≡ placed text.now fault.now finding steps.now) }
 {
-    let bytes = span(text, tuple);
-    let words = finding.text.as_str();
-    let (front, dots) = shown(bytes);
-    let wanted = takes(fault, bytes);
-    let told = format!(in alloc; "{words}: {front}{dots}{wanted}")?;
-    Ok(Finding {
-        line: Some(tuple.line),
-        kind: finding.kind,
-        text: Str::of(told),
-        path: Some(way(alloc, text, tuple)?),
-    })
-}
-
-/// The fault of a text that is no cluster, by the code that a check tells, with what was expected, and what may have been meant. Its line is that of the fault,
-/// where it names one, else that of the tuple which is at fault, if one is. Then the way to the tuple is told and what stands there, cut
-/// at [`MOST_SHOWN`] bytes, and of a bad value what may stand there.
-#[tactic(auto, unfolding(crate::specs::Telling::fault_in))]
-pub fn fault_in(alloc: Global, text: &[u8], fault: &ClusterFault) -> Result<Finding, OutOfMemory>
-    ensures { IfOk result (λ finding. finding ≡ fault_in text.now fault.now) }
-{
-    let finding = hinted(alloc, text, fault, fault_finding(alloc, fault)?)?;
-    if finding.line.is_some() {
-        return Ok(finding);
-    }
-    match blamed(alloc, text, fault)? {
+    match steps.last() {
         None => Ok(finding),
-        Some(tuple) => placed(alloc, text, fault, finding, tuple),
+        Some(step) => {
+            let words = finding.text.as_str();
+            let (front, dots) = shown(span(text, step.part));
+            let wanted = takes(text, fault, steps);
+            let told = format!(in alloc; "{words}: {front}{dots}{wanted}")?;
+            Ok(Finding {
+                line: Some(step.part.line),
+                kind: finding.kind,
+                text: Str::of(told),
+                path: Some(way(alloc, text, steps)?),
+            })
+        }
     }
 }

@@ -1,84 +1,75 @@
-//! The way to a tuple.
+//! The way to a part.
 
-ghost use Rattle.std.specs.Prelude.{◌≡◌, ◌++◌, IfOk, OnOk, drop};
-ghost use Rattle.std.specs.List.{find};
+ghost use Rattle.std.specs.Prelude.{◌≡◌, ◌++◌, IfOk, OnOk};
+ghost use Rattle.std.specs.List.{flat_map};
 ghost use Rattle.std.specs.String.{string_bytes};
-ghost use Rattle.rh_cluster_lint.specs.Spans.{span};
-ghost use Rattle.rh_cluster_lint.specs.Ways.{holds, holder, term_way, part_way, way};
+ghost use Rattle.rh_cluster_lint.specs.Ways.{term_way, is_named, step_way, way};
 
-use crate::telling::span;
-use crate::words::{first_word, second_word};
+use crate::blame::Step;
+use crate::spans::span;
+use crate::words::{first_word, is_tuple, second_word};
 use rh_base::{OutOfMemory, Str};
-use rh_findings::{Tuple, tuples_at};
 use std::alloc::Global;
 
-// Does a tuple stand in another one, or is it that?
-fn holds(tuple: Tuple, outer: Tuple) -> bool
-    ensures { result ≡ holds tuple outer }
-{
-    outer.from <= tuple.from && tuple.to <= outer.to
-}
-
-// The first of these that has a tuple.
-fn holder_among(tuple: Tuple, outers: &[Tuple]) -> Option<Tuple>
-    ensures { result ≡ find (holds tuple) outers.now }
-{
-    for number in 0..outers.len() {
-        let outer = outers[number];
-        if holds(tuple, outer) {
-            return Some(outer);
-        }
-    }
-    None
-}
-
-// The tuple of a depth in which a tuple stands, or that it is.
-fn holder(
-    alloc: Global,
-    text: &[u8],
-    depth: u64,
-    tuple: Tuple,
-) -> Result<Option<Tuple>, OutOfMemory>
-    ensures { IfOk result (λ found. found ≡ holder text.now depth tuple) }
-{
-    let outers = tuples_at(alloc, text, depth)?;
-    Ok(holder_among(tuple, outers.as_slice()))
-}
-
-// Adds the term's kind and its name.
+// Adds the term's kind and its name; of one that is no tuple its number.
 #[tactic(auto, unfolding(crate::specs::Ways::term_way))]
-fn push_term(way: &mut String, text: &[u8], term: Option<Tuple>) -> Result<(), OutOfMemory>
-    ensures { OnOk result (string_bytes way.new ≡ string_bytes way.old ++ term_way text.now term) }
+pub fn push_term(way: &mut String, text: &[u8], step: Step) -> Result<(), OutOfMemory>
+    ensures { OnOk result (string_bytes way.new ≡ string_bytes way.old ++ term_way text.now step) }
 {
-    if let Some(term) = term {
-        let bytes = span(text, term);
+    let bytes = span(text, step.part);
+    if is_tuple(bytes) {
         let kind = first_word(bytes);
         let name = second_word(bytes);
         write!(way, "{kind} {name}")?;
+    } else {
+        let number = step.number;
+        write!(way, "term {number}")?;
     }
     Ok(())
 }
 
-// Adds the name of a part of it.
-#[tactic(auto, unfolding(crate::specs::Ways::part_way))]
-fn push_part(way: &mut String, text: &[u8], part: Option<Tuple>) -> Result<(), OutOfMemory>
-    ensures { OnOk result (string_bytes way.new ≡ string_bytes way.old ++ part_way text.now part) }
+// Has it a name, as a section, a key or a parameter?
+pub fn is_named(text: &[u8], step: Step) -> bool
+    ensures { result ≡ is_named text.now step }
 {
-    if let Some(part) = part {
-        let name = first_word(span(text, part));
+    let bytes = span(text, step.part);
+    step.part.depth < 6 && is_tuple(bytes) && !first_word(bytes).is_empty()
+}
+
+// Adds its name; of another element its number.
+#[tactic(auto, unfolding(crate::specs::Ways::step_way))]
+fn push_step(way: &mut String, text: &[u8], step: Step) -> Result<(), OutOfMemory>
+    ensures { OnOk result (string_bytes way.new ≡ string_bytes way.old ++ step_way text.now step) }
+{
+    if is_named(text, step) {
+        let name = first_word(span(text, step.part));
         write!(way, ", {name}")?;
+    } else {
+        let number = step.number;
+        write!(way, ", element {number}")?;
     }
     Ok(())
 }
 
-/// The way to a tuple from its term on: the term's kind and name, the section or key in it, and the parameter.
+// Adds those of some steps.
+fn push_steps(way: &mut String, text: &[u8], steps: &[Step]) -> Result<(), OutOfMemory>
+    ensures { OnOk result (string_bytes way.new ≡ string_bytes way.old ++ flat_map (step_way text.now) steps.now) }
+{
+    for step in steps {
+        push_step(way, text, *step)?;
+    }
+    Ok(())
+}
+
+/// The way to a part from its term on: the term's kind and name, the section or key in it, the parameter, and the number of an element.
 #[tactic(auto, unfolding(crate::specs::Ways::way))]
-pub fn way(alloc: Global, text: &[u8], tuple: Tuple) -> Result<Str, OutOfMemory>
-    ensures { IfOk result (λ told. told ≡ way text.now tuple) }
+pub fn way(alloc: Global, text: &[u8], steps: &[Step]) -> Result<Str, OutOfMemory>
+    ensures { IfOk result (λ told. told ≡ way text.now steps.now) }
 {
     let mut way = String::new(alloc);
-    push_term(&mut way, text, holder(alloc, text, 1, tuple)?)?;
-    push_part(&mut way, text, holder(alloc, text, 3, tuple)?)?;
-    push_part(&mut way, text, holder(alloc, text, 5, tuple)?)?;
+    if let [term, parts @ ..] = steps {
+        push_term(&mut way, text, *term)?;
+        push_steps(&mut way, text, parts)?;
+    }
     Ok(Str::of(way))
 }

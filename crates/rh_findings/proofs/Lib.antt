@@ -2,4 +2,4 @@ pub mod Ties
 pub mod OneList
 pub mod Blocks
 pub mod Passed
-mod RowsTuples
+mod RowsParts

@@ -4,5 +4,5 @@ pub mod Sentences
 pub mod Laws
 pub mod Scan
 pub mod Starts
-pub mod Tuples
+pub mod Parts
 pub mod Words

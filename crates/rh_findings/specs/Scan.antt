@@ -1,6 +1,6 @@
 -- A scan of a text of terms, byte by byte (ours; Erlang Reference Manual, Character Set, Comments, and Data Types for quotes).
 -- Bytes are written as numbers: 10 is LF, 34 `"`, 37 `%`, 39 `'`, 46 `.`, 92 `\`.
-use Rattle.std.specs.Prelude.{ℕ, ◌+◌, Bool, false, not, ◌&&◌, ◌||◌, ◌==◌, nat_le, if◌then◌else◌}
+use Rattle.std.specs.Prelude.{ℕ, ◌+◌, Bool, true, false, not, ◌&&◌, ◌||◌, ◌==◌, nat_le, if◌then◌else◌}
 use Rattle.rh_findings.specs.declared.scan.Standing.{Standing}
 use Rattle.rh_findings.specs.declared.scan.Standing.TheVariants.{Between, Remark, Inside, InsideRemark, Quoted, Escaped}
 
@@ -28,6 +28,21 @@ behind Inside b = behind_inside b
 behind InsideRemark b = if b == 10 then Inside else InsideRemark
 behind (Quoted quote) b = if b == 92 then Escaped quote else if b == quote then Inside else Quoted quote
 behind (Escaped quote) b = Quoted quote
+
+-- outside comments and quotes
+abbrev pub is_bare : Standing → Bool
+is_bare Between = true
+is_bare Inside = true
+is_bare _ = false
+
+-- a byte of a term, and no blank and none of a comment
+abbrev pub is_solid : Standing → ℕ → Bool
+is_solid Between b = not (is_white b) && not (b == 37)
+is_solid Inside b = not (is_white b) && not (b == 37)
+is_solid Remark b = false
+is_solid InsideRemark b = false
+is_solid (Quoted quote) b = true
+is_solid (Escaped quote) b = true
 
 -- is the byte the first of a term?
 abbrev pub begins_term : Standing → ℕ → Bool

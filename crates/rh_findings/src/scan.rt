@@ -1,8 +1,7 @@
 //! A scan of a text of terms, byte by byte.
 
 ghost use Rattle.std.specs.Prelude.{◌≡◌};
-ghost use Rattle.rh_findings.specs.Scan.{is_white, is_atom_byte, behind_inside, behind, begins_term};
-ghost use Rattle.rh_findings.specs.Tuples.{is_bare};
+ghost use Rattle.rh_findings.specs.Scan.{is_white, is_atom_byte, behind_inside, behind, begins_term, is_bare, is_solid};
 
 /// What a byte of a text stands in.
 #[derive(Clone, Copy, Debug, PartialEq, Eq)]
@@ -101,6 +100,17 @@ impl Standing {
         ensures { result ≡ is_bare self }
     {
         matches!(self, Standing::Between | Standing::Inside)
+    }
+
+    /// Is this byte one of a term here, and no blank and none of a comment?
+    pub fn is_solid(self, byte: u8) -> bool
+        ensures { result ≡ is_solid self byte }
+    {
+        match self {
+            Standing::Between | Standing::Inside => !(is_white(byte) || byte == b'%'),
+            Standing::Remark | Standing::InsideRemark => false,
+            Standing::Quoted(_) | Standing::Escaped(_) => true,
+        }
     }
 
     /// Is this byte the first of a term?

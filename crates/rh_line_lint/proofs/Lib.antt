@@ -1,1 +1,4 @@
+pub mod Blamed
 pub mod OneMore
+pub mod Seen
+pub mod Taken

@@ -1,3 +1,5 @@
+pub mod Arguments
 pub mod Commands
+pub mod Laws
 pub mod Lines
 pub mod StepWords

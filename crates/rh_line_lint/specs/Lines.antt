@@ -1,15 +1,19 @@
 -- What is found in the lines of a script (ours).
-use Rattle.std.specs.Prelude.{ℕ, ◌+◌, List, [], ◌∷◌, ◌++◌, codes, nat_eq, Option, Some, None, is_some, if◌then◌else◌, slice_get}
+use Rattle.std.specs.Prelude.{ℕ, ◌+◌, ◌-◌, ◌==◌, List, [], ◌∷◌, ◌++◌, length, codes, nat_eq, not, ◌||◌, find, position, Option, Some, None, is_some}
+use Rattle.std.specs.Prelude.{if◌then◌else◌, slice_get}
 use Rattle.std.specs.Option.{option_and_then}
-use Rattle.std.specs.List.{starts_with}
+use Rattle.std.specs.List.{starts_with, list_any, zip}
+use Rattle.std.specs.Fmt.{decimal}
 use Rattle.std.specs.Str.{bytes_eq, is_utf8}
 use Rattle.rh_model.specs.ClusterView.{ClusterView, node_of, app_of}
 use Rattle.rh_script.specs.declared.script.Line.{Line}
 use Rattle.rh_script.specs.declared.script.Line.TheVariants as line
+use Rattle.rh_script.specs.declared.forms.Argument.{Argument}
 use Rattle.rh_script.specs.Commands.{words_of, line_of}
 use Rattle.rh_term_lint.specs.Near.{nearest}
 use Rattle.rh_findings.specs.declared.finding.Kind.TheVariants.{Error}
 use Rattle.rh_findings.specs.declared.finding.Finding.{Finding}
+use Rattle.rh_line_lint.specs.Arguments.{takes, choices, mismatch, is_node, is_app}
 use Rattle.rh_line_lint.specs.Commands.{CommandView, command_words, command_named}
 
 abbrev pub error_at : ℕ → List ℕ → Finding
@@ -36,20 +40,63 @@ unfoldable pub unknown_command : List ℕ → List ℕ
 unknown_command word =
     (codes "unknown_command: " ++ (word ++ (codes " is no command" ++ meant_words word))) ++ near_words (nearest word command_words)
 
--- it is, and what stands behind it isn't what the command asks for
-unfoldable pub bad_arguments : List ℕ → List ℕ
-bad_arguments usage = codes "bad_arguments: the command is " ++ usage
+-- the first of the words behind a command that isn't what its argument takes, with that argument
+abbrev pub first_mistaken : List Argument → List (List ℕ) → Option (Argument × List ℕ)
+first_mistaken arguments words = find (λ p. not (takes p.0 p.1)) (zip arguments words)
 
-abbrev pub unread_by : List ℕ → Option CommandView → List ℕ
-unread_by word None = unknown_command word
-unread_by word (Some command) = bad_arguments command.usage
+-- it is told, and one that is taken there, if one is near
+unfoldable pub mistaken_words : Argument → List ℕ → List ℕ
+mistaken_words argument word = (codes "; " ++ (word ++ mismatch argument word)) ++ near_words (nearest word (choices argument))
+
+-- what may have been meant by a word too many: a comment
+unfoldable pub comment_words : List ℕ → List ℕ
+comment_words word =
+    if starts_with nat_eq word (codes "#") || starts_with nat_eq word (codes "%") then codes "; a comment has a line of its own, which begins with #"
+    else []
+
+-- a word too many
+unfoldable pub surplus_words : List ℕ → List ℕ
+surplus_words word = (codes "; " ++ (word ++ codes " is a word too many")) ++ comment_words word
+
+-- so many words are missing
+unfoldable pub missing_words : ℕ → List ℕ
+missing_words count =
+    if count == 0 then []
+    else if count == 1 then codes "; a word is missing"
+    else codes "; " ++ (decimal count ++ codes " words are missing")
+
+-- how many words are missing, and the first word too many
+abbrev pub count_words : ℕ → Option (List ℕ) → List ℕ
+count_words missing None = missing_words missing
+count_words missing (Some word) = surplus_words word
+
+abbrev pub blame_by : Option (Argument × List ℕ) → List Argument → List (List ℕ) → List ℕ
+blame_by None arguments words = count_words (length arguments - length words) (slice_get words (length arguments))
+blame_by (Some mistaken) arguments words = mistaken_words mistaken.0 mistaken.1
+
+-- what is wrong with the words behind a command: the first that isn't what its argument takes; where there is none, the first that is too
+-- many, or how many are missing
+unfoldable pub blame : List Argument → List (List ℕ) → List ℕ
+blame arguments words = blame_by (first_mistaken arguments words) arguments words
+
+-- the first word is a command: how it is written, and what is wrong with the words behind it
+unfoldable pub bad_arguments : CommandView → List (List ℕ) → List ℕ
+bad_arguments command words = (codes "bad_arguments: the command is " ++ command.usage) ++ blame command.arguments words
+
+abbrev pub unread_by : List ℕ → List (List ℕ) → Option CommandView → List ℕ
+unread_by word words None = unknown_command word
+unread_by word words (Some command) = bad_arguments command words
 
 unfoldable pub unread : List (List ℕ) → List ℕ
 unread [] = []
-unread (word ∷ words) = unread_by word (command_named word)
+unread (word ∷ words) = unread_by word words (command_named word)
+
+-- words that a tab was meant to part
+unfoldable pub tab_words : List ℕ → List ℕ
+tab_words l = if list_any (λ b. b == 9) l then codes "; a tab parts no words" else []
 
 unfoldable pub bad_words : List ℕ → List ℕ
-bad_words l = if is_utf8 l then unread (words_of l) else codes "not_utf8: the line isn't UTF-8"
+bad_words l = if is_utf8 l then unread (words_of l) ++ tab_words l else codes "not_utf8: the line isn't UTF-8"
 
 -- ---- names in a command that the cluster hasn't
 
@@ -72,12 +119,13 @@ abbrev pub word_at : List (List ℕ) → Option ℕ → Option (List ℕ)
 word_at words place = option_and_then (slice_get words) place
 
 -- the words behind a command: that which names a node, and that which names an application
-unfoldable pub of_command : ClusterView → ℕ → Option ℕ → Option ℕ → List (List ℕ) → List Finding
-of_command c k node app words = unknown_node c k (word_at words node) ++ unknown_app c k (word_at words app)
+unfoldable pub of_command : ClusterView → ℕ → List Argument → List (List ℕ) → List Finding
+of_command c k arguments words =
+    unknown_node c k (word_at words (position is_node arguments)) ++ unknown_app c k (word_at words (position is_app arguments))
 
 abbrev pub of_command_named : ClusterView → ℕ → Option CommandView → List (List ℕ) → List Finding
 of_command_named c k None words = []
-of_command_named c k (Some command) words = of_command c k command.node command.app words
+of_command_named c k (Some command) words = of_command c k command.arguments words
 
 unfoldable pub of_words : ClusterView → ℕ → List (List ℕ) → List Finding
 of_words c k [] = []

@@ -1,10 +1,11 @@
 //! A line that is no command.
 
-ghost use Rattle.std.specs.Prelude.{◌≡◌, ◌++◌, IfOk, OnOk, map, [], ◌∷◌};
-ghost use Rattle.std.specs.Option.{option_map};
+ghost use Rattle.std.specs.Prelude.{◌≡◌, IfOk, map};
 ghost use Rattle.std.specs.String.{string_bytes};
-ghost use Rattle.rh_line_lint.specs.Lines.{near_words, meant_words, unknown_command, bad_arguments, unread, bad_words, error_at};
+ghost use Rattle.rh_line_lint.specs.Commands.{seen};
+ghost use Rattle.rh_line_lint.specs.Lines.{meant_words, unknown_command, bad_arguments, unread, tab_words, bad_words, error_at};
 
+use crate::blame::{push_blame, push_near};
 use crate::commands::{Command, command_named, command_words};
 use crate::words::{text_of, words_of};
 use rh_base::{OutOfMemory, Str};
@@ -22,17 +23,6 @@ pub fn error_at(number: u64, text: String) -> Finding
         text: Str::of(text),
         path: None,
     }
-}
-
-/// Adds a near name, if there is one.
-#[tactic(auto, unfolding(crate::specs::Lines::near_words))]
-pub fn push_near(text: &mut String, near: Option<&str>) -> Result<(), OutOfMemory>
-    ensures { OnOk result (string_bytes text.new ≡ string_bytes text.old ++ near_words (option_map (λ name. name.now) near.entry)) }
-{
-    if let Some(name) = near {
-        write!(text, "; {name} is near")?;
-    }
-    Ok(())
 }
 
 // What may have been meant by a word that is no command.
@@ -64,13 +54,15 @@ fn unknown_command(alloc: Global, word: &str) -> Result<String, OutOfMemory>
     Ok(text)
 }
 
-// What is told of a command that is written otherwise.
+// What is told of a command with words that aren't what it takes.
 #[tactic(auto, unfolding(crate::specs::Lines::bad_arguments))]
-fn bad_arguments(alloc: Global, command: Command) -> Result<String, OutOfMemory>
-    ensures { IfOk result (λ text. string_bytes text ≡ bad_arguments command.usage.now) }
+fn bad_arguments(alloc: Global, command: Command, words: &[&str]) -> Result<String, OutOfMemory>
+    ensures { IfOk result (λ text. string_bytes text ≡ bad_arguments (seen command) (map (λ word. word.now) words.now)) }
 {
     let usage = command.usage;
-    Ok(format!(in alloc; "bad_arguments: the command is {usage}")?)
+    let mut text = format!(in alloc; "bad_arguments: the command is {usage}")?;
+    push_blame(alloc, &mut text, command.arguments, words)?;
+    Ok(text)
 }
 
 // What is told of words that are no command.
@@ -80,10 +72,22 @@ fn unread(alloc: Global, words: &[&str]) -> Result<String, OutOfMemory>
 {
     match words {
         [] => Ok(String::new(alloc)),
-        [word, ..] => match command_named(word) {
+        [word, words @ ..] => match command_named(word) {
             None => unknown_command(alloc, word),
-            Some(command) => bad_arguments(alloc, command),
+            Some(command) => bad_arguments(alloc, command, words),
         },
+    }
+}
+
+// What is told of a line with a tab.
+#[tactic(auto, unfolding(crate::specs::Lines::tab_words))]
+fn tab_words(line: &[u8]) -> &'static str
+    ensures { result.now ≡ tab_words line.now }
+{
+    if line.contains(&b'\t') {
+        "; a tab parts no words"
+    } else {
+        ""
     }
 }
 
@@ -96,5 +100,7 @@ pub fn bad_words(alloc: Global, line: &[u8]) -> Result<String, OutOfMemory>
         return Ok(format!(in alloc; "not_utf8: the line isn't UTF-8")?);
     };
     let words = words_of(alloc, text)?;
-    unread(alloc, words.as_slice())
+    let mut told = unread(alloc, words.as_slice())?;
+    told.push_str(tab_words(line))?;
+    Ok(told)
 }

@@ -5,14 +5,16 @@ ghost use Rattle.std.specs.Option.{option_map};
 ghost use Rattle.std.specs.Str.{bytes_eq};
 ghost use Rattle.rh_line_lint.specs.Commands.{command_words, commands, command_named, seen};
 
-/// A command: how it is written, and which words behind it are names, counted from 0.
+use crate::arguments::Argument;
+
+/// A command, and how it is written.
 #[derive(Clone, Copy)]
 pub struct Command {
     pub word: &'static str,
     /// The whole command.
     pub usage: &'static str,
-    pub node: Option<usize>,
-    pub app: Option<usize>,
+    /// What stands behind its word.
+    pub arguments: &'static [Argument],
 }
 
 static WORDS: [&str; 15] = [
@@ -37,92 +39,77 @@ static COMMANDS: [Command; 15] = [
     Command {
         word: "boot",
         usage: "boot NODE",
-        node: Some(0),
-        app: None,
+        arguments: &[Argument::Node],
     },
     Command {
         word: "crash",
         usage: "crash NODE",
-        node: Some(0),
-        app: None,
+        arguments: &[Argument::Node],
     },
     Command {
         word: "tick",
         usage: "tick MILLISECONDS",
-        node: None,
-        app: None,
+        arguments: &[Argument::Milliseconds],
     },
     Command {
         word: "start",
         usage: "start NODE APPLICATION permanent|transient|temporary",
-        node: Some(0),
-        app: Some(1),
+        arguments: &[Argument::Node, Argument::App, Argument::Restart],
     },
     Command {
         word: "stop",
         usage: "stop NODE APPLICATION",
-        node: Some(0),
-        app: Some(1),
+        arguments: &[Argument::Node, Argument::App],
     },
     Command {
         word: "permit",
         usage: "permit NODE APPLICATION true|false",
-        node: Some(0),
-        app: Some(1),
+        arguments: &[Argument::Node, Argument::App, Argument::Truth],
     },
     Command {
         word: "takeover",
         usage: "takeover NODE APPLICATION permanent|transient|temporary",
-        node: Some(0),
-        app: Some(1),
+        arguments: &[Argument::Node, Argument::App, Argument::Restart],
     },
     Command {
         word: "exit",
         usage: "exit NODE APPLICATION normal|abnormal",
-        node: Some(0),
-        app: Some(1),
+        arguments: &[Argument::Node, Argument::App, Argument::Ending],
     },
     Command {
         word: "start_all",
         usage: "start_all APPLICATION permanent|transient|temporary",
-        node: None,
-        app: Some(0),
+        arguments: &[Argument::App, Argument::Restart],
     },
     Command {
         word: "stop_all",
         usage: "stop_all APPLICATION",
-        node: None,
-        app: Some(0),
+        arguments: &[Argument::App],
     },
     Command {
         word: "undo",
         usage: "undo",
-        node: None,
-        app: None,
+        arguments: &[],
     },
     Command {
         word: "redo",
         usage: "redo",
-        node: None,
-        app: None,
+        arguments: &[],
     },
     Command {
         word: "undo_all",
         usage: "undo_all",
-        node: None,
-        app: None,
+        arguments: &[],
     },
     Command {
         word: "redo_all",
         usage: "redo_all",
-        node: None,
-        app: None,
+        arguments: &[],
     },
     Command {
         word: "show",
         usage: "show",
-        node: None,
-        app: None,
+        arguments: &[],
     },
 ];
 

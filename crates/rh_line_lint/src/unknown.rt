@@ -1,12 +1,15 @@
 //! Names in a command that the cluster hasn't.
 
-ghost use Rattle.std.specs.Prelude.{◌≡◌, ◌++◌, IfOk, OnOk, map, slice_get};
+ghost use Rattle.std.specs.Prelude.{◌≡◌, ◌++◌, IfOk, OnOk, map, position, slice_get};
 ghost use Rattle.std.specs.Option.{option_map, option_and_then};
 ghost use Rattle.std.specs.String.{string_bytes};
+ghost use Rattle.rh_line_lint.specs.Arguments.{kind, is_node, is_app};
 ghost use Rattle.rh_line_lint.specs.Lines.{node_words, app_words, unknown_node, unknown_app, of_command, of_words, unknown_names, word_at};
 
-use crate::bad::{error_at, push_near};
-use crate::commands::{Command, command_named};
+use crate::arguments::Argument;
+use crate::bad::error_at;
+use crate::blame::push_near;
+use crate::commands::command_named;
 use crate::names::{app_names, node_names};
 use crate::words::{text_of, words_of};
 use rh_base::OutOfMemory;
@@ -88,6 +91,24 @@ fn word_at<'a>(words: &[&'a str], place: Option<usize>) -> Option<&'a str>
     words.get(place?).copied()
 }
 
+// The place of the argument that is the name of a node.
+fn node_place(arguments: &[Argument]) -> Option<usize>
+    ensures { result ≡ position is_node (map kind arguments.now) }
+{
+    arguments
+        .iter()
+        .position(|argument| matches!(argument, Argument::Node))
+}
+
+// The place of the argument that is the name of an application.
+fn app_place(arguments: &[Argument]) -> Option<usize>
+    ensures { result ≡ position is_app (map kind arguments.now) }
+{
+    arguments
+        .iter()
+        .position(|argument| matches!(argument, Argument::App))
+}
+
 // Adds the names in the words behind a command that the cluster hasn't.
 #[tactic(auto, unfolding(crate::specs::Lines::of_command))]
 fn push_of_command(
@@ -95,13 +116,15 @@ fn push_of_command(
     found: &mut Vec<Finding>,
     cluster: &Cluster,
     number: u64,
-    command: Command,
+    arguments: &[Argument],
     words: &[&str],
 ) -> Result<(), OutOfMemory>
-    ensures { OnOk result (found.new.items ≡ found.old.items ++ of_command cluster.now number command.node command.app (map (λ word. word.now) words.now)) }
+    ensures { OnOk result (found.new.items ≡ found.old.items ++ of_command cluster.now number (map kind arguments.now) (map (λ word. word.now) words.now)) }
 {
-    push_unknown_node(alloc, found, cluster, number, word_at(words, command.node))?;
-    push_unknown_app(alloc, found, cluster, number, word_at(words, command.app))
+    let node = word_at(words, node_place(arguments));
+    let app = word_at(words, app_place(arguments));
+    push_unknown_node(alloc, found, cluster, number, node)?;
+    push_unknown_app(alloc, found, cluster, number, app)
 }
 
 // Adds the names in the words of a command that the cluster hasn't.
@@ -119,7 +142,9 @@ fn push_of_words(
         [] => Ok(()),
         [word, words @ ..] => match command_named(word) {
             None => Ok(()),
-            Some(command) => push_of_command(alloc, found, cluster, number, command, words),
+            Some(command) => {
+                push_of_command(alloc, found, cluster, number, command.arguments, words)
+            }
         },
     }
 }

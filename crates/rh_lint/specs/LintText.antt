@@ -11,7 +11,7 @@ use Rattle.rh_run.specs.declared.fault.Told.TheVariants as told
 use Rattle.rh_findings.specs.declared.finding.Finding.{Finding}
 use Rattle.rh_findings.specs.Order.{IsListed}
 use Rattle.rh_findings.specs.Report.{report_text, is_clean}
-use Rattle.rh_cluster_lint.specs.Telling.{fault_in}
+use Rattle.rh_cluster_lint.specs.Told.{fault_in}
 use Rattle.rh_cluster_lint.specs.Text.{text_found}
 use Rattle.rh_line_lint.specs.Lines.{of_lines}
 use Rattle.rh_script_lint.specs.Steps.{of_script_steps}

@@ -17,4 +17,4 @@ pub use finding::{ReadName, TermFinding};
 pub use findings::term_findings;
 pub use laws::{findings_are_so, names_are_read};
 pub use near::nearest;
-pub use shapes::term_name;
+pub use shapes::{elements, entry, node, term_name};

@@ -1,0 +1,7 @@
+use Rattle.std.proofs.Common.{◌≡◌, map, drop}
+use Rattle.rh_base.specs.Tree.{tree_of}
+use Rattle.rh_cluster_lint.specs.Differing.{part_config, first_config}
+use Rattle.rh_cluster_lint.proofs.taking_part.first_part.Given as goal
+
+abbrev pub invariant-loop-place : goal.invariant-loop-place
+invariant-loop-place l = first_config (part_config (map tree_of l.terms)) 0 (map tree_of l.terms) ≡ first_config (part_config (map tree_of l.terms)) l.place (map tree_of (drop l.place l.terms))
