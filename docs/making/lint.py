@@ -15,6 +15,7 @@ STEP_WORDS = CRATES / "rh_line_lint" / "specs" / "StepWords.antt"
 LEVELS = CRATES / "rh_step_findings" / "specs" / "Levels.antt"
 TERMS = CRATES / "rh_cluster_lint" / "specs" / "Terms.antt"
 STEPS = CRATES / "rh_script_lint" / "specs" / "Steps.antt"
+REFUSED = CRATES / "rh_script_lint" / "specs" / "Refused.antt"
 HEAD, LINE = "| Code | What it says |", "|---|---|"
 
 
@@ -40,7 +41,8 @@ def records(path: Path) -> Iterator[tuple[str, str]]:
 
 def findings() -> dict[str, str]:
     """What each finding is worth, by its code."""
-    found = dict([*records(TERMS), *variants(FILE_WORDS, FILE_WORDS), *variants(STEP_WORDS, LEVELS), *records(STEPS)])
+    found = dict([*records(TERMS), *variants(FILE_WORDS, FILE_WORDS), *variants(STEP_WORDS, LEVELS), *records(REFUSED),
+                  *records(STEPS)])
     if not all(found):
         raise BadSource("a finding of lint has no code")
     return found

@@ -232,10 +232,10 @@ out. Each finding is a line, in the order of the lines:
 KIND is `error` for what can't be read or isn't there: the fault that `check`
 tells, by its code, a line that is no command, a name that the cluster hasn't.
 A `warning` can't be what was meant, or a live OTP takes it otherwise and an
-operator has to act; a `hint` is what a live OTP may take otherwise. Of one
-line errors come first, and hints last. The last line is `N errors, N warnings,
-N hints`, with status 9 where there is an error or a warning. docs/LINT.md has
-all codes.
+operator has to act; a `hint` is what a live OTP may take otherwise, or another
+command that `run` refuses. Of one line errors come first, and hints last. The
+last line is `N errors, N warnings, N hints`, with status 9 where there is an
+error or a warning. docs/LINT.md has all codes.
 
 Behind the first warning of a step that hangs on live nodes no more is told of
 the steps, since these have another past there. `--all` tells it nevertheless.

@@ -1,4 +1,4 @@
--- What a live OTP does otherwise at the steps of a script (ours).
+-- What a live OTP does otherwise at the steps of a script, and which of them `run` refuses (ours).
 use Rattle.std.specs.Prelude.{ℕ, ◌+◌, List, [], ◌∷◌, ◌++◌, codes, Bool, true, false, not, ◌&&◌, Some, None, if◌then◌else◌}
 use Rattle.std.specs.List.{flat_map, list_any}
 use Rattle.rh_model.specs.ClusterView.{ClusterView}
@@ -16,6 +16,7 @@ use Rattle.rh_findings.specs.declared.finding.Kind.TheVariants.{Warning, Hint}
 use Rattle.rh_findings.specs.declared.finding.Finding.{Finding}
 use Rattle.rh_findings.specs.Sentences.{sentence}
 use Rattle.rh_line_lint.specs.StepWords.{words_of, names_of}
+use Rattle.rh_script_lint.specs.Refused.{of_reply}
 
 -- a finding of a step on line k
 unfoldable pub step_found : ClusterView → ℕ → StepFinding → Finding
@@ -42,8 +43,9 @@ abbrev pub findings_of : SimView → Call → List StepFinding
 findings_of sim (call.Step e) = step_findings_of (state_of sim) e
 findings_of sim _ = []
 
+-- what is found of a call, and of the reply to it
 abbrev pub of_call : SimView → ℕ → Call → List Finding
-of_call sim k x = of_steps sim.cluster k (findings_of sim x)
+of_call sim k x = of_steps sim.cluster k (findings_of sim x) ++ of_reply sim.cluster k x (findings_of sim x) (served sim x).reply
 
 -- has a live cluster another past behind a call?
 abbrev pub ends_at : SimView → Call → Bool

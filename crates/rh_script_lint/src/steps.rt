@@ -1,4 +1,4 @@
-//! What a live OTP does otherwise at the steps of a script.
+//! What a live OTP does otherwise at the steps of a script, and which of them `run` refuses.
 
 ghost use Rattle.std.specs.Prelude.{◌≡◌, ◌+◌, ◌≤◌, ◌^◌, ◌++◌, ◌||◌, [], ◌∷◌, IfOk, OnOk, map, length, List};
 ghost use Rattle.std.specs.List.{flat_map, list_any};
@@ -7,6 +7,7 @@ ghost use Rattle.rh_trail.specs.Lone.{served};
 ghost use Rattle.rh_script.specs.Lines.{raw_lines, content};
 ghost use Rattle.rh_script_lint.specs.Steps.{step_found, is_another_past, another_past, of_steps, findings_of, of_call, ends_at, of_rest, of_script_steps};
 
+use crate::refused::push_reply;
 use rh_base::{OutOfMemory, Str};
 use rh_calls::Call;
 use rh_cluster::Cluster;
@@ -120,7 +121,8 @@ fn findings_of(alloc: Global, sim: &Sim, call: &Call) -> Result<Vec<StepFinding>
     }
 }
 
-// Adds what is found of a call, and gives it to the simulation. The answer is whether a live cluster has another past behind it.
+// Adds what is found of a call, gives it to the simulation, and adds what is told of the reply. The answer is whether a live cluster has
+// another past behind it.
 fn take_call(
     alloc: Global,
     found: &mut Vec<Finding>,
@@ -134,7 +136,9 @@ fn take_call(
 {
     let findings = findings_of(alloc, sim, &call)?;
     let ends = push_steps(alloc, found, sim.cluster(), number, findings.as_slice())?;
-    let _reply = sim.answer(alloc, call)?;
+    let reply = sim.answer(alloc, call)?.into_one();
+    let told = findings.as_slice();
+    push_reply(alloc, found, sim.cluster(), number, call, told, &reply)?;
     Ok(ends)
 }
 
@@ -162,8 +166,9 @@ fn take_line(
 
 /// What a live OTP does otherwise at the steps of a script, of which the first line has this number: each finding of a step as
 /// `rh_step_lint` has it, from the state before the step and the event. Behind a warning of a step that hangs it is told that a live
-/// cluster has another past. Nothing is told behind a line that is no command, nor behind the first such warning unless all is asked
-/// for.
+/// cluster has another past. Last of a line it is told that `run` refuses the command, where neither a finding of the step nor a name
+/// that the cluster hasn't tells that. Nothing is told behind a line that is no command, nor behind the first warning of a step that
+/// hangs unless all is asked for.
 pub fn step_lines(
     alloc: Global,
     sim: &mut Sim,
