@@ -1,6 +1,6 @@
 """How often lint tells beforehand where live nodes do otherwise than the rules: what it finds in rehearsals, beside what live nodes do in
 them. In random rehearsals (random_live.py) these are the nodes of companions/live, the model; in the scripts of tests/live real nodes,
-which made them.
+which made them. That the rules refuse a command says nothing of live nodes, so it isn't counted, and only compared with the second way.
 
 A rehearsal differs at its first command at which some order of messages gives other lines than the rules, or at which nodes begin to
 send one another messages for ever; from there on live nodes have another past. It is told beforehand if lint has a finding of the file,
@@ -108,6 +108,11 @@ def wrong_with(told: list[Told], text: str) -> Optional[str]:
         there = sorted(one.finding.code for one in told if one.place == place)
         if there != owed:
             return f"of command {place + 1} {there}, want {owed}"
+    refused = [one for one in told if one.finding.code == lint_model.REFUSED_STEP]
+    words = dict(enumerate(lint_model.refusals_in(text))) if refused else {}
+    for one in refused:
+        if one.finding.words != words.get(one.place):
+            return f"it is told that {one.finding.words}, want {words.get(one.place)}"
     return next((f"{one.finding.code} is a {one.finding.kind}, and docs/LINT.md says {kinds[one.finding.code][0]}"
                  for one in told if kinds[one.finding.code][0] != one.finding.kind), None)
 
@@ -115,7 +120,8 @@ def wrong_with(told: list[Told], text: str) -> Optional[str]:
 def measured(program: Program, name: str, kind: str, text: str, first: Optional[int]) -> Measured:
     """A rehearsal of which it is known where it differs."""
     told = told_of(program, text)
-    return Measured(name, kind, first, told, wrong_with(told, text))
+    of_live_nodes = [one for one in told if one.finding.code != lint_model.REFUSED_STEP]
+    return Measured(name, kind, first, of_live_nodes, wrong_with(told, text))
 
 
 def differs_by_model(program: Program, text: str) -> Optional[int]:

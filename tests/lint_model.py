@@ -19,6 +19,10 @@ PAGE = os.path.join(TOP, "docs", "LINT.md")
 ROW = re.compile(r"(?m)^\| (.*?) \| (warning|hint) \|")
 LONGEST_TIMER = 4_294_967_295
 ANOTHER_PAST = "another_past"
+REFUSED_STEP = "refused_step"
+# They say that their step is refused; of a name that the cluster hasn't the line is told (S1, S2).
+SAY_REFUSED = {"start_where_not_listed", "takeover_where_forbidden", "start_of_a_waiting_local"}
+OF_A_NAME = ("S1", "S2")
 
 
 def kinds_told() -> dict[str, tuple[str, bool]]:
@@ -439,6 +443,19 @@ def of_step(rehearsal: model.Rehearsal, words: list[str]) -> list[str]:
     return pairs + [code for code, holds in NODES.items() for node in before.nodes if holds(before, node)]
 
 
+def is_refusal_untold(answer: str, codes: list[str]) -> bool:
+    """Whether it is a refusal that neither a finding of the step nor one of the line tells."""
+    return answer.startswith("refused ") and answer.split()[1] not in OF_A_NAME and not SAY_REFUSED & set(codes)
+
+
+def refusals_in(text: str) -> list[str]:
+    """What has to be said of each command, if it is told that it is refused."""
+    cluster, lines = model.split(text)
+    rehearsal = model.Rehearsal(cluster)
+    answers = [(" ".join(rehearsal.entry(words)), rehearsal.answer(words)[0]) for words in lines]
+    return [f"run refuses {command}: {answer.removeprefix('refused ')}" for command, answer in answers]
+
+
 def found_in(text: str) -> tuple[list[str], list[list[str]]]:
     """The codes of a rehearsal: those of the file's warnings, and those of each step, in any order. Behind the first warning of a kind
     that hangs there are none."""
@@ -448,9 +465,10 @@ def found_in(text: str) -> tuple[list[str], list[list[str]]]:
     is_told = True
     for words in lines:
         codes = of_step(rehearsal, words) if is_told else []
+        if is_refusal_untold(rehearsal.answer(words)[0], codes) and is_told:
+            codes.append(REFUSED_STEP)
         if any(kinds[code] == ("warning", True) for code in codes):
             is_told = False
             codes.append(ANOTHER_PAST)
         steps.append(sorted(codes))
-        rehearsal.answer(words)
     return of_file(rehearsal.cluster, cluster), steps
