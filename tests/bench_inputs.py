@@ -3,7 +3,7 @@
 
 Makes the inputs that `rh_bench JOB SEED COUNT SIZE` makes, gives each to PROGRAM on the command line, and prints the lines that
 rh_bench prints. crates/rh_bench/stdout is what this prints, for the words of crates/rh_bench/args, with the program that was shipped
-before any change for speed (docs/PERF.md). With a folder as a sixth word it leaves the inputs there.
+before any change for speed, but for what lint tells since then (docs/PERF.md). With a folder as a sixth word it leaves the inputs there.
 """
 import struct
 import subprocess

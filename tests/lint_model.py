@@ -58,12 +58,29 @@ def depends_on_itself(cluster: Cluster, app: int) -> bool:
     return app in reached
 
 
+def listed_by(cluster: Cluster, node: int) -> set[int]:
+    """The other nodes that a node lists."""
+    return {*cluster.nodes[node].mandatory, *cluster.nodes[node].optional} - {node}
+
+
+def of_two(cluster: Cluster, node: int, other: int) -> Iterator[str]:
+    """The warnings of a node beside another one with which it shares a distributed application."""
+    own, theirs = listed_by(cluster, node), listed_by(cluster, other)
+    if other in own and theirs and node not in theirs:
+        yield "one_sided_lists"
+    if own and other not in own and node not in theirs:
+        yield "incomplete_lists"
+
+
 def of_node(cluster: Cluster, node: int) -> Iterator[str]:
     """The warnings of a node."""
     keys = cluster.nodes[node]
-    others = {*keys.mandatory, *keys.optional} - {node}
-    if not others and any(shares(cluster, node, other) for other in range(len(cluster.nodes))):
+    others = listed_by(cluster, node)
+    sharing = [other for other in range(len(cluster.nodes)) if shares(cluster, node, other)]
+    if not others and sharing:
         yield "no_lists"
+    for other in sharing:
+        yield from of_two(cluster, node, other)
     if others and keys.wait is None:
         yield "lists_without_timeout"
     if keys.wait == 0:
@@ -84,6 +101,9 @@ def of_apps(cluster: Cluster) -> Iterator[str]:
     for app in spread:
         if cluster.apps[app].spread.timeout > LONGEST_TIMER:
             yield "failover_timeout_too_large"
+        names = [[cluster.nodes[node].name.encode() for node in group] for group in cluster.apps[app].spread.groups]
+        if any(group != sorted(group) for group in names):
+            yield "tuple_not_in_order"
         for other in spread:
             orders = {booted_before(cluster, node, app, other) for node in range(len(cluster.nodes))
                       if booted_before(cluster, node, app, other) or booted_before(cluster, node, other, app)}

@@ -1,7 +1,7 @@
 -- What is found in a text is found in what is kept of its terms for a look.
 use Rattle.std.proofs.Common.{◌≡◌, ◌≢◌, ◌+◌, ◌&&◌, ◌||◌, ℕ, List, [], ◌∷◌, ◌++◌, Bool, true, false, cond, map, Option, Some, None, Result, Ok, Err, is_some, refl, sym, ap, ◌∙◌, codes}
 use Rattle.std.specs.Prelude.{option_map, filter_map}
-use Rattle.std.specs.List.{flat_map, list_any, enumerate_from}
+use Rattle.std.specs.List.{flat_map, enumerate_from}
 use Rattle.std.specs.Option.{option_to_list, option_map_or}
 use Rattle.std.specs.Str.{bytes_eq}
 use Rattle.rh_base.specs.Tree.{Tree, Trees, list_of_trees}
@@ -11,18 +11,16 @@ use Rattle.rh_terms.specs.declared.fault.TermFault.TheVariants as faults
 use Rattle.rh_terms.specs.declared.keep.Next.TheVariants.{Each}
 use Rattle.rh_terms.specs.Grammar.{FaultIs}
 use Rattle.rh_terms.specs.Kept.{kept_trees, kept_of}
-use Rattle.rh_cluster.specs.Shapes.{as_atom, as_entry, as_node, as_app, as_headed}
+use Rattle.rh_cluster.specs.Shapes.{as_entry, as_node, as_app, as_headed}
 use Rattle.rh_cluster.specs.Sections.{atom_is, has_key}
 use Rattle.rh_cluster.specs.Values.{elements}
-use Rattle.rh_findings.specs.declared.finding.Finding.{Finding}
 use Rattle.rh_term_lint.specs.declared.finding.TermFinding.{TermFinding}
 use Rattle.rh_term_lint.specs.declared.finding.TermFinding.TheVariants.{NoProfile, NearParameter, NearSection, UndefinedWritten}
 use Rattle.rh_term_lint.specs.Meant.{parameters, sections}
 use Rattle.rh_term_lint.specs.Findings.{entries, near, is_undefined, of_parameter, of_section, of_key, of_term, has_profile, findings}
 use Rattle.rh_cluster_lint.specs.declared.looked.Looked.{Looked}
 use Rattle.rh_cluster_lint.specs.declared.looked.Looked.TheVariants as part
-use Rattle.rh_cluster_lint.specs.File.{file_found}
-use Rattle.rh_cluster_lint.specs.Lines.{LinesView, place_here, places_of, lines_of}
+use Rattle.rh_cluster_lint.specs.Lines.{places_of, lines_of}
 use Rattle.rh_cluster_lint.specs.Looked.{looked_behind}
 use Rattle.rh_cluster_lint.specs.Terms.{term_found}
 use Rattle.rh_cluster_lint.specs.Text.{of_cluster, of_terms, text_found_by}

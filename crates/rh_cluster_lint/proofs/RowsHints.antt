@@ -1,5 +1,5 @@
 -- Worked rows: what may have been meant where a text can't be read.
-use Rattle.std.proofs.Common.{◌≡◌, ◌++◌, ◌∷◌, [], ℕ, List, codes, refl, true, false, Some, None}
+use Rattle.std.proofs.Common.{◌≡◌, ◌++◌, ◌∷◌, [], codes, refl, true, false, Some, None}
 use Rattle.rh_terms.specs.declared.fault.TermFault.TheVariants as terms
 use Rattle.rh_cluster.specs.declared.fault.ClusterFault.TheVariants as fault
 use Rattle.rh_cluster_lint.specs.Constructs.{begins_here, construct_in}

@@ -107,8 +107,9 @@ unfoldable pub way_in_lists : List ℕ → ClusterFault → List Part → List S
 way_in_lists text fault.BootNotListed ts = way_among Boots text (number fault.BootNotListed) ts
 way_in_lists text f ts = way_in_terms text (number f) ts
 
--- the term at fault, where the names and shapes of terms are; else where it is in their lists
+-- the term at fault, where the names and shapes of terms are; else where it is in their lists; nothing of a file that is too long
 unfoldable pub blamed : List ℕ → ClusterFault → List Step
 blamed text f =
-    if is_refused (number f) (emptied text) then option_to_list (fault_among Headers text (number f) (parts_at 0 text))
-    else way_in_lists text f (parts_at 0 text)
+    if tries text == 0 then []
+    else (if is_refused (number f) (emptied text) then option_to_list (fault_among Headers text (number f) (parts_at 0 text))
+    else way_in_lists text f (parts_at 0 text))

@@ -1,5 +1,5 @@
 -- How the findings of a file are told, with their lines (ours).
-use Rattle.std.specs.Prelude.{List, None, if◌then◌else◌}
+use Rattle.std.specs.Prelude.{None, if◌then◌else◌}
 use Rattle.rh_model.specs.ClusterView.{ClusterView}
 use Rattle.rh_file_lint.specs.declared.finding.FileFinding.{FileFinding}
 use Rattle.rh_findings.specs.declared.finding.Kind.TheVariants.{Warning, Hint}

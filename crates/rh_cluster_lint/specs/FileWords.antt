@@ -1,11 +1,10 @@
 -- How the findings of a file are told (ours).
-use Rattle.std.specs.Prelude.{ℕ, List, [], codes, Bool, true, false, Option, Some, None, unwrap_or}
+use Rattle.std.specs.Prelude.{ℕ, List, [], codes, Bool, true, false, Option, None, unwrap_or}
 use Rattle.rh_model.specs.ClusterView.{ClusterView, dep_name}
 use Rattle.rh_model.specs.declared.settings.Dep.{Dep}
 use Rattle.rh_calls.specs.Report.{no_name, node_word, app_word}
 use Rattle.rh_file_lint.specs.declared.finding.FileFinding.{FileFinding}
 use Rattle.rh_file_lint.specs.declared.finding.FileFinding.TheVariants.{NoDistributedApplication, NoLists, OneSidedLists, IncompleteLists, ListsWithoutTimeout, SyncTimeoutZero, SyncTimeoutTooLarge, FailoverTimeoutTooLarge, TupleNotInOrder, TwoTuples, BootBeforeDependency, CrossedBootLists, NotBootedAtListedNode, PermanentDistributed, LocalAtSeveralNodes, DependencyCircle, LostTogether}
-use Rattle.rh_findings.specs.declared.finding.Kind.{Kind}
 use Rattle.rh_findings.specs.Sentences.{WordsView, NamesView}
 use Rattle.rh_cluster_lint.specs.Lines.{LinesView, node_line, app_line}
 
@@ -60,12 +59,9 @@ names_of c (DependencyCircle a) = names (app_word c a) [] []
 names_of c (LostTogether a b) = names (app_word c a) (app_word c b) []
 
 -- ---- what it is worth
--- A warning can't be meant, or ends a live node, or has live nodes hang or start an application twice: an operator has to act. These are
--- hints: they were there, too, where live nodes agreed.
+-- A warning can't be meant, or by it live nodes end, hang, start an application twice or run it elsewhere: an operator has to act. These
+-- are hints: live nodes often agreed where a file had them.
 abbrev pub is_warning : FileFinding → Bool
-is_warning (OneSidedLists n m) = false
-is_warning (IncompleteLists n m) = false
-is_warning (TupleNotInOrder a) = false
 is_warning (TwoTuples a) = false
 is_warning (NotBootedAtListedNode n a) = false
 is_warning (PermanentDistributed a) = false

@@ -1,5 +1,5 @@
 -- The lines of terms (ours).
-use Rattle.std.specs.Prelude.{ℕ, ◌+◌, List, [], ◌∷◌, ◌++◌, codes, drop, Option, Some, None, is_some, unwrap_or, slice_get, if◌then◌else◌}
+use Rattle.std.specs.Prelude.{ℕ, ◌+◌, List, [], ◌∷◌, ◌++◌, codes, drop, Option, is_some, unwrap_or, slice_get, if◌then◌else◌}
 use Rattle.std.specs.Option.{option_map, option_and_then}
 use Rattle.rh_base.specs.Tree.{Tree}
 use Rattle.rh_model.specs.declared.node.Node.{Node}

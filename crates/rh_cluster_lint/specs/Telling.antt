@@ -22,6 +22,10 @@ dots bytes = if nat_lt (length (front bytes)) (length bytes) then codes ".." els
 abbrev pub shown : List ℕ → List ℕ
 shown bytes = words_of (front bytes) ++ dots bytes
 
+-- what stands before it, where there is something to show: of bytes that aren't UTF-8 there is nothing
+abbrev pub colon : List ℕ → List ℕ → List ℕ
+colon words dots = if (length words == 0) && (length dots == 0) then [] else codes ": "
+
 -- what is said of what stands in a section, a key or a parameter
 abbrev pub expected_in : List ℕ → Step → List ℕ
 expected_in text s = if nat_lt 0 s.part.depth && is_named text s then expected (first_word (span text s.part)) else []
@@ -48,7 +52,7 @@ placed_at text fault f steps None = f
 placed_at text fault f steps (Some s) = record {
   line = Some s.part.line;
   kind = f.kind;
-  text = f.text ++ (codes ": " ++ (shown (span text s.part) ++ takes text fault steps));
+  text = f.text ++ (colon (words_of (front (span text s.part))) (dots (span text s.part)) ++ (shown (span text s.part) ++ takes text fault steps));
   path = Some (way text steps);
 }
 

@@ -17,8 +17,8 @@ use std::alloc::Global;
 /// So many parts of one list are tried at most.
 pub const MOST_TRIED: usize = 1_000;
 
-/// So many bytes are read at most to try those of one list.
-pub const MOST_READ: usize = 33_554_432;
+/// So many bytes are read at most to try those of one list: none of a file of 16 MiB, which takes no longer then than to read it.
+pub const MOST_READ: usize = 16_777_216;
 
 /// A part on the way to what is at fault.
 #[derive(Clone, Copy, Debug, PartialEq, Eq)]
@@ -316,12 +316,15 @@ fn way_in_lists(
 
 /// The way to what is at fault in a file that was refused with this fault, from a term on; nothing where it isn't found. At each step
 /// it is the first part up to whose end the file is refused with this fault, and up to whose beginning it isn't, where what stands
-/// behind is taken out and all terms keep their names ([`Cut`]). At most [`MOST_TRIED`] parts are tried at each step, and fewer of a
-/// long file ([`MOST_READ`]).
+/// behind is taken out and all terms keep their names ([`Cut`]). At most [`MOST_TRIED`] parts are tried at each step, fewer of a long
+/// file, and none of one of 16 MiB ([`MOST_READ`]).
 #[tactic(auto, unfolding(crate::specs::Blame::blamed))]
 pub fn blamed(alloc: Global, text: &[u8], fault: &ClusterFault) -> Result<Vec<Step>, OutOfMemory>
     ensures { IfOk result (λ steps. steps.items ≡ blamed text.now fault.now) }
 {
+    if tries(text) == 0 {
+        return Ok(Vec::new(alloc));
+    }
     let terms = parts_at(alloc, text, 0)?;
     let code = number(fault);
     let headers = emptied(alloc, text)?;

@@ -241,15 +241,12 @@ pub fn names_of<'a>(cluster: &'a Cluster, finding: &FileFinding) -> Names<'a>
     }
 }
 
-/// Whether an operator has to act: it can't be meant, or it ends a live node, or has live nodes hang or start twice, and was never there
-/// where live nodes agreed.
+/// Whether an operator has to act: it can't be meant, or by it live nodes end, hang, start an application twice or run it elsewhere, and
+/// they hardly ever agreed where a file had it.
 pub fn is_warning(finding: &FileFinding) -> bool
     ensures { result ≡ is_warning finding.now }
 {
     match *finding {
-        FileFinding::OneSidedLists { .. } => false,
-        FileFinding::IncompleteLists { .. } => false,
-        FileFinding::TupleNotInOrder { .. } => false,
         FileFinding::TwoTuples { .. } => false,
         FileFinding::NotBootedAtListedNode { .. } => false,
         FileFinding::PermanentDistributed { .. } => false,

@@ -2,7 +2,7 @@
 
 ghost use Rattle.std.specs.Prelude.{◌≡◌, ◌++◌, [], IfOk, fold};
 ghost use Rattle.rh_cluster_lint.specs.Words.{words_of};
-ghost use Rattle.rh_cluster_lint.specs.Telling.{front, dots, expected_in, or_before, expected_on, takes, hinted, placed};
+ghost use Rattle.rh_cluster_lint.specs.Telling.{front, dots, colon, expected_in, or_before, expected_on, takes, hinted, placed};
 
 use crate::blame::Step;
 use crate::expected::expected;
@@ -27,6 +27,17 @@ pub fn shown(bytes: &[u8]) -> (&str, &'static str)
     let front = before(before_first(bytes, b'\n'), MOST_SHOWN);
     let dots = if front.len() < bytes.len() { ".." } else { "" };
     (words_of(front), dots)
+}
+
+// What stands before what is shown, if anything is.
+fn colon(words: &str, dots: &str) -> &'static str
+    ensures { result.now ≡ colon words.now dots.now }
+{
+    if words.is_empty() && dots.is_empty() {
+        ""
+    } else {
+        ": "
+    }
 }
 
 // What is said of what stands in a section, a key or a parameter.
@@ -106,7 +117,8 @@ pub fn placed(
             let words = finding.text.as_str();
             let (front, dots) = shown(span(text, step.part));
             let wanted = takes(text, fault, steps);
-            let told = format!(in alloc; "{words}: {front}{dots}{wanted}")?;
+            let colon = colon(front, dots);
+            let told = format!(in alloc; "{words}{colon}{front}{dots}{wanted}")?;
             Ok(Finding {
                 line: Some(step.part.line),
                 kind: finding.kind,

@@ -1,9 +1,9 @@
-use Rattle.std.proofs.Common.{refl, sym, subst, inl, length, ◌≤◌, List, ℕ, Option}
+use Rattle.std.proofs.Common.{sym, subst, List, ℕ}
 use Rattle.std.proofs.lemmas.Result.{err_from_is_err_and}
 use Rattle.rh_devices.specs.declared.fault.WriteFault.{WriteFault}
-use Rattle.rh_devices.specs.Devices.{input_limit, WroteFront}
+use Rattle.rh_devices.specs.Devices.{WroteFront}
 use Rattle.rh_run.specs.Programs.{IsInput, NoThreads}
-use Rattle.rh_run.proofs.Ending.{not_read, not_written, is_written}
+use Rattle.rh_run.proofs.Ending.{not_read, not_written}
 use Rattle.rh_lint.specs.LintText.{OwesLint}
 use Rattle.rh_lint.proofs.linting.run_lint.Goals as goal
 
