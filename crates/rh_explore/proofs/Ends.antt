@@ -6,10 +6,8 @@ use Rattle.rh_state.specs.StateView.{StateView}
 use Rattle.rh_state.specs.Stored.{Stored, read}
 use Rattle.rh_trace.specs.Validity.{IsValid}
 use Rattle.rh_explore.specs.declared.bounds.Covered.TheVariants as covered
-use Rattle.rh_explore.specs.declared.families.Family.{Family}
 use Rattle.rh_explore.specs.declared.families.Front.{Front}
 use Rattle.rh_explore.specs.declared.search.Search.{Search}
-use Rattle.rh_explore.specs.declared.space.Found.{Found}
 use Rattle.rh_explore.specs.declared.space.Space.{Space}
 use Rattle.rh_explore.specs.Exploring.{scope_of}
 use Rattle.rh_explore.specs.Families.{waiting_in, IsFamily}

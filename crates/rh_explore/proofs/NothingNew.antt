@@ -1,5 +1,5 @@
 -- A lead to a state that was there: nothing that is kept changes.
-use Rattle.std.proofs.Common.{◌≡◌, ◌++◌, ℕ, List, [], Bool, true, false, sum_by, map, length, slice_get, Option, refl, sym, ap, ◌∙◌, subst}
+use Rattle.std.proofs.Common.{◌≡◌, ℕ, List, [], Bool, true, false, sum_by, length, slice_get, Option, refl, sym, ap, ◌∙◌, subst}
 use Rattle.std.specs.Prelude.{Contains, MatchBool}
 use Rattle.std.proofs.lemmas.List.{append-nil}
 use Rattle.std.proofs.lemmas.List.Elements.{All-nil}
@@ -11,7 +11,7 @@ use Rattle.rh_explore.specs.declared.space.Space.{Space}
 use Rattle.rh_explore.specs.Exploring.{scope_of, key_length, HadRoom}
 use Rattle.rh_explore.specs.Failures.{AreFirsts}
 use Rattle.rh_explore.specs.Families.{IsAccepted}
-use Rattle.rh_explore.specs.Kept.{bytes_of, codes_of, seen_of, seen_in, AreLinked, IsKept, HasTheSame, FindsAt}
+use Rattle.rh_explore.specs.Kept.{codes_of, seen_of, seen_in, AreLinked, IsKept, HasTheSame, FindsAt}
 use Rattle.rh_explore.specs.Reaching.{Scope}
 use Rattle.rh_explore.specs.Spaces.{Seen, states_of, AreInTurn}
 

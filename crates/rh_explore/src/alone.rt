@@ -19,7 +19,7 @@ use rh_base::OutOfMemory;
 use std::alloc::Global;
 
 /// All states that a search finds, and which lists of events were looked at. What comes of a state is kept before the next one is
-/// expanded, so that no state is found twice, and one worker's memory serves all.
+/// expanded, so that it is known then what the states before led to, and one worker's memory serves all.
 pub(crate) fn find_alone<W: Watch>(
     watch: &mut W,
     alloc: Global,

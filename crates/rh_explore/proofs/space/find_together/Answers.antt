@@ -1,4 +1,4 @@
-use Rattle.std.proofs.Common.{◌≡◌, [], ℕ, length, ap, sym, ◌∙◌, subst, drop, arith}
+use Rattle.std.proofs.Common.{ℕ, length, ap, sym, ◌∙◌, subst, drop, arith}
 use Rattle.std.proofs.lemmas.Bool.Decides.{nat_tests}
 use Rattle.std.proofs.lemmas.List.{nil_from_length}
 use Rattle.std.specs.List.{AllZip, flat_map}

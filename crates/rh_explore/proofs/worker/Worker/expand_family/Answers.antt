@@ -1,4 +1,4 @@
-use Rattle.std.proofs.Common.{[], List, Option, length, refl, sym, ap, ◌∙◌, subst, arith}
+use Rattle.std.proofs.Common.{[], List, Option, length, sym, ap, ◌∙◌, subst, arith}
 use Rattle.std.proofs.lemmas.List.{append-nil}
 use Rattle.rh_state.specs.Stored.{Stored, read}
 use Rattle.rh_trace.specs.Validity.{IsValid}
