@@ -169,6 +169,15 @@ class Before:
     def takes_part(self, node: int) -> bool:
         return any(node in self.listed(app) for app in self.state.standing)
 
+    def lists(self, node: int) -> list[int]:
+        """The nodes for which it waits at its start."""
+        keys = self.state.cluster.nodes[node]
+        return [] if keys.wait is None else keys.mandatory + keys.optional
+
+    def are_linked(self, node: int, other: int) -> bool:
+        """Whether one of them waits for the other at its start."""
+        return other in self.lists(node) or node in self.lists(other)
+
     # Of an application at a node.
 
     def boots(self, node: int, app: int) -> bool:
@@ -226,8 +235,8 @@ class Before:
         return False
 
     def idle(self, app: int, node: int) -> list[int]:
-        """The other nodes that may run it, and haven't started it behind the step."""
-        return [other for other in self.nodes if other != node and self.is_available(app, other)
+        """The other nodes that it sees that may run it, and haven't started it behind the step."""
+        return [other for other in self.nodes if other != node and self.are_linked(node, other) and self.is_available(app, other)
                 and not self.starts(other, app) and not self.state.started(other, app)]
 
     # Where it is looked for.
@@ -272,9 +281,15 @@ def ranked(before: Before, node: int, app: int, test: Callable[[int, int], bool]
     return any(test(before.rank(app, other), own) for other in before.waits_for(node, app))
 
 
+def is_served(before: Before, app: int) -> bool:
+    """Whether a node that may run it starts it at this step."""
+    return any(before.starts(node, app) and before.is_available(app, node) for node in before.nodes)
+
+
 def starts_forbidden(before: Before, node: int, app: int) -> bool:
-    return (before.tries(node, app) and not before.is_permitted(node, app) and before.runner(app) is None
-            and bool(before.idle(app, node)))
+    is_alone = before.runner(app) is None and not is_served(before, app)
+    is_forbidden = before.starts(node, app) and not before.is_local(app) and not before.is_permitted(node, app)
+    return is_forbidden and is_alone and bool(before.idle(app, node))
 
 
 def runs_behind(before: Before, app: int) -> bool:
@@ -283,13 +298,16 @@ def runs_behind(before: Before, app: int) -> bool:
 
 
 def runs_at_a_worse_node(before: Before, node: int, app: int) -> bool:
-    is_below = before.is_available(app, node) and node not in before.best(app)
-    return before.tries(node, app) and is_below and runs_behind(before, app)
+    best = before.best(app)
+    is_below = before.is_available(app, node) and node not in best
+    is_regained = any(before.starts(other, app) for other in best)
+    return before.tries(node, app) and is_below and runs_behind(before, app) and not is_regained
 
 
 def tuple_takeover(before: Before, node: int, app: int) -> bool:
     best = before.best(app)
-    return before.tries(node, app) and node in best and runs_behind(before, app) and len(best) > 1
+    has_bystander = any(other != node and not before.starts(other, app) for other in best)
+    return before.tries(node, app) and node in best and runs_behind(before, app) and has_bystander
 
 
 def is_quiet(before: Before, app: int) -> bool:
@@ -315,7 +333,8 @@ def boots_now(before: Before, node: int, app: int) -> bool:
 
 def boots_after_forbidden(before: Before, node: int, app: int) -> bool:
     return boots_now(before, node, app) and any(
-        booted_before(before.state.cluster, node, need, app) and need in before.state.forbidden[node] for need in needed(before, app))
+        before.is_local(need) and booted_before(before.state.cluster, node, need, app) and need in before.state.forbidden[node]
+        for need in needed(before, app))
 
 
 def boots_too_early(before: Before, node: int, app: int) -> bool:
@@ -366,8 +385,14 @@ def nobody_saw_the_loss(before: Before, node: int, app: int) -> bool:
     return has_phases and boots_now(before, node, app) and lost_at_another(before, node, app, "wanted")
 
 
+def start_within_time(before: Before, node: int, app: int) -> bool:
+    _, lost = before.standing(app)
+    return before.starts(node, app) and lost_at_another(before, node, app, "lost") and not before.starts(lost, app)
+
+
 def own_end(before: Before, node: int, app: int) -> bool:
-    return before.word == "exit" and app == before.app and not before.is_local(app) and before.ends(node)
+    is_ended = before.word == "exit" and app == before.app and not before.is_local(app) and before.ends(node)
+    return is_ended and bool(ready(before, node, app))
 
 
 def dependency_gone(before: Before, node: int, app: int) -> bool:
@@ -382,7 +407,7 @@ def stays(before: Before, app: int) -> bool:
 
 
 def needs_a_distributed_one(before: Before, node: int, app: int) -> bool:
-    is_to_run = before.is_local(app) or node in before.best(app) and not stays(before, app)
+    is_to_run = before.is_permitted(node, app) if before.is_local(app) else node in before.best(app) and not stays(before, app)
     return boots_now(before, node, app) and is_to_run and any(
         not before.is_local(need) and (node not in before.best(need) or stays(before, need)) for need in needed(before, app))
 
@@ -405,8 +430,8 @@ PAIRS: dict[str, Callable[[Before, int, int], bool]] = {
     "permit_starts_quiet": lambda b, n, a: b.is_given_back(n, a) and is_quiet(b, a),
     "dependency_forbidden_at_start": boots_after_forbidden, "before_dependency": boots_too_early, "forbid_moves": forbid_moves,
     "forbid_other_not_started": lambda b, n, a: is_taken_from_runner(b, n, a) and bool(b.idle(a, n)),
-    "start_within_time": lambda b, n, a: b.starts(n, a) and lost_at_another(b, n, a, "lost"),
-    "nobody_saw_the_loss": nobody_saw_the_loss, "weights_for_ever": weights_for_ever, "own_end": own_end,
+    "start_within_time": start_within_time, "nobody_saw_the_loss": nobody_saw_the_loss, "weights_for_ever": weights_for_ever,
+    "own_end": own_end,
     "kind_after_loss": kind_after_loss, "dependency_gone": dependency_gone, "needs_a_distributed_one": needs_a_distributed_one,
     "forbid_with_unlisted_nodes": forbid_with_unlisted_nodes,
     "takeover_not_started": lambda b, n, a: named_by(b, "takeover", n, a) and not b.state.started(n, a),
@@ -417,20 +442,33 @@ PAIRS: dict[str, Callable[[Before, int, int], bool]] = {
 # ---- What is asked of a node alone
 
 
+def booted_spread(before: Before, node: int) -> list[int]:
+    """The distributed applications that it boots."""
+    return [app for app in before.state.standing if before.boots(node, app)]
+
+
+def gets_one(before: Before, node: int, other: int) -> bool:
+    """Whether the other node boots one of them, too, and stands no later in its list."""
+    return any(before.boots(other, app) and other in before.listed(app) and before.rank(app, other) <= before.rank(app, node)
+               for app in booted_spread(before, node))
+
+
 def other_node_waits(before: Before, node: int) -> bool:
-    if not (before.comes_up(node) and before.takes_part(node)):
+    if not (before.comes_up(node) and booted_spread(before, node)):
         return False
     waiting = [other for other in before.nodes if before.state.mode[other] == "waiting" or before.word == "boot" and other == before.node]
-    left = [other for other in waiting if before.word == "tick" or not before.comes_up(other)]
-    return any(other != node and before.takes_part(other) for other in left)
+    if before.word == "tick":
+        left = [other for other in waiting if not before.fires("sync", other) or gets_one(before, node, other)]
+    else:
+        left = [other for other in waiting if not before.comes_up(other)]
+    return any(other != node and before.are_linked(node, other) and before.takes_part(other) for other in left)
 
 
 def not_in_its_lists(before: Before, node: int) -> bool:
-    keys = before.state.cluster.nodes[node]
-    lists = [] if keys.wait is None else keys.mandatory + keys.optional
-    if before.word != "boot" or node != before.node or not before.comes_up(node) or not before.takes_part(node):
+    if before.word != "boot" or node != before.node or not before.comes_up(node):
         return False
-    return any(other != node and other not in lists and before.state.alive(other) and before.takes_part(other) for other in before.nodes)
+    beside = {other for app in booted_spread(before, node) for other in before.listed(app)}
+    return any(other != node and other not in before.lists(node) and before.state.alive(other) for other in beside)
 
 
 NODES: dict[str, Callable[[Before, int], bool]] = {"other_node_waits": other_node_waits, "not_in_its_lists": not_in_its_lists}

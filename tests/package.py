@@ -172,7 +172,8 @@ def first_commands(program, folder):
         yield line, None if is_shown(done, owed) else f"{done}"
     for line, begin in (("rehearse --help", "Rehearses maintenance"), ("rehearse help sweep", "Reads a cluster file, a base and plans"),
                         ("rehearse help boot", "boot N: starts node N\n"), ("rehearse help S1", "refused S1 unknown_node\n"),
-                        ("rehearse lint --explain own_end", "own_end: hint\n\nIt ends by itself, and its node with it.\n\nLive nodes "),
+                        ("rehearse lint --explain own_end",
+                         "own_end: hint\n\nIt ends by itself, and its node with it, where another node holds it ready.\n\nLive nodes "),
                         ("rehearse --version", f"rehearse {version()} (commit ")):
         done = call(root, line)
         is_right = done.returncode == 0 and done.stdout.decode().startswith(begin) and b"./rehearse" not in done.stdout and not done.stderr

@@ -20,7 +20,7 @@ boots_before c n d a = comes_before (boot_place c n d) (boot_place c n a)
 
 -- a dependency is lacking so
 unfoldable pub lacks_so : StateView → Event → Lack → Node → App → App → Bool
-lacks_so s e Forbidden n a d = boots_before s.cluster n d a && not (is_allowed s n d)
+lacks_so s e Forbidden n a d = is_local s.cluster d && (boots_before s.cluster n d a && not (is_allowed s n d))
 lacks_so s e Later n a d = not (boots_before s.cluster n d a)
 lacks_so s e Elsewhere n a d = not (is_local s.cluster d) && (not (is_best s e d n) || stays s e d)
 lacks_so s e Gone n a d = not (runs_at s n d)

@@ -3,8 +3,8 @@ use Rattle.std.specs.Prelude.{Bool, not, Option, find, is_some, is_none, â—Œ&&â—
 use Rattle.rh_rules.specs.Prelude.{group_of, App, Node, same_node, nodes_of, StateView, mode_of, is_up, is_started, is_allowed}
 use Rattle.rh_rules.specs.declared.event.Event.{Event}
 use Rattle.rh_step_findings.specs.declared.relation.Relation.{Relation}
-use Rattle.rh_step_findings.specs.declared.relation.Relation.TheVariants.{BetterIdle, TupleIdle, WorseIdle, Idle, Ready, Unlisted, Companion, Holder}
-use Rattle.rh_step_findings.specs.After.{is_up_after}
+use Rattle.rh_step_findings.specs.declared.relation.Relation.TheVariants.{BetterIdle, TupleIdle, WorseIdle, Idle, Ready, Unlisted, Companion, Bystander, Holder}
+use Rattle.rh_step_findings.specs.After.{is_up_after, starts_now}
 use Rattle.rh_step_findings.specs.Candidates.{ranks_before, share_group, takes_part, is_available, is_best, is_idle, holds_up}
 
 -- it holds the application ready before the step, and may run it
@@ -20,6 +20,7 @@ stands_so s e Idle n a m = is_idle s e n a m
 stands_so s e Ready n a m = not (same_node n m) && (is_available s e a m && is_started s m a)
 stands_so s e Unlisted n a m = not (same_node n m) && (is_none (group_of s.cluster a m) && (is_up_after s e m && takes_part s.cluster m))
 stands_so s e Companion n a m = not (same_node n m) && is_best s e a m
+stands_so s e Bystander n a m = not (same_node n m) && (is_best s e a m && not (starts_now s e m a))
 stands_so s e Holder n a m = not (same_node n m)
     && (is_some (group_of s.cluster a m) && (not (ranks_before s.cluster a n m) && is_holder s a m))
 

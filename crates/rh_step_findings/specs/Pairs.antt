@@ -2,7 +2,7 @@
 -- of the event (measured on OTP 25.2.3; docs/LIVE_OTP.md tells each). Each timer that fires within a tick is judged by the state
 -- before the tick. Events: a start, a boot, a failover and a permission are tried at nodes (Tries); a permission that is taken, a
 -- stop, an exit and a takeover are named in each definition.
-use Rattle.std.specs.Prelude.{Bool, false, not, Option, Some, None, is_none, ◌&&◌, ◌||◌, if◌then◌else◌}
+use Rattle.std.specs.Prelude.{Bool, false, not, Option, Some, None, is_some, is_none, ◌&&◌, ◌||◌, if◌then◌else◌}
 use Rattle.rh_rules.specs.Prelude.{list_any, option_map, has_phases, App, Node, same_node, same_app, nodes_of, StateView, is_quiet, is_started, is_allowed, runs_at, waits_at, standing_of, Standing, Wanted, Lost}
 use Rattle.rh_rules.specs.declared.event.Event.{Event}
 use Rattle.rh_rules.specs.declared.event.Event.TheVariants.{Stop, Permit, Takeover, Exit}
@@ -33,15 +33,25 @@ unfoldable pub is_behind : StateView → Event → App → Option Node → Bool
 is_behind s e a None = false
 is_behind s e a (Some r) = not (is_best s e a r)
 
--- it is tried at a node that may not run it, and runs nowhere
+-- a node that may run it starts it at this step
+unfoldable pub is_served : StateView → Event → App → Bool
+is_served s e a = list_any (λ m. starts_now s e m a && is_available s e a m) (nodes_of s.cluster)
+
+-- it is tried at a node that may not run it, since it is started there; it runs nowhere, nor is started where it may run
 unfoldable pub starts_forbidden : StateView → Event → Node → App → Bool
-starts_forbidden s e n a = tries s e n a && (not (is_permitted_after s e n a) && is_none (runner s e a))
+starts_forbidden s e n a = tries s e n a
+    && (not (is_permitted_after s e n a) && (starts_now s e n a && (is_none (runner s e a) && not (is_served s e a))))
 
--- it runs behind the best group, and is tried at an available node that isn't of that group
+-- a node of the best group starts it at this step, and takes it over
+unfoldable pub is_regained : StateView → Event → App → Bool
+is_regained s e a = list_any (λ m. starts_now s e m a && is_best s e a m) (nodes_of s.cluster)
+
+-- it runs behind the best group and isn't regained, and is tried at an available node that isn't of that group
 unfoldable pub starts_below : StateView → Event → Node → App → Bool
-starts_below s e n a = tries s e n a && ((is_available s e a n && not (is_best s e a n)) && is_behind s e a (runner s e a))
+starts_below s e n a = tries s e n a
+    && ((is_available s e a n && not (is_best s e a n)) && (is_behind s e a (runner s e a) && not (is_regained s e a)))
 
--- or at one that is
+-- it runs behind the best group, and is tried at a node of that group
 unfoldable pub takes_back : StateView → Event → Node → App → Bool
 takes_back s e n a = tries s e n a && (is_best s e a n && is_behind s e a (runner s e a))
 
@@ -89,24 +99,27 @@ stops_forbidden s _ n a = false
 unfoldable pub boots_now : StateView → Event → Node → App → Bool
 boots_now s e n a = comes_up s e n && boots s.cluster n a
 
--- where it is to run: it is local, or the node is of the best group, and it doesn't stay where it runs
+-- where it is to run: it is local and permitted, or the node is of the best group, and it doesn't stay where it runs
 unfoldable pub boots_to_run : StateView → Event → Node → App → Bool
-boots_to_run s e n a = boots_now s e n a && (is_local s.cluster a || (is_best s e a n && not (stays s e a)))
+boots_to_run s e n a = boots_now s e n a
+    && ((is_local s.cluster a && is_permitted_after s e n a) || (is_best s e a n && not (stays s e a)))
 
--- another node with which it was lost, and whose time isn't over, or is
+-- another node with which it was lost
 abbrev pub other_node : Node → Node → Option Node
 other_node n m = if same_node m n then None else Some m
 
-abbrev pub awaited_from : Node → Standing → Option Node
-awaited_from n (Lost m) = other_node n m
-awaited_from n _ = None
+-- whose time isn't over, and which doesn't start it again at this step
+abbrev pub awaited_from : StateView → Event → Node → App → Standing → Option Node
+awaited_from s e n a (Lost m) = if starts_now s e m a then None else other_node n m
+awaited_from s e n a _ = None
 
+unfoldable pub awaited : StateView → Event → Node → App → Option Node
+awaited s e n a = awaited_from s e n a (standing_of s a)
+
+-- or whose time is over
 abbrev pub given_up_from : Node → Standing → Option Node
 given_up_from n (Wanted (Some m)) = other_node n m
 given_up_from n _ = None
-
-unfoldable pub awaited : StateView → Node → App → Option Node
-awaited s n a = awaited_from n (standing_of s a)
 
 unfoldable pub given_up : StateView → Node → App → Option Node
 given_up s n a = given_up_from n (standing_of s a)
@@ -150,7 +163,7 @@ found s e code.TupleMemberNotStarted n a = with_if (TupleMemberNotStarted n a) (
 found s e code.WorseNodeNotStarted n a = with_if (WorseNodeNotStarted n a) (asks_others s e n a) (other_so s e relation.WorseIdle n a)
 found s e code.ForbiddenStartWaits n a = with_if (ForbiddenStartWaits n a) (starts_forbidden s e n a) (other_so s e relation.Idle n a)
 found s e code.RunsAtAWorseNode n a = with_if (RunsAtAWorseNode n a) (starts_below s e n a) (runner s e a)
-found s e code.TupleTakeover n a = with_if (TupleTakeover n a) (takes_back s e n a) (other_so s e relation.Companion n a)
+found s e code.TupleTakeover n a = with_if (TupleTakeover n a) (takes_back s e n a) (other_so s e relation.Bystander n a)
 found s e code.BetterNodeWaitsQuiet n a = with_if (BetterNodeWaitsQuiet n a) (starts_quiet s e n a) (other_so s e relation.Holder n a)
 found s e code.PermitStartsQuiet n a = alone_if (PermitStartsQuiet n a) (permits_quiet s e n a)
 found s e code.DependencyForbiddenAtStart n a = with_if (DependencyForbiddenAtStart n a) (boots_now s e n a) (lacking_so s e lack.Forbidden n a)
@@ -158,10 +171,10 @@ found s e code.BeforeDependency n a = with_if (BeforeDependency n a) (boots_now 
 found s e code.ForbidMoves n a =
     with_if (ForbidMoves n a) (forbids_runner s e n a && is_none (other_so s e relation.Idle n a)) (other_so s e relation.Ready n a)
 found s e code.ForbidOtherNotStarted n a = with_if (ForbidOtherNotStarted n a) (forbids_runner s e n a) (other_so s e relation.Idle n a)
-found s e code.StartWithinTime n a = with_if (StartWithinTime n a) (starts_now s e n a) (awaited s n a)
+found s e code.StartWithinTime n a = with_if (StartWithinTime n a) (starts_now s e n a) (awaited s e n a)
 found s e code.NobodySawTheLoss n a = with_if (NobodySawTheLoss n a) (is_booted_with_phases s e n a) (given_up s n a)
 found s e code.WeightsForEver n a = with_if (WeightsForEver n a) (is_placed_behind_tuple s e n a) (other_so s e relation.Companion n a)
-found s e code.OwnEnd n a = alone_if (OwnEnd n a) (ends_with s e n a)
+found s e code.OwnEnd n a = alone_if (OwnEnd n a) (ends_with s e n a && is_some (other_so s e relation.Ready n a))
 found s e code.KindAfterLoss n a = with_if (KindAfterLoss n a) (is_helped s e n a) (lost_with s n a)
 found s e code.DependencyGone n a = with_if (DependencyGone n a) (goes_to s e n a) (lacking_so s e lack.Gone n a)
 found s e code.NeedsADistributedOne n a = with_if (NeedsADistributedOne n a) (boots_to_run s e n a) (lacking_so s e lack.Elsewhere n a)

@@ -10,7 +10,7 @@ use rh_model::{App, Node};
 #[derive(Clone, Copy, Debug, PartialEq, Eq)]
 pub enum StepFinding {
     /// The application is started at the node, and the other one, of an earlier group of its list, is up and permitted and hasn't
-    /// started it: a live OTP waits for that one.
+    /// started it: a live OTP waits for that one, if one of the two has the other in its lists.
     BetterNodeNotStarted {
         node: Node,
         app: App,
@@ -28,22 +28,22 @@ pub enum StepFinding {
         app: App,
         other: Node,
     },
-    /// The application is started at a node at which it is forbidden, runs nowhere, and the other node may run it and hasn't
-    /// started it.
+    /// The application is started at a node at which it is forbidden, runs nowhere, nor is started where it may run, and the other
+    /// node may run it and hasn't started it.
     ForbiddenStartWaits {
         node: Node,
         app: App,
         other: Node,
     },
     /// The application is started at the node while it runs at the other one, which is of a later group than the best that has a
-    /// node for it, and the node isn't of that best group.
+    /// node for it; the node isn't of that best group, and none of that group starts it at the same moment.
     RunsAtAWorseNode {
         node: Node,
         app: App,
         runner: Node,
     },
     /// The application is started at a node of the best group while it runs in a later one, and the other node is of that best
-    /// group, too.
+    /// group, too, and doesn't start it at the same moment.
     TupleTakeover {
         node: Node,
         app: App,
@@ -60,7 +60,7 @@ pub enum StepFinding {
         node: Node,
         app: App,
     },
-    /// The node boots the application, and the dependency that it boots before is forbidden there.
+    /// The node boots the application, and the dependency that it boots before isn't distributed, and is forbidden there.
     DependencyForbiddenAtStart {
         node: Node,
         app: App,
@@ -84,7 +84,8 @@ pub enum StepFinding {
         app: App,
         other: Node,
     },
-    /// The application is started at the node within the time in which it waits for the node with which it was lost.
+    /// The application is started at the node within the time in which it waits for the node with which it was lost, and not at
+    /// that one.
     StartWithinTime {
         node: Node,
         app: App,
@@ -117,7 +118,7 @@ pub enum StepFinding {
         node: Node,
         app: App,
     },
-    /// The application ends by itself, and its node with it.
+    /// The application ends by itself, and its node with it, and another node holds it ready.
     OwnEnd {
         node: Node,
         app: App,
@@ -134,8 +135,8 @@ pub enum StepFinding {
         app: App,
         dependency: App,
     },
-    /// The node comes up and boots the application, which is to run there, and the dependency is distributed and is to run
-    /// elsewhere.
+    /// The node comes up and boots the application, which may and is to run there, and the dependency is distributed and is to
+    /// run elsewhere.
     NeedsADistributedOne {
         node: Node,
         app: App,
@@ -163,13 +164,14 @@ pub enum StepFinding {
         node: Node,
         app: App,
     },
-    /// The node comes up, and the other one still waits for its nodes; both take part in distributed applications.
+    /// The node comes up and boots a distributed application, and the other one, which takes part in such ones, still waits for
+    /// its nodes.
     OtherNodeWaits {
         node: Node,
         other: Node,
     },
-    /// The node comes up as it boots, and the other one, which is alive, isn't in its lists; both take part in distributed
-    /// applications.
+    /// The node comes up as it boots, and the other one, which is alive, isn't in its lists; the node boots an application that
+    /// may run at both.
     NotInItsLists {
         node: Node,
         other: Node,

@@ -3,7 +3,7 @@
 /// How an application that another one needs stands at a node that boots both.
 #[derive(Clone, Copy, Debug, PartialEq, Eq)]
 pub enum Lack {
-    /// It is booted before the other one, and is forbidden there.
+    /// It isn't distributed, is booted before the other one, and is forbidden there.
     Forbidden,
     /// It isn't booted before the other one.
     Later,

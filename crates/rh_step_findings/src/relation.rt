@@ -9,7 +9,7 @@ pub enum Relation {
     TupleIdle,
     /// It is of a later group, and is waited for.
     WorseIdle,
-    /// It may run the application, and hasn't started it.
+    /// It sees the node, may run the application, and hasn't started it.
     Idle,
     /// It may run the application, and holds it ready.
     Ready,
@@ -17,6 +17,8 @@ pub enum Relation {
     Unlisted,
     /// It is of the best group, too.
     Companion,
+    /// It is of the best group, too, and the application isn't started there at this step.
+    Bystander,
     /// It holds the application ready before the step, and ranks as high at least.
     Holder,
 }

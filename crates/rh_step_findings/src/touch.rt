@@ -7,11 +7,11 @@ use rh_model::{App, Node};
 pub struct Trial {
     /// The node may run it and waits for others, and one that may run it hasn't started it.
     pub waits: bool,
-    /// The node may not run it, and it runs nowhere.
+    /// It is started at the node, which may not run it, and runs nowhere else.
     pub forbidden: bool,
-    /// It runs behind the best group, and the node isn't of that group.
+    /// It runs behind the best group, of which no node starts it, and the node isn't of that group.
     pub below: bool,
-    /// Or is.
+    /// It runs behind the best group, and the node is of that group.
     pub back: bool,
     /// It is placed at the node, behind a tuple.
     pub weighs: bool,

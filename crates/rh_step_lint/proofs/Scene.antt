@@ -9,7 +9,7 @@ use Rattle.rh_model.specs.declared.settings.Dep.TheVariants.{Listed}
 use Rattle.rh_model.specs.declared.settings.Restart.{Restart}
 use Rattle.rh_model.specs.declared.settings.Restart.TheVariants.{Permanent}
 use Rattle.rh_model.specs.declared.settings.SyncWait.{SyncWait}
-use Rattle.rh_model.specs.declared.settings.SyncWait.TheVariants.{Unset}
+use Rattle.rh_model.specs.declared.settings.SyncWait.TheVariants.{Unset, Forever}
 use Rattle.rh_state.specs.declared.status.Mode.{Mode}
 use Rattle.rh_state.specs.declared.status.Mode.TheVariants.{Up}
 use Rattle.rh_state.specs.declared.status.Standing.{Standing}
@@ -48,6 +48,10 @@ node wait others boot = record { mandatory = []; optional = others; sync_wait = 
 abbrev pub plain : NodeView
 plain = node Unset [] ((db, Permanent) ∷ (web, Permanent) ∷ [])
 
+-- one that waits for all others
+abbrev pub watchful : NodeView
+watchful = node Forever (n1 ∷ n2 ∷ n3 ∷ n4 ∷ []) ((db, Permanent) ∷ (web, Permanent) ∷ [])
+
 -- the applications, of which db and site need these
 abbrev pub apps : List Dep → List Dep → List AppView
 apps of_db of_site = record { deps = of_db; start_arg = None; phases = false; spread = None }
@@ -66,6 +70,10 @@ cluster first second = record {
   nodes = first ∷ second ∷ plain ∷ plain ∷ [];
   apps = apps [] [];
 }
+
+-- the one in which each node waits for all others
+abbrev pub watchful_cluster : ClusterView
+watchful_cluster = record (cluster watchful watchful) { nodes = watchful ∷ watchful ∷ watchful ∷ watchful ∷ [] }
 
 -- the one in which db needs these
 abbrev pub db_needs : List Dep → ClusterView
@@ -97,9 +105,9 @@ site_at at = Quiet ∷ Quiet ∷ Quiet ∷ at ∷ []
 abbrev pub row : Bool → Bool → List Bool
 row of_db of_web = of_db ∷ of_web ∷ true ∷ true ∷ []
 
--- nodes that do these, with what runs and waits at each, and where the applications stand; all is permitted
+-- nodes that do these and wait for all others, with what runs and waits at each, and where the applications stand; all is permitted
 abbrev pub scene : List Mode → List (List App) → List (List App) → List Standing → StateView
-scene modes running waiting standings = record (first (cluster plain plain)) {
+scene modes running waiting standings = record (first watchful_cluster) {
   time = 1000;
   modes = modes;
   running = running;

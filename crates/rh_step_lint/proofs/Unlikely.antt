@@ -15,11 +15,11 @@ use Rattle.rh_state.specs.Numbers.{same_node, nodes_of, apps_of}
 use Rattle.rh_state.specs.StateView.{StateView}
 use Rattle.rh_rules.specs.declared.event.Event.{Event}
 use Rattle.rh_step_findings.specs.After.{is_up_after, is_started_after, is_permitted_after}
-use Rattle.rh_step_findings.specs.Candidates.{ranks_before, share_group, is_available, is_outranked, is_best, asks_all, is_idle, holds_up}
+use Rattle.rh_step_findings.specs.Candidates.{ranks_before, share_group, are_linked, is_available, is_outranked, is_best, asks_all, is_idle, holds_up}
 use Rattle.rh_step_findings.specs.Tries.{runner, tries, is_open_from, asks_others}
 use Rattle.rh_step_findings.specs.Others.{stands_so, other_so}
 use Rattle.rh_step_findings.specs.Lacks.{lacks_so, lacking_so}
-use Rattle.rh_step_findings.specs.Pairs.{found, is_behind, starts_forbidden, starts_below, takes_back, is_behind_tuple, is_placed_behind_tuple, boots_now, boots_to_run, goes_to, permits_quiet, forbids_runner, forbids_last, forbids_twice}
+use Rattle.rh_step_findings.specs.Pairs.{found, is_behind, is_regained, starts_forbidden, starts_below, takes_back, is_behind_tuple, is_placed_behind_tuple, boots_now, boots_to_run, goes_to, permits_quiet, forbids_runner, forbids_last, forbids_twice}
 use Rattle.rh_step_findings.specs.Ranked.{is_free, is_spare, has_spare}
 use Rattle.rh_step_findings.specs.Touched.{has_needs, trial_of, touch_of, may_speak, found_in, is_touched, touched_with, touched_at, all_touched}
 use Rattle.rh_step_findings.specs.declared.code.Code.{Code}
@@ -62,10 +62,11 @@ module _ (s : StateView) (e : Event) (n : Node) (a : App) where
   idle_is_spare : (m : Node) → is_idle s e n a m ≡ true → has_spare s e a ≡ true
   unfolding is_idle is_available has_spare
   idle_is_spare m idle =
-      let there = (and_parts (not (same_node n m)) (is_available s e a m && not (is_started_after s e m a)) idle).1 in
-      let parts = and_parts (is_available s e a m) (not (is_started_after s e m a)) there in
-      let listed = and_parts (is_some (group_of s.cluster a m)) (is_free s e a m) parts.0 in
-      place_in (spread_of s.cluster a) (is_spare s e a) m listed.0 (and_from (is_free s e a m) (not (is_started_after s e m a)) listed.1 parts.1)
+      let other = (and_parts (not (same_node n m)) (is_available s e a m && (not (is_started_after s e m a) && are_linked s.cluster n m)) idle).1 in
+      let there = and_parts (is_available s e a m) (not (is_started_after s e m a) && are_linked s.cluster n m) other in
+      let unstarted = (and_parts (not (is_started_after s e m a)) (are_linked s.cluster n m) there.1).0 in
+      let listed = and_parts (is_some (group_of s.cluster a m)) (is_free s e a m) there.0 in
+      place_in (spread_of s.cluster a) (is_spare s e a) m listed.0 (and_from (is_free s e a m) (not (is_started_after s e m a)) listed.1 unstarted)
 
   module _ (fails : has_spare s e a ≡ false) where
     holds_not : (m : Node) → holds_up s e n a m ≡ false
@@ -162,7 +163,7 @@ module _ (s : StateView) (e : Event) (n : Node) (a : App) where
   pub trial_there_is : tries s e n a ≡ true → is_available s e a n ≡ true → trial_of s e n a ≡ record {
     waits = (is_none (runner s e a) || (not (is_outranked s e a n) && is_behind s e a (runner s e a))) && has_spare s e a;
     forbidden = false;
-    below = not (not (is_outranked s e a n)) && is_behind s e a (runner s e a);
+    below = not (not (is_outranked s e a n)) && (is_behind s e a (runner s e a) && not (is_regained s e a));
     back = not (is_outranked s e a n) && is_behind s e a (runner s e a);
     weighs = not (is_outranked s e a n) && (is_none (runner s e a) && is_behind_tuple s a n);
   }
@@ -172,7 +173,7 @@ module _ (s : StateView) (e : Event) (n : Node) (a : App) where
   -- and at one that may not
   pub trial_nowhere_is : tries s e n a ≡ true → is_available s e a n ≡ false → trial_of s e n a ≡ record {
     waits = false;
-    forbidden = not (is_permitted_after s e n a) && is_none (runner s e a);
+    forbidden = starts_forbidden s e n a;
     below = false;
     back = false;
     weighs = false;

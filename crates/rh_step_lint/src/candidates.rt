@@ -1,11 +1,12 @@
 //! Which nodes may run a distributed application behind a step, and which of them a live OTP asks.
 
 ghost use Rattle.std.specs.Prelude.{◌≡◌, ◌&&◌, not};
+ghost use Rattle.rh_model.specs.ClusterView.{sync_wait_of};
 ghost use Rattle.rh_rules.specs.Moves.{comes_before};
-ghost use Rattle.rh_step_findings.specs.Candidates.{ranks_before, same_place, share_group, is_in_tuple, takes_part, is_available, is_outranked, is_best, asks_all, is_idle, holds_up};
+ghost use Rattle.rh_step_findings.specs.Candidates.{ranks_before, same_place, share_group, is_in_tuple, takes_part, is_in_lists, are_linked, is_available, is_outranked, is_best, asks_all, is_idle, holds_up};
 
 use crate::step::Step;
-use rh_model::{App, Node};
+use rh_model::{App, Node, SyncWait, is_in};
 
 // Does a place come before another one in a list?
 pub(crate) fn comes_before(place: Option<usize>, other: Option<usize>) -> bool
@@ -59,6 +60,25 @@ impl<'a> Step<'a> {
         self.apps.iter().any(|app| self.group(*app, node).is_some())
     }
 
+    /// Is a node in the lists of one that waits for others at its start?
+    pub(crate) fn is_in_lists(&self, node: Node, other: Node) -> bool
+        ensures { result ≡ is_in_lists self.now.state.cluster node other (sync_wait_of self.now.state.cluster node) }
+    {
+        match self.sync_wait(node) {
+            SyncWait::Unset => false,
+            SyncWait::After(_) | SyncWait::Forever => {
+                is_in(other, self.mandatory(node)) || is_in(other, self.optional(node))
+            }
+        }
+    }
+
+    /// Does one of two nodes wait for the other at its start?
+    pub(crate) fn are_linked(&self, node: Node, other: Node) -> bool
+        ensures { result ≡ are_linked self.now.state.cluster node other }
+    {
+        self.is_in_lists(node, other) || self.is_in_lists(other, node)
+    }
+
     /// Is a node of the list up and permitted behind the step?
     #[tactic(auto, unfolding(rh_step_findings::specs::Candidates::is_available))]
     pub(crate) fn is_available(&self, app: App, node: Node) -> bool
@@ -101,12 +121,15 @@ impl<'a> Step<'a> {
         self.nodes.iter().any(|node| self.asks_as_tuple(app, *node))
     }
 
-    /// Is another node available, and hasn't it started the application behind the step?
+    /// Is another node available, hasn't it started the application behind the step, and is it linked to this one?
     #[tactic(auto, unfolding(rh_step_findings::specs::Candidates::is_idle))]
     pub(crate) fn is_idle(&self, node: Node, app: App, other: Node) -> bool
         ensures { result ≡ is_idle self.now.state self.now.event node app other }
     {
-        node.0 != other.0 && self.is_available(app, other) && !self.is_started_after(other, app)
+        node.0 != other.0
+            && self.is_available(app, other)
+            && !self.is_started_after(other, app)
+            && self.are_linked(node, other)
     }
 
     /// And is it waited for?

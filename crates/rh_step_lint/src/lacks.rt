@@ -36,7 +36,9 @@ impl<'a> Step<'a> {
     {
         match lack {
             Lack::Forbidden => {
-                self.boots_before(node, dependency, app) && !self.allows(node, dependency)
+                self.is_local(dependency)
+                    && self.boots_before(node, dependency, app)
+                    && !self.allows(node, dependency)
             }
             Lack::Later => !self.boots_before(node, dependency, app),
             Lack::Elsewhere => {

@@ -6,7 +6,7 @@ ghost use Rattle.rh_step_findings.specs.Pairs.{found};
 
 use crate::step::Step;
 use rh_model::{App, Node};
-use rh_step_findings::StepFinding;
+use rh_step_findings::{Relation, StepFinding};
 
 impl<'a> Step<'a> {
     #[tactic(auto, unfolding(rh_step_findings::specs::Pairs::found))]
@@ -35,10 +35,11 @@ impl<'a> Step<'a> {
     pub(crate) fn own_end(&self, node: Node, app: App) -> Option<StepFinding>
         ensures { result ≡ found self.now.state self.now.event code.OwnEnd node app }
     {
-        if !self.ends_with(node, app) {
-            return None;
+        if self.ends_with(node, app) && self.other_so(Relation::Ready, node, app).is_some() {
+            Some(StepFinding::OwnEnd { node, app })
+        } else {
+            None
         }
-        Some(StepFinding::OwnEnd { node, app })
     }
 
     #[tactic(auto, unfolding(rh_step_findings::specs::Pairs::found))]

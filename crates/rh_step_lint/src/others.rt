@@ -41,6 +41,9 @@ impl<'a> Step<'a> {
                     && self.takes_part(other)
             }
             Relation::Companion => node.0 != other.0 && self.is_best(app, other),
+            Relation::Bystander => {
+                node.0 != other.0 && self.is_best(app, other) && !self.starts_now(other, app)
+            }
             Relation::Holder => {
                 node.0 != other.0
                     && self.group(app, other).is_some()

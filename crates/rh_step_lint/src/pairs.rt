@@ -1,9 +1,10 @@
 //! What a live OTP does otherwise at a node with an application.
 
 ghost use Rattle.std.specs.Prelude.{◌≡◌, ◌&&◌};
-ghost use Rattle.rh_step_findings.specs.Candidates.{ranks_before, is_in_tuple};
+ghost use Rattle.rh_step_findings.specs.After.{starts_now};
+ghost use Rattle.rh_step_findings.specs.Candidates.{ranks_before, is_in_tuple, is_available, is_best};
 ghost use Rattle.rh_step_findings.specs.Tries.{runner};
-ghost use Rattle.rh_step_findings.specs.Pairs.{is_behind, starts_forbidden, starts_below, takes_back, starts_quiet, is_behind_tuple, is_placed_behind_tuple, permits_quiet, forbids, forbids_runner, forbids_last, forbids_twice, stops_forbidden, boots_now, boots_to_run, awaited, given_up, lost_with, other_node, is_helped, is_booted_with_phases, goes_to, ends_with, moves_unready};
+ghost use Rattle.rh_step_findings.specs.Pairs.{is_behind, is_served, starts_forbidden, is_regained, starts_below, takes_back, starts_quiet, is_behind_tuple, is_placed_behind_tuple, permits_quiet, forbids, forbids_runner, forbids_last, forbids_twice, stops_forbidden, boots_now, boots_to_run, awaited, given_up, lost_with, other_node, is_helped, is_booted_with_phases, goes_to, ends_with, moves_unready};
 
 use crate::step::Step;
 use rh_model::{App, Node};
@@ -30,15 +31,51 @@ impl<'a> Step<'a> {
         }
     }
 
-    /// Is it started at a node that may not run it, and does it run nowhere?
+    // Is it started at a node that may run it?
+    fn starts_available(&self, app: App, node: Node) -> bool
+        ensures { result ≡ (starts_now self.now.state self.now.event node app && is_available self.now.state self.now.event app node) }
+    {
+        self.starts_now(node, app) && self.is_available(app, node)
+    }
+
+    /// Does a node that may run it start it at this step?
+    #[tactic(auto, unfolding(rh_step_findings::specs::Pairs::is_served))]
+    pub(crate) fn is_served(&self, app: App) -> bool
+        ensures { result ≡ is_served self.now.state self.now.event app }
+    {
+        self.nodes
+            .iter()
+            .any(|node| self.starts_available(app, *node))
+    }
+
+    /// Is it started at a node that may not run it, and does it run nowhere, nor start where it may run?
     #[tactic(auto, unfolding(rh_step_findings::specs::Pairs::starts_forbidden))]
     pub(crate) fn starts_forbidden(&self, node: Node, app: App) -> bool
         ensures { result ≡ starts_forbidden self.now.state self.now.event node app }
     {
-        self.tries(node, app) && !self.is_permitted_after(node, app) && self.runner(app).is_none()
+        self.tries(node, app)
+            && !self.is_permitted_after(node, app)
+            && self.starts_now(node, app)
+            && self.runner(app).is_none()
+            && !self.is_served(app)
     }
 
-    /// Does it run behind the best group, and is it tried at a node that isn't of that group?
+    // Is it started at a node of the best group?
+    fn starts_best(&self, app: App, node: Node) -> bool
+        ensures { result ≡ (starts_now self.now.state self.now.event node app && is_best self.now.state self.now.event app node) }
+    {
+        self.starts_now(node, app) && self.is_best(app, node)
+    }
+
+    /// Does a node of the best group start it at this step?
+    #[tactic(auto, unfolding(rh_step_findings::specs::Pairs::is_regained))]
+    pub(crate) fn is_regained(&self, app: App) -> bool
+        ensures { result ≡ is_regained self.now.state self.now.event app }
+    {
+        self.nodes.iter().any(|node| self.starts_best(app, *node))
+    }
+
+    /// Does it run behind the best group, isn't it regained, and is it tried at a node that isn't of that group?
     #[tactic(auto, unfolding(rh_step_findings::specs::Pairs::starts_below))]
     pub(crate) fn starts_below(&self, node: Node, app: App) -> bool
         ensures { result ≡ starts_below self.now.state self.now.event node app }
@@ -46,9 +83,10 @@ impl<'a> Step<'a> {
         self.tries(node, app)
             && (self.is_available(app, node) && !self.is_best(app, node))
             && self.is_behind(app)
+            && !self.is_regained(app)
     }
 
-    /// Or at one that is?
+    /// Does it run behind the best group, and is it tried at a node of that group?
     #[tactic(auto, unfolding(rh_step_findings::specs::Pairs::takes_back))]
     pub(crate) fn takes_back(&self, node: Node, app: App) -> bool
         ensures { result ≡ takes_back self.now.state self.now.event node app }
@@ -178,16 +216,17 @@ impl<'a> Step<'a> {
         ensures { result ≡ boots_to_run self.now.state self.now.event node app }
     {
         self.boots_now(node, app)
-            && (self.is_local(app) || self.is_best(app, node) && !self.stays(app))
+            && (self.is_local(app) && self.is_permitted_after(node, app)
+                || self.is_best(app, node) && !self.stays(app))
     }
 
-    /// Another node with which it was lost, and whose time isn't over.
+    /// Another node with which it was lost, whose time isn't over, and which doesn't start it again.
     #[tactic(auto, unfolding(rh_step_findings::specs::Pairs::awaited))]
     pub(crate) fn awaited(&self, node: Node, app: App) -> Option<Node>
-        ensures { result ≡ awaited self.now.state node app }
+        ensures { result ≡ awaited self.now.state self.now.event node app }
     {
         match self.standing(app) {
-            Standing::Lost(from) => other_node(node, from),
+            Standing::Lost(from) if !self.starts_now(from, app) => other_node(node, from),
             _ => None,
         }
     }

@@ -71,7 +71,7 @@ impl<'a> Step<'a> {
         if !self.takes_back(node, app) {
             return None;
         }
-        let other = self.other_so(Relation::Companion, node, app)?;
+        let other = self.other_so(Relation::Bystander, node, app)?;
         Some(StepFinding::TupleTakeover { node, app, other })
     }
 

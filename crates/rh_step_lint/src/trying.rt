@@ -23,7 +23,7 @@ impl<'a> Step<'a> {
         Trial {
             waits: (homeless || best && behind) && self.has_spare(app),
             forbidden: false,
-            below: !best && behind,
+            below: !best && behind && !self.is_regained(app),
             back: best && behind,
             weighs: best && homeless && self.is_behind_tuple(app, node),
         }
@@ -40,7 +40,7 @@ impl<'a> Step<'a> {
         } else {
             Trial {
                 waits: false,
-                forbidden: !self.is_permitted_after(node, app) && self.runner(app).is_none(),
+                forbidden: self.starts_forbidden(node, app),
                 below: false,
                 back: false,
                 weighs: false,

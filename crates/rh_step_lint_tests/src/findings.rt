@@ -24,6 +24,17 @@ static MOVED: [Event; 2] = [
     Event::Crash { node: Node(2) },
 ];
 
+static MOVED_AND_BACK: [Event; 4] = [
+    Event::Takeover {
+        node: Node(1),
+        app: App(0),
+        restart: Restart::Permanent,
+    },
+    Event::Crash { node: Node(2) },
+    Event::Crash { node: Node(0) },
+    Event::Boot { node: Node(0) },
+];
+
 static STOPPED_AND_LOST: [Event; 4] = [
     Event::Takeover {
         node: Node(1),
@@ -100,6 +111,13 @@ fn boot_beside_a_worse_runner(rt: HostRuntime) {
         &[wanted],
     );
     assert!(rt; wanted.is_warning() && wanted.hangs());
+}
+
+// Where the best node comes up with it, that one takes the application over, and nothing hangs.
+#[test]
+fn boot_beside_the_best_node(rt: HostRuntime) {
+    let sim = sim_behind(&rt, rt.alloc(), MOVED_AND_BACK.as_slice());
+    are_found(&rt, rt.alloc(), &sim, Event::Boot { node: Node(2) }, &[]);
 }
 
 // Where it is stopped at the best node it doesn't fail over; a millisecond before its time nothing is tried.
