@@ -75,7 +75,8 @@ def findings(program, folder):
     out += b'{"errors":1,"warnings":1,"hints":0}\n'
     yield "lint --json", wrong(call(folder, ["lint", "--json", "c.txt", "p.txt", 'q"\\.txt']), 9, out, b"")
     write(folder, "r.txt", b"{profile, 2}.\n{node, a@x, [}.\n")
-    out = b"r.txt:2: error T1: syntax: what stands here can't go on: a dot, a comma or a bracket may be missing, or quotes round a name\n"
+    out = b"r.txt:2: error T1: syntax: what stands here can't go on: a dot, a comma or a bracket may be missing, or quotes round a name"
+    out += b": {node, a@x, [}.\n"
     yield "lint of a file that is refused", wrong(call(folder, ["lint", "r.txt"]), 9, out + b"1 errors, 0 warnings, 0 hints\n", b"")
 
 

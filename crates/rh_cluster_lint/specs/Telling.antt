@@ -1,13 +1,14 @@
 -- How a fault is told with its place (ours).
 use Rattle.std.specs.Prelude.{ℕ, ◌-◌, List, [], ◌++◌, codes, fold, length, take, slice_get, nat_lt, ◌&&◌, ◌==◌, Option, Some, None, if◌then◌else◌}
 use Rattle.std.specs.List.{before_first}
+use Rattle.std.specs.Str.{trim}
 use Rattle.rh_cluster.specs.declared.fault.ClusterFault.{ClusterFault}
 use Rattle.rh_cluster.specs.declared.fault.ClusterFault.TheVariants as fault
 use Rattle.rh_findings.specs.declared.finding.Finding.{Finding}
 use Rattle.rh_cluster_lint.specs.declared.blame.Step.{Step}
 use Rattle.rh_cluster_lint.specs.declared.telling.TheConstants.{MOST_SHOWN}
 use Rattle.rh_cluster_lint.specs.Expected.{expected}
-use Rattle.rh_cluster_lint.specs.Hints.{hint_words}
+use Rattle.rh_cluster_lint.specs.Hints.{hint_words, line_at}
 use Rattle.rh_cluster_lint.specs.Spans.{span}
 use Rattle.rh_cluster_lint.specs.Ways.{is_named, way}
 use Rattle.rh_cluster_lint.specs.Words.{words_of, first_word}
@@ -42,9 +43,20 @@ abbrev pub takes : List ℕ → ClusterFault → List Step → List ℕ
 takes text fault.BadValue steps = expected_on text steps
 takes text _ steps = []
 
--- a finding with what may have been meant
+-- what stands on the line of a fault, where it has one, without the blanks round it
+abbrev pub on_line : List ℕ → Option ℕ → List ℕ
+on_line text None = []
+on_line text (Some k) = trim (words_of (line_at text k))
+
+-- a finding with what may have been meant, and what stands on its line
 unfoldable pub hinted : List ℕ → ClusterFault → Finding → Finding
-hinted text fault f = record { line = f.line; kind = f.kind; text = f.text ++ hint_words text fault f.line; path = None }
+hinted text fault f = record {
+  line = f.line;
+  kind = f.kind;
+  text = f.text
+      ++ (hint_words text fault f.line ++ (colon (words_of (front (on_line text f.line))) (dots (on_line text f.line)) ++ shown (on_line text f.line)));
+  path = None;
+}
 
 -- a finding with the place of the part at the end of the way, and the way there
 abbrev pub placed_at : List ℕ → ClusterFault → Finding → List Step → Option Step → Finding

@@ -17,8 +17,8 @@ use std::alloc::Global;
 /// So many parts of one list are tried at most.
 pub const MOST_TRIED: usize = 1_000;
 
-/// So many bytes are read at most to try those of one list: none of a file of 16 MiB, which takes no longer then than to read it.
-pub const MOST_READ: usize = 16_777_216;
+/// So many bytes are read at most to try those of one list: so none is tried of a file of 8 MiB or more.
+pub const MOST_READ: usize = 8_388_608;
 
 /// A part on the way to what is at fault.
 #[derive(Clone, Copy, Debug, PartialEq, Eq)]
@@ -317,7 +317,7 @@ fn way_in_lists(
 /// The way to what is at fault in a file that was refused with this fault, from a term on; nothing where it isn't found. At each step
 /// it is the first part up to whose end the file is refused with this fault, and up to whose beginning it isn't, where what stands
 /// behind is taken out and all terms keep their names ([`Cut`]). At most [`MOST_TRIED`] parts are tried at each step, fewer of a long
-/// file, and none of one of 16 MiB ([`MOST_READ`]).
+/// file, and none of one of 8 MiB or more ([`MOST_READ`]).
 #[tactic(auto, unfolding(crate::specs::Blame::blamed))]
 pub fn blamed(alloc: Global, text: &[u8], fault: &ClusterFault) -> Result<Vec<Step>, OutOfMemory>
     ensures { IfOk result (λ steps. steps.items ≡ blamed text.now fault.now) }

@@ -25,8 +25,8 @@ fn skip_lines(count: u64, text: &[u8]) -> &[u8]
     &[]
 }
 
-// The line of this number, counted from 1, without its line end.
-fn line_at(text: &[u8], number: u64) -> &[u8]
+/// The line of this number, counted from 1, without its line end.
+pub fn line_at(text: &[u8], number: u64) -> &[u8]
     ensures { result.now ≡ line_at text.now number }
 {
     before_first(skip_lines(number.saturating_sub(1), text), b'\n')

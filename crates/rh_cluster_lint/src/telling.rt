@@ -2,11 +2,11 @@
 
 ghost use Rattle.std.specs.Prelude.{◌≡◌, ◌++◌, [], IfOk, fold};
 ghost use Rattle.rh_cluster_lint.specs.Words.{words_of};
-ghost use Rattle.rh_cluster_lint.specs.Telling.{front, dots, colon, expected_in, or_before, expected_on, takes, hinted, placed};
+ghost use Rattle.rh_cluster_lint.specs.Telling.{front, dots, colon, on_line, expected_in, or_before, expected_on, takes, hinted, placed};
 
 use crate::blame::Step;
 use crate::expected::expected;
-use crate::hints::hint_words;
+use crate::hints::{hint_words, line_at};
 use crate::spans::{before, span};
 use crate::ways::{is_named, way};
 use crate::words::{first_word, words_of};
@@ -37,6 +37,16 @@ fn colon(words: &str, dots: &str) -> &'static str
         ""
     } else {
         ": "
+    }
+}
+
+// What stands on the line of a fault, where it has one, without the blanks round it.
+fn on_line(text: &[u8], line: Option<u64>) -> &[u8]
+    ensures { result.now ≡ on_line text.now line }
+{
+    match line {
+        Some(number) => words_of(line_at(text, number)).trim().as_bytes(),
+        None => b"",
     }
 }
 
@@ -79,7 +89,7 @@ fn takes(text: &[u8], fault: &ClusterFault, steps: &[Step]) -> &'static str
     }
 }
 
-// A finding with what may have been meant.
+// A finding with what may have been meant, and what stands on its line.
 #[tactic(auto, unfolding(crate::specs::Telling::hinted))]
 pub fn hinted(
     alloc: Global,
@@ -91,7 +101,9 @@ pub fn hinted(
 {
     let words = finding.text.as_str();
     let hint = hint_words(text, fault, finding.line);
-    let told = format!(in alloc; "{words}{hint}")?;
+    let (front, dots) = shown(on_line(text, finding.line));
+    let colon = colon(front, dots);
+    let told = format!(in alloc; "{words}{hint}{colon}{front}{dots}")?;
     Ok(Finding {
         line: finding.line,
         kind: finding.kind,
