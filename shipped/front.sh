@@ -78,10 +78,13 @@ stand_in_front() {
   read_words "$@"
   [ -z "$asks_help" ] || exec -a rehearse "$program" "$@"
   fill_closed
+  ! is_interactive || skip_last
   if ((${#files[@]} > 0)); then
     read_files
     shut=${shut/<}
-    if [ "$words" = lint ]; then
+    if is_interactive; then
+      talk
+    elif [ "$words" = lint ]; then
       run < <(exec cat -- "${parts[@]}" 2> /dev/null) > "$room/found"
       . "$top/shipped/places.sh"
       tell_findings < "$room/found" 2> /dev/null || status=4
@@ -94,6 +97,34 @@ stand_in_front() {
   fi
   tell_end
   exit "$status"
+}
+
+# Is each line to be answered as it comes?
+is_interactive() {
+  [[ $words == run && " ${words[*]} " == *' --interactive '* ]]
+}
+
+# Drops a last word `-`: standard input goes on behind the files as it is.
+skip_last() {
+  ((${#files[@]} == 0)) || [ "${files[-1]}" != - ] || unset 'files[-1]'
+}
+
+# Runs the program on the files and then on standard input, whose lines go on to it as they come. Who hands them on ends with it, so
+# that it takes no line of whoever reads next.
+talk() {
+  local input feeder
+  [ ! -t 0 ] || say "reads standard input behind the files, a line at a time; Ctrl-D on a line of its own ends it"
+  exec {input}< <(feed)
+  feeder=$!
+  run <&"$input"
+  exec {input}<&-
+  kill "$feeder" 2> /dev/null
+}
+
+# Hands on the files, and then standard input.
+feed() {
+  cat -- "${parts[@]}"
+  exec cat
 }
 
 # Opens the standard devices that are closed, so that no other file takes their numbers, and keeps in `shut` which these are.
@@ -166,7 +197,7 @@ tell_end() {
 # What can't be told apart behind a pipe that is read to its end.
 joined_faults() {
   local lost="standard output can't be written: it may be full"
-  if ((${#files[@]} > 0)) || [ -f /dev/stdin ]; then
+  if { ((${#files[@]} > 0)) && ! is_interactive; } || [ -f /dev/stdin ]; then
     echo "$lost"
   else
     echo "$lost, or standard input is over 16 MiB ($most bytes)"

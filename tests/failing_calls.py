@@ -67,6 +67,10 @@ INPUTS = {
                        b'{"profile":1,"nodes":["a@x","b@x"],"applications":[{"name":"web","distributed":false}]}\n'
                        b'{"line":1,"command":"boot a@x","answer":"ok","notices":[{"kind":"up","node":"a@x"}]}\n'
                        b'{"states":2,"deepest":1,"finished":true}\n{"ask":1,"holds":true}\n'),
+    "run --interactive": (CLUSTER + b"boot a@x\n# again\nboot a@x\nundo", b"ok\nup a@x\nrefused S3 already_alive\nok\n"),
+    "run --interactive --json": (CLUSTER + b"boot a@x\nboot a@x", b'{"profile":1,"nodes":["a@x","b@x"],"applications":[]}\n'
+                                 b'{"line":1,"command":"boot a@x","answer":"ok","notices":[{"kind":"up","node":"a@x"}]}\n'
+                                 b'{"line":2,"command":"boot a@x","answer":"refused S3 already_alive"}\n'),
 }
 
 
@@ -90,8 +94,8 @@ class Devices:
 
 def failed_fault(devices, word, piece, call, count, how):
     """What is wrong where each of so many calls fails in turn, or None: status 4, and nothing was written behind a failed read,
-    and a front of the text behind a failed write. The buffer before standard output makes a write that was interrupted again, as
-    std's does: then the status is 0, and the text is whole."""
+    and a front of the text behind a failed write; so it is behind a failed read, too, where lines are answered as they come. The buffer
+    before standard output makes a write that was interrupted again, as std's does: then the status is 0, and the text is whole."""
     text = INPUTS[word][1]
     for number in range(1, count + 1):
         done = devices.over(word, piece, call, number, how)
@@ -99,7 +103,8 @@ def failed_fault(devices, word, piece, call, count, how):
             wrong = fault_of(done, 0, text)
         else:
             # What the buffer still held may come behind the failure.
-            is_front = text.startswith(done.stdout) if call == "write" else done.stdout == b""
+            is_late = call == "write" or "--interactive" in word
+            is_front = text.startswith(done.stdout) if is_late else done.stdout == b""
             wrong = fault_of(done, 4, None) or (None if is_front else f"{done.stdout!r} was written")
         if wrong is not None:
             return f"{call} {number}: {wrong}"

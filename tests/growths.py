@@ -82,16 +82,16 @@ MADE = {
         "Course::time", "Course::stay", "Course::away", "Course::pieces", "mark", "note_of", "is_told"),
     "rows/story/waits-for": ("why_node_waits", "awaited_text"),
     "rows/verify/report": ("run_verify",),
-    "rows/json/report": ("run_json", "reply_line", "seen_line", "forbids_any", "push_string", "push_number", "close_array",
-                         "push_text", "push_bytes",
-                         "before_first", "after_first"),
+    "rows/json/report": ("run_json", "answer_call", "reply_line", "seen_line", "forbids_any", "push_string", "push_number",
+                         "close_array", "push_text", "push_bytes", "before_first", "after_first"),
     "rows/json/failover": ("fired_by", "Trace::expect_boot"),
     "rows/json/refused-and-bad": ("bad_line",),
-    "rows/json/names": ("check_json", "cluster_line", "push_array"),
-    "rows/json/fault-value": ("fault_line",),
+    "rows/json/names": ("check_json", "write_cluster", "cluster_line", "push_array"),
+    "rows/json/fault-value": ("write_fault", "fault_line"),
     "rows/json/sweep": ("outcome_line",),
     "rows/json/sweep-not-at-end": ("sweep_fault_line",),
     "rows/manner/echo-and-strict": ("run_in",),
+    "rows/manner/interactive": ("run_dialogue",),
 }
 # Those that are made five thousand times, of a cluster of the second profile with 128 applications: none wants memory.
 MANY = ("Sim::step", "Room::serve", "try_plan")
@@ -284,7 +284,7 @@ SURFACE = {
     "rh_courses": ("course", "walk", "text"), "rh_story": ("story",), "rh_verify": ("verifying",),
     "rh_json_text": ("pieces", "words"),
     "rh_json_lines": ("answers", "clusters", "notices", "outcomes"), "rh_json": ("running", "checking"),
-    "rh_manner": ("running",),
+    "rh_manner": ("running", "dialogue"),
 }
 # Calls that do nothing: their contracts are what they are for.
 FACTS = {"Cluster::is_within", "Lists::formed", "Wheel::formed", "State::formed", "Sim::is_chained", "Sim::is_reversible",

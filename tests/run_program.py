@@ -7,7 +7,7 @@ folders that is no such row is a failed test. Then come inputs that are too larg
 fail, and memory (refused_memory.py), more devices (hostile.py) and each of their calls (failing_calls.py), cut inputs
 (prefixes.py), sweeps (sweeps.py), texts that are no terms (term_faults.py), cluster files at the limits (cluster_limits.py), both
 profiles (profiles.py), random scripts beside a model (random_scripts.py), searches beside the model (explored.py) and of states whose
-keys would collide (colliding_keys.py), what is told as
+keys would collide (colliding_keys.py), runs whose lines are answered as they come (dialogues.py), what is told as
 JSON (json_lines.py), what lint owes for the examples and for mistaken inputs (linted.py), what it tells of random rehearsals, by a
 second way and beside live nodes (lint_measure.py), stories of the examples (stories.py), rows by pytest (pytest_items.py), the scripts
 that run, build and ship the program (shipped.py), what ./rehearse does in front of it (front.py) and tells of refused files
@@ -28,6 +28,7 @@ sys.dont_write_bytecode = True
 import benched  # noqa: E402
 import check_docs  # noqa: E402
 import colliding_keys  # noqa: E402
+import dialogues  # noqa: E402
 import explored  # noqa: E402
 import failing_calls  # noqa: E402
 import front  # noqa: E402
@@ -274,7 +275,7 @@ MADE = (term_faults, large_inputs, long_chains, *sweeps.TESTS)
 # The worked rows, the examples, what fails (devices, memory, threads), what docs/make makes of the documents, and ./rehearse.
 QUICK = (*made_pages.TESTS, *refused_memory.TESTS, *failing_calls.TESTS, *hostile.TESTS, WORKED, strays, examples, failing_devices,
          Group(no_threads, needs=("cc",)), *shipped.TESTS, *front.TESTS, *places.TESTS, *stories.TESTS, *linted.TESTS,
-         *colliding_keys.TESTS, *pytest_items.TESTS)
+         *colliding_keys.TESTS, *dialogues.TESTS, *pytest_items.TESTS)
 # Those that take longest begin first.
 ALL = (*prefixes.TESTS, *growths.TESTS, *lint_measure.TESTS, *random_scripts.TESTS, *explored.TESTS, *benched.TESTS, *json_lines.TESTS,
        *check_docs.TESTS, *package.TESTS, *own_root.TESTS, *QUICK, *MADE, *map(profiles.under_profile_1, MADE), *profiles.TESTS, cluster_limits,

@@ -1,10 +1,13 @@
 -- How the process ends, and what it did with its devices then (ours).
-use Rattle.std.specs.Prelude.{◌≡◌, ℕ, List, Result, Ok, Err, false}
+use Rattle.std.specs.Prelude.{◌≡◌, ℕ, List, Option, Some, None, Result, Ok, Err, false}
 use Rattle.clap.specs.declared.error.Error.{Error}
 use Rattle.rh_devices.specs.declared.device.Failed.{Failed}
 use Rattle.rh_devices.specs.declared.watched.Watched.{Watched}
 use Rattle.rh_asked.specs.declared.program.Program.{Program}
-use Rattle.rh_programs.specs.Status.{StatusGives, IsDone}
+use Rattle.rh_manner.specs.declared.pair.Pair.{Pair}
+use Rattle.rh_manner.specs.declared.voice.Voice.{Voice}
+use Rattle.rh_manner.specs.Pairs.{given_by, unread_by, taken_by, written_by}
+use Rattle.rh_programs.specs.Status.{DialogueStatus, StatusGives, IsDone, voice_of}
 use Rattle.rh_command_line.specs.Asking.{IsAsked}
 use Rattle.rh_command_line.specs.declared.command_line.Asked.{Asked}
 use Rattle.rh_command_line.specs.declared.command_line.Asked.TheVariants as asked
@@ -14,13 +17,22 @@ use Rattle.rh_command_line.specs.declared.command_line.Words.{Words}
 abbrev pub unused : {D : Type 0} → D → Watched D
 unused device = record { inner = device; failed = false }
 
--- the program ran over these devices, and the process ends with its status
-abbrev pub EndsOver : {S K : Type 0} → (S → S → List ℕ → Type 0) → (S → S → Type 0) → (K → K → List ℕ → Type 0) → (K → K → Type 0) → (K → K → Type 0)
-    → Program → S → K → ℕ → Type 0
-EndsOver {S = S} {K = K} gives unread takes flushes unwritten program reader writer status =
+-- a program that answers as it reads ran over both as one device; any other over each
+abbrev pub EndsBy : {S K : Type 0} → (S → S → List ℕ → Type 0) → (S → S → Type 0) → (K → K → List ℕ → Type 0) → (K → K → Type 0) → (K → K → Type 0)
+    → Option Voice → Program → S → K → ℕ → Type 0
+EndsBy {S = S} {K = K} gives unread takes flushes unwritten (Some voice) program reader writer status =
+    (new : Watched (Pair S K)) × DialogueStatus (given_by gives) (unread_by unread) (taken_by takes) (written_by flushes) (written_by unwritten) voice status
+    (unused (record { reader = reader; writer = writer })) new
+EndsBy {S = S} {K = K} gives unread takes flushes unwritten None program reader writer status =
     (new : Watched S) × (after : Watched K)
     × StatusGives gives unread takes flushes unwritten program status (unused reader) new (unused writer) after
     × (status ≡ 0 → IsDone gives takes flushes program (unused reader) new (unused writer) after)
+
+-- the program ran over these devices, and the process ends with its status
+abbrev pub EndsOver : {S K : Type 0} → (S → S → List ℕ → Type 0) → (S → S → Type 0) → (K → K → List ℕ → Type 0) → (K → K → Type 0) → (K → K → Type 0)
+    → Program → S → K → ℕ → Type 0
+EndsOver gives unread takes flushes unwritten program reader writer status =
+    EndsBy gives unread takes flushes unwritten (voice_of program) program reader writer status
 
 -- the same, where there may be no memory for the writer's buffer
 abbrev pub EndsIfBuffered : {S K : Type 0} → (S → S → List ℕ → Type 0) → (S → S → Type 0) → (K → K → List ℕ → Type 0) → (K → K → Type 0) → (K → K → Type 0)

@@ -1,16 +1,16 @@
 //! What the process does: from the words of its command line to the status with which it ends.
 
-ghost use Rattle.std.specs.Prelude.{◌≡◌, false};
+ghost use Rattle.std.specs.Prelude.{◌≡◌, None, false};
 ghost use Rattle.clap.specs.declared.error.Error.{Error};
 ghost use Rattle.rh_asked.specs.Programs.{IsStaffed, is_alone};
-ghost use Rattle.rh_programs.specs.Status.{IsDone, StatusGives};
-ghost use Rattle.rehearse.specs.Process.{EndsOver, ProcessGives};
+ghost use Rattle.rh_programs.specs.Status.{IsDone, StatusGives, voice_of};
+ghost use Rattle.rehearse.specs.Process.{EndsBy, EndsOver, ProcessGives};
 
 use clap::Error;
 use rh_asked::Program;
 use rh_command_line::{Asked, Words, asked_of};
 use rh_devices::{Failed, Sink, Source, Watched};
-use rh_programs::{Watch, rehearse_alone};
+use rh_programs::{Pair, Watch, rehearse_alone, rehearse_dialogue, voice_of};
 use std::alloc::Global;
 
 // The status of a command line that is refused, or asks for help.
@@ -82,7 +82,7 @@ pub fn process<S: Source + Drop, K: Sink + Drop, E: Complain, H: Together, W: Wa
     }
 }
 
-// Runs a program over devices that haven't failed.
+// Runs a program over devices that haven't failed: over both as one, where it answers as it reads.
 fn over_devices<S: Source + Drop, K: Sink + Drop, H: Together, W: Watch>(
     alloc: Global,
     program: Program,
@@ -94,6 +94,28 @@ fn over_devices<S: Source + Drop, K: Sink + Drop, H: Together, W: Watch>(
     requires staffed { IsStaffed program }
     requires ready { H.ready threads.now }
     ensures { EndsOver S.gives S.fails K.takes K.flushes K.fails program reader writer result }
+{
+    match voice_of(program) {
+        Some(voice) => {
+            let mut device = Watched::new(Pair::new(reader, writer));
+            rehearse_dialogue(alloc, voice, &mut device)
+        }
+        None => over_both(alloc, program, reader, writer, threads, watch),
+    }
+}
+
+// Runs a program that reads all first.
+fn over_both<S: Source + Drop, K: Sink + Drop, H: Together, W: Watch>(
+    alloc: Global,
+    program: Program,
+    reader: S,
+    writer: K,
+    threads: &H,
+    watch: &mut W,
+) -> u8
+    requires staffed { IsStaffed program }
+    requires ready { H.ready threads.now }
+    ensures { EndsBy S.gives S.fails K.takes K.flushes K.fails None program reader writer result }
 {
     let mut reader = Watched::new(reader);
     let mut writer = Watched::new(writer);

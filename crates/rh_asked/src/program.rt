@@ -21,6 +21,8 @@ pub enum Program {
     RunJson(Pick),
     /// The same, each command before more is read, by `rehearse_dialogue` of `rh_programs`. A reader and a writer apart are run over as by `Run`.
     Dialogue(Pick),
+    /// The same, as lines of JSON.
+    DialogueJson(Pick),
     /// The script is printed again, with what came of each command; behind the cluster file, if it is to be whole.
     Story(Pick, bool),
     /// What came of each command is compared with what the script expects.

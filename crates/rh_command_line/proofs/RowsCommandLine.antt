@@ -9,7 +9,7 @@ use Rattle.clap.specs.declared.error.kind.ErrorKind.TheVariants as kind
 use Rattle.clap.proofs.OnLiterals.{clap_on_literals}
 use Rattle.rh_rules.specs.declared.pick.Pick.TheVariants.{First, Last}
 use Rattle.rh_asked.specs.declared.program.Program.{Program}
-use Rattle.rh_asked.specs.declared.program.Program.TheVariants.{Check, CheckJson, Run, RunIn, RunJson, Story, Verify, Lint, Explore, ExploreJson, Sessions, Sweep, SweepJson}
+use Rattle.rh_asked.specs.declared.program.Program.TheVariants.{Check, CheckJson, Run, RunIn, RunJson, Dialogue, DialogueJson, Story, Verify, Lint, Explore, ExploreJson, Sessions, Sweep, SweepJson}
 use Rattle.rh_command_line.specs.CommandLine.{Picks, ArePicks, line}
 use Rattle.rh_command_line.specs.Table.{subcommand_named}
 use Rattle.rh_command_line.specs.Asking.{program_among}
@@ -70,6 +70,15 @@ json_row : (asks (codes "check" ∷ codes "--json" ∷ []) ≡ Some CheckJson)
     × (faults (codes "sessions" ∷ codes "--json" ∷ []) ≡ kind.UnknownArgument ∷ [])
 unfolding clap_on_literals subcommand_named
 json_row = (refl, refl, refl, refl, refl)
+
+-- a run that answers line by line: by JSON or not, and in no other manner
+dialogue_row : (asks (codes "run" ∷ codes "--interactive" ∷ []) ≡ Some (Dialogue First)) × (faults (codes "run" ∷ codes "--interactive" ∷ []) ≡ [])
+    × (asks (codes "run" ∷ codes "--json" ∷ codes "--pick=last" ∷ codes "--interactive" ∷ []) ≡ Some (DialogueJson Last))
+    × (asks (codes "run" ∷ codes "--interactive" ∷ codes "--echo" ∷ []) ≡ None)
+    × (asks (codes "run" ∷ codes "--strict" ∷ codes "--interactive" ∷ codes "--json" ∷ []) ≡ None)
+    × (faults (codes "story" ∷ codes "--interactive" ∷ []) ≡ kind.UnknownArgument ∷ [])
+unfolding clap_on_literals subcommand_named
+dialogue_row = (refl, refl, refl, refl, refl, refl)
 
 -- a script that is printed again, whole or not, and one that is compared
 story_row : (asks (codes "story" ∷ []) ≡ Some (Story First false))

@@ -23,7 +23,7 @@ use Rattle.rh_command_line.specs.Table.{flag_word, subcommand_named}
 use Rattle.rh_command_line.specs.CommandLine.{Picks, ArePicks, line}
 use Rattle.rh_command_line.specs.declared.table.TheConstants.{MOST_MEBIBYTES, MOST_STATES}
 use Rattle.rh_command_line.specs.declared.table.Flag.{Flag}
-use Rattle.rh_command_line.specs.declared.table.Flag.TheVariants.{Echo, Strict, Json, Whole, Hints, All}
+use Rattle.rh_command_line.specs.declared.table.Flag.TheVariants.{Echo, Strict, Json, Whole, Hints, All, Interactive}
 use Rattle.rh_command_line.specs.declared.table.Subcommand.{Subcommand}
 use Rattle.rh_command_line.specs.declared.table.Subcommand.TheVariants.{Run, Check, Lint, Story, Verify, Sessions, Sweep, Explore}
 use Rattle.rh_command_line.specs.declared.command_line.Asked.{Asked}
@@ -95,10 +95,14 @@ flag_in flag rows = is_given (first_of (flag_word flag) rows)
 abbrev pub run_of : Pick → Bool → Bool → Program
 run_of pick echo strict = if echo || strict then program.RunIn pick (record { echo = echo; strict = strict }) else program.Run pick
 
--- one that answers by JSON has no other manner
-abbrev pub run_as : Pick → Bool → Bool → Bool → Option Program
-run_as pick echo strict json =
-    if json then (if echo || strict then None else Some (program.RunJson pick)) else Some (run_of pick echo strict)
+-- a run that answers by JSON, line by line, or both
+abbrev pub answering : Pick → Bool → Bool → Program
+answering pick json interactive = if interactive then (if json then program.DialogueJson pick else program.Dialogue pick) else program.RunJson pick
+
+-- such a one has no other manner
+abbrev pub run_as : Pick → Bool → Bool → Bool → Bool → Option Program
+run_as pick echo strict json interactive =
+    if json || interactive then (if echo || strict then None else Some (answering pick json interactive)) else Some (run_of pick echo strict)
 
 -- a list of what is wrong, in this manner
 abbrev pub lint_of : Pick → Bool → Bool → Bool → Program
@@ -120,7 +124,7 @@ explore_with pick json (Some room) workers = option_map (explore_of pick json ro
 -- the program that a subcommand means with these matches
 abbrev pub program_of : Subcommand → List Row → Option Program
 program_of Check rows = Some (if flag_in Json rows then program.CheckJson else program.Check)
-program_of Run rows = run_as (pick_in rows) (flag_in Echo rows) (flag_in Strict rows) (flag_in Json rows)
+program_of Run rows = run_as (pick_in rows) (flag_in Echo rows) (flag_in Strict rows) (flag_in Json rows) (flag_in Interactive rows)
 program_of Story rows = Some (program.Story (pick_in rows) (flag_in Whole rows))
 program_of Lint rows = Some (lint_of (pick_in rows) (flag_in All rows) (flag_in Hints rows) (flag_in Json rows))
 program_of Verify rows = Some (program.Verify (pick_in rows))

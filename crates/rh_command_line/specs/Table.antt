@@ -2,7 +2,7 @@
 use Rattle.std.specs.Prelude.{ℕ, List, [], ◌∷◌, codes, Option, position, slice_get, option_and_then}
 use Rattle.std.specs.Str.{bytes_eq}
 use Rattle.rh_command_line.specs.declared.table.Flag.{Flag}
-use Rattle.rh_command_line.specs.declared.table.Flag.TheVariants.{Echo, Strict, Json, Whole, Hints, All}
+use Rattle.rh_command_line.specs.declared.table.Flag.TheVariants.{Echo, Strict, Json, Whole, Hints, All, Interactive}
 use Rattle.rh_command_line.specs.declared.table.Setting.{Setting}
 use Rattle.rh_command_line.specs.declared.table.Setting.TheVariants as setting
 use Rattle.rh_command_line.specs.declared.table.Subcommand.{Subcommand}
@@ -16,10 +16,11 @@ flag_word Json = codes "json"
 flag_word Whole = codes "whole"
 flag_word Hints = codes "strict"
 flag_word All = codes "all"
+flag_word Interactive = codes "interactive"
 
 -- the word of a subcommand, and its options
 abbrev pub entry_of : Subcommand → List ℕ × List Setting
-entry_of Run = (codes "run", setting.Pick ∷ setting.Flag Echo ∷ setting.Flag Strict ∷ setting.Flag Json ∷ [])
+entry_of Run = (codes "run", setting.Pick ∷ setting.Flag Echo ∷ setting.Flag Strict ∷ setting.Flag Json ∷ setting.Flag Interactive ∷ [])
 entry_of Check = (codes "check", setting.Flag Json ∷ [])
 entry_of Lint = (codes "lint", setting.Pick ∷ setting.Flag All ∷ setting.Flag Hints ∷ setting.Flag Json ∷ [])
 entry_of Story = (codes "story", setting.Pick ∷ setting.Flag Whole ∷ [])

@@ -107,6 +107,11 @@ rehearsal. An `undo` with no step to take back is no refused step.
 With `--json` each answer is a line of JSON, for programs, and it goes with
 neither of the other two.
 
+With `--interactive` each line is answered as soon as it has come, before more
+is read: at a terminal, or over a pipe by which another program talks. The text
+is the same. It goes with `--json`, and with neither of the first two. Of
+`./rehearse run --interactive FILE..` standard input goes on behind the files.
+
 docs/SCRIPTS.md explains each line, the fields of JSON, and what each command
 needs; docs/RULES.md what follows from it.
 

@@ -7,7 +7,7 @@ ghost use Rattle.rh_rules.specs.declared.pick.Pick.TheVariants as pick;
 ghost use Rattle.rh_plans.specs.Workers.{AreWorkers};
 ghost use Rattle.rh_asked.specs.Programs.{IsStaffed};
 ghost use Rattle.rh_asked.specs.declared.program.Program.TheVariants as program;
-ghost use Rattle.rh_command_line.specs.Asking.{allowed, allowed_memory, allowed_states, explore_of, flag_in, is_given, lint_of, memory_in, pick_in, program_among, program_in, program_of, room_in, run_as, run_of, states_in, sweep_of, workers_in};
+ghost use Rattle.rh_command_line.specs.Asking.{allowed, allowed_memory, allowed_states, answering, explore_of, flag_in, is_given, lint_of, memory_in, pick_in, program_among, program_in, program_of, room_in, run_as, run_of, states_in, sweep_of, workers_in};
 
 use crate::table::{Flag, MOST_MEBIBYTES, MOST_STATES, Subcommand, subcommand_named};
 use clap::ArgMatches;
@@ -45,6 +45,7 @@ fn program_of(subcommand: Subcommand, matches: &ArgMatches<'_>) -> Option<Progra
             flag_in(matches, Flag::Echo),
             flag_in(matches, Flag::Strict),
             flag_in(matches, Flag::Json),
+            flag_in(matches, Flag::Interactive),
         ),
         Subcommand::Story => Some(Program::Story(pick_in(matches), flag_in(matches, Flag::Whole))),
         Subcommand::Lint => Some(lint_of(
@@ -81,17 +82,31 @@ fn check_of(json: bool) -> Program
     }
 }
 
-// A run, by JSON or not: one that answers by JSON has no other manner.
-fn run_as(pick: Pick, echo: bool, strict: bool, json: bool) -> Option<Program>
-    ensures named { result ≡ run_as pick echo strict json }
+// A run, by JSON or not, line by line or not: only the one that is neither has another manner.
+fn run_as(pick: Pick, echo: bool, strict: bool, json: bool, interactive: bool) -> Option<Program>
+    ensures named { result ≡ run_as pick echo strict json interactive }
     ensures staffed { IfSome result IsStaffed }
 {
-    if !json {
+    if !json && !interactive {
         Some(run_of(pick, echo, strict))
     } else if echo || strict {
         None
     } else {
-        Some(Program::RunJson(pick))
+        Some(answering(pick, json, interactive))
+    }
+}
+
+// A run by JSON, line by line, or both.
+fn answering(pick: Pick, json: bool, interactive: bool) -> Program
+    ensures named { result ≡ answering pick json interactive }
+    ensures staffed { IsStaffed result }
+{
+    if !interactive {
+        Program::RunJson(pick)
+    } else if json {
+        Program::DialogueJson(pick)
+    } else {
+        Program::Dialogue(pick)
     }
 }
 

@@ -25,6 +25,8 @@ pub enum Flag {
     Hints,
     /// The steps behind one that hangs are told of.
     All,
+    /// Each line is answered before more is read.
+    Interactive,
 }
 
 impl Flag {
@@ -39,6 +41,7 @@ impl Flag {
             Flag::Whole => "whole",
             Flag::Hints => "strict",
             Flag::All => "all",
+            Flag::Interactive => "interactive",
         }
     }
 
@@ -51,6 +54,7 @@ impl Flag {
             Flag::Whole => "Prints the cluster file before the script",
             Flag::Hints => "Ends with status 9 where there is a hint, too",
             Flag::All => "Tells of steps behind one that hangs on live nodes, too",
+            Flag::Interactive => "Answers each line as soon as it has come",
         }
     }
 }
@@ -103,11 +107,12 @@ static PICK_WORKERS_STATES_MEMORY_JSON: [Setting; 5] = [
     Setting::Flag(Flag::Json),
 ];
 
-static PICK_ECHO_STRICT_JSON: [Setting; 4] = [
+static PICK_ECHO_STRICT_JSON_INTERACTIVE: [Setting; 5] = [
     Setting::Pick,
     Setting::Flag(Flag::Echo),
     Setting::Flag(Flag::Strict),
     Setting::Flag(Flag::Json),
+    Setting::Flag(Flag::Interactive),
 ];
 
 /// The subcommands.
@@ -153,7 +158,7 @@ impl Subcommand {
         match self {
             Subcommand::Run => entry_of(
                 "run",
-                PICK_ECHO_STRICT_JSON.as_slice(),
+                PICK_ECHO_STRICT_JSON_INTERACTIVE.as_slice(),
                 RUN_ABOUT,
                 RUN_AFTER_HELP,
             ),

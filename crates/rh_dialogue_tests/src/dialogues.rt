@@ -2,7 +2,7 @@
 
 use crate::partner::Partner;
 use rh_devices::Watched;
-use rh_manner::run_dialogue;
+use rh_manner::{Form, Voice, run_dialogue};
 use rh_rules::Pick;
 use rh_run::RunFault;
 use std::alloc::Global;
@@ -32,6 +32,17 @@ bad line 5
 // How much of the text is due at each call that asks: for the file, the line `===`, and each line of the script up to the bad one.
 static TWO_NODES_DUE: [usize; 7] = [0, 0, 0, 10, 10, 23, 26];
 
+// The same as JSON: the line of the cluster is due behind the line `===`.
+static TWO_NODES_JSON: [&str; 5] = [
+    "{\"profile\":1,\"nodes\":[\"a@x\",\"b@x\"],\"applications\":[]}\n",
+    "{\"line\":1,\"command\":\"boot a@x\",\"answer\":\"ok\",\"notices\":[{\"kind\":\"up\",\"node\":\"a@x\"}]}\n",
+    "{\"line\":3,\"command\":\"crash a@x\",\"answer\":\"ok\",\"notices\":[{\"kind\":\"ended\",\"node\":\"a@x\"}]}\n",
+    "{\"line\":4,\"command\":\"undo\",\"answer\":\"ok\"}\n",
+    "{\"line\":5,\"bad\":true}\n",
+];
+
+static TWO_NODES_JSON_DUE: [usize; 7] = [0, 0, 54, 139, 139, 228, 270];
+
 /// How a dialogue ended, in a word.
 fn said(ended: Result<(), RunFault>) -> &'static str {
     match ended {
@@ -46,10 +57,19 @@ fn said(ended: Result<(), RunFault>) -> &'static str {
 }
 
 // How a dialogue with this partner ends.
-fn end_of<'a>(alloc: Global, partner: Partner<'a>) -> (&'static str, Partner<'a>) {
+fn end_in<'a>(alloc: Global, partner: Partner<'a>, form: Form) -> (&'static str, Partner<'a>) {
     let mut device = Watched::new(partner);
-    let ended = said(run_dialogue(alloc, &mut device, Pick::First));
+    let voice = Voice {
+        pick: Pick::First,
+        form,
+    };
+    let ended = said(run_dialogue(alloc, &mut device, voice));
     (ended, device.into_inner())
+}
+
+// How a plain one does.
+fn end_of<'a>(alloc: Global, partner: Partner<'a>) -> (&'static str, Partner<'a>) {
+    end_in(alloc, partner, Form::Plain)
 }
 
 // A line at a time: each answer is there when the next line is asked for, and nothing is asked behind the bad line.
@@ -60,6 +80,37 @@ fn answers_each_line_before_the_next(rt: HostRuntime) {
     assert!(rt; ended == "bad line");
     assert!(rt; partner.taken.as_slice() == TWO_NODES_TEXT.as_bytes());
     assert!(rt; partner.due.as_slice() == TWO_NODES_DUE.as_slice());
+}
+
+// The text that these lines make.
+fn joined(alloc: Global, lines: &[&str]) -> String {
+    let mut text = String::new(alloc);
+    for line in lines {
+        let _ = text.push_str(line);
+    }
+    text
+}
+
+// So it is as JSON.
+#[test]
+fn answers_each_line_as_json_before_the_next(rt: HostRuntime) {
+    let partner = Partner::new(rt.alloc(), TWO_NODES.as_bytes(), 4096);
+    let (ended, partner) = end_in(rt.alloc(), partner, Form::Json);
+    let text = joined(rt.alloc(), TWO_NODES_JSON.as_slice());
+    assert!(rt; ended == "bad line");
+    assert!(rt; partner.taken.as_slice() == text.as_bytes());
+    assert!(rt; partner.due.as_slice() == TWO_NODES_JSON_DUE.as_slice());
+}
+
+// A file that is refused is told as JSON once the line `===` has come, and nothing more is asked.
+#[test]
+fn refuses_a_file_as_json(rt: HostRuntime) {
+    let partner = Partner::new(rt.alloc(), "\n===\nboot a@x\n".as_bytes(), 4096);
+    let (ended, partner) = end_in(rt.alloc(), partner, Form::Json);
+    let text = "{\"refused\":\"C2\",\"reason\":\"no_nodes\"}\n";
+    assert!(rt; ended == "cluster");
+    assert!(rt; partner.taken.as_slice() == text.as_bytes());
+    assert!(rt; partner.due.as_slice() == [0usize, 0].as_slice());
 }
 
 // What a dialogue with one byte a call answers, and how often it asked once the input had ended.
@@ -106,13 +157,11 @@ fn ends_as_a_run_does(rt: HostRuntime) {
 }
 
 // Does a dialogue whose device fails at this call leave a front of the text, and end as a device's failure does?
-fn leaves_a_front(rt: &impl Abort, alloc: Global, call: u32) -> bool {
+fn leaves_a_front(rt: &impl Abort, alloc: Global, call: u32, form: Form, text: &str) -> bool {
     let partner = Partner::failing(alloc, TWO_NODES.as_bytes(), 7, call);
-    let (ended, partner) = end_of(alloc, partner);
+    let (ended, partner) = end_in(alloc, partner, form);
     assert!(rt;
-        TWO_NODES_TEXT
-            .as_bytes()
-            .starts_with(partner.taken.as_slice()),
+        text.as_bytes().starts_with(partner.taken.as_slice()),
         "call {call}"
     );
     assert!(rt;
@@ -122,19 +171,26 @@ fn leaves_a_front(rt: &impl Abort, alloc: Global, call: u32) -> bool {
     ended != "bad line"
 }
 
-// The first call whose failure a dialogue doesn't meet, or 70.
-fn first_unmet(rt: &impl Abort, alloc: Global) -> u32 {
-    for call in 0..70 {
-        if !leaves_a_front(rt, alloc, call) {
+// The first call whose failure a dialogue doesn't meet, or 300.
+fn first_unmet(rt: &impl Abort, alloc: Global, form: Form, text: &str) -> u32 {
+    for call in 0..300 {
+        if !leaves_a_front(rt, alloc, call, form, text) {
             return call;
         }
     }
-    70
+    300
 }
 
-// Up to the call behind the last one, of which there are at most 70.
+// Up to the call behind the last one: the text is taken three bytes a call.
 #[test]
 fn leaves_a_front_where_a_call_fails(rt: HostRuntime) {
-    let calls = first_unmet(&rt, rt.alloc());
+    let calls = first_unmet(&rt, rt.alloc(), Form::Plain, TWO_NODES_TEXT);
     assert!(rt; calls > 30 && calls < 70);
+}
+
+#[test]
+fn leaves_a_front_of_json_where_a_call_fails(rt: HostRuntime) {
+    let text = joined(rt.alloc(), TWO_NODES_JSON.as_slice());
+    let calls = first_unmet(&rt, rt.alloc(), Form::Json, text.as_str());
+    assert!(rt; calls > 120 && calls < 300);
 }

@@ -60,7 +60,7 @@ fn check_input<K: Sink>(
     }
 }
 
-// Writes the line of a cluster.
+/// Writes the line of a cluster.
 pub fn write_cluster<K: Sink>(
     alloc: Global,
     cluster: &Cluster,
@@ -73,7 +73,7 @@ pub fn write_cluster<K: Sink>(
     write_text(writer, line.as_slice())
 }
 
-// Writes why the text is no cluster.
+/// Writes the line that tells why a text is no cluster.
 pub fn write_fault<K: Sink>(
     alloc: Global,
     fault: &ClusterFault,

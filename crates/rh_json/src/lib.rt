@@ -7,7 +7,8 @@
 //! ([`notices_are_replied`]).
 //!
 //! What a sweep writes before its plans is what any script has that begins with a base: [`write_check`], [`write_base`] and
-//! [`write_bad`] write that for another program, and [`make_calls`] leads to where the base ends.
+//! [`write_bad`] write that for another program, and [`make_calls`] leads to where the base ends. Who answers a script line by line
+//! writes the same pieces by [`write_cluster`] or [`write_fault`], [`answer_call`] and [`write_bad`].
 #![tactic(auto)]
 
 mod base;
@@ -18,9 +19,9 @@ mod running;
 mod sweep_laws;
 mod sweeping;
 
-pub use checking::check_json;
+pub use checking::{check_json, write_cluster, write_fault};
 pub use laws::{commands_are_answered, notices_are_replied};
 pub use parts::write_check;
-pub use running::run_json;
+pub use running::{answer_call, run_json};
 pub use sweep_laws::base_is_answered;
 pub use sweeping::{make_calls, sweep_json_by, write_bad, write_base};

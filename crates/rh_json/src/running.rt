@@ -171,7 +171,7 @@ pub fn answer_bad<K: Sink>(
     write_text(writer, line.as_slice())
 }
 
-// Gives the call of a line to the simulation, and writes the line with the answer.
+/// Gives the call of a line, which has this number, to the simulation, and writes the line with the answer.
 pub fn answer_call<K: Sink>(
     alloc: Global,
     sim: &mut Sim,

@@ -1,5 +1,7 @@
 pub mod MannerText
 pub mod Turns
+pub mod Voices
+pub mod Pairs
 pub mod Laws
 pub mod Deeds
 pub mod DialogueText

@@ -1,7 +1,6 @@
 -- A dialogue in its midst, and how it ends (ours).
 use Rattle.std.specs.Prelude.{◌≡◌, ◌≤◌, ◌+◌, ℕ, List, [], ◌++◌, length, false, Option, Result, Ok, Err}
 use Rattle.std.specs.List.{list_any}
-use Rattle.rh_rules.specs.declared.pick.Pick.{Pick}
 use Rattle.rh_devices.specs.declared.watched.Watched.{Watched}
 use Rattle.rh_devices.specs.Devices.{input_limit}
 use Rattle.rh_script.specs.Lines.{raw_lines, is_separator}
@@ -10,6 +9,7 @@ use Rattle.rh_run.specs.Faults.{ended}
 use Rattle.rh_manner.specs.declared.ear.Ear.{Ear}
 use Rattle.rh_manner.specs.declared.fault.DialogueFault.{DialogueFault}
 use Rattle.rh_manner.specs.declared.stage.Stage.{Stage}
+use Rattle.rh_manner.specs.declared.voice.Voice.{Voice}
 use Rattle.rh_manner.specs.Deeds.{Deed, given, taken, Goes}
 use Rattle.rh_manner.specs.DialogueText.{DialogueGives, IsPrompt, WroteAll}
 use Rattle.rh_manner.specs.Faults.{dialogue_fault}
@@ -17,13 +17,13 @@ use Rattle.rh_manner.specs.Hearing.{AreWhole, has_end}
 use Rattle.rh_manner.specs.Stages.{text_from, end_from, opened_from, opened_end, is_parted, next_number}
 
 -- behind these deeds the run stands at this stage, which these whole lines led to; what stands behind them is kept
-pub record Stands (pick : Pick) (log : List Deed) (consumed : List ℕ) (ear : Ear) (stage : Stage) : Type 0 where
+pub record Stands (voice : Voice) (log : List Deed) (consumed : List ℕ) (ear : Ear) (stage : Stage) : Type 0 where
   pub come : given log ≡ consumed ++ ear.rest.items
   pub whole : AreWhole consumed
   pub rest : has_end ear.rest.items ≡ false
   pub count : ear.count ≡ length (given log)
   pub limit : ear.count ≤ input_limit
-  pub text : (more : List (List ℕ)) → opened_from pick [] (raw_lines consumed ++ more) ≡ taken log ++ text_from pick stage more
+  pub text : (more : List (List ℕ)) → opened_from voice [] (raw_lines consumed ++ more) ≡ taken log ++ text_from voice stage more
   pub end : (more : List (List ℕ)) → opened_end [] (raw_lines consumed ++ more) ≡ end_from stage more
   pub parted : is_parted stage ≡ list_any is_separator (raw_lines consumed)
   pub silent : is_parted stage ≡ false → taken log ≡ []
@@ -31,7 +31,7 @@ pub record Stands (pick : Pick) (log : List Deed) (consumed : List ℕ) (ear : E
 
 -- how a dialogue ends that answers what its text tells
 abbrev pub TalkGives : {D : Type 0} → (D → D → List ℕ → Type 0) → (D → D → Type 0) → (D → D → List ℕ → Type 0) → (D → D → Type 0) → (D → D → Type 0)
-    → Pick → Result (Option Told) DialogueFault → Watched D → Watched D → Type 0
-TalkGives gives unread takes flushes unwritten pick (Ok told) old new =
-    (log : List Deed) × Goes gives takes flushes old.inner new.inner log × IsPrompt pick log × (new.failed ≡ false) × WroteAll pick log (ended told)
-TalkGives gives unread takes flushes unwritten pick (Err f) old new = DialogueGives gives unread takes flushes unwritten pick (Err (dialogue_fault f)) old new
+    → Voice → Result (Option Told) DialogueFault → Watched D → Watched D → Type 0
+TalkGives gives unread takes flushes unwritten voice (Ok told) old new =
+    (log : List Deed) × Goes gives takes flushes old.inner new.inner log × IsPrompt voice log × (new.failed ≡ false) × WroteAll voice log (ended told)
+TalkGives gives unread takes flushes unwritten voice (Err f) old new = DialogueGives gives unread takes flushes unwritten voice (Err (dialogue_fault f)) old new

@@ -7,14 +7,15 @@ ghost use Rattle.rh_manner.specs.Talking.{TalkGives};
 use crate::ear::{Ear, Hearing};
 use crate::fault::DialogueFault;
 use crate::stage::{Stage, Turn, finish, take};
+use crate::voice::Voice;
 use rh_devices::{Sink, Source, Watched};
-use rh_rules::Pick;
 use rh_run::{RunFault, Told, ended};
 use std::alloc::Global;
 
-/// Reads a cluster file, a line `===` and a script, and writes the answer to each command, as `run` of `rh_app` does, before it
-/// reads on: each time that the device is asked for more, all that `run` writes for the lines that have come whole was written
-/// and flushed. Before the line `===` has come whole nothing is written.
+/// Reads a cluster file, a line `===` and a script, and writes the answer to each command before it reads on: each time that the
+/// device is asked for more, all that is said of the lines that have come whole was written and flushed. That is what `run` of
+/// `rh_run` writes for them, or what `run_json` of `rh_json` does, as the voice says. Before the line `===` has come whole nothing
+/// is written.
 ///
 /// It ends at the end of the input, or at the first fault that the text tells, without asking for more. The input has at most
 /// 16,777,216 bytes. What was written last isn't flushed.
@@ -26,12 +27,12 @@ use std::alloc::Global;
 pub fn run_dialogue<D: Source + Sink>(
     alloc: Global,
     device: &mut Watched<D>,
-    pick: Pick,
+    voice: Voice,
 ) -> Result<(), RunFault>
     requires { device.old.failed ≡ false }
-    ensures { DialogueGives D.Source.gives D.Source.fails D.Sink.takes D.Sink.flushes D.Sink.fails pick result device.old device.new }
+    ensures { DialogueGives D.Source.gives D.Source.fails D.Sink.takes D.Sink.flushes D.Sink.fails voice result device.old device.new }
 {
-    let told = talk(alloc, device, pick)?;
+    let told = talk(alloc, device, voice)?;
     ended(told)
 }
 
@@ -39,10 +40,10 @@ pub fn run_dialogue<D: Source + Sink>(
 fn talk<D: Source + Sink>(
     alloc: Global,
     device: &mut Watched<D>,
-    pick: Pick,
+    voice: Voice,
 ) -> Result<Option<Told>, DialogueFault>
     requires { device.old.failed ≡ false }
-    ensures { TalkGives D.Source.gives D.Source.fails D.Sink.takes D.Sink.flushes D.Sink.fails pick result device.old device.new }
+    ensures { TalkGives D.Source.gives D.Source.fails D.Sink.takes D.Sink.flushes D.Sink.fails voice result device.old device.new }
 {
     let mut ear = Ear::new(alloc);
     let mut stage = Stage::Cluster(Vec::new(alloc));
@@ -50,14 +51,14 @@ fn talk<D: Source + Sink>(
         let heard = ear.hear(alloc, device)?;
         match heard {
             Hearing::Lines(lines) => {
-                let turn = take(alloc, stage, lines.as_slice(), device, pick)?;
+                let turn = take(alloc, stage, lines.as_slice(), device, voice)?;
                 match turn {
                     Turn::Goes(next) => stage = next,
                     Turn::Ends(told) => return Ok(Some(told)),
                 }
             }
             Hearing::End => {
-                let told = finish(alloc, stage, ear.rest.as_slice(), device, pick)?;
+                let told = finish(alloc, stage, ear.rest.as_slice(), device, voice)?;
                 return Ok(told);
             }
         }

@@ -2,7 +2,8 @@
 //!
 //! [`run_in`] does what `run` of `rh_run` does, in a [`Manner`]: it may print each command before its answer, and may end with a
 //! fault of its own where a step was refused. With neither it is `run`, which is a law ([`plain_manner_is_run`]). [`run_dialogue`] does
-//! what `run` does over one device with both directions, which it asks for more only when all that is due was written and flushed.
+//! what `run` does, or `run_json` of `rh_json`, as its [`Voice`] says, over one device with both directions, which it asks for more only
+//! when all that is due was written and flushed.
 #![tactic(auto)]
 
 mod dialogue;
@@ -12,9 +13,11 @@ mod laws;
 mod pair;
 mod running;
 mod stage;
+mod voice;
 
 pub use dialogue::run_dialogue;
 pub use laws::plain_manner_is_run;
 pub use pair::Pair;
 pub use rh_asked::Manner;
 pub use running::run_in;
+pub use voice::{Form, Voice};

@@ -1,6 +1,7 @@
 //! A reader and a writer as one device.
 
 ghost use Rattle.std.specs.Prelude.{◌≡◌};
+ghost use Rattle.rh_manner.specs.Pairs.{given_by, unread_by, taken_by, written_by};
 
 use rh_devices::{Failed, Sink, Source};
 
@@ -21,9 +22,9 @@ impl<S, K> Pair<S, K> {
 }
 
 impl<S: Source, K> Source for Pair<S, K> {
-    ghost gives = { λ before after bytes. S.gives before.reader after.reader bytes × (after.writer ≡ before.writer) };
+    ghost gives = { given_by S.gives };
 
-    ghost fails = { λ before after. S.fails before.reader after.reader × (after.writer ≡ before.writer) };
+    ghost fails = { unread_by S.fails };
 
     fn ask(&mut self, buffer: &mut [u8]) -> Result<usize, Failed> {
         self.reader.ask(buffer)
@@ -31,11 +32,11 @@ impl<S: Source, K> Source for Pair<S, K> {
 }
 
 impl<S, K: Sink> Sink for Pair<S, K> {
-    ghost takes = { λ before after bytes. K.takes before.writer after.writer bytes × (after.reader ≡ before.reader) };
+    ghost takes = { taken_by K.takes };
 
-    ghost flushes = { λ before after. K.flushes before.writer after.writer × (after.reader ≡ before.reader) };
+    ghost flushes = { written_by K.flushes };
 
-    ghost fails = { λ before after. K.fails before.writer after.writer × (after.reader ≡ before.reader) };
+    ghost fails = { written_by K.fails };
 
     fn offer(&mut self, bytes: &[u8]) -> Result<usize, Failed> {
         self.writer.offer(bytes)

@@ -7,11 +7,11 @@ ghost use Rattle.rh_manner.specs.declared.stage.Stage.TheVariants as stage;
 ghost use Rattle.rh_run.specs.RunText.{Wrote};
 ghost use Rattle.rh_manner.specs.Stages.{NumbersWithin, Opens, Takes, WroteLine, end_from, is_bad, line_made, line_said, next_number, text_from};
 
+use crate::voice::{Form, Voice};
 use rh_base::OutOfMemory;
 use rh_cluster::{ClusterFault, read_cluster};
 use rh_devices::{Sink, Watched, WriteFault};
-use rh_rules::Pick;
-use rh_run::{Told, answer_bad, answer_call, write_fault};
+use rh_run::Told;
 use rh_script::{Line, content, cut, line_of, split_line};
 use rh_trail::Sim;
 use std::alloc::Global;
@@ -40,16 +40,16 @@ pub fn take<K: Sink>(
     stage: Stage,
     lines: &[u8],
     writer: &mut Watched<K>,
-    pick: Pick,
+    voice: Voice,
 ) -> Result<Turn, WriteFault>
     requires writer { writer.old.failed ≡ false }
     requires room { next_number stage + length (raw_lines lines.now) < 2 ^ 64 }
-    ensures lines { Takes K.takes K.fails pick result stage (raw_lines lines.now) writer.old writer.new }
+    ensures lines { Takes K.takes K.fails voice result stage (raw_lines lines.now) writer.old writer.new }
     ensures number { NumbersWithin result (next_number stage + length (raw_lines lines.now)) }
 {
     match stage {
-        Stage::Cluster(text) => take_cluster(alloc, text, lines, writer, pick),
-        Stage::Script(sim, number) => take_script(alloc, sim, number, lines, writer, pick),
+        Stage::Cluster(text) => take_cluster(alloc, text, lines, writer, voice),
+        Stage::Script(sim, number) => take_script(alloc, sim, number, lines, writer, voice),
     }
 }
 
@@ -59,16 +59,16 @@ pub fn finish<K: Sink>(
     stage: Stage,
     rest: &[u8],
     writer: &mut Watched<K>,
-    pick: Pick,
+    voice: Voice,
 ) -> Result<Option<Told>, WriteFault>
     requires writer { writer.old.failed ≡ false }
     requires room { next_number stage + length (raw_lines rest.now) < 2 ^ 64 }
-    ensures { Wrote K.takes K.fails result (text_from pick stage (raw_lines rest.now)) (end_from stage (raw_lines rest.now)) writer.old writer.new }
+    ensures { Wrote K.takes K.fails result (text_from voice stage (raw_lines rest.now)) (end_from stage (raw_lines rest.now)) writer.old writer.new }
 {
-    let turn = take(alloc, stage, rest, writer, pick)?;
+    let turn = take(alloc, stage, rest, writer, voice)?;
     match turn {
         Turn::Ends(told) => Ok(Some(told)),
-        Turn::Goes(stage) => close(alloc, stage, writer, pick),
+        Turn::Goes(stage) => close(alloc, stage, writer, voice),
     }
 }
 
@@ -77,14 +77,14 @@ fn close<K: Sink>(
     alloc: Global,
     stage: Stage,
     writer: &mut Watched<K>,
-    pick: Pick,
+    voice: Voice,
 ) -> Result<Option<Told>, WriteFault>
     requires { writer.old.failed ≡ false }
-    ensures { Wrote K.takes K.fails result (text_from pick stage []) (end_from stage []) writer.old writer.new }
+    ensures { Wrote K.takes K.fails result (text_from voice stage []) (end_from stage []) writer.old writer.new }
 {
     match stage {
         Stage::Script(_, _) => Ok(None),
-        Stage::Cluster(text) => match open(alloc, text.as_slice(), writer, pick)? {
+        Stage::Cluster(text) => match open(alloc, text.as_slice(), writer, voice)? {
             Opened::Script(_) => Ok(None),
             Opened::Refused(fault) => Ok(Some(Told::Cluster(fault))),
         },
@@ -97,11 +97,11 @@ fn take_cluster<K: Sink>(
     before: Vec<u8>,
     lines: &[u8],
     writer: &mut Watched<K>,
-    pick: Pick,
+    voice: Voice,
 ) -> Result<Turn, WriteFault>
     requires writer { writer.old.failed ≡ false }
     requires room { 1 + length (raw_lines lines.now) < 2 ^ 64 }
-    ensures lines { Takes K.takes K.fails pick result (stage.Cluster before) (raw_lines lines.now) writer.old writer.new }
+    ensures lines { Takes K.takes K.fails voice result (stage.Cluster before) (raw_lines lines.now) writer.old writer.new }
     ensures number { NumbersWithin result (1 + length (raw_lines lines.now)) }
 {
     let (front, script) = cut(lines);
@@ -109,9 +109,9 @@ fn take_cluster<K: Sink>(
     if front.len() == lines.len() {
         return Ok(Turn::Goes(Stage::Cluster(text)));
     }
-    let opened = open(alloc, text.as_slice(), writer, pick)?;
+    let opened = open(alloc, text.as_slice(), writer, voice)?;
     match opened {
-        Opened::Script(sim) => take_script(alloc, sim, 1, script, writer, pick),
+        Opened::Script(sim) => take_script(alloc, sim, 1, script, writer, voice),
         Opened::Refused(fault) => Ok(Turn::Ends(Told::Cluster(fault))),
     }
 }
@@ -134,26 +134,27 @@ pub enum Opened {
     Refused(ClusterFault),
 }
 
-// Reads the whole cluster file, and writes why it is none.
+// Reads the whole cluster file, and writes what stands before all answers, or why it is none.
 fn open<K: Sink>(
     alloc: Global,
     text: &[u8],
     writer: &mut Watched<K>,
-    pick: Pick,
+    voice: Voice,
 ) -> Result<Opened, WriteFault>
     requires { writer.old.failed ≡ false }
-    ensures { Opens K.takes K.fails pick result text.now writer.old writer.new }
+    ensures { Opens K.takes K.fails voice result text.now writer.old writer.new }
 {
     match read_cluster(alloc, text) {
         Ok(cluster) => {
-            let sim = Sim::open(alloc, cluster, pick)?;
+            let sim = Sim::open(alloc, cluster, voice.pick)?;
+            voice.form.begin(alloc, sim.cluster(), writer)?;
             Ok(Opened::Script(sim))
         }
         Err(fault) => {
             if fault.is_memory() {
                 return Err(WriteFault::OutOfMemory);
             }
-            write_fault(alloc, &fault, writer)?;
+            voice.form.refuse(alloc, &fault, writer)?;
             Ok(Opened::Refused(fault))
         }
     }
@@ -166,11 +167,11 @@ fn take_script<K: Sink>(
     first: u64,
     lines: &[u8],
     writer: &mut Watched<K>,
-    pick: Pick,
+    voice: Voice,
 ) -> Result<Turn, WriteFault>
     requires writer { writer.old.failed ≡ false }
     requires room { first + length (raw_lines lines.now) < 2 ^ 64 }
-    ensures lines { Takes K.takes K.fails pick result (stage.Script start first) (raw_lines lines.now) writer.old writer.new }
+    ensures lines { Takes K.takes K.fails voice result (stage.Script start first) (raw_lines lines.now) writer.old writer.new }
     ensures number { NumbersWithin result (first + length (raw_lines lines.now)) }
 {
     let mut sim = start;
@@ -178,7 +179,7 @@ fn take_script<K: Sink>(
     let mut number = first;
     'lines: while !rest.is_empty() {
         let (line, after) = split_line(rest);
-        if answer_line(alloc, &mut sim, number, content(line), writer)? {
+        if answer_line(alloc, &mut sim, number, content(line), writer, voice.form)? {
             return Ok(Turn::Ends(Told::BadLine(number)));
         }
         rest = after;
@@ -194,9 +195,10 @@ fn answer_line<K: Sink>(
     number: u64,
     line: &[u8],
     writer: &mut Watched<K>,
+    form: Form,
 ) -> Result<bool, WriteFault>
     requires { writer.old.failed ≡ false }
-    ensures text { WroteLine K.takes K.fails result (line_said sim.old.seen.cluster sim.old.seen number (line_of sim.old.seen.cluster line.now)) writer.old writer.new }
+    ensures text { WroteLine K.takes K.fails result (line_said form sim.old.seen.cluster sim.old.seen number line.now (line_of sim.old.seen.cluster line.now)) writer.old writer.new }
     ensures bad { IfOk result (λ bad. bad ≡ is_bad (line_of sim.old.seen.cluster line.now)) }
     ensures sim { OnOk result (sim.new.seen ≡ line_made sim.old.seen (line_of sim.old.seen.cluster line.now)) }
     ensures cluster { OnOk result (sim.new.seen.cluster ≡ sim.old.seen.cluster) }
@@ -204,11 +206,11 @@ fn answer_line<K: Sink>(
     match line_of(alloc, sim.cluster(), line)? {
         Line::Nothing => Ok(false),
         Line::Asks(call) => {
-            answer_call(alloc, sim, call, writer)?;
+            form.answer(alloc, sim, number, line, call, writer)?;
             Ok(false)
         }
         Line::Bad => {
-            answer_bad(alloc, number, writer)?;
+            form.mark_bad(alloc, number, writer)?;
             Ok(true)
         }
     }

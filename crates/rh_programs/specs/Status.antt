@@ -1,11 +1,10 @@
 -- The exit status, and what it says (ours).
-use Rattle.std.specs.Prelude.{◌≡◌, ◌⊎◌, ◌==◌, ℕ, List, Bool, true, false, Option, None, Result, Ok, Err}
-use Rattle.rh_rules.specs.declared.pick.Pick.{Pick}
+use Rattle.std.specs.Prelude.{◌≡◌, ◌⊎◌, ◌==◌, ℕ, List, Bool, true, false, Option, Some, None, Result, Ok, Err}
 use Rattle.rh_run.specs.declared.fault.RunFault.{RunFault}
 use Rattle.rh_run.specs.declared.fault.RunFault.TheVariants as end
 use Rattle.rh_run.specs.declared.fault.Told.{Told}
 use Rattle.rh_asked.specs.declared.program.Program.{Program}
-use Rattle.rh_asked.specs.declared.program.Program.TheVariants.{Check, CheckJson, Run, RunIn, RunJson, Dialogue, Story, Verify, Lint, Explore, ExploreJson, Sessions, Sweep, SweepJson}
+use Rattle.rh_asked.specs.declared.program.Program.TheVariants.{Check, CheckJson, Run, RunIn, RunJson, Dialogue, DialogueJson, Story, Verify, Lint, Explore, ExploreJson, Sessions, Sweep, SweepJson}
 use Rattle.rh_devices.specs.declared.watched.Watched.{Watched}
 use Rattle.rh_devices.specs.Devices.{Passed}
 use Rattle.rh_run.specs.Programs.{IsInput, ProgramGives, NoThreads}
@@ -13,6 +12,8 @@ use Rattle.rh_run.specs.CheckText.{OwesCheck}
 use Rattle.rh_run.specs.RunText.{OwesRun}
 use Rattle.rh_app.specs.Sessions.{MayGive, AskHistory}
 use Rattle.rh_run.specs.SweepText.{OwesSweep}
+use Rattle.rh_manner.specs.declared.voice.Form.TheVariants as form
+use Rattle.rh_manner.specs.declared.voice.Voice.{Voice}
 use Rattle.rh_manner.specs.DialogueText.{DialogueGives}
 use Rattle.rh_explore_text.specs.ExploreText.{OwesExplore}
 use Rattle.rh_explore_text.specs.ExploreJson.{OwesExploreJson}
@@ -32,6 +33,7 @@ Owes (Run pick) = OwesRun pick
 Owes (RunIn pick manner) = OwesRunIn manner pick
 Owes (RunJson pick) = OwesRunJson pick
 Owes (Dialogue pick) = OwesRun pick
+Owes (DialogueJson pick) = OwesRunJson pick
 Owes (Story pick whole) = OwesStory pick whole
 Owes (Verify pick) = OwesVerify pick
 Owes (Lint pick manner) = OwesLint manner pick
@@ -74,12 +76,18 @@ StatusGives {S = S} {K = K} gives unread takes flushes unwritten program status 
     × ProgramGives gives unread takes unwritten (Owes program) (MayTear program) ended old new before written
     × Flushed flushes unwritten written after status ended
 
+-- in which voice a program answers each line before more is read, if it does
+abbrev pub voice_of : Program → Option Voice
+voice_of (Dialogue pick) = Some (record { pick = pick; form = form.Plain })
+voice_of (DialogueJson pick) = Some (record { pick = pick; form = form.Json })
+voice_of program = None
+
 -- a dialogue ended, and then its device was flushed
 abbrev pub DialogueStatus : {D : Type 0} → (D → D → List ℕ → Type 0) → (D → D → Type 0) → (D → D → List ℕ → Type 0) → (D → D → Type 0) → (D → D → Type 0)
-    → Pick → ℕ → Watched D → Watched D → Type 0
-DialogueStatus {D = D} gives unread takes flushes unwritten pick status old new =
+    → Voice → ℕ → Watched D → Watched D → Type 0
+DialogueStatus {D = D} gives unread takes flushes unwritten voice status old new =
     (ended : Result (Unit {0}) RunFault) × (written : Watched D)
-    × DialogueGives gives unread takes flushes unwritten pick ended old written
+    × DialogueGives gives unread takes flushes unwritten voice ended old written
     × Flushed flushes unwritten written new status ended
 
 -- what status 0 says: the writer took the whole text of all that the reader gave, which tells no fault, and was flushed behind it

@@ -3,7 +3,7 @@
 ghost use Rattle.std.specs.Prelude.{◌≡◌, false, true};
 ghost use Rattle.rh_run.specs.Programs.{ProgramGives};
 ghost use Rattle.rh_asked.specs.Programs.{IsStaffed, is_alone};
-ghost use Rattle.rh_programs.specs.Status.{DialogueStatus, Owes, MayTear, Flushed, IsDone, StatusGives, status_of};
+ghost use Rattle.rh_programs.specs.Status.{DialogueStatus, Owes, MayTear, Flushed, IsDone, StatusGives, status_of, voice_of};
 
 use crate::sweeping::{sweep_json, sweep_json_alone};
 use rh_app::{run_sessions, run_sweep, run_sweep_alone};
@@ -13,8 +13,7 @@ use rh_explore::{Alone, Threaded, Watch};
 use rh_explore_text::{explore_json, run_explore};
 use rh_json::{check_json, run_json};
 use rh_lint::run_lint;
-use rh_manner::{run_dialogue, run_in};
-use rh_rules::Pick;
+use rh_manner::{Form, Voice, run_dialogue, run_in};
 use rh_run::{RunFault, run, run_check};
 use rh_story::run_story;
 use rh_verify::run_verify;
@@ -68,13 +67,35 @@ pub fn rehearse_together<T: Threads + Wait + Sync, S: Source, K: Sink, W: Watch>
     flushed(ended, writer)
 }
 
-/// Answers each command of a script before more is read, over one device with both directions, flushes it, however that ended, and
-/// answers the exit status, which is that of [`rehearse_alone`].
-pub fn rehearse_dialogue<D: Source + Sink>(alloc: Global, pick: Pick, device: &mut Watched<D>) -> u8
-    requires { device.old.failed ≡ false }
-    ensures { DialogueStatus D.Source.gives D.Source.fails D.Sink.takes D.Sink.flushes D.Sink.fails pick result device.old device.new }
+/// In which voice a program answers each line of a script before more is read, by [`rehearse_dialogue`]; nothing where it reads all
+/// first.
+pub fn voice_of(program: Program) -> Option<Voice>
+    ensures { result ≡ voice_of program }
 {
-    let ended = run_dialogue(alloc, device, pick);
+    match program {
+        Program::Dialogue(pick) => Some(Voice {
+            pick,
+            form: Form::Plain,
+        }),
+        Program::DialogueJson(pick) => Some(Voice {
+            pick,
+            form: Form::Json,
+        }),
+        _ => None,
+    }
+}
+
+/// Answers each command of a script before more is read, in this voice, over one device with both directions, flushes it, however
+/// that ended, and answers the exit status, which is that of [`rehearse_alone`].
+pub fn rehearse_dialogue<D: Source + Sink>(
+    alloc: Global,
+    voice: Voice,
+    device: &mut Watched<D>,
+) -> u8
+    requires { device.old.failed ≡ false }
+    ensures { DialogueStatus D.Source.gives D.Source.fails D.Sink.takes D.Sink.flushes D.Sink.fails voice result device.old device.new }
+{
+    let ended = run_dialogue(alloc, device, voice);
     flushed(ended, device)
 }
 
@@ -96,7 +117,9 @@ fn ended_alone<S: Source, K: Sink, W: Watch>(
         Program::CheckJson => check_json(alloc, reader, writer),
         Program::Run(pick) | Program::Dialogue(pick) => run(alloc, reader, writer, pick),
         Program::RunIn(pick, manner) => run_in(alloc, reader, writer, pick, manner),
-        Program::RunJson(pick) => run_json(alloc, reader, writer, pick),
+        Program::RunJson(pick) | Program::DialogueJson(pick) => {
+            run_json(alloc, reader, writer, pick)
+        }
         Program::Story(pick, whole) => run_story(alloc, reader, writer, pick, whole),
         Program::Verify(pick) => run_verify(alloc, reader, writer, pick),
         Program::Lint(pick, manner) => run_lint(alloc, reader, writer, pick, manner),

@@ -10,5 +10,5 @@ returns-in_err-told g c =
 pub returns : goal.returns
 returns g c =
     rw c.ended.ensures
-    (whole_end g.D.Source.gives g.D.Source.fails g.D.Sink.takes g.D.Sink.flushes g.D.Sink.fails c.args.pick c.args.device.now
+    (whole_end g.D.Source.gives g.D.Source.fails g.D.Sink.takes g.D.Sink.flushes g.D.Sink.fails c.args.voice c.args.device.now
     c.in_ok-told.told c.talk.new.device c.in_ok-told.ensures)

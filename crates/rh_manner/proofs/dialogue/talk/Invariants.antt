@@ -9,7 +9,7 @@ abbrev pub invariant-talk : goal.invariant-talk
 invariant-talk g l = record {
   stands : (log : List Deed) × (consumed : List ℕ)
       × Goes g.D.Source.gives g.D.Sink.takes g.D.Sink.flushes l.fn.device.inner l.device.inner log
-      × IsPrompt l.fn.pick log × Stands l.fn.pick log consumed l.ear l.stage;
+      × IsPrompt l.fn.voice log × Stands l.fn.voice log consumed l.ear l.stage;
   watch : l.device.failed ≡ false;
 }
 

@@ -21,18 +21,19 @@ returns-in_err-answer_line-clause-lines g c =
     let line = c.split_line.result.0.now in
     let tail = raw_lines c.split_line.result.1.now in
     let f = c.in_err-answer_line.field-0.0 in
-    let said : line_said at.sim.seen.cluster at.sim.seen at.number (line_of at.sim.seen.cluster c.content.result.now)
-    ≡ line_said c' at.sim.seen at.number (line_of c' (content line)) =
-    λ i. line_said (at.invariant.same i) at.sim.seen at.number (line_of (at.invariant.same i) (c.content.ensures i)) in
+    let form = c.args.voice.form in
+    let said : line_said form at.sim.seen.cluster at.sim.seen at.number c.content.result.now (line_of at.sim.seen.cluster c.content.result.now)
+    ≡ line_said form c' at.sim.seen at.number (content line) (line_of c' (content line)) =
+    λ i. line_said form (at.invariant.same i) at.sim.seen at.number (c.content.ensures i) (line_of (at.invariant.same i) (c.content.ensures i)) in
     let p = err_from_is_err_and c.from_residual.result c.from_residual.ensures.1 in
     rw (p.1, p.2)
     (λ more.
-    let breaks = text_breaks c' start at.sim.seen c.args.first at.number (raw_lines c.args.lines.now) (raw_lines at.rest.now) tail line
+    let breaks = text_breaks form c' start at.sim.seen c.args.first at.number (raw_lines c.args.lines.now) (raw_lines at.rest.now) tail line
     at.invariant.text.0 c.split_line.ensures.line at.invariant.text.2 at.invariant.bad more in
     subst (λ (t : List ℕ). WroteFront takes fails f t c.args.writer.now c.answer_line.new.writer) (sym breaks.1)
     (fault_behind takes fails f c.args.writer.now at.writer c.answer_line.new.writer at.invariant.text.0
-    (line_said c' at.sim.seen at.number (line_of c' (content line)) ++ breaks.0) at.invariant.text.1
-    (fault_before takes fails f at.writer c.answer_line.new.writer (line_said c' at.sim.seen at.number (line_of c' (content line))) breaks.0
+    (line_said form c' at.sim.seen at.number (content line) (line_of c' (content line)) ++ breaks.0) at.invariant.text.1
+    (fault_before takes fails f at.writer c.answer_line.new.writer (line_said form c' at.sim.seen at.number (content line) (line_of c' (content line))) breaks.0
     (subst (λ (t : List ℕ). WroteFront takes fails f t at.writer c.answer_line.new.writer) said c.in_err-answer_line.ensures.text))))
 
 pub returns-then-branch-clause-lines : goal.returns-then-branch-clause-lines
@@ -44,19 +45,20 @@ returns-then-branch-clause-lines g c =
     let line = c.split_line.result.0.now in
     let tail = raw_lines c.split_line.result.1.now in
     let same = at.invariant.same in
-    let said : line_said at.sim.seen.cluster at.sim.seen at.number (line_of at.sim.seen.cluster c.content.result.now)
-    ≡ line_said c' at.sim.seen at.number (line_of c' (content line)) =
-    λ i. line_said (same i) at.sim.seen at.number (line_of (same i) (c.content.ensures i)) in
+    let form = c.args.voice.form in
+    let said : line_said form at.sim.seen.cluster at.sim.seen at.number c.content.result.now (line_of at.sim.seen.cluster c.content.result.now)
+    ≡ line_said form c' at.sim.seen at.number (content line) (line_of c' (content line)) =
+    λ i. line_said form (same i) at.sim.seen at.number (c.content.ensures i) (line_of (same i) (c.content.ensures i)) in
     let bad : is_bad (line_of c' (content line)) ≡ true =
     (λ i. is_bad (line_of (sym same i) (sym c.content.ensures i))) ∙ sym c.in_ok-answer_line.ensures.bad ∙ c.if-branch.true in
     let wrote = subst (λ (t : List ℕ). Passed takes at.writer.inner c.answer_line.new.writer.inner t) said c.in_ok-answer_line.ensures.text.0 in (
-      at.invariant.text.0 ++ line_said c' at.sim.seen at.number (line_of c' (content line)),
+      at.invariant.text.0 ++ line_said form c' at.sim.seen at.number (content line) (line_of c' (content line)),
       passed_more takes c.args.writer.now.inner at.writer.inner c.answer_line.new.writer.inner at.invariant.text.0 _ at.invariant.text.1 wrote,
       c.in_ok-answer_line.ensures.text.1,
       record {
-        text = text_ends c' start at.sim.seen c.args.first at.number (raw_lines c.args.lines.now) (raw_lines at.rest.now) tail line
+        text = text_ends form c' start at.sim.seen c.args.first at.number (raw_lines c.args.lines.now) (raw_lines at.rest.now) tail line
             at.invariant.text.0 c.split_line.ensures.line at.invariant.text.2 at.invariant.bad bad;
-        end = λ more. ap script_end (bad_ends c' start at.sim.seen c.args.first at.number (raw_lines c.args.lines.now) (raw_lines at.rest.now) tail line
+        end = λ more. ap script_end (bad_ends form c' start at.sim.seen c.args.first at.number (raw_lines c.args.lines.now) (raw_lines at.rest.now) tail line
             at.invariant.text.0 c.split_line.ensures.line at.invariant.text.2 at.invariant.bad bad more);
       },
     )
@@ -80,21 +82,22 @@ lines-preserved g c =
     let tail = raw_lines c.split_line.result.1.now in
     let same = at.invariant.same in
     let asks : line_of at.sim.seen.cluster c.content.result.now ≡ line_of c' (content line) = λ i. line_of (same i) (c.content.ensures i) in
-    let said : line_said at.sim.seen.cluster at.sim.seen at.number (line_of at.sim.seen.cluster c.content.result.now)
-    ≡ line_said c' at.sim.seen at.number (line_of c' (content line)) =
-    λ i. line_said (same i) at.sim.seen at.number (asks i) in
+    let form = c.args.voice.form in
+    let said : line_said form at.sim.seen.cluster at.sim.seen at.number c.content.result.now (line_of at.sim.seen.cluster c.content.result.now)
+    ≡ line_said form c' at.sim.seen at.number (content line) (line_of c' (content line)) =
+    λ i. line_said form (same i) at.sim.seen at.number (c.content.ensures i) (asks i) in
     let good : is_bad (line_of c' (content line)) ≡ false =
     ap is_bad (sym asks) ∙ sym c.in_ok-answer_line.ensures.bad ∙ c.if-branch.false in
     let made = c.in_ok-answer_line.ensures.sim ∙ ap (line_made at.sim.seen) asks in
     let wrote = subst (λ (t : List ℕ). Passed takes at.writer.inner c.answer_line.new.writer.inner t) said c.in_ok-answer_line.ensures.text.0 in
     record {
       text = (
-        at.invariant.text.0 ++ line_said c' at.sim.seen at.number (line_of c' (content line)),
+        at.invariant.text.0 ++ line_said form c' at.sim.seen at.number (content line) (line_of c' (content line)),
         passed_more takes c.args.writer.now.inner at.writer.inner c.answer_line.new.writer.inner at.invariant.text.0 _ at.invariant.text.1 wrote,
-        text_goes_on c' start at.sim.seen c.args.first at.number (raw_lines c.args.lines.now) (raw_lines at.rest.now) tail line
+        text_goes_on form c' start at.sim.seen c.args.first at.number (raw_lines c.args.lines.now) (raw_lines at.rest.now) tail line
             at.invariant.text.0 c.split_line.ensures.line at.invariant.text.2 at.invariant.bad c.answer_line.new.sim.seen made good,
       );
-      bad = bad_goes_on c' start at.sim.seen c.args.first at.number (raw_lines c.args.lines.now) (raw_lines at.rest.now) tail line
+      bad = bad_goes_on form c' start at.sim.seen c.args.first at.number (raw_lines c.args.lines.now) (raw_lines at.rest.now) tail line
           at.invariant.text.0 c.split_line.ensures.line at.invariant.text.2 at.invariant.bad good;
       watch = c.in_ok-answer_line.ensures.text.1;
       same = c.in_ok-answer_line.ensures.cluster ∙ same;
@@ -103,6 +106,7 @@ lines-preserved g c =
 
 pub returns-clause-lines : goal.returns-clause-lines
 returns-clause-lines g c =
+    let form = c.args.voice.form in
     let start = c.args.start.seen in
     let c' = start.cluster in
     let at = c.lines in
@@ -112,8 +116,8 @@ returns-clause-lines g c =
       at.invariant.text.1,
       at.invariant.watch,
       record {
-        text = λ more. at.invariant.text.2 more ∙ ap (λ ls. at.invariant.text.0 ++ script_from c' at.sim.seen at.number (ls ++ more)) none
-            ∙ ap (λ (k : ClusterView). at.invariant.text.0 ++ script_from k at.sim.seen at.number more) (sym same);
+        text = λ more. at.invariant.text.2 more ∙ ap (λ ls. at.invariant.text.0 ++ script_from form c' at.sim.seen at.number (ls ++ more)) none
+            ∙ ap (λ (k : ClusterView). at.invariant.text.0 ++ script_from form k at.sim.seen at.number more) (sym same);
         end = λ more. ap script_end (at.invariant.bad more ∙ ap (λ ls. bad_from c' at.number (ls ++ more)) none
             ∙ ap (λ (k : ClusterView). bad_from k at.number more) (sym same));
         parted = refl;

@@ -9,8 +9,8 @@ invariant-lines g l =
     let c = l.fn.start.seen.cluster in
     record {
       text : (done : List ℕ) × Passed g.K.Sink.takes l.fn.writer.inner l.writer.inner done
-          × ((more : List (List ℕ)) → script_from c l.fn.start.seen l.fn.first (raw_lines l.fn.lines ++ more)
-          ≡ done ++ script_from c l.sim.seen l.number (raw_lines l.rest ++ more));
+          × ((more : List (List ℕ)) → script_from l.fn.voice.form c l.fn.start.seen l.fn.first (raw_lines l.fn.lines ++ more)
+          ≡ done ++ script_from l.fn.voice.form c l.sim.seen l.number (raw_lines l.rest ++ more));
       bad : (more : List (List ℕ)) → bad_from c l.fn.first (raw_lines l.fn.lines ++ more) ≡ bad_from c l.number (raw_lines l.rest ++ more);
       watch : l.writer.failed ≡ false;
       same : l.sim.seen.cluster ≡ c;
