@@ -258,14 +258,20 @@ class JsonRun(Run):
     sweep, or why that is refused."""
 
     @property
+    def last(self) -> Fields:
+        """The object of the last line, if there is one."""
+        return fields_of(self.lines[-1]) if self.lines else {}
+
+    @property
     def why(self) -> str:
-        is_refused = self.status in (CLUSTER_REFUSED, SWEEP_REFUSED) and self.lines
-        return refusal_in(fields_of(self.lines[-1])) if is_refused else ""
+        last = self.last if self.status in (CLUSTER_REFUSED, SWEEP_REFUSED) else {}
+        return refusal_in(last) if "refused" in last else ""
 
     @property
     def bad_line(self) -> Optional[int]:
         """The number of the line that is no command, counted behind ===, where that is why the program ended."""
-        return int(fields_of(self.lines[-1])["line"]) if self.status == BAD_LINE else None
+        last = self.last if self.status == BAD_LINE else {}
+        return int(last["line"]) if "bad" in last else None
 
     @property
     def names(self) -> Names:

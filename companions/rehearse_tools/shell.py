@@ -16,8 +16,8 @@ next timers. Besides the commands of a script (`help` lists them) there are:
   quit           ends, as `exit` and Ctrl-D do
 
 What is saved is what `rehearse story` writes: an input of `rehearse run`, of `rehearse verify` (which tells what comes otherwise), and
-of this companion. The program is run anew for each command, on all that was entered so far. That takes some milliseconds; from about
-10,000 commands on it takes a tenth of a second and more.
+of this companion. One process of the program (`rehearse run --interactive`) answers all commands, each as fast behind many as behind
+few. A line that is no command ends it: it is begun anew then, on all that was entered so far.
 
 At a terminal answers have colours, unless NO_COLOR is set, and what you enter is kept for the next time, the last 1,000 lines of it,
 in $XDG_STATE_HOME/rehearse/shell-history (~/.local/state, if that isn't set).
@@ -33,9 +33,10 @@ from typing import TYPE_CHECKING, Optional
 
 from rehearse_tools.colours import CYAN, GREEN, RED, YELLOW, coloured, shows_colours
 from rehearse_tools.command_line import CommandLine
+from rehearse_tools.conversing import Conversation
 from rehearse_tools.endings import Refused
-from rehearse_tools.inputs import called, commands_of, is_command, joined, read_text, split_input, words_of
-from rehearse_tools.program import BadLine, Program
+from rehearse_tools.inputs import Input, called, commands_of, is_command, joined, read_text, split_input, words_of
+from rehearse_tools.program import BadLine
 from rehearse_tools.reading import Answer
 from rehearse_tools.shell_words import COMMANDS, HELP, OWN, meant, no_command, suggestion, topic
 from rehearse_tools.words import plural
@@ -66,9 +67,8 @@ class Step:
 class Session:
     """A rehearsal at a prompt: all lines that were entered and the answers to those that are commands."""
 
-    def __init__(self, program: Program, cluster: str, source: str):
-        self.program, self.cluster, self.source = program, cluster, source
-        self.names = program.names(cluster, source)
+    def __init__(self, talk: Conversation):
+        self.talk = talk
         self.lines: list[str] = []
         self.told: list[Answer] = []
         self.saved: set[str] = set()
@@ -76,13 +76,13 @@ class Session:
         self.live: Optional["Beside"] = None
         self.is_live = False
         self.ask([])
+        self.names = talk.names
 
     def ask(self, lines: list[str]) -> list[Answer]:
         """Makes these lines too, and gives their answers. Where one of them is no command, nothing is done."""
-        *told, shown = self.program.answers(self.cluster, self.lines + lines + ["show"], self.source)
-        new = told[len(self.told):]
-        self.report = shown.report
-        self.lines, self.told = self.lines + lines, told
+        new, self.report = self.talk.ask(commands_of(lines))
+        self.lines += lines
+        self.told += new
         return new
 
     def times(self) -> list[str]:
@@ -115,8 +115,8 @@ class Session:
             return ["there is no command yet"]
         # The model takes some time to load.
         from rehearse_tools.shell_live import Beside
-        self.live = self.live or Beside(self.program, self.cluster)
-        return self.live.follow(commands_of(self.lines), self.told[-1], self.report)
+        self.live = self.live or Beside(self.talk.program, self.talk.cluster)
+        return self.live.follow(self.talk.made, self.told[-1], self.report)
 
 
 def story(lines: Sequence[str], told: Sequence[Answer]) -> tuple[list[Step], list[str]]:
@@ -143,7 +143,7 @@ def saved(session: Session, is_all: bool) -> bytes:
     """The input that is saved: the cluster file and its script, with the answers as the program tells a story."""
     steps, notes = story(session.lines, session.told)
     lines = session.lines if is_all else [line for step in steps for line in step.lines] + notes
-    return session.program.story(session.cluster, lines, session.source)
+    return session.talk.program.story(session.talk.cluster, lines, session.talk.source)
 
 
 def save(session: Session, words: Sequence[str]) -> str:
@@ -221,11 +221,10 @@ def serve(session: Session, history: Optional["History"]) -> bool:
     return True
 
 
-def opened(program: Program, path: str) -> tuple[Session, str]:
+def opened(talk: Conversation, parts: Input) -> tuple[Session, str]:
     """A session behind the script of a file, and what is told of it."""
-    source, parts = called(path), split_input(read_text(path))
-    session = Session(program, parts.cluster, source)
-    program.check_script(joined(parts.cluster, parts.lines), source)
+    session = Session(talk)
+    talk.program.check_script(joined(parts.cluster, parts.lines), talk.source)
     session.ask(parts.lines)
     behind = f", behind {plural(len(parts.base), 'command')} of the script" if parts.base else ""
     names = session.names
@@ -247,8 +246,15 @@ def main(words: Sequence[str]) -> None:
     given = line.parse_args(words)
     if sys.stdin is None or sys.stdout is None:
         raise Refused(f"standard {'input' if sys.stdin is None else 'output'}: it is closed")
-    session, told = opened(line.program(given), given.file)
-    print(told)
+    program, parts = line.program(given), split_input(read_text(given.file))
+    with Conversation(program, parts.cluster, called(given.file)) as talk:
+        session, told = opened(talk, parts)
+        print(told)
+        converse(session)
+
+
+def converse(session: Session) -> None:
+    """Answers the lines of the prompt, at a terminal with its keys."""
     if sys.stdin.isatty():
         set_up_keys(session)
     for stream in (sys.stdin, sys.stdout):

@@ -108,7 +108,9 @@ def read_into_classes(_):
             ("where applications stand", {"web": Standing("running", "a@x"), "far": Standing("quiet")}, report.apps),
             ("the timers before a moment", [10], report.dues_until(12)), ("the clock", 9, report.now),
             ("a file that is refused", ("cluster refused C1 T1 syntax line 1", None), (
-                (refusal := JsonRun(2, ['{"refused":"C1","reason":"T1 syntax line 1"}'])).why, refusal.bad_line))]:
+                (refusal := JsonRun(2, ['{"refused":"C1","reason":"T1 syntax line 1"}'])).why, refusal.bad_line)),
+            ("an end that no line tells", ("", "", None, None), (
+                JsonRun(2, []).why, JsonRun(2, TOLD[:2]).why, JsonRun(3, []).bad_line, JsonRun(3, TOLD[:2]).bad_line))]:
         yield f"read into classes: {name}", None if owed == have else f"want {owed}, have {have}"
 
 

@@ -380,6 +380,166 @@ def colours(program):
                 yield f"colours: {name}", told or (None if shown == [has, has] else repr(terminal.raw))
 
 
+# ---- One process of the program
+
+
+class Calls:
+    """A program that keeps its calls, each with the number of its process. What stands in `first` it does before."""
+
+    def __init__(self, files, program, first=""):
+        self.file = files.path("calls", "")
+        self.text = f'#!/bin/sh\necho "$$ $*" >> "{self.file}"\n{first}exec "{program}" "$@"\n'
+        self.path = files.path("program")
+        self.make()
+
+    def make(self):
+        """Writes it."""
+        with open(self.path, "w") as file:
+            file.write(self.text)
+        os.chmod(self.path, 0o755)
+
+    def runs(self):
+        """The processes that were to make commands, in their order."""
+        calls = [line.split(" ") for line in read(self.file).decode().splitlines()]
+        return [int(number) for number, word, *_ in calls if word == "run"]
+
+
+def is_alive(number):
+    """Whether a process is there, and hasn't ended."""
+    try:
+        with open(f"/proc/{number}/stat") as file:
+            return file.read().rsplit(")", 1)[1].split()[0] not in "ZX"
+    except FileNotFoundError:
+        return False
+
+
+def ends(number):
+    """What is wrong where a process doesn't end in time."""
+    end = time.monotonic() + LONGEST_RUN
+    while is_alive(number):
+        if time.monotonic() > end:
+            return f"process {number} is still there"
+        time.sleep(0.01)
+    return None
+
+
+class Piped:
+    """The companion behind a pipe that stays open."""
+
+    def __init__(self, program, file):
+        self.child = subprocess.Popen([COMPANION, "--rehearse", program, file], stdin=subprocess.PIPE, stdout=subprocess.PIPE,
+                                      stderr=subprocess.PIPE)
+
+    def __enter__(self):
+        return self
+
+    def __exit__(self, *_):
+        self.child.kill()
+        self.child.communicate()
+
+    def fault(self, line, owed):
+        """Enters a line, and gives None as soon as what is owed has come, and else what came."""
+        self.child.stdin.write(line.encode())
+        self.child.stdin.flush()
+        told = b""
+        while len(told) < len(owed) and select.select([self.child.stdout], [], [], LONGEST_RUN)[0]:
+            more = os.read(self.child.stdout.fileno(), 65536)
+            if not more:
+                break
+            told += more
+        return None if told == owed.encode() else f"{told}, want {owed}"
+
+    def end(self):
+        """What is wrong with its end, when no more lines come."""
+        out, error = self.child.communicate(timeout=LONGEST_RUN)
+        return None if (self.child.returncode, out, error) == (0, b"", b"") else f"{self.child.returncode} {out} {error}"
+
+
+def same(owed, shown):
+    """What is wrong with a value, or None."""
+    return None if owed == shown else f"want {owed}, have {shown}"
+
+
+UP_B = "ok\nup b-1@x\nstarted web b-1@x normal\n"
+
+
+def one_process(program):
+    """All commands are made by one process of the program, but behind a line that is none."""
+    with Files() as files:
+        file, calls = files.path("cluster", CLUSTER), Calls(files, program)
+        done = talk(calls.path, "boot b-1@x\n# A note.\n\n" + "tick 1\n" * 400 + "undo\ncrash b-1@x\n", file)
+        yield "many commands", fault_of(done, 0, (BANNER + UP_B + "ok\n" * 401 + "ok\nended b-1@x\n").encode())
+        yield "many commands: one process", same(1, len(calls.runs()))
+        yield "many commands: it has ended", same([False], list(map(is_alive, calls.runs())))
+        calls, bad = Calls(files, program), "that is no command: tick MILLISECONDS\n"
+        done = talk(calls.path, "boot b-1@x\ntick\ntick -1\ntick 7\nredo\nshow\nundo_all\n", file)
+        yield "bad lines in between", fault_of(done, 0, (
+            BANNER + UP_B + bad + bad + "ok\nrefused at_end\nok\nnow 7\nnode a@x down 0\nnode b-1@x up 1\n"
+            "  running web permanent normal\napp web running b-1@x\nok 2\n").encode())
+        yield "bad lines in between: a process behind each", same(3, len(calls.runs()))
+        # The script is more than a pipe holds, and so are its answers.
+        long, calls = files.path("long", CLUSTER + "===\nboot b-1@x\n" + "tick 1\n" * 20_000), Calls(files, program)
+        owed = BANNER.replace("1;", "1, behind 20001 commands of the script;") + "ok\nok\ncommand?\nok 20001\n"
+        done = talk(calls.path, "undo\nredo\ncommand?\nundo_all\n", long)
+        yield "a long script", fault_of(done, 0, owed.replace("command?", "that is no command: help lists them").encode())
+        yield "a long script: one process, and one behind the bad line", same(2, len(calls.runs()))
+
+
+def deaths(program):
+    """Each answer comes before the next line is entered. Where the process has died, a line tells it and nothing is lost."""
+    with Files() as files:
+        file, calls = files.path("cluster", CLUSTER), Calls(files, program)
+        with Piped(calls.path, file) as piped:
+            yield "an answer before the next line", piped.fault("boot b-1@x\n", BANNER + UP_B) or piped.fault("tick 5\n", "ok\n")
+            os.kill(calls.runs()[0], signal.SIGKILL)
+            yield "it was killed", piped.fault("tick 6\n", f"{file}: {calls.path} was ended by signal 9\n")
+            yield "on behind the commands before", piped.fault("crash b-1@x\n", "ok\nended b-1@x\n") or piped.fault("undo_all\n", "ok 3\n")
+            os.kill(calls.runs()[1], signal.SIGKILL)
+            os.remove(calls.path)
+            yield "it was killed again", piped.fault("redo\n", f"{file}: {calls.path} was ended by signal 9\n")
+            yield "it isn't there", piped.fault("redo\n", f"{calls.path} can't be run: {calls.path}: No such file or directory\n")
+            calls.make()
+            yield "it is there again", piped.fault("redo\n", "ok\n") or piped.fault("crash a@x\n", "refused S5 not_alive\n")
+            yield "its end", piped.end()
+        yield "three processes, of which none is left", same([False] * 3, list(map(is_alive, calls.runs())))
+        calls = Calls(files, program)
+        with Piped(calls.path, file) as piped:
+            yield "it goes on", piped.fault("boot b-1@x\n", BANNER + UP_B)
+            piped.child.kill()
+            yield "the companion was killed", ends(calls.runs()[0])
+        for name, first, told in [
+                ("an older program", 'case "$*" in *--interactive*) exit 1 ;; esac\n',
+                 "{program} is older than this tool: its `run` has no --interactive"),
+                ("one that ends at once", 'case "$1" in run) exit 0 ;; esac\n', "{file}: {program} ended with status 0"),
+                ("one that refuses nothing", 'case "$1" in run) exit 2 ;; esac\n', "{file}: {program} ended with status 2"),
+                ("one that tells no bad line", 'case "$1" in run) exit 3 ;; esac\n', "{file}: {program} ended with status 3"),
+                ("one that answers something else", 'case "$1" in run) while read -r line; do echo "{\\"line\\":1}"; done; exit ;; esac\n',
+                 "{program} isn't the program: it doesn't answer each command")]:
+            calls = Calls(files, program, first)
+            done = talk(calls.path, "boot b-1@x\n", file)
+            owed = (2, b"", f"shell: {told.format(program=calls.path, file=file)}\n".encode())
+            yield f"at the start: {name}", same(owed, (done.returncode, done.stdout, done.stderr))
+
+
+def interrupts(program):
+    """Ctrl-C at the prompt leaves the process alone; where an answer is waited for it leaves the command."""
+    with Files() as files:
+        file, calls = files.path("cluster", CLUSTER), Calls(files, program)
+        with Terminal(calls.path, file) as terminal:
+            yield "Ctrl-C: a command", terminal.fault("", "0 ms> ") or terminal.fault("boot b-1@x\r", "up b-1@x\n", "0 ms> ")
+            yield "Ctrl-C at the prompt", terminal.fault("crash", "crash") or terminal.fault("\x03", "0 ms> ")
+            yield "Ctrl-C: the next command", terminal.fault("tick 5\r", "ok\n", "5 ms> ")
+            yield "Ctrl-C: the same process", same(1, len(calls.runs()))
+            stopped = calls.runs()[0]
+            os.kill(stopped, signal.SIGSTOP)
+            yield "Ctrl-C where it doesn't answer", terminal.fault("tick 6\r", "tick 6\n") or terminal.fault("\x03", "5 ms> ")
+            yield "Ctrl-C: that process has ended", ends(stopped)
+            yield "Ctrl-C: the command wasn't made", terminal.fault("tick 7\r", "ok\n", "12 ms> ")
+            yield "Ctrl-C: another process", same(2, len(calls.runs()))
+            yield "Ctrl-C: the end", terminal.fault("\x04", "\n") or same(0, terminal.status())
+        yield "Ctrl-C: no process is left", same([False] * 2, list(map(is_alive, calls.runs())))
+
+
 # Behind the crash of a@x web is lost for 700 ms, and far for 1300.
 TWO_TIMERS = "".join(
     f"{{node, {node}, [{{kernel, [{{distributed, [{{web, 700, [a@x, b@x]}}, {{far, 1300, [a@x, b@x]}}]}}]}},\n"
@@ -411,4 +571,5 @@ def faults(program):
     yield "--help", fault_of(done, 0, None) or (None if b"save PATH" in done.stdout else f"{done}")
 
 
-TESTS = (conversations, live_nodes, second_profile, banners, like_a_run, stories, keys, history, colours, timers, faults)
+TESTS = (conversations, live_nodes, second_profile, banners, like_a_run, stories, keys, history, colours, one_process, deaths, interrupts, timers,
+         faults)
