@@ -1,4 +1,5 @@
-"""What the tests of companions/gather share: running it, what is wrong with a finished run, and a release at three nodes."""
+"""What the tests of companions/gather share: running it, what is wrong with a finished run, a release at three nodes, and one of
+Elixir's Mix."""
 import os
 import re
 import subprocess
@@ -107,3 +108,31 @@ def shop(folder):
     assert tar.startswith("{ok,"), tar
     os.mkdir(os.path.join(folder, "target"))
     subprocess.run(["tar", "xzf", "../shop.tar.gz"], cwd=os.path.join(folder, "target"), check=True, timeout=LONGEST_RUN)
+
+
+# ---- A release of Elixir's Mix
+
+MIX = """defmodule Duo.MixProject do
+  use Mix.Project
+  def project, do: [app: :duo, version: "0.3.0", releases: [duo: [include_executables_for: [:unix]]]]
+  def application, do: [mod: {Duo, [size: 5]}, extra_applications: [:logger]]
+end
+"""
+MIX_CONFIG = """import Config
+config :kernel, distributed: [{:duo, 5000, [:a@host1, :b@host2]}], sync_nodes_optional: [:a@host1, :b@host2]
+config :duo, rate: 1.5, names: %{a: "x"}
+"""
+MIX_FILES = {
+    "mix.exs": MIX, "config/config.exs": MIX_CONFIG, "config/runtime.exs": "import Config\nconfig :duo, port: 1\n",
+    "rel/vm.args.eex": "## Of <%= @release.name %>\n-kernel sync_nodes_timeout 10000\n",
+    "lib/duo.ex": "defmodule Duo do\n  use Application\n  def start(_, _), do: Supervisor.start_link([], strategy: :one_for_one)\nend\n"}
+
+
+def mixed(folder):
+    """Makes a release of Mix in a folder, and gives where it lies there."""
+    for name, text in MIX_FILES.items():
+        write(folder, name, text)
+    made = subprocess.run(["mix", "release"], cwd=folder, capture_output=True, text=True, timeout=LONGEST_RUN,
+                          env={**os.environ, "MIX_ENV": "prod", "LC_ALL": "C.UTF-8", "HOME": folder})
+    assert made.returncode == 0, made.stdout + made.stderr
+    return "_build/prod/rel/duo"

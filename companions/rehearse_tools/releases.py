@@ -1,6 +1,7 @@
 """From releases to a cluster file, by gather."""
 import errno
 import os
+import re
 import shlex
 import subprocess
 from collections.abc import Sequence
@@ -13,12 +14,16 @@ from rehearse_tools.inputs import lines_of, read_text, split_input, to_text
 ARCHIVES = (".tar.gz", ".tgz")
 SELF, WARNING = "gather: ", "gather: warning: "
 CLUSTER_FILE = "cluster.txt"
+# How gather tells in a comment which release a node has: `% NODE: release NAME VERSION by FILE`, as its boot script or .rel file has it.
+OF_NODE = re.compile(r"^% .*?: release (.+?) \S+ by ", re.MULTILINE)
 
 
 @dataclass(frozen=True)
 class Gathered:
-    """A cluster file, how it is called, what gather warned of, and the command that makes it, if any does."""
+    """A cluster file, the names of its releases, how it is called in an error, what gather warned of, and the command that makes it, if any
+    does."""
     cluster: str
+    name: str
     source: str
     warnings: list[str]
     command: str
@@ -62,7 +67,7 @@ def gather_words(releases: Sequence[Release], more: Sequence[str]) -> list[str]:
 def gathered(words: Sequence[str], more: Sequence[str]) -> Gathered:
     """The cluster file of some releases, or the one that the only word names."""
     if len(words) == 1 and is_cluster_file(words[0]):
-        return Gathered(split_input(read_text(words[0])).cluster, words[0], [], "")
+        return Gathered(split_input(read_text(words[0])).cluster, words[0], words[0], [], "")
     releases = [release_of(word) for word in words]
     for release in releases:
         if not os.path.exists(release.path):
@@ -76,5 +81,6 @@ def gathered(words: Sequence[str], more: Sequence[str]) -> Gathered:
     told = lines_of(to_text(done.stderr))
     if done.returncode != 0:
         raise Refused(" ".join(line.removeprefix(SELF) for line in told if not line.startswith("Try ")) or "gather failed")
-    return Gathered(to_text(done.stdout), ", ".join(release.path for release in releases),
+    cluster, source = to_text(done.stdout), ", ".join(release.path for release in releases)
+    return Gathered(cluster, ", ".join(dict.fromkeys(OF_NODE.findall(cluster))) or source, source,
                     [line.removeprefix(WARNING) for line in told], f"companions/rehearse-tools gather {shlex.join(asked)} > {CLUSTER_FILE}")

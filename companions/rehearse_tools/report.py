@@ -48,7 +48,7 @@ def command_line() -> CommandLine:
     line = CommandLine("report", __doc__)
     line.add_argument("releases", metavar="RELEASE", nargs="+", help="a release, perhaps with :NODE,NODE.. behind it; or a cluster file")
     line.add_argument("-o", "--output", metavar="PAGE", help="the file to write (default: standard output)")
-    line.add_argument("--title", help="the title of the page (default: the names of the releases)")
+    line.add_argument("--title", help="the title of the page (default: the names that the releases give themselves)")
     line.add_argument("--crashes", metavar="K", type=count, default=2, help="every loss of up to so many nodes (default: 2)")
     line.add_argument("--env", metavar="NAME=VALUE", action="append", default=[], help="as for gather; may be repeated")
     line.add_argument("--needed", action="store_true", help="as for gather: rehearses only what is distributed and what that needs")
@@ -124,7 +124,7 @@ def report_of(given: Namespace, program: Program) -> bytes:
     tries = Tries(courses, found, verdicts, status_of(answers) == NONE_DIFFERS, names)
     text = joined(parts.cluster, [*parts.base, *(line for plan in parts.plans for line in plan.lines)])
     asked = [*parts.base, *scope.lines(apps)] if found else []
-    return rendered("report.html.j2", title=given.title or f"What {release.source} survives", maker="rehearse-tools report",
+    return rendered("report.html.j2", title=given.title or f"What {release.name} survives", maker="rehearse-tools report",
                     warnings=release.warnings, commands=repeated(release, given.crashes, asked), cluster=parts.cluster, base=parts.base,
                     explored=found.told(scope) if found else "", **names_shown(names),
                     **facts_of(tries, answers, parts.plans, given.crashes),

@@ -3,7 +3,7 @@ that may be misspelt, and a release of Elixir's Mix."""
 import os
 import subprocess
 
-from gathered import SHOP, SHOP_COMMENTS, THREE, gather, refusal, shop, wrong_with
+from gathered import SHOP, SHOP_COMMENTS, THREE, gather, mixed, refusal, shop, wrong_with
 from groups import Group
 from releases import application, release, write
 from support import LONGEST_RUN, difference, in_folder
@@ -120,16 +120,6 @@ def misspelt(program, folder):
     yield "an application kernels", None if told == MISSPELT.replace(MISSPELT.splitlines(keepends=True)[1], "") else told
 
 
-MIX = """defmodule Duo.MixProject do
-  use Mix.Project
-  def project, do: [app: :duo, version: "0.3.0", releases: [duo: [include_executables_for: [:unix]]]]
-  def application, do: [mod: {Duo, [size: 5]}, extra_applications: [:logger]]
-end
-"""
-MIX_CONFIG = """import Config
-config :kernel, distributed: [{:duo, 5000, [:a@host1, :b@host2]}], sync_nodes_optional: [:a@host1, :b@host2]
-config :duo, rate: 1.5, names: %{a: "x"}
-"""
 MIX_CLUSTER = "".join(f"""{{node, {node}, [{{kernel, [{{distributed, [{{duo, 5000, [a@host1, b@host2]}}]}},
   {{sync_nodes_optional, [a@host1, b@host2]}}, {{sync_nodes_timeout, 10000}}]}},
   {{rehearse, [{{boot, [{{duo, permanent}}]}}, {{platform, [compiler, elixir, sasl, logger]}}]}}]}}.
@@ -138,14 +128,7 @@ MIX_CLUSTER = "".join(f"""{{node, {node}, [{{kernel, [{{distributed, [{{duo, 500
 
 def mix_release(program, folder):
     """A release of Elixir's Mix, with kernel parameters in its configuration and in its vm.args."""
-    for name, text in (("mix.exs", MIX), ("config/config.exs", MIX_CONFIG), ("config/runtime.exs", "import Config\nconfig :duo, port: 1\n"),
-                       ("rel/vm.args.eex", "## Of <%= @release.name %>\n-kernel sync_nodes_timeout 10000\n"),
-                       ("lib/duo.ex", "defmodule Duo do\n  use Application\n  def start(_, _), do: Supervisor.start_link([], strategy: :one_for_one)\nend\n")):
-        write(folder, name, text)
-    made = subprocess.run(["mix", "release"], cwd=folder, capture_output=True, text=True, timeout=LONGEST_RUN,
-                          env={**os.environ, "MIX_ENV": "prod", "LC_ALL": "C.UTF-8", "HOME": folder})
-    assert made.returncode == 0, made.stdout + made.stderr
-    done = gather(folder, "--release", "_build/prod/rel/duo", "--node", "a@host1", "--node", "b@host2")
+    done = gather(folder, "--release", mixed(folder), "--node", "a@host1", "--node", "b@host2")
     yield "a release of Mix", wrong_with(program, done, MIX_CLUSTER, ("Left out: the sections duo, elixir.",))
 
 

@@ -5,9 +5,12 @@ import json
 import os
 import re
 import subprocess
+import tarfile
 
 from browser import Browser
+from gathered import mixed
 from groups import Group
+from releases import write
 from support import LONGEST_RUN, TOP, in_folder, read
 
 NEEDS = ("jinja2",)
@@ -53,6 +56,12 @@ def part(page, name):
     return text_of(found[2] or found[4]) if found else f"there is no {name}"
 
 
+def title_of(page):
+    """The title of a page."""
+    found = re.search("<title>(.*?)</title>", page)
+    return found and html.unescape(found[1])
+
+
 def row(page, app):
     """The cells of an application's row."""
     rows = [[text_of(cell) for cell in re.split(r"</t[dh]>", cells)[:-1]]
@@ -89,6 +98,7 @@ def losses(program, folder):
         f"./rehearse explore --states 20000 {path} - << 'EOF' {' '.join(asked)} EOF "
         "companions/rehearse-tools live --plans plans.txt companions/rehearse-tools page --sweep plans.txt > plans.html"))
     yield "the plans step by step", None if page.count("class=open data-plan=") == 3 else page[-2000:]
+    yield owed("the title", title_of(page), f"What {path} survives")
 
 
 def safe(program, folder):
@@ -216,6 +226,7 @@ def from_release(program, folder):
     yield owed("billing", row(page, "billing"), ["billing", "a@host1", "safe", "none", away, "", "0"])
     yield owed("report", row(page, "report"), ["report", "c@host3", "not safe", "a@host1 + c@host3", "2000 ms (c@host3, b@host2+c@host3)",
                                               "10000 ms (a@host1+c@host3)", "0"])
+    yield owed("its title", title_of(page), "What shop survives")
     command = part(page, "commands").split(" ./rehearse check")[0]
     yield owed("the command of the cluster file", command, "companions/rehearse-tools gather --release target --named > cluster.txt")
     done = report(program, "--crashes", "1", "target:a@host1,b@host2,c@host3", cwd=folder)
@@ -224,6 +235,41 @@ def from_release(program, folder):
     done = report(program, "target:a@host1", cwd=folder)
     is_right = done.returncode == 2 and "names b@host2, which isn't given: add --node b@host2" in done.stderr and not done.stdout
     yield "a node that isn't given", None if is_right else f"{done}"[:2000]
+
+
+THREE_NODES = """[{kernel, [{distributed, [{web, 5000, [a@x, b@x]}, {far, 5000, [c@x]}]}, {sync_nodes_optional, [a@x, b@x, c@x]},
+  {sync_nodes_timeout, 1000}]}]."""
+
+
+def unpacked(folder, where, name, app):
+    """Writes a release of one application, as it lies in a folder when it was unpacked, but without a boot script."""
+    write(folder, f"{where}/releases/start_erl.data", "1 7.1\n")
+    write(folder, f"{where}/releases/7.1/start.rel", f'{{release, {{"{name}", "7.1"}}, {{erts, "1"}}, [{{kernel, "1"}}, {{stdlib, "1"}}, {{{app}, "1.0"}}]}}.\n')
+    write(folder, f"{where}/releases/7.1/sys.config", THREE_NODES)
+    write(folder, f"{where}/lib/{app}-1.0/ebin/{app}.app", f'{{application, {app}, [{{vsn, "1.0"}}, {{applications, [kernel, stdlib]}}]}}.\n')
+
+
+def titles(program, folder):
+    """The title has the names that the releases give themselves, each once, and not those of their folders or archives."""
+    unpacked(folder, "first", "web shop", "web")
+    unpacked(folder, "second", "edge", "far")
+    with tarfile.open(os.path.join(folder, "packed.tar.gz"), "w:gz") as archive:
+        for name in ("releases", "lib"):
+            archive.add(os.path.join(folder, "second", name), name)
+    for name, words, title in [
+            ("a folder and an archive", ["first:a@x,b@x", "packed.tar.gz:c@x"], "What web shop, edge survives"),
+            ("the other way round", ["packed.tar.gz:c@x", "first:b@x,a@x"], "What edge, web shop survives"),
+            ("two of one name", ["first:a@x", "first:b@x", "second:c@x"], "What web shop, edge survives"),
+            ("another title", ["first:a@x,b@x", "second:c@x", "--title", "Mine"], "Mine")]:
+        done = report(program, "--no-live", "--no-explore", "--crashes", "1", *words, cwd=folder)
+        yield owed(f"the title of {name}", (title_of(done.stdout), done.stderr), (title, ""))
+
+
+def mix_title(program, folder):
+    """A release of Elixir's Mix gives itself a name too."""
+    os.rename(os.path.join(folder, mixed(folder)), os.path.join(folder, "unpacked"))
+    done = report(program, "--no-live", "--crashes", "1", "unpacked", cwd=folder)
+    yield owed("the title of a release of Mix", title_of(done.stdout), "What duo survives")
 
 
 def in_browser(program, folder):
@@ -249,4 +295,5 @@ def in_browser(program, folder):
 
 
 TESTS = (*(Group(in_folder(tests)) for tests in (losses, safe, otherwise, otherwise_booted, lists, no_lists, unstarted, faults)),
-         Group(in_folder(in_browser), needs=("chromium",)), Group(in_folder(from_release), needs=("erl", "escript", "erlc")))
+         Group(in_folder(in_browser), needs=("chromium",)), Group(in_folder(from_release), needs=("erl", "escript", "erlc")),
+         Group(in_folder(titles), needs=("escript",)), Group(in_folder(mix_title), needs=("mix", "escript")))
