@@ -13,14 +13,14 @@ from rehearse_tools.program import Program
 from rehearse_tools.reading import fields_of
 from rehearse_tools.words import plural
 
-# More states than that aren't kept: of large clusters shorter lists are tried then.
-MOST_STATES = "20000"
+# More states than that aren't kept, nor more MiB of keys, which takes some seconds: of large clusters shorter lists are tried then.
+LIMITS = ("--states", "200000", "--memory", "256")
 
 
 @dataclass(frozen=True)
 class Scope:
-    """Which lists are tried: of up to so many events, with at most so many nodes not up, and how long a wait is."""
-    steps: int
+    """Which lists are tried: of up to so many events, or of any length; with at most so many nodes not up; and how long a wait is."""
+    steps: Optional[int]
     down: int
     wait: int
 
@@ -29,23 +29,28 @@ class Scope:
         yield from ("may crash *", "may boot *")
         if self.wait:
             yield f"may tick {self.wait}"
-        yield from (f"steps {self.steps}", f"down {self.down}")
+        if self.steps is not None:
+            yield f"steps {self.steps}"
+        yield f"down {self.down}"
         yield from (f"ask app {app} running" for app in apps)
 
 
 @dataclass(frozen=True)
 class Explored:
-    """What was found: in how many states, behind lists of up to how many events, and for each application a shortest list behind which
-    it runs nowhere though no timer is set, or None."""
+    """What was found: in how many states, behind lists of up to how many events, if not behind all, whether these are all that were asked
+    for, and for each application a shortest list behind which it runs nowhere though no timer is set, or None."""
     states: int
-    steps: int
+    steps: Optional[int]
+    is_finished: bool
     lists: dict[str, Optional[list[str]]]
 
     def told(self, scope: Scope) -> str:
-        """What was found, in two sentences or three."""
+        """What was found, in some sentences."""
         waits = f"crashes, boots and waits of {scope.wait} ms" if scope.wait else "crashes and boots"
-        told = [f"Explored: every list of up to {self.steps} {waits}, with at most {plural(scope.down, 'node')} not up "
-                f"({plural(self.states, 'state')})."]
+        lists = f"every order of {waits}, however long" if self.steps is None else f"every list of up to {self.steps} {waits}"
+        told = [f"Explored: {lists}, with at most {plural(scope.down, 'node')} not up ({plural(self.states, 'state')})."]
+        if not self.is_finished:
+            told.append("Longer lists lead to more states than a report looks at.")
         running = [app for app, events in self.lists.items() if events is None]
         nowhere = [app for app, events in self.lists.items() if events is not None]
         if running:
@@ -58,7 +63,7 @@ class Explored:
 
 def explored(program: Program, cluster: str, base: Sequence[str], apps: Sequence[str], scope: Scope, source: str) -> Optional[Explored]:
     """What explore tells, or None where the program is older and hasn't it, or tells it only for people."""
-    lines = program.explored(joined(cluster, [*base, *scope.lines(apps)]), MOST_STATES, source)
+    lines = program.explored(joined(cluster, [*base, *scope.lines(apps)]), LIMITS, source)
     if lines is None:
         return None
     told = list(map(fields_of, lines))
@@ -66,4 +71,4 @@ def explored(program: Program, cluster: str, base: Sequence[str], apps: Sequence
     lists = [fields.get("events") for fields in told if "ask" in fields]
     if len(heads) != 1 or len(lists) != len(apps):
         raise Refused(f"{source}: {program.path} isn't the program: explore doesn't answer each question")
-    return Explored(heads[0]["states"], heads[0].get("steps", scope.steps), dict(zip(apps, lists)))
+    return Explored(heads[0]["states"], heads[0].get("steps"), heads[0]["finished"], dict(zip(apps, lists)))

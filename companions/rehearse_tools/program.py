@@ -69,9 +69,9 @@ class Program:
             raise Refused(f"{source}: lint: {self.ended(run)}")
         return findings_in(run.lines)
 
-    def explored(self, text: str, states: str, source: str) -> Optional[list[str]]:
-        """The lines of explore for an input, as JSON, with so many states at most; None where the program is older and hasn't them."""
-        run, error = self.asked(["explore", "--json", "--pick", self.pick, "--states", states], text)
+    def explored(self, text: str, limits: Sequence[str], source: str) -> Optional[list[str]]:
+        """The lines of explore for an input, as JSON, within some limits; None where the program is older and hasn't them."""
+        run, error = self.asked(["explore", "--json", "--pick", self.pick, *limits], text)
         if run.status == NO_SUBCOMMAND:
             return None
         hand_on(error)

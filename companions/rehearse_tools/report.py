@@ -26,7 +26,7 @@ from typing import Any, Optional
 from rehearse_tools.command_line import CommandLine, count, thousand
 from rehearse_tools.courses import Courses, courses_of, paired
 from rehearse_tools.endings import Refused
-from rehearse_tools.exploring import MOST_STATES, Scope, explored
+from rehearse_tools.exploring import LIMITS, Scope, explored
 from rehearse_tools.inputs import Input, Plan, joined, write_page
 from rehearse_tools.live_plans import Sweep, Verdict, judged
 from rehearse_tools.live_sides import Answer
@@ -55,8 +55,8 @@ def command_line() -> CommandLine:
     line.add_argument("--orders", metavar="N", type=thousand, default=8, help="so many orders of messages are tried by live (default: 8)")
     line.add_argument("--jobs", metavar="N", type=thousand, help="so many processes for live (default: one for each processor)")
     line.add_argument("--no-live", action="store_true", help="doesn't ask what live nodes do, which takes longest")
-    line.add_argument("--steps", metavar="N", type=count, default=6,
-                      help="explore tries every list of up to so many crashes, boots and waits (default: 6)")
+    line.add_argument("--steps", metavar="N", type=count,
+                      help="explore tries every list of up to so many crashes, boots and waits (default: of any length)")
     line.add_argument("--no-explore", action="store_true", help="doesn't ask explore")
     line.add_program()
     return line
@@ -86,7 +86,7 @@ def repeated(release: Gathered, crashes: int, asked: Sequence[str]) -> list[str]
     return [*([release.command] if release.command else []), f"./rehearse check < {release.file}", f"./rehearse lint {release.file}",
             f"companions/rehearse-tools plans {release.file} --crashes {crashes} > plans.txt",
             "./rehearse sweep --json < plans.txt | companions/rehearse-tools survey --of plans.txt --least",
-            *([f"./rehearse explore --states {MOST_STATES} {release.file} - << 'EOF'", *asked, "EOF"] if asked else []),
+            *([f"./rehearse explore {' '.join(LIMITS)} {release.file} - << 'EOF'", *asked, "EOF"] if asked else []),
             "companions/rehearse-tools live --plans plans.txt", "companions/rehearse-tools page --sweep plans.txt > plans.html"]
 
 

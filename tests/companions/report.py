@@ -19,8 +19,9 @@ ENTRY = "{node, %s, [{kernel, [{distributed, [%s]}, {sync_nodes_optional, [%s]},
 # web runs at a@x, else at b@x; one and two run at a@x, else at the same two standbys after the same time.
 PAIR, TRIPLE = ("a@x", "b@x"), ("a@x", "b@x", "c@x")
 WEB = ("{web, 5000, [a@x, b@x]}", ("web",))
-# As many states are reached there by up to six crashes, boots and waits of 5000 ms, as the search of tests/explored.py counts them.
-STATES = 16
+# As many states are reached there by crashes, boots and waits of 5000 ms, as the search of tests/explored.py counts them; by up to two of
+# them; and if one node at most is down.
+STATES, STATES_BY_TWO, STATES_OF_ONE = 16, 5, 4
 TOGETHER = ("{one, 2000, [a@x, {b@x, c@x}]}, {two, 2000, [a@x, {b@x, c@x}]}", ("one", "two"))
 
 
@@ -77,14 +78,14 @@ def owed(name, have, want):
 def losses(program, folder):
     """An application of two nodes survives the loss of each, and not of both."""
     path = written(folder, cluster(PAIR, WEB))
-    asked = ["boot a@x", "boot b@x", "may crash *", "may boot *", "may tick 5000", "steps 6", "down 2", "ask app web running"]
+    asked = ["boot a@x", "boot b@x", "may crash *", "may boot *", "may tick 5000", "down 2", "ask app web running"]
     done = report(program, path)
     yield "a cluster file of two nodes", None if done.returncode == 0 and not done.stderr else f"{done}"[:2000]
     page = done.stdout
     yield owed("in one sentence", part(page, "headline"),
                "Of 1 distributed application, over every loss of up to 2 nodes (3 plans): 1 application is not safe.")
     yield owed("every order of events", part(page, "explored"),
-               f"Explored: every list of up to 6 crashes, boots and waits of 5000 ms, with at most 2 nodes not up ({STATES} states). "
+               f"Explored: every order of crashes, boots and waits of 5000 ms, however long, with at most 2 nodes not up ({STATES} states). "
                "Behind some of them this one runs nowhere: web.")
     yield owed("its row", row(page, "web"), ["web", "a", "not safe", "a + b", "5000 ms (a)", "5000 ms (a+b)", "0"])
     told = part(page, "loss-web-1")
@@ -95,7 +96,7 @@ def losses(program, folder):
     yield owed("the commands to repeat it", commands, (
         f"./rehearse check < {path} ./rehearse lint {path} companions/rehearse-tools plans {path} --crashes 2 > plans.txt "
         "./rehearse sweep --json < plans.txt | companions/rehearse-tools survey --of plans.txt --least "
-        f"./rehearse explore --states 20000 {path} - << 'EOF' {' '.join(asked)} EOF "
+        f"./rehearse explore --states 200000 --memory 256 {path} - << 'EOF' {' '.join(asked)} EOF "
         "companions/rehearse-tools live --plans plans.txt companions/rehearse-tools page --sweep plans.txt > plans.html"))
     yield "the plans step by step", None if page.count("class=open data-plan=") == 3 else page[-2000:]
     yield owed("the title", title_of(page), f"What {path} survives")
@@ -167,7 +168,32 @@ exit 9
     yield "its list", None if told.startswith("It survives each loss") and told.endswith("crash a@x boot a@x") else told
     yield owed("how far it looked", part(page, "explored"),
                "Explored: every list of up to 3 crashes, boots and waits of 5000 ms, with at most 1 node not up (7 states). "
-               "Behind some of them this one runs nowhere: web.")
+               "Longer lists lead to more states than a report looks at. Behind some of them this one runs nowhere: web.")
+
+
+def lengths(program, folder):
+    """How long the lists are that were tried: of any length, as many as were asked for, or as many as there is room for."""
+    path = written(folder, cluster(PAIR, WEB))
+    small = written(folder, f"""#!/bin/sh
+[ "$*" != 'explore --json --pick first --states 200000 --memory 256' ] || exec "{program}" explore --json --states 8
+exec "{program}" "$@"
+""", "small")
+    os.chmod(small, 0o700)
+    runs = "Behind each of them, where no timer is set, this application runs: web."
+    nowhere = "Behind some of them this one runs nowhere: web."
+    some = "crashes, boots and waits of 5000 ms"
+    for name, words, other, steps, told in [
+            ("of any length", ["--crashes", "1"], program, [],
+             f"every order of {some}, however long, with at most 1 node not up ({STATES_OF_ONE} states). {runs}"),
+            ("two steps", ["--steps", "2"], program, ["2"],
+             f"every list of up to 2 {some}, with at most 2 nodes not up ({STATES_BY_TWO} states). {runs}"),
+            ("more steps than there are", ["--steps", "6"], program, ["6"],
+             f"every order of {some}, however long, with at most 2 nodes not up ({STATES} states). {nowhere}"),
+            ("no more room", [], small, [], f"every list of up to 2 {some}, with at most 2 nodes not up (8 states). Longer lists lead to "
+             f"more states than a report looks at. {nowhere}")]:
+        page = report(other, "--no-live", *words, path).stdout
+        yield owed(name, part(page, "explored"), f"Explored: {told}")
+        yield owed(f"{name}: the steps that are asked for", re.findall(r"\bsteps (\d+)", part(page, "commands")), steps)
 
 
 def no_lists(program, folder):
@@ -294,6 +320,6 @@ def in_browser(program, folder):
         browser.close()
 
 
-TESTS = (*(Group(in_folder(tests)) for tests in (losses, safe, otherwise, otherwise_booted, lists, no_lists, unstarted, faults)),
+TESTS = (*(Group(in_folder(tests)) for tests in (losses, safe, otherwise, otherwise_booted, lists, lengths, no_lists, unstarted, faults)),
          Group(in_folder(in_browser), needs=("chromium",)), Group(in_folder(from_release), needs=("erl", "escript", "erlc")),
          Group(in_folder(titles), needs=("escript",)), Group(in_folder(mix_title), needs=("mix", "escript")))
