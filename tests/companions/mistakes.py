@@ -1,6 +1,7 @@
 """Tests of what each companion does where something is wrong with its surroundings: one line on standard error, a status, and no
 traceback. A row is a mistake, and it is made with every companion that can make it."""
 import os
+import shutil
 import signal
 import subprocess
 import sys
@@ -183,10 +184,21 @@ def all_companions(_: str) -> Iterator[Test]:
     yield "every companion has a row", None if there == {*CALLS, "rehearse-tools"} - set(NEW) else f"{there}"
 
 
+def alone(_: str, folder: str) -> Iterator[Test]:
+    """A companion that was copied without the package tells what it lacks; by a link it lacks nothing."""
+    for name in sorted({*CALLS, "rehearse-tools"} - set(NEW)):
+        copy, link = os.path.join(folder, name), os.path.join(folder, f"link-to-{name}")
+        shutil.copy(os.path.join(COMPANIONS, name), copy)
+        yield f"{name}: copied alone", line_fault(name, finished([copy]), 2, f"the folder rehearse_tools isn't in {os.path.realpath(folder)}:")
+        os.symlink(os.path.join(COMPANIONS, name), link)
+        done = finished([link, "--help"])
+        yield f"{name}: by a link", None if (done.returncode, done.stderr) == (0, "") and done.stdout.startswith("usage: ") else f"{done}"
+
+
 # Its lines tell of an error in words that Erlang has for it.
 ERLANG = ("gather", "replay")
 PYTHON = ("plans", "survey", "shell", "live", "compare", "case")
-TESTS = (all_companions, own_faults, *(
+TESTS = (all_companions, own_faults, in_folder(alone), *(
     Group(in_folder(tests), items=names, needs=needs)
     for tests in (files, programs, outputs, interrupted)
     for names, needs in ((PYTHON, ()), (("page", "report"), ("jinja2",)), (("spread",), ("parallel",)), (("gather", "replay"), ("escript",)))))
