@@ -25,7 +25,7 @@ import front
 import made_pages
 import shelves
 from groups import Group, command_line, finish
-from support import LONGEST_RUN, TOP, run
+from support import LONGEST_RUN, TOP, files_below, run
 
 ANSWERS = "docs/SCRIPTS.md"
 LIVE = "docs/LIVE_OTP.md"
@@ -121,7 +121,8 @@ def pages_are_few(program):
 
 
 def links(program):
-    """Each link leads somewhere, and so does each name of a file in backquotes."""
+    """Each link leads somewhere, and so does each name of a file in backquotes; that of a tool's or a test's may lack its folders."""
+    there = [path for folder in ("companions", "docs", "tests") for path in files_below(os.path.join(TOP, folder))]
     for document in documents():
         text = text_of(document)
         found, short = targets(text)
@@ -129,6 +130,8 @@ def links(program):
         wrong = [f"[{name}] has no target" for name in sorted(short)]
         wrong += [fault for fault in (link_fault(document, target) for target in found) if fault]
         wrong += [f"there is no {name}" for name in named if not os.path.exists(os.path.join(TOP, name))]
+        code = re.findall(r"`([\w./-]+\.(?:py|erl|js|j2))`", text)
+        wrong += [f"there is no {name}" for name in code if not any(path.endswith(f"/{name}") for path in there)]
         yield f"links of {document}", "; ".join(wrong) or None
 
 
