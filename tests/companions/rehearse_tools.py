@@ -122,9 +122,10 @@ def types(_):
 
 
 def lint(_):
-    """Nothing is imported or named in vain."""
-    done = subprocess.run(["pyflakes3", PACKAGE], capture_output=True, timeout=LONGEST_RUN)
-    yield "pyflakes3", None if done.returncode == 0 else done.stdout.decode()[-2000:]
+    """Nothing is imported or named in vain, in the package, in the tests, and in what makes the documents."""
+    for path in (PACKAGE, os.path.join(TOP, "tests"), os.path.join(TOP, "docs", "making")):
+        done = subprocess.run(["pyflakes3", path], capture_output=True, timeout=LONGEST_RUN)
+        yield f"pyflakes3 {os.path.relpath(path, TOP)}", None if done.returncode == 0 else done.stdout.decode()[-2000:]
 
 
 def sizes(_):
