@@ -54,6 +54,12 @@ def variables(program, folder):
     write(folder, "words.src", "\n-setcookie ${FIRST}#${NOT_SET}\n")
     done = gather(folder, *given[:2], "--args", "words.src", *given[3:], *both)
     yield "an args file with a # in a word", refusal(done, 2, "words.src line 2: ${NOT_SET} isn't set")
+    # What isn't read may be any word.
+    write(folder, "cookie.src", "-kernel sync_nodes_optional \"['${FIRST}']\"\n-setcookie ${COOKIE}\n")
+    owed = "".join(VARIABLES % (node, 5000, "") for node in ("a@host1", "b@host2")) + WEB
+    for cookie in ("any", "other-1"):
+        done = gather(folder, *given[:2], "--args", "cookie.src", *given[3:], "--env", f"COOKIE={cookie}", *both)
+        yield f"an args file with the cookie {cookie}", wrong_with(program, done, owed)
     write(folder, "vm.args.src", "# Nothing.\n-kernel sync_nodes_timeout '{'\n")
     done = gather(folder, *given, *both)
     yield "an args file without a term", refusal(done, 2, "vm.args.src line 2: -kernel sync_nodes_timeout {: this is no term")
