@@ -76,7 +76,7 @@ def runs_of(tried: Sequence[Tried]) -> list[list[Tried]]:
     return found
 
 
-def time_of(event: str) -> int:
+def time_passing(event: str) -> int:
     """How long an event lets time pass."""
     word, *rest = words_of(event)
     return int(rest[0]) if word == "tick" else 0
@@ -151,7 +151,7 @@ def gaps_in(plan: str, state: Report, steps: Sequence[tuple[str, Answer]]) -> li
     for event, answer in steps:
         for notice in answer.notices:
             places.follow(notice, now if notice.time is None else notice.time)
-        now += time_of(event)
+        now += time_passing(event)
     return places.found + [(app, Gap(now - begin, plan, False)) for app, begin in places.since.items()]
 
 

@@ -6,7 +6,7 @@ timer fires within them, so that each loss and each start has its moment. That i
 from collections.abc import Iterator, Sequence
 from dataclasses import dataclass
 
-from rehearse_tools.courses import time_of
+from rehearse_tools.courses import time_passing
 from rehearse_tools.endings import Refused
 from rehearse_tools.inputs import Plan, to_bytes, words_of
 from rehearse_tools.outcomes import Outcome
@@ -81,7 +81,7 @@ def pieces_of(event: str, before: Report) -> list[str]:
     within a tick. Another event is one piece."""
     if not is_tick(event):
         return [event]
-    end = before.now + time_of(event)
+    end = before.now + time_passing(event)
     stops = [before.now, *before.dues_until(end), end]
     return [f"tick {to - since}" for since, to in zip(stops, stops[1:])]
 
