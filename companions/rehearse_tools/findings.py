@@ -1,11 +1,11 @@
-"""What the program's `lint` finds in an input (docs/LINT.md). Its lines are read here, and nowhere else."""
-import re
+"""What the program's `lint` finds in an input (docs/LINT.md). Its lines of JSON are read here, and nowhere else."""
 import shlex
 from collections.abc import Sequence
 from dataclasses import dataclass
 from typing import Optional
 
 from rehearse_tools.endings import Refused
+from rehearse_tools.reading import Fields, fields_of
 from rehearse_tools.words import plural
 
 KINDS = ("error", "warning", "hint")
@@ -13,8 +13,6 @@ KINDS = ("error", "warning", "hint")
 COUNTING = ("error", "warning")
 # How lint ends where nothing counts, and where something does.
 NOTHING, FOUND = 0, 9
-LINE = re.compile(r"(?:([0-9]+): )?(error|warning|hint) (\w+): (.*)", re.DOTALL)
-COUNTS = re.compile("([0-9]+) errors, ([0-9]+) warnings, ([0-9]+) hints")
 
 
 @dataclass(frozen=True)
@@ -62,21 +60,28 @@ class Findings:
         return [Row(finding, "" if finding.line is None else lines[finding.line - 1].strip()) for finding in self.all]
 
 
+def told_by(line: str) -> Fields:
+    """The fields of a line, or none where it has none."""
+    try:
+        return fields_of(line)
+    except Refused:
+        return {}
+
+
 def finding_of(line: str) -> Finding:
-    """The finding that a line tells."""
-    found = LINE.fullmatch(line)
-    if found is None:
+    """The finding that a line tells. The way to what is at fault stands in brackets behind the words, as where lint writes for people."""
+    fields = told_by(line)
+    if fields.get("kind") not in KINDS or not {"code", "words"} <= fields.keys():
         raise Refused(f"the program's lint wrote a line that is no finding: {line[:100]}")
-    number, kind, code, words = found.groups()
-    return Finding(None if number is None else int(number), kind, code, words)
+    way = f" ({fields['path']})" if "path" in fields else ""
+    return Finding(fields.get("line"), fields["kind"], fields["code"], f"{fields['words']}{way}")
 
 
 def findings_in(lines: Sequence[str]) -> Findings:
     """The findings that the lines of a run tell. The last line has their counts."""
     *told, last = lines or [""]
-    counts = COUNTS.fullmatch(last)
     findings = Findings(tuple(map(finding_of, told)))
-    if counts is None or [findings.count(kind) for kind in KINDS] != [int(count) for count in counts.groups()]:
+    if told_by(last) != {f"{kind}s": findings.count(kind) for kind in KINDS}:
         raise Refused(f"the program's lint doesn't end with its counts: {last[:100]}")
     return findings
 

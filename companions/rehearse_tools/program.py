@@ -60,13 +60,14 @@ class Program:
         return JsonRun(run.status, run.lines)
 
     def linted(self, text: str, source: str) -> Findings:
-        """What lint finds in a cluster file, with or without a script behind it; nothing where the program is older and hasn't lint."""
-        run, error = self.asked(["lint", "--pick", self.pick], text)
+        """What lint finds in a cluster file, with or without a script behind it; nothing where the program is older and hasn't lint as
+        JSON."""
+        run, error = self.asked(["lint", "--json", "--pick", self.pick], text)
         if run.status == NO_SUBCOMMAND:
             return Findings()
         hand_on(error)
         if run.status not in (NOTHING, FOUND):
-            raise Refused(f"{source}: lint: {self.ended(run)}")
+            raise Refused(f"{source}: lint: {self.ended(JsonRun(run.status, run.lines))}")
         return findings_in(run.lines)
 
     def explored(self, text: str, limits: Sequence[str], source: str) -> Optional[list[str]]:

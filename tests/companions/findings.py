@@ -59,24 +59,33 @@ def counts_by(command, program):
 
 def reader(_):
     """The lines of lint are read as they are; others are refused."""
-    lines = ["warning no_distributed_application: no application is distributed, so none fails over",
-             "7: error C10: bad_value: a value: {a, \"b\"}", "12: hint tie: x", "1 errors, 1 warnings, 1 hints"]
+    lines = ['{"kind":"warning","code":"no_distributed_application","words":"no application is distributed, so none fails over"}',
+             '{"line":7,"kind":"error","code":"C10","words":"bad_value: a value: {a, \\"b\\"}","path":"node a@x, kernel"}',
+             '{"line":12,"kind":"hint","code":"tie","words":"x"}', '{"errors":1,"warnings":1,"hints":1}']
     owed = (Finding(None, "warning", "no_distributed_application", "no application is distributed, so none fails over"),
-            Finding(7, "error", "C10", "bad_value: a value: {a, \"b\"}"), Finding(12, "hint", "tie", "x"))
+            Finding(7, "error", "C10", "bad_value: a value: {a, \"b\"} (node a@x, kernel)"), Finding(12, "hint", "tie", "x"))
+    none = '{"errors":0,"warnings":0,"hints":0}'
     yield "lines", same(Findings(owed), findings_in(lines))
-    yield "no finding", same((), findings_in(["0 errors, 0 warnings, 0 hints"]).all)
-    for wrong in ([], lines[:3], [*lines[:3], "1 errors, 1 warnings, 2 hints"], ["what is this?", "0 errors, 0 warnings, 0 hints"],
-                  [*lines, "ok"]):
+    yield "no finding", same((), findings_in([none]).all)
+    for wrong in ([], lines[:3], [*lines[:3], lines[3].replace('"hints":1', '"hints":2')], ["what is this?", none], [*lines, "ok"],
+                  ["0 errors, 0 warnings, 0 hints"], ['{"line":3,"kind":"fault","code":"tie","words":"x"}', none],
+                  ['{"line":3,"kind":"hint","code":"tie"}', none]):
         try:
             yield f"no lines of lint: {wrong[-1:]}", f"read as {findings_in(wrong)}"
         except Refused as fault:
             yield f"no lines of lint: {wrong[-1:]}", None if str(fault).startswith("the program's lint ") else str(fault)
 
 
+# A lint that has lines for people alone, as in an older program.
+WITHOUT_JSON = """case "$*" in *--json*) exit 1 ;; esac
+echo "2: warning no_lists: a@x names nobody"; echo "0 errors, 1 warnings, 0 hints"; exit 9"""
+
+
 def other_programs(program, folder):
-    """A program that is older and has no lint is no reason to end; one whose lint ends otherwise is."""
+    """A program that is older and has no lint, or none that tells JSON, is no reason to end; one whose lint ends otherwise is."""
     for name, code, status, told in (
-            ("older", "exit 1", 0, b""), ("full", "exit 5", 2, b"plans: standard input: lint: "), ("strange", "echo yes", 2, b"plans: the program's lint ")):
+            ("older", "exit 1", 0, b""), ("older than its JSON", WITHOUT_JSON, 0, b""),
+            ("full", "exit 5", 2, b"plans: standard input: lint: "), ("strange", "echo yes", 2, b"plans: the program's lint ")):
         path = os.path.join(folder, name)
         write(folder, name, f'#!/bin/sh\n[ "$1" = lint ] && {{ cat > /dev/null; {code}; exit; }}\nexec "{program}" "$@"\n')
         os.chmod(path, 0o700)
