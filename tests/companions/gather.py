@@ -363,6 +363,9 @@ def refusals():
                          ("bytes", "ebin/bytes.app line 1: it isn't UTF-8"), ("absent", "absent: no such file")):
         yield f"refused: {name}.rel", ["--rel", name, "--lib", "ebin", "--node", "a@b"], 2, parts
     yield "refused: no release", ["--release", "ebin", "--node", "a@b"], 2, ["ebin: it has no releases/VERSION"]
+    for name, more in (("nowhere", []), ("nowhere", ["--version", "1"]), ("nowhere.tar.gz", [])):
+        yield f"refused: {' '.join([name, *more])}, which isn't there", ["--release", name, *more, "--node", "a@b"], 2, [
+            f"gather: {name}: no such file or directory\n"]
     yield "refused: no boot script", ["--boot", "good.rel", "--node", "a@b"], 2, ["good.rel: it is no boot script"]
     for name, words in (("nothing", []), ("no release", ["--node", "a@b"]), ("no value", ["--node"]),
                         ("no option", ["--nonsense", "a@b"]), ("a flag with a value", ["--bare=yes", "--node", "a@b"]), ("a word", ["a@b"]), ("twice", [*GOOD, "--node", "a@b"]),

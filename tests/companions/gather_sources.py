@@ -45,6 +45,16 @@ def variables(program, folder):
     yield "variables: --env before --node", wrong_with(program, done, owed)
     done = gather(folder, *given[:3], given[4], *both)
     yield "variables: one that isn't set", refusal(done, 2, "sys.config.src line 3: ${MAY} isn't set: give --env MAY=VALUE\n")
+    # MAY is set for a@host1, and FIRST for both by now.
+    for where, words, node in (("the first", ("--node=a@host1", "--env", "MAY=true", "--node=b@host2"), "b@host2"),
+                               ("the last", (*both, "--env", "MAY=true"), "a@host1")):
+        done = gather(folder, *given[:3], given[4], *words)
+        yield f"variables: one that is set behind {where} --node", refusal(
+            done, 2, f"sys.config.src line 3: ${{MAY}} isn't set at {node}: give --env MAY=VALUE before the first --node, since behind one "
+            "it holds for that node alone\n")
+    done = gather(folder, *given[:3], given[4], both[0], both[1], "--env=MAY=true", both[2], "--env=MAY=true")
+    yield "variables: one that is set behind each --node", wrong_with(program, done, VARIABLES % ("a@host1", 5000, "")
+                                                                      + VARIABLES % ("b@host2", 5000, ", b@host2") + WEB)
     done = gather(folder, *given, "--env", "MAY=", *both)
     yield "variables: one without default that is empty", refusal(done, 2, "sys.config.src line 3: syntax error before: '}'")
     write(folder, "vm.args.src", "-kernel sync_nodes_timeout\n  ${FIRST}\n-config other\n")

@@ -47,6 +47,7 @@ found(Dir, Pattern) -> [filename:join(Dir, F) || F <- filelib:wildcard(Pattern, 
 %% The options, with the files that lie in the folder of a release where none are given.
 with_release(#{release := Dirs} = Options) ->
     Dir = lists:last(Dirs),
+    [refuse("~ts: ~ts", [Dir, file:format_error(Why)]) || {error, Why} <- [file:read_file_info(Dir)]],
     Here = filename:join([Dir, "releases", version(Dir, Options)]),
     Rels = [F || F <- found(Here, "*.rel"), not lists:member(filename:basename(F), ["start_clean.rel", "no_dot_erlang.rel"])],
     Boots = found(Here, "start.boot") ++ [F || R <- Rels, F <- [filename:rootname(R) ++ ".boot"], filelib:is_regular(F)],

@@ -54,17 +54,27 @@ replaced([C | Rest], Mark, Inside, Line, From) -> [C | replaced(Rest, Mark, with
 within(none, $#) -> word;
 within(Inside, _) -> Inside.
 
-%% The value of a variable: of --env, of the node, of the environment; else, or where that is empty, its default.
+%% The value of a variable: of --env, of the node, of the environment; else, or where that is empty, its default. `behind` of the
+%% options is what --env says behind any --node.
 value(Word, Line, {File, Options}) ->
     [Name | Default] = string:split(Word, ":-"),
-    Given = [V || E <- lists:reverse(maps:get(env, Options, [])), [N, V] <- [string:split(E, "=")], N =:= Name],
+    Given = values(Name, env, Options),
     Own = [atom_to_list(Node) || "NODE_NAME" <- [Name], #{name := Node} <- [Options]],
     case {Given ++ Own ++ [V || V <- [os:getenv(Name)], V =/= false], Default} of
         {["" | _], [_]} -> hd(Default);
         {[Value | _], _} -> Value;
         {[], [_]} -> hd(Default);
-        {[], []} -> refuse("~ts line ~b: ${~ts} isn't set: give --env ~ts=VALUE", [File, Line, Name, Name])
+        {[], []} -> refuse("~ts line ~b: ${~ts} isn't set~ts", [File, Line, Name, advice(Name, values(Name, behind, Options), Options)])
     end.
+
+%% What one of the options that has a list of NAME=VALUE says of a variable, the last one first.
+values(Name, Option, Options) ->
+    [V || E <- lists:reverse(maps:get(Option, Options, [])), [N, V] <- [string:split(E, "=")], N =:= Name].
+
+%% How a variable is set. Behind a --node it holds for that node alone, as who set it there hasn't seen.
+advice(Name, [], _) -> text(": give --env ~ts=VALUE", [Name]);
+advice(Name, _, #{name := Node}) ->
+    text(" at ~ts: give --env ~ts=VALUE before the first --node, since behind one it holds for that node alone", [Node, Name]).
 
 %% The words of a text as erl reads an args file, each with its line: quotes hold a word together, and # begins a comment where a
 %% word could begin.
