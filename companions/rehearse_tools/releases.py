@@ -16,6 +16,8 @@ SELF, WARNING = "gather: ", "gather: warning: "
 CLUSTER_FILE = "cluster.txt"
 # How gather tells in a comment which release a node has: `% NODE: release NAME VERSION by FILE`, as its boot script or .rel file has it.
 OF_NODE = re.compile(r"^% .*?: release (.+?) \S+ by ", re.MULTILINE)
+# A variable with its value, which by the name is a secret, and is shown as `...`.
+SECRET = re.compile("^([^=]*(?:COOKIE|SECRET|PASSWORD|TOKEN|KEY)[^=]*=).*", re.DOTALL | re.IGNORECASE)
 
 
 @dataclass(frozen=True)
@@ -64,6 +66,11 @@ def gather_words(releases: Sequence[Release], more: Sequence[str]) -> list[str]:
     return [*more, *(word for release in releases for node in release.nodes for word in ("--node", node, "--release", release.path))]
 
 
+def shown(asked: Sequence[str]) -> list[str]:
+    """The words of gather as a page shows them: without the values of variables that are secrets by their names."""
+    return [SECRET.sub(r"\1...", word) if before == "--env" else word for before, word in zip(["", *asked], asked)]
+
+
 def gathered(words: Sequence[str], more: Sequence[str]) -> Gathered:
     """The cluster file of some releases, or the one that the only word names."""
     if len(words) == 1 and is_cluster_file(words[0]):
@@ -82,5 +89,6 @@ def gathered(words: Sequence[str], more: Sequence[str]) -> Gathered:
     if done.returncode != 0:
         raise Refused(" ".join(line.removeprefix(SELF) for line in told if not line.startswith("Try ")) or "gather failed")
     cluster, source = to_text(done.stdout), ", ".join(release.path for release in releases)
+    command = f"companions/rehearse-tools gather {shlex.join(shown(asked))} > {CLUSTER_FILE}"
     return Gathered(cluster, ", ".join(dict.fromkeys(OF_NODE.findall(cluster))) or source, source,
-                    [line.removeprefix(WARNING) for line in told], f"companions/rehearse-tools gather {shlex.join(asked)} > {CLUSTER_FILE}")
+                    [line.removeprefix(WARNING) for line in told], command)

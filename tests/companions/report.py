@@ -291,6 +291,23 @@ def titles(program, folder):
         yield owed(f"the title of {name}", (title_of(done.stdout), done.stderr), (title, ""))
 
 
+def secrets(program, folder):
+    """The values of variables that are secrets by their names stand nowhere in a page, and those of others in the command."""
+    unpacked(folder, "first", "web shop", "web")
+    variables = {"COOKIE": "w0rd1", "Db_Password": "w0rd2=w0rd3", "release_secret_at": "w0rd4", "APITOKEN": "w0rd5 w0rd6", "ssh_key": "w0rd7",
+                 "REGION": "north west", "NOTHING": "", "MORE": "a_key=b"}
+    write(folder, "first/releases/7.1/vm.args.src", "".join(f"-any '${{{name}}}'\n" for name in variables))
+    given = [word for name, value in variables.items() for word in ("--env", f"{name}={value}")]
+    for words, behind in ((["first"], "--release first --named {}"), (["first:a@x,b@x,c@x"], "{} " + " ".join(
+            f"--node {node} --release first" for node in ("a@x", "b@x", "c@x")))):
+        done = report(program, "--no-live", "--no-explore", "--crashes", "1", *given, *words, cwd=folder)
+        shown = behind.format("--env COOKIE=... --env Db_Password=... --env release_secret_at=... --env APITOKEN=... --env ssh_key=... "
+                              "--env 'REGION=north west' --env NOTHING= --env MORE=a_key=b")
+        command = part(done.stdout, "commands").split(" ./rehearse check")[0]
+        yield owed(f"the command of {words[0]}", command, f"companions/rehearse-tools gather {shown} > cluster.txt")
+        yield owed(f"what is hidden of {words[0]}", (re.findall("w0rd.", done.stdout), done.stderr), ([], ""))
+
+
 def mix_title(program, folder):
     """A release of Elixir's Mix gives itself a name too."""
     os.rename(os.path.join(folder, mixed(folder)), os.path.join(folder, "unpacked"))
@@ -322,4 +339,4 @@ def in_browser(program, folder):
 
 TESTS = (*(Group(in_folder(tests)) for tests in (losses, safe, otherwise, otherwise_booted, lists, lengths, no_lists, unstarted, faults)),
          Group(in_folder(in_browser), needs=("chromium",)), Group(in_folder(from_release), needs=("erl", "escript", "erlc")),
-         Group(in_folder(titles), needs=("escript",)), Group(in_folder(mix_title), needs=("mix", "escript")))
+         *(Group(in_folder(tests), needs=("escript",)) for tests in (titles, secrets)), Group(in_folder(mix_title), needs=("mix", "escript")))
