@@ -46,6 +46,23 @@ HUNDRED_KEYS = """(() => {
   }
   return most;
 })()"""
+# Of each span that fills all that is in view beside the names: its words that are whole in view.
+WHOLE_WORDS = """(() => {
+  const frame = document.getElementById("frame");
+  const left = document.getElementById("names").getBoundingClientRect().right;
+  const right = frame.getBoundingClientRect().left + frame.clientWidth;
+  return [...document.querySelectorAll("#body g")].map((span) => ({ span, box: span.querySelector("rect").getBoundingClientRect() }))
+    .filter(({ box }) => box.left <= left + 1 && box.right >= right - 1).map(({ span }) => [...span.querySelectorAll("text")].filter((text) => {
+      const box = text.getBoundingClientRect();
+      return box.left >= left && box.right <= right;
+    }).map((text) => text.textContent));
+})()"""
+# The space between each two clock numbers side by side that don't stand upright.
+CLOCK_GAPS = """(() => {
+  const boxes = [...document.querySelectorAll("#head text.clock")].filter((text) => !text.hasAttribute("transform"))
+    .map((text) => text.getBoundingClientRect()).sort((one, other) => one.left - other.left);
+  return boxes.slice(1).map((box, at) => box.left - boxes[at].right);
+})()"""
 # Names that end elements and begin others, were they put into a page as they stand.
 STRANGE = ["</script><script>document.title=1</script>", "<img/src=x/onerror=document.title=2>", "&amp;\"<!--STORY-->", "\u00a0", "é\u2028x"]
 
@@ -226,6 +243,38 @@ def sizes_of(browser, path):
         "document.querySelectorAll('table:not(:has(caption)), th:not([scope])').length"))
 
 
+def long_spans(program, folder, browser):
+    """On a phone each span that fills what is in view has a whole word there, wherever that is. The third node comes and goes, and
+    nothing else happens."""
+    hosts = [f"orders@{host}" for host in ("ams1-app-01", "ams1-app-02", "fra1-app-01")]
+    boot = f"{{distributed, [{{ledger, 500, ['{hosts[0]}', '{hosts[1]}']}}]}}]}}, {{rehearse, [{{boot, [{{ledger, permanent}}]}}]}}"
+    text = "".join(f"{{node, '{host}', [{{kernel, [{boot}]}}.\n" for host in hosts[:2]) + f"{{node, '{hosts[2]}', []}}.\n"
+    text += "{application, ledger, []}.\n===\n" + "".join(f"boot {host}\n" for host in hosts)
+    text += f"crash {hosts[2]}\nboot {hosts[2]}\n" * 60
+    browser.call("Emulation.setDeviceMetricsOverride", width=400, height=800, deviceScaleFactor=1, mobile=False)
+    browser.open(made(program, folder, ["-"], text.encode()))
+    seen = []
+    for left in range(300, 1500, 90):
+        browser.value(f"document.getElementById('frame').scrollLeft = {left}")
+        browser.value("draw()")
+        seen.append([set(words) for words in browser.value(WHOLE_WORDS)])
+    owed = [{"ams1-app-01"}, {"up"}, {"runs"}, {"up"}, {"waits"}]
+    yield "400 points: a word of each long span is in view", same([owed] * len(seen), seen)
+    browser.call("Emulation.clearDeviceMetricsOverride")
+    yield "400 points: nothing went wrong", browser.troubles()
+
+
+def clock_numbers(program, folder, browser):
+    """Numbers of the clock with five digits, a column each: these have 35 points, so they stand upright where a column has no room for 6
+    more."""
+    browser.open(made(program, folder, ["-"], ("{node, a@x, []}.\n===\nboot a@x\ntick 10000\n" + "tick 1000\n" * 45).encode()))
+    for width, is_flat in ((28, False), (36, False), (38, False), (40, False), (42, True), (44, True)):
+        browser.value(f"zoom({width})")
+        gaps = browser.value(CLOCK_GAPS)
+        is_right = len(gaps) > 5 and min(gaps) > 3 if is_flat else len(gaps) <= 1
+        yield f"clock numbers in columns of {width} points", None if is_right else f"{gaps}"
+
+
 def short_names(_program, _folder):
     """What tells nodes from one another."""
     for full, labels_owed, shorts, lacks in (
@@ -357,5 +406,5 @@ def all_examples(program, _):
 
 
 TESTS = (*(Group(in_browser(part), is_long=True) for part in (large, greatest)),
-         *map(in_browser, (one_rehearsal, wanted_and_forbidden, printed, strange_names, labels)),
+         *map(in_browser, (one_rehearsal, wanted_and_forbidden, printed, strange_names, labels, long_spans, clock_numbers)),
          *map(in_folder, (dumped, refusals, all_examples, short_names)))

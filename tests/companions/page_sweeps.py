@@ -1,7 +1,7 @@
 """Tests of companions/page --sweep: its table of plans and their steps, in a real browser. What became of the plans is worked out
 by hand from docs/RULES.md, or told in README.md.
 """
-from pages import COLUMN, HEADS, REFUSED_COMMANDS, ROWS_OF_PLANS, SHOWN_PLANS, WORDS, all_same, example, in_browser, made, page, same
+from pages import COLUMN, HEADS, OVERFLOW, REFUSED_COMMANDS, ROWS_OF_PLANS, SHOWN_PLANS, WORDS, all_same, example, in_browser, made, page, same
 from support import in_folder
 
 NEEDS = ("chromium", "jinja2")
@@ -107,6 +107,34 @@ def one_plan(browser, path):
         (["✗ crash core1"], browser.value(REFUSED_COMMANDS)))
 
 
+def six_applications(program, folder, browser):
+    """Six applications of nodes as a release names them fit a window of 1,400 points, also where none of them can run: what became of
+    one is broken there, and its node isn't."""
+    hosts = [f"'orders@{host}.prod.example.net'" for host in ("ams1-app-01", "ams1-app-02", "fra1-app-01")]
+    apps = ("orders", "ledger", "billing", "shipping", "notifier", "metrics_hub")
+    entries = ", ".join(f"{{{app}, 5000, [{hosts[0]}, {hosts[1]}]}}" for app in apps)
+    boot = ", ".join(f"{{{app}, permanent}}" for app in apps)
+    text = "".join(f"{{node, {host}, [{{kernel, [{{distributed, [{entries}]}}]}}, {{rehearse, [{{boot, [{boot}]}}]}}]}}.\n" for host in hosts[:2])
+    text += f"{{node, {hosts[2]}, []}}.\n" + "".join(f"{{application, {app}, []}}.\n" for app in apps) + "===\n"
+    names = [host.strip("'") for host in hosts]
+    text += "".join(f"boot {name}\n" for name in names) + f"plan both\ncrash {names[0]}\ncrash {names[1]}\ntick 5000\n"
+    text += f"plan one\ncrash {names[0]}\n"
+    path = made(program, folder, ["--sweep", "-"], text.encode())
+    for width in (1400, 400):
+        browser.call("Emulation.setDeviceMetricsOverride", width=width, height=900, deviceScaleFactor=1, mobile=False)
+        browser.open(path)
+        rows = browser.value(ROWS_OF_PLANS)
+        yield f"six applications, {width} points: what is told", all_same(
+            (["✗ wanted, was at ams1-app-01"] * 6, rows["both"][:6]), (["… lost, was at ams1-app-01"] * 6, rows["one"][:6]))
+        yield f"six applications, {width} points: names of nodes aren't broken", same([1] * 12, browser.value(
+            "[...document.querySelectorAll('#plans td span')].map((name) => name.getClientRects().length)"))
+        yield f"six applications, {width} points: nothing is wider than the window", same(0, browser.value(OVERFLOW))
+        hidden = browser.value("(() => { const box = document.querySelector('#sweep .box'); return box.scrollWidth - box.clientWidth; })()")
+        yield f"six applications, {width} points: all of the table is seen", None if (hidden == 0) == (width == 1400) else f"{hidden}"
+    browser.call("Emulation.clearDeviceMetricsOverride")
+    yield "six applications: nothing went wrong", browser.troubles()
+
+
 def cut_ticks(program, folder, browser):
     """The steps of a plan: a tick is cut where a timer fires, and only there."""
     base = "boot a@x\nboot b@x\ncrash a@x\ntick 200\n"
@@ -172,4 +200,4 @@ def counts(program, _):
     yield "one of each", f"status {done.returncode}, it lacks {missing}" if done.returncode or missing else None
 
 
-TESTS = (*map(in_browser, (sweeps, at_all_nodes, cut_ticks, no_bad_plans)), in_folder(counts))
+TESTS = (*map(in_browser, (sweeps, six_applications, at_all_nodes, cut_ticks, no_bad_plans)), in_folder(counts))

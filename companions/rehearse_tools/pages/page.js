@@ -85,8 +85,8 @@ function showOverview() {
 
 // Where everything of the chart stands, and all of it drawn anew. The step stays in view.
 function place() {
-  const room = Math.max(90, Math.min(260, at("frame").clientWidth * 0.36));
-  const layout = view.layout = layoutOf(view.story, { ...view, room });
+  const wide = at("frame").clientWidth;
+  const layout = view.layout = layoutOf(view.story, { ...view, room: Math.max(90, Math.min(260, wide * 0.36)), wide });
   const total = layout.x[layout.x.length - 1];
   for (const [id, width, height] of [["corner", layout.names, layout.headHeight], ["head", total, layout.headHeight],
     ["names", layout.names, layout.height], ["body", total, layout.height]]) {

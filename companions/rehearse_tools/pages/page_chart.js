@@ -2,6 +2,7 @@
 // The chart of a page: what stands in which row at which step, worked out from the data of the page and drawn as SVG. Nothing
 // here looks at the page itself but for its data. A story is the steps of the base or of a plan.
 const LETTER = 6.6;
+const DIGIT = 7;
 const BOLD = 7.7;
 const LINE = 13;
 const ROW = 18;
@@ -272,7 +273,7 @@ function positions(story, width, isByTime) {
 
 // The height of the row of times: where one is wider than its columns and these have room for a line, it stands upright.
 function clockHeight(spans, x) {
-  const crowded = spans.filter(({ from, to, cell: { words } }) => !fitting(words, x[to] - x[from]) && x[to] - x[from] >= LINE);
+  const crowded = spans.filter(({ from, to, cell: { words } }) => !fitting(words, x[to] - x[from] - 2) && x[to] - x[from] >= LINE);
   return crowded.reduce((most, { cell: { words } }) => Math.max(most, words[0].length * LETTER + 8), ROW);
 }
 
@@ -293,8 +294,8 @@ function placed(rows, top, room) {
   return found;
 }
 
-// Where everything stands. The names of the rows aren't wider than `room`.
-function layoutOf(story, { width, isByTime, hasLanes, room }) {
+// Where everything stands. The names of the rows aren't wider than `room`; with them `wide` is in view, or on paper all.
+function layoutOf(story, { width, isByTime, hasLanes, room, wide = Infinity }) {
   const rows = rowsOf(story, hasLanes);
   const x = positions(story, width, isByTime);
   const wish = rows.reduce((most, each) => Math.max(most, each.label.length * (each.kind === "node" ? BOLD : LETTER)
@@ -308,7 +309,8 @@ function layoutOf(story, { width, isByTime, hasLanes, room }) {
     { row: passRow(story), y: head.height + ROW + times, height: ROW, lines: ["passes"] }];
   const body = placed(rows, 6, names - 16);
   const end = body[body.length - 1];
-  return { story, width, x, names, head, top, body, headHeight: head.height + 2 * ROW + times + 2, height: end.y + end.height + 4 };
+  return { story, width, x, names, head, top, body, headHeight: head.height + 2 * ROW + times + 2, height: end.y + end.height + 4,
+    seen: Math.max(wide - names, 50) };
 }
 
 // The column in which a point stands.
@@ -322,39 +324,42 @@ function columnAt(x, point) {
   return low;
 }
 
-// The first of several words that isn't wider, or none.
+// The first of several words that isn't wider, or none. A digit is wider than a letter is on the whole; a node's number may stand closer.
 function fitting(words, width) {
-  return words.find((word) => word.length * LETTER + (/^\d+$/.test(word) ? 1 : 4) <= width);
+  const more = (word) => word.replace(/\D/g, "").length * (DIGIT - LETTER) + (/^\d\d?$/.test(word) ? 1 : 4);
+  return words.find((word) => word.length * LETTER + more(word) <= width);
 }
 
 function textSvg(x, y, look, text, more = "") {
   return text ? `<text x="${x.toFixed(1)}" y="${y.toFixed(1)}" class="${look}"${more}>${escaped(text)}</text>` : "";
 }
 
-// Where the word of a span stands: in its middle; in a long one again and again, so that one is in view.
-function middles(x, width, isOnce) {
-  const count = isOnce || width <= 600 ? 1 : Math.ceil(width / 480);
+// Where the word of a span stands: in its middle; in a long one again and again, so far apart.
+function middles(x, width, apart) {
+  const count = width <= 1.25 * apart ? 1 : Math.ceil(width / apart);
   return Array.from({ length: count }, (_, at) => x + (at + 0.5) * width / count);
 }
 
-function wordSvg(x, y, width, height, { look, words }) {
-  const word = fitting(words, width - 2);
+// The word of a span. It isn't wider than two fifths of what is in view, and stands twice there, so that one of them is whole.
+function wordSvg(x, y, width, height, { look, words }, seen) {
+  const isClock = look === "clock";
+  const word = fitting(words, Math.min(width - 2, isClock ? Infinity : 0.4 * seen));
   const written = (middle) => textSvg(middle, y + height / 2 + 4, `in ${look}`, word);
-  if (word) { return middles(x, width, look === "clock").map(written).join(""); }
-  if (look !== "clock" || width < LINE) { return ""; }
+  if (word) { return middles(x, width, isClock ? Infinity : Math.min(480, seen / 2)).map(written).join(""); }
+  if (!isClock || width < LINE) { return ""; }
   const [left, top] = [x + width / 2 + 4, y + height / 2];
   return textSvg(left, top, `in ${look}`, words[0], ` transform="rotate(-90 ${left.toFixed(1)} ${top.toFixed(1)})"`);
 }
 
-function spanSvg(x, y, width, height, span) {
+function spanSvg(x, y, width, height, span, seen) {
   const gap = width > 4 ? 1 : 0;
   const sizes = `width="${Math.max(width - 2 * gap, 1).toFixed(1)}" height="${height - 3}"`;
   const box = `<rect x="${(x + gap).toFixed(1)}" y="${y + 1.5}" ${sizes} class="${span.look}"/>`;
-  return `<g><title>${escaped(span.tip)}</title>${box}${wordSvg(x, y, width, height, span)}</g>`;
+  return `<g><title>${escaped(span.tip)}</title>${box}${wordSvg(x, y, width, height, span, seen)}</g>`;
 }
 
 // The spans of a row between two columns. Of those that are narrower than a point only one is drawn there; a loss always is.
-function rowSvg({ row: each, y, height }, { x }, first, last) {
+function rowSvg({ row: each, y, height }, { x, seen }, first, last) {
   const found = [];
   let drawn = -1;
   for (const { from, to, cell: now } of each.spans()) {
@@ -363,7 +368,7 @@ function rowSvg({ row: each, y, height }, { x }, first, last) {
     const [left, right] = [x[begin] - x[first], x[end] - x[first]];
     if (Math.floor(right) === drawn && now.look !== "lost" && now.look !== "wanted") { continue; }
     drawn = Math.floor(right);
-    found.push(spanSvg(left, y, right - left, height, now));
+    found.push(spanSvg(left, y, right - left, height, now, seen));
   }
   return found.join("");
 }
