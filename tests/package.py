@@ -139,12 +139,12 @@ def shown_commands(text):
 
 
 def six_lines(text):
-    """The line of README.md that builds a release, and the six commands behind it; and what each of them prints."""
+    """The lines of README.md that make a release and a report, and the six commands behind a comment; and what each of them prints."""
     section = text.split("\n## From your own release to a picture\n")[1].split("\n## ")[0]
     blocks = re.findall(r"(?ms)^```(sh|text)\n(.*?)^```$", section)
-    lines = [line for language, block in blocks if language == "sh" for line in block.splitlines()]
+    lines = [line for language, block in blocks if language == "sh" for line in block.splitlines() if not line.startswith("# ")]
     survey, live = [block.encode() for language, block in blocks if language == "text"]
-    return lines, [b"", b"", b"ok 3 nodes 3 applications\n", b"", survey, b"", live]
+    return lines, [b"", b"", b"", b"ok 3 nodes 3 applications\n", b"", survey, b"", live]
 
 
 def installed_line(line):

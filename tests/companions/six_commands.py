@@ -1,6 +1,6 @@
-"""Tests of the six commands of README.md, from a release's own files to a page with a picture: they are run as they stand there,
-on the release that examples/shop/make makes by systools, and the page is opened in a real browser. What they print stands in
-README.md too, worked out by hand from the lists in examples/shop/sys.config.
+"""Tests of the six commands of README.md, from a release's own files to a page with a picture, and of the one that does all of them:
+they are run as they stand there, on the release that examples/shop/make makes by systools, and the page is opened in a real browser.
+What they print stands in README.md too, worked out by hand from the lists in examples/shop/sys.config.
 """
 import base64
 import os
@@ -28,12 +28,13 @@ ROWS = {
 
 
 def shown():
-    """The first command of the section, which makes a release; the six commands; and what the fourth and the sixth print."""
+    """The first two commands of the section, which make a release and a report of it; the six commands behind a comment; and what the
+    fourth and the sixth print."""
     section = read(os.path.join(TOP, "README.md")).decode().split("\n## From your own release to a picture\n")[1].split("\n## ")[0]
     blocks = re.findall(r"(?ms)^```(\w+)\n(.*?)^```$", section)
-    commands = [block for language, block in blocks if language == "sh"]
+    [commands] = [block.splitlines() for language, block in blocks if language == "sh"]
     told = [block for language, block in blocks if language == "text"]
-    return commands[0].splitlines(), commands[1].splitlines(), told
+    return commands[:2], commands[3:], told
 
 
 def made(program, folder):
@@ -65,11 +66,13 @@ def six_commands(program):
         runs = made(program, folder)
         for command, done in runs:
             yield command, None if done.returncode == 0 and not done.stderr else f"{done}"
-        yield "there are six of them", None if len(runs) == 7 else f"{len(runs)}"
+        yield "there are six of them", None if len(runs) == 2 + 6 else f"{len(runs)}"
         told = [done.stdout for _, done in runs]
         fourth, sixth = (text.encode() for text in shown()[2])
-        owed = [b"", b"", b"ok 3 nodes 3 applications\n", b"", fourth, b"", sixth]
+        owed = [b"", b"", b"", b"ok 3 nodes 3 applications\n", b"", fourth, b"", sixth]
         yield "what they print", None if told == owed else difference(b"".join(owed), b"".join(told))
+        page = read(os.path.join(folder, "report.html")).decode()
+        yield "the report", None if "<title>What shop survives</title>" in page else page[:500]
         again = subprocess.run(["examples/shop/make", "target"], cwd=folder, capture_output=True, timeout=LONGEST_COMMAND)
         is_right = again.returncode == 1 and again.stderr == b"target is there already: remove it, or give another folder\n"
         yield "the release is made only once", None if is_right else f"{again}"
