@@ -156,7 +156,8 @@ def many_commands(program):
                 size += len(said)
                 talk.hear_up_to(size)
                 times.append(time.monotonic() - begun)
-        first, last = sorted(times[:2_000])[1_000], sorted(times[-2_000:])[1_000]
+        # Of each two thousand the two hundredth fastest: what runs beside makes others slow.
+        first, last = sorted(times[:2_000])[200], sorted(times[-2_000:])[200]
         slow = None if last < 3 * first + 0.002 else f"{first:.6f} s at the beginning, {last:.6f} at the end"
         yield "20,000 commands, one after the other", slow or fault_of(talk.end(closes=True), 0, b"ok\nup a@x\nok\n" * 10_000)
 
