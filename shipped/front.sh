@@ -112,13 +112,18 @@ skip_last() {
 # Runs the program on the files and then on standard input, whose lines go on to it as they come. Who hands them on ends with it, so
 # that it takes no line of whoever reads next.
 talk() {
-  local input feeder
+  local input
   [ ! -t 0 ] || say "reads standard input behind the files, a line at a time; Ctrl-D on a line of its own ends it"
   exec {input}< <(feed)
   feeder=$!
   run <&"$input"
   exec {input}<&-
-  kill "$feeder" 2> /dev/null
+  stop_feeding
+}
+
+# Ends who hands standard input on, if somebody does.
+stop_feeding() {
+  [ -z "${feeder-}" ] || kill "$feeder" 2> /dev/null
 }
 
 # Hands on the files, and then standard input.
@@ -162,6 +167,7 @@ start() {
 
 # Ends this script by a signal, as a program ends that leaves it as it is.
 end_by() {
+  stop_feeding
   drop_files
   kill -s "$1" $$
   exit $((128 + $(kill -l "$1")))

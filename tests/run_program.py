@@ -10,7 +10,7 @@ profiles (profiles.py), random scripts beside a model (random_scripts.py), searc
 keys would collide (colliding_keys.py), runs whose lines are answered as they come (dialogues.py), what is told as
 JSON (json_lines.py), what lint owes for the examples and for mistaken inputs (linted.py), what it tells of random rehearsals, by a
 second way and beside live nodes (lint_measure.py), stories of the examples (stories.py), rows by pytest (pytest_items.py), the scripts
-that run, build and ship the program (shipped.py), what ./rehearse does in front of it (front.py) and tells of refused files
+that run, build and ship the program (shipped.py), what ./rehearse does in front of it (front.py, front_talks.py) and tells of refused files
 (places.py), the packages of it (package.py), one of them installed (own_root.py), the benchmark's inputs (benched.py) and the documents (check_docs.py). Calls that the
 programs `rh_growths` and `rh_part_growths` beside PROGRAM make have their growths of memory counted and refused, and have to leave all
 as it was (growths.py). All of it runs side by side on all processors (groups.py).
@@ -32,6 +32,7 @@ import dialogues  # noqa: E402
 import explored  # noqa: E402
 import failing_calls  # noqa: E402
 import front  # noqa: E402
+import front_talks  # noqa: E402
 import growths  # noqa: E402
 import hostile  # noqa: E402
 import json_lines  # noqa: E402
@@ -274,7 +275,7 @@ WORKED = Group(rows, row_folders())
 MADE = (term_faults, large_inputs, long_chains, *sweeps.TESTS)
 # The worked rows, the examples, what fails (devices, memory, threads), what docs/make makes of the documents, and ./rehearse.
 QUICK = (*made_pages.TESTS, *refused_memory.TESTS, *failing_calls.TESTS, *hostile.TESTS, WORKED, strays, examples, failing_devices,
-         Group(no_threads, needs=("cc",)), *shipped.TESTS, *front.TESTS, *places.TESTS, *stories.TESTS, *linted.TESTS,
+         Group(no_threads, needs=("cc",)), *shipped.TESTS, *front.TESTS, *front_talks.TESTS, *places.TESTS, *stories.TESTS, *linted.TESTS,
          *colliding_keys.TESTS, *dialogues.TESTS, *pytest_items.TESTS)
 # Those that take longest begin first.
 ALL = (*prefixes.TESTS, *growths.TESTS, *lint_measure.TESTS, *random_scripts.TESTS, *explored.TESTS, *benched.TESTS, *json_lines.TESTS,
