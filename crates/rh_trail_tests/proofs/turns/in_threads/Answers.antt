@@ -7,9 +7,9 @@ use Rattle.std.specs.contracts.alloc.Global as Global
 use Rattle.std.specs.contracts.sync.Mutex as Mutex
 use Rattle.rh_room.proofs.Crossing.{room_send}
 use Rattle.rh_room.specs.contracts.room.Room as Room
-use Rattle.rh_room_tests.proofs.turns.Turns.TheSendSync as turns
-use Rattle.rh_room_tests.specs.contracts.turns.Turns as Turns
-use Rattle.rh_room_tests.proofs.turns.in_threads.Goals as goal
+use Rattle.rh_trail_tests.proofs.turns.Turns.TheSendSync as turns
+use Rattle.rh_trail_tests.specs.contracts.turns.Turns as Turns
+use Rattle.rh_trail_tests.proofs.turns.in_threads.Goals as goal
 
 -- the closure may be shared by threads, since all that it borrows may
 pub map_vec-requires-sync-F : goal.map_vec-requires-sync-F

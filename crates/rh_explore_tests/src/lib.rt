@@ -1,5 +1,0 @@
-//! Tests of searches through all states.
-#![tactic(auto)]
-
-#[cfg(test)]
-mod searches;
