@@ -4,17 +4,20 @@ use Rattle.rh_state.specs.StateView.{StateView}
 use Rattle.rh_rules.specs.declared.event.Event.{Event}
 use Rattle.rh_explore.specs.declared.asking.Ask.{Ask}
 use Rattle.rh_explore.specs.declared.bounds.Bounds.{Bounds}
+use Rattle.rh_explore.specs.declared.bounds.Covered.{Covered}
 use Rattle.rh_explore.specs.declared.families.Front.{Front}
 use Rattle.rh_explore.specs.declared.leads.Expansion.{Expansion}
+use Rattle.rh_explore.specs.declared.leads.Lead.{Lead}
 use Rattle.rh_explore.specs.declared.leads.Marks.{Marks}
+use Rattle.rh_explore.specs.declared.moves.Move.{Move}
 use Rattle.rh_explore.specs.declared.search.Search.{Search}
 use Rattle.rh_explore.specs.declared.space.Found.{Found}
 use Rattle.rh_explore.specs.declared.space.Space.{Space}
 use Rattle.rh_explore.specs.Exploring.{scope_of, key_of, key_length, HadRoom}
 use Rattle.rh_explore.specs.Failures.{AreFirsts, all_told}
-use Rattle.rh_explore.specs.Families.{Knowing, child_by, waiting_in, IsAccepted, IsFamily, ExpandsSo}
+use Rattle.rh_explore.specs.Families.{Knowing, child_by, waiting_in, IsAccepted, IsFamily, LeadsTo, LeadsSo, ExpandsSo}
 use Rattle.rh_explore.specs.Reaching.{Scope, behind}
-use Rattle.rh_explore.specs.Spaces.{Seen, states_of, AreInTurn}
+use Rattle.rh_explore.specs.Spaces.{Seen, states_of, AreInTurn, IsExpandedAt, IsCut, IsUnderWay, IsEnded}
 
 -- the list of events that leads to a state, by those that lead to the states before it
 abbrev pub path_by : List (List Event) → Option (ℕ × Event) → List Event
@@ -59,8 +62,34 @@ pub record IsKept (w : Scope) (bounds : Bounds) (asks : List Ask) (space : Space
   pub in_turn : AreInTurn w (seen_of w space.found.items)
   pub room : HadRoom bounds (states_of (seen_of w space.found.items))
 
+-- ---- the same of a search: its scope, its bounds and its asks
+
 abbrev pub seen_in : Search → Space → List Seen
 seen_in search space = seen_of (scope_of search) space.found.items
+
+abbrev pub IsKeptFor : Search → Space → Type 0
+IsKeptFor search space = IsKept (scope_of search) search.bounds search.asks.now space
+
+abbrev pub IsUnderWayFor : Search → Space → ℕ → Type 0
+IsUnderWayFor search space next = IsUnderWay (scope_of search) search.bounds (seen_in search space) next
+
+abbrev pub IsEndedFor : Search → Space → Covered → Type 0
+IsEndedFor search space = IsEnded (scope_of search) search.bounds (seen_in search space)
+
+abbrev pub IsExpandedFor : Search → Space → ℕ → ℕ → Type 0
+IsExpandedFor search space at made = IsExpandedAt (scope_of search) (seen_in search space) at made
+
+abbrev pub IsCutFor : Search → Space → ℕ → Type 0
+IsCutFor search space at = IsCut (scope_of search) search.bounds (seen_in search space) at
+
+abbrev pub LeadsToFor : Search → Knowing → StateView → Event → Lead → Type 0
+LeadsToFor search = LeadsTo (scope_of search) search.asks.now
+
+abbrev pub LeadsFor : Search → Knowing → StateView → Move → Lead → Type 0
+LeadsFor search = LeadsSo (scope_of search) search.asks.now
+
+abbrev pub ExpandsFor : Search → Knowing → StateView → Expansion → Type 0
+ExpandsFor search = ExpandsSo (scope_of search) search.asks.now
 
 -- what was found stays, and more is found
 abbrev pub GoesOnFrom : List Found → List Found → Type 0
@@ -120,4 +149,4 @@ pub record IsFrontOf (search : Search) (space : Space) (front : Front) (states :
 -- this came of the next one, by what was known when it was expanded
 abbrev pub IsExpandedNext : Search → Space → Front → Expansion → Type 0
 IsExpandedNext search space front expansion = (k : Knowing) × (s : StateView) × (states : List StateView) × IsKnown k space
-    × ExpandsSo (scope_of search) search.asks.now k s expansion × IsFrontOf search space front (s ∷ states)
+    × ExpandsFor search k s expansion × IsFrontOf search space front (s ∷ states)

@@ -3,10 +3,8 @@
 ghost use Rattle.std.specs.Prelude.{◌≡◌, ◌<◌, ◌+◌, [], length, IfOk, OnOk, IfSome, IfNone};
 ghost use Rattle.rh_state.specs.Stored.{read};
 ghost use Rattle.rh_trace.specs.Validity.{IsValid};
-ghost use Rattle.rh_explore.specs.Exploring.{scope_of};
 ghost use Rattle.rh_explore.specs.Families.{children, IsFamily};
-ghost use Rattle.rh_explore.specs.Kept.{seen_in, IsKept, IsFrontOf};
-ghost use Rattle.rh_explore.specs.Spaces.{IsUnderWay, IsEnded};
+ghost use Rattle.rh_explore.specs.Kept.{IsFrontOf, IsEndedFor, IsKeptFor, IsUnderWayFor};
 ghost use Rattle.rh_explore.specs.Workers.{IsIdle};
 
 use crate::bounds::Covered;
@@ -26,8 +24,8 @@ pub(crate) fn find_alone<W: Watch>(
     search: &Search,
 ) -> Result<(Space, Covered), OutOfMemory>
     requires { IsValid (read search.now.base.now) }
-    ensures kept { IfOk result (λ found. IsKept (scope_of search.now) search.now.bounds search.now.asks.now found.0) }
-    ensures ended { IfOk result (λ found. IsEnded (scope_of search.now) search.now.bounds (seen_in search.now found.0) found.1) }
+    ensures kept { IfOk result (λ found. IsKeptFor search.now found.0) }
+    ensures ended { IfOk result (λ found. IsEndedFor search.now found.0 found.1) }
 {
     let mut space = Space::of(alloc, search)?;
     let mut front = Front::of(alloc, search.base.copy(alloc)?)?;
@@ -51,17 +49,17 @@ impl Space {
         worker: &mut Worker,
         family: Family,
     ) -> Result<Option<Covered>, OutOfMemory>
-        requires kept { IsKept (scope_of search.now) search.now.bounds search.now.asks.now self.old }
-        requires under_way { IsUnderWay (scope_of search.now) search.now.bounds (seen_in search.now self.old) front.old.next }
+        requires kept { IsKeptFor search.now self.old }
+        requires under_way { IsUnderWayFor search.now self.old front.old.next }
         requires family { IsFamily family }
         requires front { IsFrontOf search.now self.old front.old (children search.now.pick family) }
         requires idle { IsIdle worker.old }
         requires entered { worker.old.entered.edits.items ≡ [] }
-        ensures kept { OnOk result (IsKept (scope_of search.now) search.now.bounds search.now.asks.now self.new) }
+        ensures kept { OnOk result (IsKeptFor search.now self.new) }
         ensures next { IfOk result (λ end. IfNone end (front.new.next ≡ front.old.next + length family.events.items)) }
-        ensures under_way { IfOk result (λ end. IfNone end (IsUnderWay (scope_of search.now) search.now.bounds (seen_in search.now self.new) front.new.next)) }
+        ensures under_way { IfOk result (λ end. IfNone end (IsUnderWayFor search.now self.new front.new.next)) }
         ensures front { IfOk result (λ end. IfNone end (IsFrontOf search.now self.new front.new [])) }
-        ensures ended { IfOk result (λ end. IfSome end (IsEnded (scope_of search.now) search.now.bounds (seen_in search.now self.new))) }
+        ensures ended { IfOk result (λ end. IfSome end (IsEndedFor search.now self.new)) }
         ensures idle { OnOk result (IsIdle worker.new) }
         ensures entered { OnOk result (worker.new.entered.edits.items ≡ []) }
     {

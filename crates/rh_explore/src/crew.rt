@@ -3,8 +3,8 @@
 ghost use denote.Param.Send.{IsSync};
 ghost use Rattle.std.specs.Prelude.{◌≡◌, ◌<◌, length, All, IfOk, OnOk, IsOk, ⊤};
 ghost use Rattle.std.specs.List.{AllZip, flat_map};
-ghost use Rattle.rh_explore.specs.Exploring.{scope_of};
-ghost use Rattle.rh_explore.specs.Families.{ExpandsSo, ArePieces, IsPiece, knowing, piece_waiting, part_items};
+ghost use Rattle.rh_explore.specs.Families.{ArePieces, IsPiece, knowing, piece_waiting, part_items};
+ghost use Rattle.rh_explore.specs.Kept.{ExpandsFor};
 
 use crate::families::Family;
 use crate::leads::Expansion;
@@ -37,7 +37,7 @@ pub trait Crew {
         requires ready { ready self.now }
         requires known { length known.now.firsts.now ≡ length search.now.asks.now }
         requires pieces { ArePieces pieces.items }
-        ensures { IfOk result (λ expansions. AllZip (ExpandsSo (scope_of search.now) search.now.asks.now (knowing known.now))
+        ensures { IfOk result (λ expansions. AllZip (ExpandsFor search.now (knowing known.now))
             (flat_map (piece_waiting search.now.pick) pieces.items) expansions.items) };
 }
 
@@ -105,7 +105,7 @@ impl<T: Threads + Sync> Crew for Threaded<'_, T> {
             pieces,
             &|piece: VecDeque<Family>| -> Result<VecDeque<Expansion>, OutOfMemory>
                 requires { IsPiece piece × (length known.now.firsts.now ≡ length search.now.asks.now) }
-                ensures { IfOk result (λ expansions. AllZip (ExpandsSo (scope_of search.entry.now) search.entry.now.asks.now (knowing known.entry.now))
+                ensures { IfOk result (λ expansions. AllZip (ExpandsFor search.entry.now (knowing known.entry.now))
                     (piece_waiting search.entry.now.pick piece) expansions.items) }
             { expand_piece(alloc, search, known, piece) },
         )?;

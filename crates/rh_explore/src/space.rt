@@ -7,11 +7,11 @@ ghost use Rattle.rh_state.specs.Stored.{read};
 ghost use Rattle.rh_rules.specs.declared.event.Event.{Event};
 ghost use Rattle.rh_trace.specs.Validity.{IsValid};
 ghost use Rattle.rh_explore.specs.declared.moves.Move.{Move};
-ghost use Rattle.rh_explore.specs.Exploring.{scope_of, most_bytes};
+ghost use Rattle.rh_explore.specs.Exploring.{most_bytes};
 ghost use Rattle.rh_explore.specs.Failures.{told_at, all_told};
-ghost use Rattle.rh_explore.specs.Families.{Knowing, knowing, LeadsSo, AreLeads, is_new, ExpandsSo};
-ghost use Rattle.rh_explore.specs.Kept.{seen_in, bytes_of, knowing_in, HasOneMore, HasTheSame, IsKept, IsShort, IsKnown, LeadAt, FindsAt, IsFrontOf, IsExpandedNext, GoesOnFrom};
-ghost use Rattle.rh_explore.specs.Spaces.{Seen, IsExpandedAt, IsCut, IsUnderWay, IsEnded};
+ghost use Rattle.rh_explore.specs.Families.{Knowing, knowing, AreLeads, is_new};
+ghost use Rattle.rh_explore.specs.Kept.{seen_in, bytes_of, knowing_in, HasOneMore, HasTheSame, IsShort, IsKnown, LeadAt, FindsAt, IsFrontOf, IsExpandedNext, GoesOnFrom, ExpandsFor, IsCutFor, IsEndedFor, IsExpandedFor, IsKeptFor, IsUnderWayFor, LeadsFor};
+ghost use Rattle.rh_explore.specs.Spaces.{Seen};
 
 use crate::alone::find_alone;
 use crate::bounds::{Bounds, Covered};
@@ -53,7 +53,7 @@ impl Space {
     /// The base alone.
     pub(crate) fn of(alloc: Global, search: &Search) -> Result<Space, OutOfMemory>
         requires { IsValid (read search.now.base.now) }
-        ensures kept { IfOk result (λ space. IsKept (scope_of search.now) search.now.bounds search.now.asks.now space) }
+        ensures kept { IfOk result (λ space. IsKeptFor search.now space) }
         ensures found { IfOk result (λ space. space.found.items ≡ record { last = None; depth = 0 } ∷ []) }
     {
         let firsts = nothing_fails(alloc, search.asks.len())?;
@@ -138,15 +138,15 @@ impl Space {
         front: &mut Front,
         expansions: VecDeque<Expansion>,
     ) -> Result<Option<Covered>, OutOfMemory>
-        requires kept { IsKept (scope_of search.now) search.now.bounds search.now.asks.now self.old }
-        requires under_way { IsUnderWay (scope_of search.now) search.now.bounds (seen_in search.now self.old) front.old.next }
-        requires front { (states : List StateView) × AllZip (ExpandsSo (scope_of search.now) search.now.asks.now (knowing_in self.old)) states expansions.items
+        requires kept { IsKeptFor search.now self.old }
+        requires under_way { IsUnderWayFor search.now self.old front.old.next }
+        requires front { (states : List StateView) × AllZip (ExpandsFor search.now (knowing_in self.old)) states expansions.items
             × IsFrontOf search.now self.old front.old states }
-        ensures kept { OnOk result (IsKept (scope_of search.now) search.now.bounds search.now.asks.now self.new) }
+        ensures kept { OnOk result (IsKeptFor search.now self.new) }
         ensures next { IfOk result (λ end. IfNone end (front.new.next ≡ front.old.next + length expansions.items)) }
-        ensures under_way { IfOk result (λ end. IfNone end (IsUnderWay (scope_of search.now) search.now.bounds (seen_in search.now self.new) front.new.next)) }
+        ensures under_way { IfOk result (λ end. IfNone end (IsUnderWayFor search.now self.new front.new.next)) }
         ensures front { IfOk result (λ end. IfNone end (IsFrontOf search.now self.new front.new [])) }
-        ensures ended { IfOk result (λ end. IfSome end (IsEnded (scope_of search.now) search.now.bounds (seen_in search.now self.new))) }
+        ensures ended { IfOk result (λ end. IfSome end (IsEndedFor search.now self.new)) }
     {
         let mut rest = expansions;
         'expansions: while let Some(expansion) = rest.pop_front() {
@@ -166,16 +166,16 @@ impl Space {
         front: &mut Front,
         expansion: Expansion,
     ) -> Result<Option<Covered>, OutOfMemory>
-        requires kept { IsKept (scope_of search.now) search.now.bounds search.now.asks.now self.old }
-        requires under_way { IsUnderWay (scope_of search.now) search.now.bounds (seen_in search.now self.old) front.old.next }
+        requires kept { IsKeptFor search.now self.old }
+        requires under_way { IsUnderWayFor search.now self.old front.old.next }
         requires front { IsExpandedNext search.now self.old front.old expansion }
-        ensures kept { OnOk result (IsKept (scope_of search.now) search.now.bounds search.now.asks.now self.new) }
+        ensures kept { OnOk result (IsKeptFor search.now self.new) }
         ensures known { IfOk result (λ end. IfNone end (IsKnown (knowing_in self.old) self.new)) }
         ensures next { IfOk result (λ end. IfNone end (front.new.next ≡ front.old.next + 1)) }
-        ensures under_way { IfOk result (λ end. IfNone end (IsUnderWay (scope_of search.now) search.now.bounds (seen_in search.now self.new) front.new.next)) }
+        ensures under_way { IfOk result (λ end. IfNone end (IsUnderWayFor search.now self.new front.new.next)) }
         ensures front { IfOk result (λ end. IfNone end ((s : StateView) (states : List StateView)
             → IsFrontOf search.now self.old front.old (s ∷ states) → IsFrontOf search.now self.new front.new states)) }
-        ensures ended { IfOk result (λ end. IfSome end (IsEnded (scope_of search.now) search.now.bounds (seen_in search.now self.new))) }
+        ensures ended { IfOk result (λ end. IfSome end (IsEndedFor search.now self.new)) }
     {
         let at = front.next;
         let depth = self.found[at].depth;
@@ -198,17 +198,17 @@ impl Space {
         at: usize,
         leads: Vec<Lead>,
     ) -> Result<Option<Vec<Option<Event>>>, OutOfMemory>
-        requires kept { IsKept (scope_of search.now) search.now.bounds search.now.asks.now self.old }
+        requires kept { IsKeptFor search.now self.old }
         requires short { IsShort search.now.bounds self.old.found.items at }
-        requires begun { IsExpandedAt (scope_of search.now) (seen_in search.now self.old) at 0 }
-        requires leads { LeadAt search.now self.old at (λ k s. AreLeads (LeadsSo (scope_of search.now) search.now.asks.now k s) search.now.moves.now leads.items) }
-        ensures kept { OnOk result (IsKept (scope_of search.now) search.now.bounds search.now.asks.now self.new) }
+        requires begun { IsExpandedFor search.now self.old at 0 }
+        requires leads { LeadAt search.now self.old at (λ k s. AreLeads (LeadsFor search.now k s) search.now.moves.now leads.items) }
+        ensures kept { OnOk result (IsKeptFor search.now self.new) }
         ensures grown { OnOk result (GoesOnFrom self.old.found.items self.new.found.items) }
         ensures room { OnOk result (length self.new.found.items ≤ max (length self.old.found.items) search.now.bounds.states) }
         ensures all { IfOk result (λ found. IfSome found (λ events.
-            IsExpandedAt (scope_of search.now) (seen_in search.now self.new) at (length search.now.moves.now))) }
-        ensures cut { IfOk result (λ found. IfNone found ((made : ℕ) × IsExpandedAt (scope_of search.now) (seen_in search.now self.new) at made
-            × IsCut (scope_of search.now) search.now.bounds (seen_in search.now self.new) at)) }
+            IsExpandedFor search.now self.new at (length search.now.moves.now))) }
+        ensures cut { IfOk result (λ found. IfNone found ((made : ℕ) × IsExpandedFor search.now self.new at made
+            × IsCutFor search.now self.new at)) }
         ensures finds { IfOk result (λ found. IfSome found (λ events. FindsAt search.now at self.old self.new events.items)) }
         ensures new { IfOk result (λ found. IfSome found (λ events. 0 < length events.items → list_any is_new leads.items ≡ true)) }
     {
@@ -231,20 +231,20 @@ impl Space {
         lead: Lead,
         events: &mut Vec<Option<Event>>,
     ) -> Result<bool, OutOfMemory>
-        requires kept { IsKept (scope_of search.now) search.now.bounds search.now.asks.now self.old }
+        requires kept { IsKeptFor search.now self.old }
         requires short { IsShort search.now.bounds self.old.found.items at }
         requires leads { LeadAt search.now self.old at (λ k s. (made : ℕ) × (m : Move) × (slice_get search.now.moves.now made ≡ Some m)
-            × IsExpandedAt (scope_of search.now) (seen_in search.now self.old) at made × LeadsSo (scope_of search.now) search.now.asks.now k s m lead) }
-        ensures kept { OnOk result (IsKept (scope_of search.now) search.now.bounds search.now.asks.now self.new) }
+            × IsExpandedFor search.now self.old at made × LeadsFor search.now k s m lead) }
+        ensures kept { OnOk result (IsKeptFor search.now self.new) }
         ensures grown { OnOk result (GoesOnFrom self.old.found.items self.new.found.items) }
         ensures room { OnOk result (length self.new.found.items ≤ max (length self.old.found.items) search.now.bounds.states) }
         ensures made { IfOk result (λ went. (k : Knowing) (x : Seen) (made : ℕ) (m : Move) → slice_get (seen_in search.now self.old) at ≡ Some x
             → IsKnown k self.old → slice_get search.now.moves.now made ≡ Some m
-            → IsExpandedAt (scope_of search.now) (seen_in search.now self.old) at made → LeadsSo (scope_of search.now) search.now.asks.now k x.state m lead
+            → IsExpandedFor search.now self.old at made → LeadsFor search.now k x.state m lead
             → MatchBool went
-            (IsExpandedAt (scope_of search.now) (seen_in search.now self.new) at (made + 1))
-            (IsExpandedAt (scope_of search.now) (seen_in search.now self.new) at made
-            × IsCut (scope_of search.now) search.now.bounds (seen_in search.now self.new) at)) }
+            (IsExpandedFor search.now self.new at (made + 1))
+            (IsExpandedFor search.now self.new at made
+            × IsCutFor search.now self.new at)) }
         ensures finds { OnOk result ((more : List (Option Event)) × (events.new.items ≡ events.old.items ++ more) × FindsAt search.now at self.old self.new more
             × (0 < length more → is_new lead ≡ true)) }
     {
@@ -325,8 +325,8 @@ pub(crate) fn search_by<C: Crew, W: Watch>(
 ) -> Result<(Space, Covered), OutOfMemory>
     requires ready { C.ready crew.now }
     requires valid { IsValid (read search.now.base.now) }
-    ensures kept { IfOk result (λ found. IsKept (scope_of search.now) search.now.bounds search.now.asks.now found.0) }
-    ensures ended { IfOk result (λ found. IsEnded (scope_of search.now) search.now.bounds (seen_in search.now found.0) found.1) }
+    ensures kept { IfOk result (λ found. IsKeptFor search.now found.0) }
+    ensures ended { IfOk result (λ found. IsEndedFor search.now found.0 found.1) }
 {
     let found = if crew.count() > 1 {
         find_together(crew, watch, alloc, search)
@@ -346,8 +346,8 @@ fn find_together<C: Crew, W: Watch>(
 ) -> Result<(Space, Covered), OutOfMemory>
     requires ready { C.ready crew.now }
     requires valid { IsValid (read search.now.base.now) }
-    ensures kept { IfOk result (λ found. IsKept (scope_of search.now) search.now.bounds search.now.asks.now found.0) }
-    ensures ended { IfOk result (λ found. IsEnded (scope_of search.now) search.now.bounds (seen_in search.now found.0) found.1) }
+    ensures kept { IfOk result (λ found. IsKeptFor search.now found.0) }
+    ensures ended { IfOk result (λ found. IsEndedFor search.now found.0 found.1) }
 {
     let mut space = Space::of(alloc, search)?;
     let mut front = Front::of(alloc, search.base.copy(alloc)?)?;

@@ -9,10 +9,11 @@ ghost use Rattle.rh_step.specs.Runs.{step};
 ghost use Rattle.rh_explore.specs.declared.asking.Ask.{Ask};
 ghost use Rattle.rh_explore.specs.declared.leads.Expansion.{Expansion};
 ghost use Rattle.rh_explore.specs.Asking.{holds_in};
-ghost use Rattle.rh_explore.specs.Exploring.{scope_of, key_of};
+ghost use Rattle.rh_explore.specs.Exploring.{key_of};
 ghost use Rattle.rh_explore.specs.Failures.{FailThere};
-ghost use Rattle.rh_explore.specs.Families.{children, child_by, piece_waiting, knowing, IsFamily, IsPiece, IsAccepted, LeadsTo, LeadsSo, AreLeads, is_new, ExpandsSo};
+ghost use Rattle.rh_explore.specs.Families.{children, child_by, piece_waiting, knowing, IsFamily, IsPiece, IsAccepted, AreLeads, is_new};
 ghost use Rattle.rh_explore.specs.Workers.{IsIdle};
+ghost use Rattle.rh_explore.specs.Kept.{ExpandsFor, LeadsFor, LeadsToFor};
 
 use crate::families::Family;
 use crate::leads::{Expansion, Lead, Marks};
@@ -84,7 +85,7 @@ impl Worker {
         requires idle { IsIdle self.old }
         requires entered { self.old.entered.edits.items ≡ [] }
         ensures expansions { OnOk result ((more : List Expansion) × (expansions.new.items ≡ expansions.old.items ++ more)
-            × AllZip (ExpandsSo (scope_of search.now) search.now.asks.now (knowing known.now)) (children search.now.pick family) more) }
+            × AllZip (ExpandsFor search.now (knowing known.now)) (children search.now.pick family) more) }
         ensures idle { OnOk result (IsIdle self.new) }
         ensures entered { OnOk result (self.new.entered.edits.items ≡ []) }
     {
@@ -111,7 +112,7 @@ impl Worker {
         requires known { length known.now.firsts.now ≡ length search.now.asks.now }
         requires idle { IsIdle self.old }
         requires entered { self.old.entered.edits.items ≡ [] }
-        ensures expansion { IfOk result (ExpandsSo (scope_of search.now) search.now.asks.now (knowing known.now) (child_by search.now.pick (read state.old) event)) }
+        ensures expansion { IfOk result (ExpandsFor search.now (knowing known.now) (child_by search.now.pick (read state.old) event)) }
         ensures state { OnOk result (state.new ≡ state.old) }
         ensures idle { OnOk result (IsIdle self.new) }
         ensures entered { OnOk result (self.new.entered.edits.items ≡ []) }
@@ -136,7 +137,7 @@ impl Worker {
         requires known { length known.now.firsts.now ≡ length search.now.asks.now }
         requires idle { IsIdle self.old }
         requires entered { self.old.entered.edits.items ≡ [] }
-        ensures expansion { IfOk result (ExpandsSo (scope_of search.now) search.now.asks.now (knowing known.now) (step search.now.pick (read state.old) event)) }
+        ensures expansion { IfOk result (ExpandsFor search.now (knowing known.now) (step search.now.pick (read state.old) event)) }
         ensures state { OnOk result (state.new ≡ state.old) }
         ensures idle { OnOk result (IsIdle self.new) }
         ensures entered { OnOk result (self.new.entered.edits.items ≡ []) }
@@ -158,7 +159,7 @@ impl Worker {
         requires valid { IsValid (read state.old) }
         requires known { length known.now.firsts.now ≡ length search.now.asks.now }
         requires idle { IsIdle self.old }
-        ensures expansion { IfOk result (ExpandsSo (scope_of search.now) search.now.asks.now (knowing known.now) (read state.old)) }
+        ensures expansion { IfOk result (ExpandsFor search.now (knowing known.now) (read state.old)) }
         ensures state { OnOk result (state.new ≡ state.old) }
         ensures idle { OnOk result (IsIdle self.new) }
         ensures entered { OnOk result (self.new.entered ≡ self.old.entered) }
@@ -186,7 +187,7 @@ impl Worker {
         requires valid { IsValid (read state.old) }
         requires known { length known.now.firsts.now ≡ length search.now.asks.now }
         requires idle { IsIdle self.old }
-        ensures leads { IfOk result (λ leads. AreLeads (LeadsSo (scope_of search.now) search.now.asks.now (knowing known.now) (read state.old)) search.now.moves.now leads.items) }
+        ensures leads { IfOk result (λ leads. AreLeads (LeadsFor search.now (knowing known.now) (read state.old)) search.now.moves.now leads.items) }
         ensures state { OnOk result (state.new ≡ state.old) }
         ensures idle { OnOk result (IsIdle self.new) }
         ensures entered { OnOk result (self.new.entered ≡ self.old.entered) }
@@ -214,7 +215,7 @@ impl Worker {
         requires valid { IsValid (read state.old) }
         requires known { length known.now.firsts.now ≡ length search.now.asks.now }
         requires idle { IsIdle self.old }
-        ensures lead { IfOk result (LeadsSo (scope_of search.now) search.now.asks.now (knowing known.now) (read state.old) one) }
+        ensures lead { IfOk result (LeadsFor search.now (knowing known.now) (read state.old) one) }
         ensures state { OnOk result (state.new ≡ state.old) }
         ensures idle { OnOk result (IsIdle self.new) }
         ensures entered { OnOk result (self.new.entered ≡ self.old.entered) }
@@ -246,7 +247,7 @@ impl Worker {
         requires valid { IsValid (read state.old) }
         requires known { length known.now.firsts.now ≡ length search.now.asks.now }
         requires calm { self.old.asked.edits.items ≡ [] }
-        ensures lead { IfOk result (LeadsTo (scope_of search.now) search.now.asks.now (knowing known.now) (read state.old) event) }
+        ensures lead { IfOk result (LeadsToFor search.now (knowing known.now) (read state.old) event) }
         ensures state { OnOk result (state.new ≡ state.old) }
         ensures calm { OnOk result (self.new.asked.edits.items ≡ []) }
         ensures tried { OnOk result (self.new.tried ≡ self.old.tried) }
@@ -339,7 +340,7 @@ pub(crate) fn expand_piece(
 ) -> Result<VecDeque<Expansion>, OutOfMemory>
     requires piece { IsPiece piece }
     requires known { length known.now.firsts.now ≡ length search.now.asks.now }
-    ensures { IfOk result (λ expansions. AllZip (ExpandsSo (scope_of search.now) search.now.asks.now (knowing known.now)) (piece_waiting search.now.pick piece) expansions.items) }
+    ensures { IfOk result (λ expansions. AllZip (ExpandsFor search.now (knowing known.now)) (piece_waiting search.now.pick piece) expansions.items) }
 {
     let mut worker = Worker::of(alloc);
     let mut rest = piece;
