@@ -1,5 +1,9 @@
 //! The cluster that a cluster file describes: its nodes and its applications, as `sys.config` and
 //! `.app` files configure them.
+//!
+//! [`read_cluster`] reads a text by `rh_terms`, and answers the [`Cluster`] of `rh_model` or the first [`ClusterFault`] of the
+//! least stage (docs/CLUSTER_FILES.md tells the stages). A term that no rule reads is checked and not kept ([`skipped_tells_nothing`]).
+//! Each key of a file has one reader, which answers its value or the fault.
 #![tactic(auto)]
 
 mod agreement;

@@ -1,4 +1,8 @@
 //! Laws of whole steps, of reports and of findings, beside the rules: nothing stands on them.
+//!
+//! Each is a function without a body, whose contract is the law ([`fails_over_in_time`]); its statement stands in `specs/Laws`. They
+//! speak of `rh_step` and of what stands below it. Those of single commands are in `rh_step_laws`, those of whole programs in
+//! `rh_text_laws` and `rh_story_laws`.
 #![tactic(auto)]
 
 mod laws;

@@ -1,4 +1,8 @@
 //! A cluster: what its file sets, and the readers of that.
+//!
+//! A [`Cluster`] has the settings of each [`Node`] and each [`App`], which are numbered in the order of the file, within the
+//! limits of its profile ([`MAX_NODES`], [`MAX_APPS`]). `rh_cluster` makes one from the terms of a file; all that happens to a
+//! cluster (`rh_state` and above) reads it, and nothing changes it. [`AppMarks`] is a set of applications in two words.
 #![tactic(auto)]
 
 mod app_marks;

@@ -1,4 +1,4 @@
-//! The clusters of the tests.
+//! The clusters of the tests: texts of cluster files, small enough to be read beside a test. Nothing but tests stands on them.
 #![tactic(auto)]
 
 /// Three nodes that wait for one another, and an application of theirs (Distributed Applications).

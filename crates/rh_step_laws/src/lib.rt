@@ -1,4 +1,6 @@
 //! Laws of single steps, beside the rules: what stays through a step, and what each command leads to. No program stands on them.
+//!
+//! Each is a function without a body, whose contract is the law; its statement stands in `specs/Laws`. `rh_laws` builds on them.
 #![tactic(auto)]
 
 mod laws;

@@ -1,4 +1,7 @@
 //! Laws of what `story` and `verify` answer, beside the programs: nothing stands on them.
+//!
+//! Each is a function without a body, whose contract is the law; its statement stands in `specs/`. A story is verified without a
+//! difference, and a story of a story is itself.
 #![tactic(auto)]
 
 mod laws;

@@ -1,4 +1,8 @@
 //! Laws of what whole programs answer, beside the programs: nothing stands on them.
+//!
+//! Each is a function without a body, whose contract is the law; its statement stands in `specs/`. They speak of the bytes that `rh_app`
+//! and `rh_run` read and write: that a plan is a run of its commands, that a sweep is the runs of its plans, that a profile changes no
+//! answer.
 #![tactic(auto)]
 
 mod laws;
