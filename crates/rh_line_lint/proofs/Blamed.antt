@@ -2,12 +2,8 @@
 use Rattle.std.proofs.Common.{◌≡◌, ◌<◌, ◌-◌, ◌==◌, ◌&&◌, ℕ, Bool, true, false, not, cond, List, [], ◌∷◌, ◌++◌, length, map, nat_lt}
 use Rattle.std.proofs.Common.{Option, Some, None, refl, sym, ap, subst, ◌∙◌, arith, codes}
 use Rattle.std.specs.Prelude.{option_map, option_and_then, is_some, find, position, slice_get}
-use Rattle.std.specs.List.{position_or_len}
-use Rattle.std.specs.Str.{bytes_eq}
 use Rattle.std.specs.Fmt.{decimal}
 use Rattle.std.proofs.lemmas.Bool.Decides.{nat_tests}
-use Rattle.std.proofs.lemmas.List.Folds.{find_at}
-use Rattle.std.proofs.lemmas.Option.{slice_get_past}
 use Rattle.rh_model.specs.ClusterView.{ClusterView}
 use Rattle.rh_calls.specs.declared.call.Call.{Call}
 use Rattle.rh_script.specs.declared.forms.Argument.{Argument}
@@ -18,7 +14,6 @@ use Rattle.rh_script.specs.Forms.{verbs, word_of, arguments_of, verb_named, noth
 use Rattle.rh_script.specs.Commands.{named, named_app, milliseconds, restart_named, first_of, with_argument, given_in, row_asks, asking, command_of}
 use Rattle.rh_script.specs.CommandWords.{truth_word, reason_word}
 use Rattle.rh_line_lint.specs.Arguments.{takes}
-use Rattle.rh_line_lint.specs.Commands.{CommandView, commands, command_named, command_of as view_of}
 use Rattle.rh_line_lint.specs.Laws.{is_bad, is_told}
 use Rattle.rh_line_lint.specs.Lines.{first_mistaken, mistaken_words, surplus_words, missing_words, count_words, blame_by, blame}
 use Rattle.rh_line_lint.proofs.Taken.{taken}
@@ -146,36 +141,6 @@ row_blamed c v words =
     ∙ ap not (sym (made c v words ∙ read c (arguments_of v) words nothing))
     ∙ sym (bad_unasked (row_asks c (Some v) words))
 
--- ---- the table of lint has the commands of scripts
-
-found : {X : Type 0} (p : X → Bool) (xs : List X) → option_and_then (slice_get xs) (position p xs) ≡ find p xs
-found p xs = by (nat_lt (position_or_len p xs) (length xs)) refl ∙ sym (find_at p xs)
-  where
-    by : (t : Bool) → nat_lt (position_or_len p xs) (length xs) ≡ t
-        → option_and_then (slice_get xs) (cond t (Some (position_or_len p xs)) None) ≡ slice_get xs (position_or_len p xs)
-    by true is = refl
-    by false is = sym (slice_get_past xs (position_or_len p xs) (grind (arith, nat_tests, is)))
-
-find_map : {X Y : Type 0} (f : X → Y) (p : Y → Bool) (xs : List X) → find p (map f xs) ≡ option_map f (find (λ x. p (f x)) xs)
-find_map f p [] = refl
-find_map f p (x ∷ xs) = by (p (f x)) (find_map f p xs)
-  where
-    by : (t : Bool) → find p (map f xs) ≡ option_map f (find (λ x. p (f x)) xs)
-        → cond t (Some (f x)) (find p (map f xs)) ≡ option_map f (cond t (Some x) (find (λ x. p (f x)) xs))
-    by true later = refl
-    by false later = later
-
-row_named : (word : List ℕ) → command_named word ≡ option_map view_of (verb_named word)
-unfolding command_named commands verb_named
-row_named word =
-    find_map view_of (λ k. bytes_eq word k.word) verbs ∙ ap (option_map view_of) (sym (found (λ v. bytes_eq word (word_of v)) verbs))
-
-pub blamed : (c : ClusterView) (command : CommandView) (word : List ℕ) (words : List (List ℕ)) → command_named word ≡ Some command
-    → is_told (blame command.arguments words) ≡ is_bad (command_of c (word ∷ words))
-blamed c command word words is = by (verb_named word) (sym (row_named word) ∙ is)
-  where
-    by : (o : Option Verb) → option_map view_of o ≡ Some command → is_told (blame command.arguments words) ≡ is_bad (asking (row_asks c o words))
-    by None none = cc
-    by (Some v) some =
-        let same : view_of v ≡ command = cc in
-        subst (λ (k : CommandView). is_told (blame k.arguments words) ≡ is_bad (asking (row_asks c (Some v) words))) same (row_blamed c v words)
+pub blamed : (c : ClusterView) (v : Verb) (word : List ℕ) (words : List (List ℕ)) → verb_named word ≡ Some v
+    → is_told (blame (arguments_of v) words) ≡ is_bad (command_of c (word ∷ words))
+blamed c v word words is = row_blamed c v words ∙ ap (λ (o : Option Verb). is_bad (asking (row_asks c o words))) (sym is)

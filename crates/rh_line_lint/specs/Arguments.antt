@@ -6,17 +6,6 @@ use Rattle.rh_script.specs.declared.forms.Argument.{Argument}
 use Rattle.rh_script.specs.declared.forms.Argument.TheVariants as argument
 use Rattle.rh_script.specs.Commands.{is_numeral, milliseconds, restart_named, first_of}
 use Rattle.rh_script.specs.CommandWords.{truth_word, reason_word}
-use Rattle.rh_line_lint.specs.declared.arguments.Argument.{Argument as Own}
-use Rattle.rh_line_lint.specs.declared.arguments.Argument.TheVariants as own
-
--- an argument of the table of lint, as the reader of commands has it
-abbrev pub kind : Own → Argument
-kind own.Node = argument.Node
-kind own.App = argument.App
-kind own.Restart = argument.Restart
-kind own.Truth = argument.Truth
-kind own.Ending = argument.Ending
-kind own.Milliseconds = argument.Milliseconds
 
 -- does the reader of commands take this word as such an argument? As a name it takes any word
 abbrev pub takes : Argument → List ℕ → Bool

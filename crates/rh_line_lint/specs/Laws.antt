@@ -5,11 +5,12 @@ use Rattle.std.specs.Str.{bytes_eq}
 use Rattle.rh_model.specs.ClusterView.{ClusterView}
 use Rattle.rh_script.specs.declared.forms.Argument.{Argument}
 use Rattle.rh_script.specs.declared.forms.Given.{Given}
+use Rattle.rh_script.specs.declared.forms.Verb.{Verb}
+use Rattle.rh_script.specs.Forms.{arguments_of, verb_named}
 use Rattle.rh_script.specs.declared.script.Line.{Line}
 use Rattle.rh_script.specs.declared.script.Line.TheVariants as line
 use Rattle.rh_script.specs.Commands.{with_argument, command_of}
 use Rattle.rh_line_lint.specs.Arguments.{takes, choices}
-use Rattle.rh_line_lint.specs.Commands.{CommandView, command_named}
 use Rattle.rh_line_lint.specs.Lines.{blame}
 
 -- whatever the cluster is, and whatever is given before: the reader of commands takes a word as an argument exactly where it is taken here
@@ -32,5 +33,5 @@ is_told (b ∷ bytes) = true
 -- something is told of the words behind a command exactly where they make no command
 abbrev pub BadAreBlamed : Type 0
 BadAreBlamed =
-    (c : ClusterView) (command : CommandView) (word : List ℕ) (words : List (List ℕ)) → command_named word ≡ Some command
-    → is_told (blame command.arguments words) ≡ is_bad (command_of c (word ∷ words))
+    (c : ClusterView) (v : Verb) (word : List ℕ) (words : List (List ℕ)) → verb_named word ≡ Some v
+    → is_told (blame (arguments_of v) words) ≡ is_bad (command_of c (word ∷ words))

@@ -9,12 +9,14 @@ use Rattle.rh_model.specs.ClusterView.{ClusterView, node_of, app_of}
 use Rattle.rh_script.specs.declared.script.Line.{Line}
 use Rattle.rh_script.specs.declared.script.Line.TheVariants as line
 use Rattle.rh_script.specs.declared.forms.Argument.{Argument}
+use Rattle.rh_script.specs.declared.forms.Verb.{Verb}
+use Rattle.rh_script.specs.Forms.{arguments_of, verb_named}
 use Rattle.rh_script.specs.Commands.{words_of, line_of}
 use Rattle.rh_term_lint.specs.Near.{nearest}
 use Rattle.rh_findings.specs.declared.finding.Kind.TheVariants.{Error}
 use Rattle.rh_findings.specs.declared.finding.Finding.{Finding}
 use Rattle.rh_line_lint.specs.Arguments.{takes, choices, mismatch, is_node, is_app}
-use Rattle.rh_line_lint.specs.Commands.{CommandView, command_words, command_named}
+use Rattle.rh_line_lint.specs.Commands.{command_words, usage_of}
 
 abbrev pub error_at : ℕ → List ℕ → Finding
 error_at k text = record { line = Some k; kind = Error; text = text; path = None }
@@ -80,16 +82,16 @@ unfoldable pub blame : List Argument → List (List ℕ) → List ℕ
 blame arguments words = blame_by (first_mistaken arguments words) arguments words
 
 -- the first word is a command: how it is written, and what is wrong with the words behind it
-unfoldable pub bad_arguments : CommandView → List (List ℕ) → List ℕ
-bad_arguments command words = (codes "bad_arguments: the command is " ++ command.usage) ++ blame command.arguments words
+unfoldable pub bad_arguments : Verb → List (List ℕ) → List ℕ
+bad_arguments v words = (codes "bad_arguments: the command is " ++ usage_of v) ++ blame (arguments_of v) words
 
-abbrev pub unread_by : List ℕ → List (List ℕ) → Option CommandView → List ℕ
+abbrev pub unread_by : List ℕ → List (List ℕ) → Option Verb → List ℕ
 unread_by word words None = unknown_command word
-unread_by word words (Some command) = bad_arguments command words
+unread_by word words (Some v) = bad_arguments v words
 
 unfoldable pub unread : List (List ℕ) → List ℕ
 unread [] = []
-unread (word ∷ words) = unread_by word words (command_named word)
+unread (word ∷ words) = unread_by word words (verb_named word)
 
 -- words that a tab was meant to part
 unfoldable pub tab_words : List ℕ → List ℕ
@@ -123,13 +125,13 @@ unfoldable pub of_command : ClusterView → ℕ → List Argument → List (List
 of_command c k arguments words =
     unknown_node c k (word_at words (position is_node arguments)) ++ unknown_app c k (word_at words (position is_app arguments))
 
-abbrev pub of_command_named : ClusterView → ℕ → Option CommandView → List (List ℕ) → List Finding
+abbrev pub of_command_named : ClusterView → ℕ → Option Verb → List (List ℕ) → List Finding
 of_command_named c k None words = []
-of_command_named c k (Some command) words = of_command c k command.arguments words
+of_command_named c k (Some v) words = of_command c k (arguments_of v) words
 
 unfoldable pub of_words : ClusterView → ℕ → List (List ℕ) → List Finding
 of_words c k [] = []
-of_words c k (word ∷ words) = of_command_named c k (command_named word) words
+of_words c k (word ∷ words) = of_command_named c k (verb_named word) words
 
 unfoldable pub unknown_names : ClusterView → ℕ → List ℕ → List Finding
 unknown_names c k l = if is_utf8 l then of_words c k (words_of l) else []

@@ -4,25 +4,10 @@ ghost use Rattle.std.specs.Prelude.{◌≡◌, map, nat_lt};
 ghost use Rattle.std.specs.Char.{digit_value};
 ghost use Rattle.std.specs.List.{list_all, list_any};
 ghost use Rattle.std.specs.Str.{bytes_eq};
-ghost use Rattle.rh_script.specs.Commands.{is_numeral, milliseconds};
-ghost use Rattle.rh_line_lint.specs.Arguments.{kind, takes, choices, mismatch};
+ghost use Rattle.rh_script.specs.Commands.{is_numeral};
+ghost use Rattle.rh_line_lint.specs.Arguments.{takes, choices, mismatch};
 
-/// What stands behind the word of a command.
-#[derive(Clone, Copy)]
-pub enum Argument {
-    /// The name of a node.
-    Node,
-    /// The name of an application.
-    App,
-    /// A restart type.
-    Restart,
-    /// Whether an application may run.
-    Truth,
-    /// How an application ends.
-    Ending,
-    /// A number of milliseconds.
-    Milliseconds,
-}
+use rh_script::{Argument, milliseconds};
 
 static ANY: [&str; 0] = [];
 
@@ -53,57 +38,44 @@ fn is_numeral(word: &str) -> bool
     !word.is_empty() && are_digits(word.as_bytes())
 }
 
-// A number of milliseconds.
-fn milliseconds(word: &str) -> Option<u64>
-    ensures { result ≡ milliseconds word.now }
+/// The words that an argument takes, where they are few.
+pub fn choices(argument: Argument) -> &'static [&'static str]
+    ensures { map (λ word. word.now) result.now ≡ choices argument }
 {
-    // A plus may stand before a number that is parsed, but not in a script.
-    if word.as_bytes().starts_with(b"+") {
-        return None;
+    match argument {
+        Argument::Restart => RESTARTS.as_slice(),
+        Argument::Truth => TRUTHS.as_slice(),
+        Argument::Ending => ENDINGS.as_slice(),
+        _ => ANY.as_slice(),
     }
-    word.parse::<u64>().ok()
 }
 
-impl Argument {
-    /// The words that it takes, where they are few.
-    pub fn choices(self) -> &'static [&'static str]
-        ensures { map (λ word. word.now) result.now ≡ choices (kind self) }
-    {
-        match self {
-            Argument::Restart => RESTARTS.as_slice(),
-            Argument::Truth => TRUTHS.as_slice(),
-            Argument::Ending => ENDINGS.as_slice(),
-            _ => ANY.as_slice(),
-        }
+/// Does an argument take this word? As a name it takes any word.
+pub fn takes(argument: Argument, word: &str) -> bool
+    ensures { result ≡ takes argument word.now }
+{
+    match argument {
+        Argument::Node | Argument::App => true,
+        Argument::Milliseconds => milliseconds(word).is_some(),
+        _ => is_among(word, choices(argument)),
     }
+}
 
-    /// Does it take this word? As a name it takes any word.
-    pub fn takes(self, word: &str) -> bool
-        ensures { result ≡ takes (kind self) word.now }
-    {
-        match self {
-            Argument::Node | Argument::App => true,
-            Argument::Milliseconds => milliseconds(word).is_some(),
-            _ => is_among(word, self.choices()),
-        }
-    }
-
-    /// What a word isn't that it doesn't take.
-    pub fn mismatch(self, word: &str) -> &'static str
-        ensures { result.now ≡ mismatch (kind self) word.now }
-    {
-        match self {
-            Argument::Restart => " is none of permanent, transient and temporary",
-            Argument::Truth => " is neither true nor false",
-            Argument::Ending => " is neither normal nor abnormal",
-            Argument::Milliseconds => {
-                if is_numeral(word) {
-                    " is too large: the clock ends at 1000000000000"
-                } else {
-                    " is no number of milliseconds, as 5000"
-                }
+/// What a word isn't that an argument doesn't take.
+pub fn mismatch(argument: Argument, word: &str) -> &'static str
+    ensures { result.now ≡ mismatch argument word.now }
+{
+    match argument {
+        Argument::Restart => " is none of permanent, transient and temporary",
+        Argument::Truth => " is neither true nor false",
+        Argument::Ending => " is neither normal nor abnormal",
+        Argument::Milliseconds => {
+            if is_numeral(word) {
+                " is too large: the clock ends at 1000000000000"
+            } else {
+                " is no number of milliseconds, as 5000"
             }
-            _ => "",
         }
+        _ => "",
     }
 }

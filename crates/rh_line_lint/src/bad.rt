@@ -2,14 +2,14 @@
 
 ghost use Rattle.std.specs.Prelude.{◌≡◌, IfOk, map};
 ghost use Rattle.std.specs.String.{string_bytes};
-ghost use Rattle.rh_line_lint.specs.Commands.{seen};
 ghost use Rattle.rh_line_lint.specs.Lines.{meant_words, unknown_command, bad_arguments, unread, tab_words, bad_words, error_at};
 
 use crate::blame::{push_blame, push_near};
-use crate::commands::{Command, command_named, command_words};
-use crate::words::{text_of, words_of};
+use crate::commands::{command_words, push_usage};
+use crate::words::words_of;
 use rh_base::{OutOfMemory, Str};
 use rh_findings::{Finding, Kind};
+use rh_script::{Verb, text_of, verb_named};
 use rh_term_lint::nearest;
 use std::alloc::Global;
 
@@ -47,7 +47,8 @@ fn meant_words(word: &str) -> &'static str
 fn unknown_command(alloc: Global, word: &str) -> Result<String, OutOfMemory>
     ensures { IfOk result (λ text. string_bytes text ≡ unknown_command word.now) }
 {
-    let near = nearest(alloc, word, command_words())?;
+    let words = command_words(alloc)?;
+    let near = nearest(alloc, word, words.as_slice())?;
     let meant = meant_words(word);
     let mut text = format!(in alloc; "unknown_command: {word} is no command{meant}")?;
     push_near(&mut text, near)?;
@@ -56,12 +57,13 @@ fn unknown_command(alloc: Global, word: &str) -> Result<String, OutOfMemory>
 
 // What is told of a command with words that aren't what it takes.
 #[tactic(auto, unfolding(crate::specs::Lines::bad_arguments))]
-fn bad_arguments(alloc: Global, command: Command, words: &[&str]) -> Result<String, OutOfMemory>
-    ensures { IfOk result (λ text. string_bytes text ≡ bad_arguments (seen command) (map (λ word. word.now) words.now)) }
+fn bad_arguments(alloc: Global, verb: Verb, words: &[&str]) -> Result<String, OutOfMemory>
+    ensures { IfOk result (λ text.
+        string_bytes text ≡ bad_arguments verb (map (λ word. word.now) words.now)) }
 {
-    let usage = command.usage;
-    let mut text = format!(in alloc; "bad_arguments: the command is {usage}")?;
-    push_blame(alloc, &mut text, command.arguments, words)?;
+    let mut text = format!(in alloc; "bad_arguments: the command is ")?;
+    push_usage(&mut text, verb)?;
+    push_blame(alloc, &mut text, verb.form().arguments, words)?;
     Ok(text)
 }
 
@@ -72,9 +74,9 @@ fn unread(alloc: Global, words: &[&str]) -> Result<String, OutOfMemory>
 {
     match words {
         [] => Ok(String::new(alloc)),
-        [word, words @ ..] => match command_named(word) {
+        [word, words @ ..] => match verb_named(word) {
             None => unknown_command(alloc, word),
-            Some(command) => bad_arguments(alloc, command, words),
+            Some(verb) => bad_arguments(alloc, verb, words),
         },
     }
 }

@@ -3,11 +3,11 @@
 ghost use Rattle.std.specs.Prelude.{◌≡◌, ◌++◌, OnOk, map};
 ghost use Rattle.std.specs.Option.{option_map};
 ghost use Rattle.std.specs.String.{string_bytes};
-ghost use Rattle.rh_line_lint.specs.Arguments.{kind};
 ghost use Rattle.rh_line_lint.specs.Lines.{near_words, first_mistaken, mistaken_words, comment_words, surplus_words, missing_words, blame};
 
-use crate::arguments::Argument;
+use crate::arguments::{choices, mismatch, takes};
 use rh_base::OutOfMemory;
+use rh_script::Argument;
 use rh_term_lint::nearest;
 use std::alloc::Global;
 
@@ -24,12 +24,13 @@ pub fn push_near(text: &mut String, near: Option<&str>) -> Result<(), OutOfMemor
 
 // The first word that isn't what its argument takes, with that argument.
 fn first_mistaken<'a>(arguments: &[Argument], words: &[&'a str]) -> Option<(Argument, &'a str)>
-    ensures { option_map (λ p. (kind p.0, p.1.now)) result ≡ first_mistaken (map kind arguments.now) (map (λ word. word.now) words.now) }
+    ensures { option_map (λ p. (p.0, p.1.now)) result
+        ≡ first_mistaken arguments.now (map (λ word. word.now) words.now) }
 {
     arguments
         .iter()
         .zip(words)
-        .find(|(argument, word)| !argument.takes(word))
+        .find(|(argument, word)| !takes(**argument, word))
         .map(|(argument, word)| (*argument, *word))
 }
 
@@ -41,11 +42,11 @@ fn push_mistaken(
     argument: Argument,
     word: &str,
 ) -> Result<(), OutOfMemory>
-    ensures { OnOk result (string_bytes text.new ≡ string_bytes text.old ++ mistaken_words (kind argument) word.now) }
+    ensures { OnOk result (string_bytes text.new ≡ string_bytes text.old ++ mistaken_words argument word.now) }
 {
-    let near = nearest(alloc, word, argument.choices())?;
-    let mismatch = argument.mismatch(word);
-    write!(text, "; {word}{mismatch}")?;
+    let near = nearest(alloc, word, choices(argument))?;
+    let mismatched = mismatch(argument, word);
+    write!(text, "; {word}{mismatched}")?;
     push_near(text, near)
 }
 
@@ -94,7 +95,8 @@ pub fn push_blame(
     arguments: &[Argument],
     words: &[&str],
 ) -> Result<(), OutOfMemory>
-    ensures { OnOk result (string_bytes text.new ≡ string_bytes text.old ++ blame (map kind arguments.now) (map (λ word. word.now) words.now)) }
+    ensures { OnOk result (string_bytes text.new
+        ≡ string_bytes text.old ++ blame arguments.now (map (λ word. word.now) words.now)) }
 {
     if let Some((argument, word)) = first_mistaken(arguments, words) {
         return push_mistaken(alloc, text, argument, word);

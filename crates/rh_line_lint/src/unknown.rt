@@ -3,18 +3,17 @@
 ghost use Rattle.std.specs.Prelude.{◌≡◌, ◌++◌, IfOk, OnOk, map, position, slice_get};
 ghost use Rattle.std.specs.Option.{option_map, option_and_then};
 ghost use Rattle.std.specs.String.{string_bytes};
-ghost use Rattle.rh_line_lint.specs.Arguments.{kind, is_node, is_app};
+ghost use Rattle.rh_line_lint.specs.Arguments.{is_node, is_app};
 ghost use Rattle.rh_line_lint.specs.Lines.{node_words, app_words, unknown_node, unknown_app, of_command, of_words, unknown_names, word_at};
 
-use crate::arguments::Argument;
 use crate::bad::error_at;
 use crate::blame::push_near;
-use crate::commands::command_named;
 use crate::names::{app_names, node_names};
-use crate::words::{text_of, words_of};
+use crate::words::words_of;
 use rh_base::OutOfMemory;
 use rh_cluster::Cluster;
 use rh_findings::Finding;
+use rh_script::{Argument, text_of, verb_named};
 use rh_term_lint::nearest;
 use std::alloc::Global;
 
@@ -93,7 +92,7 @@ fn word_at<'a>(words: &[&'a str], place: Option<usize>) -> Option<&'a str>
 
 // The place of the argument that is the name of a node.
 fn node_place(arguments: &[Argument]) -> Option<usize>
-    ensures { result ≡ position is_node (map kind arguments.now) }
+    ensures { result ≡ position is_node arguments.now }
 {
     arguments
         .iter()
@@ -102,7 +101,7 @@ fn node_place(arguments: &[Argument]) -> Option<usize>
 
 // The place of the argument that is the name of an application.
 fn app_place(arguments: &[Argument]) -> Option<usize>
-    ensures { result ≡ position is_app (map kind arguments.now) }
+    ensures { result ≡ position is_app arguments.now }
 {
     arguments
         .iter()
@@ -119,7 +118,7 @@ fn push_of_command(
     arguments: &[Argument],
     words: &[&str],
 ) -> Result<(), OutOfMemory>
-    ensures { OnOk result (found.new.items ≡ found.old.items ++ of_command cluster.now number (map kind arguments.now) (map (λ word. word.now) words.now)) }
+    ensures { OnOk result (found.new.items ≡ found.old.items ++ of_command cluster.now number arguments.now (map (λ word. word.now) words.now)) }
 {
     let node = word_at(words, node_place(arguments));
     let app = word_at(words, app_place(arguments));
@@ -140,10 +139,10 @@ fn push_of_words(
 {
     match words {
         [] => Ok(()),
-        [word, words @ ..] => match command_named(word) {
+        [word, words @ ..] => match verb_named(word) {
             None => Ok(()),
-            Some(command) => {
-                push_of_command(alloc, found, cluster, number, command.arguments, words)
+            Some(verb) => {
+                push_of_command(alloc, found, cluster, number, verb.form().arguments, words)
             }
         },
     }

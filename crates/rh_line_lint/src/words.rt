@@ -1,9 +1,7 @@
 //! The words of a line.
 
-ghost use Rattle.std.specs.Prelude.{◌≡◌, ◌==◌, if◌then◌else◌, Some, None, IfOk, map};
+ghost use Rattle.std.specs.Prelude.{◌≡◌, ◌==◌, IfOk, map};
 ghost use Rattle.std.specs.List.{slice_split};
-ghost use Rattle.std.specs.Option.{option_map};
-ghost use Rattle.std.specs.Str.{is_utf8};
 ghost use Rattle.rh_script.specs.Commands.{words_of};
 
 use rh_base::OutOfMemory;
@@ -28,11 +26,4 @@ pub fn words_of(alloc: Global, line: &str) -> Result<Vec<&str>, OutOfMemory>
         }
     }
     Ok(words)
-}
-
-/// The line as a text, if it is one.
-pub fn text_of(line: &[u8]) -> Option<&str>
-    ensures { option_map (λ text. text.now) result ≡ (if is_utf8 line.now then Some line.now else None) }
-{
-    str::from_utf8(line).ok()
 }

@@ -64,8 +64,8 @@ pub fn begins_with(byte: u8, line: &[u8]) -> bool
     !line.is_empty() && line[0] == byte
 }
 
-// A number of milliseconds.
-fn milliseconds(word: &str) -> Option<u64>
+/// A number of milliseconds: decimal digits and nothing else, within 64 bits.
+pub fn milliseconds(word: &str) -> Option<u64>
     ensures { result ≡ milliseconds word.now }
 {
     // A plus may stand before a number that is parsed, but not in a script.
@@ -183,7 +183,7 @@ fn command_in(cluster: &Cluster, line: &str) -> Line
     command_of(cluster, first_words(line).as_slice())
 }
 
-// The line as a text, if it is one.
+/// The line as a text, if it is UTF-8.
 pub fn text_of(line: &[u8]) -> Option<&str>
     ensures { option_map (λ text. text.now) result ≡ (if is_utf8 line.now then Some line.now else None) }
 {
