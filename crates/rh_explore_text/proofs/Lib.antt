@@ -1,4 +1,5 @@
 pub mod SearchRead
+pub mod OpenSays
 pub mod Coming
 pub mod Answered
 pub mod Named

@@ -6,61 +6,45 @@ use Rattle.rh_model.specs.declared.node.Node.{Node}
 use Rattle.rh_model.specs.declared.node.App.{App}
 use Rattle.rh_state.specs.Numbers.{nodes_of, apps_of}
 use Rattle.rh_rules.specs.declared.event.Event.{Event}
-use Rattle.rh_rules.specs.declared.event.Event.TheVariants.{Boot, Crash, Tick, Start, Stop, Permit, Takeover, Exit, StartAll, StopAll}
+use Rattle.rh_calls.specs.declared.call.Call.{Call}
+use Rattle.rh_calls.specs.declared.call.Call.TheVariants as call
+use Rattle.rh_script.specs.declared.forms.Given.{Given}
+use Rattle.rh_script.specs.declared.forms.Verb.{Verb}
+use Rattle.rh_script.specs.Forms.{said, call_of, with_node, with_app}
 use Rattle.rh_explore.specs.declared.moves.Move.{Move}
 use Rattle.rh_explore.specs.declared.moves.Move.TheVariants.{Make}
 use Rattle.rh_explore_text.specs.Words.{is_star_at}
 
--- ---- the node and the application of an event
+-- ---- the node and the application of an event: those that its command is given
+
+-- its command, and what is given to it
+abbrev pub command_of : Event → Verb
+command_of e = (said (call.Step e)).0
+
+abbrev pub given_to : Event → Given
+given_to e = (said (call.Step e)).1
 
 abbrev pub node_in : Event → Option Node
-node_in (Boot n) = Some n
-node_in (Crash n) = Some n
-node_in (Tick ms) = None
-node_in (Start n a r) = Some n
-node_in (Stop n a) = Some n
-node_in (Permit n a allow) = Some n
-node_in (Takeover n a r) = Some n
-node_in (Exit n a normal) = Some n
-node_in (StartAll a r) = None
-node_in (StopAll a) = None
+node_in e = (given_to e).node
 
 abbrev pub app_in : Event → Option App
-app_in (Boot n) = None
-app_in (Crash n) = None
-app_in (Tick ms) = None
-app_in (Start n a r) = Some a
-app_in (Stop n a) = Some a
-app_in (Permit n a allow) = Some a
-app_in (Takeover n a r) = Some a
-app_in (Exit n a normal) = Some a
-app_in (StartAll a r) = Some a
-app_in (StopAll a) = Some a
+app_in e = (given_to e).app
+
+-- the event that a call makes, or this one
+abbrev pub event_or : Event → Option Call → Event
+event_or e (Some (call.Step other)) = other
+event_or e _ = e
+
+-- the event of the same command with this given to it
+abbrev pub event_with : Event → Given → Event
+event_with e g = event_or e (call_of (command_of e) g)
 
 -- the same event with another one, where it has one
 abbrev pub at_node : Event → Node → Event
-at_node (Boot m) n = Boot n
-at_node (Crash m) n = Crash n
-at_node (Tick ms) n = Tick ms
-at_node (Start m a r) n = Start n a r
-at_node (Stop m a) n = Stop n a
-at_node (Permit m a allow) n = Permit n a allow
-at_node (Takeover m a r) n = Takeover n a r
-at_node (Exit m a normal) n = Exit n a normal
-at_node (StartAll a r) n = StartAll a r
-at_node (StopAll a) n = StopAll a
+at_node e n = if is_some (node_in e) then event_with e (with_node (given_to e) n) else e
 
 abbrev pub at_app : Event → App → Event
-at_app (Boot n) a = Boot n
-at_app (Crash n) a = Crash n
-at_app (Tick ms) a = Tick ms
-at_app (Start n b r) a = Start n a r
-at_app (Stop n b) a = Stop n a
-at_app (Permit n b allow) a = Permit n a allow
-at_app (Takeover n b r) a = Takeover n a r
-at_app (Exit n b normal) a = Exit n a normal
-at_app (StartAll b r) a = StartAll a r
-at_app (StopAll b) a = StopAll a
+at_app e a = if is_some (app_in e) then event_with e (with_app (given_to e) a) else e
 
 -- ---- names that are left open
 

@@ -3,43 +3,38 @@
 ghost use Rattle.std.specs.Prelude.{◌≡◌, ◌++◌, map, OnOk, IfOk};
 ghost use Rattle.std.specs.List.{flat_map};
 ghost use Rattle.rh_state.specs.Numbers.{nodes_of, apps_of};
-ghost use Rattle.rh_explore_text.specs.OpenEvents.{node_in, app_in, at_node, at_app, is_open_node, is_open_app, app_place, is_meant, each_app, each_move};
+ghost use Rattle.rh_explore_text.specs.OpenEvents.{node_in, app_in, event_with, at_node, at_app, is_open_node, is_open_app, app_place, is_meant, each_app, each_move};
 
 use crate::words::is_star_at;
 use rh_base::OutOfMemory;
+use rh_calls::Call;
 use rh_cluster::{App, Cluster, Node};
 use rh_explore::Move;
+use rh_script::{Given, call_of, said};
 use rh_step::Event;
 
-// The node of an event, if it has one.
+// The node of an event, if it has one: that which its command is given.
 fn node_in(event: Event) -> Option<Node>
     ensures { result ≡ node_in event }
 {
-    match event {
-        Event::Boot { node }
-        | Event::Crash { node }
-        | Event::Start { node, .. }
-        | Event::Stop { node, .. }
-        | Event::Permit { node, .. }
-        | Event::Takeover { node, .. }
-        | Event::Exit { node, .. } => Some(node),
-        Event::Tick { .. } | Event::StartAll { .. } | Event::StopAll { .. } => None,
-    }
+    said(Call::Step(event)).1.node
 }
 
 // Its application, if it has one.
 fn app_in(event: Event) -> Option<App>
     ensures { result ≡ app_in event }
 {
-    match event {
-        Event::Start { app, .. }
-        | Event::Stop { app, .. }
-        | Event::Permit { app, .. }
-        | Event::Takeover { app, .. }
-        | Event::Exit { app, .. }
-        | Event::StartAll { app, .. }
-        | Event::StopAll { app } => Some(app),
-        Event::Boot { .. } | Event::Crash { .. } | Event::Tick { .. } => None,
+    said(Call::Step(event)).1.app
+}
+
+// The event of the same command with this given to it, or the same event where it makes none.
+fn event_with(event: Event, given: Given) -> Event
+    ensures { result ≡ event_with event given }
+{
+    let (verb, _) = said(Call::Step(event));
+    match call_of(verb, given) {
+        Some(Call::Step(other)) => other,
+        _ => event,
     }
 }
 
@@ -47,15 +42,11 @@ fn app_in(event: Event) -> Option<App>
 fn at_node(event: Event, node: Node) -> Event
     ensures { result ≡ at_node event node }
 {
-    match event {
-        Event::Boot { .. } => Event::Boot { node },
-        Event::Crash { .. } => Event::Crash { node },
-        Event::Start { app, restart, .. } => Event::Start { node, app, restart },
-        Event::Stop { app, .. } => Event::Stop { node, app },
-        Event::Permit { app, allow, .. } => Event::Permit { node, app, allow },
-        Event::Takeover { app, restart, .. } => Event::Takeover { node, app, restart },
-        Event::Exit { app, normal, .. } => Event::Exit { node, app, normal },
-        Event::Tick { .. } | Event::StartAll { .. } | Event::StopAll { .. } => event,
+    let (_, given) = said(Call::Step(event));
+    if given.node.is_some() {
+        event_with(event, given.with_node(node))
+    } else {
+        event
     }
 }
 
@@ -63,15 +54,11 @@ fn at_node(event: Event, node: Node) -> Event
 fn at_app(event: Event, app: App) -> Event
     ensures { result ≡ at_app event app }
 {
-    match event {
-        Event::Start { node, restart, .. } => Event::Start { node, app, restart },
-        Event::Stop { node, .. } => Event::Stop { node, app },
-        Event::Permit { node, allow, .. } => Event::Permit { node, app, allow },
-        Event::Takeover { node, restart, .. } => Event::Takeover { node, app, restart },
-        Event::Exit { node, normal, .. } => Event::Exit { node, app, normal },
-        Event::StartAll { restart, .. } => Event::StartAll { app, restart },
-        Event::StopAll { .. } => Event::StopAll { app },
-        Event::Boot { .. } | Event::Crash { .. } | Event::Tick { .. } => event,
+    let (_, given) = said(Call::Step(event));
+    if given.app.is_some() {
+        event_with(event, given.with_app(app))
+    } else {
+        event
     }
 }
 

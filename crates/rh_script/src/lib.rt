@@ -3,7 +3,7 @@
 //! [`cut`] parts an input at its line `===`, [`line_of`] says what a line of a script asks, and [`session_line_of`] what one
 //! asks that names its session; [`sweep_in`] reads the base and the plans of a sweep. [`answer_text`] is the text of a reply,
 //! [`command_text`] that of a call, and [`outcome_text`] that of a plan. A law says that the text of a call asks for it again
-//! ([`words_ask_again`]).
+//! ([`words_ask_again`]). [`said`] is the command that asks a call, with what is given to it, and [`call_of`] the way back.
 //!
 //! [`VERBS`] are the commands, each a [`Verb`] of the table in `forms`, with its word and the kinds of its [`Argument`]s: who reads, writes
 //! or tells of commands goes by it.
@@ -26,7 +26,7 @@ mod sweep_lines;
 
 pub use answers::{answer_text, bad_text, fault_text, push_notice};
 pub use command_words::command_text;
-pub use forms::{Argument, VERBS, Verb, verb_named};
+pub use forms::{Argument, Given, VERBS, Verb, call_of, said, verb_named};
 pub use laws::words_ask_again;
 pub use lines::{content, cut, split_line};
 pub use note_laws::notes_are_marked;
