@@ -1,18 +1,22 @@
 -- Something is told of the words behind a command exactly where they make no command.
 use Rattle.std.proofs.Common.{◌≡◌, ◌<◌, ◌-◌, ◌==◌, ◌&&◌, ℕ, Bool, true, false, not, cond, List, [], ◌∷◌, ◌++◌, length, map, nat_lt}
-use Rattle.std.proofs.Common.{Option, Some, None, refl, sym, ap, subst, ◌∙◌, arith, codes}
-use Rattle.std.specs.Prelude.{option_map, option_and_then, is_some, find, position, slice_get}
+use Rattle.std.proofs.Common.{Option, Some, None, IfSome, refl, sym, ap, subst, ◌∙◌, arith, codes}
+use Rattle.std.specs.Prelude.{option_map, option_and_then, is_some, find, slice_get}
+use Rattle.std.specs.List.{list_all}
 use Rattle.std.specs.Fmt.{decimal}
 use Rattle.std.proofs.lemmas.Bool.Decides.{nat_tests}
 use Rattle.rh_model.specs.ClusterView.{ClusterView}
 use Rattle.rh_calls.specs.declared.call.Call.{Call}
 use Rattle.rh_script.specs.declared.forms.Argument.{Argument}
+use Rattle.rh_script.specs.declared.forms.Argument.TheVariants as argument
 use Rattle.rh_script.specs.declared.forms.Verb.{Verb}
 use Rattle.rh_script.specs.declared.forms.Verb.TheVariants as verb
 use Rattle.rh_script.specs.declared.forms.Given.{Given}
-use Rattle.rh_script.specs.Forms.{verbs, word_of, arguments_of, verb_named, nothing, call_of, with_app, with_restart, with_truth, with_ending, with_ms, at_place}
+use Rattle.rh_script.specs.Forms.{verbs, word_of, arguments_of, verb_named, nothing, two, three, call_of}
+use Rattle.rh_script.specs.Forms.{with_node, with_app, with_restart, with_truth, with_ending, with_ms}
 use Rattle.rh_script.specs.Commands.{named, named_app, milliseconds, restart_named, first_of, with_argument, given_in, row_asks, asking, command_of}
 use Rattle.rh_script.specs.CommandWords.{truth_word, reason_word}
+use Rattle.rh_script.proofs.Verbs.{is_given, has, put}
 use Rattle.rh_line_lint.specs.Arguments.{takes}
 use Rattle.rh_line_lint.specs.Laws.{is_bad, is_told}
 use Rattle.rh_line_lint.specs.Lines.{first_mistaken, mistaken_words, surplus_words, missing_words, count_words, blame_by, blame}
@@ -74,61 +78,112 @@ told (a ∷ arguments) (word ∷ words) = told_first a word arguments words (tak
 
 -- ---- words that are read make a call
 
-last : {A : Type 0} (c : ClusterView) (v : Verb) (set : A → Given) (o : Option A) (rest : List (List ℕ)) → ((x : A) → is_some (call_of v (set x)) ≡ true)
-    → is_some (option_and_then (call_of v) (option_and_then (given_in c [] rest) (option_map set o)))
-    ≡ is_some (option_and_then (given_in c [] rest) (option_map set o))
-last c v set None rest makes = refl
-last c v set (Some x) [] makes = makes x
-last c v set (Some x) (word ∷ rest) makes = refl
+-- what is put to what is given, and what was given before
+put_has : (a : Argument) (k g : Given) → has k a ≡ true → has (put k a g) a ≡ true
+put_has argument.Node k g is = is
+put_has _ k g is = is
+
+put_keeps : (a b : Argument) (k g : Given) → has k a ≡ true → has g b ≡ true → has (put k a g) b ≡ true
+put_keeps argument.Node argument.Node k g is was = is
+put_keeps argument.Node _ k g is was = was
+put_keeps argument.App argument.App k g is was = is
+put_keeps argument.App _ k g is was = was
+put_keeps argument.Restart argument.Restart k g is was = is
+put_keeps argument.Restart _ k g is was = was
+put_keeps argument.Truth argument.Truth k g is was = is
+put_keeps argument.Truth _ k g is was = was
+put_keeps argument.Ending argument.Ending k g is was = is
+put_keeps argument.Ending _ k g is was = was
+put_keeps argument.Milliseconds argument.Milliseconds k g is was = is
+put_keeps argument.Milliseconds _ k g is was = was
+
+-- one more is given, of this kind
+record Adds (a : Argument) (g h : Given) : Type 0 where
+  given : has h a ≡ true
+  kept : (b : Argument) → has g b ≡ true → has h b ≡ true
+
+of_put : (a : Argument) (k g : Given) → has k a ≡ true → Adds a g (put k a g)
+of_put a k g is = record { given = put_has a k g is; kept = λ b was. put_keeps a b k g is was }
+
+each_adds : {A : Type 0} (a : Argument) (g : Given) (set : A → Given) (o : Option A) → ((x : A) → Adds a g (set x))
+    → IfSome (option_map set o) (Adds a g)
+each_adds a g set None adds = tt
+each_adds a g set (Some x) adds = adds x
+
+adds : (c : ClusterView) (a : Argument) (word : List ℕ) (g : Given) → IfSome (with_argument c a word g) (Adds a g)
+adds c argument.Node word g = of_put argument.Node (with_node nothing (named c word)) g refl
+adds c argument.App word g = of_put argument.App (with_app nothing (named_app c word)) g refl
+adds c argument.Restart word g =
+    each_adds argument.Restart g (with_restart g) (restart_named word) (λ r. of_put argument.Restart (with_restart nothing r) g refl)
+adds c argument.Truth word g =
+    each_adds argument.Truth g (with_truth g) (first_of (truth_word true) (truth_word false) word)
+    (λ t. of_put argument.Truth (with_truth nothing t) g refl)
+adds c argument.Ending word g =
+    each_adds argument.Ending g (with_ending g) (first_of (reason_word true) (reason_word false) word)
+    (λ t. of_put argument.Ending (with_ending nothing t) g refl)
+adds c argument.Milliseconds word g =
+    each_adds argument.Milliseconds g (with_ms g) (milliseconds word) (λ n. of_put argument.Milliseconds (with_ms nothing n) g refl)
+
+-- all of these are given
+record AddsAll (arguments : List Argument) (g h : Given) : Type 0 where
+  whole : list_all (has h) arguments ≡ true
+  kept : (b : Argument) → has g b ≡ true → has h b ≡ true
+
+more : {P Q : Given → Type 0} (o : Option Given) → ((h : Given) → P h → Q h) → IfSome o P → IfSome o Q
+more None next is = tt
+more (Some h) next is = next h is
+
+all_given : (c : ClusterView) (arguments : List Argument) (words : List (List ℕ)) (g : Given) → IfSome (given_in c arguments words g) (AddsAll arguments g)
+all_given c [] [] g = record { whole = refl; kept = λ b was. was }
+all_given c [] (word ∷ words) g = tt
+all_given c (a ∷ arguments) [] g = tt
+all_given c (a ∷ arguments) (word ∷ words) g = by (with_argument c a word g) (adds c a word g) (all_given c arguments words)
+  where
+    both : {t u : Bool} → t ≡ true → u ≡ true → (t && u) ≡ true
+    both t u = λ i. t i && u i
+
+    by : (o : Option Given) → IfSome o (Adds a g) → ((h : Given) → IfSome (given_in c arguments words h) (AddsAll arguments h))
+        → IfSome (option_and_then (given_in c arguments words) o) (AddsAll (a ∷ arguments) g)
+    by None one others = tt
+    by (Some h) one others = more (given_in c arguments words h)
+        (λ k all. record { whole = both (all.kept a one.given) all.whole; kept = λ b was. all.kept b (one.kept b was) }) (others h)
+
+-- a command asks a call where all is given that its row wants
+some_given : {A : Type 0} (o : Option A) → is_some o ≡ is_given o
+some_given None = refl
+some_given (Some x) = refl
+
+one_given : {A B : Type 0} (f : A → B) (o : Option A) → is_given (option_map f o) ≡ is_given o
+one_given f None = refl
+one_given f (Some x) = refl
+
+two_given : {A B C : Type 0} (f : A → B → C) (o : Option A) (p : Option B) → is_given (two f o p) ≡ (is_given o && is_given p)
+two_given f None p = refl
+two_given f (Some x) p = one_given (f x) p
+
+three_given : {A B C D : Type 0} (f : A → B → C → D) (o : Option A) (p : Option B) (q : Option C)
+    → is_given (three f o p q) ≡ (is_given o && (is_given p && is_given q))
+three_given f None p q = refl
+three_given f (Some x) p q = two_given (f x) p q
+
+and_true : (b : Bool) → (b && true) ≡ b
+and_true true = refl
+and_true false = refl
+
+wanted : (v : Verb) (g : Given) → is_given (call_of v g) ≡ list_all (has g) (arguments_of v)
+wanted verb.Undo g = refl
+wanted verb.Redo g = refl
+wanted verb.UndoAll g = refl
+wanted verb.RedoAll g = refl
+wanted verb.Show g = refl
+wanted _ g = simp (one_given, two_given, three_given, and_true)
 
 made : (c : ClusterView) (v : Verb) (words : List (List ℕ)) → is_some (row_asks c (Some v) words) ≡ is_some (given_in c (arguments_of v) words nothing)
-made c verb.Boot [] = refl
-made c verb.Boot (n ∷ []) = refl
-made c verb.Boot (n ∷ word ∷ rest) = refl
-made c verb.Crash [] = refl
-made c verb.Crash (n ∷ []) = refl
-made c verb.Crash (n ∷ word ∷ rest) = refl
-made c verb.Tick [] = refl
-made c verb.Tick (ms ∷ rest) = last c verb.Tick (with_ms nothing) (milliseconds ms) rest (λ _. refl)
-made c verb.Start [] = refl
-made c verb.Start (n ∷ []) = refl
-made c verb.Start (n ∷ a ∷ []) = refl
-made c verb.Start (n ∷ a ∷ r ∷ rest) = last c verb.Start (with_restart (at_place (named c n) (named_app c a))) (restart_named r) rest (λ _. refl)
-made c verb.Stop [] = refl
-made c verb.Stop (n ∷ []) = refl
-made c verb.Stop (n ∷ a ∷ []) = refl
-made c verb.Stop (n ∷ a ∷ word ∷ rest) = refl
-made c verb.Permit [] = refl
-made c verb.Permit (n ∷ []) = refl
-made c verb.Permit (n ∷ a ∷ []) = refl
-made c verb.Permit (n ∷ a ∷ t ∷ rest) =
-    last c verb.Permit (with_truth (at_place (named c n) (named_app c a))) (first_of (truth_word true) (truth_word false) t) rest (λ _. refl)
-made c verb.Takeover [] = refl
-made c verb.Takeover (n ∷ []) = refl
-made c verb.Takeover (n ∷ a ∷ []) = refl
-made c verb.Takeover (n ∷ a ∷ r ∷ rest) =
-    last c verb.Takeover (with_restart (at_place (named c n) (named_app c a))) (restart_named r) rest (λ _. refl)
-made c verb.Exit [] = refl
-made c verb.Exit (n ∷ []) = refl
-made c verb.Exit (n ∷ a ∷ []) = refl
-made c verb.Exit (n ∷ a ∷ e ∷ rest) =
-    last c verb.Exit (with_ending (at_place (named c n) (named_app c a))) (first_of (reason_word true) (reason_word false) e) rest (λ _. refl)
-made c verb.StartAll [] = refl
-made c verb.StartAll (a ∷ []) = refl
-made c verb.StartAll (a ∷ r ∷ rest) = last c verb.StartAll (with_restart (with_app nothing (named_app c a))) (restart_named r) rest (λ _. refl)
-made c verb.StopAll [] = refl
-made c verb.StopAll (a ∷ []) = refl
-made c verb.StopAll (a ∷ word ∷ rest) = refl
-made c verb.Undo [] = refl
-made c verb.Undo (word ∷ rest) = refl
-made c verb.Redo [] = refl
-made c verb.Redo (word ∷ rest) = refl
-made c verb.UndoAll [] = refl
-made c verb.UndoAll (word ∷ rest) = refl
-made c verb.RedoAll [] = refl
-made c verb.RedoAll (word ∷ rest) = refl
-made c verb.Show [] = refl
-made c verb.Show (word ∷ rest) = refl
+made c v words = by (given_in c (arguments_of v) words nothing) (all_given c (arguments_of v) words nothing)
+  where
+    by : (o : Option Given) → IfSome o (AddsAll (arguments_of v) nothing) → is_some (option_and_then (call_of v) o) ≡ is_some o
+    by None all = refl
+    by (Some g) all = some_given (call_of v g) ∙ wanted v g ∙ all.whole
 
 bad_unasked : (o : Option Call) → is_bad (asking o) ≡ not (is_some o)
 bad_unasked None = refl

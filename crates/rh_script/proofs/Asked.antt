@@ -8,7 +8,6 @@ use Rattle.std.proofs.lemmas.Bool.Decides.{nat_tests}
 use Rattle.std.proofs.lemmas.List.Quantifiers.{position-Some}
 use Rattle.rh_model.specs.ClusterView.{ClusterView, node_of, app_of, numbered, app_numbered}
 use Rattle.rh_rules.specs.declared.event.Event.{Event}
-use Rattle.rh_rules.specs.declared.event.Event.TheVariants as event
 use Rattle.rh_calls.specs.declared.call.Call.{Call}
 use Rattle.rh_calls.specs.declared.call.Call.TheVariants as call
 use Rattle.rh_calls.specs.Report.{no_name}
@@ -118,27 +117,14 @@ module _ (c : ClusterView) (node_free : node_of c no_name ≡ None) (app_free : 
   all event P Q None p q is are told = tt
   all event P Q (Some x) p q is are told = both (event x) Q (λ _. Unit {0}) p q are (any q) (λ y z r _. told x y z is r)
 
+  -- of two that are given, of which the second is no name
+  led : {A B : Type 0} (event : A → B → Event) (P : A → Type 0) (o : Option A) (p : Option B) → IfSome o P
+      → ((x : A) (y : B) → P x → IsTold c (call.Step (event x y))) → IfSome (option_map (λ e. call.Step e) (two event o p)) (IsTold c)
+  led event P o p is told = both event P (λ _. Unit {0}) o p is (any p) (λ x y q _. told x y q)
+
   call_told : (v : Verb) (g : Given) → IsGivenTold c g → IfSome (call_of v g) (IsTold c)
-  call_told verb.Boot g told = one (λ n. event.Boot n) (IsNodeTold c) g.node told.0 (λ n is. (is, tt, tt))
-  call_told verb.Crash g told = one (λ n. event.Crash n) (IsNodeTold c) g.node told.0 (λ n is. (is, tt, tt))
-  call_told verb.Tick g told = one (λ ms. event.Tick ms) (λ ms. ms < 2 ^ 64) g.ms told.2 (λ ms is. (tt, tt, is))
-  call_told verb.Start g told =
-      all (λ n a restart. event.Start n a restart) (IsNodeTold c) (IsAppTold c) g.node g.app g.restart told.0 told.1 (λ n a restart is are. (is, are, tt))
-  call_told verb.Stop g told = both (λ n a. event.Stop n a) (IsNodeTold c) (IsAppTold c) g.node g.app told.0 told.1 (λ n a is are. (is, are, tt))
-  call_told verb.Permit g told =
-      all (λ n a allow. event.Permit n a allow) (IsNodeTold c) (IsAppTold c) g.node g.app g.truth told.0 told.1 (λ n a allow is are. (is, are, tt))
-  call_told verb.Takeover g told =
-      all (λ n a restart. event.Takeover n a restart) (IsNodeTold c) (IsAppTold c) g.node g.app g.restart told.0 told.1 (λ n a restart is are. (is, are, tt))
-  call_told verb.Exit g told =
-      all (λ n a normal. event.Exit n a normal) (IsNodeTold c) (IsAppTold c) g.node g.app g.ending told.0 told.1 (λ n a normal is are. (is, are, tt))
-  call_told verb.StartAll g told =
-      both (λ a restart. event.StartAll a restart) (IsAppTold c) (λ _. Unit {0}) g.app g.restart told.1 (any g.restart) (λ a restart is _. (tt, is, tt))
-  call_told verb.StopAll g told = one (λ a. event.StopAll a) (IsAppTold c) g.app told.1 (λ a is. (tt, is, tt))
-  call_told verb.Undo g told = (tt, tt, tt)
-  call_told verb.Redo g told = (tt, tt, tt)
-  call_told verb.UndoAll g told = (tt, tt, tt)
-  call_told verb.RedoAll g told = (tt, tt, tt)
   call_told verb.Show g told = (tt, tt, tt)
+  call_told _ g told = search (told, one, both, all, led)
 
   row_told : (o : Option Verb) (words : List (List ℕ)) → IfSome (row_asks c o words) (IsTold c)
   row_told None words = tt
