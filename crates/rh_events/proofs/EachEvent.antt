@@ -15,7 +15,7 @@ use Rattle.rh_trace.specs.Traces.{IsPairOf}
 use Rattle.rh_trace.specs.Validity.{IsSound}
 use Rattle.rh_trace.proofs.Behind.{after_notices}
 use Rattle.rh_rules.specs.declared.event.Event.{Event}
-use Rattle.rh_rules.specs.declared.event.Event.TheVariants.{Boot, Crash, Tick, Start, Stop, Permit, Takeover, Exit, StartAll, StopAll}
+use Rattle.rh_rules.specs.declared.event.Event.TheVariants.{Boot, Crash, Start, Stop, Permit, Takeover, Exit, StartAll, StopAll}
 use Rattle.rh_rules.specs.Marking.{pair, with_mark}
 use Rattle.rh_rules.specs.NodesEnd.{ended}
 use Rattle.rh_rules.specs.ByHand.{stopped, left_waiting, forbidden, permitted, permission_set, taken_from, taken_over, ends_node, exited}
@@ -39,7 +39,6 @@ use Rattle.rh_events.proofs.StoppingAll.{stopped_all_same, stop_all_after, sound
 pub change_same : (o : Course) (e : Event) → SameTime o.state (change o e).state
 change_same o (Boot n) = booted_same o.state n
 change_same o (Crash n) = ended_same o n
-change_same o (Tick ms) = record { cluster = refl; time = refl }
 change_same o (Start n a r) = in_time o.state (with_mark o.state n a r) (marked_same o.state n a r)
 change_same o (Stop n a) = by (runs_at o.state n a)
   where
@@ -51,6 +50,7 @@ change_same o (Takeover n a r) = in_time o.state (taken_over o n a r).state (tak
 change_same o (Exit n a normal) = exited_same o n a normal
 change_same o (StartAll a r) = in_time o.state _ (started_all_same o a r)
 change_same o (StopAll a) = in_time o.state _ (stopped_all_same o a)
+change_same o _ = record { cluster = refl; time = refl }
 
 pub change_cluster : (o : Course) (e : Event) → (change o e).state.cluster ≡ o.state.cluster
 change_cluster o e = (change_same o e).cluster
@@ -60,9 +60,7 @@ change_time o e = (change_same o e).time
 
 -- ---- earlier notices don't matter
 pub change_after : (base : List Notice) (o : Course) (e : Event) → change (after_notices base o) e ≡ after_notices base (change o e)
-change_after base o (Boot n) = refl
 change_after base o (Crash n) = ended_after base o n
-change_after base o (Tick ms) = refl
 change_after base o (Start n a r) = mark_after base o n a r
 change_after base o (Stop n a) = by (runs_at o.state n a)
   where
@@ -75,6 +73,7 @@ change_after base o (Takeover n a r) = taken_over_after base o n a r
 change_after base o (Exit n a normal) = exited_after base o n a normal
 change_after base o (StartAll a r) = start_all_after base o a r
 change_after base o (StopAll a) = stop_all_after base o a
+change_after base o _ = refl
 
 -- ---- a sound state stays sound
 -- what is started and doesn't run waits
@@ -85,7 +84,6 @@ waits_there false q h k = h
 pub sound_changed : (o : Course) (e : Event) → IsSound o.state → refused o.state e ≡ None → IsSound (change o e).state
 sound_changed o (Boot n) sound fine = let h = accepted_boot o.state n fine in sound_booted o.state n sound h.node h.down h.incarnation
 sound_changed o (Crash n) sound fine = sound_ended o n sound (accepted_crash o.state n fine).node
-sound_changed o (Tick ms) sound fine = sound
 sound_changed o (Start n a r) sound fine =
     let h = accepted_start o.state n a r fine in sound_mark o.state n a r sound h.hand.node h.hand.app h.hand.up h.listed h.unstarted
 sound_changed o (Stop n a) sound fine =
@@ -104,6 +102,7 @@ sound_changed o (Exit n a normal) sound fine =
     let h = accepted_exit o.state n a normal fine in sound_exited o n a normal sound h.hand.node h.hand.app h.runs
 sound_changed o (StartAll a r) sound fine = sound_started_all o a r (accepted_start_all o.state a r fine).app sound
 sound_changed o (StopAll a) sound fine = let h = accepted_stop_all o.state a fine in sound_stopped_all o a h.distributed h.app sound
+sound_changed o _ sound fine = sound
 
 -- ---- only pairs of the cluster are marked
 abbrev ArePairs : StateView → List Pair → Type 0
@@ -112,9 +111,6 @@ ArePairs s ps = All (IsPairOf s.cluster) ps
 pub marked_changed : (o : Course) (e : Event) → refused o.state e ≡ None → All (IsPairOf o.state.cluster) o.marked
     → All (IsPairOf o.state.cluster) (change o e).marked
 unfolding ended stopped left_waiting forbidden permitted taken_over exited
-marked_changed o (Boot n) fine before = before
-marked_changed o (Crash n) fine before = before
-marked_changed o (Tick ms) fine before = before
 marked_changed o (Start n a r) fine before =
     let h = (accepted_start o.state n a r fine).hand in
     All-push (IsPairOf o.state.cluster) o.marked (pair n a) before (record { node = h.node; app = h.app })
@@ -140,12 +136,12 @@ marked_changed o (Exit n a normal) fine before = by (ends_node (restart_of o.sta
     by false = before
 marked_changed o (StartAll a r) fine before = started_all_pairs o a r (accepted_start_all o.state a r fine).app before
 marked_changed o (StopAll a) fine before = subst (ArePairs o.state) (sym (stop_all_marks o a)) before
+marked_changed o _ fine before = before
 
 -- ---- a node that is up stays up, unless its end is told
 pub change_stays : (s : StateView) (e : Event) (n : Node) → refused s e ≡ None → mode_of s n ≡ Up → StaysUp n (change (course_of s [] []) e)
 change_stays s (Boot m) n fine up = inl (booted_stays s m n fine up)
 change_stays s (Crash m) n fine up = ended_stays n m (course_of s [] []) (inl up)
-change_stays s (Tick ms) n fine up = inl up
 change_stays s (Start m a r) n fine up = still_up n (course_of s [] []) (change (course_of s [] []) (Start m a r)) up (marked_same s m a r).modes
 change_stays s (Stop m a) n fine up = stopped_stays n m a (course_of s [] []) up
 change_stays s (Permit m a allow) n fine up =
@@ -155,3 +151,4 @@ change_stays s (Takeover m a r) n fine up =
 change_stays s (Exit m a normal) n fine up = exited_stays n m a normal (course_of s [] []) up
 change_stays s (StartAll a r) n fine up = still_up n (course_of s [] []) (change (course_of s [] []) (StartAll a r)) up (started_all_same (course_of s [] []) a r).modes
 change_stays s (StopAll a) n fine up = still_up n (course_of s [] []) (change (course_of s [] []) (StopAll a)) up (stopped_all_same (course_of s [] []) a).modes
+change_stays s _ n fine up = inl up

@@ -3,7 +3,7 @@ use Rattle.std.proofs.Common.{◌≡◌, ℕ, List, [], ◌∷◌, ◌++◌, map
 use Rattle.std.specs.List.{flat_map}
 use Rattle.std.proofs.lemmas.List.{map-append}
 use Rattle.rh_rules.specs.declared.event.Event.{Event}
-use Rattle.rh_rules.specs.declared.event.Event.TheVariants.{Boot, Crash, Tick, Start, Stop, Permit, Takeover, Exit, StartAll, StopAll}
+use Rattle.rh_rules.specs.declared.event.Event.TheVariants.{Tick}
 use Rattle.rh_rules.specs.declared.notice.Notice.{Notice}
 use Rattle.rh_rules.specs.declared.refusal.Refusal.{Refusal}
 use Rattle.rh_rules.specs.Refusals.{refused}
@@ -41,18 +41,5 @@ ticks_replied sim valid ms notices is =
     ∙ sym fine.told
 
 pub notices_are_replied : (sim : SimView) → IsValid (state_of sim) → NoticesAreReplied sim
-notices_are_replied sim valid (call.Step (Boot n)) notices is = untimed None notices
-notices_are_replied sim valid (call.Step (Crash n)) notices is = untimed None notices
 notices_are_replied sim valid (call.Step (Tick ms)) notices is = ticks_replied sim valid ms notices is
-notices_are_replied sim valid (call.Step (Start n a r)) notices is = untimed None notices
-notices_are_replied sim valid (call.Step (Stop n a)) notices is = untimed None notices
-notices_are_replied sim valid (call.Step (Permit n a allow)) notices is = untimed None notices
-notices_are_replied sim valid (call.Step (Takeover n a r)) notices is = untimed None notices
-notices_are_replied sim valid (call.Step (Exit n a normal)) notices is = untimed None notices
-notices_are_replied sim valid (call.Step (StartAll a r)) notices is = untimed None notices
-notices_are_replied sim valid (call.Step (StopAll a)) notices is = untimed None notices
-notices_are_replied sim valid call.Undo notices is = untimed None notices
-notices_are_replied sim valid call.Redo notices is = untimed None notices
-notices_are_replied sim valid call.UndoAll notices is = untimed None notices
-notices_are_replied sim valid call.RedoAll notices is = untimed None notices
-notices_are_replied sim valid call.Look notices is = untimed None notices
+notices_are_replied sim valid _ notices is = untimed None notices

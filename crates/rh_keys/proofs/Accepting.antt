@@ -5,7 +5,7 @@ use Rattle.rh_state.specs.Limits.{time_limit, incarnation_limit}
 use Rattle.rh_state.specs.Standings.{is_running, is_running_at}
 use Rattle.rh_state.specs.StateView.{StateView, incarnation_of, is_alive, is_allowed, is_started, mode_of, standing_of}
 use Rattle.rh_rules.specs.declared.event.Event.{Event}
-use Rattle.rh_rules.specs.declared.event.Event.TheVariants.{Boot, Crash, Tick, Start, Stop, Permit, Takeover, Exit, StartAll, StopAll}
+use Rattle.rh_rules.specs.declared.event.Event.TheVariants.{Boot, Tick, Start, Takeover, StartAll}
 use Rattle.rh_rules.specs.declared.refusal.Refusal.TheVariants.{UnknownNode, UnknownApp, NodeNotUp, AlreadyAlive, AlreadyStarted, IncarnationLimit, ZeroTick, TimeLimit, NotDistributed, NotListed, NotRunning, RunsHere, NotPermitted}
 use Rattle.rh_rules.specs.Course.{is_local}
 use Rattle.rh_rules.specs.ByHand.{is_started_anywhere}
@@ -57,20 +57,16 @@ alike_accept_alike s t (Boot n) alike fine below =
     below
 alike_accept_alike s t (Tick ms) alike fine below =
     tick_accepted (ms == 0) (nat_lt time_limit (s.time + ms)) (nat_lt time_limit (t.time + ms)) fine below
-alike_accept_alike s t (Crash n) alike fine below = by_timeless (Crash n) s t (λ u. refl) alike fine
 alike_accept_alike s t (Start n a r) alike fine below = by_timeless (Start n a r) s t
     (λ u. ap (λ d. tests_by_hand u n a ((not (is_listed_at u.cluster a n), NotListed) ∷ (is_started u n a, AlreadyStarted) ∷ dep_tests d))
     (missing_timeless u n a)) alike fine
-alike_accept_alike s t (Stop n a) alike fine below = by_timeless (Stop n a) s t (λ u. refl) alike fine
-alike_accept_alike s t (Permit n a allow) alike fine below = by_timeless (Permit n a allow) s t (λ u. refl) alike fine
 alike_accept_alike s t (Takeover n a r) alike fine below = by_timeless (Takeover n a r) s t
     (λ u. ap (λ d. tests_by_hand u n a ((is_local u.cluster a, NotDistributed) ∷ (not (is_listed_at u.cluster a n), NotListed)
     ∷ (not (is_running (standing_of u a)), NotRunning) ∷ (is_running_at n (standing_of u a), RunsHere)
     ∷ (not (is_allowed u n a), NotPermitted) ∷ dep_tests d))
     (missing_timeless u n a)) alike fine
-alike_accept_alike s t (Exit n a normal) alike fine below = by_timeless (Exit n a normal) s t (λ u. refl) alike fine
 alike_accept_alike s t (StartAll a r) alike fine below = by_timeless (StartAll a r) s t
     (λ u. ap (λ d. (is_unknown_app u a, UnknownApp) ∷ (not (is_local u.cluster a) && not (has_host u a), NodeNotUp) ∷ (is_local u.cluster a, NotDistributed)
     ∷ (not (has_target u a), AlreadyStarted) ∷ dep_tests d)
     (missing_at_timeless u a)) alike fine
-alike_accept_alike s t (StopAll a) alike fine below = by_timeless (StopAll a) s t (λ u. refl) alike fine
+alike_accept_alike s t e alike fine below = by_timeless e s t (λ u. refl) alike fine

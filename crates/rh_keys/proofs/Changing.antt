@@ -15,7 +15,7 @@ use Rattle.rh_state.specs.Setters.{with_mode, with_incarnation, with_restart, wi
 use Rattle.rh_state.specs.StateView.{StateView, incarnation_of, runs_at, is_allowed, restart_of, standing_of}
 use Rattle.rh_state.specs.Standings.{is_quiet, is_lost_at}
 use Rattle.rh_rules.specs.declared.event.Event.{Event}
-use Rattle.rh_rules.specs.declared.event.Event.TheVariants.{Boot, Crash, Tick, Start, Stop, Permit, Takeover, Exit, StartAll, StopAll}
+use Rattle.rh_rules.specs.declared.event.Event.TheVariants.{Boot, Crash, Start, Stop, Permit, Takeover, Exit, StartAll, StopAll}
 use Rattle.rh_rules.specs.declared.notice.Notice.TheVariants as notice
 use Rattle.rh_rules.specs.declared.notice.Move.TheVariants as move
 use Rattle.rh_rules.specs.Course.{Course, is_local, told, now_in}
@@ -164,7 +164,6 @@ stop_all_later d o a =
 pub change_later : (d : ℕ) (o : Course) (e : Event) → change (shifted_course d o) e ≡ shifted_course d (change o e)
 change_later d o (Boot n) = course_on d o (booted o.state n) (booted_later d o.state n)
 change_later d o (Crash n) = ended_later d o n
-change_later d o (Tick ms) = refl
 change_later d o (Start n a r) = mark_later d o n a r
 change_later d o (Stop n a) = either_way (shifted_course d) (runs_at o.state n a) (stopped_later d o n a) (left_later d o n a)
 change_later d o (Permit n a allow) = permitted_later d o n a allow
@@ -172,3 +171,4 @@ change_later d o (Takeover n a r) = taken_later d o n a r
 change_later d o (Exit n a normal) = exited_later d o n a normal
 change_later d o (StartAll a r) = start_all_later d o a r
 change_later d o (StopAll a) = stop_all_later d o a
+change_later d o _ = refl

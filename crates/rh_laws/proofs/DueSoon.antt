@@ -260,7 +260,6 @@ change_bounded : (o : Course) (e : Event) → Bounded o.state → Bounded (chang
 unfolding exited start_all stop_all left_everywhere
 change_bounded o (Boot n) h = booted_bounded o.state n h
 change_bounded o (Crash n) h = ended_bounded o n h
-change_bounded o (Tick ms) h = h
 change_bounded o (Start n a r) h = marked o.state n a r h
 change_bounded o (Stop n a) h = either_state (runs_at o.state n a) (stopped o n a) (left_waiting o n a) (stopped_bounded o n a h) (left_bounded o n a h)
 change_bounded o (Permit n a allow) h = permit_bounded o n a allow h
@@ -268,6 +267,7 @@ change_bounded o (Takeover n a r) h = takeover_bounded o n a r h
 change_bounded o (Exit n a normal) h = either_state (ends_node (restart_of o.state n a) normal) (ended o n) (stopped o n a) (ended_bounded o n h) (stopped_bounded o n a h)
 change_bounded o (StartAll a r) h = starts_bounded a r (targets o.state a) o h
 change_bounded o (StopAll a) h = quieted (fold (leave_at a) o (nodes_of o.state.cluster)).state a (leaves_bounded a (nodes_of o.state.cluster) o h)
+change_bounded o _ h = h
 
 -- ---- timers fire
 effect_bounded : (o : Course) (t : Timer) → Bounded o.state → Bounded (effect o t).state

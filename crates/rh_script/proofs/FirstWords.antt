@@ -14,20 +14,7 @@ use Rattle.rh_script.specs.SweepLines.{plan_named, begun_or, sweep_command}
 -- no command has more than three arguments
 few_arguments : (v : Verb) → length (arguments_of v) < 4
 few_arguments verb.Boot = omega arith
-few_arguments verb.Crash = omega arith
-few_arguments verb.Tick = omega arith
-few_arguments verb.Start = omega arith
-few_arguments verb.Stop = omega arith
-few_arguments verb.Permit = omega arith
-few_arguments verb.Takeover = omega arith
-few_arguments verb.Exit = omega arith
-few_arguments verb.StartAll = omega arith
-few_arguments verb.StopAll = omega arith
-few_arguments verb.Undo = omega arith
-few_arguments verb.Redo = omega arith
-few_arguments verb.UndoAll = omega arith
-few_arguments verb.RedoAll = omega arith
-few_arguments verb.Show = omega arith
+few_arguments _ = omega arith
 
 -- of more words than there are arguments, those behind make no difference
 given_front : (c : ClusterView) (arguments : List Argument) (words : List (List ℕ)) (g : Given) (n : ℕ) → length arguments < n

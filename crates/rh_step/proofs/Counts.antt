@@ -8,22 +8,14 @@ use Rattle.rh_trace.specs.Counts.{FewWeighed, weights}
 use Rattle.rh_trace.specs.Traces.{TraceView, trace_of}
 use Rattle.rh_trace.proofs.Counts.{weights_joined}
 use Rattle.rh_rules.specs.declared.event.Event.{Event}
-use Rattle.rh_rules.specs.declared.event.Event.TheVariants.{Boot, Crash, Tick, Start, Stop, Permit, Takeover, Exit, StartAll, StopAll}
+use Rattle.rh_rules.specs.declared.event.Event.TheVariants.{Boot}
 use Rattle.rh_events.specs.Counts.{own_edits}
 use Rattle.rh_step.specs.Counts.{step_edits}
 
 -- an event's own edits are among those of its step
 own_at_most : (s t : StateView) (e : Event) → own_edits s.cluster e ≤ step_edits s e t
 own_at_most s t (Boot n) = omega arith
-own_at_most s t (Crash n) = omega arith
-own_at_most s t (Tick ms) = omega arith
-own_at_most s t (Start n a r) = omega arith
-own_at_most s t (Stop n a) = omega arith
-own_at_most s t (Permit n a allow) = omega arith
-own_at_most s t (Takeover n a r) = omega arith
-own_at_most s t (Exit n a normal) = omega arith
-own_at_most s t (StartAll a r) = omega arith
-own_at_most s t (StopAll a) = omega arith
+own_at_most s t _ = omega arith
 
 pub of_step : (s t : StateView) (e : Event) (old new : TraceView) → FewWeighed s.cluster (own_edits s.cluster e) old new
     → FewWeighed s.cluster (step_edits s e t) old new

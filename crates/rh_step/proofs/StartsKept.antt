@@ -12,7 +12,7 @@ use Rattle.rh_state.specs.Numbers.{nodes_of}
 use Rattle.rh_state.specs.Setters.{with_mode, with_restart, with_waiting, without_due, unlisted}
 use Rattle.rh_state.specs.StateView.{StateView, runs_at, is_allowed, restart_of, standing_of}
 use Rattle.rh_rules.specs.declared.event.Event.{Event}
-use Rattle.rh_rules.specs.declared.event.Event.TheVariants.{Boot, Crash, Tick, Start, Stop, Permit, Takeover, Exit, StartAll, StopAll}
+use Rattle.rh_rules.specs.declared.event.Event.TheVariants.{Boot, Crash, Start, Stop, Permit, Takeover, Exit, StartAll, StopAll}
 use Rattle.rh_rules.specs.declared.notice.Move.TheVariants.{Local}
 use Rattle.rh_rules.specs.declared.notice.Notice.TheVariants as notice
 use Rattle.rh_rules.specs.declared.notice.Pair.{Pair}
@@ -151,7 +151,6 @@ starts_forbidden o n a h = by (is_allowed o.state n a && runs_at o.state n a)
 pub starts_changed : (o : Course) (e : Event) → may_let_start e ≡ false → StartsAreMarked o → StartsAreMarked (change o e)
 starts_changed o (Boot n) keeps h = starts_kept o (now_in o _) (booted_fewer o.state n) refl h
 starts_changed o (Crash n) keeps h = starts_ended o n h
-starts_changed o (Tick ms) keeps h = h
 starts_changed o (Start n a r) keeps h = starts_mark o n a r h
 starts_changed o (Stop n a) keeps h = starts_stop o n a h
 starts_changed o (Permit n a true) keeps h = absurd (cc keeps)
@@ -160,6 +159,7 @@ starts_changed o (Takeover n a r) keeps h = absurd (cc keeps)
 starts_changed o (Exit n a normal) keeps h = starts_exited o n a normal h
 starts_changed o (StartAll a r) keeps h = starts_all o a r h
 starts_changed o (StopAll a) keeps h = starts_stop_all o a h
+starts_changed o _ keeps h = h
 
 -- ---- a timer fires
 -- in a valid state none can start

@@ -338,7 +338,6 @@ change_stays : (s : StateView) (e : Event) (a : App) (m : Node) → IsSound s �
     → StaysLost a m (change (course_of s [] []) e)
 change_stays s (Boot n) a m sound fine is calls = inl (ap (λ (xs : List Standing). unwrap_or (slice_get xs a.0) Quiet) (booted_standings s n) ∙ is)
 change_stays s (Crash n) a m sound fine is calls = inl (ended_lost (course_of s [] []) n a m is)
-change_stays s (Tick ms) a m sound fine is calls = inl is
 change_stays s (Start n b r) a m sound fine is calls = inl (start_lost s n b r a m is calls)
 change_stays s (Stop n b) a m sound fine is calls = stop_of_another (course_of s [] []) n a b m (other_number a.0 b.0 calls) is
 change_stays s (Permit n b allow) a m sound fine is calls = inl (permit_lost (course_of s [] []) n b allow a m sound is)
@@ -347,6 +346,7 @@ change_stays s (Exit n b normal) a m sound fine is calls =
     inl (exit_lost (course_of s [] []) n b normal a m sound (accepted_exit s n b normal fine).runs is)
 change_stays s (StartAll b r) a m sound fine is calls = inl (start_all_lost (course_of s [] []) b r a m is calls)
 change_stays s (StopAll b) a m sound fine is calls = inl (stop_all_of_another (course_of s [] []) b a (other_number a.0 b.0 calls) ∙ is)
+change_stays s _ a m sound fine is calls = inl is
 
 followed_stays : (s : StateView) (e : Event) (pick : Pick) (a : App) (m : Node) → IsSound s → refused s e ≡ None → standing_of s a ≡ Lost m
     → may_end_wait s e a m ≡ false → StaysLost a m (followed pick (course_of s [] []) e)

@@ -236,7 +236,6 @@ change_quiet : (s : StateView) (e : Event) (a : App) → IsSound s → refused s
     → standing_of (change (course_of s [] []) e).state a ≡ Quiet
 change_quiet s (Boot n) a sound fine is other = ap (λ (xs : List Standing). unwrap_or (slice_get xs a.0) Quiet) (booted_standings s n) ∙ is
 change_quiet s (Crash n) a sound fine is other = ended_quiet (course_of s [] []) n a is
-change_quiet s (Tick ms) a sound fine is other = is
 change_quiet s (Start n b r) a sound fine is other = mark_of_another s n b r a (other_number a.0 b.0 other) ∙ is
 change_quiet s (Stop n b) a sound fine is other = stop_quiet (course_of s [] []) n a b is
 change_quiet s (Permit n b allow) a sound fine is other = permit_quiet (course_of s [] []) n b allow a sound is
@@ -244,6 +243,7 @@ change_quiet s (Takeover n b r) a sound fine is other = takeover_quiet (course_o
 change_quiet s (Exit n b normal) a sound fine is other = exit_quiet (course_of s [] []) n b normal a sound (accepted_exit s n b normal fine).runs is
 change_quiet s (StartAll b r) a sound fine is other = start_all_of_another (course_of s [] []) b r a (other_number a.0 b.0 other) ∙ is
 change_quiet s (StopAll b) a sound fine is other = quiet_stays_quiet (course_of s [] []) b a is
+change_quiet s _ a sound fine is other = is
 
 followed_stays : (s : StateView) (e : Event) (pick : Pick) (a : App) → IsSound s → refused s e ≡ None → standing_of s a ≡ Quiet → starts e a ≡ false
     → StaysQuiet s.cluster a (followed pick (course_of s [] []) e)

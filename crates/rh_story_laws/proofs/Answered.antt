@@ -14,7 +14,7 @@ use Rattle.rh_state.specs.Numbers.{nodes_of, apps_of}
 use Rattle.rh_state.specs.StateView.{StateView, mode_of, incarnation_of, running_at, waiting_at, restart_of, kind_of, is_allowed, standing_of, due_of}
 use Rattle.rh_rules.specs.Course.{is_local}
 use Rattle.rh_rules.specs.declared.event.Event.{Event}
-use Rattle.rh_rules.specs.declared.event.Event.TheVariants.{Boot, Crash, Tick, Start, Stop, Permit, Takeover, Exit, StartAll, StopAll}
+use Rattle.rh_rules.specs.declared.event.Event.TheVariants.{Boot, Tick}
 use Rattle.rh_rules.specs.declared.notice.Notice.{Notice}
 use Rattle.rh_rules.specs.declared.notice.Notice.TheVariants.{Up, Ended as NodeEnded, Started, Stopped, Waits}
 use Rattle.rh_rules.specs.declared.refusal.Refusal.{Refusal}
@@ -218,14 +218,7 @@ module _ (c : ClusterView) (names : HasUnbroken c) (platforms : All IsUnbroken c
       subst (λ (l : List Notice). Tells (flat_map (firing_lines t) fs) (flat_map (notice_line t.cluster) l)) (tick ms refl) (firings_tell fs)
   event_tells s (Boot n) ns tick =
       silent_behind (flat_map (notice_lines t) ns) (node_lines t n) (flat_map (notice_line t.cluster) ns) (notices_tell ns) (node_tells n)
-  event_tells s (Crash n) ns tick = notices_tell ns
-  event_tells s (Start n a r) ns tick = notices_tell ns
-  event_tells s (Stop n a) ns tick = notices_tell ns
-  event_tells s (Permit n a allow) ns tick = notices_tell ns
-  event_tells s (Takeover n a r) ns tick = notices_tell ns
-  event_tells s (Exit n a normal) ns tick = notices_tell ns
-  event_tells s (StartAll a r) ns tick = notices_tell ns
-  event_tells s (StopAll a) ns tick = notices_tell ns
+  event_tells s _ ns tick = notices_tell ns
 
 -- ---- a call
 tick_told : (s : SimView) (ms : ℕ) (ns : List Notice) → IsValid (state_of s) → IsAccepted s (Tick ms) ns

@@ -12,7 +12,7 @@ use Rattle.rh_model.specs.declared.node.Node.{Node}
 use Rattle.rh_state.specs.declared.status.Timer.TheVariants.{Sync}
 use Rattle.rh_state.specs.StateView.{StateView, due_of}
 use Rattle.rh_rules.specs.declared.event.Event.{Event}
-use Rattle.rh_rules.specs.declared.event.Event.TheVariants.{Boot, Crash, Tick, Start, Stop, Permit, Takeover, Exit, StartAll, StopAll}
+use Rattle.rh_rules.specs.declared.event.Event.TheVariants.{Boot, Tick}
 use Rattle.rh_rules.specs.declared.notice.Notice.{Notice}
 use Rattle.rh_rules.specs.declared.notice.Notice.TheVariants.{Up, Ended as NodeEnded, Started, Stopped, Waits}
 use Rattle.rh_step.specs.Firings.{FiringView, firings}
@@ -137,14 +137,7 @@ module _ (c : ClusterView) (names : HasUnbroken c) (platforms : All IsUnbroken c
   event_marked s (Tick ms) ns = firings_marked (firings (state_of s) ms s.pick)
   event_marked s (Boot n) ns =
       marked_append (flat_map (notice_lines t) ns) (node_lines t n) (notices_tell c names platforms t on ns).ended (notices_marked ns) (node_marked n)
-  event_marked s (Crash n) ns = notices_marked ns
-  event_marked s (Start n a r) ns = notices_marked ns
-  event_marked s (Stop n a) ns = notices_marked ns
-  event_marked s (Permit n a allow) ns = notices_marked ns
-  event_marked s (Takeover n a r) ns = notices_marked ns
-  event_marked s (Exit n a normal) ns = notices_marked ns
-  event_marked s (StartAll a r) ns = notices_marked ns
-  event_marked s (StopAll a) ns = notices_marked ns
+  event_marked s _ ns = notices_marked ns
 
 -- ---- those of a call
 module _ (c : ClusterView) (names : HasUnbroken c) (platforms : All IsUnbroken c.platform_names) (s : SimView) (on : s.cluster ≡ c) where

@@ -7,7 +7,7 @@ use Rattle.rh_state.specs.First.{first}
 use Rattle.rh_rules.specs.Course.{Course, course_of}
 use Rattle.rh_settle.proofs.Unchanged.{settled_cluster}
 use Rattle.rh_rules.specs.declared.event.Event.{Event}
-use Rattle.rh_rules.specs.declared.event.Event.TheVariants.{Boot, Crash, Tick, Start, Stop, Permit, Takeover, Exit, StartAll, StopAll}
+use Rattle.rh_rules.specs.declared.event.Event.TheVariants.{Tick}
 use Rattle.rh_rules.specs.declared.refusal.Refusal.{Refusal}
 use Rattle.rh_rules.specs.declared.refusal.Refusal.TheVariants.{TrailFull}
 use Rattle.rh_rules.specs.Refusals.{refused}
@@ -47,15 +47,7 @@ firings_cluster pick (suc most) limit o = by (λ entry. firings_cluster pick mos
 from_cluster : (pick : Pick) (o : Course) (e : Event) → (next_from o e pick).state.cluster ≡ o.state.cluster
 unfolding all_fired ticked
 from_cluster pick o (Tick ms) = firings_cluster pick (length o.state.timers) (o.state.time + ms) o
-from_cluster pick o (Boot n) = followed_cluster pick o (Boot n)
-from_cluster pick o (Crash n) = followed_cluster pick o (Crash n)
-from_cluster pick o (Start n a r) = followed_cluster pick o (Start n a r)
-from_cluster pick o (Stop n a) = followed_cluster pick o (Stop n a)
-from_cluster pick o (Permit n a allow) = followed_cluster pick o (Permit n a allow)
-from_cluster pick o (Takeover n a r) = followed_cluster pick o (Takeover n a r)
-from_cluster pick o (Exit n a normal) = followed_cluster pick o (Exit n a normal)
-from_cluster pick o (StartAll a r) = followed_cluster pick o (StartAll a r)
-from_cluster pick o (StopAll a) = followed_cluster pick o (StopAll a)
+from_cluster pick o e = followed_cluster pick o e
 
 step_cluster : (pick : Pick) (s : StateView) (e : Event) → (step pick s e).cluster ≡ s.cluster
 unfolding next step

@@ -21,7 +21,7 @@ use Rattle.rh_rules.specs.Course.{Course, told, now_in, is_local}
 use Rattle.rh_rules.specs.Moves.{with_stopped}
 use Rattle.rh_rules.specs.NodesStart.{all_alive, is_ready, come_up, come_up_if_ready, ready_come_up, with_sync_timer, booted}
 use Rattle.rh_rules.specs.declared.event.Event.{Event}
-use Rattle.rh_rules.specs.declared.event.Event.TheVariants.{Boot, Crash, Tick, Start, Stop, Permit, Takeover, Exit, StartAll, StopAll}
+use Rattle.rh_rules.specs.declared.event.Event.TheVariants.{Boot, Crash, Start, Stop, Permit, Takeover, Exit, StartAll, StopAll}
 use Rattle.rh_rules.specs.Marking.{with_distributed_standing, wanted_by_mark, with_mark, pair, mark, mark_booted, mark_all}
 use Rattle.rh_rules.specs.NodesEnd.{timeout_of, cleared, lost_at, lost_if_ran, all_lost, ended}
 use Rattle.rh_rules.specs.ByHand.{stopped, is_started_anywhere, quiet_if_nowhere, left_waiting, forbidden, pulls_back, freed_by, permission_set, permitted, taken_from, taken_over, ends_node, exited}
@@ -34,15 +34,7 @@ use Rattle.rh_text_laws.proofs.ProfileMoves.{swap, through, course_in}
 pub refused_alike : (profile : ℕ) (s : StateView) (e : Event) → refused (state_in profile s) e ≡ refused s e
 unfolding nodes_of missing_dep is_started_anywhere targets has_host has_target missing_at_targets refused
 refused_alike profile s (Boot n) = refl
-refused_alike profile s (Crash n) = refl
-refused_alike profile s (Tick ms) = refl
-refused_alike profile s (Start n a r) = refl
-refused_alike profile s (Stop n a) = refl
-refused_alike profile s (Permit n a allow) = refl
-refused_alike profile s (Takeover n a r) = refl
-refused_alike profile s (Exit n a normal) = refl
-refused_alike profile s (StartAll a r) = refl
-refused_alike profile s (StopAll a) = refl
+refused_alike profile s _ = refl
 
 module _ (profile : ℕ) where
   -- the same state and the same course in the profile
@@ -197,7 +189,6 @@ module _ (profile : ℕ) where
   pub change_alike : (o : Course) (e : Event) → gives_back o.state e ≡ false → change (along o) e ≡ along (change o e)
   change_alike o (Boot n) none = ap (now_in o) (booted_alike o.state n)
   change_alike o (Crash n) none = ended_alike o n
-  change_alike o (Tick ms) none = refl
   change_alike o (Start n a r) none = mark_alike o n a r
   change_alike o (Stop n a) none =
       (λ i. cond (runs_at o.state n a) (stopped_alike o n a i) (left_alike o n a i)) ∙ swap along (runs_at o.state n a) (stopped o n a) (left_waiting o n a)
@@ -206,3 +197,4 @@ module _ (profile : ℕ) where
   change_alike o (Exit n a normal) none = exited_alike o n a normal
   change_alike o (StartAll a r) none = start_alike o a r
   change_alike o (StopAll a) none = stop_alike o a
+  change_alike o _ none = refl

@@ -10,7 +10,7 @@ use Rattle.rh_state.specs.First.{configured}
 use Rattle.rh_state.specs.Numbers.{nodes_of, apps_of}
 use Rattle.rh_state.specs.StateView.{StateView, is_started, is_allowed}
 use Rattle.rh_rules.specs.declared.event.Event.{Event}
-use Rattle.rh_rules.specs.declared.event.Event.TheVariants.{Boot, Crash, Tick, Start, Stop, Permit, Takeover, Exit, StartAll, StopAll}
+use Rattle.rh_rules.specs.declared.event.Event.TheVariants.{Permit}
 use Rattle.rh_rules.specs.declared.refusal.Refusal.{Refusal}
 use Rattle.rh_rules.specs.declared.refusal.Refusal.TheVariants.{TrailFull}
 use Rattle.rh_rules.specs.Refusals.{refused}
@@ -152,20 +152,7 @@ replies_same_under_profiles profile c pick calls none = replies_alike profile (o
 -- ---- calls that permit nothing
 permits_back : (s : SimView) (asked : Call) → permits asked ≡ false → call_gives_back s asked ≡ false
 permits_back s (call.Step (Permit n a allow)) none = ap (λ b. b && (not (is_allowed (state_of s) n a) && is_started (state_of s) n a)) none
-permits_back s (call.Step (Boot n)) none = refl
-permits_back s (call.Step (Crash n)) none = refl
-permits_back s (call.Step (Tick ms)) none = refl
-permits_back s (call.Step (Start n a r)) none = refl
-permits_back s (call.Step (Stop n a)) none = refl
-permits_back s (call.Step (Takeover n a r)) none = refl
-permits_back s (call.Step (Exit n a normal)) none = refl
-permits_back s (call.Step (StartAll a r)) none = refl
-permits_back s (call.Step (StopAll a)) none = refl
-permits_back s call.Undo none = refl
-permits_back s call.Redo none = refl
-permits_back s call.UndoAll none = refl
-permits_back s call.RedoAll none = refl
-permits_back s call.Look none = refl
+permits_back s _ none = refl
 
 pub none_permits_none_gives_back : NonePermitsNoneGivesBack
 none_permits_none_gives_back s [] none = tt

@@ -13,7 +13,7 @@ use Rattle.rh_rules.specs.Course.{Course, course_of, now_in}
 use Rattle.rh_rules.specs.NodesStart.{all_alive, come_up, ready_come_up}
 use Rattle.rh_rules.specs.Settling.{settled}
 use Rattle.rh_rules.specs.declared.event.Event.{Event}
-use Rattle.rh_rules.specs.declared.event.Event.TheVariants.{Boot, Crash, Tick, Start, Stop, Permit, Takeover, Exit, StartAll, StopAll}
+use Rattle.rh_rules.specs.declared.event.Event.TheVariants.{Tick}
 use Rattle.rh_rules.specs.NodesEnd.{ended, wanted_if_lost}
 use Rattle.rh_rules.specs.Steps.{change, outcome_of, followed, next_from, next}
 use Rattle.rh_rules.specs.Time.{due_by, effect, taken_off, fired, go_on, fired_by, all_fired, ticked}
@@ -70,15 +70,7 @@ module _ (profile : ℕ) where
   -- ---- each event
   next_from_alike : (pick : Pick) (o : Course) (e : Event) → gives_back o.state e ≡ false → next_from (along o) e pick ≡ along (next_from o e pick)
   next_from_alike pick o (Tick ms) none = ticked_alike pick o ms
-  next_from_alike pick o (Boot n) none = followed_alike pick o (Boot n) none
-  next_from_alike pick o (Crash n) none = followed_alike pick o (Crash n) none
-  next_from_alike pick o (Start n a r) none = followed_alike pick o (Start n a r) none
-  next_from_alike pick o (Stop n a) none = followed_alike pick o (Stop n a) none
-  next_from_alike pick o (Permit n a allow) none = followed_alike pick o (Permit n a allow) none
-  next_from_alike pick o (Takeover n a r) none = followed_alike pick o (Takeover n a r) none
-  next_from_alike pick o (Exit n a normal) none = followed_alike pick o (Exit n a normal) none
-  next_from_alike pick o (StartAll a r) none = followed_alike pick o (StartAll a r) none
-  next_from_alike pick o (StopAll a) none = followed_alike pick o (StopAll a) none
+  next_from_alike pick o e none = followed_alike pick o e none
 
 pub same_under_profiles : SameUnderProfiles
 unfolding next
