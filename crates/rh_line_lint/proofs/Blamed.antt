@@ -1,7 +1,7 @@
 -- Something is told of the words behind a command exactly where they make no command.
-use Rattle.std.proofs.Common.{◌≡◌, ◌<◌, ◌-◌, ◌==◌, ◌&&◌, ℕ, Bool, true, false, not, cond, List, [], ◌∷◌, ◌++◌, length, map, nat_lt}
-use Rattle.std.proofs.Common.{Option, Some, None, IfSome, refl, sym, ap, subst, ◌∙◌, arith, codes}
-use Rattle.std.specs.Prelude.{option_map, option_and_then, is_some, find, slice_get}
+use Rattle.std.proofs.Common.{◌≡◌, ◌<◌, ◌-◌, ◌==◌, ◌&&◌, ℕ, Bool, true, false, not, cond, List, [], ◌∷◌, ◌++◌, length}
+use Rattle.std.proofs.Common.{Option, Some, None, IfSome, refl, sym, ap, ◌∙◌, arith, codes}
+use Rattle.std.specs.Prelude.{option_map, option_and_then, is_some, slice_get}
 use Rattle.std.specs.List.{list_all}
 use Rattle.std.specs.Fmt.{decimal}
 use Rattle.std.proofs.lemmas.Bool.Decides.{nat_tests}
@@ -12,7 +12,7 @@ use Rattle.rh_script.specs.declared.forms.Argument.TheVariants as argument
 use Rattle.rh_script.specs.declared.forms.Verb.{Verb}
 use Rattle.rh_script.specs.declared.forms.Verb.TheVariants as verb
 use Rattle.rh_script.specs.declared.forms.Given.{Given}
-use Rattle.rh_script.specs.Forms.{verbs, word_of, arguments_of, verb_named, nothing, two, three, call_of}
+use Rattle.rh_script.specs.Forms.{arguments_of, verb_named, nothing, two, three, call_of}
 use Rattle.rh_script.specs.Forms.{with_node, with_app, with_restart, with_truth, with_ending, with_ms}
 use Rattle.rh_script.specs.Commands.{named, named_app, milliseconds, restart_named, first_of, with_argument, given_in, row_asks, asking, command_of}
 use Rattle.rh_script.specs.CommandWords.{truth_word, reason_word}
