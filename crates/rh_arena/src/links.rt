@@ -11,6 +11,7 @@ use crate::spot::{Spot, Values};
 use crate::words::{EntryWords, ListWords, are_entries_same, are_lists_same};
 use std::alloc::{AllocError, Global};
 use std::marker::Model;
+use std::mem;
 
 /// The words.
 #[derive(Drop)]
@@ -113,25 +114,23 @@ impl Links {
         self.exchange_from_behind(list, after, &mut values.from_behind);
     }
 
-    // Exchanges the words of an entry for values.
+    // Exchanges the words of an entry for values. All three are read before one is written: swapped one after the other, they take
+    // four instructions more.
     #[inline]
     fn exchange_entry(&mut self, entry: u16, values: &mut Values)
         ensures words { self.new ≡ record self.old { prev = slice_set self.old.prev entry values.old.prev; next = slice_set self.old.next entry values.old.next; owner = slice_set self.old.owner entry values.old.owner } }
         ensures values { values.new ≡ record values.old { prev = slice_index_or self.old.prev entry values.old.prev; next = slice_index_or self.old.next entry values.old.next; owner = slice_index_or self.old.owner entry values.old.owner } }
     {
-        match self.entries.get_mut(usize::from(entry)) {
-            Some(there) => {
-                let had = *there;
-                *there = EntryWords {
-                    prev: values.prev,
-                    next: values.next,
-                    owner: values.owner,
-                };
-                values.prev = had.prev;
-                values.next = had.next;
-                values.owner = had.owner;
-            }
-            None => {}
+        if let Some(there) = self.entries.get_mut(usize::from(entry)) {
+            let had = *there;
+            *there = EntryWords {
+                prev: values.prev,
+                next: values.next,
+                owner: values.owner,
+            };
+            values.prev = had.prev;
+            values.next = had.next;
+            values.owner = had.owner;
         }
     }
 
@@ -141,13 +140,8 @@ impl Links {
         ensures words { self.new ≡ record self.old { count = slice_set self.old.count list value.old } }
         ensures value { value.new ≡ slice_index_or self.old.count list value.old }
     {
-        match self.lists.get_mut(usize::from(list)) {
-            Some(there) => {
-                let had = there.count;
-                there.count = *value;
-                *value = had;
-            }
-            None => {}
+        if let Some(there) = self.lists.get_mut(usize::from(list)) {
+            mem::swap(&mut there.count, value);
         }
     }
 
@@ -185,13 +179,8 @@ impl Links {
         ensures words { self.new ≡ record self.old { next = slice_set self.old.next entry value.old } }
         ensures value { value.new ≡ slice_index_or self.old.next entry value.old }
     {
-        match self.entries.get_mut(usize::from(entry)) {
-            Some(there) => {
-                let had = there.next;
-                there.next = *value;
-                *value = had;
-            }
-            None => {}
+        if let Some(there) = self.entries.get_mut(usize::from(entry)) {
+            mem::swap(&mut there.next, value);
         }
     }
 
@@ -201,13 +190,8 @@ impl Links {
         ensures words { self.new ≡ record self.old { prev = slice_set self.old.prev entry value.old } }
         ensures value { value.new ≡ slice_index_or self.old.prev entry value.old }
     {
-        match self.entries.get_mut(usize::from(entry)) {
-            Some(there) => {
-                let had = there.prev;
-                there.prev = *value;
-                *value = had;
-            }
-            None => {}
+        if let Some(there) = self.entries.get_mut(usize::from(entry)) {
+            mem::swap(&mut there.prev, value);
         }
     }
 
@@ -217,13 +201,8 @@ impl Links {
         ensures words { self.new ≡ record self.old { head = slice_set self.old.head list value.old } }
         ensures value { value.new ≡ slice_index_or self.old.head list value.old }
     {
-        match self.lists.get_mut(usize::from(list)) {
-            Some(there) => {
-                let had = there.head;
-                there.head = *value;
-                *value = had;
-            }
-            None => {}
+        if let Some(there) = self.lists.get_mut(usize::from(list)) {
+            mem::swap(&mut there.head, value);
         }
     }
 
@@ -233,13 +212,8 @@ impl Links {
         ensures words { self.new ≡ record self.old { tail = slice_set self.old.tail list value.old } }
         ensures value { value.new ≡ slice_index_or self.old.tail list value.old }
     {
-        match self.lists.get_mut(usize::from(list)) {
-            Some(there) => {
-                let had = there.tail;
-                there.tail = *value;
-                *value = had;
-            }
-            None => {}
+        if let Some(there) = self.lists.get_mut(usize::from(list)) {
+            mem::swap(&mut there.tail, value);
         }
     }
 }

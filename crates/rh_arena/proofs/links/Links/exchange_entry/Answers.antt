@@ -6,7 +6,7 @@ use Rattle.rh_arena.specs.declared.spot.Values.{Values}
 use Rattle.rh_arena.specs.declared.words.EntryWords.{EntryWords}
 use Rattle.rh_arena.proofs.SideBySide.{past_end, map-past}
 use Rattle.rh_arena.proofs.links.Links.exchange_entry.Goals as goal
-use Rattle.rh_arena.proofs.links.Links.exchange_entry.Goals.{in-Some, in-None}
+use Rattle.rh_arena.proofs.links.Links.exchange_entry.Goals.{in-Some, in_default}
 
 -- the words, of which those of an entry are these
 abbrev with_entry : Words → ℕ → EntryWords → Words
@@ -27,7 +27,7 @@ returns-clause-words c =
             owner = map-set (λ e. e.owner) entries i x k;
           })
           ∙ (λ k. with_entry (c.self.view_is k) (c.from.ensures k) x)
-      | in-None w ↦ (let past : length entries ≤ i = let end : c.self.inside.entries.len ≤ i = past_end _ i w.in-None.ensures.variant.1 in omega (arith, end, c.self.inside.entries.ok) in
+      | in_default w ↦ (let past : length entries ≤ i = let end : c.self.inside.entries.len ≤ i = past_end _ i w.in_default.ensures.variant.1 in omega (arith, end, c.self.inside.entries.ok) in
           (λ k. words_of (w.self-inside-is k).entries.items (w.self-inside-is k).lists.items)
           ∙ (λ k. record (words_of entries lists) {
             prev = map-past (λ e. e.prev) entries i x.prev past k;

@@ -5,7 +5,7 @@ use Rattle.rh_arena.specs.SideBySide.{words_of}
 use Rattle.rh_arena.specs.declared.words.ListWords.{ListWords}
 use Rattle.rh_arena.proofs.SideBySide.{past_end, map-past, map-set_own}
 use Rattle.rh_arena.proofs.links.Links.exchange_head.Goals as goal
-use Rattle.rh_arena.proofs.links.Links.exchange_head.Goals.{in-Some, in-None}
+use Rattle.rh_arena.proofs.links.Links.exchange_head.Goals.{in-Some, in_default}
 
 -- the words, with a value for the first entry of a list
 abbrev with_head : Words → ℕ → Option ℕ → Words
@@ -20,15 +20,15 @@ returns-clause-words c =
     elim c.match-get_mut.branch [
       | in-Some w ↦ (let had : ListWords = w.in-Some.there.now in
           let is : had ≡ get_or lists i had = w.in-Some.ensures.value in
-          let now : ListWords = record had { head = v } in
+          let now : ListWords = record had { head = w.swap.new.x } in
           (λ k. words_of (w.self-inside-is k).entries.items (w.self-inside-is k).lists.items)
           ∙ (λ k. record (words_of entries lists) {
             head = map-set (λ e. e.head) lists i now k;
             tail = map-set_own (λ e. e.tail) lists i now had (ap (λ e. e.tail) is) k;
             count = map-set_own (λ e. e.count) lists i now had (ap (λ e. e.count) is) k;
           })
-          ∙ (λ k. with_head (c.self.view_is k) (c.from.ensures k) v))
-      | in-None w ↦ (let past : length lists ≤ i = let end : c.self.inside.lists.len ≤ i = past_end _ i w.in-None.ensures.variant.1 in omega (arith, end, c.self.inside.lists.ok) in
+          ∙ (λ k. with_head (c.self.view_is k) (c.from.ensures k) (w.swap.ensures.x_after k)))
+      | in_default w ↦ (let past : length lists ≤ i = let end : c.self.inside.lists.len ≤ i = past_end _ i w.in_default.ensures.variant.1 in omega (arith, end, c.self.inside.lists.ok) in
           (λ k. words_of (w.self-inside-is k).entries.items (w.self-inside-is k).lists.items)
           ∙ (λ k. record (words_of entries lists) { head = map-past (λ e. e.head) lists i v past k })
           ∙ (λ k. with_head (c.self.view_is k) (c.from.ensures k) v))

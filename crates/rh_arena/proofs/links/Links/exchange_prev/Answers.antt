@@ -5,7 +5,7 @@ use Rattle.rh_arena.specs.SideBySide.{words_of}
 use Rattle.rh_arena.specs.declared.words.EntryWords.{EntryWords}
 use Rattle.rh_arena.proofs.SideBySide.{past_end, map-past, map-set_own}
 use Rattle.rh_arena.proofs.links.Links.exchange_prev.Goals as goal
-use Rattle.rh_arena.proofs.links.Links.exchange_prev.Goals.{in-Some, in-None}
+use Rattle.rh_arena.proofs.links.Links.exchange_prev.Goals.{in-Some, in_default}
 
 -- the words, with a value for what is before an entry
 abbrev with_prev : Words → ℕ → Option ℕ → Words
@@ -20,15 +20,15 @@ returns-clause-words c =
     elim c.match-get_mut.branch [
       | in-Some w ↦ (let had : EntryWords = w.in-Some.there.now in
           let is : had ≡ get_or entries i had = w.in-Some.ensures.value in
-          let now : EntryWords = record had { prev = v } in
+          let now : EntryWords = record had { prev = w.swap.new.x } in
           (λ k. words_of (w.self-inside-is k).entries.items (w.self-inside-is k).lists.items)
           ∙ (λ k. record (words_of entries lists) {
             prev = map-set (λ e. e.prev) entries i now k;
             next = map-set_own (λ e. e.next) entries i now had (ap (λ e. e.next) is) k;
             owner = map-set_own (λ e. e.owner) entries i now had (ap (λ e. e.owner) is) k;
           })
-          ∙ (λ k. with_prev (c.self.view_is k) (c.from.ensures k) v))
-      | in-None w ↦ (let past : length entries ≤ i = let end : c.self.inside.entries.len ≤ i = past_end _ i w.in-None.ensures.variant.1 in omega (arith, end, c.self.inside.entries.ok) in
+          ∙ (λ k. with_prev (c.self.view_is k) (c.from.ensures k) (w.swap.ensures.x_after k)))
+      | in_default w ↦ (let past : length entries ≤ i = let end : c.self.inside.entries.len ≤ i = past_end _ i w.in_default.ensures.variant.1 in omega (arith, end, c.self.inside.entries.ok) in
           (λ k. words_of (w.self-inside-is k).entries.items (w.self-inside-is k).lists.items)
           ∙ (λ k. record (words_of entries lists) { prev = map-past (λ e. e.prev) entries i v past k })
           ∙ (λ k. with_prev (c.self.view_is k) (c.from.ensures k) v))
