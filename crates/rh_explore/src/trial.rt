@@ -10,7 +10,7 @@ ghost use Rattle.rh_trace.specs.Validity.{IsValid};
 ghost use Rattle.rh_step.specs.Runs.{step};
 
 use rh_base::OutOfMemory;
-use rh_state::{Edit, State, go_back};
+use rh_state::{Edit, State, rewind};
 use rh_step::{Event, Notice, Pick, perform};
 use std::alloc::Global;
 
@@ -68,8 +68,7 @@ impl Trial {
         ensures state { state.new ≡ back exchange state.old self.old.edits.items }
         ensures none { self.new.edits.items ≡ [] }
     {
-        go_back(self.edits.as_mut_slice(), state);
-        self.edits.clear();
+        rewind(&mut self.edits, 0, state);
     }
 
     /// Forgets what was made, whose state isn't needed any more.

@@ -11,6 +11,6 @@ mod status;
 mod table;
 
 pub use edit::{Change, Edit};
-pub use record::{go_back, go_forth};
+pub use record::{go_back, go_forth, rewind};
 pub use state::{State, first_state, first_state_sharing};
 pub use status::{Kind, Mode, Place, Standing, Timer};

@@ -1,6 +1,6 @@
 //! Edits that follow one another.
 
-ghost use Rattle.std.specs.Prelude.{◌≡◌};
+ghost use Rattle.std.specs.Prelude.{◌≡◌, ◌≤◌, drop, length, take};
 ghost use Rattle.rh_base.specs.Exchanges.{back, forth, backed, forthed, AllBack, AllForth};
 ghost use Rattle.rh_state.specs.Edits.{exchange, turned};
 ghost use Rattle.rh_state.specs.Records.{CanGoBack, CanGoForth};
@@ -19,6 +19,18 @@ pub fn go_back(edits: &mut [Edit], state: &mut State)
         left -= 1;
         state.back(&mut edits[left]);
     }
+}
+
+/// Takes back the edits behind a mark, from the last to the first, and drops them. A mark is how many edits there were when it was
+/// set: so many stay, and at the mark 0 none does.
+pub fn rewind(edits: &mut Vec<Edit>, mark: usize, state: &mut State)
+    requires within { mark ≤ length edits.old.items }
+    requires back { AllBack exchange CanGoBack state.old (drop mark edits.old.items) }
+    ensures state { state.new ≡ back exchange state.old (drop mark edits.old.items) }
+    ensures edits { edits.new.items ≡ take mark edits.old.items }
+{
+    go_back(&mut edits[mark..], state);
+    edits.truncate(mark);
 }
 
 /// Makes edits again, from the first to the last.

@@ -1,9 +1,7 @@
 //! One step of a cluster.
 
-ghost use Rattle.std.specs.Prelude.{List, ◌≡◌, ◌≤◌, ◌+◌, ◌++◌, length, take, drop, All, OnOk, OnErr, None};
-ghost use Rattle.rh_base.specs.Exchanges.{back, AllBack};
-ghost use Rattle.rh_state.specs.Edits.{exchange};
-ghost use Rattle.rh_state.specs.Records.{CanGoBack, Grows};
+ghost use Rattle.std.specs.Prelude.{List, ◌≡◌, ◌≤◌, ◌+◌, ◌++◌, length, All, OnOk, OnErr, None};
+ghost use Rattle.rh_state.specs.Records.{Grows};
 ghost use Rattle.rh_state.specs.Stored.{read};
 ghost use Rattle.rh_rules.specs.declared.notice.Notice.{Notice};
 ghost use Rattle.rh_trace.specs.Traces.{IsPairOf, course};
@@ -25,7 +23,7 @@ use rh_base::OutOfMemory;
 use rh_events::{Event, change, let_ready_come_up};
 use rh_rules::{Notice, Pick};
 use rh_settle::{settle, settle_marked};
-use rh_state::{Edit, State, go_back};
+use rh_state::{Edit, State, rewind};
 use rh_trace::Trace;
 use std::alloc::Global;
 use std::mem;
@@ -80,26 +78,15 @@ pub fn perform(
     let earlier = mem::replace(notices, Vec::new(alloc));
     let before = mem::replace(edits, Vec::new(alloc));
     let told = earlier.len();
-    let kept = before.len();
+    let mark = before.len();
     let mut trace = Trace::of(earlier, before, alloc);
     let made = make(state, event, pick, &mut trace);
     (*notices, *edits) = trace.into_parts();
     if made.is_err() {
-        take_back(state, edits, kept);
+        rewind(edits, mark, state);
         notices.truncate(told);
     }
     made
-}
-
-// The edits behind the first so many are taken back, and dropped.
-fn take_back(state: &mut State, edits: &mut Vec<Edit>, kept: usize)
-    requires within { kept ≤ length edits.old.items }
-    requires back { AllBack exchange CanGoBack state.old (drop kept edits.old.items) }
-    ensures state { state.new ≡ back exchange state.old (drop kept edits.old.items) }
-    ensures edits { edits.new.items ≡ take kept edits.old.items }
-{
-    go_back(&mut edits[kept..], state);
-    edits.truncate(kept);
 }
 
 // The event, and what follows from it.

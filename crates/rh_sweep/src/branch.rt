@@ -15,7 +15,7 @@ pub use alone::sweep_alone;
 pub(crate) use inside::Inside;
 use rh_base::OutOfMemory;
 use rh_plans::{Outcome, Plan, Standings};
-use rh_state::{Edit, State, go_back};
+use rh_state::{Edit, State, rewind};
 use rh_step::{Event, Notice, Pick, Refusal, perform, refusal_of};
 use rh_trail::Sim;
 use std::alloc::Global;
@@ -80,8 +80,7 @@ impl Branch {
         if self.dropped {
             return self.copy_again(alloc, base);
         }
-        go_back(self.edits.as_mut_slice(), &mut self.state);
-        self.edits.clear();
+        rewind(&mut self.edits, 0, &mut self.state);
         Ok(())
     }
 

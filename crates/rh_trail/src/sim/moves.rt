@@ -24,7 +24,7 @@ use crate::sim::told::Told;
 use crate::sim::{AtEnd, AtStart, Sim};
 use rh_base::OutOfMemory;
 use rh_calls::{Bytes, Call, Replies, Reply, report};
-use rh_state::{Edit, State, go_back};
+use rh_state::{Edit, State, rewind};
 use rh_step::{Event, Notice, Pick, Refusal, perform, refusal_of};
 use std::alloc::Global;
 
@@ -278,20 +278,10 @@ fn perform_told<T: Told>(
     match T::telling(alloc, notices) {
         Ok(told) => Ok(told),
         Err(OutOfMemory) => {
-            take_back(state, edits);
+            rewind(edits, 0, state);
             Err(OutOfMemory)
         }
     }
-}
-
-// Takes the edits of a step back, and drops them.
-fn take_back(state: &mut State, edits: &mut Vec<Edit>)
-    requires { AllBack exchange CanGoBack state.old edits.old.items }
-    ensures state { state.new ≡ back exchange state.old edits.old.items }
-    ensures edits { edits.new.items ≡ [] }
-{
-    go_back(edits.as_mut_slice(), state);
-    edits.clear();
 }
 
 // Keeps an event that was made, with its edits, in place of what could be made again. Where memory is refused, the edits are
@@ -315,7 +305,7 @@ fn keep(
     ensures kept_records { OnErr result (records.new ≡ records.old) }
 {
     if trail.reserve(1).is_err() || records.replace_from(cursor, edits).is_err() {
-        take_back(state, edits);
+        rewind(edits, 0, state);
         return Err(OutOfMemory);
     }
     trail.truncate(cursor);
