@@ -1,6 +1,6 @@
 -- Nothing comes of time that passes between two timers: what is met behind a tick is met at once, or behind the tick to the last timer
 -- that is due by its end.
-use Rattle.std.proofs.Common.{◌≡◌, ◌<◌, ◌≤◌, ◌+◌, ◌⊎◌, ◌&&◌, ◌||◌, ℕ, zero, suc, true, false, cond, nat_le, List, [], ◌∷◌, slice_get}
+use Rattle.std.proofs.Common.{◌≡◌, ◌<◌, ◌≤◌, ◌+◌, ◌⊎◌, ◌&&◌, ◌||◌, ℕ, zero, suc, true, cond, nat_le, List, [], ◌∷◌, slice_get}
 use Rattle.std.proofs.Common.{Some, None, is_none, All, Any, inl, inr, refl, sym, ap, ◌∙◌, arith}
 use Rattle.std.specs.List.{list_any}
 use Rattle.std.proofs.lemmas.Bool.Decides.{leb_tells, nat_tests}
@@ -20,7 +20,7 @@ use Rattle.rh_rules.specs.Time.{due_by, fired, fired_by, all_fired, ticked}
 use Rattle.rh_trace.specs.Validity.{IsSound, IsValid}
 use Rattle.rh_trace.proofs.NextMoves.{left_true, right_true}
 use Rattle.rh_step.specs.Runs.{step}
-use Rattle.rh_step.proofs.Fuel.{timer_count, goes, by_found, due_is_first, sound_fired, all_fired_end}
+use Rattle.rh_step.proofs.Fuel.{timer_count, goes, by_found, due_later, due_is_first, sound_fired, all_fired_end}
 use Rattle.rh_explore.specs.declared.asking.Ask.{Ask}
 use Rattle.rh_explore.specs.Asking.{is_met, is_met_at, is_met_by}
 use Rattle.rh_explore.specs.Laws.{IsMetBehindATick, IsMetInTime}
@@ -95,14 +95,6 @@ last_due limit (x ∷ xs) = elim (leb_tells x.0 limit) [
   ]
 ]
 
--- where all are due later, none is due
-none_due : (limit : ℕ) (timers : List (ℕ × Timer)) → All (λ (entry : ℕ × Timer). limit < entry.0) timers → due_by limit (slice_get timers 0) ≡ None
-none_due limit [] later = refl
-none_due limit (x ∷ xs) later =
-    let after = later 0 x (omega arith) in
-    let undue : nat_le x.0 limit ≡ false = grind (arith, nat_tests, after) in
-    ap (λ b. cond b (Some x) None) undue
-
 -- ---- what is met behind a tick
 -- all that is due by the end of a tick has fired
 abbrev all_passed : Pick → StateView → ℕ → Course
@@ -142,7 +134,7 @@ module _ (s : StateView) (pick : Pick) (ask : Ask) (ms : ℕ) where
     -- where no timer is due it was met before
     none_fires : All (λ (entry : ℕ × Timer). s.time + t < entry.0) s.timers → is_met ask s ≡ true
     none_fires later =
-        ap (λ (p : Course). is_met ask p.state) (sym (all_fired_end pick (s.time + t) (course_of s [] []) (none_due (s.time + t) s.timers later)))
+        ap (λ (p : Course). is_met ask p.state) (sym (all_fired_end pick (s.time + t) (course_of s [] []) (due_later (s.time + t) s.timers later)))
         ∙ sym (met_behind pick ask s t) ∙ met
 
     -- behind the tick to the last timer that is due the rest of the time changes nothing

@@ -1,6 +1,6 @@
 -- A timer that fires leaves fewer timers, so that as many firings as there are timers are enough.
 use Rattle.std.proofs.Common.{◌≡◌, ℕ, zero, suc, ◌<◌, ◌≤◌, Bool, true, false, cond, not, List, [], ◌∷◌, length, Option, Some, None, refl, sym, ap, subst, ◌∙◌}
-use Rattle.std.proofs.Common.{arith, nat_le, nat_eq, slice_get}
+use Rattle.std.proofs.Common.{All, arith, nat_le, nat_eq, slice_get}
 use Rattle.std.specs.List.{filter}
 use Rattle.std.proofs.lemmas.Bool.Decides.{nat_tests}
 use Rattle.rh_model.specs.ClusterView.{mandatory_of, numbered}
@@ -150,6 +150,14 @@ goes pick most limit o found = go_on o found (λ entry. fired_by pick most limit
 pub nothing_due : (limit : ℕ) (entries : List (ℕ × Timer)) → length entries ≤ 0 → due_by limit (slice_get entries 0) ≡ None
 nothing_due limit [] h = refl
 nothing_due limit (x ∷ xs) h = absurd (omega (arith, h))
+
+-- where all timers are due later, the first of them isn't due
+pub due_later : (limit : ℕ) (timers : List (ℕ × Timer)) → All (λ (entry : ℕ × Timer). limit < entry.0) timers → due_by limit (slice_get timers 0) ≡ None
+due_later limit [] later = refl
+due_later limit (x ∷ xs) later =
+    let after = later 0 x (omega arith) in
+    let undue : nat_le x.0 limit ≡ false = grind (arith, nat_tests, after) in
+    ap (λ b. cond b (Some x) None) undue
 
 pub by_found : {A P : Type 0} (found : Option A) → (found ≡ None → P) → ((x : A) → found ≡ Some x → P) → P
 by_found None none some = none refl
