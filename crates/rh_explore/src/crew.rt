@@ -52,6 +52,8 @@ impl Crew for Alone {
         1
     }
 
+    // The pieces one after the other. No search asks for it, since one worker is given no piece: it is there because each crew has
+    // it, whoever asks.
     fn expand(
         &self,
         alloc: Global,
