@@ -22,6 +22,6 @@ mod sweeping;
 pub use checking::{check_json, write_cluster, write_fault};
 pub use laws::{commands_are_answered, notices_are_replied};
 pub use parts::write_check;
-pub use running::{answer_call, run_json};
+pub use running::{answer_call, run_json, write_bad};
 pub use sweep_laws::base_is_answered;
-pub use sweeping::{make_calls, sweep_json_by, write_bad, write_base};
+pub use sweeping::{make_calls, sweep_json_by, write_base};

@@ -152,14 +152,14 @@ fn answer_line<K: Sink>(
             Ok(None)
         }
         Line::Bad => {
-            answer_bad(alloc, number, writer)?;
+            write_bad(alloc, number, writer)?;
             Ok(Some(number))
         }
     }
 }
 
-// Writes that a line is no command.
-pub fn answer_bad<K: Sink>(
+/// Writes that the line of this number is bad: it is no command, or no event of a plan, or asks nothing that there is.
+pub fn write_bad<K: Sink>(
     alloc: Global,
     number: u64,
     writer: &mut Watched<K>,

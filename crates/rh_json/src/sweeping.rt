@@ -1,6 +1,6 @@
 //! The program `sweep`, as JSON.
 
-ghost use Rattle.std.specs.Prelude.{◌≡◌, ◌≤◌, length, false, map, Ok, OnOk, IfOk};
+ghost use Rattle.std.specs.Prelude.{◌≡◌, ◌≤◌, length, false, map, Ok, OnOk};
 ghost use Rattle.std.specs.List.{flat_map};
 ghost use Rattle.rh_cluster.specs.ClusterOf.{cluster_of};
 ghost use Rattle.rh_devices.specs.Devices.{input_limit};
@@ -12,18 +12,17 @@ ghost use Rattle.rh_script.specs.SweepLines.{sweep_lines_asked, bad_sweep_line, 
 ghost use Rattle.rh_run.specs.Programs.{ProgramGives, NoThreads};
 ghost use Rattle.rh_run.specs.RunText.{Wrote, Broke};
 ghost use Rattle.rh_run.specs.SweepText.{why_not_swept, plans_end, lines_end, sweep_end};
-ghost use Rattle.rh_json_lines.specs.AnswerLines.{bad_json};
 ghost use Rattle.rh_json_lines.specs.OutcomeLines.{outcome_line, sweep_fault_line};
 ghost use Rattle.rh_json.specs.SweepJson.{plan_line, plans_json, base_json, lines_json, sweep_json, OwesSweepJson};
 
 use crate::base::base_text;
 use crate::parts::{write_check, write_run};
+use crate::running::write_bad;
 use rh_base::{OutOfMemory, Str};
 use rh_calls::Call;
 use rh_cluster::{Cluster, read_cluster};
 use rh_devices::{Sink, Source, Watched, WriteFault, read_input, write_text};
 use rh_json_lines::{outcome_line, sweep_fault_line};
-use rh_json_text::{push_number, push_text};
 use rh_outcomes::Crew;
 use rh_plans::{Outcome, Plan, SweepFault};
 use rh_rules::Pick;
@@ -120,31 +119,6 @@ fn sweep_lines<C: Crew, K: Sink>(
             sweep_plans(crew, alloc, &sim, plans.as_slice(), writer)
         }
     }
-}
-
-/// Writes that the line of this number is bad: it is no command, or no event of a plan, or asks nothing that there is.
-pub fn write_bad<K: Sink>(
-    alloc: Global,
-    number: u64,
-    writer: &mut Watched<K>,
-) -> Result<(), WriteFault>
-    requires { writer.old.failed ≡ false }
-    ensures { Broke K.takes K.fails result (bad_json number) writer.old writer.new }
-{
-    let line = bad_line(alloc, number)?;
-    write_text(writer, line.as_slice())
-}
-
-// The line of one that is no command, or in a plan no event.
-#[tactic(auto, unfolding(rh_json_lines::specs::AnswerLines::bad_json))]
-fn bad_line(alloc: Global, number: u64) -> Result<Vec<u8>, OutOfMemory>
-    ensures { IfOk result (λ line. line.items ≡ bad_json number) }
-{
-    let mut line = Vec::new(alloc);
-    push_text(&mut line, "{\"line\":")?;
-    push_number(alloc, &mut line, number as u128)?;
-    push_text(&mut line, ",\"bad\":true}\n")?;
-    Ok(line)
 }
 
 /// Writes the cluster of an input, and the answers to the commands of its base.
