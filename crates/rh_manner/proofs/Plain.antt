@@ -1,13 +1,12 @@
 -- A run in the plain manner is a run.
-use Rattle.std.proofs.Common.{◌≡◌, ◌∙◌, ◌+◌, ℕ, List, [], ◌∷◌, ◌++◌, map, zip, Bool, true, false, Option, Some, None, Result, Ok, Err, refl, sym, ap, ap₂}
+use Rattle.std.proofs.Common.{◌≡◌, ◌∙◌, ◌+◌, ℕ, List, [], ◌∷◌, ◌++◌, Bool, Option, Some, None, Result, Ok, Err, refl, ap, ap₂}
 use Rattle.std.specs.List.{list_any}
 use Rattle.rh_model.specs.ClusterView.{ClusterView}
 use Rattle.rh_cluster.specs.ClusterOf.{cluster_of}
 use Rattle.rh_cluster.specs.declared.fault.ClusterFault.{ClusterFault}
 use Rattle.rh_rules.specs.declared.pick.Pick.{Pick}
-use Rattle.rh_calls.specs.declared.call.Reply.{Reply}
 use Rattle.rh_trail.specs.SimView.{SimView}
-use Rattle.rh_trail.specs.Lone.{opened, replies, served}
+use Rattle.rh_trail.specs.Lone.{opened, served}
 use Rattle.rh_script.specs.declared.script.Line.{Line}
 use Rattle.rh_script.specs.declared.script.Line.TheVariants.{Nothing, Asks, Bad}
 use Rattle.rh_script.specs.Lines.{cluster_text, script_lines}

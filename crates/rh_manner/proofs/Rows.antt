@@ -1,5 +1,5 @@
 -- Worked rows: what is printed before an answer, which replies are refused steps, and how a strict run ends.
-use Rattle.std.proofs.Common.{◌≡◌, ◌++◌, ℕ, List, [], ◌∷◌, codes, true, false, Some, None, refl}
+use Rattle.std.proofs.Common.{◌≡◌, ◌++◌, List, [], ◌∷◌, codes, true, false, Some, None, refl}
 use Rattle.rh_rules.specs.declared.refusal.Refusal.TheVariants.{UnknownNode, AlreadyAlive}
 use Rattle.rh_calls.specs.declared.call.Call.TheVariants as call
 use Rattle.rh_calls.specs.declared.call.Reply.TheVariants as reply

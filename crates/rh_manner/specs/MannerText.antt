@@ -6,7 +6,6 @@ use Rattle.rh_model.specs.ClusterView.{ClusterView}
 use Rattle.rh_cluster.specs.ClusterOf.{cluster_of}
 use Rattle.rh_cluster.specs.declared.fault.ClusterFault.{ClusterFault}
 use Rattle.rh_rules.specs.declared.pick.Pick.{Pick}
-use Rattle.rh_calls.specs.declared.call.Call.{Call}
 use Rattle.rh_calls.specs.declared.call.Reply.{Reply}
 use Rattle.rh_calls.specs.declared.call.Reply.TheVariants as reply
 use Rattle.rh_trail.specs.SimView.{SimView}

@@ -1,5 +1,5 @@
 -- How the text of such a run is written, line by line (ours).
-use Rattle.std.specs.Prelude.{◌≡◌, ℕ, ◌+◌, List, ◌∷◌, ◌++◌, Bool, ◌||◌, false, Option, Some, Result, Ok, Err}
+use Rattle.std.specs.Prelude.{◌≡◌, ℕ, ◌+◌, List, ◌∷◌, ◌++◌, Bool, ◌||◌, false, Some, Result, Ok, Err}
 use Rattle.std.specs.List.{list_any}
 use Rattle.rh_model.specs.ClusterView.{ClusterView}
 use Rattle.rh_trail.specs.SimView.{SimView}

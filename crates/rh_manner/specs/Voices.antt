@@ -17,11 +17,12 @@ use Rattle.rh_manner.specs.declared.voice.Voice.{Voice}
 
 -- ---- the whole text
 
+-- what is written for an input in a form: what `run` writes for it, or what `run --json` does
 abbrev pub text_in : Form → List ℕ → Pick → List ℕ
 text_in Plain bytes pick = run_text bytes pick
 text_in Json bytes pick = run_json bytes pick
 
--- what a voice says of an input: what `run` writes for it, or what `run --json` does
+-- what a voice says of an input
 abbrev pub voiced : Voice → List ℕ → List ℕ
 voiced v bytes = text_in v.form bytes v.pick
 

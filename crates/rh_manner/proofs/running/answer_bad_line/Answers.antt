@@ -1,4 +1,3 @@
-use Rattle.std.proofs.Common.{◌≡◌}
 use Rattle.std.proofs.lemmas.Result.{err_from_is_err_and}
 use Rattle.rh_manner.proofs.Lines.{broke_behind, first_breaks}
 use Rattle.rh_manner.proofs.running.answer_bad_line.Goals as goal

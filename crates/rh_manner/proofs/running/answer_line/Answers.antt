@@ -1,12 +1,11 @@
-use Rattle.std.proofs.Common.{◌≡◌, ◌∙◌, List, ℕ, Ok, Err, sym, ap, subst, refl}
+use Rattle.std.proofs.Common.{◌∙◌, Ok, Err, sym, ap, subst}
 use Rattle.std.proofs.lemmas.Result.{err_from_is_err_and}
 use Rattle.rh_model.specs.ClusterView.{ClusterView}
 use Rattle.rh_script.specs.declared.script.Line.{Line}
 use Rattle.rh_script.specs.Commands.{line_of}
 use Rattle.rh_manner.specs.declared.running.Turn.TheVariants.{Goes, Ends}
-use Rattle.rh_manner.specs.MannerText.{Said}
 use Rattle.rh_manner.specs.Turns.{Turns}
-use Rattle.rh_manner.proofs.Lines.{turn_of_nothing, turn_of_call, call_breaks, turn_of_bad, bad_breaks}
+use Rattle.rh_manner.proofs.Lines.{turn_of_call, call_breaks, turn_of_bad, bad_breaks}
 use Rattle.rh_manner.proofs.running.answer_line.Goals as goal
 
 pub returns-in_err-refused-in-Asks-clause-text : goal.returns-in_err-refused-in-Asks-clause-text

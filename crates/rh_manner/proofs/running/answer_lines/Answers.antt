@@ -1,12 +1,10 @@
-use Rattle.std.proofs.Common.{◌≡◌, ◌∙◌, ◌∷◌, List, ℕ, None, Some, Ok, Err, map, ap, subst, sym, arith}
+use Rattle.std.proofs.Common.{◌∙◌, List, ℕ, None, Ok, Err, map, ap, subst, arith}
 use Rattle.std.proofs.lemmas.Result.{err_from_is_err_and}
 use Rattle.rh_model.specs.ClusterView.{ClusterView}
 use Rattle.rh_script.specs.Lines.{raw_lines, content}
 use Rattle.rh_script.specs.Commands.{line_of}
-use Rattle.rh_manner.specs.MannerText.{Said, end_of, asked, said_by}
-use Rattle.rh_manner.specs.Turns.{Turns, any_refused}
-use Rattle.rh_run.specs.RunText.{bad_line}
-use Rattle.rh_manner.specs.declared.running.Turn.TheVariants.{Goes, Ends}
+use Rattle.rh_manner.specs.MannerText.{said_by}
+use Rattle.rh_manner.specs.Turns.{Turns}
 use Rattle.rh_manner.proofs.Lines.{breaks_here, ends_here, text_goes_on, bad_goes_on, refusals_go_on}
 use Rattle.rh_manner.proofs.running.answer_lines.Goals as goal
 
