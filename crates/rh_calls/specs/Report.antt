@@ -2,9 +2,10 @@
 use Rattle.std.specs.Prelude.{ℕ, List, [], ◌++◌, codes, slice_get, unwrap_or, Some, None, if◌then◌else◌}
 use Rattle.std.specs.List.{flat_map}
 use Rattle.std.specs.Fmt.{decimal}
-use Rattle.rh_model.specs.ClusterView.{ClusterView}
+use Rattle.rh_model.specs.ClusterView.{ClusterView, dep_name}
 use Rattle.rh_model.specs.declared.node.Node.{Node}
 use Rattle.rh_model.specs.declared.node.App.{App}
+use Rattle.rh_model.specs.declared.settings.Dep.{Dep}
 use Rattle.rh_model.specs.declared.settings.Restart.{Restart}
 use Rattle.rh_model.specs.declared.settings.Restart.TheVariants.{Permanent, Transient, Temporary}
 use Rattle.rh_state.specs.declared.status.Mode.{Mode}
@@ -29,6 +30,10 @@ node_word c n = unwrap_or (slice_get c.node_names n.0) no_name
 
 abbrev pub app_word : ClusterView → App → List ℕ
 app_word c a = unwrap_or (slice_get c.app_names a.0) no_name
+
+-- the name of a dependency, or that for one that isn't of the cluster
+abbrev pub dep_word : ClusterView → Dep → List ℕ
+dep_word c d = unwrap_or (dep_name c d) no_name
 
 -- ---- the parts of a state in words
 

@@ -17,7 +17,9 @@ use crate::text::apps::push_apps;
 pub use crate::text::apps::push_standing_line;
 pub use crate::text::nodes::forbids_any;
 use crate::text::nodes::push_node_lines;
-pub use crate::text::words::{NO_NAME, app_word, node_word, push_decimal, push_kind, restart_word};
+pub use crate::text::words::{
+    NO_NAME, app_word, dep_word, node_word, push_decimal, push_kind, restart_word,
+};
 use rh_base::OutOfMemory;
 use rh_model::{Cluster, Node};
 use rh_state::{State, Timer};

@@ -1,8 +1,7 @@
 -- How the findings of a file are told (ours).
-use Rattle.std.specs.Prelude.{ℕ, List, [], codes, Bool, true, false, Option, None, unwrap_or}
-use Rattle.rh_model.specs.ClusterView.{ClusterView, dep_name}
-use Rattle.rh_model.specs.declared.settings.Dep.{Dep}
-use Rattle.rh_calls.specs.Report.{no_name, node_word, app_word}
+use Rattle.std.specs.Prelude.{ℕ, List, [], codes, Bool, true, false, Option, None}
+use Rattle.rh_model.specs.ClusterView.{ClusterView}
+use Rattle.rh_calls.specs.Report.{node_word, app_word, dep_word}
 use Rattle.rh_file_lint.specs.declared.finding.FileFinding.{FileFinding}
 use Rattle.rh_file_lint.specs.declared.finding.FileFinding.TheVariants.{NoDistributedApplication, NoLists, OneSidedLists, IncompleteLists, ListsWithoutTimeout, SyncTimeoutZero, SyncTimeoutTooLarge, FailoverTimeoutTooLarge, TupleNotInOrder, TwoTuples, BootBeforeDependency, CrossedBootLists, NotBootedAtListedNode, PermanentDistributed, LocalAtSeveralNodes, DependencyCircle, LostTogether}
 use Rattle.rh_findings.specs.Sentences.{WordsView, NamesView}
@@ -35,10 +34,6 @@ words_of (DependencyCircle a) = words (codes "dependency_circle: ") (codes " dep
 words_of (LostTogether a b) = words (codes "lost_together: ") (codes " and ") (codes " may be lost with one node, and then can wait for one another for ever") []
 
 -- ---- the names
--- the name of a dependency, or what is shown for a missing name
-abbrev pub dep_word : ClusterView → Dep → List ℕ
-dep_word c d = unwrap_or (dep_name c d) no_name
-
 abbrev pub names_of : ClusterView → FileFinding → NamesView
 names_of c NoDistributedApplication = names [] [] []
 names_of c (NoLists n) = names (node_word c n) [] []

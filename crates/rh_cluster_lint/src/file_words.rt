@@ -1,11 +1,11 @@
 //! The words of the findings of a file.
 
-ghost use Rattle.std.specs.Prelude.{◌≡◌, is_some};
-ghost use Rattle.rh_model.specs.ClusterView.{dep_name};
+ghost use Rattle.std.specs.Prelude.{◌≡◌};
 ghost use Rattle.rh_findings.specs.Sentences.{words_seen, names_seen};
-ghost use Rattle.rh_cluster_lint.specs.FileWords.{dep_word, words, names, words_of, names_of, is_warning};
+ghost use Rattle.rh_cluster_lint.specs.FileWords.{words, names, words_of, names_of, is_warning};
 
-use rh_cluster::{Cluster, Dep};
+use rh_calls::{app_word, dep_word, node_word};
+use rh_cluster::Cluster;
 use rh_file_lint::FileFinding;
 use rh_findings::{Names, Words};
 
@@ -128,8 +128,6 @@ const LOST_TOGETHER: Words = Words {
     third: "",
 };
 
-use rh_calls::{NO_NAME, app_word, node_word};
-
 /// The words of a finding.
 pub fn words_of(finding: &FileFinding) -> Words
     ensures { words_seen result ≡ words_of finding.now }
@@ -152,27 +150,6 @@ pub fn words_of(finding: &FileFinding) -> Words
         FileFinding::LocalAtSeveralNodes { .. } => LOCAL_AT_SEVERAL_NODES,
         FileFinding::DependencyCircle { .. } => DEPENDENCY_CIRCLE,
         FileFinding::LostTogether { .. } => LOST_TOGETHER,
-    }
-}
-
-// The name of a dependency, or a question mark for one that isn't of this cluster.
-fn dep_word<'a>(cluster: &'a Cluster, dep: Dep) -> &'a str
-    ensures { result.now ≡ dep_word cluster.now dep }
-{
-    if has_dep(cluster, dep) {
-        cluster.dep_name(dep)
-    } else {
-        NO_NAME
-    }
-}
-
-// Is the dependency one of the cluster's?
-fn has_dep(cluster: &Cluster, dep: Dep) -> bool
-    ensures { result ≡ is_some (dep_name cluster.now dep) }
-{
-    match dep {
-        Dep::Listed(app) => (app.0 as usize) < cluster.app_count(),
-        Dep::Platform(number) => (number as usize) < cluster.platform_count(),
     }
 }
 

@@ -1,11 +1,10 @@
 -- The texts of answers (ours).
-use Rattle.std.specs.Prelude.{ℕ, List, [], ◌++◌, codes, unwrap_or}
+use Rattle.std.specs.Prelude.{ℕ, List, [], ◌++◌, codes}
 use Rattle.std.specs.List.{flat_map}
 use Rattle.std.specs.Fmt.{decimal}
-use Rattle.rh_model.specs.ClusterView.{ClusterView, dep_name}
+use Rattle.rh_model.specs.ClusterView.{ClusterView}
 use Rattle.rh_model.specs.declared.node.Node.{Node}
 use Rattle.rh_model.specs.declared.node.App.{App}
-use Rattle.rh_model.specs.declared.settings.Dep.{Dep}
 use Rattle.rh_cluster.specs.FaultTexts.{cluster_fault_text}
 use Rattle.rh_cluster.specs.declared.fault.ClusterFault.{ClusterFault}
 use Rattle.rh_rules.specs.declared.notice.Notice.{Notice}
@@ -14,12 +13,8 @@ use Rattle.rh_rules.specs.declared.refusal.Refusal.{Refusal}
 use Rattle.rh_rules.specs.declared.refusal.Refusal.TheVariants.{DependencyNotStarted}
 use Rattle.rh_calls.specs.declared.call.Reply.{Reply}
 use Rattle.rh_calls.specs.declared.call.Reply.TheVariants as reply
-use Rattle.rh_calls.specs.Report.{no_name, node_word, app_word, kind_words}
+use Rattle.rh_calls.specs.Report.{node_word, app_word, dep_word, kind_words}
 use Rattle.rh_rules.specs.Refusals.{refusal_words}
-
--- the name of a dependency, or what is shown for a missing name
-abbrev pub dep_words : ClusterView → Dep → List ℕ
-dep_words c d = unwrap_or (dep_name c d) no_name
 
 -- an application, and a node
 abbrev pub pair_words : ClusterView → App → Node → List ℕ
@@ -35,7 +30,7 @@ notice_line c (Waits a n) = codes "waits " ++ pair_words c a n ++ codes "\n"
 
 -- a dependency that isn't started is named
 abbrev pub reason_words : ClusterView → Refusal → List ℕ
-reason_words c (DependencyNotStarted dep) = codes " " ++ dep_words c dep
+reason_words c (DependencyNotStarted dep) = codes " " ++ dep_word c dep
 reason_words c other = []
 
 -- why a step was refused

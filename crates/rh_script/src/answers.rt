@@ -1,39 +1,17 @@
 //! The texts of answers.
 
-ghost use Rattle.std.specs.Prelude.{◌≡◌, ◌++◌, codes, is_some, OnOk, IfOk};
+ghost use Rattle.std.specs.Prelude.{◌≡◌, ◌++◌, codes, OnOk, IfOk};
 ghost use Rattle.std.specs.List.{flat_map};
 ghost use Rattle.std.specs.String.{string_bytes};
-ghost use Rattle.rh_model.specs.ClusterView.{dep_name};
 ghost use Rattle.rh_calls.specs.Report.{kind_words};
-ghost use Rattle.rh_script.specs.Answers.{dep_words, pair_words, reason_words, refusal_line, notice_line, answer_text, fault_text, bad_text};
+ghost use Rattle.rh_script.specs.Answers.{pair_words, reason_words, refusal_line, notice_line, answer_text, fault_text, bad_text};
 
 use rh_base::OutOfMemory;
-use rh_calls::{NO_NAME, Reply, app_word, node_word, push_decimal, push_kind};
-use rh_cluster::{App, Cluster, ClusterFault, Dep, Node};
+use rh_calls::{Reply, app_word, dep_word, node_word, push_decimal, push_kind};
+use rh_cluster::{App, Cluster, ClusterFault, Node};
 use rh_rules::{Notice, Refusal};
 use rh_state::Kind;
 use std::alloc::Global;
-
-// Is the dependency one of the cluster's?
-fn has_dep(cluster: &Cluster, dep: Dep) -> bool
-    ensures { result ≡ is_some (dep_name cluster.now dep) }
-{
-    match dep {
-        Dep::Listed(app) => (app.0 as usize) < cluster.app_count(),
-        Dep::Platform(number) => (number as usize) < cluster.platform_count(),
-    }
-}
-
-// The name of a dependency, or a question mark for one that isn't of this cluster.
-fn dep_words<'a>(cluster: &'a Cluster, dep: Dep) -> &'a str
-    ensures { result.now ≡ dep_words cluster.now dep }
-{
-    if has_dep(cluster, dep) {
-        cluster.dep_name(dep)
-    } else {
-        NO_NAME
-    }
-}
 
 // Adds an application and a node.
 fn push_pair(text: &mut String, cluster: &Cluster, app: App, node: Node) -> Result<(), OutOfMemory>
@@ -120,7 +98,7 @@ pub fn push_reason(
 {
     if let Refusal::DependencyNotStarted { dep } = refusal {
         text.push_str(" ")?;
-        text.push_str(dep_words(cluster, dep))?;
+        text.push_str(dep_word(cluster, dep))?;
     }
     Ok(())
 }

@@ -5,30 +5,17 @@ ghost use Rattle.std.specs.List.{list_any};
 ghost use Rattle.std.specs.Option.{option_map};
 ghost use Rattle.std.specs.String.{string_bytes};
 ghost use Rattle.rh_rules.specs.Refusals.{refusal_words};
-ghost use Rattle.rh_script.specs.Answers.{dep_words, reason_words};
+ghost use Rattle.rh_script.specs.Answers.{reason_words};
 ghost use Rattle.rh_script_lint.specs.Refused.{why_refused, is_told_of_line, says_refused, refused_step, of_reply};
 
 use rh_base::{OutOfMemory, Str};
-use rh_calls::{Call, NO_NAME, Reply, app_word};
-use rh_cluster::{Cluster, Dep};
+use rh_calls::{Call, Reply, dep_word};
+use rh_cluster::Cluster;
 use rh_findings::{Finding, Kind};
 use rh_rules::Refusal;
 use rh_script::command_text;
 use rh_step_findings::StepFinding;
 use std::alloc::Global;
-
-// The name of a dependency, or a question mark for one that isn't of this cluster.
-fn dep_words<'a>(cluster: &'a Cluster, dep: Dep) -> &'a str
-    ensures { result.now ≡ dep_words cluster.now dep }
-{
-    match dep {
-        Dep::Listed(app) => app_word(cluster, app),
-        Dep::Platform(number) if (number as usize) < cluster.platform_count() => {
-            cluster.dep_name(dep)
-        }
-        Dep::Platform(_) => NO_NAME,
-    }
-}
 
 // A refusal, as it stands in an answer: the dependency that isn't started is named.
 fn refusal_text(alloc: Global, cluster: &Cluster, refusal: Refusal) -> Result<String, OutOfMemory>
@@ -37,7 +24,7 @@ fn refusal_text(alloc: Global, cluster: &Cluster, refusal: Refusal) -> Result<St
     let mut text = format!(in alloc; "{refusal}")?;
     if let Refusal::DependencyNotStarted { dep } = refusal {
         text.push_str(" ")?;
-        text.push_str(dep_words(cluster, dep))?;
+        text.push_str(dep_word(cluster, dep))?;
     }
     Ok(text)
 }

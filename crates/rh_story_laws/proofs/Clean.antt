@@ -34,11 +34,11 @@ use Rattle.rh_rules.specs.Steps.{next}
 use Rattle.rh_calls.specs.declared.call.Call.{Call}
 use Rattle.rh_calls.specs.declared.call.Call.TheVariants as call
 use Rattle.rh_calls.specs.declared.call.Reply.TheVariants as reply
-use Rattle.rh_calls.specs.Report.{no_name, node_word, app_word, mode_words, restart_words, kind_words, standing_words, timer_words, node_line, running_line, waiting_line, forbidden_line, line_if_forbidden, standing_line, app_line, timer_line, node_lines, report_text}
+use Rattle.rh_calls.specs.Report.{no_name, node_word, app_word, dep_word, mode_words, restart_words, kind_words, standing_words, timer_words, node_line, running_line, waiting_line, forbidden_line, line_if_forbidden, standing_line, app_line, timer_line, node_lines, report_text}
 use Rattle.rh_trail.specs.SimView.{SimView, state_of}
 use Rattle.rh_trail.specs.Lone.{answered, stepped, served, with_event, trail_limit}
 use Rattle.rh_courses.proofs.Passing.{state_cluster}
-use Rattle.rh_script.specs.Answers.{dep_words, pair_words, notice_line, refusal_line, answer_text}
+use Rattle.rh_script.specs.Answers.{pair_words, notice_line, refusal_line, answer_text}
 use Rattle.rh_script.specs.Laws.{IsUnbroken, HasUnbroken}
 use Rattle.rh_story_laws.proofs.Texts.{not_both}
 
@@ -170,7 +170,7 @@ module _ (c : ClusterView) (names : HasUnbroken c) where
 
   -- ---- refusals
   module _ (platforms : All IsUnbroken c.platform_names) where
-    dep_clean : (d : Dep) → clean (dep_words c d) ≡ true
+    dep_clean : (d : Dep) → clean (dep_word c d) ≡ true
     dep_clean (Listed a) = app_clean a
     dep_clean (Platform p) = name_clean c.platform_names p platforms
 
@@ -192,7 +192,7 @@ module _ (c : ClusterView) (names : HasUnbroken c) where
     refusal_clean refusal.NotRunningHere = refl
     refusal_clean refusal.NotPermitted = refl
     refusal_clean (refusal.DependencyNotStarted dep) =
-        with_lf (codes "refused S17 dependency_not_started " ++ dep_words c dep) (dep_clean dep)
+        with_lf (codes "refused S17 dependency_not_started " ++ dep_word c dep) (dep_clean dep)
     refusal_clean refusal.TrailFull = refl
     refusal_clean refusal.OutOfMemory = refl
 

@@ -1,17 +1,12 @@
 -- Reasons in words, without a line end (ours).
-use Rattle.std.specs.Prelude.{ℕ, List, [], ◌++◌, codes, unwrap_or, Option, Some, None}
+use Rattle.std.specs.Prelude.{ℕ, List, [], ◌++◌, codes, Option, Some, None}
 use Rattle.std.specs.List.{flat_map}
 use Rattle.std.specs.Fmt.{decimal}
-use Rattle.rh_model.specs.ClusterView.{ClusterView, dep_name}
+use Rattle.rh_model.specs.ClusterView.{ClusterView}
 use Rattle.rh_model.specs.declared.node.Node.{Node}
-use Rattle.rh_model.specs.declared.settings.Dep.{Dep}
-use Rattle.rh_calls.specs.Report.{no_name, node_word}
+use Rattle.rh_calls.specs.Report.{node_word, dep_word}
 use Rattle.rh_why.specs.declared.reason.Reason.{Reason}
 use Rattle.rh_why.specs.declared.reason.Reason.TheVariants.{Needs, Forbidden, RunsAt, LostWith, Quiet}
-
--- the name of a dependency, or what is shown for a missing name
-abbrev pub dep_word : ClusterView → Dep → List ℕ
-dep_word c d = unwrap_or (dep_name c d) no_name
 
 -- why an application waits
 unfoldable pub reason_text : ClusterView → Reason → List ℕ

@@ -1,37 +1,15 @@
 //! Reasons in words.
 
-ghost use Rattle.std.specs.Prelude.{◌≡◌, ◌++◌, is_some, OnOk, IfOk};
+ghost use Rattle.std.specs.Prelude.{◌≡◌, ◌++◌, OnOk, IfOk};
 ghost use Rattle.std.specs.List.{flat_map};
 ghost use Rattle.std.specs.String.{string_bytes};
-ghost use Rattle.rh_model.specs.ClusterView.{dep_name};
-ghost use Rattle.rh_why.specs.Texts.{dep_word, reason_text, one_word, until_text, awaited_text};
+ghost use Rattle.rh_why.specs.Texts.{reason_text, one_word, until_text, awaited_text};
 
 use crate::reason::{Awaited, Reason};
 use rh_base::OutOfMemory;
-use rh_calls::{NO_NAME, node_word, push_decimal};
-use rh_model::{Cluster, Dep, Node};
+use rh_calls::{dep_word, node_word, push_decimal};
+use rh_model::{Cluster, Node};
 use std::alloc::Global;
-
-// Is the dependency one of the cluster's?
-fn has_dep(cluster: &Cluster, dep: Dep) -> bool
-    ensures { result ≡ is_some (dep_name cluster.now dep) }
-{
-    match dep {
-        Dep::Listed(app) => (app.0 as usize) < cluster.app_count(),
-        Dep::Platform(number) => (number as usize) < cluster.platform_count(),
-    }
-}
-
-// The name of a dependency, or a question mark for one that isn't of this cluster.
-fn dep_word<'a>(cluster: &'a Cluster, dep: Dep) -> &'a str
-    ensures { result.now ≡ dep_word cluster.now dep }
-{
-    if has_dep(cluster, dep) {
-        cluster.dep_name(dep)
-    } else {
-        NO_NAME
-    }
-}
 
 /// Why an application waits, in one line without its end: `needs db`, `forbidden`, `runs at n1@lab`, `lost with n1@lab until 6000`,
 /// `quiet`. A number that nothing of the cluster has is shown as a question mark.

@@ -3,11 +3,11 @@
 ghost use Rattle.std.specs.Prelude.{◌≡◌, ◌++◌, codes, OnOk};
 ghost use Rattle.std.specs.Fmt.{decimal};
 ghost use Rattle.std.specs.String.{string_bytes};
-ghost use Rattle.rh_calls.specs.Report.{node_word, app_word, mode_words, restart_words, kind_words, standing_words};
+ghost use Rattle.rh_calls.specs.Report.{node_word, app_word, dep_word, mode_words, restart_words, kind_words, standing_words};
 
 use itoa::Buffer;
 use rh_base::OutOfMemory;
-use rh_model::{App, Cluster, Node, Restart};
+use rh_model::{App, Cluster, Dep, Node, Restart};
 use rh_state::{Kind, Mode, Standing};
 
 /// What is shown for a name that is missing.
@@ -32,6 +32,19 @@ pub fn app_word<'a>(cluster: &'a Cluster, app: App) -> &'a str
         cluster.app_name(app)
     } else {
         NO_NAME
+    }
+}
+
+/// The name of a dependency, or a question mark for one that isn't of this cluster.
+pub fn dep_word<'a>(cluster: &'a Cluster, dep: Dep) -> &'a str
+    ensures { result.now ≡ dep_word cluster.now dep }
+{
+    match dep {
+        Dep::Listed(app) => app_word(cluster, app),
+        Dep::Platform(number) if (number as usize) < cluster.platform_count() => {
+            cluster.dep_name(dep)
+        }
+        Dep::Platform(_) => NO_NAME,
     }
 }
 
