@@ -53,7 +53,7 @@ NO_GROWTH = {
         "operational", "candidates", "choose", "best", "start_kind", "refusal_of"),
     "rh_growths": (
         "Sim::undo", "Sim::redo", "Sim::undo_all", "Sim::redo_all", "Sim::cut_redo", "Sim::cluster", "Sim::cursor", "Sim::trail",
-        "Sim::record", "Sim::state", "Sim::pick", "FiredTimer::due", "FiredTimer::told", "Bytes::as_slice", "Bytes::share",
+        "Sim::record", "Sim::state", "Sim::pick", "FiredTimer::due", "FiredTimer::notices", "Bytes::as_slice", "Bytes::share",
         "Reply::share", "Replies::of", "Replies::into_one", "Replies::into_three",
         "Room::log", "Room::sim", "Room::sessions", "Pass::session", "Pass::receipts", "close", "FreeGate::enter", "FreeGate::leave",
         # A session has room for all its receipts, and a room for all its entries, so these take none in a room either.

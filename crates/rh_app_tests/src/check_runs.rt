@@ -1,7 +1,7 @@
 //! Checks over memory, with devices that fail.
 
 use crate::devices::{Failure, Sink, Source};
-use crate::rehearsals::said;
+use crate::rehearsals::word_of_end;
 use rh_devices::{Reader, Watched, Writer};
 use rh_run::run_check;
 use std::alloc::Global;
@@ -20,20 +20,20 @@ static TEXT: &str = "ok 1 nodes 1 applications\n";
 fn end_of(alloc: Global, source: Source<'_>, sink: &mut Sink) -> &'static str {
     let mut reader = Watched::new(Reader::new(source));
     let mut writer = Watched::new(Writer::new(sink));
-    said(run_check(alloc, &mut reader, &mut writer))
+    word_of_end(run_check(alloc, &mut reader, &mut writer))
 }
 
 #[test]
 fn takes_and_gives_one_byte_a_call(rt: HostRuntime) {
-    let mut sink = Sink::slow(rt.alloc());
-    assert!(rt; end_of(rt.alloc(), Source::slow(FILE.as_bytes()), &mut sink) == "done");
+    let mut sink = Sink::byte_by_byte(rt.alloc());
+    assert!(rt; end_of(rt.alloc(), Source::byte_by_byte(FILE.as_bytes()), &mut sink) == "done");
     assert!(rt; sink.bytes.as_slice() == TEXT.as_bytes());
 }
 
 // Is nothing written where this call of the reader fails?
 fn writes_nothing(rt: &impl Abort, alloc: Global, call: u32) {
     let mut sink = Sink::new(alloc);
-    let source = Source::failing(FILE.as_bytes(), call);
+    let source = Source::failing_after(FILE.as_bytes(), call);
     assert!(rt; end_of(alloc, source, &mut sink) == "read", "call {call}");
     assert!(rt; sink.bytes.is_empty(), "call {call}");
 }
@@ -48,7 +48,7 @@ fn writes_nothing_after_a_failed_read(rt: HostRuntime) {
 
 // Does a check whose writer fails at this call leave a front of the text?
 fn leaves_a_front(rt: &impl Abort, alloc: Global, call: u32, failure: Failure) {
-    let mut sink = Sink::failing(alloc, call, failure);
+    let mut sink = Sink::failing_after(alloc, call, failure);
     let ended = end_of(alloc, Source::of(FILE.as_bytes()), &mut sink);
     assert!(rt;
         TEXT.as_bytes().starts_with(sink.bytes.as_slice()),

@@ -23,7 +23,7 @@ impl<'a> Source<'a> {
     }
 
     /// Gives one byte a call.
-    pub fn slow(bytes: &'a [u8]) -> Source<'a> {
+    pub fn byte_by_byte(bytes: &'a [u8]) -> Source<'a> {
         Source {
             bytes,
             piece: 1,
@@ -32,7 +32,7 @@ impl<'a> Source<'a> {
     }
 
     /// Gives one byte a call, so many times, and fails once.
-    pub fn failing(bytes: &'a [u8], calls: u32) -> Source<'a> {
+    pub fn failing_after(bytes: &'a [u8], calls: u32) -> Source<'a> {
         Source {
             bytes,
             piece: 1,
@@ -88,7 +88,7 @@ impl Sink {
     }
 
     /// Takes one byte a call, and never fails.
-    pub fn slow(alloc: Global) -> Sink {
+    pub fn byte_by_byte(alloc: Global) -> Sink {
         Sink {
             bytes: Vec::new(alloc),
             flushes: 0,
@@ -99,7 +99,7 @@ impl Sink {
     }
 
     /// Takes three bytes a call, so many times, and fails once.
-    pub fn failing(alloc: Global, calls: u32, failure: Failure) -> Sink {
+    pub fn failing_after(alloc: Global, calls: u32, failure: Failure) -> Sink {
         Sink {
             bytes: Vec::new(alloc),
             flushes: 0,

@@ -44,7 +44,7 @@ static TWO_NODES_JSON: [&str; 5] = [
 static TWO_NODES_JSON_DUE: [usize; 7] = [0, 0, 54, 139, 139, 228, 270];
 
 /// How a dialogue ended, in a word.
-fn said(ended: Result<(), RunFault>) -> &'static str {
+fn word_of_end(ended: Result<(), RunFault>) -> &'static str {
     match ended {
         Ok(()) => "done",
         Err(RunFault::Cluster(_)) => "cluster",
@@ -63,7 +63,7 @@ fn end_in<'a>(alloc: Global, partner: Partner<'a>, form: Form) -> (&'static str,
         pick: Pick::First,
         form,
     };
-    let ended = said(run_dialogue(alloc, &mut device, voice));
+    let ended = word_of_end(run_dialogue(alloc, &mut device, voice));
     (ended, device.into_inner())
 }
 
@@ -83,7 +83,7 @@ fn answers_each_line_before_the_next(rt: HostRuntime) {
 }
 
 // The text that these lines make.
-fn joined(alloc: Global, lines: &[&str]) -> String {
+fn join_lines(alloc: Global, lines: &[&str]) -> String {
     let mut text = String::new(alloc);
     for line in lines {
         let _ = text.push_str(line);
@@ -96,7 +96,7 @@ fn joined(alloc: Global, lines: &[&str]) -> String {
 fn answers_each_line_as_json_before_the_next(rt: HostRuntime) {
     let partner = Partner::new(rt.alloc(), TWO_NODES.as_bytes(), 4096);
     let (ended, partner) = end_in(rt.alloc(), partner, Form::Json);
-    let text = joined(rt.alloc(), TWO_NODES_JSON.as_slice());
+    let text = join_lines(rt.alloc(), TWO_NODES_JSON.as_slice());
     assert!(rt; ended == "bad line");
     assert!(rt; partner.taken.as_slice() == text.as_bytes());
     assert!(rt; partner.due.as_slice() == TWO_NODES_JSON_DUE.as_slice());
@@ -158,7 +158,7 @@ fn ends_as_a_run_does(rt: HostRuntime) {
 
 // Does a dialogue whose device fails at this call leave a front of the text, and end as a device's failure does?
 fn leaves_a_front(rt: &impl Abort, alloc: Global, call: u32, form: Form, text: &str) -> bool {
-    let partner = Partner::failing(alloc, TWO_NODES.as_bytes(), 7, call);
+    let partner = Partner::failing_at(alloc, TWO_NODES.as_bytes(), 7, call);
     let (ended, partner) = end_in(alloc, partner, form);
     assert!(rt;
         text.as_bytes().starts_with(partner.taken.as_slice()),
@@ -190,7 +190,7 @@ fn leaves_a_front_where_a_call_fails(rt: HostRuntime) {
 
 #[test]
 fn leaves_a_front_of_json_where_a_call_fails(rt: HostRuntime) {
-    let text = joined(rt.alloc(), TWO_NODES_JSON.as_slice());
+    let text = join_lines(rt.alloc(), TWO_NODES_JSON.as_slice());
     let calls = first_unmet(&rt, rt.alloc(), Form::Json, text.as_str());
     assert!(rt; calls > 120 && calls < 300);
 }

@@ -37,7 +37,7 @@ impl<'a> Partner<'a> {
     }
 
     /// Gives so many bytes a call, and fails at this call, counted from 0 over all kinds of calls.
-    pub fn failing(alloc: Global, bytes: &'a [u8], piece: usize, call: u32) -> Partner<'a> {
+    pub fn failing_at(alloc: Global, bytes: &'a [u8], piece: usize, call: u32) -> Partner<'a> {
         let mut partner = Partner::new(alloc, bytes, piece);
         partner.until_failure = Some(call);
         partner

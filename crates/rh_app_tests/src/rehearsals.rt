@@ -39,7 +39,7 @@ ok 2
 ";
 
 /// How a run ended, in a word.
-pub fn said(ended: Result<(), RunFault>) -> &'static str {
+pub fn word_of_end(ended: Result<(), RunFault>) -> &'static str {
     match ended {
         Ok(()) => "done",
         Err(RunFault::Cluster(_)) => "cluster",
@@ -59,7 +59,7 @@ pub fn said(ended: Result<(), RunFault>) -> &'static str {
 fn end_of(alloc: Global, source: Source<'_>, sink: &mut Sink) -> &'static str {
     let mut reader = Watched::new(Reader::new(source));
     let mut writer = Watched::new(Writer::new(sink));
-    said(run(alloc, &mut reader, &mut writer, Pick::First))
+    word_of_end(run(alloc, &mut reader, &mut writer, Pick::First))
 }
 
 // Does a run over this reader end so, with this text?
@@ -72,13 +72,13 @@ fn is_end(rt: &impl Abort, alloc: Global, source: Source<'_>, end: &str, text: &
 
 #[test]
 fn reads_one_byte_a_call(rt: HostRuntime) {
-    let source = Source::slow(TWO_NODES.as_bytes());
+    let source = Source::byte_by_byte(TWO_NODES.as_bytes());
     assert!(rt; is_end(&rt, rt.alloc(), source, "done", TWO_NODES_TEXT));
 }
 
 #[test]
 fn writes_one_byte_a_call(rt: HostRuntime) {
-    let mut sink = Sink::slow(rt.alloc());
+    let mut sink = Sink::byte_by_byte(rt.alloc());
     let source = Source::of(TWO_NODES.as_bytes());
     assert!(rt; end_of(rt.alloc(), source, &mut sink) == "done");
     assert!(rt; sink.bytes.as_slice() == TWO_NODES_TEXT.as_bytes());
@@ -91,7 +91,7 @@ fn runs_over_memory(rt: HostRuntime) {
         .ok()
         .expect(&rt, "memory");
     assert!(rt; answer.text.as_slice() == TWO_NODES_TEXT.as_bytes());
-    assert!(rt; said(answer.end) == "done");
+    assert!(rt; word_of_end(answer.end) == "done");
 }
 
 // The last call of the reader is the one that tells the end; it isn't called again behind that.
@@ -99,16 +99,16 @@ fn runs_over_memory(rt: HostRuntime) {
 fn writes_nothing_after_a_failed_read(rt: HostRuntime) {
     let calls = TWO_NODES.len() as u32 + 1;
     for call in 0..calls {
-        let source = Source::failing(TWO_NODES.as_bytes(), call);
+        let source = Source::failing_after(TWO_NODES.as_bytes(), call);
         assert!(rt; is_end(&rt, rt.alloc(), source, "read", ""), "call {call}");
     }
-    let source = Source::failing(TWO_NODES.as_bytes(), calls);
+    let source = Source::failing_after(TWO_NODES.as_bytes(), calls);
     assert!(rt; is_end(&rt, rt.alloc(), source, "done", TWO_NODES_TEXT));
 }
 
 // Does a run whose writer fails at this call end as it must? Did it fail?
 fn leaves_a_front(rt: &impl Abort, alloc: Global, call: u32, failure: Failure) -> bool {
-    let mut sink = Sink::failing(alloc, call, failure);
+    let mut sink = Sink::failing_after(alloc, call, failure);
     let ended = end_of(alloc, Source::of(TWO_NODES.as_bytes()), &mut sink);
     let text = TWO_NODES_TEXT.as_bytes();
     let has_failed = sink.bytes.len() < text.len();

@@ -1,7 +1,7 @@
 //! Sessions over memory, with devices that fail.
 
 use crate::devices::{Failure, Sink, Source};
-use crate::rehearsals::said;
+use crate::rehearsals::word_of_end;
 use rh_app::run_sessions;
 use rh_devices::{Reader, Watched, Writer};
 use rh_step::Pick;
@@ -38,13 +38,13 @@ fn end_of<T: Runtime<A = Global> + Threads + Wait + Sync>(
 ) -> &'static str {
     let mut reader = Watched::new(Reader::new(source));
     let mut writer = Watched::new(Writer::new(sink));
-    said(run_sessions(rt, rt.alloc(), &mut reader, &mut writer, Pick::First))
+    word_of_end(run_sessions(rt, rt.alloc(), &mut reader, &mut writer, Pick::First))
 }
 
 #[test]
 fn take_and_give_one_byte_a_call(rt: HostRuntime) {
-    let mut sink = Sink::slow(rt.alloc());
-    assert!(rt; end_of(&rt, Source::slow(CALLS.as_bytes()), &mut sink) == "done");
+    let mut sink = Sink::byte_by_byte(rt.alloc());
+    assert!(rt; end_of(&rt, Source::byte_by_byte(CALLS.as_bytes()), &mut sink) == "done");
     assert!(rt; sink.bytes.as_slice() == CALLS_TEXT.as_bytes());
 }
 
@@ -52,7 +52,7 @@ fn take_and_give_one_byte_a_call(rt: HostRuntime) {
 fn read_all_before_they_write(rt: HostRuntime) {
     for call in 0..CALLS.len() as u32 + 1 {
         let mut sink = Sink::new(rt.alloc());
-        let source = Source::failing(CALLS.as_bytes(), call);
+        let source = Source::failing_after(CALLS.as_bytes(), call);
         assert!(rt; end_of(&rt, source, &mut sink) == "read", "call {call}");
         assert!(rt; sink.bytes.is_empty(), "call {call}");
     }
@@ -64,7 +64,7 @@ fn leave_a_front_after_a_failed_write(rt: HostRuntime) {
     let text = CALLS_TEXT.as_bytes();
     for failure in [Failure::Error, Failure::Full] {
         for call in 0..50 {
-            let mut sink = Sink::failing(rt.alloc(), call, failure);
+            let mut sink = Sink::failing_after(rt.alloc(), call, failure);
             let ended = end_of(&rt, Source::of(CALLS.as_bytes()), &mut sink);
             let is_whole = sink.bytes.as_slice() == text;
             assert!(rt; text.starts_with(sink.bytes.as_slice()), "call {call}");

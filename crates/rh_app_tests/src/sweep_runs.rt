@@ -1,7 +1,7 @@
 //! Sweeps over memory, with devices that fail.
 
 use crate::devices::{Failure, Sink, Source};
-use crate::rehearsals::said;
+use crate::rehearsals::word_of_end;
 use rh_app::run_sweep;
 use rh_devices::{Reader, Watched, Writer};
 use rh_step::Pick;
@@ -38,14 +38,14 @@ fn end_of<T: Runtime<A = Global> + Threads + Wait + Sync>(
 ) -> &'static str {
     let mut reader = Watched::new(Reader::new(source));
     let mut writer = Watched::new(Writer::new(sink));
-    said(run_sweep(rt, rt.alloc(), &mut reader, &mut writer, Pick::First, 2))
+    word_of_end(run_sweep(rt, rt.alloc(), &mut reader, &mut writer, Pick::First, 2))
 }
 
 #[test]
 fn reads_all_before_it_writes(rt: HostRuntime) {
     for call in 0..PLANS.len() as u32 {
         let mut sink = Sink::new(rt.alloc());
-        let source = Source::failing(PLANS.as_bytes(), call);
+        let source = Source::failing_after(PLANS.as_bytes(), call);
         assert!(rt; end_of(&rt, source, &mut sink) == "read", "call {call}");
         assert!(rt; sink.bytes.is_empty(), "call {call}");
     }
@@ -57,7 +57,7 @@ fn leaves_a_front_after_a_failed_write(rt: HostRuntime) {
     let text = PLANS_TEXT.as_bytes();
     for failure in [Failure::Error, Failure::Full] {
         for call in 0..60 {
-            let mut sink = Sink::failing(rt.alloc(), call, failure);
+            let mut sink = Sink::failing_after(rt.alloc(), call, failure);
             let ended = end_of(&rt, Source::of(PLANS.as_bytes()), &mut sink);
             let is_whole = sink.bytes.as_slice() == text;
             assert!(rt; text.starts_with(sink.bytes.as_slice()), "call {call}");

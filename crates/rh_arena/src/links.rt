@@ -38,8 +38,8 @@ impl Links {
         ensures { IfOk result (λ links. links ≡ unlinked entries lists) }
     {
         Ok(Links {
-            entries: vec![in alloc; EntryWords::unlinked(); entries]?,
-            lists: vec![in alloc; ListWords::unlinked(); lists]?,
+            entries: vec![in alloc; EntryWords::of_unlinked_entry(); entries]?,
+            lists: vec![in alloc; ListWords::of_empty_list(); lists]?,
         })
     }
 

@@ -24,7 +24,7 @@ pub struct ListWords {
 
 impl EntryWords {
     // Those of an entry that is in no list.
-    pub fn unlinked() -> EntryWords
+    pub fn of_unlinked_entry() -> EntryWords
         ensures { result ≡ record { prev = None; next = None; owner = None } }
     {
         EntryWords {
@@ -46,7 +46,7 @@ impl EntryWords {
 
 impl ListWords {
     // Those of an empty list.
-    pub fn unlinked() -> ListWords
+    pub fn of_empty_list() -> ListWords
         ensures { result ≡ record { head = None; tail = None; count = 0 } }
     {
         ListWords {

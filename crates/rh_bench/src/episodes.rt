@@ -8,7 +8,7 @@ use itoa::Buffer;
 use rh_base::OutOfMemory;
 
 // A distributed application, and the nodes of its list.
-fn listed<'a>(chance: &mut Chance, made: &'a Made) -> (&'a str, &'a [usize]) {
+fn any_listed_app<'a>(chance: &mut Chance, made: &'a Made) -> (&'a str, &'a [usize]) {
     let count = made.lists.len();
     if count == 0 {
         return ("", &[]);
@@ -44,7 +44,7 @@ fn push_each(
 
 // Adds that the first node of a list crashes and boots, or the first two do, with some time between.
 fn push_failover(text: &mut String, chance: &mut Chance, made: &Made) -> Result<(), OutOfMemory> {
-    let (_, nodes) = listed(chance, made);
+    let (_, nodes) = any_listed_app(chance, made);
     let count = 1 + chance.below(2);
     let (gone, _) = nodes.split_at(count.min(nodes.len()));
     push_each(text, "crash ", made, gone)?;
@@ -72,7 +72,7 @@ fn push_local(text: &mut String, chance: &mut Chance, made: &Made) -> Result<(),
 
 // Adds that an application has to leave the first node of its list, and is taken back.
 fn push_leave(text: &mut String, chance: &mut Chance, made: &Made) -> Result<(), OutOfMemory> {
-    let (app, nodes) = listed(chance, made);
+    let (app, nodes) = any_listed_app(chance, made);
     let first = node_at(made, nodes, 0);
     push_at(text, "permit ", first, app, " false")?;
     push_at(text, "permit ", first, app, " true")?;
@@ -81,7 +81,7 @@ fn push_leave(text: &mut String, chance: &mut Chance, made: &Made) -> Result<(),
 
 // Adds that another node of its list takes an application over, and then the first one.
 fn push_takeovers(text: &mut String, chance: &mut Chance, made: &Made) -> Result<(), OutOfMemory> {
-    let (app, nodes) = listed(chance, made);
+    let (app, nodes) = any_listed_app(chance, made);
     let others = nodes.len().saturating_sub(1);
     if others == 0 {
         return Ok(());

@@ -99,7 +99,7 @@ pub static LARGEST: Shape = Shape {
 };
 
 // A cluster at whose end all nodes have booted.
-fn booted(
+fn booted_cluster(
     alloc: Global,
     chance: &mut Chance,
     shape: &Shape,
@@ -117,7 +117,7 @@ pub fn search_text(
     shape: &Shape,
     down: usize,
 ) -> Result<String, OutOfMemory> {
-    let (made, mut text) = booted(alloc, chance, shape)?;
+    let (made, mut text) = booted_cluster(alloc, chance, shape)?;
     push_search(&mut text, &made, down)?;
     Ok(text)
 }
@@ -139,7 +139,7 @@ pub fn steps_text(
     shape: &Shape,
     count: usize,
 ) -> Result<String, OutOfMemory> {
-    let (made, mut text) = booted(alloc, chance, shape)?;
+    let (made, mut text) = booted_cluster(alloc, chance, shape)?;
     push_steps(alloc, &mut text, chance, &made, count)?;
     Ok(text)
 }
@@ -164,7 +164,7 @@ pub fn looks_text(
     shape: &Shape,
     count: usize,
 ) -> Result<String, OutOfMemory> {
-    let (made, mut text) = booted(alloc, chance, shape)?;
+    let (made, mut text) = booted_cluster(alloc, chance, shape)?;
     push_looks(alloc, &mut text, chance, &made, count)?;
     Ok(text)
 }
@@ -176,7 +176,7 @@ pub fn plans_text(
     shape: &Shape,
     count: usize,
 ) -> Result<String, OutOfMemory> {
-    let (made, mut text) = booted(alloc, chance, shape)?;
+    let (made, mut text) = booted_cluster(alloc, chance, shape)?;
     push_plans(alloc, &mut text, chance, &made, count)?;
     Ok(text)
 }
@@ -188,7 +188,7 @@ pub fn rounds_text(
     shape: &Shape,
     count: usize,
 ) -> Result<String, OutOfMemory> {
-    let (made, mut text) = booted(alloc, chance, shape)?;
+    let (made, mut text) = booted_cluster(alloc, chance, shape)?;
     push_rounds(&mut text, &made, count)?;
     Ok(text)
 }
@@ -200,7 +200,7 @@ pub fn episode_plans_text(
     shape: &Shape,
     count: usize,
 ) -> Result<String, OutOfMemory> {
-    let (made, mut text) = booted(alloc, chance, shape)?;
+    let (made, mut text) = booted_cluster(alloc, chance, shape)?;
     push_episode_plans(&mut text, chance, &made, count)?;
     Ok(text)
 }
@@ -212,7 +212,7 @@ pub fn changes_text(
     shape: &Shape,
     count: usize,
 ) -> Result<String, OutOfMemory> {
-    let (made, mut text) = booted(alloc, chance, shape)?;
+    let (made, mut text) = booted_cluster(alloc, chance, shape)?;
     push_changes(&mut text, chance, &made, count)?;
     Ok(text)
 }
@@ -224,7 +224,7 @@ pub fn episodes_text(
     shape: &Shape,
     count: usize,
 ) -> Result<String, OutOfMemory> {
-    let (made, mut text) = booted(alloc, chance, shape)?;
+    let (made, mut text) = booted_cluster(alloc, chance, shape)?;
     push_episodes(&mut text, chance, &made, count)?;
     Ok(text)
 }

@@ -20,14 +20,14 @@ pub fn names_of(
     locals: usize,
 ) -> Result<Names, OutOfMemory> {
     Ok(Names {
-        nodes: numbered(alloc, "n", "@lab", nodes)?,
-        apps: numbered(alloc, "a", "", apps)?,
-        locals: numbered(alloc, "l", "", locals)?,
+        nodes: numbered_names(alloc, "n", "@lab", nodes)?,
+        apps: numbered_names(alloc, "a", "", apps)?,
+        locals: numbered_names(alloc, "l", "", locals)?,
     })
 }
 
 // So many names, each with its number between these two.
-fn numbered(
+fn numbered_names(
     alloc: Global,
     front: &str,
     back: &str,

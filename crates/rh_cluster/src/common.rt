@@ -19,7 +19,7 @@ pub fn distributed_of(term: &Term) -> Option<&Term>
 }
 
 // A term's `distributed`, if it has an entry.
-fn filled(term: &Term) -> Option<&Term>
+fn filled_distributed(term: &Term) -> Option<&Term>
     ensures { option_map (λ t. tree_of t.now) result ≡ filled (tree_of term.now) }
 {
     let value = distributed_of(term)?;
@@ -35,7 +35,7 @@ pub fn first_filled(terms: &[Term]) -> Option<&Term>
     ensures { option_map (λ t. tree_of t.now) result ≡ first_filled (map tree_of terms.now) }
 {
     for term in terms {
-        if let Some(value) = filled(term) {
+        if let Some(value) = filled_distributed(term) {
             return Some(value);
         }
     }

@@ -5,7 +5,7 @@ ghost use Rattle.rh_terms.specs.declared.fault.TermFault.{TermFault};
 ghost use Rattle.rh_cluster_lint.specs.Blame.{term_number, number, is_refused, up_to, before, first_from, unless_before, tries, fault_among, narrowed, depths, way_among, is_application, way_in_terms, way_in_lists, blamed};
 ghost use Rattle.rh_cluster_lint.specs.Spans.{parts_in};
 
-use crate::cuts::{Cut, cut_at, emptied};
+use crate::cuts::{Cut, cut_at, with_empty_lists};
 use crate::spans::{parts_in, span};
 use crate::words::is_headed;
 use rh_base::OutOfMemory;
@@ -203,7 +203,7 @@ fn fault_in(
 }
 
 // From a term on: it, the part of its list at which the fault is, and so on.
-fn narrowed(
+fn way_from(
     alloc: Global,
     cut: Cut,
     text: &[u8],
@@ -243,7 +243,7 @@ fn way_among(
     ensures { IfOk result (λ steps. steps.items ≡ way_among cut text.now code terms.items) }
 {
     let found = fault_among(alloc, cut, text, code, terms)?;
-    narrowed(alloc, cut, text, code, found, DEPTHS.as_slice())
+    way_from(alloc, cut, text, code, found, DEPTHS.as_slice())
 }
 
 // Is a term an application's?
@@ -319,7 +319,11 @@ fn way_in_lists(
 /// behind is taken out and all terms keep their names ([`Cut`]). At most [`MOST_TRIED`] parts are tried at each step, fewer of a long
 /// file, and none of one of 8 MiB or more ([`MOST_READ`]).
 #[tactic(auto, unfolding(crate::specs::Blame::blamed))]
-pub fn blamed(alloc: Global, text: &[u8], fault: &ClusterFault) -> Result<Vec<Step>, OutOfMemory>
+pub fn way_to_fault(
+    alloc: Global,
+    text: &[u8],
+    fault: &ClusterFault,
+) -> Result<Vec<Step>, OutOfMemory>
     ensures { IfOk result (λ steps. steps.items ≡ blamed text.now fault.now) }
 {
     if tries(text) == 0 {
@@ -327,7 +331,7 @@ pub fn blamed(alloc: Global, text: &[u8], fault: &ClusterFault) -> Result<Vec<St
     }
     let terms = parts_at(alloc, text, 0)?;
     let code = number(fault);
-    let headers = emptied(alloc, text)?;
+    let headers = with_empty_lists(alloc, text)?;
     if !is_refused(alloc, code, headers.as_slice())? {
         return way_in_lists(alloc, text, fault, terms);
     }

@@ -119,7 +119,7 @@ fn left(alloc: Global, cut: Cut, place: usize, text: &[u8]) -> Result<Vec<u8>, O
 }
 
 /// A file of which all lists in terms are empty, so that the terms are there with their names.
-pub fn emptied(alloc: Global, text: &[u8]) -> Result<Vec<u8>, OutOfMemory>
+pub fn with_empty_lists(alloc: Global, text: &[u8]) -> Result<Vec<u8>, OutOfMemory>
     ensures { IfOk result (λ file. file.items ≡ emptied text.now) }
 {
     left(alloc, Cut::Lists, 0, text)
@@ -131,7 +131,7 @@ pub fn cut_at(alloc: Global, cut: Cut, place: usize, text: &[u8]) -> Result<Vec<
     ensures { IfOk result (λ file. file.items ≡ cut_at cut place text.now) }
 {
     match cut {
-        Cut::Headers => emptied(alloc, before(text, place)),
+        Cut::Headers => with_empty_lists(alloc, before(text, place)),
         _ => left(alloc, cut, place, text),
     }
 }

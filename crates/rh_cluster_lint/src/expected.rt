@@ -4,7 +4,7 @@ ghost use Rattle.std.specs.Prelude.{◌≡◌};
 ghost use Rattle.rh_cluster_lint.specs.Expected.{expected};
 
 /// What stands in a parameter, a key or a section of this name, as words behind `; `; none where the name isn't read.
-pub fn expected(name: &str) -> &'static str
+pub fn expected_words(name: &str) -> &'static str
     ensures { result.now ≡ expected name.now }
 {
     if name == "distributed" {

@@ -44,7 +44,7 @@ fn triple(term: &Term) -> Option<(&Term, &Term, &Term)>
 
 // The name and the last part of `{Word, Name, Part}`.
 #[tactic(auto, unfolding(rh_cluster::specs::Shapes::as_headed))]
-fn headed<'a>(word: &str, term: &'a Term) -> Option<(&'a Str, &'a Term)>
+fn headed_by<'a>(word: &str, term: &'a Term) -> Option<(&'a Str, &'a Term)>
     ensures { option_map (λ parts. (parts.0.now, tree_of parts.1.now)) result ≡ as_headed word.now (tree_of term.now) }
 {
     let (first, name, part) = triple(term)?;
@@ -60,7 +60,7 @@ fn headed<'a>(word: &str, term: &'a Term) -> Option<(&'a Str, &'a Term)>
 fn is_headed(word: &str, term: &Term) -> bool
     ensures { result ≡ is_some (as_headed word.now (tree_of term.now)) }
 {
-    headed(word, term).is_some()
+    headed_by(word, term).is_some()
 }
 
 // Adds the place of a term, if it is `{Word, Name, Part}`.

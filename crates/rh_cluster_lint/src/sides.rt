@@ -10,7 +10,7 @@ ghost use Rattle.rh_cluster_lint.specs.Words.{is_headed};
 use crate::blame::Step;
 use crate::spans::{parts_in, span};
 use crate::taking_part::{Sides, sides_in};
-use crate::telling::shown;
+use crate::telling::excerpt;
 use crate::ways::push_term;
 use crate::words::{is_headed, second_word};
 use rh_base::{OutOfMemory, Str};
@@ -68,7 +68,7 @@ fn with_own(
 {
     let part = own.unwrap_or(step.part);
     let words = finding.text.as_str();
-    let (front, dots) = shown(span(text, part));
+    let (front, dots) = excerpt(span(text, part));
     let told = format!(in alloc; "{words}: {front}{dots}")?;
     let mut way = String::new(alloc);
     push_term(&mut way, text, step)?;
@@ -90,7 +90,7 @@ fn push_has(told: &mut String, text: &[u8], part: Option<Part>) -> Result<(), Ou
     match part {
         None => write!(told, "none")?,
         Some(part) => {
-            let (front, dots) = shown(span(text, part));
+            let (front, dots) = excerpt(span(text, part));
             write!(told, "{front}{dots}")?;
         }
     }
@@ -127,7 +127,12 @@ fn with_first(
 }
 
 // A finding with where two nodes differ.
-fn sided(alloc: Global, text: &[u8], finding: Finding, sides: Sides) -> Result<Finding, OutOfMemory>
+fn with_both(
+    alloc: Global,
+    text: &[u8],
+    finding: Finding,
+    sides: Sides,
+) -> Result<Finding, OutOfMemory>
     ensures { IfOk result (λ told. told ≡ sided_by text.now finding (Some sides)) }
 {
     let terms = parts_at(alloc, text, 0)?;
@@ -159,6 +164,6 @@ pub fn with_sides(
 {
     match sides_in(alloc, text, name)? {
         None => Ok(finding),
-        Some(sides) => sided(alloc, text, finding, sides),
+        Some(sides) => with_both(alloc, text, finding, sides),
     }
 }

@@ -8,7 +8,7 @@ ghost use Rattle.rh_cluster.specs.Shapes.{as_tuple};
 ghost use Rattle.rh_cluster_lint.specs.Differing.{is_name, group_has, listed_by, entry_lists, term_lists, takes_part, part_config, node_config, first_config, sides_of, sides_in};
 
 use crate::shapes::{atom, tuple};
-use crate::waits::{Differing, differing_in, distributed};
+use crate::waits::{Differing, differing_in, distributed_entries};
 use rh_base::{OutOfMemory, Term, Terms};
 use rh_term_lint::{elements, node};
 use rh_terms::{TermFault, read_terms};
@@ -97,7 +97,7 @@ fn term_lists(name: &str, term: &Term) -> bool
     ensures { result ≡ term_lists name.now (tree_of term.now) }
 {
     match node(term) {
-        Some((_, config)) => any_entry_lists(name, distributed(config)),
+        Some((_, config)) => any_entry_lists(name, distributed_entries(config)),
         None => false,
     }
 }
@@ -119,7 +119,7 @@ fn any_term_lists(name: &str, terms: &[Term]) -> bool
 fn takes_part(terms: &[Term], name: &str, config: &Term) -> bool
     ensures { result ≡ takes_part (map tree_of terms.now) (name.now, tree_of config.now) }
 {
-    !distributed(config).is_empty() || any_term_lists(name, terms)
+    !distributed_entries(config).is_empty() || any_term_lists(name, terms)
 }
 
 // The configuration that a term has, where it is that of a node that takes part.

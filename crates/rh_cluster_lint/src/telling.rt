@@ -5,7 +5,7 @@ ghost use Rattle.rh_cluster_lint.specs.Words.{words_of};
 ghost use Rattle.rh_cluster_lint.specs.Telling.{front, dots, colon, on_line, expected_in, or_before, expected_on, takes, hinted, placed};
 
 use crate::blame::Step;
-use crate::expected::expected;
+use crate::expected::expected_words;
 use crate::hints::{hint_words, line_at};
 use crate::spans::{before, span};
 use crate::ways::{is_named, way};
@@ -20,7 +20,7 @@ use std::alloc::Global;
 pub const MOST_SHOWN: usize = 40;
 
 // What is shown of the bytes of a part: the first line of them, cut where it is long, and then dots.
-pub fn shown(bytes: &[u8]) -> (&str, &'static str)
+pub fn excerpt(bytes: &[u8]) -> (&str, &'static str)
     ensures front { result.0.now ≡ words_of (front bytes.now) }
     ensures rest { result.1.now ≡ dots bytes.now }
 {
@@ -55,7 +55,7 @@ fn expected_in(text: &[u8], step: Step) -> &'static str
     ensures { result.now ≡ expected_in text.now step }
 {
     if 0 < step.part.depth && is_named(text, step) {
-        expected(first_word(span(text, step.part)))
+        expected_words(first_word(span(text, step.part)))
     } else {
         ""
     }
@@ -91,7 +91,7 @@ fn takes(text: &[u8], fault: &ClusterFault, steps: &[Step]) -> &'static str
 
 // A finding with what may have been meant, and what stands on its line.
 #[tactic(auto, unfolding(crate::specs::Telling::hinted))]
-pub fn hinted(
+pub fn with_hint(
     alloc: Global,
     text: &[u8],
     fault: &ClusterFault,
@@ -101,7 +101,7 @@ pub fn hinted(
 {
     let words = finding.text.as_str();
     let hint = hint_words(text, fault, finding.line);
-    let (front, dots) = shown(on_line(text, finding.line));
+    let (front, dots) = excerpt(on_line(text, finding.line));
     let colon = colon(front, dots);
     let told = format!(in alloc; "{words}{hint}{colon}{front}{dots}")?;
     Ok(Finding {
@@ -114,7 +114,7 @@ pub fn hinted(
 
 // A finding with the place of the part at the end of a way, and the way there.
 #[tactic(auto, unfolding(crate::specs::Telling::placed))]
-pub fn placed(
+pub fn with_place(
     alloc: Global,
     text: &[u8],
     fault: &ClusterFault,
@@ -127,7 +127,7 @@ pub fn placed(
         None => Ok(finding),
         Some(step) => {
             let words = finding.text.as_str();
-            let (front, dots) = shown(span(text, step.part));
+            let (front, dots) = excerpt(span(text, step.part));
             let wanted = takes(text, fault, steps);
             let colon = colon(front, dots);
             let told = format!(in alloc; "{words}{colon}{front}{dots}{wanted}")?;

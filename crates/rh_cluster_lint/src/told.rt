@@ -3,10 +3,10 @@
 ghost use Rattle.std.specs.Prelude.{◌≡◌, IfOk};
 ghost use Rattle.rh_cluster_lint.specs.Told.{told_at, fault_in};
 
-use crate::blame::blamed;
+use crate::blame::way_to_fault;
 use crate::fault::fault_finding;
 use crate::sides::with_sides;
-use crate::telling::{hinted, placed};
+use crate::telling::{with_hint, with_place};
 use rh_base::OutOfMemory;
 use rh_cluster::ClusterFault;
 use rh_findings::Finding;
@@ -24,8 +24,8 @@ fn told_at(
     match fault {
         ClusterFault::Mismatch { node } => with_sides(alloc, text, node.as_str(), finding),
         _ => {
-            let steps = blamed(alloc, text, fault)?;
-            placed(alloc, text, fault, finding, steps.as_slice())
+            let steps = way_to_fault(alloc, text, fault)?;
+            with_place(alloc, text, fault, finding, steps.as_slice())
         }
     }
 }
@@ -38,7 +38,7 @@ fn told_at(
 pub fn fault_in(alloc: Global, text: &[u8], fault: &ClusterFault) -> Result<Finding, OutOfMemory>
     ensures { IfOk result (λ finding. finding ≡ fault_in text.now fault.now) }
 {
-    let finding = hinted(alloc, text, fault, fault_finding(alloc, fault)?)?;
+    let finding = with_hint(alloc, text, fault, fault_finding(alloc, fault)?)?;
     if finding.line.is_some() {
         return Ok(finding);
     }

@@ -58,7 +58,7 @@ fn kernel_of(config: &Term) -> &[Term]
 }
 
 /// The entries of `distributed`.
-pub fn distributed(config: &Term) -> &[Term]
+pub fn distributed_entries(config: &Term) -> &[Term]
     ensures { map tree_of result.now ≡ distributed (tree_of config.now) }
 {
     elements_under("distributed", kernel_of(config))

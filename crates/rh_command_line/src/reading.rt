@@ -92,12 +92,12 @@ fn run_as(pick: Pick, echo: bool, strict: bool, json: bool, interactive: bool) -
     } else if echo || strict {
         None
     } else {
-        Some(answering(pick, json, interactive))
+        Some(answering_run(pick, json, interactive))
     }
 }
 
 // A run by JSON, line by line, or both.
-fn answering(pick: Pick, json: bool, interactive: bool) -> Program
+fn answering_run(pick: Pick, json: bool, interactive: bool) -> Program
     ensures named { result ≡ answering pick json interactive }
     ensures staffed { IsStaffed result }
 {
@@ -197,13 +197,13 @@ fn workers_in(matches: &ArgMatches<'_>) -> Option<usize>
     ensures staffed { IfSome result AreWorkers }
 {
     match matches.get_one::<usize>("workers") {
-        Some(workers) => allowed(workers),
+        Some(workers) => allowed_workers(workers),
         None => None,
     }
 }
 
 // This number of workers, if there may be so many.
-fn allowed(workers: usize) -> Option<usize>
+fn allowed_workers(workers: usize) -> Option<usize>
     ensures number { result ≡ allowed workers }
     ensures staffed { IfSome result AreWorkers }
 {

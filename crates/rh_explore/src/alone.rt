@@ -66,7 +66,7 @@ impl Space {
         let Family { state, events } = family;
         let mut state = Box::into_inner(state);
         'events: for event in events.as_slice() {
-            let expansion = worker.expand(alloc, search, &self.known(), &mut state, *event)?;
+            let expansion = worker.expand(alloc, search, &self.known_so_far(), &mut state, *event)?;
             if let Some(covered) = self.take_one(alloc, search, front, expansion)? {
                 return Ok(Some(covered));
             }

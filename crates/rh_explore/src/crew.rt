@@ -111,12 +111,12 @@ impl<T: Threads + Sync> Crew for Threaded<'_, T> {
                     (piece_waiting search.entry.now.pick piece) expansions.items) }
             { expand_piece(alloc, search, known, piece) },
         )?;
-        joined(alloc, parts)
+        join_parts(alloc, parts)
     }
 }
 
 // What all parts have, in their order.
-fn joined(
+fn join_parts(
     alloc: Global,
     parts: Vec<Result<VecDeque<Expansion>, OutOfMemory>>,
 ) -> Result<VecDeque<Expansion>, OutOfMemory>

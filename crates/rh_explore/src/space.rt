@@ -63,7 +63,7 @@ impl Space {
             keys: IndexSet::with_hasher(alloc, BuildHasherDefault::new()),
             bytes: 0,
         };
-        let marks = base_marks(alloc, search, &space.known())?;
+        let marks = base_marks(alloc, search, &space.known_so_far())?;
         let found = Found {
             last: None,
             depth: 0,
@@ -83,7 +83,7 @@ impl Space {
     }
 
     /// What is known.
-    pub(crate) fn known(&self) -> Known<'_>
+    pub(crate) fn known_so_far(&self) -> Known<'_>
         ensures { knowing result ≡ knowing_in self.now }
     {
         Known {
@@ -355,7 +355,7 @@ fn find_together<C: Crew, W: Watch>(
     'turns: while !front.families.is_empty() {
         space.tell(watch);
         let pieces = front.take_up(alloc, crew.count(), most)?;
-        let expansions = crew.expand(alloc, search, &space.known(), pieces)?;
+        let expansions = crew.expand(alloc, search, &space.known_so_far(), pieces)?;
         if let Some(covered) = space.take_in(alloc, search, &mut front, expansions)? {
             return Ok((space, covered));
         }

@@ -56,7 +56,7 @@ fn are_same(marks: &[bool], others: &[bool]) -> bool
 
 // Marks the applications that depend on another one, as far as the cluster goes. A step that marks no other application is the last: all
 // later ones would do the same.
-fn depending(alloc: Global, cluster: &Cluster, other: App) -> Result<Vec<bool>, OutOfMemory>
+fn mark_dependents(alloc: Global, cluster: &Cluster, other: App) -> Result<Vec<bool>, OutOfMemory>
     ensures { IfOk result (λ marks. (a : App) → a.0 < app_count cluster.now → is_marked marks.items a ≡ depends_within (app_count cluster.now) cluster.now a other) }
 {
     cluster.is_within();
@@ -77,6 +77,6 @@ pub(crate) fn is_in_circle(alloc: Global, cluster: &Cluster, app: App) -> Result
     requires { app.0 < app_count cluster.now }
     ensures { IfOk result (λ holds. holds ≡ is_in_circle cluster.now app) }
 {
-    let marks = depending(alloc, cluster, app)?;
+    let marks = mark_dependents(alloc, cluster, app)?;
     Ok(is_marked(marks.as_slice(), app))
 }

@@ -52,7 +52,7 @@ fn push_start(
 
 // How many bytes are passed that change neither what stands behind them nor the line, and begin no term. Most bytes of a term don't.
 #[tactic(auto, using(crate::proofs::Passed::plain_passed))]
-fn passed(standing: Standing, bytes: &[u8]) -> usize
+fn passed_len(standing: Standing, bytes: &[u8]) -> usize
     ensures within { result ≤ length bytes.now }
     ensures starts { (line at : ℕ) → starts_from standing line at bytes.now ≡ starts_from standing line (at + result) (drop result bytes.now) }
 {
@@ -78,7 +78,7 @@ pub fn term_starts(alloc: Global, text: &[u8]) -> Result<Vec<Start>, OutOfMemory
         standing = standing.behind(byte);
         line = next_line(line, byte);
         at += 1;
-        at += passed(standing, &text[at..]);
+        at += passed_len(standing, &text[at..]);
     }
     Ok(starts)
 }

@@ -29,7 +29,7 @@ fn permission(allow: bool) -> Event {
 }
 
 // The service starts at a node.
-fn started(node: u8, kind: Kind) -> Notice {
+fn notice_of_start(node: u8, kind: Kind) -> Notice {
     Notice::Started {
         app: App(0),
         node: Node(node),
@@ -39,7 +39,7 @@ fn started(node: u8, kind: Kind) -> Notice {
 }
 
 // It stops at a node.
-fn stopped(node: u8) -> Notice {
+fn notice_of_stop(node: u8) -> Notice {
     Notice::Stopped {
         app: App(0),
         node: Node(node),
@@ -47,7 +47,7 @@ fn stopped(node: u8) -> Notice {
 }
 
 // It waits at a node.
-fn waits(node: u8) -> Notice {
+fn notice_of_wait(node: u8) -> Notice {
     Notice::Waits {
         app: App(0),
         node: Node(node),
@@ -71,32 +71,41 @@ pub fn answer(alloc: Global, name: &str) -> Option<Answer> {
 fn step_of_stop_all(alloc: Global) -> Option<Answer> {
     let events = [BOOT_1, BOOT_2, SECOND, BOOT_3];
     let mut sim = sim_before_last(alloc, PAIR, events.as_slice())?;
-    stepping(alloc, &mut sim, STOP_ALL, [stopped(0)].as_slice())
+    call_step(alloc, &mut sim, STOP_ALL, [notice_of_stop(0)].as_slice())
 }
 
 // It is started nowhere then.
 fn step_of_start_all(alloc: Global) -> Option<Answer> {
     let events = [BOOT_1, BOOT_2, SECOND, STOP_ALL, BOOT_3];
     let mut sim = sim_before_last(alloc, PAIR, events.as_slice())?;
-    let told = [started(0, Kind::Normal), waits(1)];
-    stepping(alloc, &mut sim, START_ALL, told.as_slice())
+    let told = [notice_of_start(0, Kind::Normal), notice_of_wait(1)];
+    call_step(alloc, &mut sim, START_ALL, told.as_slice())
 }
 
 // It runs at the second node, since it may not at the first.
 fn step_of_a_permission(alloc: Global) -> Option<Answer> {
     let events = [BOOT_1, BOOT_2, SECOND, permission(false), BOOT_3];
     let mut sim = sim_before_last(alloc, SECOND_PAIR, events.as_slice())?;
-    let told = [started(0, Kind::Takeover(Node(1))), stopped(1)];
-    stepping(alloc, &mut sim, permission(true), told.as_slice())
+    let told = [
+        notice_of_start(0, Kind::Takeover(Node(1))),
+        notice_of_stop(1),
+    ];
+    call_step(alloc, &mut sim, permission(true), told.as_slice())
 }
 
 // A step of these notices.
-fn stepping(alloc: Global, sim: &mut Sim, event: Event, wanted: &[Notice]) -> Option<Answer> {
+fn call_step(alloc: Global, sim: &mut Sim, event: Event, wanted: &[Notice]) -> Option<Answer> {
     let kept = Kept::of(alloc, sim)?;
-    Some(stepped(alloc, sim, &kept, event, wanted))
+    Some(call_step_beside(alloc, sim, &kept, event, wanted))
 }
 
-fn stepped(alloc: Global, sim: &mut Sim, kept: &Kept, event: Event, wanted: &[Notice]) -> Answer {
+fn call_step_beside(
+    alloc: Global,
+    sim: &mut Sim,
+    kept: &Kept,
+    event: Event,
+    wanted: &[Notice],
+) -> Answer {
     // A trail has a limit, so that the sum fits.
     let _ = sim.trail();
     let next = sim.cursor() + 1;
@@ -106,11 +115,11 @@ fn stepped(alloc: Global, sim: &mut Sim, kept: &Kept, event: Event, wanted: &[No
     match told {
         Ok(told) => {
             let is_told = told.as_slice() == wanted;
-            Answer::done(is_told && sim.cursor() == next && sim.trail().len() == next)
+            Answer::of_call(is_told && sim.cursor() == next && sim.trail().len() == next)
         }
         Err(refusal) => {
             if refusal.is_memory() {
-                Answer::refused(kept.changed(alloc, sim))
+                Answer::of_refusal(kept.changed(alloc, sim))
             } else {
                 Answer::Changed("refusal")
             }

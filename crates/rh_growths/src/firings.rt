@@ -6,7 +6,7 @@ ghost use Rattle.rh_state.specs.Stored.{read};
 use crate::clusters::{BOOT_1, PAIR, cluster_of, sim_behind};
 use crate::first::TWO_TIMERS;
 use crate::kept::Kept;
-use crate::performing::{first, make};
+use crate::performing::{first_of, make};
 use rh_base::OutOfMemory;
 use rh_marks::{Answer, begin, end};
 use rh_state::State;
@@ -28,18 +28,18 @@ pub fn answer(alloc: Global, name: &str) -> Option<Answer> {
     if name == "Sim::firings" {
         of_a_sim(alloc, &mut sim)
     } else {
-        let fired = fired(alloc, &mut sim)?.ok()?;
-        reading(alloc, fired.as_slice().get(1)?, name)
+        let fired = firings_in_tick(alloc, &mut sim)?.ok()?;
+        call_reader(alloc, fired.as_slice().get(1)?, name)
     }
 }
 
 // Is the call of this name, made of a simulation, here?
 fn is_here(name: &str) -> bool {
-    name == "Sim::firings" || name == "FiredTimer::due" || name == "FiredTimer::told"
+    name == "Sim::firings" || name == "FiredTimer::due" || name == "FiredTimer::notices"
 }
 
 // The timers of a tick of a simulation, where it isn't refused.
-fn fired(alloc: Global, sim: &mut Sim) -> Option<Result<Vec<FiredTimer>, OutOfMemory>> {
+fn firings_in_tick(alloc: Global, sim: &mut Sim) -> Option<Result<Vec<FiredTimer>, OutOfMemory>> {
     if refusal_of(sim.state(), &Event::Tick { ms: TICK }).is_some() {
         return None;
     }
@@ -50,15 +50,15 @@ fn fired(alloc: Global, sim: &mut Sim) -> Option<Result<Vec<FiredTimer>, OutOfMe
 fn of_a_sim(alloc: Global, sim: &mut Sim) -> Option<Answer> {
     let kept = Kept::of(alloc, sim)?;
     begin(alloc);
-    let fired = fired(alloc, sim);
+    let fired = firings_in_tick(alloc, sim);
     end(alloc);
     let is_told = fired?.map(|fired| is_told(
         fired.as_slice(),
         [(2_000, 1), (2_000, 3)].as_slice(),
     ));
     Some(match (is_told, kept.changed(alloc, sim)) {
-        (Err(_), changed) => Answer::refused(changed),
-        (Ok(is_told), None) => Answer::done(is_told),
+        (Err(_), changed) => Answer::of_refusal(changed),
+        (Ok(is_told), None) => Answer::of_call(is_told),
         (Ok(_), Some(what)) => Answer::Changed(what),
     })
 }
@@ -69,7 +69,7 @@ fn is_told(fired: &[FiredTimer], wanted: &[(u64, usize)]) -> bool {
         return false;
     }
     for index in 0..fired.len() {
-        if (fired[index].due(), fired[index].told().len()) != wanted[index] {
+        if (fired[index].due(), fired[index].notices().len()) != wanted[index] {
             return false;
         }
     }
@@ -79,7 +79,7 @@ fn is_told(fired: &[FiredTimer], wanted: &[(u64, usize)]) -> bool {
 // The first node has booted, and waits for the others.
 fn of_a_state(alloc: Global) -> Option<Answer> {
     let cluster = cluster_of(alloc, PAIR)?;
-    let mut state = first(alloc, &cluster)?;
+    let mut state = first_of(alloc, &cluster)?;
     let mut edits = Vec::new(alloc);
     let mut told = Vec::new(alloc);
     make(alloc, &mut state, &BOOT_1, &mut edits, &mut told)?;
@@ -99,21 +99,21 @@ fn of_a_wait(alloc: Global, state: &mut State) -> Option<Answer>
     end(alloc);
     Some(match fired {
         _ if !state.same_words(&kept) => Answer::Changed("words"),
-        Ok(fired) => Answer::done(is_told(fired.as_slice(), [(1_000, 2)].as_slice())),
+        Ok(fired) => Answer::of_call(is_told(fired.as_slice(), [(1_000, 2)].as_slice())),
         Err(_) => Answer::Refused,
     })
 }
 
 // The reader of this name, of a timer that told three notices.
-fn reading(alloc: Global, fired: &FiredTimer, name: &str) -> Option<Answer> {
+fn call_reader(alloc: Global, fired: &FiredTimer, name: &str) -> Option<Answer> {
     begin(alloc);
     let is_read = if name == "FiredTimer::due" {
         Some(fired.due() == 2_000)
-    } else if name == "FiredTimer::told" {
-        Some(fired.told().len() == 3)
+    } else if name == "FiredTimer::notices" {
+        Some(fired.notices().len() == 3)
     } else {
         None
     };
     end(alloc);
-    Some(Answer::done(is_read?))
+    Some(Answer::of_call(is_read?))
 }

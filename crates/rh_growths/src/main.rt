@@ -47,7 +47,7 @@ fn call<T: Runtime<A = Global> + Threads + Wait + Sync>(rt: &T, name: &str) -> O
 }
 
 // What comes of what these words ask, of which the second may be missing.
-fn asked<T: Runtime<A = Global> + Threads + Wait + Sync>(
+fn answer_of_words<T: Runtime<A = Global> + Threads + Wait + Sync>(
     rt: &T,
     name: &str,
     text: Option<String>,
@@ -69,7 +69,7 @@ fn words_of(rt: &HostRuntime) -> Option<(String, Option<String>)> {
 fn main(rt: HostRuntime) -> ExitCode {
     let told = match words_of(&rt) {
         None => None,
-        Some((name, text)) => asked(&rt, name.as_str(), text),
+        Some((name, text)) => answer_of_words(&rt, name.as_str(), text),
     };
     tell(&rt, told)
 }

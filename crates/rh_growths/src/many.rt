@@ -17,18 +17,18 @@ static TICK: Event = Event::Tick { ms: 1 };
 /// What comes of many calls of this name, if it is here.
 pub fn answer(alloc: Global, name: &str, text: &str) -> Option<Answer> {
     if name == "Sim::step" {
-        stepping(alloc, text)
+        call_step(alloc, text)
     } else if name == "Room::serve" {
-        serving(alloc, text)
+        call_serve(alloc, text)
     } else if name == "try_plan" {
-        trying(alloc, text)
+        call_try_plan(alloc, text)
     } else {
         None
     }
 }
 
 // A long trail: the first node boots, and time passes.
-fn long(alloc: Global, text: &str) -> Option<Sim> {
+fn long_sim(alloc: Global, text: &str) -> Option<Sim> {
     let mut sim = sim_behind(alloc, text, [BOOT_1].as_slice())?;
     tick(alloc, &mut sim)?;
     Some(sim)
@@ -41,8 +41,8 @@ fn tick(alloc: Global, sim: &mut Sim) -> Option<()> {
     Some(())
 }
 
-fn stepping(alloc: Global, text: &str) -> Option<Answer> {
-    let sim = long(alloc, text)?;
+fn call_step(alloc: Global, text: &str) -> Option<Answer> {
+    let sim = long_sim(alloc, text)?;
     read(alloc, &sim)
 }
 
@@ -50,15 +50,15 @@ fn read(alloc: Global, sim: &Sim) -> Option<Answer> {
     let copy = sim.copy(alloc).ok()?;
     let _ = copy.state().timers(alloc).ok()?;
     let text = report(alloc, copy.state()).ok()?;
-    Some(Answer::done(copy.trail().len() == COUNT + 1 && !text.is_empty()))
+    Some(Answer::of_call(copy.trail().len() == COUNT + 1 && !text.is_empty()))
 }
 
-fn serving(alloc: Global, text: &str) -> Option<Answer> {
+fn call_serve(alloc: Global, text: &str) -> Option<Answer> {
     let cluster = cluster_of(alloc, text)?;
     let (mut room, mut passes) = open_room(alloc, cluster, Pick::First, 1).ok()?;
     call_all(alloc, &mut room, passes.get_mut(0)?)?;
     let fork = room.fork(alloc).ok()?;
-    Some(Answer::done(fork.trail().len() == COUNT + 1))
+    Some(Answer::of_call(fork.trail().len() == COUNT + 1))
 }
 
 fn call_all(alloc: Global, room: &mut Room, pass: &mut Pass) -> Option<()> {
@@ -70,18 +70,18 @@ fn call_all(alloc: Global, room: &mut Room, pass: &mut Pass) -> Option<()> {
     Some(())
 }
 
-fn trying(alloc: Global, text: &str) -> Option<Answer> {
-    let mut sim = long(alloc, text)?;
+fn call_try_plan(alloc: Global, text: &str) -> Option<Answer> {
+    let mut sim = long_sim(alloc, text)?;
     let events = vec![in alloc; TICK; COUNT].ok()?;
-    tried(alloc, &mut sim, &plan_of(alloc, events.as_slice())?)
+    call_try_plan_on(alloc, &mut sim, &plan_of(alloc, events.as_slice())?)
 }
 
 // A plan of many events is tried behind a long trail.
-fn tried(alloc: Global, sim: &mut Sim, plan: &Plan) -> Option<Answer> {
+fn call_try_plan_on(alloc: Global, sim: &mut Sim, plan: &Plan) -> Option<Answer> {
     let standing = sim.trail().len();
     if sim.cursor() != standing || plan.events.len() > Sim::TRAIL_LIMIT - standing {
         return None;
     }
     let outcome = try_plan(alloc, sim, plan).ok()?;
-    Some(Answer::done(outcome.accepted == 5_000))
+    Some(Answer::of_call(outcome.accepted == 5_000))
 }

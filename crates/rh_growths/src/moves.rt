@@ -40,13 +40,13 @@ fn way_of(name: &str) -> Option<(Way, usize)> {
 pub fn answer(alloc: Global, name: &str) -> Option<Answer> {
     let mut sim = sim_before_last(alloc, RANKS, EVENTS.as_slice())?;
     let Some((way, standing)) = way_of(name) else {
-        return Some(reading(alloc, &sim, reader_of(name)?));
+        return Some(call_reader(alloc, &sim, reader_of(name)?));
     };
     let wanted = sim_behind(alloc, RANKS, EVENTS.as_slice().get(..standing)?)?;
-    Some(moving(alloc, &mut sim, way, &wanted))
+    Some(call_move(alloc, &mut sim, way, &wanted))
 }
 
-fn moving(alloc: Global, sim: &mut Sim, way: Way, wanted: &Sim) -> Answer {
+fn call_move(alloc: Global, sim: &mut Sim, way: Way, wanted: &Sim) -> Answer {
     begin(alloc);
     let is_made = go(sim, way);
     end(alloc);
@@ -114,11 +114,11 @@ fn reader_of(name: &str) -> Option<Reader> {
     }
 }
 
-fn reading(alloc: Global, sim: &Sim, reader: Reader) -> Answer {
+fn call_reader(alloc: Global, sim: &Sim, reader: Reader) -> Answer {
     begin(alloc);
     let is_right = is_read(sim, reader);
     end(alloc);
-    Answer::done(is_right)
+    Answer::of_call(is_right)
 }
 
 // Does it answer as it has to?

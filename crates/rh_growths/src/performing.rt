@@ -12,7 +12,7 @@ use rh_step::{Event, Notice, Pick, first_is_valid, perform, refusal_of};
 use std::alloc::Global;
 
 /// The first state of a cluster.
-pub fn first(alloc: Global, cluster: &Cluster) -> Option<State>
+pub fn first_of(alloc: Global, cluster: &Cluster) -> Option<State>
     ensures { IfSome result (λ state. IsValid (read state)) }
 {
     cluster.is_within();
@@ -21,22 +21,22 @@ pub fn first(alloc: Global, cluster: &Cluster) -> Option<State>
 }
 
 /// The third node has booted, so both lists have something in them. Then the first boots.
-pub fn performing(alloc: Global) -> Option<Answer> {
+pub fn call_perform(alloc: Global) -> Option<Answer> {
     let cluster = cluster_of(alloc, RANKS)?;
-    let mut state = first(alloc, &cluster)?;
-    behind(alloc, &mut state)
+    let mut state = first_of(alloc, &cluster)?;
+    call_perform_on(alloc, &mut state)
 }
 
-fn behind(alloc: Global, state: &mut State) -> Option<Answer>
+fn call_perform_on(alloc: Global, state: &mut State) -> Option<Answer>
     requires { IsValid (read state.old) }
 {
     let mut edits = Vec::new(alloc);
     let mut told = Vec::new(alloc);
     make(alloc, state, &BOOT_3, &mut edits, &mut told)?;
-    then(alloc, state, &mut edits, &mut told)
+    call_perform_with_copy(alloc, state, &mut edits, &mut told)
 }
 
-fn then(
+fn call_perform_with_copy(
     alloc: Global,
     state: &mut State,
     edits: &mut Vec<Edit>,
@@ -45,7 +45,7 @@ fn then(
     requires { IsValid (read state.old) }
 {
     let kept = state.copy(alloc).ok()?;
-    made(alloc, state, &kept, edits, told)
+    call_perform_beside(alloc, state, &kept, edits, told)
 }
 
 /// Makes an event, if it is accepted and memory suffices.
@@ -65,7 +65,7 @@ pub fn make(
     perform(alloc, state, event, Pick::First, edits, told).ok()
 }
 
-fn made(
+fn call_perform_beside(
     alloc: Global,
     state: &mut State,
     kept: &State,
@@ -79,7 +79,7 @@ fn made(
     let done = make(alloc, state, &BOOT_1, edits, told);
     end(alloc);
     Some(if done.is_some() {
-        Answer::done(notice_count == 2 && told.len() == 6 && edits.len() > edit_count)
+        Answer::of_call(notice_count == 2 && told.len() == 6 && edits.len() > edit_count)
     } else if !state.same_words(kept) {
         Answer::Changed("words")
     } else if edits.len() != edit_count {

@@ -33,19 +33,19 @@ struct Open {
 /// What comes of the call of this name, if it is here.
 pub fn answer(alloc: Global, name: &str) -> Option<Answer> {
     if name == "open_room" {
-        Some(opening(alloc, cluster_of(alloc, CAVE)?))
+        Some(call_open_room(alloc, cluster_of(alloc, CAVE)?))
     } else if name == "Room::serve of a step" {
-        serving(alloc, Call::Step(BOOT_3), 2)
+        call_serve(alloc, Call::Step(BOOT_3), 2)
     } else if name == "Room::serve of a look" {
-        serving(alloc, Call::Look, 1)
+        call_serve(alloc, Call::Look, 1)
     } else if name == "Room::fork" {
-        forking(alloc)
+        call_fork(alloc)
     } else if name == "close" {
-        closing(alloc)
+        call_close(alloc)
     } else if let Some(call) = quick_call(name) {
-        serving(alloc, call, 2)
+        call_serve(alloc, call, 2)
     } else {
-        reading(alloc, name)
+        call_reader(alloc, name)
     }
 }
 
@@ -67,7 +67,7 @@ fn quick_call(name: &str) -> Option<Call> {
 }
 
 // A room behind these calls, of which the sessions make one after the other.
-fn opened(alloc: Global, calls: &[Call]) -> Option<Open> {
+fn open_behind(alloc: Global, calls: &[Call]) -> Option<Open> {
     let cluster = cluster_of(alloc, CAVE)?;
     let (room, passes) = open_room(alloc, cluster, Pick::First, 2).ok()?;
     let mut open = Open { room, passes };
@@ -83,29 +83,29 @@ fn call_all(alloc: Global, open: &mut Open, calls: &[Call]) -> Option<()> {
     Some(())
 }
 
-fn opening(alloc: Global, cluster: Cluster) -> Answer {
+fn call_open_room(alloc: Global, cluster: Cluster) -> Answer {
     begin(alloc);
     let opening = open_room(alloc, cluster, Pick::First, 2);
     end(alloc);
     match opening {
-        Ok((room, passes)) => Answer::done(room.log().is_empty() && passes.len() == 2),
+        Ok((room, passes)) => Answer::of_call(room.log().is_empty() && passes.len() == 2),
         Err(RoomFault::OutOfMemory) => Answer::Refused,
         Err(_) => Answer::Changed("fault"),
     }
 }
 
 // The first session calls, behind so many calls.
-fn serving(alloc: Global, call: Call, count: usize) -> Option<Answer> {
-    let mut open = opened(alloc, CALLS.as_slice().get(..count)?)?;
-    served(alloc, &mut open, call, count)
+fn call_serve(alloc: Global, call: Call, count: usize) -> Option<Answer> {
+    let mut open = open_behind(alloc, CALLS.as_slice().get(..count)?)?;
+    call_serve_on(alloc, &mut open, call, count)
 }
 
-fn served(alloc: Global, open: &mut Open, call: Call, count: usize) -> Option<Answer> {
+fn call_serve_on(alloc: Global, open: &mut Open, call: Call, count: usize) -> Option<Answer> {
     let kept = Kept::of(alloc, open.room.sim())?;
-    served_as(alloc, open, &kept, call, count)
+    call_serve_beside(alloc, open, &kept, call, count)
 }
 
-fn served_as(
+fn call_serve_beside(
     alloc: Global,
     open: &mut Open,
     kept: &Kept,
@@ -117,10 +117,12 @@ fn served_as(
     let served = open.room.serve(alloc, pass, call);
     end(alloc);
     match served {
-        Ok(receipt) => Some(Answer::done(
+        Ok(receipt) => Some(Answer::of_call(
             receipt.place == count && is_right(&receipt) && open.room.log().len() == count + 1,
         )),
-        Err(RoomFault::OutOfMemory) => Some(Answer::refused(changed(alloc, open, kept, count)?)),
+        Err(RoomFault::OutOfMemory) => Some(Answer::of_refusal(what_changed(
+            alloc, open, kept, count,
+        )?)),
         Err(_) => Some(Answer::Changed("fault")),
     }
 }
@@ -146,7 +148,12 @@ fn is_right(receipt: &Receipt) -> bool {
 }
 
 // What isn't as it was behind so many calls.
-fn changed(alloc: Global, open: &Open, kept: &Kept, count: usize) -> Option<Option<&'static str>> {
+fn what_changed(
+    alloc: Global,
+    open: &Open,
+    kept: &Kept,
+    count: usize,
+) -> Option<Option<&'static str>> {
     if let Some(what) = kept.seen_changed(alloc, open.room.sim()) {
         return Some(Some(what));
     }
@@ -190,13 +197,13 @@ fn are_receipts(passes: &[Pass], count: usize) -> bool {
 }
 
 // The readers of a room and its passes.
-fn reading(alloc: Global, name: &str) -> Option<Answer> {
-    let open = opened(alloc, CALLS.as_slice())?;
+fn call_reader(alloc: Global, name: &str) -> Option<Answer> {
+    let open = open_behind(alloc, CALLS.as_slice())?;
     let pass = open.passes.get(0)?;
     begin(alloc);
     let is_right = is_read(&open.room, pass, name);
     end(alloc);
-    Some(Answer::done(is_right?))
+    Some(Answer::of_call(is_right?))
 }
 
 // Whether a reader of this name answers as it has to.
@@ -216,44 +223,44 @@ fn is_read(room: &Room, pass: &Pass, name: &str) -> Option<bool> {
     }
 }
 
-fn forking(alloc: Global) -> Option<Answer> {
-    let open = opened(alloc, CALLS.as_slice())?;
-    forked(alloc, &open.room)
+fn call_fork(alloc: Global) -> Option<Answer> {
+    let open = open_behind(alloc, CALLS.as_slice())?;
+    call_fork_on(alloc, &open.room)
 }
 
-fn forked(alloc: Global, room: &Room) -> Option<Answer> {
+fn call_fork_on(alloc: Global, room: &Room) -> Option<Answer> {
     let kept = Kept::of(alloc, room.sim())?;
-    let answer = forked_as(alloc, room, &kept);
+    let answer = call_fork_beside(alloc, room, &kept);
     Some(match kept.seen_changed(alloc, room.sim()) {
         None => answer,
         Some(what) => Answer::Changed(what),
     })
 }
 
-fn forked_as(alloc: Global, room: &Room, kept: &Kept) -> Answer {
+fn call_fork_beside(alloc: Global, room: &Room, kept: &Kept) -> Answer {
     begin(alloc);
     let fork = room.fork(alloc);
     end(alloc);
     match fork {
         Ok(mut fork) => {
-            Answer::done(fork.cursor() == 2 && kept.changed(alloc, &mut fork).is_none())
+            Answer::of_call(fork.cursor() == 2 && kept.changed(alloc, &mut fork).is_none())
         }
         Err(_) => Answer::Refused,
     }
 }
 
-fn closing(alloc: Global) -> Option<Answer> {
+fn call_close(alloc: Global) -> Option<Answer> {
     let cluster = cluster_of(alloc, CAVE)?;
-    closed(alloc, opened(alloc, CALLS.as_slice())?, &cluster)
+    call_close_on(alloc, open_behind(alloc, CALLS.as_slice())?, &cluster)
 }
 
-fn closed(alloc: Global, open: Open, cluster: &Cluster) -> Option<Answer> {
+fn call_close_on(alloc: Global, open: Open, cluster: &Cluster) -> Option<Answer> {
     let Open { room, passes } = open;
     begin(alloc);
     let closed = close(room, passes, cluster, Pick::First);
     end(alloc);
     match closed {
-        Ok(closed) => Some(Answer::done(
+        Ok(closed) => Some(Answer::of_call(
             is_log(closed.log.as_slice(), 2) && is_behind(alloc, &closed.sim)?,
         )),
         Err(_) => Some(Answer::Changed("fault")),

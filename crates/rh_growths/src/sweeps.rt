@@ -60,18 +60,18 @@ fn plans_of(alloc: Global, all: &[&[Event]]) -> Option<Vec<Plan>> {
 }
 
 /// A plan is tried in which a node ends.
-pub fn trying(alloc: Global) -> Option<Answer> {
+pub fn call_try_plan(alloc: Global) -> Option<Answer> {
     let mut sim = sim_behind(alloc, CAVE, BOOTS.as_slice())?;
     let plan = plan_of(alloc, DOWN.as_slice())?;
-    tried(alloc, &mut sim, &plan)
+    call_try_plan_on(alloc, &mut sim, &plan)
 }
 
-fn tried(alloc: Global, sim: &mut Sim, plan: &Plan) -> Option<Answer> {
+fn call_try_plan_on(alloc: Global, sim: &mut Sim, plan: &Plan) -> Option<Answer> {
     let kept = Kept::of(alloc, sim)?;
-    tried_as(alloc, sim, &kept, plan)
+    call_try_plan_beside(alloc, sim, &kept, plan)
 }
 
-fn tried_as(alloc: Global, sim: &mut Sim, kept: &Kept, plan: &Plan) -> Option<Answer> {
+fn call_try_plan_beside(alloc: Global, sim: &mut Sim, kept: &Kept, plan: &Plan) -> Option<Answer> {
     let standing = sim.trail().len();
     if sim.cursor() != standing || plan.events.len() > Sim::TRAIL_LIMIT - standing {
         return None;
@@ -81,8 +81,8 @@ fn tried_as(alloc: Global, sim: &mut Sim, kept: &Kept, plan: &Plan) -> Option<An
     end(alloc);
     let changed = kept.changed(alloc, sim);
     Some(match outcome {
-        Ok(outcome) => Answer::done(changed.is_none() && is_failover(&outcome)),
-        Err(_) => Answer::refused(changed),
+        Ok(outcome) => Answer::of_call(changed.is_none() && is_failover(&outcome)),
+        Err(_) => Answer::of_refusal(changed),
     })
 }
 
@@ -118,11 +118,11 @@ fn are_right(outcomes: &[Outcome]) -> bool {
 /// What comes of the call of this name, if it is here.
 pub fn answer<R: Threads + Wait + Sync>(rt: &R, alloc: Global, name: &str) -> Option<Answer> {
     if name == "sweep" {
-        sweeping(rt, alloc)
+        call_sweep(rt, alloc)
     } else if name == "sweep of 10 plans" {
-        sweeping_many(rt, alloc, 10)
+        call_sweep_of_many(rt, alloc, 10)
     } else if name == "sweep of 110 plans" {
-        sweeping_many(rt, alloc, 110)
+        call_sweep_of_many(rt, alloc, 110)
     } else if name == "FreeGate::enter" {
         begin(alloc);
         FreeGate.enter(rt, 0);
@@ -139,13 +139,17 @@ pub fn answer<R: Threads + Wait + Sync>(rt: &R, alloc: Global, name: &str) -> Op
 }
 
 // So many equal plans are swept by one worker.
-fn sweeping_many<R: Threads + Wait + Sync>(rt: &R, alloc: Global, count: usize) -> Option<Answer> {
+fn call_sweep_of_many<R: Threads + Wait + Sync>(
+    rt: &R,
+    alloc: Global,
+    count: usize,
+) -> Option<Answer> {
     let base = sim_behind(alloc, CAVE, BOOTS.as_slice())?;
     let plans = equal_plans(alloc, count)?;
     begin(alloc);
     let outcomes = sweep(rt, alloc, &base, plans.as_slice(), 1, &FreeGate);
     end(alloc);
-    Some(Answer::done(outcomes.ok()?.len() == count))
+    Some(Answer::of_call(outcomes.ok()?.len() == count))
 }
 
 fn equal_plans(alloc: Global, count: usize) -> Option<Vec<Plan>> {
@@ -157,32 +161,37 @@ fn equal_plans(alloc: Global, count: usize) -> Option<Vec<Plan>> {
 }
 
 // Five plans are swept by two workers.
-fn sweeping<R: Threads + Wait + Sync>(rt: &R, alloc: Global) -> Option<Answer> {
+fn call_sweep<R: Threads + Wait + Sync>(rt: &R, alloc: Global) -> Option<Answer> {
     let mut base = sim_behind(alloc, CAVE, BOOTS.as_slice())?;
     let plans = plans(alloc)?;
-    swept(rt, alloc, &mut base, plans.as_slice())
+    call_sweep_on(rt, alloc, &mut base, plans.as_slice())
 }
 
-fn swept<R: Threads + Wait + Sync>(
+fn call_sweep_on<R: Threads + Wait + Sync>(
     rt: &R,
     alloc: Global,
     base: &mut Sim,
     plans: &[Plan],
 ) -> Option<Answer> {
     let kept = Kept::of(alloc, base)?;
-    let answer = swept_as(rt, alloc, base, plans);
+    let answer = call_sweep_of_plans(rt, alloc, base, plans);
     Some(match kept.changed(alloc, base) {
         None => answer,
         Some(what) => Answer::Changed(what),
     })
 }
 
-fn swept_as<R: Threads + Wait + Sync>(rt: &R, alloc: Global, base: &Sim, plans: &[Plan]) -> Answer {
+fn call_sweep_of_plans<R: Threads + Wait + Sync>(
+    rt: &R,
+    alloc: Global,
+    base: &Sim,
+    plans: &[Plan],
+) -> Answer {
     begin(alloc);
     let outcomes = sweep(rt, alloc, base, plans, 2, &FreeGate);
     end(alloc);
     match outcomes {
-        Ok(outcomes) => Answer::done(are_right(outcomes.as_slice())),
+        Ok(outcomes) => Answer::of_call(are_right(outcomes.as_slice())),
         Err(SweepFault::OutOfMemory) => Answer::Refused,
         Err(_) => Answer::Changed("fault"),
     }

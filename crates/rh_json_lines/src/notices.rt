@@ -121,7 +121,7 @@ fn push_fired(
 ) -> Result<(), OutOfMemory>
     ensures { OnOk result (out.new.items ≡ out.old.items ++ flat_map (behind_comma (notice_json cluster.now)) (timed timer.now)) }
 {
-    push_each_notice(alloc, out, cluster, Some(timer.due()), timer.told())
+    push_each_notice(alloc, out, cluster, Some(timer.due()), timer.notices())
 }
 
 // Adds what each of the timers told.

@@ -38,7 +38,7 @@ pub fn run_lint<S: Source, K: Sink>(
     ensures { ProgramGives S.gives S.fails K.takes K.fails (OwesLint manner pick) NoThreads result reader.old reader.new writer.old writer.new }
 {
     let input = read_input(alloc, reader)?;
-    match linted(alloc, input.as_slice(), pick, manner) {
+    match lint_input(alloc, input.as_slice(), pick, manner) {
         Err(_) => Err(RunFault::OutOfMemory),
         Ok((text, told)) => {
             write_text(writer, text.as_slice())?;
@@ -48,7 +48,7 @@ pub fn run_lint<S: Source, K: Sink>(
 }
 
 // The text that lists what is wrong with an input, and the fault that it tells.
-fn linted(
+fn lint_input(
     alloc: Global,
     input: &[u8],
     pick: Pick,

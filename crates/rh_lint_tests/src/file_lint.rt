@@ -56,7 +56,7 @@ fn finds(rt: &impl Abort, alloc: Global, text: &str, expected: &[FileFinding]) {
 }
 
 // A finding at a node whose boot list has an application before what it needs.
-fn too_early(node: u8, app: u8, other: u8) -> FileFinding {
+fn boot_too_early(node: u8, app: u8, other: u8) -> FileFinding {
     FileFinding::BootBeforeDependency {
         node: Node(node),
         app: App(app),
@@ -104,7 +104,10 @@ fn nothing_is_distributed(rt: HostRuntime) {
         &rt,
         rt.alloc(),
         TWO_NODES,
-        &[FileFinding::NoDistributedApplication, too_early(1, 0, 1)],
+        &[
+            FileFinding::NoDistributedApplication,
+            boot_too_early(1, 0, 1),
+        ],
     );
 }
 
@@ -145,11 +148,11 @@ fn all_is_told_in_order(rt: HostRuntime) {
         FileFinding::SyncTimeoutZero { node: Node(1) },
         FileFinding::SyncTimeoutZero { node: Node(2) },
         FileFinding::TupleNotInOrder { app: App(0) },
-        too_early(0, 1, 2),
-        too_early(0, 2, 3),
-        too_early(1, 1, 2),
-        too_early(2, 1, 2),
-        too_early(2, 2, 3),
+        boot_too_early(0, 1, 2),
+        boot_too_early(0, 2, 3),
+        boot_too_early(1, 1, 2),
+        boot_too_early(2, 1, 2),
+        boot_too_early(2, 2, 3),
         FileFinding::CrossedBootLists {
             app: App(0),
             other: App(1),

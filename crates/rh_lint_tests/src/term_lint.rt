@@ -67,7 +67,7 @@ fn push_near(
 }
 
 // What is told of a text is this.
-fn told(rt: &impl Abort, alloc: Global, text: &str, want: &str) {
+fn expect_findings(rt: &impl Abort, alloc: Global, text: &str, want: &str) {
     let terms = read_terms(alloc, text.as_bytes()).ok().expect(rt, "terms");
     let found = term_findings(alloc, &terms).ok().expect(rt, "memory");
     let mut out = String::new(alloc);
@@ -82,25 +82,25 @@ fn told(rt: &impl Abort, alloc: Global, text: &str, want: &str) {
 #[test]
 fn parameters(rt: HostRuntime) {
     let alloc = rt.alloc();
-    told(
+    expect_findings(
         &rt,
         alloc,
         "{profile, 2}. {node, 'n1@lab', [{kernel, [{sync_node_timeout, 5000}]}]}.",
         "parameter n1@lab sync_node_timeout sync_nodes_timeout\n",
     );
-    told(
+    expect_findings(
         &rt,
         alloc,
         "{profile, 2}. {node, 'n1@lab', [{kernel, [{distribted, [{web, ['n1@lab']}]}]}]}. {application, web, []}.",
         "parameter n1@lab distribted distributed\n",
     );
-    told(
+    expect_findings(
         &rt,
         alloc,
         "{profile, 2}. {node, a, [{kernel, [{sync_nodes_optinal, []}, {sync_nodes_mandatroy, []}, {permision, []}]}]}.",
         "parameter a sync_nodes_optinal sync_nodes_optional\nparameter a sync_nodes_mandatroy sync_nodes_mandatory\nparameter a permision permissions\n",
     );
-    told(
+    expect_findings(
         &rt,
         alloc,
         "{profile, 2}. {node, a, [{kernel, [{net_ticktime, 60}, {prevent_overlapping_partitions, true}, {logger_level, info}]}]}.",
@@ -111,13 +111,13 @@ fn parameters(rt: HostRuntime) {
 #[test]
 fn sections(rt: HostRuntime) {
     let alloc = rt.alloc();
-    told(
+    expect_findings(
         &rt,
         alloc,
         "{profile, 2}. {node, a, []}. {node, b, [{kernal, [{distributed, []}]}, {sasl, []}]}.",
         "section b kernal kernel\n",
     );
-    told(
+    expect_findings(
         &rt,
         alloc,
         "{profile, 2}. {node, a, [{rehearsal, [{boot, []}]}]}. {node, b, [{'Kernel', []}]}.",
@@ -128,13 +128,13 @@ fn sections(rt: HostRuntime) {
 #[test]
 fn keys(rt: HostRuntime) {
     let alloc = rt.alloc();
-    told(
+    expect_findings(
         &rt,
         alloc,
         "{profile, 2}. {node, a, []}. {application, web, [{vsn, \"1\"}, {aplications, [kernel]}, {mod, {web, []}}]}.",
         "key web aplications applications\n",
     );
-    told(
+    expect_findings(
         &rt,
         alloc,
         "{profile, 2}. {node, a, []}. {application, web, [{start_phase, []}, {modules, []}, {id, \"\"}, {mood, {web, []}}]}.",
@@ -145,13 +145,13 @@ fn keys(rt: HostRuntime) {
 #[test]
 fn what_a_live_node_takes_otherwise(rt: HostRuntime) {
     let alloc = rt.alloc();
-    told(
+    expect_findings(
         &rt,
         alloc,
         "{node, a, [{kernel, [{sync_nodes_optional, [b]}, {sync_nodes_timeout, undefined}]}]}. {node, b, []}.",
         "no profile\nundefined a\n",
     );
-    told(
+    expect_findings(
         &rt,
         alloc,
         "{profile, 1}. {node, a, [{kernel, [{sync_nodes_timeout, infinity}]}, {sasl, [{sync_nodes_timeout, undefined}]}]}.",
@@ -163,14 +163,14 @@ fn what_a_live_node_takes_otherwise(rt: HostRuntime) {
 #[test]
 fn files_that_are_refused(rt: HostRuntime) {
     let alloc = rt.alloc();
-    told(&rt, alloc, "", "no profile\n");
-    told(
+    expect_findings(&rt, alloc, "", "no profile\n");
+    expect_findings(
         &rt,
         alloc,
         "{profile, 7}. node. {node, a}. {node, a, kernal}. {nodes, a, [{kernal, []}]}. {node, a, [kernal, {kernal}, {\"kernal\", []}]}.",
         "",
     );
-    told(
+    expect_findings(
         &rt,
         alloc,
         "{profile, 2}. {node, a, [{kernal, none}, {kernel, [7, {distribted}, {distribted, oops}]}]}. {node, a, [{kernels, []}]}.",

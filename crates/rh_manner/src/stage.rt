@@ -105,7 +105,7 @@ fn take_cluster<K: Sink>(
     ensures number { NumbersWithin result (1 + length (raw_lines lines.now)) }
 {
     let (front, script) = cut(lines);
-    let text = joined(before, front)?;
+    let text = join_texts(before, front)?;
     if front.len() == lines.len() {
         return Ok(Turn::Goes(Stage::Cluster(text)));
     }
@@ -117,7 +117,7 @@ fn take_cluster<K: Sink>(
 }
 
 // A text with more behind it.
-fn joined(before: Vec<u8>, bytes: &[u8]) -> Result<Vec<u8>, OutOfMemory>
+fn join_texts(before: Vec<u8>, bytes: &[u8]) -> Result<Vec<u8>, OutOfMemory>
     ensures { IfOk result (λ text. text.items ≡ before.items ++ bytes.now) }
 {
     let mut text = before;

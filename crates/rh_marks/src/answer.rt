@@ -13,7 +13,7 @@ pub enum Answer {
 
 impl Answer {
     /// Whether the call answered what it has to.
-    pub fn done(is_right: bool) -> Answer {
+    pub fn of_call(is_right: bool) -> Answer {
         if is_right {
             Answer::Done
         } else {
@@ -22,7 +22,7 @@ impl Answer {
     }
 
     /// The call was refused memory, and this isn't as before.
-    pub fn refused(changed: Option<&'static str>) -> Answer {
+    pub fn of_refusal(changed: Option<&'static str>) -> Answer {
         match changed {
             None => Answer::Refused,
             Some(what) => Answer::Changed(what),

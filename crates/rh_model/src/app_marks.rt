@@ -121,7 +121,7 @@ impl AppMarks {
 }
 
 /// Marks of 64 applications, where each mark of these moves to the next one, and the first is marked or isn't.
-pub fn pushed(marks: u64, mark: bool) -> u64
+pub fn with_mark_in_front(marks: u64, mark: bool) -> u64
     ensures first { (a : App) → a.0 ≡ 0 → is_marked (marks_of result) a ≡ mark }
     ensures others { (a b : App) → b.0 ≡ a.0 + 1 → b.0 < 64 → is_marked (marks_of result) b ≡ is_marked (marks_of marks) a }
 {

@@ -21,7 +21,7 @@ mod node_settings;
 mod platforms;
 mod settings;
 
-pub use app_marks::{AppMarks, pushed};
+pub use app_marks::{AppMarks, with_mark_in_front};
 pub use app_settings::{AppSettings, Start, copy_of_spread, copy_of_start};
 pub use cluster::Cluster;
 pub use groups::{Group, Groups, is_in};

@@ -8,16 +8,16 @@ use std::alloc::Global;
 /// What comes of the call of this name, if it is here.
 pub fn answer(alloc: Global, name: &str) -> Option<Answer> {
     if name == "read_cluster" {
-        return Some(reading(alloc));
+        return Some(call_read_cluster(alloc));
     }
     let cluster = cluster(alloc)?;
     if name == "Cluster::copy" {
-        return Some(copying(alloc, &cluster));
+        return Some(call_copy(alloc, &cluster));
     }
     begin(alloc);
     let told = is_read(&cluster, name);
     end(alloc);
-    Some(Answer::done(told?))
+    Some(Answer::of_call(told?))
 }
 
 // Whether a reader of this name answers as it has to.
@@ -31,12 +31,12 @@ fn is_read(cluster: &Cluster, name: &str) -> Option<bool> {
     }
 }
 
-fn reading(alloc: Global) -> Answer {
+fn call_read_cluster(alloc: Global) -> Answer {
     begin(alloc);
     let read = read_cluster(alloc, LAB.as_bytes());
     end(alloc);
     match read {
-        Ok(cluster) => Answer::done(cluster.node_count() == 3 && cluster.app_count() == 2),
+        Ok(cluster) => Answer::of_call(cluster.node_count() == 3 && cluster.app_count() == 2),
         Err(fault) => {
             if fault.is_memory() {
                 Answer::Refused
@@ -47,12 +47,12 @@ fn reading(alloc: Global) -> Answer {
     }
 }
 
-fn copying(alloc: Global, cluster: &Cluster) -> Answer {
+fn call_copy(alloc: Global, cluster: &Cluster) -> Answer {
     begin(alloc);
     let copy = cluster.copy(alloc);
     end(alloc);
     match copy {
-        Ok(copy) => Answer::done(copy.same(cluster)),
+        Ok(copy) => Answer::of_call(copy.same(cluster)),
         Err(_) => Answer::Refused,
     }
 }

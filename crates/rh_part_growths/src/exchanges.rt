@@ -10,24 +10,24 @@ use rh_state::{Edit, Place, State};
 use std::alloc::Global;
 
 /// Takes the edit back.
-pub fn going_back(alloc: Global, state: &mut State) -> Option<Answer> {
+pub fn call_back(alloc: Global, state: &mut State) -> Option<Answer> {
     let mut edit = unlink(state)?;
     begin(alloc);
     state.back(&mut edit);
     end(alloc);
-    Some(Answer::done(stands_at(state, Place::InRunning)))
+    Some(Answer::of_call(stands_at(state, Place::InRunning)))
 }
 
 /// Makes it again.
 #[tactic(auto, using(rh_state::proofs::Twice::done_turns))]
-pub fn going_forth(alloc: Global, state: &mut State) -> Option<Answer> {
+pub fn call_forth(alloc: Global, state: &mut State) -> Option<Answer> {
     let mut edit = unlink(state)?;
     state.formed();
     state.back(&mut edit);
     begin(alloc);
     state.forth(&mut edit);
     end(alloc);
-    Some(Answer::done(stands_at(state, Place::Off)))
+    Some(Answer::of_call(stands_at(state, Place::Off)))
 }
 
 // The service is no longer started at the first node.

@@ -10,29 +10,29 @@ use std::alloc::Global;
 
 /// What comes of the call of this name, if it is here.
 pub fn answer(alloc: Global, name: &str) -> Option<Answer> {
-    let mut lists = three(alloc)?;
+    let mut lists = three_entries(alloc)?;
     if name == "Lists::new" {
-        Some(making(alloc))
+        Some(call_new(alloc))
     } else if name == "Lists::copy" {
-        Some(copying(alloc, &lists))
+        Some(call_copy(alloc, &lists))
     } else if name == "Lists::push_back" {
-        pushing(alloc, &mut lists)
+        call_push_back(alloc, &mut lists)
     } else if name == "Lists::remove" {
-        removing(alloc, &mut lists)
+        call_remove(alloc, &mut lists)
     } else if name == "Lists::revert" {
-        reverting(alloc, &mut lists)
+        call_revert(alloc, &mut lists)
     } else if name == "Lists::reapply" {
-        reapplying(alloc, &mut lists)
+        call_reapply(alloc, &mut lists)
     } else {
         begin(alloc);
         let is_right = is_read(&lists, name);
         end(alloc);
-        Some(Answer::done(is_right?))
+        Some(Answer::of_call(is_right?))
     }
 }
 
 // Three entries, in order.
-fn three(alloc: Global) -> Option<Lists> {
+fn three_entries(alloc: Global) -> Option<Lists> {
     let mut lists = Lists::new(alloc, 3, 1).ok()?;
     for entry in 0..3 {
         let _ = push(&mut lists, entry)?;
@@ -48,22 +48,22 @@ fn push(lists: &mut Lists, entry: u32) -> Option<LinkEdit> {
     Some(lists.push_back(0, entry))
 }
 
-fn making(alloc: Global) -> Answer {
+fn call_new(alloc: Global) -> Answer {
     begin(alloc);
     let made = Lists::new(alloc, 3, 1);
     end(alloc);
     match made {
-        Ok(lists) => Answer::done(lists.entry_count() == 3),
+        Ok(lists) => Answer::of_call(lists.entry_count() == 3),
         Err(_) => Answer::Refused,
     }
 }
 
-fn copying(alloc: Global, lists: &Lists) -> Answer {
+fn call_copy(alloc: Global, lists: &Lists) -> Answer {
     begin(alloc);
     let copy = lists.copy(alloc);
     end(alloc);
     match copy {
-        Ok(copy) => Answer::done(copy.same_words(lists)),
+        Ok(copy) => Answer::of_call(copy.same_words(lists)),
         Err(_) => Answer::Refused,
     }
 }
@@ -107,13 +107,13 @@ fn has(lists: &Lists, count: u32) -> bool {
 }
 
 // The middle entry comes back at the end.
-fn pushing(alloc: Global, lists: &mut Lists) -> Option<Answer> {
+fn call_push_back(alloc: Global, lists: &mut Lists) -> Option<Answer> {
     let _ = remove(lists)?;
     begin(alloc);
     let pushed = push(lists, 1);
     end(alloc);
     let _ = pushed?;
-    Some(Answer::done(has(lists, 3)))
+    Some(Answer::of_call(has(lists, 3)))
 }
 
 // Takes the middle entry out.
@@ -129,23 +129,23 @@ fn remove(lists: &mut Lists) -> Option<LinkEdit>
     Some(lists.remove(1))
 }
 
-fn removing(alloc: Global, lists: &mut Lists) -> Option<Answer> {
+fn call_remove(alloc: Global, lists: &mut Lists) -> Option<Answer> {
     begin(alloc);
     let removed = remove(lists);
     end(alloc);
     let _ = removed?;
-    Some(Answer::done(has(lists, 2)))
+    Some(Answer::of_call(has(lists, 2)))
 }
 
-fn reverting(alloc: Global, lists: &mut Lists) -> Option<Answer> {
+fn call_revert(alloc: Global, lists: &mut Lists) -> Option<Answer> {
     let mut edit = remove(lists)?;
     begin(alloc);
     lists.revert(&mut edit);
     end(alloc);
-    Some(Answer::done(has(lists, 3)))
+    Some(Answer::of_call(has(lists, 3)))
 }
 
-fn reapplying(alloc: Global, lists: &mut Lists) -> Option<Answer> {
+fn call_reapply(alloc: Global, lists: &mut Lists) -> Option<Answer> {
     let mut edit = remove(lists)?;
     lists.formed();
     lists.revert(&mut edit);
@@ -155,5 +155,5 @@ fn reapplying(alloc: Global, lists: &mut Lists) -> Option<Answer> {
     begin(alloc);
     lists.reapply(&mut edit);
     end(alloc);
-    Some(Answer::done(has(lists, 2)))
+    Some(Answer::of_call(has(lists, 2)))
 }

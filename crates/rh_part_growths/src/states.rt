@@ -10,20 +10,20 @@ use std::alloc::Global;
 pub fn answer(alloc: Global, name: &str) -> Option<Answer> {
     let mut state = state(alloc)?;
     if name == "first_state" {
-        Some(beginning(alloc, &state))
+        Some(call_first_state(alloc, &state))
     } else if name == "State::copy" {
-        Some(copying(alloc, &state))
+        Some(call_copy(alloc, &state))
     } else if name == "State::timers" {
-        Some(listing(alloc, &state))
+        Some(call_timers(alloc, &state))
     } else if name == "State::back" {
-        exchanges::going_back(alloc, &mut state)
+        exchanges::call_back(alloc, &mut state)
     } else if name == "State::forth" {
-        exchanges::going_forth(alloc, &mut state)
+        exchanges::call_forth(alloc, &mut state)
     } else {
         begin(alloc);
         let told = is_right(&mut state, name);
         end(alloc);
-        Some(Answer::done(told?))
+        Some(Answer::of_call(told?))
     }
 }
 
@@ -44,33 +44,33 @@ fn is_right(state: &mut State, name: &str) -> Option<bool> {
     }
 }
 
-fn beginning(alloc: Global, state: &State) -> Answer {
+fn call_first_state(alloc: Global, state: &State) -> Answer {
     begin(alloc);
     let first = first_state(alloc, state.cluster());
     end(alloc);
     match first {
-        Ok(first) => Answer::done(first.now() == 0 && first.earliest().is_none()),
+        Ok(first) => Answer::of_call(first.now() == 0 && first.earliest().is_none()),
         Err(_) => Answer::Refused,
     }
 }
 
-fn copying(alloc: Global, state: &State) -> Answer {
+fn call_copy(alloc: Global, state: &State) -> Answer {
     begin(alloc);
     let copy = state.copy(alloc);
     end(alloc);
     match copy {
-        Ok(copy) => Answer::done(copy.same_words(state)),
+        Ok(copy) => Answer::of_call(copy.same_words(state)),
         Err(_) => Answer::Refused,
     }
 }
 
-fn listing(alloc: Global, state: &State) -> Answer {
+fn call_timers(alloc: Global, state: &State) -> Answer {
     begin(alloc);
     let timers = state.timers(alloc);
     end(alloc);
     match timers {
         Ok(timers) => {
-            Answer::done(timers.as_slice() == [(36, Timer::Failover(SERVICE))].as_slice())
+            Answer::of_call(timers.as_slice() == [(36, Timer::Failover(SERVICE))].as_slice())
         }
         Err(_) => Answer::Refused,
     }

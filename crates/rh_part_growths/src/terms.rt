@@ -10,17 +10,17 @@ static TERMS: &str = "{node, 'n1@lab', [\"one\", [-7]]}. second.";
 /// What comes of the call of this name, if it is here.
 pub fn answer(alloc: Global, name: &str) -> Option<Answer> {
     if name == "read_terms" {
-        Some(reading(alloc, TERMS, 2))
+        Some(call_read_terms(alloc, TERMS, 2))
     } else if name == "read_terms of a long list" {
-        Some(reading(alloc, long_list(alloc)?.as_str(), 1))
+        Some(call_read_terms(alloc, long_list(alloc)?.as_str(), 1))
     } else if name == "Terms::of" {
-        Some(making(alloc, Vec::new(alloc)))
+        Some(call_terms_of(alloc, Vec::new(alloc)))
     } else if name == "Terms::into_shared" {
-        Some(making_shared(alloc, read_terms(alloc, TERMS.as_bytes()).ok()?))
+        Some(call_into_shared(alloc, read_terms(alloc, TERMS.as_bytes()).ok()?))
     } else if name == "Terms::into_shared of shared ones" {
-        Some(making_shared(alloc, shared_terms(alloc)?))
+        Some(call_into_shared(alloc, shared_terms(alloc)?))
     } else if name == "Terms::share of shared ones" {
-        Some(sharing(alloc, &shared_terms(alloc)?))
+        Some(call_share(alloc, &shared_terms(alloc)?))
     } else {
         let terms = read_terms(alloc, TERMS.as_bytes()).ok()?;
         of_read(alloc, &terms, terms.as_slice().first()?, name)
@@ -42,41 +42,41 @@ fn long_list(alloc: Global) -> Option<String> {
     Some(text)
 }
 
-fn reading(alloc: Global, text: &str, count: usize) -> Answer {
+fn call_read_terms(alloc: Global, text: &str, count: usize) -> Answer {
     begin(alloc);
     let read = read_terms(alloc, text.as_bytes());
     end(alloc);
     match read {
-        Ok(terms) => Answer::done(terms.as_slice().len() == count),
+        Ok(terms) => Answer::of_call(terms.as_slice().len() == count),
         Err(TermFault::OutOfMemory) => Answer::Refused,
         Err(_) => Answer::Changed("fault"),
     }
 }
 
-fn making(alloc: Global, terms: Vec<Term>) -> Answer {
+fn call_terms_of(alloc: Global, terms: Vec<Term>) -> Answer {
     begin(alloc);
     let made = Terms::of(terms);
     end(alloc);
-    Answer::done(made.as_slice().is_empty())
+    Answer::of_call(made.as_slice().is_empty())
 }
 
-fn making_shared(alloc: Global, terms: Terms) -> Answer {
+fn call_into_shared(alloc: Global, terms: Terms) -> Answer {
     begin(alloc);
     let shared = terms.into_shared(alloc);
     end(alloc);
     match shared {
-        Ok(shared) => Answer::done(shared.as_slice().len() == 2),
+        Ok(shared) => Answer::of_call(shared.as_slice().len() == 2),
         Err(terms) if terms.as_slice().len() == 2 => Answer::Refused,
         Err(_) => Answer::Changed("terms"),
     }
 }
 
-fn sharing(alloc: Global, terms: &Terms) -> Answer {
+fn call_share(alloc: Global, terms: &Terms) -> Answer {
     begin(alloc);
     let more = terms.share(alloc);
     end(alloc);
     match more {
-        Ok(more) => Answer::done(more.same(terms)),
+        Ok(more) => Answer::of_call(more.same(terms)),
         Err(_) => Answer::Refused,
     }
 }
@@ -84,36 +84,36 @@ fn sharing(alloc: Global, terms: &Terms) -> Answer {
 // The calls of terms that were read, and of the first of them.
 fn of_read(alloc: Global, terms: &Terms, first: &Term, name: &str) -> Option<Answer> {
     if name == "Terms::copy" {
-        return Some(copying_all(alloc, terms));
+        return Some(call_terms_copy(alloc, terms));
     }
     if name == "Terms::share" {
-        return Some(sharing(alloc, terms));
+        return Some(call_share(alloc, terms));
     }
     if name == "Term::copy" {
-        return Some(copying(alloc, first));
+        return Some(call_term_copy(alloc, first));
     }
     begin(alloc);
     let is_right = is_read(terms, first, name);
     end(alloc);
-    Some(Answer::done(is_right?))
+    Some(Answer::of_call(is_right?))
 }
 
-fn copying_all(alloc: Global, terms: &Terms) -> Answer {
+fn call_terms_copy(alloc: Global, terms: &Terms) -> Answer {
     begin(alloc);
     let copy = terms.copy(alloc);
     end(alloc);
     match copy {
-        Ok(copy) => Answer::done(copy.same(terms)),
+        Ok(copy) => Answer::of_call(copy.same(terms)),
         Err(_) => Answer::Refused,
     }
 }
 
-fn copying(alloc: Global, term: &Term) -> Answer {
+fn call_term_copy(alloc: Global, term: &Term) -> Answer {
     begin(alloc);
     let copy = term.copy(alloc);
     end(alloc);
     match copy {
-        Ok(copy) => Answer::done(copy.same(term)),
+        Ok(copy) => Answer::of_call(copy.same(term)),
         Err(_) => Answer::Refused,
     }
 }

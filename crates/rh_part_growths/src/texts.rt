@@ -8,15 +8,15 @@ use std::alloc::Global;
 /// What comes of the call of this name, if it is here.
 pub fn answer(alloc: Global, name: &str) -> Option<Answer> {
     if name == "Str::copy" {
-        Some(copying(alloc, &text(alloc)?))
+        Some(call_copy(alloc, &text(alloc)?))
     } else if name == "Str::of" {
-        Some(making(alloc, String::from_str(alloc, "a service of the lab").ok()?))
+        Some(call_str_of(alloc, String::from_str(alloc, "a service of the lab").ok()?))
     } else if name == "Group::of" {
-        Some(making_group(alloc, nodes(alloc)?))
+        Some(call_group_of(alloc, nodes(alloc)?))
     } else if name == "Groups::of" {
-        Some(making_groups(alloc, Vec::new(alloc)))
+        Some(call_groups_of(alloc, Vec::new(alloc)))
     } else {
-        reading(alloc, name)
+        call_reader(alloc, name)
     }
 }
 
@@ -28,45 +28,45 @@ fn nodes(alloc: Global) -> Option<Vec<Node>> {
     Vec::from_slice(alloc, [Node(1)].as_slice()).ok()
 }
 
-fn copying(alloc: Global, text: &Str) -> Answer {
+fn call_copy(alloc: Global, text: &Str) -> Answer {
     begin(alloc);
     let copy = text.copy(alloc);
     end(alloc);
     match copy {
-        Ok(copy) => Answer::done(copy.same(text)),
+        Ok(copy) => Answer::of_call(copy.same(text)),
         Err(_) => Answer::Refused,
     }
 }
 
-fn making(alloc: Global, text: String) -> Answer {
+fn call_str_of(alloc: Global, text: String) -> Answer {
     begin(alloc);
     let made = Str::of(text);
     end(alloc);
-    Answer::done(made.as_str() == "a service of the lab")
+    Answer::of_call(made.as_str() == "a service of the lab")
 }
 
-fn making_group(alloc: Global, nodes: Vec<Node>) -> Answer {
+fn call_group_of(alloc: Global, nodes: Vec<Node>) -> Answer {
     begin(alloc);
     let made = Group::of(nodes);
     end(alloc);
-    Answer::done(made.as_slice() == [Node(1)].as_slice())
+    Answer::of_call(made.as_slice() == [Node(1)].as_slice())
 }
 
-fn making_groups(alloc: Global, groups: Vec<Group>) -> Answer {
+fn call_groups_of(alloc: Global, groups: Vec<Group>) -> Answer {
     begin(alloc);
     let made = Groups::of(groups);
     end(alloc);
-    Answer::done(made.as_slice().is_empty())
+    Answer::of_call(made.as_slice().is_empty())
 }
 
-fn reading(alloc: Global, name: &str) -> Option<Answer> {
+fn call_reader(alloc: Global, name: &str) -> Option<Answer> {
     let text = text(alloc)?;
     let group = Group::of(nodes(alloc)?);
     let groups = Groups::of(Vec::new(alloc));
     begin(alloc);
     let is_right = is_read(&text, &group, &groups, name);
     end(alloc);
-    Some(Answer::done(is_right?))
+    Some(Answer::of_call(is_right?))
 }
 
 // Whether a reader of this name answers as it has to.

@@ -14,13 +14,13 @@ static UP: Notice = Notice::Up { node: Node(0) };
 /// What comes of the call of this name, if it is here.
 pub fn answer(alloc: Global, name: &str) -> Option<Answer> {
     if name == "Notices::of" {
-        Some(telling(alloc, notices(alloc)?))
+        Some(call_notices_of(alloc, notices(alloc)?))
     } else if name == "Standings::of" {
-        Some(standing(alloc, items(alloc)?))
+        Some(call_standings_of(alloc, items(alloc)?))
     } else if name == "Watched::new" {
-        Some(watching(alloc))
+        Some(call_watched_new(alloc))
     } else {
-        reading(alloc, name)
+        call_reader(alloc, name)
     }
 }
 
@@ -32,34 +32,34 @@ fn items(alloc: Global) -> Option<Vec<(App, Standing)>> {
     Vec::from_slice(alloc, [(App(0), Standing::Quiet)].as_slice()).ok()
 }
 
-fn telling(alloc: Global, notices: Vec<Notice>) -> Answer {
+fn call_notices_of(alloc: Global, notices: Vec<Notice>) -> Answer {
     begin(alloc);
     let made = Notices::of(alloc, notices);
     end(alloc);
     match made {
-        Ok(made) => Answer::done(made.as_slice() == [UP].as_slice()),
+        Ok(made) => Answer::of_call(made.as_slice() == [UP].as_slice()),
         Err(_) => Answer::Refused,
     }
 }
 
-fn standing(alloc: Global, items: Vec<(App, Standing)>) -> Answer {
+fn call_standings_of(alloc: Global, items: Vec<(App, Standing)>) -> Answer {
     begin(alloc);
     let made = Standings::of(alloc, items);
     end(alloc);
     match made {
-        Ok(made) => Answer::done(made.as_slice().len() == 1),
+        Ok(made) => Answer::of_call(made.as_slice().len() == 1),
         Err(_) => Answer::Refused,
     }
 }
 
-fn watching(alloc: Global) -> Answer {
+fn call_watched_new(alloc: Global) -> Answer {
     begin(alloc);
     let watched = Watched::new(Bytes::new(b"text".as_slice()));
     end(alloc);
-    Answer::done(!watched.failed())
+    Answer::of_call(!watched.failed())
 }
 
-fn reading(alloc: Global, name: &str) -> Option<Answer> {
+fn call_reader(alloc: Global, name: &str) -> Option<Answer> {
     let notices = Notices::of(alloc, notices(alloc)?).ok()?;
     let standings = Standings::of(alloc, items(alloc)?).ok()?;
     let watched = Watched::new(Bytes::new(b"text".as_slice()));
@@ -68,8 +68,8 @@ fn reading(alloc: Global, name: &str) -> Option<Answer> {
     let is_watched = is_asked(watched, name);
     end(alloc);
     match is_right {
-        None => Some(Answer::done(is_watched?)),
-        Some(is_right) => Some(Answer::done(is_right)),
+        None => Some(Answer::of_call(is_watched?)),
+        Some(is_right) => Some(Answer::of_call(is_right)),
     }
 }
 

@@ -10,29 +10,29 @@ use std::alloc::Global;
 
 /// What comes of the call of this name, if it is here.
 pub fn answer(alloc: Global, name: &str) -> Option<Answer> {
-    let mut wheel = two(alloc)?;
+    let mut wheel = two_timers(alloc)?;
     if name == "Wheel::new" {
-        Some(making(alloc))
+        Some(call_new(alloc))
     } else if name == "Wheel::copy" {
-        Some(copying(alloc, &wheel))
+        Some(call_copy(alloc, &wheel))
     } else if name == "Wheel::arm" {
-        arming(alloc, &mut wheel)
+        call_arm(alloc, &mut wheel)
     } else if name == "Wheel::cancel" {
-        cancelling(alloc, &mut wheel)
+        call_cancel(alloc, &mut wheel)
     } else if name == "Wheel::revert" {
-        reverting(alloc, &mut wheel)
+        call_revert(alloc, &mut wheel)
     } else if name == "Wheel::reapply" {
-        reapplying(alloc, &mut wheel)
+        call_reapply(alloc, &mut wheel)
     } else {
         begin(alloc);
         let is_right = is_read(&wheel, name);
         end(alloc);
-        Some(Answer::done(is_right?))
+        Some(Answer::of_call(is_right?))
     }
 }
 
 // Two timers that are due together.
-fn two(alloc: Global) -> Option<Wheel> {
+fn two_timers(alloc: Global) -> Option<Wheel> {
     let mut wheel = Wheel::new(alloc, 3).ok()?;
     arm(&mut wheel, 2)?;
     arm(&mut wheel, 0)?;
@@ -48,22 +48,22 @@ fn arm(wheel: &mut Wheel, timer: u32) -> Option<()> {
     Some(())
 }
 
-fn making(alloc: Global) -> Answer {
+fn call_new(alloc: Global) -> Answer {
     begin(alloc);
     let made = Wheel::new(alloc, 3);
     end(alloc);
     match made {
-        Ok(wheel) => Answer::done(wheel.timer_count() == 3),
+        Ok(wheel) => Answer::of_call(wheel.timer_count() == 3),
         Err(_) => Answer::Refused,
     }
 }
 
-fn copying(alloc: Global, wheel: &Wheel) -> Answer {
+fn call_copy(alloc: Global, wheel: &Wheel) -> Answer {
     begin(alloc);
     let copy = wheel.copy(alloc);
     end(alloc);
     match copy {
-        Ok(copy) => Answer::done(copy.same_words(wheel)),
+        Ok(copy) => Answer::of_call(copy.same_words(wheel)),
         Err(_) => Answer::Refused,
     }
 }
@@ -83,12 +83,12 @@ fn is_read(wheel: &Wheel, name: &str) -> Option<bool> {
     }
 }
 
-fn arming(alloc: Global, wheel: &mut Wheel) -> Option<Answer> {
+fn call_arm(alloc: Global, wheel: &mut Wheel) -> Option<Answer> {
     begin(alloc);
     let armed = arm(wheel, 1);
     end(alloc);
     armed?;
-    Some(Answer::done(wheel.due_of(1) == Some(100)))
+    Some(Answer::of_call(wheel.due_of(1) == Some(100)))
 }
 
 // Cancels the first timer.
@@ -104,23 +104,23 @@ fn cancel(wheel: &mut Wheel) -> Option<TimerEdit>
     Some(wheel.cancel(0))
 }
 
-fn cancelling(alloc: Global, wheel: &mut Wheel) -> Option<Answer> {
+fn call_cancel(alloc: Global, wheel: &mut Wheel) -> Option<Answer> {
     begin(alloc);
     let edit = cancel(wheel);
     end(alloc);
     let _ = edit?;
-    Some(Answer::done(wheel.due_of(0).is_none()))
+    Some(Answer::of_call(wheel.due_of(0).is_none()))
 }
 
-fn reverting(alloc: Global, wheel: &mut Wheel) -> Option<Answer> {
+fn call_revert(alloc: Global, wheel: &mut Wheel) -> Option<Answer> {
     let mut edit = cancel(wheel)?;
     begin(alloc);
     wheel.revert(&mut edit);
     end(alloc);
-    Some(Answer::done(wheel.due_of(0) == Some(100)))
+    Some(Answer::of_call(wheel.due_of(0) == Some(100)))
 }
 
-fn reapplying(alloc: Global, wheel: &mut Wheel) -> Option<Answer> {
+fn call_reapply(alloc: Global, wheel: &mut Wheel) -> Option<Answer> {
     let mut edit = cancel(wheel)?;
     wheel.formed();
     wheel.revert(&mut edit);
@@ -130,5 +130,5 @@ fn reapplying(alloc: Global, wheel: &mut Wheel) -> Option<Answer> {
     begin(alloc);
     wheel.reapply(&mut edit);
     end(alloc);
-    Some(Answer::done(wheel.due_of(0).is_none()))
+    Some(Answer::of_call(wheel.due_of(0).is_none()))
 }

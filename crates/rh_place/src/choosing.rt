@@ -173,7 +173,7 @@ fn lightest(state: &State, group: &[Node], set: NodeSet, count: usize) -> NodeSe
 }
 
 // The one that the pick takes of the one found so far, if any, and a later one.
-fn taken(pick: Pick, found: Option<Node>, later: Node) -> Node
+fn pick_node(pick: Pick, found: Option<Node>, later: Node) -> Node
     ensures { Some result ≡ picked pick (option_to_list found ++ later ∷ []) }
 {
     match (pick, found) {
@@ -197,7 +197,7 @@ fn one_of_lightest(
     let mut found: Option<Node> = None;
     'nodes: for node in group {
         if is_light(state, *node, set, count) {
-            found = Some(taken(pick, found, *node));
+            found = Some(pick_node(pick, found, *node));
         }
     }
     found

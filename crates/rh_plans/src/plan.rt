@@ -107,7 +107,7 @@ pub struct Outcome {
 
 impl Outcome {
     /// This outcome, with the standings of an earlier one if they are equal, so that these lie in memory once.
-    pub fn sharing(self, earlier: Option<&Outcome>) -> Result<Outcome, OutOfMemory>
+    pub fn share_standings(self, earlier: Option<&Outcome>) -> Result<Outcome, OutOfMemory>
         ensures { IfOk result (λ outcome. outcome ≡ self) }
     {
         let mut outcome = self;

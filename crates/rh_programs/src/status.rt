@@ -42,7 +42,7 @@ pub fn rehearse_alone<S: Source, K: Sink, W: Watch>(
     ensures done { result ≡ 0 → IsDone S.gives K.takes K.flushes program reader.old reader.new writer.old writer.new }
 {
     let ended = ended_alone(alloc, program, reader, writer, watch);
-    flushed(ended, writer)
+    flush_and_answer(ended, writer)
 }
 
 /// Runs a program over its devices, with threads where it starts any, flushes the writer, however it ended, and answers the
@@ -64,7 +64,7 @@ pub fn rehearse_together<T: Threads + Wait + Sync, S: Source, K: Sink, W: Watch>
     ensures done { result ≡ 0 → IsDone S.gives K.takes K.flushes program reader.old reader.new writer.old writer.new }
 {
     let ended = ended_together(rt, alloc, program, reader, writer, watch);
-    flushed(ended, writer)
+    flush_and_answer(ended, writer)
 }
 
 /// In which voice a program answers each line of a script before more is read, by [`rehearse_dialogue`]; nothing where it reads all
@@ -96,7 +96,7 @@ pub fn rehearse_dialogue<D: Source + Sink>(
     ensures { DialogueStatus D.Source.gives D.Source.fails D.Sink.takes D.Sink.flushes D.Sink.fails voice result device.old device.new }
 {
     let ended = run_dialogue(alloc, device, voice);
-    flushed(ended, device)
+    flush_and_answer(ended, device)
 }
 
 // Runs a program that starts no threads over its devices.
@@ -168,7 +168,7 @@ fn ended_together<T: Threads + Wait + Sync, S: Source, K: Sink, W: Watch>(
 }
 
 // Flushes the writer, however the program ended, and answers the exit status.
-fn flushed<K: Sink>(ended: Result<(), RunFault>, writer: &mut Watched<K>) -> u8
+fn flush_and_answer<K: Sink>(ended: Result<(), RunFault>, writer: &mut Watched<K>) -> u8
     ensures { Flushed K.flushes K.fails writer.old writer.new result ended }
 {
     match writer.flush() {

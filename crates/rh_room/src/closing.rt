@@ -70,12 +70,12 @@ pub fn close(
 {
     match why_open(&room, passes.as_slice(), cluster, pick) {
         Some(why) => Err(CloseFault { why, room, passes }),
-        None => Ok(parted(room)),
+        None => Ok(take_apart(room)),
     }
 }
 
 // A room in its parts.
-fn parted(room: Room) -> Closed
+fn take_apart(room: Room) -> Closed
     ensures sim { result.sim ≡ room.sim }
     ensures log { result.log.items ≡ room.log }
     ensures history { IsRoom result.sim.seen room.sessions result.log.items }

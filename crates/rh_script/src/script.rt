@@ -44,7 +44,7 @@ pub fn first_words(line: &str) -> ArrayVec<&str, 6>
 }
 
 // The node of this name, or what stands for none.
-fn named(cluster: &Cluster, name: &str) -> Node
+fn named_node(cluster: &Cluster, name: &str) -> Node
     ensures { result ≡ named cluster.now name.now }
 {
     cluster.node_of(name).unwrap_or(NO_NODE)
@@ -108,7 +108,7 @@ fn with_argument(cluster: &Cluster, argument: Argument, word: &str, given: Given
     ensures { result ≡ with_argument cluster.now argument word.now given }
 {
     Some(match argument {
-        Argument::Node => given.with_node(named(cluster, word)),
+        Argument::Node => given.with_node(named_node(cluster, word)),
         Argument::App => given.with_app(named_app(cluster, word)),
         Argument::Restart => given.with_restart(restart_named(word)?),
         Argument::Truth => given.with_truth(first_of(truth_word(true), truth_word(false), word)?),
@@ -157,7 +157,7 @@ fn call_asked(cluster: &Cluster, word: &str, words: &[&str]) -> Option<Call>
 }
 
 // A line that asks this call, or is no command without one.
-fn asking(call: Option<Call>) -> Line
+fn line_of_call(call: Option<Call>) -> Line
     ensures { result ≡ asking call }
 {
     match call {
@@ -172,7 +172,7 @@ pub fn command_of(cluster: &Cluster, words: &[&str]) -> Line
 {
     match words {
         [] => Line::Nothing,
-        [word, words @ ..] => asking(call_asked(cluster, word, words)),
+        [word, words @ ..] => line_of_call(call_asked(cluster, word, words)),
     }
 }
 

@@ -82,7 +82,7 @@ impl Board {
     }
 
     /// The applications that can be placed or taken over.
-    pub fn moving(&self) -> AppMarks
+    pub fn moving_apps(&self) -> AppMarks
         ensures { result ≡ self.now.moving }
     {
         self.moving.copy()

@@ -19,7 +19,7 @@ ghost use Rattle.rh_settle.specs.Starting.{StartsAreMarked};
 ghost use Rattle.rh_trace.specs.Traces.{IsPairOf};
 
 use crate::search::{starts, starts_at};
-use rh_model::{App, AppMarks, Node, pushed};
+use rh_model::{App, AppMarks, Node, with_mark_in_front};
 use rh_place::NodeSet;
 use rh_rules::Pair;
 use rh_state::{Standing, State};
@@ -118,7 +118,7 @@ fn half_marks(state: &State, from: usize, end: usize) -> u64
     'apps: while number > from {
         number -= 1;
         let app = App(number as u8);
-        wanted = pushed(wanted, is_wanted(state, app));
+        wanted = with_mark_in_front(wanted, is_wanted(state, app));
     }
     wanted
 }

@@ -155,7 +155,7 @@ fn next_placement(state: &State, board: &Board, pick: Pick) -> Option<Move>
     ensures { result ≡ picked pick (first_given (placements (read state.now)) (apps_of (read state.now).cluster)) }
 {
     let count = state.cluster().app_count();
-    let mut rest = board.moving();
+    let mut rest = board.moving_apps();
     'apps: while let Some(app) = rest.take_below(count) {
         if let Some(next) = placement_of(state, board, app, pick) {
             return Some(next);
@@ -265,7 +265,7 @@ fn next_takeover(state: &State, board: &Board, pick: Pick) -> Option<Move>
 {
     state.formed();
     let count = state.cluster().app_count();
-    let mut rest = board.moving();
+    let mut rest = board.moving_apps();
     'apps: while let Some(app) = rest.take_below(count) {
         if let Some(next) = takeover_of(state, board, app, pick) {
             return Some(next);

@@ -156,8 +156,8 @@ pub fn first_state_sharing(alloc: Global, cluster: &Arc<Cluster>) -> Result<Stat
     // With 64 nodes and 128 applications at most there are 8,192 pairs, 128 lists and 192 timers at most: 16 bits number them.
     let links = Lists::new(alloc, (nodes * apps) as u16, 2 * nodes as u16)?;
     links.formed();
-    let restarts = Table::filled(alloc, nodes, apps, Restart::Temporary)?;
-    let kinds = Table::filled(alloc, nodes, apps, Kind::Normal)?;
+    let restarts = Table::filled_with(alloc, nodes, apps, Restart::Temporary)?;
+    let kinds = Table::filled_with(alloc, nodes, apps, Kind::Normal)?;
     let allowed = permissions_of(alloc, cluster)?;
     let standings = vec![in alloc; Standing::Quiet; apps]?;
     let wheel = Wheel::new(alloc, (nodes + apps) as u16)?;

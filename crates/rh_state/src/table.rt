@@ -41,7 +41,7 @@ impl<T> Table<T> {
 
 impl<T: Copy> Table<T> {
     /// So many rows of this width, with this in each cell.
-    pub fn filled(
+    pub fn filled_with(
         alloc: Global,
         rows: usize,
         width: usize,

@@ -44,7 +44,7 @@ impl FiredTimer {
     }
 
     /// What was told then, in order.
-    pub fn told(&self) -> &[Notice]
+    pub fn notices(&self) -> &[Notice]
         ensures { result.now ≡ self.now.told }
     {
         self.told.as_slice()

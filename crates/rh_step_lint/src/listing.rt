@@ -185,7 +185,7 @@ impl<'a> Step<'a> {
         ensures { IfOk result (λ found. found.items ≡ findings_made self.now.state self.now.event) }
     {
         let mut found = Vec::new(alloc);
-        let touched = self.touched(alloc)?;
+        let touched = self.touched_pairs(alloc)?;
         self.push_pairs(&mut found, &CODES, touched.as_slice())?;
         self.push_waits(&mut found)?;
         self.push_lists(&mut found)?;

@@ -16,7 +16,7 @@ impl<'a> Step<'a> {
         if !self.starts_now(node, app) {
             return None;
         }
-        let lost = self.awaited(node, app)?;
+        let lost = self.awaited_node(node, app)?;
         Some(StepFinding::StartWithinTime { node, app, lost })
     }
 

@@ -222,10 +222,10 @@ impl<'a> Step<'a> {
 
     /// Another node with which it was lost, whose time isn't over, and which doesn't start it again.
     #[tactic(auto, unfolding(rh_step_findings::specs::Pairs::awaited))]
-    pub(crate) fn awaited(&self, node: Node, app: App) -> Option<Node>
+    pub(crate) fn awaited_node(&self, node: Node, app: App) -> Option<Node>
         ensures { result ≡ awaited self.now.state self.now.event node app }
     {
-        match self.standing(app) {
+        match self.standing_of(app) {
             Standing::Lost(from) if !self.starts_now(from, app) => other_node(node, from),
             _ => None,
         }
@@ -236,7 +236,7 @@ impl<'a> Step<'a> {
     pub(crate) fn given_up(&self, node: Node, app: App) -> Option<Node>
         ensures { result ≡ given_up self.now.state node app }
     {
-        match self.standing(app) {
+        match self.standing_of(app) {
             Standing::Wanted(Some(from)) => other_node(node, from),
             _ => None,
         }
@@ -247,7 +247,7 @@ impl<'a> Step<'a> {
     pub(crate) fn lost_with(&self, node: Node, app: App) -> Option<Node>
         ensures { result ≡ lost_with self.now.state node app }
     {
-        match self.standing(app) {
+        match self.standing_of(app) {
             Standing::Lost(from) => other_node(node, from),
             Standing::Wanted(Some(from)) => other_node(node, from),
             _ => None,

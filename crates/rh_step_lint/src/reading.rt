@@ -111,7 +111,7 @@ impl<'a> Step<'a> {
 
     /// Where an application stands.
     #[tactic(auto, using(crate::proofs::Beyond::is_below, crate::proofs::Beyond::standing_beyond))]
-    pub(crate) fn standing(&self, app: App) -> Standing
+    pub(crate) fn standing_of(&self, app: App) -> Standing
         ensures { result ≡ standing_of self.now.state app }
     {
         self.state.formed();
@@ -126,7 +126,7 @@ impl<'a> Step<'a> {
     pub(crate) fn is_quiet(&self, app: App) -> bool
         ensures { result ≡ is_quiet (standing_of self.now.state app) }
     {
-        self.standing(app) == Standing::Quiet
+        self.standing_of(app) == Standing::Quiet
     }
 
     /// Isn't it distributed?

@@ -174,7 +174,7 @@ impl<'a> Step<'a> {
 
     /// All that the step touches, in the order of the cluster file, node by node.
     #[tactic(auto, unfolding(rh_step_findings::specs::Touched::all_touched))]
-    pub(crate) fn touched(&self, alloc: Global) -> Result<Vec<Touch>, OutOfMemory>
+    pub(crate) fn touched_pairs(&self, alloc: Global) -> Result<Vec<Touch>, OutOfMemory>
         ensures { IfOk result (λ touched. touched.items ≡ all_touched self.now.state self.now.event) }
     {
         let mut touched = Vec::new(alloc);

@@ -15,7 +15,7 @@ impl<'a> Step<'a> {
     pub(crate) fn runner(&self, app: App) -> Option<Node>
         ensures { result ≡ runner self.now.state self.now.event app }
     {
-        match self.standing(app) {
+        match self.standing_of(app) {
             Standing::Running(node) if !self.ends(node) => Some(node),
             _ => None,
         }
@@ -41,7 +41,7 @@ impl<'a> Step<'a> {
         if !self.knows_app(app) {
             return false;
         }
-        match self.standing(app) {
+        match self.standing_of(app) {
             Standing::Running(node) => self.ends(node) && self.timeout(app) == 0,
             Standing::Lost(_) => self.times_out(app),
             Standing::Quiet | Standing::Wanted(_) => false,

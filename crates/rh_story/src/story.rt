@@ -10,7 +10,7 @@ ghost use Rattle.rh_story.specs.StoryText.{head_if, lines_text, story_text, Owes
 
 use crate::head::{head_text, script_of};
 use crate::lines::tell_line;
-use crate::table::{lack_behind, shown, table_text};
+use crate::table::{lack_behind, table_text, text_to_show};
 use rh_base::OutOfMemory;
 use rh_cluster::{Cluster, read_cluster};
 use rh_devices::{Sink, Source, Watched, WriteFault, read_input, write_text};
@@ -157,7 +157,7 @@ fn tell_lines<K: Sink>(
     'lines: while !rest.is_empty() {
         let (line, after) = split_line(rest);
         let is_bad = tell_line(alloc, &mut room, sim, number, line)?;
-        let text = shown(line, after, room.as_slice());
+        let text = text_to_show(line, after, room.as_slice());
         write_text(writer, text)?;
         if is_bad {
             write_text(writer, after)?;

@@ -104,7 +104,7 @@ fn is_left_out(line: &[u8], after: &[u8]) -> bool
 }
 
 /// The text of a line, by the line and the text behind it: nothing where the line is left out.
-pub fn shown<'a>(line: &[u8], after: &[u8], text: &'a [u8]) -> &'a [u8]
+pub fn text_to_show<'a>(line: &[u8], after: &[u8], text: &'a [u8]) -> &'a [u8]
     ensures { result.now ≡ shown line.now (raw_lines after.now) text.now }
 {
     if is_left_out(line, after) {

@@ -82,11 +82,11 @@ fn push_firing(
     requires { IsValid (read state.now) }
     ensures { OnOk result (text.new.items ≡ text.old.items ++ firing_lines (read state.now) fired.now) }
 {
-    if fired.told().is_empty() {
+    if fired.notices().is_empty() {
         return Ok(());
     }
     push_time(alloc, text, fired.due())?;
-    push_notices(alloc, text, state, fired.told())
+    push_notices(alloc, text, state, fired.notices())
 }
 
 /// Adds what is told of an accepted tick in which these timers fired, which led to this state.

@@ -10,7 +10,7 @@ mod inside;
 
 use crate::standing::standings_in;
 use crate::steps::Steps;
-use crate::trial::tried;
+use crate::trial::try_events;
 pub use alone::sweep_alone;
 pub(crate) use inside::Inside;
 use rh_base::OutOfMemory;
@@ -65,7 +65,7 @@ impl Branch {
         // The base's words are those of its state.
         base.is_chained();
         let mut notices = mem::replace(&mut self.notices, Vec::new(alloc));
-        let tried = tried(alloc, self, plan.events.as_slice(), &mut notices);
+        let tried = try_events(alloc, self, plan.events.as_slice(), &mut notices);
         self.notices = notices;
         let outcome = tried?;
         self.go_back(alloc, base)?;

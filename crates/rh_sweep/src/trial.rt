@@ -39,14 +39,14 @@ pub fn try_plan(alloc: Global, sim: &mut Sim, plan: &Plan) -> Result<Outcome, Ou
     sim.is_chained();
     let start = sim.cursor();
     let mut notices = Vec::new(alloc);
-    let outcome = tried(alloc, sim, plan.events.as_slice(), &mut notices);
+    let outcome = try_events(alloc, sim, plan.events.as_slice(), &mut notices);
     go_back(sim, start);
     sim.cut_redo();
     outcome
 }
 
 /// The outcome of these events, with the simulation or the branch where they lead. The list is for the notices of each event.
-pub(crate) fn tried<S: Steps>(
+pub(crate) fn try_events<S: Steps>(
     alloc: Global,
     steps: &mut S,
     events: &[Event],

@@ -131,7 +131,7 @@ fn work<R: Wait, G: Gate>(
     let mut number = first;
     'plans: while number < plans.len() {
         let tried = try_inside(rt, alloc, base, plans, number, gate, &mut branch);
-        let outcome = tried?.sharing(outcomes.last())?;
+        let outcome = tried?.share_standings(outcomes.last())?;
         outcomes.push(outcome)?;
         number += workers;
     }

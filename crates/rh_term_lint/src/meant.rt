@@ -66,7 +66,7 @@ fn meant(alloc: Global, names: &[ReadName], word: &str) -> Result<Option<ReadNam
 }
 
 /// What a name was meant to be, behind the name as it is written.
-pub fn mistaken(
+pub fn mistaken_name(
     alloc: Global,
     names: &[ReadName],
     word: &Str,

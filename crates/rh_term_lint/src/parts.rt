@@ -8,7 +8,7 @@ ghost use Rattle.rh_cluster.specs.Shapes.{as_entry};
 ghost use Rattle.rh_term_lint.specs.Findings.{of_parameter, of_section, of_key};
 
 use crate::finding::{ReadName, TermFinding};
-use crate::meant::mistaken;
+use crate::meant::mistaken_name;
 use crate::shapes;
 use rh_base::{OutOfMemory, Term};
 use std::alloc::Global;
@@ -56,7 +56,7 @@ fn push_section(
     let Some((name, value)) = shapes::entry(section) else {
         return Ok(());
     };
-    if let Some((written, meant)) = mistaken(alloc, &SECTIONS, name)? {
+    if let Some((written, meant)) = mistaken_name(alloc, &SECTIONS, name)? {
         found.push(TermFinding::NearSection {
             term: place,
             written,
@@ -97,7 +97,7 @@ fn push_parameter(
     let Some((name, value)) = shapes::entry(parameter) else {
         return Ok(());
     };
-    if let Some((written, meant)) = mistaken(alloc, &PARAMETERS, name)? {
+    if let Some((written, meant)) = mistaken_name(alloc, &PARAMETERS, name)? {
         found.push(TermFinding::NearParameter {
             term: place,
             written,
@@ -138,7 +138,7 @@ fn push_key(
     let Some((name, _)) = shapes::entry(key) else {
         return Ok(());
     };
-    if let Some((written, meant)) = mistaken(alloc, &KEYS, name)? {
+    if let Some((written, meant)) = mistaken_name(alloc, &KEYS, name)? {
         found.push(TermFinding::NearKey {
             term: place,
             written,

@@ -87,7 +87,7 @@ pub fn entry(term: &Term) -> Option<(&Str, &Term)>
 
 // The name and the last part of `{Word, Name, Part}`.
 #[tactic(auto, unfolding(rh_cluster::specs::Shapes::as_headed))]
-fn headed<'a>(word: &str, term: &'a Term) -> Option<(&'a Str, &'a Term)>
+fn headed_by<'a>(word: &str, term: &'a Term) -> Option<(&'a Str, &'a Term)>
     ensures { option_map (λ parts. (parts.0.now, tree_of parts.1.now)) result ≡ as_headed word.now (tree_of term.now) }
 {
     let (first, name, part) = triple(term)?;
@@ -103,14 +103,14 @@ fn headed<'a>(word: &str, term: &'a Term) -> Option<(&'a Str, &'a Term)>
 pub fn node(term: &Term) -> Option<(&Str, &Term)>
     ensures { option_map (λ parts. (parts.0.now, tree_of parts.1.now)) result ≡ as_node (tree_of term.now) }
 {
-    headed("node", term)
+    headed_by("node", term)
 }
 
 /// The name and the keys of an application term.
 pub fn app(term: &Term) -> Option<(&Str, &Term)>
     ensures { option_map (λ parts. (parts.0.now, tree_of parts.1.now)) result ≡ as_app (tree_of term.now) }
 {
-    headed("application", term)
+    headed_by("application", term)
 }
 
 /// Is it the atom `undefined`?

@@ -17,7 +17,7 @@ use rh_base::{Str, Term, text_of_bytes, text_of_vec};
 use std::alloc::Global;
 
 // What a `\` and this byte stand for, where they are an escape that is read.
-fn escaped(b: u8) -> Option<u8>
+fn escaped_byte(b: u8) -> Option<u8>
     ensures { result ≡ escape b }
 {
     match b {
@@ -44,7 +44,7 @@ fn quoted_of(alloc: Global, quote: u8, bytes: &[u8]) -> Result<(Vec<u8>, &[u8]),
         if *b == b'\\' {
             match after {
                 [] => return Err(ReadError::Fault(Fault::Syntax(0))),
-                [c, behind @ ..] => match escaped(*c) {
+                [c, behind @ ..] => match escaped_byte(*c) {
                     None => return Err(ReadError::Fault(Fault::Unsupported(rest.len()))),
                     Some(x) => {
                         content.push(x)?;
@@ -286,7 +286,7 @@ fn behind_quoted(quote: u8, bytes: &[u8]) -> Result<&[u8], ReadError>
         if *b == b'\\' {
             match after {
                 [] => return Err(ReadError::Fault(Fault::Syntax(0))),
-                [c, others @ ..] => match escaped(*c) {
+                [c, others @ ..] => match escaped_byte(*c) {
                     None => return Err(ReadError::Fault(Fault::Unsupported(rest.len()))),
                     Some(_) => rest = others,
                 },

@@ -1,6 +1,6 @@
 //! Steps that start and stop an application at all its nodes: what they tell, what the state says then, why they are refused, undo.
 
-use crate::support::{copied, make_all, sim_on};
+use crate::support::{copy_of_state, make_all, sim_on};
 use rh_cluster::{App, Dep, Node, Restart};
 use rh_samples::THREE_NODES;
 use rh_state::{Kind, Place, Standing, State, Timer};
@@ -31,7 +31,7 @@ fn stop_all(app: u8) -> Event {
 }
 
 // The service starts at a node, in this way.
-fn started(node: u8, kind: Kind, lost: Option<Node>) -> Notice {
+fn notice_of_start(node: u8, kind: Kind, lost: Option<Node>) -> Notice {
     Notice::Started {
         app: App(0),
         node: Node(node),
@@ -40,14 +40,14 @@ fn started(node: u8, kind: Kind, lost: Option<Node>) -> Notice {
     }
 }
 
-fn waits(node: u8) -> Notice {
+fn notice_of_wait(node: u8) -> Notice {
     Notice::Waits {
         app: App(0),
         node: Node(node),
     }
 }
 
-fn stopped(node: u8) -> Notice {
+fn notice_of_stop(node: u8) -> Notice {
     Notice::Stopped {
         app: App(0),
         node: Node(node),
@@ -100,7 +100,11 @@ fn is_quiet(rt: &impl Abort, state: &State) {
 fn an_application_starts_and_stops_at_all_its_nodes(rt: HostRuntime) {
     let mut sim = sim_on(&rt, rt.alloc(), THREE_NODES);
     make_all(&rt, rt.alloc(), &mut sim, BOOTS.as_slice());
-    let told = [started(0, Kind::Normal, None), waits(1), waits(2)];
+    let told = [
+        notice_of_start(0, Kind::Normal, None),
+        notice_of_wait(1),
+        notice_of_wait(2),
+    ];
     assert!(rt; tells(&rt, rt.alloc(), &mut sim, start_all(0), told.as_slice()));
     runs_at_the_first(&rt, sim.state());
     make_all(&rt, rt.alloc(), &mut sim, FIRST_ENDS.as_slice());
@@ -111,7 +115,7 @@ fn an_application_starts_and_stops_at_all_its_nodes(rt: HostRuntime) {
 
 // The node where the service was lost is up again: it is started there too, and there it runs. That is taken back, and made again.
 fn comes_back(rt: &impl Abort, alloc: Global, sim: &mut Sim) {
-    let told = [started(0, Kind::Normal, None)];
+    let told = [notice_of_start(0, Kind::Normal, None)];
     assert!(rt; tells(rt, alloc, sim, start_all(0), told.as_slice()));
     assert!(rt; sim.trail().len() == 7);
     let count = sim.record(6).len();
@@ -128,7 +132,7 @@ fn a_lost_application_comes_back_and_undo_takes_that_back(rt: HostRuntime) {
         Event::Boot { node: Node(0) },
     ];
     make_all(&rt, rt.alloc(), &mut sim, events.as_slice());
-    let before = copied(&rt, rt.alloc(), &sim);
+    let before = copy_of_state(&rt, rt.alloc(), &sim);
     comes_back(&rt, rt.alloc(), &mut sim);
     is_lost(&rt, sim.state());
     assert!(rt; sim.state().same_words(&before));
@@ -158,7 +162,7 @@ fn refused_where_nodes_are_up(rt: &impl Abort, alloc: Global, sim: &mut Sim) {
     );
     make_all(rt, alloc, sim, [start_all(0)].as_slice());
     is_refused(rt, alloc, sim, start_all(0), Refusal::AlreadyStarted);
-    assert!(rt; tells(rt, alloc, sim, stop_all(0), [stopped(0)].as_slice()));
+    assert!(rt; tells(rt, alloc, sim, stop_all(0), [notice_of_stop(0)].as_slice()));
     is_refused(rt, alloc, sim, stop_all(0), Refusal::NeverStarted);
 }
 

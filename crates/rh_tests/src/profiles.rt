@@ -67,7 +67,7 @@ fn permission(allow: bool) -> Event {
 }
 
 // Both nodes are up, and the service, which may not run at the first, runs at the second.
-fn away(rt: &impl Abort, alloc: Global, text: &str) -> Sim {
+fn sim_away(rt: &impl Abort, alloc: Global, text: &str) -> Sim {
     let mut sim = sim_on(rt, alloc, text);
     let boots = [Event::Boot { node: Node(0) }, Event::Boot { node: Node(1) }];
     make_all(rt, alloc, &mut sim, boots.as_slice());
@@ -84,7 +84,7 @@ fn away(rt: &impl Abort, alloc: Global, text: &str) -> Sim {
 }
 
 // It moves to the first node.
-fn pulled_back() -> [Notice; 2] {
+fn notices_of_return() -> [Notice; 2] {
     let app = App(0);
     let kind = Kind::Takeover(Node(1));
     [
@@ -107,10 +107,10 @@ fn tells(rt: &impl Abort, alloc: Global, sim: &mut Sim, wanted: &[Notice]) -> bo
 
 #[test]
 fn a_permission_that_is_given_back(rt: HostRuntime) {
-    let mut first = away(&rt, rt.alloc(), FIRST);
+    let mut first = sim_away(&rt, rt.alloc(), FIRST);
     assert!(rt; tells(&rt, rt.alloc(), &mut first, &[]));
-    let mut second = away(&rt, rt.alloc(), SECOND);
-    assert!(rt; tells(&rt, rt.alloc(), &mut second, pulled_back().as_slice()));
+    let mut second = sim_away(&rt, rt.alloc(), SECOND);
+    assert!(rt; tells(&rt, rt.alloc(), &mut second, notices_of_return().as_slice()));
     assert!(rt; second.undo_all() == 6 && second.redo_all() == 6);
 }
 
@@ -132,7 +132,7 @@ fn write_apps(text: &mut String) -> Result<(), AllocError> {
 }
 
 // The greatest cluster. Its last node alone may run the last application.
-fn greatest(rt: &impl Abort, alloc: Global) -> String {
+fn greatest_text(rt: &impl Abort, alloc: Global) -> String {
     let mut text = String::new(alloc);
     assert!(rt; write_nodes(&mut text).is_ok());
     let last = "{node, n63, [{kernel, [{distributed, [{a127, [n63]}]}]}]}.\n";
@@ -171,7 +171,7 @@ fn knows_no_more(rt: &impl Abort, alloc: Global, sim: &mut Sim) {
 
 #[test]
 fn the_last_node_and_the_last_application(rt: HostRuntime) {
-    let text = greatest(&rt, rt.alloc());
+    let text = greatest_text(&rt, rt.alloc());
     let mut sim = sim_on(&rt, rt.alloc(), text.as_str());
     has_the_last(&rt, sim.cluster());
     let restart = Restart::Permanent;

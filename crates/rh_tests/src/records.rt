@@ -1,7 +1,7 @@
 //! What is kept of each step: how many edits undo and redo answer, none where a step sets what is so already, and the words of
 //! the first state.
 
-use crate::support::{copied, make_all, sim_on};
+use crate::support::{copy_of_state, make_all, sim_on};
 use rh_cluster::{App, Node, Restart};
 use rh_samples::ONE_NODE;
 use rh_state::State;
@@ -59,7 +59,7 @@ fn goes_to_the_start(rt: &impl Abort, sim: &mut Sim, first: &State) {
 #[test]
 fn undo_and_redo_answer_the_number_of_edits(rt: HostRuntime) {
     let mut sim = sim_on(&rt, rt.alloc(), ONE_NODE);
-    let first = copied(&rt, rt.alloc(), &sim);
+    let first = copy_of_state(&rt, rt.alloc(), &sim);
     make_all(&rt, rt.alloc(), &mut sim, STEPS.as_slice());
     goes_back_and_forth(&rt, &mut sim);
     goes_to_the_start(&rt, &mut sim, &first);

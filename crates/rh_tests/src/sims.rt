@@ -71,15 +71,15 @@ fn a_step_answers_in_equal_replies(rt: HostRuntime) {
 }
 
 // What a look at the simulation shows.
-fn seen(rt: &impl Abort, alloc: Global, sim: &Sim) -> Reply {
+fn reply_to_look(rt: &impl Abort, alloc: Global, sim: &Sim) -> Reply {
     sim.look(alloc).ok().expect(rt, "memory")
 }
 
 // Do looks at the two show the same?
 fn look_same(rt: &impl Abort, alloc: Global, one: &Sim, other: &Sim) -> bool {
-    let shown = seen(rt, alloc, one);
+    let shown = reply_to_look(rt, alloc, one);
     let copy = shown.share().ok().expect(rt, "few who share it");
-    copy.same(&seen(rt, alloc, other))
+    copy.same(&reply_to_look(rt, alloc, other))
 }
 
 fn is_copied(rt: &impl Abort, alloc: Global, sim: &Sim) {

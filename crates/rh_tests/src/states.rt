@@ -34,7 +34,7 @@ fn has_timer(rt: &impl Abort, alloc: Global, state: &State) {
 }
 
 // The first state of a cluster, which drops the cluster that was read.
-fn begun(rt: &impl Abort, alloc: Global, text: &str) -> State {
+fn first_state_of(rt: &impl Abort, alloc: Global, text: &str) -> State {
     let cluster = cluster_of(rt, alloc, text);
     first_state(alloc, &cluster).ok().expect(rt, "memory")
 }
@@ -47,7 +47,7 @@ fn is_copied(rt: &impl Abort, alloc: Global, state: &State) {
 
 #[test]
 fn a_state_its_copy_and_its_timers(rt: HostRuntime) {
-    let mut state = begun(&rt, rt.alloc(), TWO_NODES);
+    let mut state = first_state_of(&rt, rt.alloc(), TWO_NODES);
     has_permissions(&rt, &state);
     arm(&rt, &mut state);
     is_copied(&rt, rt.alloc(), &state);
@@ -65,7 +65,7 @@ fn reports_in_copy(rt: &impl Abort, alloc: Global, state: &State) {
 
 #[test]
 fn the_first_state_and_its_copy_report_the_same(rt: HostRuntime) {
-    let state = begun(&rt, rt.alloc(), ONE_NODE);
+    let state = first_state_of(&rt, rt.alloc(), ONE_NODE);
     is_reported(&rt, rt.alloc(), &state);
     reports_in_copy(&rt, rt.alloc(), &state);
     assert!(rt; state.earliest().is_none());
@@ -105,7 +105,7 @@ fn a_timer_is_taken_back(rt: &impl Abort, state: &mut State) {
 
 #[test]
 fn what_setters_changed_is_taken_back(rt: HostRuntime) {
-    let mut state = begun(&rt, rt.alloc(), TWO_NODES);
+    let mut state = first_state_of(&rt, rt.alloc(), TWO_NODES);
     let before = state.copy(rt.alloc()).ok().expect(&rt, "memory");
     a_mode_is_taken_back(&rt, &mut state);
     a_start_is_taken_back(&rt, &mut state);

@@ -14,7 +14,7 @@ use std::process::Abort;
 static ONE: Node = Node(0);
 
 // The first state of a cluster.
-fn first(rt: &impl Abort, alloc: Global, cluster: &Cluster) -> State
+fn first_state_of(rt: &impl Abort, alloc: Global, cluster: &Cluster) -> State
     ensures { IsValid (read result) }
 {
     cluster.is_within();
@@ -26,11 +26,11 @@ fn first(rt: &impl Abort, alloc: Global, cluster: &Cluster) -> State
 }
 
 // That of a node that boots three applications.
-fn begun(rt: &impl Abort, alloc: Global) -> State
+fn first_state_of_one_node(rt: &impl Abort, alloc: Global) -> State
     ensures { IsValid (read result) }
 {
     let cluster = cluster_of(rt, alloc, ONE_NODE);
-    first(rt, alloc, &cluster)
+    first_state_of(rt, alloc, &cluster)
 }
 
 // Makes an event that isn't refused.
@@ -45,7 +45,7 @@ fn make(rt: &impl Abort, alloc: Global, state: &mut State, event: &Event, told: 
 }
 
 // An application starts at the node.
-fn started(app: u8) -> Notice {
+fn notice_of_start(app: u8) -> Notice {
     Notice::Started {
         app: App(app),
         node: ONE,
@@ -60,7 +60,13 @@ fn are_told(rt: &impl Abort, told: &[Notice]) {
         node: ONE,
     };
     let up = Notice::Up { node: ONE };
-    let wanted = [up, started(0), started(1), started(2), stopped];
+    let wanted = [
+        up,
+        notice_of_start(0),
+        notice_of_start(1),
+        notice_of_start(2),
+        stopped,
+    ];
     assert!(rt; told == wanted.as_slice());
 }
 
@@ -76,7 +82,7 @@ fn runs_the_others(rt: &impl Abort, state: &State) {
 
 #[test]
 fn a_state_steps_by_itself(rt: HostRuntime) {
-    let mut state = begun(&rt, rt.alloc());
+    let mut state = first_state_of_one_node(&rt, rt.alloc());
     let mut told = Vec::new(rt.alloc());
     assert!(rt; refusal_of(&state, &Event::Tick { ms: 0 }) == Some(Refusal::ZeroTick));
     make(

@@ -29,6 +29,6 @@ pub fn make_all(rt: &impl Abort, alloc: Global, sim: &mut Sim, events: &[Event])
 }
 
 /// A copy of the state that a simulation has.
-pub fn copied(rt: &impl Abort, alloc: Global, sim: &Sim) -> State {
+pub fn copy_of_state(rt: &impl Abort, alloc: Global, sim: &Sim) -> State {
     sim.state().copy(alloc).ok().expect(rt, "memory")
 }

@@ -1,7 +1,7 @@
 //! Sweeps: two workers that are at work at once, outcomes for any number of workers, faults, and a simulation that a plan
 //! leaves as it was.
 
-use crate::support::{copied, make_all, sim_on};
+use crate::support::{copy_of_state, make_all, sim_on};
 use rh_base::Str;
 use rh_calls::Reply;
 use rh_cluster::{App, Node, Restart};
@@ -105,7 +105,7 @@ fn tell_outcome(text: &mut String, outcome: &Outcome) -> Result<(), AllocError> 
 }
 
 // The outcomes as text.
-fn told(rt: &impl Abort, alloc: Global, outcomes: &[Outcome]) -> String {
+fn text_of(rt: &impl Abort, alloc: Global, outcomes: &[Outcome]) -> String {
     let mut text = String::new(alloc);
     for outcome in outcomes {
         assert!(rt; tell_outcome(&mut text, outcome).is_ok());
@@ -114,7 +114,7 @@ fn told(rt: &impl Abort, alloc: Global, outcomes: &[Outcome]) -> String {
 }
 
 // A simulation in which the application runs.
-fn booted(rt: &impl Abort, alloc: Global) -> Sim {
+fn sim_at_work(rt: &impl Abort, alloc: Global) -> Sim {
     let mut base = sim_on(rt, alloc, CAVE);
     make_all(rt, alloc, &mut base, BOOTS.as_slice());
     base
@@ -170,7 +170,7 @@ fn meet<R: Threads + Wait + Abort + Sync>(rt: &R, alloc: Global, base: &Sim, pla
         .ok()
         .expect(rt, "outcomes");
     assert!(rt; gate.missed.load(Ordering::SeqCst) == 0);
-    let text = told(rt, alloc, outcomes.as_slice());
+    let text = text_of(rt, alloc, outcomes.as_slice());
     assert_eq!(rt; text.as_str(), TOLD);
 }
 
@@ -183,20 +183,20 @@ fn miss<R: Threads + Wait + Abort + Sync>(rt: &R, alloc: Global, base: &Sim, pla
 
 #[test]
 fn two_workers_are_at_work_at_once(rt: HostRuntime) {
-    let base = booted(&rt, rt.alloc());
+    let base = sim_at_work(&rt, rt.alloc());
     let plans = plans(&rt, rt.alloc());
     meet(&rt, rt.alloc(), &base, plans.as_slice());
 }
 
 #[test]
 fn one_worker_meets_nobody(rt: HostRuntime) {
-    let base = booted(&rt, rt.alloc());
+    let base = sim_at_work(&rt, rt.alloc());
     let plans = plans(&rt, rt.alloc());
     miss(&rt, rt.alloc(), &base, plans.as_slice());
 }
 
 // What so many workers give.
-fn given<R: Threads + Wait + Sync>(
+fn outcomes_by<R: Threads + Wait + Sync>(
     rt: &R,
     alloc: Global,
     base: &Sim,
@@ -213,17 +213,17 @@ fn give_the_same<R: Threads + Wait + Abort + Sync>(
     plans: &[Plan],
 ) {
     for workers in [1, 2, 4, 16] {
-        let outcomes = given(rt, alloc, base, plans, workers)
+        let outcomes = outcomes_by(rt, alloc, base, plans, workers)
             .ok()
             .expect(rt, "outcomes");
-        let text = told(rt, alloc, outcomes.as_slice());
+        let text = text_of(rt, alloc, outcomes.as_slice());
         assert_eq!(rt; text.as_str(), TOLD);
     }
 }
 
 #[test]
 fn the_number_of_workers_has_no_effect(rt: HostRuntime) {
-    let base = booted(&rt, rt.alloc());
+    let base = sim_at_work(&rt, rt.alloc());
     let plans = plans(&rt, rt.alloc());
     give_the_same(&rt, rt.alloc(), &base, plans.as_slice());
 }
@@ -237,7 +237,7 @@ fn is_refused<R: Threads + Wait + Abort + Sync>(
     workers: usize,
     want: &str,
 ) {
-    let fault = given(rt, alloc, base, plans, workers)
+    let fault = outcomes_by(rt, alloc, base, plans, workers)
         .err()
         .expect(rt, "a fault");
     let text = format!(in alloc; "{fault}").ok().expect(rt, "memory");
@@ -249,18 +249,18 @@ fn a_sweep_has_1_to_16_workers(rt: HostRuntime) {
     let base = sim_on(&rt, rt.alloc(), ONE_NODE);
     is_refused(&rt, rt.alloc(), &base, &[], 0, "V1 worker_count");
     is_refused(&rt, rt.alloc(), &base, &[], 17, "V1 worker_count");
-    assert!(rt; given(&rt, rt.alloc(), &base, &[], 16).is_ok());
+    assert!(rt; outcomes_by(&rt, rt.alloc(), &base, &[], 16).is_ok());
 }
 
 #[test]
 fn the_base_has_a_step_to_make_again(rt: HostRuntime) {
-    let mut base = booted(&rt, rt.alloc());
+    let mut base = sim_at_work(&rt, rt.alloc());
     assert!(rt; base.undo().is_ok());
     is_refused(&rt, rt.alloc(), &base, &[], 1, "V2 base_not_at_end");
 }
 
 // A simulation with a full trail.
-fn filled(rt: &impl Abort, alloc: Global) -> Sim {
+fn sim_with_full_trail(rt: &impl Abort, alloc: Global) -> Sim {
     let mut base = sim_on(rt, alloc, ONE_NODE);
     for _ in 0..Sim::TRAIL_LIMIT {
         make_all(rt, alloc, &mut base, TICK.as_slice());
@@ -270,7 +270,7 @@ fn filled(rt: &impl Abort, alloc: Global) -> Sim {
 
 #[test]
 fn the_base_has_no_room(rt: HostRuntime) {
-    let base = filled(&rt, rt.alloc());
+    let base = sim_with_full_trail(&rt, rt.alloc());
     let plans = plans_of(rt.alloc(), &[TICK.as_slice()])
         .ok()
         .expect(&rt, "memory");
@@ -278,12 +278,12 @@ fn the_base_has_no_room(rt: HostRuntime) {
 }
 
 // What a look at the simulation shows.
-fn seen(rt: &impl Abort, alloc: Global, sim: &Sim) -> Reply {
+fn reply_to_look(rt: &impl Abort, alloc: Global, sim: &Sim) -> Reply {
     sim.look(alloc).ok().expect(rt, "memory")
 }
 
 // Tries a plan.
-fn tried(rt: &impl Abort, alloc: Global, sim: &mut Sim, plan: &Plan) -> Outcome {
+fn outcome_of(rt: &impl Abort, alloc: Global, sim: &mut Sim, plan: &Plan) -> Outcome {
     assert!(rt; sim.cursor() == sim.trail().len());
     assert!(rt; plan.events.len() <= Sim::TRAIL_LIMIT - sim.trail().len());
     try_plan(alloc, sim, plan).ok().expect(rt, "an outcome")
@@ -291,13 +291,13 @@ fn tried(rt: &impl Abort, alloc: Global, sim: &mut Sim, plan: &Plan) -> Outcome 
 
 // Has each of these plans its outcome, and leaves it as it was?
 fn stays(rt: &impl Abort, alloc: Global, sim: &mut Sim, plans: &[Plan]) {
-    let before = seen(rt, alloc, sim);
-    let words = copied(rt, alloc, sim);
+    let before = reply_to_look(rt, alloc, sim);
+    let words = copy_of_state(rt, alloc, sim);
     let mut text = String::new(alloc);
     for plan in plans {
-        let outcome = tried(rt, alloc, sim, plan);
+        let outcome = outcome_of(rt, alloc, sim, plan);
         assert!(rt; tell_outcome(&mut text, &outcome).is_ok());
-        assert!(rt; before.same(&seen(rt, alloc, sim)));
+        assert!(rt; before.same(&reply_to_look(rt, alloc, sim)));
         assert!(rt; sim.state().same_words(&words));
     }
     assert_eq!(rt; text.as_str(), TOLD);
@@ -311,7 +311,7 @@ fn edits_of_last(rt: &impl Abort, sim: &Sim) -> usize {
 
 #[test]
 fn a_plan_leaves_the_simulation_as_it_was(rt: HostRuntime) {
-    let mut sim = booted(&rt, rt.alloc());
+    let mut sim = sim_at_work(&rt, rt.alloc());
     let plans = plans(&rt, rt.alloc());
     let edits = edits_of_last(&rt, &sim);
     stays(&rt, rt.alloc(), &mut sim, plans.as_slice());
@@ -346,7 +346,7 @@ fn long_plans(alloc: Global) -> Result<Vec<Plan>, AllocError> {
 
 // Has the takeover so many edits that 32,000 of them are more than 65,536?
 fn is_long(rt: &impl Abort, alloc: Global) {
-    let mut sim = booted(rt, alloc);
+    let mut sim = sim_at_work(rt, alloc);
     make_all(rt, alloc, &mut sim, HAND.as_slice());
     assert!(rt; sim.trail().len() == 4);
     assert!(rt; sim.record(3).len() >= 3);
@@ -361,18 +361,20 @@ fn keep_the_outcomes<R: Threads + Wait + Abort + Sync>(
 ) {
     let mut text = String::new(alloc);
     for plan in plans {
-        let outcome = tried(rt, alloc, sim, plan);
+        let outcome = outcome_of(rt, alloc, sim, plan);
         assert!(rt; tell_outcome(&mut text, &outcome).is_ok());
     }
-    let outcomes = given(rt, alloc, sim, plans, 1).ok().expect(rt, "outcomes");
-    let swept = told(rt, alloc, outcomes.as_slice());
+    let outcomes = outcomes_by(rt, alloc, sim, plans, 1)
+        .ok()
+        .expect(rt, "outcomes");
+    let swept = text_of(rt, alloc, outcomes.as_slice());
     assert_eq!(rt; swept.as_str(), text.as_str());
 }
 
 #[test]
 fn a_plan_of_more_edits_than_are_kept_is_taken_back(rt: HostRuntime) {
     is_long(&rt, rt.alloc());
-    let mut sim = booted(&rt, rt.alloc());
+    let mut sim = sim_at_work(&rt, rt.alloc());
     let plans = long_plans(rt.alloc()).ok().expect(&rt, "memory");
     keep_the_outcomes(&rt, rt.alloc(), &mut sim, plans.as_slice());
 }

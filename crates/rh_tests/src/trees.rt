@@ -171,7 +171,7 @@ fn shared_terms_are_compared_as_others(rt: HostRuntime) {
 }
 
 // A term of this name, made by hand.
-fn named(rt: &impl Abort, alloc: Global, name: &str) -> Term {
+fn term_named(rt: &impl Abort, alloc: Global, name: &str) -> Term {
     let text = Str::of(String::from_str(alloc, name).ok().expect(rt, "memory"));
     let copy = text.copy(alloc).ok().expect(rt, "memory");
     assert!(rt; text.same(&copy));
@@ -188,7 +188,7 @@ fn is_shown(rt: &impl Abort, alloc: Global, terms: &Terms) {
 #[test]
 fn made_by_hand(rt: HostRuntime) {
     let mut items = Vec::new(rt.alloc());
-    assert!(rt; items.push(named(&rt, rt.alloc(), "svc")).is_ok());
+    assert!(rt; items.push(term_named(&rt, rt.alloc(), "svc")).is_ok());
     let terms = Terms::of(items);
     is_shown(&rt, rt.alloc(), &terms);
 }

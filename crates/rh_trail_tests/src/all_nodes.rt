@@ -1,6 +1,6 @@
 //! Sessions that start and stop an application at all its nodes.
 
-use crate::told::{Open, closed, opened, tell_calls};
+use crate::told::{Open, open_for, tell_calls, tell_how_it_closes};
 use rh_calls::Call;
 use rh_cluster::{App, Node, Restart};
 use rh_samples::THREE_NODES;
@@ -48,8 +48,8 @@ fn called_in_turn(rt: &impl Abort, alloc: Global, open: &mut Open) {
 
 #[test]
 fn sessions_start_and_stop_at_all_nodes(rt: HostRuntime) {
-    let mut open = opened(&rt, rt.alloc(), THREE_NODES, 2);
+    let mut open = open_for(&rt, rt.alloc(), THREE_NODES, 2);
     called_in_turn(&rt, rt.alloc(), &mut open);
-    let text = closed(&rt, rt.alloc(), open, THREE_NODES, Pick::First);
+    let text = tell_how_it_closes(&rt, rt.alloc(), open, THREE_NODES, Pick::First);
     assert_eq!(rt; text.as_str(), LOG);
 }

@@ -49,7 +49,7 @@ fn sim_behind(rt: &impl Abort, alloc: Global, text: &str, first: &[Event]) -> Si
 }
 
 // What is found on the cluster that a text describes, from the state behind the first events.
-fn explored(
+fn answers_on(
     rt: &impl Abort,
     alloc: Global,
     text: &str,
@@ -72,8 +72,8 @@ fn explored(
 }
 
 // The same on the cluster of three nodes that wait for one another, all of which are up.
-fn failures_explored(rt: &impl Abort, alloc: Global, bounds: &Bounds, asks: &[Ask]) -> Explored {
-    explored(
+fn answers_to_failures(rt: &impl Abort, alloc: Global, bounds: &Bounds, asks: &[Ask]) -> Explored {
+    answers_on(
         rt,
         alloc,
         CAVE,
@@ -119,13 +119,13 @@ fn ask_of(rt: &impl Abort, alloc: Global, always: bool, lists: &[&[Condition]]) 
 #[test]
 fn counts_are_those_of_another_search(rt: HostRuntime) {
     let no_asks = Vec::new(rt.alloc());
-    let eight = failures_explored(&rt, rt.alloc(), &up_to(8), no_asks.as_slice());
+    let eight = answers_to_failures(&rt, rt.alloc(), &up_to(8), no_asks.as_slice());
     assert!(rt; eight.states == 399);
     assert!(rt; eight.deepest == 8);
     assert!(rt; eight.covered == Covered::UpTo(8));
-    let ten = failures_explored(&rt, rt.alloc(), &up_to(10), no_asks.as_slice());
+    let ten = answers_to_failures(&rt, rt.alloc(), &up_to(10), no_asks.as_slice());
     assert!(rt; ten.states == 776);
-    let all = failures_explored(&rt, rt.alloc(), &up_to(100), no_asks.as_slice());
+    let all = answers_to_failures(&rt, rt.alloc(), &up_to(100), no_asks.as_slice());
     assert!(rt; all.states == 1_755);
     assert!(rt; all.covered == Covered::All);
 }
@@ -134,7 +134,7 @@ fn counts_are_those_of_another_search(rt: HostRuntime) {
 #[test]
 fn one_node_is_up_or_down(rt: HostRuntime) {
     let no_asks = Vec::new(rt.alloc());
-    let found = explored(
+    let found = answers_on(
         &rt,
         rt.alloc(),
         ONE_NODE,
@@ -158,7 +158,7 @@ fn few_nodes_may_be_down(rt: HostRuntime) {
         mebibytes: 1_024,
     };
     let no_asks = Vec::new(rt.alloc());
-    let found = failures_explored(&rt, rt.alloc(), &bounds, no_asks.as_slice());
+    let found = answers_to_failures(&rt, rt.alloc(), &bounds, no_asks.as_slice());
     assert!(rt; found.states == 1);
     assert!(rt; found.deepest == 0);
     assert!(rt; found.covered == Covered::All);
@@ -172,7 +172,7 @@ fn limit_of_time_ends_a_search(rt: HostRuntime) {
         ms: 1_000_000_000_000,
     })];
     let no_asks = Vec::new(rt.alloc());
-    let at_first = explored(
+    let at_first = answers_on(
         &rt,
         rt.alloc(),
         ONE_NODE,
@@ -182,7 +182,7 @@ fn limit_of_time_ends_a_search(rt: HostRuntime) {
         no_asks.as_slice(),
     );
     assert!(rt; at_first.covered == Covered::All);
-    let later = explored(
+    let later = answers_on(
         &rt,
         rt.alloc(),
         ONE_NODE,
@@ -203,7 +203,7 @@ fn nothing_may_happen(rt: HostRuntime) {
         true,
         [[Condition::IsNotUp(Node(0))].as_slice()].as_slice(),
     );
-    let found = explored(
+    let found = answers_on(
         &rt,
         rt.alloc(),
         ONE_NODE,
@@ -229,7 +229,7 @@ fn room_is_wanting(rt: HostRuntime) {
         mebibytes: 1_024,
     };
     let no_asks = Vec::new(rt.alloc());
-    let found = failures_explored(&rt, rt.alloc(), &bounds, no_asks.as_slice());
+    let found = answers_to_failures(&rt, rt.alloc(), &bounds, no_asks.as_slice());
     assert!(rt; found.states == 100);
     let whole = match found.covered {
         Covered::All => 9,
@@ -248,7 +248,7 @@ fn room_for_keys_is_wanting(rt: HostRuntime) {
         mebibytes: 0,
     };
     let no_asks = Vec::new(rt.alloc());
-    let found = failures_explored(&rt, rt.alloc(), &bounds, no_asks.as_slice());
+    let found = answers_to_failures(&rt, rt.alloc(), &bounds, no_asks.as_slice());
     assert!(rt; found.states == 1);
     assert!(rt; found.covered == Covered::UpTo(0));
 }
@@ -297,12 +297,12 @@ fn are_right(rt: &impl Abort, found: &Explored) {
 #[test]
 fn verdicts_are_told(rt: HostRuntime) {
     let asks = two_asks(&rt, rt.alloc());
-    let found = failures_explored(&rt, rt.alloc(), &up_to(8), asks.as_slice());
+    let found = answers_to_failures(&rt, rt.alloc(), &up_to(8), asks.as_slice());
     are_right(&rt, &found);
 }
 
 // What so many workers find of the three nodes, each in a thread of its own.
-fn found_by<R: Threads + Abort + Sync>(
+fn answers_by<R: Threads + Abort + Sync>(
     rt: &R,
     alloc: Global,
     workers: usize,
@@ -328,11 +328,11 @@ fn find_the_same<R: Threads + Abort + Sync>(rt: &R, alloc: Global) {
     let asks = two_asks(rt, alloc);
     let no_asks = Vec::new(alloc);
     for workers in [1, 2, 4, 16] {
-        let eight = found_by(rt, alloc, workers, &up_to(8), asks.as_slice());
+        let eight = answers_by(rt, alloc, workers, &up_to(8), asks.as_slice());
         assert!(rt; eight.states == 399);
         assert!(rt; eight.covered == Covered::UpTo(8));
         are_right(rt, &eight);
-        let all = found_by(rt, alloc, workers, &up_to(100), no_asks.as_slice());
+        let all = answers_by(rt, alloc, workers, &up_to(100), no_asks.as_slice());
         assert!(rt; all.states == 1_755);
         assert!(rt; all.covered == Covered::All);
     }
@@ -365,7 +365,7 @@ fn time_passes_to_the_next_timer(rt: HostRuntime) {
     let soon = runs_within(&rt, rt.alloc(), app, 5_000);
     let too_soon = runs_within(&rt, rt.alloc(), app, 4_999);
     let may = [Move::Make(Event::Crash { node: Node(0) }), Move::Wait];
-    let found = explored(
+    let found = answers_on(
         &rt,
         rt.alloc(),
         CAVE,
@@ -391,7 +391,7 @@ fn time_passes_to_the_next_timer(rt: HostRuntime) {
 fn waiting_ends_a_node(rt: HostRuntime) {
     let may = [Move::Make(Event::Boot { node: Node(0) }), Move::Wait];
     let no_asks = Vec::new(rt.alloc());
-    let found = explored(
+    let found = answers_on(
         &rt,
         rt.alloc(),
         CAVE,

@@ -1,6 +1,8 @@
 //! Passes that aren't the room's, that are one too many or come again, and a room that is handed back.
 
-use crate::told::{Open, closed, cluster_of, opened, tell_calls, tell_kept, tell_served};
+use crate::told::{
+    Open, cluster_of, open_for, tell_calls, tell_how_it_closes, tell_kept, tell_served,
+};
 use rh_calls::Call;
 use rh_cluster::Cluster;
 use rh_room::{CloseReason, close};
@@ -47,14 +49,14 @@ fn is_untouched(rt: &impl Abort, open: &Open, other: &Open) {
 
 // How the passes that are given close a room.
 fn closes_so(rt: &impl Abort, alloc: Global, open: Open, want: &str) {
-    let text = closed(rt, alloc, open, ONE_NODE, Pick::First);
+    let text = tell_how_it_closes(rt, alloc, open, ONE_NODE, Pick::First);
     assert_eq!(rt; text.as_str(), want);
 }
 
 #[test]
 fn a_room_of_two_has_no_third_session(rt: HostRuntime) {
-    let mut open = opened(&rt, rt.alloc(), ONE_NODE, 2);
-    let mut other = opened(&rt, rt.alloc(), ONE_NODE, 3);
+    let mut open = open_for(&rt, rt.alloc(), ONE_NODE, 2);
+    let mut other = open_for(&rt, rt.alloc(), ONE_NODE, 3);
     let want = "WrongRoom { place: 0 }\n";
     calls_abroad(&rt, rt.alloc(), &mut open, &mut other, want);
     is_untouched(&rt, &open, &other);
@@ -63,23 +65,23 @@ fn a_room_of_two_has_no_third_session(rt: HostRuntime) {
 
 #[test]
 fn the_pass_of_a_third_session_closes_nothing(rt: HostRuntime) {
-    let mut open = opened(&rt, rt.alloc(), ONE_NODE, 2);
-    let mut other = opened(&rt, rt.alloc(), ONE_NODE, 3);
+    let mut open = open_for(&rt, rt.alloc(), ONE_NODE, 2);
+    let mut other = open_for(&rt, rt.alloc(), ONE_NODE, 3);
     exchange_last(&rt, &mut open, &mut other);
     closes_so(&rt, rt.alloc(), open, "MissingPass\n");
 }
 
 #[test]
 fn a_pass_is_one_too_many(rt: HostRuntime) {
-    let mut open = opened(&rt, rt.alloc(), ONE_NODE, 2);
-    let mut other = opened(&rt, rt.alloc(), ONE_NODE, 2);
+    let mut open = open_for(&rt, rt.alloc(), ONE_NODE, 2);
+    let mut other = open_for(&rt, rt.alloc(), ONE_NODE, 2);
     add_last(&rt, &mut open, &mut other);
     closes_so(&rt, rt.alloc(), open, "MissingPass\n");
 }
 
 #[test]
 fn all_passes_are_missing(rt: HostRuntime) {
-    let mut open = opened(&rt, rt.alloc(), ONE_NODE, 1);
+    let mut open = open_for(&rt, rt.alloc(), ONE_NODE, 1);
     assert!(rt; open.passes.pop().is_some() && open.passes.is_empty());
     closes_so(&rt, rt.alloc(), open, "MissingPass\n");
 }
@@ -87,8 +89,8 @@ fn all_passes_are_missing(rt: HostRuntime) {
 // A pass without receipts is served where its session is one of the room's, but then the room's own pass lacks the call.
 #[test]
 fn an_unused_pass_of_another_room_is_served(rt: HostRuntime) {
-    let mut open = opened(&rt, rt.alloc(), ONE_NODE, 1);
-    let mut other = opened(&rt, rt.alloc(), ONE_NODE, 1);
+    let mut open = open_for(&rt, rt.alloc(), ONE_NODE, 1);
+    let mut other = open_for(&rt, rt.alloc(), ONE_NODE, 1);
     calls_abroad(&rt, rt.alloc(), &mut open, &mut other, "0 1 at start\n");
     assert!(rt; open.room.log().len() == 1);
     closes_so(&rt, rt.alloc(), open, "Disagree { session: 1, place: 0 }\n");
@@ -97,8 +99,8 @@ fn an_unused_pass_of_another_room_is_served(rt: HostRuntime) {
 // A pass that was told the same as the log has is as good as the room's own.
 #[test]
 fn a_pass_of_another_room_that_was_told_the_same(rt: HostRuntime) {
-    let mut open = opened(&rt, rt.alloc(), ONE_NODE, 2);
-    let mut other = opened(&rt, rt.alloc(), ONE_NODE, 2);
+    let mut open = open_for(&rt, rt.alloc(), ONE_NODE, 2);
+    let mut other = open_for(&rt, rt.alloc(), ONE_NODE, 2);
     let told = "0 1 at start\n1 2 at start\n";
     call_in_turn(&rt, rt.alloc(), &mut open, 2, told);
     call_in_turn(&rt, rt.alloc(), &mut other, 2, told);
@@ -115,8 +117,8 @@ fn a_pass_of_another_room_that_was_told_the_same(rt: HostRuntime) {
 // A pass that was called with again elsewhere is no longer this room's: the log ends before the place of its last receipt.
 #[test]
 fn a_pass_of_a_longer_log_is_refused(rt: HostRuntime) {
-    let mut open = opened(&rt, rt.alloc(), ONE_NODE, 1);
-    let mut other = opened(&rt, rt.alloc(), ONE_NODE, 2);
+    let mut open = open_for(&rt, rt.alloc(), ONE_NODE, 1);
+    let mut other = open_for(&rt, rt.alloc(), ONE_NODE, 2);
     call_in_turn(&rt, rt.alloc(), &mut open, 1, "0 1 at start\n");
     call_in_turn(
         &rt,
@@ -155,7 +157,7 @@ fn handed_back(rt: &impl Abort, alloc: Global, open: Open, cluster: &Cluster) ->
 // The first pass was left out: it comes behind the second, since the order doesn't count.
 #[test]
 fn a_room_that_is_handed_back_closes(rt: HostRuntime) {
-    let mut open = opened(&rt, rt.alloc(), ONE_NODE, 2);
+    let mut open = open_for(&rt, rt.alloc(), ONE_NODE, 2);
     let told = "0 1 at start\n1 2 at start\n";
     call_in_turn(&rt, rt.alloc(), &mut open, 2, told);
     assert!(rt; open.passes.len() == 2);

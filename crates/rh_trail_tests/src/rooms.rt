@@ -1,6 +1,8 @@
 //! Rooms: what sessions are told in turn, passes that aren't the room's, limits, and rooms that don't close.
 
-use crate::told::{Open, closed, cluster_of, opened, tell_calls, tell_kept, tell_served};
+use crate::told::{
+    Open, cluster_of, open_for, tell_calls, tell_how_it_closes, tell_kept, tell_served,
+};
 use rh_calls::{Call, Reply, report};
 use rh_cluster::Node;
 use rh_room::{Pass, Room, RoomFault, open_room};
@@ -93,9 +95,9 @@ fn one_after_the_other(rt: &impl Abort, alloc: Global, open: &mut Open) {
 
 #[test]
 fn two_sessions_in_turn(rt: HostRuntime) {
-    let mut open = opened(&rt, rt.alloc(), CAVE, 2);
+    let mut open = open_for(&rt, rt.alloc(), CAVE, 2);
     one_after_the_other(&rt, rt.alloc(), &mut open);
-    let text = closed(&rt, rt.alloc(), open, CAVE, Pick::First);
+    let text = tell_how_it_closes(&rt, rt.alloc(), open, CAVE, Pick::First);
     assert_eq!(rt; text.as_str(), LOG);
 }
 
@@ -118,9 +120,9 @@ fn calls_abroad(rt: &impl Abort, alloc: Global, open: &mut Open, other: &mut Ope
 // What a pass was told in another room isn't what this one has.
 #[test]
 fn a_pass_of_another_room_is_refused(rt: HostRuntime) {
-    let mut open = opened(&rt, rt.alloc(), CAVE, 2);
+    let mut open = open_for(&rt, rt.alloc(), CAVE, 2);
     calls_at_home(&rt, rt.alloc(), &mut open, Call::Step(BOOT), "0 1 done 0\n");
-    let mut other = opened(&rt, rt.alloc(), CAVE, 1);
+    let mut other = open_for(&rt, rt.alloc(), CAVE, 1);
     calls_at_home(&rt, rt.alloc(), &mut other, Call::Undo, "0 1 at start\n");
     calls_abroad(&rt, rt.alloc(), &mut open, &mut other);
 }
@@ -135,7 +137,7 @@ fn is_no_room(rt: &impl Abort, alloc: Global, sessions: u8) {
 fn a_room_has_1_to_8_sessions(rt: HostRuntime) {
     is_no_room(&rt, rt.alloc(), 0);
     is_no_room(&rt, rt.alloc(), 9);
-    let open = opened(&rt, rt.alloc(), ONE_NODE, 8);
+    let open = open_for(&rt, rt.alloc(), ONE_NODE, 8);
     assert!(rt; open.room.sessions() == 8 && open.passes.len() == 8);
     assert!(rt; open.passes[7].session() == 8 && open.passes[7].receipts().is_empty());
 }
@@ -155,16 +157,16 @@ fn fill(rt: &impl Abort, alloc: Global, room: &mut Room, pass: &mut Pass) {
 
 #[test]
 fn a_log_has_65535_entries(rt: HostRuntime) {
-    let mut open = opened(&rt, rt.alloc(), ONE_NODE, 1);
+    let mut open = open_for(&rt, rt.alloc(), ONE_NODE, 1);
     let pass = open.passes.get_mut(0).expect(&rt, "a pass");
     fill(&rt, rt.alloc(), &mut open.room, pass);
 }
 
 #[test]
 fn a_pass_is_missing(rt: HostRuntime) {
-    let mut open = opened(&rt, rt.alloc(), ONE_NODE, 2);
+    let mut open = open_for(&rt, rt.alloc(), ONE_NODE, 2);
     assert!(rt; open.passes.pop().is_some());
-    let text = closed(&rt, rt.alloc(), open, ONE_NODE, Pick::First);
+    let text = tell_how_it_closes(&rt, rt.alloc(), open, ONE_NODE, Pick::First);
     assert_eq!(rt; text.as_str(), "MissingPass\n");
 }
 
@@ -176,33 +178,33 @@ fn take_from(rt: &impl Abort, open: &mut Open, other: &mut Open) {
 
 #[test]
 fn a_session_has_two_passes(rt: HostRuntime) {
-    let mut open = opened(&rt, rt.alloc(), ONE_NODE, 2);
-    let mut other = opened(&rt, rt.alloc(), ONE_NODE, 1);
+    let mut open = open_for(&rt, rt.alloc(), ONE_NODE, 2);
+    let mut other = open_for(&rt, rt.alloc(), ONE_NODE, 1);
     take_from(&rt, &mut open, &mut other);
-    let text = closed(&rt, rt.alloc(), open, ONE_NODE, Pick::First);
+    let text = tell_how_it_closes(&rt, rt.alloc(), open, ONE_NODE, Pick::First);
     assert_eq!(rt; text.as_str(), "MissingPass\n");
 }
 
 #[test]
 fn a_pass_was_told_less(rt: HostRuntime) {
-    let mut open = opened(&rt, rt.alloc(), ONE_NODE, 1);
-    let mut other = opened(&rt, rt.alloc(), ONE_NODE, 1);
+    let mut open = open_for(&rt, rt.alloc(), ONE_NODE, 1);
+    let mut other = open_for(&rt, rt.alloc(), ONE_NODE, 1);
     calls_at_home(&rt, rt.alloc(), &mut open, Call::Undo, "0 1 at start\n");
     take_from(&rt, &mut open, &mut other);
-    let text = closed(&rt, rt.alloc(), open, ONE_NODE, Pick::First);
+    let text = tell_how_it_closes(&rt, rt.alloc(), open, ONE_NODE, Pick::First);
     assert_eq!(rt; text.as_str(), "Disagree { session: 1, place: 0 }\n");
 }
 
 #[test]
 fn the_room_stands_on_another_cluster(rt: HostRuntime) {
-    let open = opened(&rt, rt.alloc(), ONE_NODE, 1);
-    let text = closed(&rt, rt.alloc(), open, TWO_NODES, Pick::First);
+    let open = open_for(&rt, rt.alloc(), ONE_NODE, 1);
+    let text = tell_how_it_closes(&rt, rt.alloc(), open, TWO_NODES, Pick::First);
     assert_eq!(rt; text.as_str(), "OtherBase\n");
 }
 
 #[test]
 fn the_room_has_another_pick(rt: HostRuntime) {
-    let open = opened(&rt, rt.alloc(), ONE_NODE, 1);
-    let text = closed(&rt, rt.alloc(), open, ONE_NODE, Pick::Last);
+    let open = open_for(&rt, rt.alloc(), ONE_NODE, 1);
+    let text = tell_how_it_closes(&rt, rt.alloc(), open, ONE_NODE, Pick::Last);
     assert_eq!(rt; text.as_str(), "OtherBase\n");
 }

@@ -22,7 +22,7 @@ pub struct Open {
 }
 
 /// A room of so many sessions.
-pub fn opened(rt: &impl Abort, alloc: Global, text: &str, sessions: u8) -> Open {
+pub fn open_for(rt: &impl Abort, alloc: Global, text: &str, sessions: u8) -> Open {
     let cluster = cluster_of(rt, alloc, text);
     let (room, passes) = open_room(alloc, cluster, Pick::First, sessions)
         .ok()
@@ -115,7 +115,13 @@ pub fn tell_closed(
 }
 
 /// How a room closes on the cluster of this text.
-pub fn closed(rt: &impl Abort, alloc: Global, open: Open, base: &str, pick: Pick) -> String {
+pub fn tell_how_it_closes(
+    rt: &impl Abort,
+    alloc: Global,
+    open: Open,
+    base: &str,
+    pick: Pick,
+) -> String {
     let cluster = cluster_of(rt, alloc, base);
     let mut text = String::new(alloc);
     assert!(rt; tell_closed(&mut text, open, &cluster, pick).is_ok());

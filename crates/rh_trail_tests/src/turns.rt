@@ -1,7 +1,7 @@
 //! Two sessions in threads of their own, which pass the turn to one another.
 
 use crate::rooms::{LOG, are_kept, schedule};
-use crate::told::{Open, closed, opened};
+use crate::told::{Open, open_for, tell_how_it_closes};
 use rh_room::{Pass, Shared};
 use rh_samples::CAVE;
 use rh_step::Pick;
@@ -65,9 +65,9 @@ fn shared_by_threads<R: Threads + Wait + Sync>(rt: &R, alloc: Global, open: Open
 
 #[test]
 fn two_sessions_in_threads(rt: HostRuntime) {
-    let open = opened(&rt, rt.alloc(), CAVE, 2);
+    let open = open_for(&rt, rt.alloc(), CAVE, 2);
     let open = shared_by_threads(&rt, rt.alloc(), open).expect(&rt, "memory");
     are_kept(&rt, rt.alloc(), open.passes.as_slice());
-    let text = closed(&rt, rt.alloc(), open, CAVE, Pick::First);
+    let text = tell_how_it_closes(&rt, rt.alloc(), open, CAVE, Pick::First);
     assert_eq!(rt; text.as_str(), LOG);
 }

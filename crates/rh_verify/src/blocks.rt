@@ -12,7 +12,7 @@ ghost use Rattle.rh_verify.specs.Counts.{tally_of};
 ghost use Rattle.rh_verify.specs.Judging.{verdict_on, Gave, Takes, was_bad};
 
 use crate::expected::{is_expectation, lines_ahead};
-use crate::judging::{judged, stray_text};
+use crate::judging::{judge, stray_text};
 use crate::tally::{Tally, Verdict, with_verdict};
 use rh_calls::Call;
 use rh_devices::{Sink, Watched, WriteFault, write_text};
@@ -170,7 +170,7 @@ fn write_block<K: Sink>(
 {
     let reply = sim.answer(alloc, call)?.into_one();
     let came = answer_text(alloc, sim.cluster(), &reply)?;
-    let (block, verdict) = judged(alloc, sim.state(), number, line, came.as_slice(), behind)?;
+    let (block, verdict) = judge(alloc, sim.state(), number, line, came.as_slice(), behind)?;
     write_text(writer, block.as_slice())?;
     Ok(verdict)
 }

@@ -67,7 +67,7 @@ fn has_line(report: &[&[u8]], line: &[u8]) -> bool
 }
 
 // Those of the wanted lines that a report lacks.
-fn missing<'a>(
+fn missing_lines<'a>(
     alloc: Global,
     report: &[u8],
     wanted: &[&'a [u8]],
@@ -85,7 +85,7 @@ fn missing<'a>(
 }
 
 // Those of the wanted lines that the report of a state lacks. Where none is wanted, the report isn't made.
-fn lacking<'a>(
+fn missing_in_report<'a>(
     alloc: Global,
     state: &State,
     wanted: &[&'a [u8]],
@@ -96,7 +96,7 @@ fn lacking<'a>(
         return Ok(Vec::new(alloc));
     }
     let report = report(alloc, state)?;
-    missing(alloc, report.as_slice(), wanted)
+    missing_lines(alloc, report.as_slice(), wanted)
 }
 
 // The first line of a block: the number of a line, and what stands there.
@@ -149,7 +149,7 @@ fn block_of(
 }
 
 // The block of a command that was answered this, with such lines behind it, and what became of it. The state is that behind it.
-pub fn judged(
+pub fn judge(
     alloc: Global,
     state: &State,
     number: u64,
@@ -164,7 +164,7 @@ pub fn judged(
 {
     let answers = answers_in(alloc, behind)?;
     let wanted = wanted_among(alloc, behind)?;
-    let lacking = lacking(alloc, state, wanted.as_slice())?;
+    let lacking = missing_in_report(alloc, state, wanted.as_slice())?;
     let block = block_of(
         alloc,
         number,

@@ -142,7 +142,7 @@ impl Wheel {
         ensures exact { exchange self.new edit.new ≡ self.old }
         ensures again { turned self.new edit.new ≡ edit.old }
     {
-        let due = exchanged(&mut self.dues, edit.timer(), edit.due());
+        let due = exchange_due(&mut self.dues, edit.timer(), edit.due());
         self.slots.revert(&mut edit.links);
         edit.due = bytes_of(due);
     }
@@ -156,7 +156,7 @@ impl Wheel {
         ensures exact { exchange self.new edit.new ≡ self.old }
         ensures again { turned self.new edit.new ≡ edit.old }
     {
-        let due = exchanged(&mut self.dues, edit.timer(), edit.due());
+        let due = exchange_due(&mut self.dues, edit.timer(), edit.due());
         self.slots.reapply(&mut edit.links);
         edit.due = bytes_of(due);
     }
@@ -210,7 +210,7 @@ fn least_due(dues: &[Option<u64>]) -> Option<u64>
 }
 
 // Writes a due time, and says which was there.
-fn exchanged(dues: &mut Vec<Option<u64>>, timer: u16, due: Option<u64>) -> Option<u64>
+fn exchange_due(dues: &mut Vec<Option<u64>>, timer: u16, due: Option<u64>) -> Option<u64>
     ensures dues { dues.new.items ≡ slice_set dues.old.items timer due }
     ensures due { result ≡ slice_index_or dues.old.items timer due }
 {

@@ -53,8 +53,8 @@ pub fn reasons_of(state: &State, app: App, node: Node) -> Reasons
         };
     }
     Reasons {
-        lacking: lacking(state, app, node),
-        forbidding: forbidding(state, app, node),
+        lacking: unmet_dependency(state, app, node),
+        forbidding: missing_permission(state, app, node),
         by_standing: by_standing(state, app),
     }
 }
@@ -80,7 +80,7 @@ fn push_if_any(found: &mut Vec<Reason>, reason: Option<Reason>) -> Result<(), Ou
 }
 
 // The first of its dependencies that doesn't run at the node.
-fn lacking(state: &State, app: App, node: Node) -> Option<Reason>
+fn unmet_dependency(state: &State, app: App, node: Node) -> Option<Reason>
     requires node { node.0 < node_count (read state.now).cluster }
     requires app { app.0 < app_count (read state.now).cluster }
     ensures { option_to_list result ≡ lacking (read state.now) app node }
@@ -92,7 +92,7 @@ fn lacking(state: &State, app: App, node: Node) -> Option<Reason>
 }
 
 // Its permission at the node.
-fn forbidding(state: &State, app: App, node: Node) -> Option<Reason>
+fn missing_permission(state: &State, app: App, node: Node) -> Option<Reason>
     requires node { node.0 < node_count (read state.now).cluster }
     requires app { app.0 < app_count (read state.now).cluster }
     ensures { option_to_list result ≡ forbidding (read state.now) app node }

@@ -21,19 +21,19 @@ pub fn why_node_waits(alloc: Global, state: &State, node: Node) -> Result<Awaite
     ensures nodes { IfOk result (λ found. found.nodes.items ≡ awaited (read state.now) node) }
     ensures until { IfOk result (λ found. found.until ≡ due_of (read state.now) (Sync node)) }
 {
-    let nodes = awaited(alloc, state, node)?;
+    let nodes = awaited_nodes(alloc, state, node)?;
     let until = state.due_of(Timer::Sync(node));
     Ok(Awaited { nodes, until })
 }
 
 // The nodes for which a node waits.
 #[tactic(auto, unfolding(crate::specs::Reasons::awaited))]
-fn awaited(alloc: Global, state: &State, node: Node) -> Result<Vec<Node>, OutOfMemory>
+fn awaited_nodes(alloc: Global, state: &State, node: Node) -> Result<Vec<Node>, OutOfMemory>
     requires { node.0 < node_count (read state.now).cluster }
     ensures { IfOk result (λ nodes. nodes.items ≡ awaited (read state.now) node) }
 {
     if waits_for_others(state, node) {
-        missing(alloc, state, node)
+        missing_nodes(alloc, state, node)
     } else {
         Ok(Vec::new(alloc))
     }
@@ -49,7 +49,7 @@ fn waits_for_others(state: &State, node: Node) -> bool
 
 // The nodes of its lists that aren't alive.
 #[tactic(auto, unfolding(rh_state::specs::Numbers::nodes_of))]
-fn missing(alloc: Global, state: &State, node: Node) -> Result<Vec<Node>, OutOfMemory>
+fn missing_nodes(alloc: Global, state: &State, node: Node) -> Result<Vec<Node>, OutOfMemory>
     requires { node.0 < node_count (read state.now).cluster }
     ensures { IfOk result (λ nodes. nodes.items ≡ filter (is_awaited (read state.now) node) (nodes_of (read state.now).cluster)) }
 {

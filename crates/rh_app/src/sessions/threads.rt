@@ -42,8 +42,8 @@ pub fn history_of<T: Threads + Wait + Sync>(
     ensures history { IfOk result (λ closed. IsHistory cluster.now pick commands.now closed.log.items) }
     ensures sim { IfOk result (λ closed. closed.sim.seen ≡ sim_after (opened cluster.now pick) (calls closed.log.items)) }
 {
-    let (room, passes) = opened(alloc, cluster, commands, pick)?;
-    let (room, passes) = served(rt, alloc, room, passes, commands)?;
+    let (room, passes) = open_with_passes(alloc, cluster, commands, pick)?;
+    let (room, passes) = serve_sessions(rt, alloc, room, passes, commands)?;
     history_in(alloc, cluster, commands, pick, room, passes)
 }
 
@@ -72,7 +72,7 @@ fn history_in(
 }
 
 // A room with a pass for each session.
-fn opened(
+fn open_with_passes(
     alloc: Global,
     cluster: &Cluster,
     commands: &[Command],
@@ -104,7 +104,7 @@ fn session_count(commands: &[Command]) -> u8
 }
 
 // The room and the passes, when all threads have ended, without a fault: each session was answered its commands.
-fn served<T: Threads + Wait + Sync>(
+fn serve_sessions<T: Threads + Wait + Sync>(
     rt: &T,
     alloc: Global,
     room: Room,

@@ -41,7 +41,7 @@ fn outcomes_of(alloc: Global, base: &Sim, plans: &[Plan]) -> Result<Vec<Outcome>
     for plan in plans {
         let outcome = branch
             .try_plan(alloc, base, plan)?
-            .sharing(outcomes.last())?;
+            .share_standings(outcomes.last())?;
         outcomes.push(outcome)?;
     }
     Ok(outcomes)

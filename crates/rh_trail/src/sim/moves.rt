@@ -219,7 +219,7 @@ impl Sim {
     pub fn look(&self, alloc: Global) -> Result<Reply, OutOfMemory>
         ensures { IfOk result (λ reply. served self.now.seen call.Look ≡ answered reply self.now.seen) }
     {
-        let text = match self.shown() {
+        let text = match self.kept_report() {
             Some(text) => text.share()?,
             None => Bytes::of(alloc, report(alloc, self.state())?)?,
         };
@@ -231,7 +231,7 @@ impl Sim {
     }
 
     // The report of the state, where it is kept.
-    fn shown(&self) -> Option<&Bytes>
+    fn kept_report(&self) -> Option<&Bytes>
         ensures { IfSome result (λ text. text.now ≡ report_text (state_of self.now.seen)) }
     {
         match &self.shown {

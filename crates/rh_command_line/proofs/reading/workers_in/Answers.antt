@@ -11,7 +11,7 @@ use Rattle.rh_command_line.proofs.reading.workers_in.Goals as goal
 pub returns-in-Some-clause-number : goal.returns-in-Some-clause-number
 returns-in-Some-clause-number c =
     let text = ap (option_and_then workers_of) (one_text-rows (found_of c.args.matches.now) (codes "workers")) in
-    c.allowed.ensures.number
+    c.allowed_workers.ensures.number
     ∙ number_read (λ bs r. ParsesUnsigned 64 10 bs r × ExplainsUnsignedError 10 bs r × HasUnsignedDigitsIfOk bs r) (λ u x g. g.0) MAX_WORKERS _ _
     c.in-Some.ensures.none c.in-Some.ensures.value
     ∙ text

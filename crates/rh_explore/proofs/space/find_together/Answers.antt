@@ -27,7 +27,7 @@ pub take_up-requires-clause-some : goal.take_up-requires-clause-some
 take_up-requires-clause-some g c = grind (arith, nat_tests, c.is_empty.ensures, c.turns-test.true)
 
 pub expand-requires-clause-known : goal.expand-requires-clause-known
-expand-requires-clause-known g c = ap (λ (k : Knowing). length k.firsts) c.known.ensures ∙ c.turns.invariant.kept.firsts.count
+expand-requires-clause-known g c = ap (λ (k : Knowing). length k.firsts) c.known_so_far.ensures ∙ c.turns.invariant.kept.firsts.count
 
 pub take_in-requires-clause-front : goal.take_in-requires-clause-front
 take_in-requires-clause-front g c =
@@ -36,7 +36,7 @@ take_in-requires-clause-front g c =
     let pieces = c.in_ok-pieces.pieces.items in
     let states = flat_map (piece_waiting search.pick) pieces in (
       states,
-      subst (λ (k : Knowing). AllZip (ExpandsSo w search.asks.now k) states c.in_ok-expansions.expansions.items) c.known.ensures c.in_ok-expansions.ensures,
+      subst (λ (k : Knowing). AllZip (ExpandsSo w search.asks.now k) states c.in_ok-expansions.expansions.items) c.known_so_far.ensures c.in_ok-expansions.ensures,
       record {
         families = c.in_ok-pieces.ensures.families;
         waiting = sym (c.in_ok-pieces.ensures.waiting search.pick)

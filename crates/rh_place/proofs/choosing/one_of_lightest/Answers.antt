@@ -24,7 +24,7 @@ nodes-preserved c =
     let x : Node = get_or xs i d in
     let more = both_more p q xs i d c.nodes-test.true in
     elim c.if-is_light.branch [
-      | then-is_light u ↦ u.found-is ∙ u.taken.ensures
+      | then-is_light u ↦ u.found-is ∙ u.pick_node.ensures
           ∙ ap (λ f. picked c.args.pick (option_to_list f ++ x ∷ [])) c.nodes.invariant
           ∙ sym (picked_push c.args.pick before x)
           ∙ ap (picked c.args.pick) (sym (more ∙ ap (λ b. before ++ cond b (x ∷ []) []) (sym c.is_light.ensures ∙ u.if-is_light.true)))

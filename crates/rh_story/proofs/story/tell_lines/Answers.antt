@@ -22,11 +22,11 @@ returns-in_err-write_text g c =
     rw (p.1, p.2)
     (line_breaks takes fails c.args.sim.now.seen c.lines.sim.seen c.lines.number c.args.lack.now c.lines.behind.now c.split_line.result.0.now
     (raw_lines c.args.script.now) (raw_lines c.lines.rest.now) (raw_lines c.split_line.result.1.now)
-    c.args.writer.now c.lines.writer c.write_text.new.writer c.lines.invariant.text.0 c.shown-text.result.now
+    c.args.writer.now c.lines.writer c.write_text.new.writer c.lines.invariant.text.0 c.text_to_show-text.result.now
     c.split_line.ensures.line c.lines.invariant.text.1 c.lines.invariant.text.2
-    (c.shown-text.ensures ∙ ap (λ t. shown c.split_line.result.0.now (raw_lines c.split_line.result.1.now) t) (c.as_slice.ensures.value ∙ c.in_ok-is_bad.ensures.text))
+    (c.text_to_show-text.ensures ∙ ap (λ t. shown c.split_line.result.0.now (raw_lines c.split_line.result.1.now) t) (c.as_slice.ensures.value ∙ c.in_ok-is_bad.ensures.text))
     c.in_err-write_text.field-0.0
-    (subst (λ (f : WriteFault). WroteFront takes fails f c.shown-text.result.now c.lines.writer c.write_text.new.writer)
+    (subst (λ (f : WriteFault). WroteFront takes fails f c.text_to_show-text.result.now c.lines.writer c.write_text.new.writer)
     (sym c.in_err-write_text.ensures.only) (c.in_err-write_text.ensures.front, c.in_err-write_text.ensures.err)))
 
 pub returns-in_err-write_text-2 : goal.returns-in_err-write_text-2
@@ -38,9 +38,9 @@ returns-in_err-write_text-2 g c =
     rw (p.1, p.2)
     (rest_breaks takes fails c.args.sim.now.seen c.lines.sim.seen c.lines.number c.args.lack.now c.lines.behind.now c.split_line.result.0.now
     (raw_lines c.args.script.now) (raw_lines c.lines.rest.now) (raw_lines rest)
-    c.args.writer.now c.lines.writer c.write_text.new.writer c.lines.invariant.text.0 c.shown-text.result.now
+    c.args.writer.now c.lines.writer c.write_text.new.writer c.lines.invariant.text.0 c.text_to_show-text.result.now
     c.split_line.ensures.line c.lines.invariant.text.1 c.lines.invariant.text.2
-    (c.shown-text.ensures ∙ ap (λ t. shown c.split_line.result.0.now (raw_lines c.split_line.result.1.now) t) (c.as_slice.ensures.value ∙ c.in_ok-is_bad.ensures.text))
+    (c.text_to_show-text.ensures ∙ ap (λ t. shown c.split_line.result.0.now (raw_lines c.split_line.result.1.now) t) (c.as_slice.ensures.value ∙ c.in_ok-is_bad.ensures.text))
     (sym c.in_ok-is_bad.ensures.bad ∙ c.if-is_bad.true) rest (sym (lines_join rest)) c.in_ok-write_text.ensures.whole
     c.write_text-then-is_bad.new.writer
     c.in_err-write_text-2.field-0.0
@@ -59,9 +59,9 @@ returns-then-is_bad g c =
           (subst (λ (k : ClusterView). is_bad (line_of k (content line)) ≡ true) c.lines.invariant.same bad),
       story_ends takes fails c.args.sim.now.seen c.lines.sim.seen c.lines.number c.args.lack.now c.lines.behind.now line
           (raw_lines c.args.script.now) (raw_lines c.lines.rest.now) (raw_lines rest)
-          c.args.writer.now c.lines.writer c.write_text.new.writer c.lines.invariant.text.0 c.shown-text.result.now
+          c.args.writer.now c.lines.writer c.write_text.new.writer c.lines.invariant.text.0 c.text_to_show-text.result.now
           c.split_line.ensures.line c.lines.invariant.text.1 c.lines.invariant.text.2
-          (c.shown-text.ensures ∙ ap (λ t. shown c.split_line.result.0.now (raw_lines c.split_line.result.1.now) t) (c.as_slice.ensures.value ∙ c.in_ok-is_bad.ensures.text))
+          (c.text_to_show-text.ensures ∙ ap (λ t. shown c.split_line.result.0.now (raw_lines c.split_line.result.1.now) t) (c.as_slice.ensures.value ∙ c.in_ok-is_bad.ensures.text))
           bad rest (sym (lines_join rest)) c.in_ok-write_text.ensures.whole c.write_text-then-is_bad.new.writer
           c.in_ok-write_text-2.ensures.whole,
       c.in_ok-write_text-2.ensures.ok,
@@ -100,9 +100,9 @@ lines-preserved g c =
     record {
       text = story_goes_on takes fails c.args.sim.now.seen c.lines.sim.seen c.lines.number c.args.lack.now c.lines.behind.now line
           (raw_lines c.args.script.now) (raw_lines c.lines.rest.now) (raw_lines rest)
-          c.args.writer.now c.lines.writer c.write_text.new.writer c.lines.invariant.text.0 c.shown-text.result.now
+          c.args.writer.now c.lines.writer c.write_text.new.writer c.lines.invariant.text.0 c.text_to_show-text.result.now
           c.split_line.ensures.line c.lines.invariant.text.1 c.lines.invariant.text.2
-          (c.shown-text.ensures ∙ ap (λ t. shown c.split_line.result.0.now (raw_lines c.split_line.result.1.now) t) (c.as_slice.ensures.value ∙ c.in_ok-is_bad.ensures.text))
+          (c.text_to_show-text.ensures ∙ ap (λ t. shown c.split_line.result.0.now (raw_lines c.split_line.result.1.now) t) (c.as_slice.ensures.value ∙ c.in_ok-is_bad.ensures.text))
           good c.tell_line.new.sim.seen c.in_ok-is_bad.ensures.sim c.lack_behind-behind.result.now c.lack_behind-behind.ensures
           c.in_ok-write_text.ensures.whole;
       fault = fault_later c.args.sim.now.seen.cluster c.lines.number line (raw_lines c.args.script.now) (raw_lines c.lines.rest.now) (raw_lines rest)

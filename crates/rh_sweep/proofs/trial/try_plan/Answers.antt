@@ -10,8 +10,8 @@ use Rattle.rh_sweep.proofs.Chained.{chain_here}
 use Rattle.rh_sweep.proofs.Trying.{went-nowhere, if-ok}
 use Rattle.rh_sweep.proofs.trial.try_plan.Goals as goal
 
-pub tried-outcome-requires : goal.tried-outcome-requires
-tried-outcome-requires c =
+pub try_events-outcome-requires : goal.try_events-outcome-requires
+try_events-outcome-requires c =
     let s : Held = c.args.sim.now in
     (s, s.seen, went-nowhere s c.requires.end, subst (HasRoomFor s.seen) (sym c.as_slice.ensures.value) c.requires.room)
 
@@ -20,17 +20,17 @@ returns-clause-outcome c =
     let s : Held = c.args.sim.now in
     let events = c.args.plan.now.events.items in
     let same : c.as_slice.result.now ≡ events = c.as_slice.ensures.value in
-    if-ok c.tried-outcome.result _ (λ (o : Outcome). o ≡ outcome_in s.seen events)
+    if-ok c.try_events-outcome.result _ (λ (o : Outcome). o ≡ outcome_in s.seen events)
     (λ o is. is s s.seen (went-nowhere s c.requires.end) (subst (HasRoomFor s.seen) (sym same) c.requires.room) ∙ ap (outcome_in s.seen) same)
-    c.tried-outcome.ensures.outcome
+    c.try_events-outcome.ensures.outcome
 
 pub returns-clause-kept : goal.returns-clause-kept
 returns-clause-kept c =
     let s : Held = c.args.sim.now in
-    let t : Held = c.tried-outcome.new.steps in
+    let t : Held = c.try_events-outcome.new.steps in
     let u : Held = c.go_back.new.sim in
     let v : Held = c.cut_redo.new.self in
-    let on = c.tried-outcome.ensures.ahead s s.seen (went-nowhere s c.requires.end)
+    let on = c.try_events-outcome.ensures.ahead s s.seen (went-nowhere s c.requires.end)
     (subst (HasRoomFor s.seen) (sym c.as_slice.ensures.value) c.requires.room) in
     let a = on.1.ahead in
     let start : c.cursor-start.result ≡ s.seen.cursor = c.cursor-start.ensures.cursor in

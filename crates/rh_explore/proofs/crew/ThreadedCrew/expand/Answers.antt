@@ -41,5 +41,5 @@ returns g c =
     let k = (c.in_ok-parts.ensures.each i r within).1 in
     let one : CameOf R s.pick k.job (get_or parts i r) = search rules in
     subst (λ (q : Piece). CameOf R s.pick q (get_or parts i r)) (sym (k.job_is p)) one in
-    joined_came R s.pick pieces parts c.joined.result c.joined.ensures.whole c.joined.ensures.all
+    joined_came R s.pick pieces parts c.join_parts.result c.join_parts.ensures.whole c.join_parts.ensures.all
     (λ whole. all_came R s.pick pieces parts (omega (arith, c.in_ok-parts.ensures.len, c.in_ok-parts.parts.ok.0, c.args.pieces.ok.0)) whole each)

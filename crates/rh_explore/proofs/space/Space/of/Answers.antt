@@ -18,13 +18,13 @@ many firsts count is = ap (λ (os : List (Option ℕ)). length os) is ∙ length
 
 pub base_marks-requires-clause-known : goal.base_marks-requires-clause-known
 base_marks-requires-clause-known c =
-    ap (λ (k : Knowing). length k.firsts) c.known.ensures
+    ap (λ (k : Knowing). length k.firsts) c.known_so_far.ensures
     ∙ many c.in_ok-firsts.firsts.items (length c.args.search.now.asks.now) c.in_ok-firsts.ensures
 
 pub push-requires-clause-fails : goal.push-requires-clause-fails
 push-requires-clause-fails c =
     let s : Search = c.args.search.now in
-    fails_within s.pick c.known.result.firsts.now c.in_ok-firsts.firsts.items s.asks.now (read s.base.now) c.in_ok-marks.marks.fails.items c.in_ok-marks.ensures.fails
+    fails_within s.pick c.known_so_far.result.firsts.now c.in_ok-firsts.firsts.items s.asks.now (read s.base.now) c.in_ok-marks.marks.fails.items c.in_ok-marks.ensures.fails
     (many c.in_ok-firsts.firsts.items (length s.asks.now) c.in_ok-firsts.ensures)
 
 -- the first key is new
@@ -43,7 +43,7 @@ returns-clause-kept c =
     let asks = s.asks.now in
     let fails = c.in_ok-marks.marks.fails.items in
     let none : c.in_ok-firsts.firsts.items ≡ replicate (length asks) None = c.in_ok-firsts.ensures in
-    let known : c.known.result.firsts.now ≡ replicate (length asks) None = ap (λ (k : Knowing). k.firsts) c.known.ensures ∙ none in
+    let known : c.known_so_far.result.firsts.now ≡ replicate (length asks) None = ap (λ (k : Knowing). k.firsts) c.known_so_far.ensures ∙ none in
     let there : FailThere s.pick (replicate (length asks) None) asks base fails =
     subst (λ (os : List (Option ℕ)). FailThere s.pick os asks base fails) known c.in_ok-marks.ensures.fails in
     let empty = c.new.ensures.items in

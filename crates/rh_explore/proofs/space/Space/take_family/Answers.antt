@@ -72,7 +72,7 @@ expand-requires-clause-accepted c =
     c.requires.family.accepted
 
 pub expand-requires-clause-known : goal.expand-requires-clause-known
-expand-requires-clause-known c = ap (λ (k : Knowing). length k.firsts) c.known.ensures ∙ c.events.invariant.kept.firsts.count
+expand-requires-clause-known c = ap (λ (k : Knowing). length k.firsts) c.known_so_far.ensures ∙ c.events.invariant.kept.firsts.count
 
 within_of : (events seen : List (Option Event)) (i : ℕ) → seen ≡ events → i < length seen → i < length events
 within_of events seen i same within = subst (λ (es : List (Option Event)). i < length es) same within
@@ -83,7 +83,7 @@ take_one-requires-clause-front c =
     let i = c.events.invariant in
     let within = within_of family.events.items _ c.events.event-index i.same c.events-test.true in
     next_expanded c.args.search.now c.events.self c.events.front _ family.state.value c.events.state family.events.items _ c.events.event-index _
-    c.in_ok-expansion.expansion c.known.ensures i.state i.same within c.in_ok-expansion.ensures.expansion i.front
+    c.in_ok-expansion.expansion c.known_so_far.ensures i.state i.same within c.in_ok-expansion.ensures.expansion i.front
 
 pub events-preserved : goal.events-preserved
 events-preserved c =

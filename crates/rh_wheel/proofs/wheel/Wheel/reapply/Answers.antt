@@ -27,10 +27,10 @@ given c = record {
   due = option_map (λ (slot : ℕ). from_le_bytes w64 c.edit.inside.due) (list_in c.edit.inside.links.changes);
 }
 
-words : (c : goal.After-edit-1) → record { links = c.reapply.new.self; dues = c.exchanged-due.new.dues.items } ≡ exchange (kept c) (given c)
+words : (c : goal.After-edit-1) → record { links = c.reapply.new.self; dues = c.exchange_due-due.new.dues.items } ≡ exchange (kept c) (given c)
 unfolding exchange
 words c = Stored-same _ _ c.reapply.ensures.words
-    (c.exchanged-due.ensures.dues
+    (c.exchange_due-due.ensures.dues
     ∙ (λ k. set c.self.inside.dues.items (c.timer.ensures.timer k) (c.due.ensures.due k))
     ∙ (λ k. set c.self.inside.dues.items (sym c.edit.view_is k).timer (sym c.edit.view_is k).due))
 
@@ -40,7 +40,7 @@ due : (c : goal.After-edit-1) → option_map (λ (slot : ℕ). from_le_bytes w64
 due c =
     let w : Stored = kept c in
     (λ k. option_map (λ (slot : ℕ). c.bytes_of-edit-inside.ensures k) (list_in (c.reapply.ensures.edit k).changes))
-    ∙ (λ k. option_map (λ (slot : ℕ). unwrap_or (c.exchanged-due.ensures.due k) 0) (list_in (turned_links w.links (links_of (c.edit.view_is k))).changes))
+    ∙ (λ k. option_map (λ (slot : ℕ). unwrap_or (c.exchange_due-due.ensures.due k) 0) (list_in (turned_links w.links (links_of (c.edit.view_is k))).changes))
     ∙ (λ k. option_map (λ (slot : ℕ). unwrap_or (get_or w.dues (c.timer.ensures.timer k) (c.due.ensures.due k)) 0) (c.due.ensures.turned w.links k))
     ∙ (λ k. option_map (λ (slot : ℕ). unwrap_or (get_or w.dues (sym c.edit.view_is k).timer (sym c.edit.view_is k).due) 0)
     (get_or w.links.owner (sym c.edit.view_is k).timer (list_in (sym c.edit.view_is k).changes)))
@@ -75,7 +75,7 @@ pub invariant_of-self : goal.invariant_of-self
 invariant_of-self c = record {
   formed = subst IsFormed (sym (words c ∙ (λ k. exchange (c.self.view_is k) (c.edit.view_is k)))) c.requires.formed;
   few = let same = length-set c.self.inside.dues.items c.timer.result c.due.result in
-      rw c.exchanged-due.ensures.dues (omega (arith, same, c.self.invariant.few));
+      rw c.exchange_due-due.ensures.dues (omega (arith, same, c.self.invariant.few));
 }
 
 pub returns-clause-words : goal.returns-clause-words

@@ -3,7 +3,7 @@ use Rattle.rh_state.specs.Stored.{read}
 use Rattle.rh_trail.specs.SimView.{state_of}
 use Rattle.rh_calls.specs.Report.{report_text}
 use Rattle.rh_trail.proofs.Chains.{chain_reads}
-use Rattle.rh_trail.proofs.sim.Sim.shown.Goals as goal
+use Rattle.rh_trail.proofs.sim.Sim.kept_report.Goals as goal
 
 pub returns-in-Some : goal.returns-in-Some
 returns-in-Some c =

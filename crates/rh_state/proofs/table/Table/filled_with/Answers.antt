@@ -1,7 +1,7 @@
 use Rattle.std.proofs.Common.{◌≡◌, ◌*◌, replicate, ap, ◌∙◌, arith}
 use Rattle.rh_state.specs.Cut.{cut}
 use Rattle.rh_state.proofs.Cut.{cut-replicate}
-use Rattle.rh_state.proofs.table.Table.filled.Goals as goal
+use Rattle.rh_state.proofs.table.Table.filled_with.Goals as goal
 
 pub returns : goal.returns
 returns g c =

@@ -8,7 +8,7 @@ use Rattle.rh_explore.specs.declared.leads.Expansion.{Expansion}
 use Rattle.rh_explore.specs.Families.{part_items}
 use Rattle.rh_explore.proofs.FrontLists.{flat_push}
 use Rattle.rh_explore.proofs.Popped.{first_is, none_left}
-use Rattle.rh_explore.proofs.crew.joined.Goals as goal
+use Rattle.rh_explore.proofs.crew.join_parts.Goals as goal
 
 abbrev Part : Type 0
 Part = Result (VecDeque Expansion Global) OutOfMemory

@@ -2,7 +2,7 @@ use Rattle.std.proofs.Common.{ap, sym, ◌∙◌, map, List, Bool, arith}
 use Rattle.rh_state.specs.Numbers.{apps_of}
 use Rattle.rh_file_lint.specs.Circles.{needs_marked}
 use Rattle.rh_file_lint.proofs.Steps.{step_more, settled, none_yet}
-use Rattle.rh_file_lint.proofs.circles.depending.Goals as goal
+use Rattle.rh_file_lint.proofs.circles.mark_dependents.Goals as goal
 
 pub steps-init : goal.steps-init
 steps-init c = λ a lt. none_yet c.args.cluster.now c.new-marks.result.items c.args.other c.new-marks.ensures.items a

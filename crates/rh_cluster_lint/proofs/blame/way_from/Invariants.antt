@@ -1,6 +1,6 @@
 use Rattle.std.proofs.Common.{◌≡◌, ◌++◌, drop}
 use Rattle.rh_cluster_lint.specs.Blame.{narrowed}
-use Rattle.rh_cluster_lint.proofs.blame.narrowed.Given as goal
+use Rattle.rh_cluster_lint.proofs.blame.way_from.Given as goal
 
 abbrev pub invariant-loop-index : goal.invariant-loop-index
 invariant-loop-index l =

@@ -4,7 +4,7 @@ use Rattle.std.specs.declared.collections.VecDeque.{VecDeque}
 use Rattle.rh_base.specs.declared.memory.OutOfMemory.{OutOfMemory}
 use Rattle.rh_explore.specs.declared.leads.Expansion.{Expansion}
 use Rattle.rh_explore.specs.Families.{part_items}
-use Rattle.rh_explore.proofs.crew.joined.Given as goal
+use Rattle.rh_explore.proofs.crew.join_parts.Given as goal
 
 abbrev pub invariant-parts : goal.invariant-parts
 invariant-parts l =

@@ -4,7 +4,7 @@ use Rattle.rh_model.specs.ClusterView.{numbered}
 use Rattle.rh_model.specs.declared.node.Node.{Node}
 use Rattle.rh_state.specs.Stored.{read}
 use Rattle.rh_why.specs.Reasons.{is_awaited}
-use Rattle.rh_why.proofs.nodes.missing.Goals as goal
+use Rattle.rh_why.proofs.nodes.missing_nodes.Goals as goal
 
 pub loop-number-preserved : goal.loop-number-preserved
 loop-number-preserved c =
