@@ -17,6 +17,7 @@ use Rattle.rh_trace.proofs.Places.{at_set_here, append_gives, started_on}
 use Rattle.rh_rules.specs.declared.notice.Move.TheVariants.{Takeover}
 use Rattle.rh_rules.specs.declared.notice.Notice.TheVariants as notice
 use Rattle.rh_trace.specs.Traces.{TraceView, course}
+use Rattle.rh_trace.specs.Ways.{TellsNothing}
 use Rattle.rh_rules.specs.Course.{told}
 use Rattle.rh_rules.specs.Moves.{moved, with_stopped}
 
@@ -51,12 +52,11 @@ waits_now s n a shape number =
 abbrev taken_to : StateView → App → Node → Node → StateView
 taken_to u a m n = with_standing (with_stopped (with_kind (with_running u n a) n a (kind.Takeover m)) m a) a (Running n)
 
-pub same_takeover : (s t : StateView) (a : App) (m n : Node) (old new : TraceView) → new.notices ≡ old.notices → new.marked ≡ old.marked
-    → new.freed ≡ old.freed → unlisted t n a ≡ unlisted s n a → moved (course t new) (Takeover a m n) ≡ moved (course s old) (Takeover a m n)
-same_takeover s t a m n old new notices marked freed e =
-    λ i. told (told (record { state = taken_to (e i) a m n; notices = notices i; marked = marked i; freed = freed i }) (notice.Started a n (kind.Takeover m) None)) (notice.Stopped a m)
+pub same_takeover : (s t : StateView) (a : App) (m n : Node) (old new : TraceView) → TellsNothing old new → unlisted t n a ≡ unlisted s n a
+    → moved (course t new) (Takeover a m n) ≡ moved (course s old) (Takeover a m n)
+same_takeover s t a m n old new same e =
+    λ i. told (told (record { state = taken_to (e i) a m n; notices = same.notices i; marked = same.marked i; freed = same.freed i }) (notice.Started a n (kind.Takeover m) None)) (notice.Stopped a m)
 
 -- a state that is said otherwise, with a trace that told, marked and freed nothing more
-pub same_course : (s t : StateView) (old new : TraceView) → t ≡ s → new.notices ≡ old.notices → new.marked ≡ old.marked → new.freed ≡ old.freed
-    → course t new ≡ course s old
-same_course s t old new e notices marked freed = λ i. record { state = e i; notices = notices i; marked = marked i; freed = freed i }
+pub same_course : (s t : StateView) (old new : TraceView) → t ≡ s → TellsNothing old new → course t new ≡ course s old
+same_course s t old new e same = λ i. record { state = e i; notices = same.notices i; marked = same.marked i; freed = same.freed i }

@@ -7,7 +7,7 @@ ghost use Rattle.rh_state.specs.StateView.{due_of, incarnation_of};
 ghost use Rattle.rh_state.specs.Stored.{read};
 ghost use Rattle.rh_state.specs.declared.status.Timer.TheVariants.{Sync};
 ghost use Rattle.rh_trace.specs.Counts.{FewEdits};
-ghost use Rattle.rh_trace.specs.Ways.{Goes};
+ghost use Rattle.rh_trace.specs.Ways.{TellsNothing, Goes};
 ghost use Rattle.rh_rules.specs.NodesStart.{booted};
 
 use rh_base::OutOfMemory;
@@ -23,9 +23,7 @@ pub fn boot(state: &mut State, node: Node, trace: &mut Trace) -> Result<(), OutO
     requires incarnation { incarnation_of (read state.old) node ≢ incarnation_limit }
     requires unset { IsNone (due_of (read state.old) (Sync node)) }
     ensures part { OnOk result (read state.new ≡ booted (read state.old) node) }
-    ensures told { trace.new.notices ≡ trace.old.notices }
-    ensures marked { trace.new.marked ≡ trace.old.marked }
-    ensures freed { trace.new.freed ≡ trace.old.freed }
+    ensures silent { TellsNothing trace.old trace.new }
     ensures way { Goes state.old trace.old state.new trace.new }
     ensures few { FewEdits 3 trace.old trace.new }
 {

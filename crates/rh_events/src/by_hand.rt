@@ -11,7 +11,7 @@ ghost use Rattle.rh_state.specs.declared.status.Standing.TheVariants.{Running};
 ghost use Rattle.rh_rules.specs.declared.notice.Move.TheVariants.{Takeover};
 ghost use Rattle.rh_trace.specs.Traces.{course};
 ghost use Rattle.rh_trace.specs.Counts.{FewEdits, FewWeighed};
-ghost use Rattle.rh_trace.specs.Ways.{Goes};
+ghost use Rattle.rh_trace.specs.Ways.{TellsNothing, Goes};
 ghost use Rattle.rh_rules.specs.Moves.{moved};
 ghost use Rattle.rh_trace.specs.Validity.{RunsWhereItStands, IsSound};
 ghost use Rattle.rh_rules.specs.ByHand.{stopped, is_started_anywhere, quiet_if_nowhere, left_waiting, forbidden, pulls_back, frees, freed_by, permitted, taken_over, ends_node, exited};
@@ -53,9 +53,7 @@ fn stop_running(
 fn quieten_if_nowhere(state: &mut State, app: App, trace: &mut Trace) -> Result<(), OutOfMemory>
     requires { IsAppOf (read state.old).cluster app }
     ensures part { OnOk result (read state.new ≡ quiet_if_nowhere (read state.old) app (standing_of (read state.old) app)) }
-    ensures told { trace.new.notices ≡ trace.old.notices }
-    ensures marked { trace.new.marked ≡ trace.old.marked }
-    ensures freed { trace.new.freed ≡ trace.old.freed }
+    ensures silent { TellsNothing trace.old trace.new }
     ensures way { Goes state.old trace.old state.new trace.new }
     ensures few { FewEdits 2 trace.old trace.new }
 {
@@ -86,9 +84,7 @@ fn leave_waiting(
     requires app { IsAppOf (read state.old).cluster app }
     requires started { place_of (read state.old) node app ≢ Off }
     ensures part { OnOk result (read state.new ≡ quiet_if_nowhere (unlisted (read state.old) node app) app (standing_of (read state.old) app)) }
-    ensures told { trace.new.notices ≡ trace.old.notices }
-    ensures marked { trace.new.marked ≡ trace.old.marked }
-    ensures freed { trace.new.freed ≡ trace.old.freed }
+    ensures silent { TellsNothing trace.old trace.new }
     ensures way { Goes state.old trace.old state.new trace.new }
     ensures few { FewEdits 3 trace.old trace.new }
 {
@@ -209,9 +205,7 @@ fn start_if_off(
     ensures running { OnOk result ((read state.new).running ≡ (read state.old).running) }
     ensures started { OnOk result (place_of (read state.new) node app ≢ Off) }
     ensures others { OnOk result (unlisted (read state.new) node app ≡ unlisted (read state.old) node app) }
-    ensures told { trace.new.notices ≡ trace.old.notices }
-    ensures marked { trace.new.marked ≡ trace.old.marked }
-    ensures freed { trace.new.freed ≡ trace.old.freed }
+    ensures silent { TellsNothing trace.old trace.new }
     ensures way { Goes state.old trace.old state.new trace.new }
     ensures few { FewEdits 1 trace.old trace.new }
 {

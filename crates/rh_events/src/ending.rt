@@ -14,7 +14,7 @@ ghost use Rattle.rh_state.specs.declared.status.Standing.TheVariants.{Running};
 ghost use Rattle.rh_state.specs.declared.status.Timer.TheVariants.{Failover};
 ghost use Rattle.rh_trace.specs.Traces.{course};
 ghost use Rattle.rh_trace.specs.Counts.{FewEdits, FewWeighed};
-ghost use Rattle.rh_trace.specs.Ways.{Goes};
+ghost use Rattle.rh_trace.specs.Ways.{TellsNothing, Goes};
 ghost use Rattle.rh_rules.specs.NodesEnd.{timeout_of, emptied, with_configured, cleared, lost_at, lost_if_ran, all_lost, ended};
 
 use crate::readiness::cancel_if_set;
@@ -42,9 +42,7 @@ fn first_started(state: &State, node: Node) -> Option<App>
 fn empty(state: &mut State, node: Node, trace: &mut Trace) -> Result<(), OutOfMemory>
     requires { IsNodeOf (read state.old).cluster node }
     ensures part { OnOk result (read state.new ≡ emptied (read state.old) node) }
-    ensures told { trace.new.notices ≡ trace.old.notices }
-    ensures marked { trace.new.marked ≡ trace.old.marked }
-    ensures freed { trace.new.freed ≡ trace.old.freed }
+    ensures silent { TellsNothing trace.old trace.new }
     ensures way { Goes state.old trace.old state.new trace.new }
     ensures few { OnOk result (FewEdits (app_count (read state.old).cluster) trace.old trace.new) }
 {
@@ -65,9 +63,7 @@ fn configure_app(
     requires node { IsNodeOf (read state.old).cluster node }
     requires app { IsAppOf (read state.old).cluster app }
     ensures part { OnOk result (read state.new ≡ with_allowed (read state.old) node app (is_permitted (read state.old).cluster node app)) }
-    ensures told { trace.new.notices ≡ trace.old.notices }
-    ensures marked { trace.new.marked ≡ trace.old.marked }
-    ensures freed { trace.new.freed ≡ trace.old.freed }
+    ensures silent { TellsNothing trace.old trace.new }
     ensures way { Goes state.old trace.old state.new trace.new }
     ensures few { FewEdits 1 trace.old trace.new }
 {
@@ -89,9 +85,7 @@ fn is_configured(state: &State, node: Node) -> bool
 fn configure(state: &mut State, node: Node, trace: &mut Trace) -> Result<(), OutOfMemory>
     requires { IsNodeOf (read state.old).cluster node }
     ensures part { OnOk result (read state.new ≡ with_configured (read state.old) node) }
-    ensures told { trace.new.notices ≡ trace.old.notices }
-    ensures marked { trace.new.marked ≡ trace.old.marked }
-    ensures freed { trace.new.freed ≡ trace.old.freed }
+    ensures silent { TellsNothing trace.old trace.new }
     ensures way { Goes state.old trace.old state.new trace.new }
     ensures few { OnOk result (FewEdits (app_count (read state.old).cluster) trace.old trace.new) }
 {
@@ -111,9 +105,7 @@ fn configure(state: &mut State, node: Node, trace: &mut Trace) -> Result<(), Out
 fn clear(state: &mut State, node: Node, trace: &mut Trace) -> Result<(), OutOfMemory>
     requires { IsNodeOf (read state.old).cluster node }
     ensures part { OnOk result (read state.new ≡ cleared (read state.old) node) }
-    ensures told { trace.new.notices ≡ trace.old.notices }
-    ensures marked { trace.new.marked ≡ trace.old.marked }
-    ensures freed { trace.new.freed ≡ trace.old.freed }
+    ensures silent { TellsNothing trace.old trace.new }
     ensures way { Goes state.old trace.old state.new trace.new }
     ensures few { OnOk result (FewEdits (2 + 2 * app_count (read state.old).cluster) trace.old trace.new) }
 {
@@ -143,9 +135,7 @@ fn lose_at(state: &mut State, node: Node, app: App, trace: &mut Trace) -> Result
     requires app { IsAppOf (read state.old).cluster app }
     requires unset { IsNone (due_of (read state.old) (Failover app)) }
     ensures part { OnOk result (read state.new ≡ lost_at (read state.old) node app) }
-    ensures told { trace.new.notices ≡ trace.old.notices }
-    ensures marked { trace.new.marked ≡ trace.old.marked }
-    ensures freed { trace.new.freed ≡ trace.old.freed }
+    ensures silent { TellsNothing trace.old trace.new }
     ensures way { Goes state.old trace.old state.new trace.new }
     ensures few { FewEdits 2 trace.old trace.new }
 {
@@ -170,9 +160,7 @@ fn lose_if_ran(
     requires app { IsAppOf (read state.old).cluster app }
     requires unset { standing_of (read state.old) app ≡ Running node → IsNone (due_of (read state.old) (Failover app)) }
     ensures part { OnOk result (read state.new ≡ lost_if_ran node (read state.old) app) }
-    ensures told { trace.new.notices ≡ trace.old.notices }
-    ensures marked { trace.new.marked ≡ trace.old.marked }
-    ensures freed { trace.new.freed ≡ trace.old.freed }
+    ensures silent { TellsNothing trace.old trace.new }
     ensures way { Goes state.old trace.old state.new trace.new }
     ensures few { FewEdits 2 trace.old trace.new }
 {
@@ -188,9 +176,7 @@ fn lose_all(state: &mut State, node: Node, trace: &mut Trace) -> Result<(), OutO
     requires node { IsNodeOf (read state.old).cluster node }
     requires unset { (a : App) → standing_of (read state.old) a ≡ Running node → IsNone (due_of (read state.old) (Failover a)) }
     ensures part { OnOk result (read state.new ≡ all_lost (read state.old) node) }
-    ensures told { trace.new.notices ≡ trace.old.notices }
-    ensures marked { trace.new.marked ≡ trace.old.marked }
-    ensures freed { trace.new.freed ≡ trace.old.freed }
+    ensures silent { TellsNothing trace.old trace.new }
     ensures way { Goes state.old trace.old state.new trace.new }
     ensures few { OnOk result (FewEdits (2 * app_count (read state.old).cluster) trace.old trace.new) }
 {

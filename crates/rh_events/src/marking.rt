@@ -8,7 +8,7 @@ ghost use Rattle.rh_state.specs.Stored.{read};
 ghost use Rattle.rh_state.specs.declared.status.Place.TheVariants.{Off};
 ghost use Rattle.rh_trace.specs.Traces.{course};
 ghost use Rattle.rh_trace.specs.Counts.{FewEdits};
-ghost use Rattle.rh_trace.specs.Ways.{Goes};
+ghost use Rattle.rh_trace.specs.Ways.{TellsNothing, Goes};
 ghost use Rattle.rh_rules.specs.Marking.{with_distributed_standing, wanted_by_mark, with_mark, mark, mark_all};
 
 use crate::readiness::cancel_if_set;
@@ -28,9 +28,7 @@ pub fn set_distributed_standing(
     requires app { IsAppOf (read state.old).cluster app }
     requires standing { IsStandingOf (read state.old).cluster standing }
     ensures part { OnOk result (read state.new ≡ with_distributed_standing (read state.old) app standing) }
-    ensures told { trace.new.notices ≡ trace.old.notices }
-    ensures marked { trace.new.marked ≡ trace.old.marked }
-    ensures freed { trace.new.freed ≡ trace.old.freed }
+    ensures silent { TellsNothing trace.old trace.new }
     ensures way { Goes state.old trace.old state.new trace.new }
     ensures few { FewEdits 1 trace.old trace.new }
 {
@@ -51,9 +49,7 @@ fn want_by_mark(
     requires node { IsNodeOf (read state.old).cluster node }
     requires app { IsAppOf (read state.old).cluster app }
     ensures part { OnOk result (read state.new ≡ wanted_by_mark (read state.old) node app (standing_of (read state.old) app)) }
-    ensures told { trace.new.notices ≡ trace.old.notices }
-    ensures marked { trace.new.marked ≡ trace.old.marked }
-    ensures freed { trace.new.freed ≡ trace.old.freed }
+    ensures silent { TellsNothing trace.old trace.new }
     ensures way { Goes state.old trace.old state.new trace.new }
     ensures few { FewEdits 2 trace.old trace.new }
 {

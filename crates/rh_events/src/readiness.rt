@@ -7,7 +7,7 @@ ghost use Rattle.rh_state.specs.Setters.{without_due};
 ghost use Rattle.rh_state.specs.Shape.{IsNodeOf, IsTimerOf};
 ghost use Rattle.rh_state.specs.Stored.{read};
 ghost use Rattle.rh_trace.specs.Counts.{FewEdits};
-ghost use Rattle.rh_trace.specs.Ways.{Goes};
+ghost use Rattle.rh_trace.specs.Ways.{TellsNothing, Goes};
 ghost use Rattle.rh_rules.specs.NodesStart.{all_alive, is_ready};
 
 use rh_base::OutOfMemory;
@@ -20,9 +20,7 @@ use rh_trace::{Trace, recording};
 pub fn cancel_if_set(state: &mut State, timer: Timer, trace: &mut Trace) -> Result<(), OutOfMemory>
     requires { IsTimerOf (read state.old).cluster timer }
     ensures part { OnOk result (read state.new ≡ without_due (read state.old) timer) }
-    ensures told { trace.new.notices ≡ trace.old.notices }
-    ensures marked { trace.new.marked ≡ trace.old.marked }
-    ensures freed { trace.new.freed ≡ trace.old.freed }
+    ensures silent { TellsNothing trace.old trace.new }
     ensures way { Goes state.old trace.old state.new trace.new }
     ensures few { FewEdits 1 trace.old trace.new }
 {

@@ -13,7 +13,7 @@ ghost use Rattle.rh_state.specs.declared.status.Timer.TheVariants.{Sync, Failove
 ghost use Rattle.rh_trace.specs.Traces.{course};
 ghost use Rattle.rh_trace.specs.Validity.{IsValid};
 ghost use Rattle.rh_trace.specs.Counts.{FewEdits, FewWeighed};
-ghost use Rattle.rh_trace.specs.Ways.{Goes};
+ghost use Rattle.rh_trace.specs.Ways.{TellsNothing, Goes};
 ghost use Rattle.rh_rules.specs.Time.{due_by, effect, taken_off, fired, all_fired, ticked};
 ghost use Rattle.rh_rules.specs.NodesEnd.{wanted_if_lost};
 
@@ -146,9 +146,7 @@ fn end_wait(state: &mut State, node: Node, trace: &mut Trace) -> Result<(), OutO
 fn want_if_lost(state: &mut State, app: App, trace: &mut Trace) -> Result<(), OutOfMemory>
     requires { app.0 < app_count (read state.old).cluster }
     ensures part { OnOk result (read state.new ≡ wanted_if_lost (read state.old) app (standing_of (read state.old) app)) }
-    ensures told { trace.new.notices ≡ trace.old.notices }
-    ensures marked { trace.new.marked ≡ trace.old.marked }
-    ensures freed { trace.new.freed ≡ trace.old.freed }
+    ensures silent { TellsNothing trace.old trace.new }
     ensures way { Goes state.old trace.old state.new trace.new }
     ensures few { FewEdits 1 trace.old trace.new }
 {

@@ -1,24 +1,27 @@
 -- How far a part of a step went, put together from its own parts.
-use Rattle.std.proofs.Common.{◌≡◌, true, List, [], ◌∷◌, ◌++◌, refl, sym, ap, ◌∙◌, append_assoc}
+use Rattle.std.proofs.Common.{◌≡◌, List, [], ◌∷◌, ◌++◌, refl, sym, ap, ◌∙◌, append_assoc}
 use Rattle.std.proofs.lemmas.List.{append-nil}
 use Rattle.rh_base.specs.Exchanges.{back, forth}
 use Rattle.rh_state.specs.declared.edit.Change.{Change}
 use Rattle.rh_state.specs.declared.edit.Change.TheVariants.{Now, Mode, Incarnation, Allowed, Restart, Kind, Standing}
 use Rattle.rh_state.specs.declared.edit.Edit.{Edit}
 use Rattle.rh_state.specs.declared.edit.Edit.TheVariants.{Links, Timer, Part}
-use Rattle.rh_state.specs.Edits.{exchange, put, is_done}
+use Rattle.rh_state.specs.Edits.{exchange, put}
 use Rattle.rh_state.specs.Formed.{IsFormed}
 use Rattle.rh_state.specs.Stored.{Stored, read}
 use Rattle.rh_state.proofs.Records.{grows_none, grows_one, grows_more}
 use Rattle.rh_rules.specs.declared.notice.Notice.{Notice}
 use Rattle.rh_trace.specs.Traces.{TraceView}
-use Rattle.rh_trace.specs.Ways.{Tells, Goes}
+use Rattle.rh_trace.specs.Ways.{Tells, TellsNothing, LeadsBack, Goes}
 
 tells_same : (old new : List Notice) → new ≡ old → Tells old new
 tells_same old new is = record { more = []; is = is ∙ sym (append-nil old) }
 
 pub tells_more : (a b c : List Notice) → Tells a b → Tells b c → Tells a c
 tells_more a b c g h = record { more = g.more ++ h.more; is = h.is ∙ ap (λ l. l ++ h.more) g.is ∙ append_assoc a g.more h.more }
+
+pub silent_more : (a b c : TraceView) → TellsNothing a b → TellsNothing b c → TellsNothing a c
+silent_more a b c g h = record { notices = h.notices ∙ g.notices; marked = h.marked ∙ g.marked; freed = h.freed ∙ g.freed }
 
 -- nothing happened
 pub goes_none : (v : Stored) (trace : TraceView) → Goes v trace v trace
@@ -40,10 +43,10 @@ pub goes_marked : (v : Stored) (old new : TraceView) → new.notices ≡ old.not
 goes_marked v old new same edits = record { edits = rw edits (grows_none v old.edits); notices = tells_same old.notices new.notices same }
 
 -- a setter was called, and its edit kept
-pub goes_one : (v w : Stored) (e : Edit) (old new : TraceView) → new.notices ≡ old.notices → new.edits ≡ old.edits ++ e ∷ [] → is_done e ≡ true
-    → exchange w e ≡ v → IsFormed v → IsFormed w → Goes v old w new
-goes_one v w e old new same edits done exact before after = record {
-  edits = grows_one v w e old.edits new.edits edits done exact before after;
+pub goes_one : (v w : Stored) (e : Edit) (old new : TraceView) → new.notices ≡ old.notices → new.edits ≡ old.edits ++ e ∷ [] → LeadsBack v e w
+    → IsFormed v → IsFormed w → Goes v old w new
+goes_one v w e old new same edits led before after = record {
+  edits = grows_one v w e old.edits new.edits edits led.done led.exact before after;
   notices = tells_same old.notices new.notices same;
 }
 

@@ -8,7 +8,7 @@ ghost use Rattle.rh_state.specs.declared.status.Kind.TheVariants as kind;
 ghost use Rattle.rh_rules.specs.declared.notice.Notice.TheVariants.{Started, Stopped};
 ghost use Rattle.rh_trace.specs.Traces.{course};
 ghost use Rattle.rh_trace.specs.Counts.{FewEdits};
-ghost use Rattle.rh_trace.specs.Ways.{Goes, Tells};
+ghost use Rattle.rh_trace.specs.Ways.{Tells, TellsNothing, Goes};
 ghost use Rattle.rh_rules.specs.Moves.{with_started, with_stopped, lost_elsewhere, moved};
 ghost use Rattle.rh_trace.specs.Making.{IsStartedPair, CanBeMade};
 
@@ -32,9 +32,7 @@ fn start_at(
     requires pair { IsStartedPair (read state.old) node app }
     requires kind { IsKindOf (read state.old).cluster kind }
     ensures part { OnOk result (read state.new ≡ with_started (read state.old) node app kind) }
-    ensures told { trace.new.notices ≡ trace.old.notices }
-    ensures marked { trace.new.marked ≡ trace.old.marked }
-    ensures freed { trace.new.freed ≡ trace.old.freed }
+    ensures silent { TellsNothing trace.old trace.new }
     ensures way { Goes state.old trace.old state.new trace.new }
     ensures few { FewEdits 3 trace.old trace.new }
 {
@@ -49,9 +47,7 @@ fn start_at(
 fn stop_at(state: &mut State, node: Node, app: App, trace: &mut Trace) -> Result<(), OutOfMemory>
     requires { IsStartedPair (read state.old) node app }
     ensures part { OnOk result (read state.new ≡ with_stopped (read state.old) node app) }
-    ensures told { trace.new.notices ≡ trace.old.notices }
-    ensures marked { trace.new.marked ≡ trace.old.marked }
-    ensures freed { trace.new.freed ≡ trace.old.freed }
+    ensures silent { TellsNothing trace.old trace.new }
     ensures way { Goes state.old trace.old state.new trace.new }
     ensures few { FewEdits 2 trace.old trace.new }
 {
@@ -78,7 +74,8 @@ fn start_locally(
     trace: &mut Trace,
 ) -> Result<(), OutOfMemory>
     requires { IsStartedPair (read state.old) node app }
-    ensures course { OnOk result (course (read state.new) trace.new ≡ moved (course (read state.old) trace.old) (Local node app)) }
+    ensures course { OnOk result (course (read state.new) trace.new
+        ≡ moved (course (read state.old) trace.old) (Local node app)) }
     ensures way { Goes state.old trace.old state.new trace.new }
     ensures few { FewEdits 0 trace.old trace.new }
 {
@@ -100,7 +97,8 @@ fn place(
     trace: &mut Trace,
 ) -> Result<(), OutOfMemory>
     requires { CanBeMade (read state.old) (Placement app from node) }
-    ensures course { OnOk result (course (read state.new) trace.new ≡ moved (course (read state.old) trace.old) (Placement app from node)) }
+    ensures course { OnOk result (course (read state.new) trace.new
+        ≡ moved (course (read state.old) trace.old) (Placement app from node)) }
     ensures way { Goes state.old trace.old state.new trace.new }
     ensures few { FewEdits 0 trace.old trace.new }
 {
@@ -118,7 +116,8 @@ fn place(
 
 // An application has started at a node in place of another.
 fn tell_takeover(app: App, from: Node, node: Node, trace: &mut Trace) -> Result<(), OutOfMemory>
-    ensures told { OnOk result (trace.new.notices ≡ (trace.old.notices ++ Started app node (kind.Takeover from) None ∷ []) ++ Stopped app from ∷ []) }
+    ensures told { OnOk result (trace.new.notices
+        ≡ (trace.old.notices ++ Started app node (kind.Takeover from) None ∷ []) ++ Stopped app from ∷ []) }
     ensures marked { trace.new.marked ≡ trace.old.marked }
     ensures freed { trace.new.freed ≡ trace.old.freed }
     ensures edits { trace.new.edits ≡ trace.old.edits }
@@ -144,7 +143,8 @@ fn take_over(
     trace: &mut Trace,
 ) -> Result<(), OutOfMemory>
     requires { CanBeMade (read state.old) (Takeover app from node) }
-    ensures course { OnOk result (course (read state.new) trace.new ≡ moved (course (read state.old) trace.old) (Takeover app from node)) }
+    ensures course { OnOk result (course (read state.new) trace.new
+        ≡ moved (course (read state.old) trace.old) (Takeover app from node)) }
     ensures way { Goes state.old trace.old state.new trace.new }
     ensures few { FewEdits 0 trace.old trace.new }
 {
@@ -157,7 +157,8 @@ fn take_over(
 /// Makes a move, and tells it. Where memory is refused, the state is one on the way.
 pub fn make_move(state: &mut State, next: Move, trace: &mut Trace) -> Result<(), OutOfMemory>
     requires { CanBeMade (read state.old) next }
-    ensures course { OnOk result (course (read state.new) trace.new ≡ moved (course (read state.old) trace.old) next) }
+    ensures course { OnOk result (course (read state.new) trace.new
+        ≡ moved (course (read state.old) trace.old) next) }
     ensures way { Goes state.old trace.old state.new trace.new }
     ensures few { FewEdits 0 trace.old trace.new }
 {

@@ -8,7 +8,6 @@ pub returns-clause-course : goal.returns-clause-course
 returns-clause-course c =
     on_ok_weaker c.make_move.result
     (λ made. made
-    ∙ same_takeover (read c.args.state.now) (read c.start_if_off.new.state) c.args.app c.args.from c.args.node c.args.trace.now c.start_if_off.new.trace
-    c.in_ok-start_if_off.ensures.told c.in_ok-start_if_off.ensures.marked c.in_ok-start_if_off.ensures.freed
-    c.in_ok-start_if_off.ensures.others)
+    ∙ same_takeover (read c.args.state.now) (read c.start_if_off.new.state) c.args.app c.args.from c.args.node _ _
+    c.in_ok-start_if_off.ensures.silent c.in_ok-start_if_off.ensures.others)
     c.make_move.ensures.course

@@ -16,7 +16,6 @@ returns-in_ok-set_restart-in-Running-clause-course c =
     on_ok_weaker c.move_by_hand.result
     (λ made. made
     ∙ ap (λ (o : Course). moved o (Takeover c.args.app c.in-Running.from c.args.node))
-    (same_course _ _ c.args.trace.now c.set_restart.new.trace c.in_ok-set_restart-in-Running.ensures.part c.in_ok-set_restart-in-Running.ensures.told
-    c.in_ok-set_restart-in-Running.ensures.marked c.in_ok-set_restart-in-Running.ensures.freed)
+    (same_course _ _ _ _ c.in_ok-set_restart-in-Running.ensures.part c.in_ok-set_restart-in-Running.ensures.silent)
     ∙ ap (taken_from (course s c.args.trace.now) c.args.node c.args.app c.args.restart) (sym c.in-Running.is ∙ c.standing.ensures.standing))
     c.move_by_hand.ensures.course

@@ -3,12 +3,12 @@ use Rattle.rh_model.specs.ClusterView.{ClusterView, app_count, app_numbered, is_
 use Rattle.rh_state.specs.StateView.{StateView}
 use Rattle.rh_state.specs.Setters.{with_allowed}
 use Rattle.rh_state.specs.Stored.{read}
-use Rattle.rh_trace.proofs.Ways.{goes_none, goes_more}
+use Rattle.rh_trace.proofs.Ways.{silent_more, goes_none, goes_more}
 use Rattle.rh_events.proofs.Configuring.{already_configured, with_first, none_written, one_written, all_written}
 use Rattle.rh_events.proofs.ending.configure.Goals as goal
 
 pub apps-init : goal.apps-init
-apps-init c = record { cluster = refl; written = none_written (read c.args.state.now) c.args.node; told = refl; marked = refl; freed = refl; way = goes_none _ _; few = omega arith }
+apps-init c = record { cluster = refl; written = none_written (read c.args.state.now) c.args.node; silent = record { notices = refl; marked = refl; freed = refl }; way = goes_none _ _; few = omega arith }
 
 pub apps-preserved : goal.apps-preserved
 apps-preserved c =
@@ -22,9 +22,7 @@ apps-preserved c =
       written = c.in_ok-configure_app.ensures.part
           ∙ ap (λ (t : StateView). with_allowed t n (app_numbered i) (is_permitted t.cluster n (app_numbered i))) c.apps.invariant.written
           ∙ one_written s n c.formed.ensures.shape c.requires i lt;
-      told = c.in_ok-configure_app.ensures.told ∙ c.apps.invariant.told;
-      marked = c.in_ok-configure_app.ensures.marked ∙ c.apps.invariant.marked;
-      freed = c.in_ok-configure_app.ensures.freed ∙ c.apps.invariant.freed;
+      silent = silent_more _ _ _ c.apps.invariant.silent c.in_ok-configure_app.ensures.silent;
       way = goes_more _ _ _ _ _ _ c.apps.invariant.way c.in_ok-configure_app.ensures.way;
       few = omega (arith, c.apps.invariant.few, c.in_ok-configure_app.ensures.few);
     }

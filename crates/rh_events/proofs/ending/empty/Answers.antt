@@ -1,7 +1,7 @@
 use Rattle.std.proofs.Common.{◌<◌, sym, ap, ◌∙◌, subst, arith}
 use Rattle.rh_state.specs.StateView.{StateView}
 use Rattle.rh_state.specs.Stored.{read}
-use Rattle.rh_trace.proofs.Ways.{goes_more}
+use Rattle.rh_trace.proofs.Ways.{silent_more, goes_more}
 use Rattle.rh_rules.specs.NodesEnd.{emptied}
 use Rattle.rh_events.proofs.Emptying.{how_many, one_less, emptied_unlisted, empty_already, started_some, none_of_default}
 use Rattle.rh_trace.proofs.FewStarted.{few_started}
@@ -23,9 +23,7 @@ started-preserved c =
       emptied = ap (λ s. emptied s c.args.node) c.in_ok-unlink.ensures.part
           ∙ emptied_unlisted (read c.started.state) c.args.node c.in-Some.app ∙ c.started.invariant.emptied;
       cluster = ap (λ (s : StateView). s.cluster) c.in_ok-unlink.ensures.part ∙ c.started.invariant.cluster;
-      told = c.in_ok-unlink.ensures.told ∙ c.started.invariant.told;
-      marked = c.in_ok-unlink.ensures.marked ∙ c.started.invariant.marked;
-      freed = c.in_ok-unlink.ensures.freed ∙ c.started.invariant.freed;
+      silent = silent_more _ _ _ c.started.invariant.silent c.in_ok-unlink.ensures.silent;
       way = goes_more _ _ _ _ _ _ c.started.invariant.way c.in_ok-unlink.ensures.way;
       few = omega (arith, left, less, c.started.invariant.few, c.in_ok-unlink.ensures.few);
     }

@@ -30,10 +30,10 @@ returns-clause-few c =
     let told = c.in_ok-tell.ensures.told in
     let apps = ap (λ (v : ClusterView). app_count v) (goes_cluster _ _ _ _ c.in_ok-clear.ensures.way) in
     let edits = ap (λ (t : TraceView). length t.edits) told in
-    let before = ap (λ (ns : List Notice). length ns) c.in_ok-clear.ensures.told in
-    let count = ap (λ (ns : List Notice). length ns) c.lose_all.ensures.told in
+    let before = ap (λ (ns : List Notice). length ns) c.in_ok-clear.ensures.silent.notices in
+    let count = ap (λ (ns : List Notice). length ns) c.lose_all.ensures.silent.notices in
     on_ok_weaker c.lose_all.result
     (λ few. told_once (read c.args.state.now).cluster (Ended c.args.node) c.args.trace.now c.lose_all.new.trace
-    (c.lose_all.ensures.told ∙ c.in_ok-clear.ensures.told ∙ ap (λ (t : TraceView). t.notices) told)
+    (c.lose_all.ensures.silent.notices ∙ c.in_ok-clear.ensures.silent.notices ∙ ap (λ (t : TraceView). t.notices) told)
     (omega (arith, apps, edits, before, count, c.in_ok-clear.ensures.few, few)))
     c.lose_all.ensures.few

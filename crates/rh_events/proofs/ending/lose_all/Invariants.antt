@@ -1,7 +1,7 @@
 use Rattle.std.proofs.Common.{◌≡◌, ◌*◌}
 use Rattle.rh_state.specs.Stored.{read}
 use Rattle.rh_trace.specs.Counts.{FewEdits}
-use Rattle.rh_trace.specs.Ways.{Goes}
+use Rattle.rh_trace.specs.Ways.{TellsNothing, Goes}
 use Rattle.rh_events.proofs.Losing.{lost_below, UnsetFrom}
 use Rattle.rh_events.proofs.ending.lose_all.Given as goal
 
@@ -10,9 +10,7 @@ invariant-apps l = record {
   lost : read l.state ≡ lost_below (read l.fn.state) l.node l.number;
   cluster : (read l.state).cluster ≡ (read l.fn.state).cluster;
   unset : UnsetFrom (read l.state) l.node l.number;
-  told : l.trace.notices ≡ l.fn.trace.notices;
-  marked : l.trace.marked ≡ l.fn.trace.marked;
-  freed : l.trace.freed ≡ l.fn.trace.freed;
+  silent : TellsNothing l.fn.trace l.trace;
   way : Goes l.fn.state l.fn.trace l.state l.trace;
   few : FewEdits (2 * l.number) l.fn.trace l.trace;
 }
