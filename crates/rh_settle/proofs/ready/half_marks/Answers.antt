@@ -17,7 +17,7 @@ apps-preserved c =
     record {
       few = omega (arith, few);
       above = omega (arith, some);
-      wanted = pushed (λ a. is_wanted (standing_of s a)) (marks_of c.apps.wanted) (marks_of c.pushed-wanted.result) c.args.end i least few limit
-          (λ a first. c.pushed-wanted.ensures.first a first ∙ c.is_wanted.ensures)
-          c.pushed-wanted.ensures.others c.apps.invariant.wanted;
+      wanted = pushed (λ a. is_wanted (standing_of s a)) (marks_of c.apps.wanted) (marks_of c.with_mark_in_front-wanted.result) c.args.end i least few limit
+          (λ a first. c.with_mark_in_front-wanted.ensures.first a first ∙ c.is_wanted.ensures)
+          c.with_mark_in_front-wanted.ensures.others c.apps.invariant.wanted;
     }
