@@ -16,7 +16,7 @@ use Rattle.rh_rules.specs.Course.{is_local}
 use Rattle.rh_rules.specs.declared.event.Event.{Event}
 use Rattle.rh_rules.specs.declared.event.Event.TheVariants.{Boot, Tick}
 use Rattle.rh_rules.specs.declared.notice.Notice.{Notice}
-use Rattle.rh_rules.specs.declared.notice.Notice.TheVariants.{Up, Ended as NodeEnded, Started, Stopped, Waits}
+use Rattle.rh_rules.specs.declared.notice.Notice.TheVariants.{Waits}
 use Rattle.rh_rules.specs.declared.refusal.Refusal.{Refusal}
 use Rattle.rh_rules.specs.declared.refusal.Refusal.TheVariants.{TrailFull}
 use Rattle.rh_rules.specs.Refusals.{refused, refusal_words}
@@ -41,18 +41,11 @@ use Rattle.rh_script.specs.Laws.{IsUnbroken, HasUnbroken}
 use Rattle.rh_run.proofs.Keeping.{served_keeps_cluster}
 use Rattle.rh_story.specs.LineText.{answer_lines, time_line, reason_line, app_lines, node_lines, why_lines, notice_lines, firing_lines, event_lines, call_lines}
 use Rattle.rh_story_laws.proofs.Texts.{free, Ended, nothing, ended_by, ended_append, ended_each}
+use Rattle.rh_story_laws.proofs.Clean.{notice_ended}
 use Rattle.rh_story_laws.proofs.Words.{number_free, reason_free, awaited_free}
 use Rattle.rh_story_laws.proofs.Told.{Tells, tells_nothing, tells_both, tells_each, time_silent, reason_silent, answer_tells}
 
 -- ---- each answer is of whole lines
-pub notice_ended : (c : ClusterView) (notice : Notice) → Ended (notice_line c notice)
-unfolding notice_line
-notice_ended c (Up n) = ended_by (codes "up " ++ node_word c n)
-notice_ended c (NodeEnded n) = ended_by (codes "ended " ++ node_word c n)
-notice_ended c (Started a n kind lost) = ended_by (codes "started " ++ pair_words c a n ++ codes " " ++ kind_words c kind)
-notice_ended c (Stopped a n) = ended_by (codes "stopped " ++ pair_words c a n)
-notice_ended c (Waits a n) = ended_by (codes "waits " ++ pair_words c a n)
-
 forbidden_ended : (s : StateView) (n : Node) (a : App) → Ended (line_if_forbidden s n a)
 unfolding line_if_forbidden forbidden_line
 forbidden_ended s n a = by (is_allowed s n a)
@@ -181,11 +174,8 @@ module _ (c : ClusterView) (names : HasUnbroken c) (platforms : All IsUnbroken c
           (ap (λ (d : ClusterView). free (awaited_text d (awaited t n) (due_of t (Sync n)))) on ∙ awaited_free c names platforms (awaited t n) (due_of t (Sync n)))
 
   pub why_tells : (notice : Notice) → Tells (why_lines t notice) []
-  why_tells (Up n) = tells_nothing
-  why_tells (NodeEnded n) = tells_nothing
-  why_tells (Started a n kind lost) = tells_nothing
-  why_tells (Stopped a n) = tells_nothing
   why_tells (Waits a n) = app_tells a n
+  why_tells _ = tells_nothing
 
   pub notice_tells : (notice : Notice) → Tells (notice_lines t notice) (notice_line t.cluster notice)
   notice_tells notice =

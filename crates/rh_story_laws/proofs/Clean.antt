@@ -1,4 +1,4 @@
--- No CR stands in an answer.
+-- No CR stands in an answer, and each notice is a whole line.
 use Rattle.std.proofs.Common.{◌≡◌, ◌≢◌, ◌==◌, ◌-◌, ◌+◌, ◌/◌, ◌%◌, ℕ, zero, suc, List, [], ◌∷◌, ◌++◌, length, Bool, true, false, cond, eqb, nat_lt, codes, Option, Some, None, unwrap_or, refl, sym, ap, ◌∙◌, subst, arith}
 use Rattle.std.specs.Prelude.{All, slice_get}
 use Rattle.std.specs.List.{flat_map}
@@ -40,7 +40,7 @@ use Rattle.rh_trail.specs.Lone.{answered, stepped, served, with_event, trail_lim
 use Rattle.rh_courses.proofs.Passing.{state_cluster}
 use Rattle.rh_script.specs.Answers.{pair_words, notice_line, refusal_line, answer_text}
 use Rattle.rh_script.specs.Laws.{IsUnbroken, HasUnbroken}
-use Rattle.rh_story_laws.proofs.Texts.{not_both}
+use Rattle.rh_story_laws.proofs.Texts.{not_both, Ended as WholeLines, ended_by}
 
 abbrev pub clean : List ℕ → Bool
 clean [] = true
@@ -131,6 +131,15 @@ restart_clean Permanent = refl
 restart_clean Transient = refl
 restart_clean Temporary = refl
 
+-- ---- a notice is of whole lines
+pub notice_ended : (c : ClusterView) (notice : Notice) → WholeLines (notice_line c notice)
+unfolding notice_line
+notice_ended c (Up n) = ended_by (codes "up " ++ node_word c n)
+notice_ended c (Ended n) = ended_by (codes "ended " ++ node_word c n)
+notice_ended c (Started a n kind lost) = ended_by (codes "started " ++ pair_words c a n ++ codes " " ++ kind_words c kind)
+notice_ended c (Stopped a n) = ended_by (codes "stopped " ++ pair_words c a n)
+notice_ended c (Waits a n) = ended_by (codes "waits " ++ pair_words c a n)
+
 module _ (c : ClusterView) (names : HasUnbroken c) where
   node_clean : (n : Node) → clean (node_word c n) ≡ true
   node_clean n = name_clean c.node_names n.0 names.nodes
@@ -175,26 +184,9 @@ module _ (c : ClusterView) (names : HasUnbroken c) where
     dep_clean (Platform p) = name_clean c.platform_names p platforms
 
     refusal_clean : (why : Refusal) → clean (refusal_line c why) ≡ true
-    refusal_clean refusal.UnknownNode = refl
-    refusal_clean refusal.UnknownApp = refl
-    refusal_clean refusal.AlreadyAlive = refl
-    refusal_clean refusal.IncarnationLimit = refl
-    refusal_clean refusal.NotAlive = refl
-    refusal_clean refusal.ZeroTick = refl
-    refusal_clean refusal.TimeLimit = refl
-    refusal_clean refusal.NodeNotUp = refl
-    refusal_clean refusal.NotDistributed = refl
-    refusal_clean refusal.NotListed = refl
-    refusal_clean refusal.AlreadyStarted = refl
-    refusal_clean refusal.NeverStarted = refl
-    refusal_clean refusal.NotRunning = refl
-    refusal_clean refusal.RunsHere = refl
-    refusal_clean refusal.NotRunningHere = refl
-    refusal_clean refusal.NotPermitted = refl
     refusal_clean (refusal.DependencyNotStarted dep) =
         with_lf (codes "refused S17 dependency_not_started " ++ dep_word c dep) (dep_clean dep)
-    refusal_clean refusal.TrailFull = refl
-    refusal_clean refusal.OutOfMemory = refl
+    refusal_clean _ = refl
 
 -- ---- the report
 module _ (s : StateView) (names : HasUnbroken s.cluster) where

@@ -14,7 +14,7 @@ use Rattle.rh_state.specs.StateView.{StateView, due_of}
 use Rattle.rh_rules.specs.declared.event.Event.{Event}
 use Rattle.rh_rules.specs.declared.event.Event.TheVariants.{Boot, Tick}
 use Rattle.rh_rules.specs.declared.notice.Notice.{Notice}
-use Rattle.rh_rules.specs.declared.notice.Notice.TheVariants.{Up, Ended as NodeEnded, Started, Stopped, Waits}
+use Rattle.rh_rules.specs.declared.notice.Notice.TheVariants.{Waits}
 use Rattle.rh_step.specs.Firings.{FiringView, firings}
 use Rattle.rh_calls.specs.declared.call.Call.{Call}
 use Rattle.rh_calls.specs.declared.call.Call.TheVariants as call
@@ -41,7 +41,8 @@ use Rattle.rh_story_laws.proofs.Texts.{free, Ended, nothing, line, first_line, l
 use Rattle.rh_story_laws.proofs.Marks.{kind_at, told_kind, kind_content}
 use Rattle.rh_story_laws.proofs.Words.{number_free, reason_free, awaited_free, course_free}
 use Rattle.rh_story_laws.proofs.Told.{marked_first, answer_tells, time_silent}
-use Rattle.rh_story_laws.proofs.Answered.{notice_ended, reply_ended, reason_tells, notice_tells, notices_tell, firing_tells}
+use Rattle.rh_story_laws.proofs.Clean.{notice_ended}
+use Rattle.rh_story_laws.proofs.Answered.{reply_ended, reason_tells, notice_tells, notices_tell, firing_tells}
 
 -- a story writes such a line
 abbrev pub Marked : List ℕ → Type 0
@@ -105,11 +106,8 @@ module _ (c : ClusterView) (names : HasUnbroken c) (platforms : All IsUnbroken c
           (ap (λ (d : ClusterView). free (awaited_text d (awaited t n) (due_of t (Sync n)))) on ∙ awaited_free c names platforms (awaited t n) (due_of t (Sync n))) refl
 
   why_marked : (notice : Notice) → MarkedText (why_lines t notice)
-  why_marked (Up n) = tt
-  why_marked (NodeEnded n) = tt
-  why_marked (Started a n kind lost) = tt
-  why_marked (Stopped a n) = tt
   why_marked (Waits a n) = reasons_marked (reasons t a n)
+  why_marked _ = tt
 
   notices_marked : (ns : List Notice) → MarkedText (flat_map (notice_lines t) ns)
   notices_marked [] = tt

@@ -10,7 +10,7 @@ use Rattle.rh_cluster.proofs.ReadWithin.{clusters_within}
 use Rattle.rh_state.specs.StateView.{StateView}
 use Rattle.rh_rules.specs.declared.event.Event.TheVariants.{Tick}
 use Rattle.rh_rules.specs.declared.notice.Notice.{Notice}
-use Rattle.rh_rules.specs.declared.notice.Notice.TheVariants.{Up, Ended as NodeEnded, Started, Stopped, Waits}
+use Rattle.rh_rules.specs.declared.notice.Notice.TheVariants.{Waits}
 use Rattle.rh_trace.specs.Validity.{IsValid}
 use Rattle.rh_step.specs.Firings.{FiringView}
 use Rattle.rh_step.proofs.FiringsTold.{firings_tell_the_tick, firings_are_in_time}
@@ -35,7 +35,8 @@ use Rattle.rh_story_laws.proofs.Texts.{free, Ended, nothing, line, first_line, l
 use Rattle.rh_story_laws.proofs.Words.{number_free, reason_free}
 use Rattle.rh_story_laws.proofs.Platforms.{platforms_unbroken}
 use Rattle.rh_story_laws.proofs.Told.{marked_first, answer_tells}
-use Rattle.rh_story_laws.proofs.Answered.{notice_ended, reason_tells, notice_tells, notices_tell, call_tells}
+use Rattle.rh_story_laws.proofs.Clean.{notice_ended}
+use Rattle.rh_story_laws.proofs.Answered.{reason_tells, notice_tells, notices_tell, call_tells}
 use Rattle.rh_story_laws.proofs.Telling.{sim_cluster}
 
 -- ---- lines without a time
@@ -86,11 +87,8 @@ module _ (c : ClusterView) (names : HasUnbroken c) (platforms : All IsUnbroken c
       (reasons_timeless rs)
 
   why_timeless : (notice : Notice) → Timeless (why_lines t notice)
-  why_timeless (Up n) = tt
-  why_timeless (NodeEnded n) = tt
-  why_timeless (Started a n kind lost) = tt
-  why_timeless (Stopped a n) = tt
   why_timeless (Waits a n) = reasons_timeless (reasons t a n)
+  why_timeless _ = tt
 
   notices_timeless : (ns : List Notice) → Timeless (flat_map (notice_lines t) ns)
   notices_timeless [] = tt
