@@ -23,8 +23,9 @@ fn push_pair(text: &mut String, cluster: &Cluster, app: App, node: Node) -> Resu
     Ok(())
 }
 
-// Adds a space, how an application was started, and the end of the line: most start normally, which is one text to add.
-fn push_kind_end(text: &mut String, cluster: &Cluster, kind: Kind) -> Result<(), OutOfMemory>
+// Adds how an application was started as the last word of a line, with the space before it and the line's end: most start normally,
+// which is one text to add.
+fn push_last_kind(text: &mut String, cluster: &Cluster, kind: Kind) -> Result<(), OutOfMemory>
     ensures { OnOk result (string_bytes text.new ≡ string_bytes text.old ++ (codes " " ++ kind_words cluster.now kind ++ codes "\n")) }
 {
     match kind {
@@ -62,7 +63,7 @@ pub fn push_notice(text: &mut String, cluster: &Cluster, notice: &Notice) -> Res
         } => {
             text.push_str("started ")?;
             push_pair(text, cluster, app, node)?;
-            push_kind_end(text, cluster, kind)?;
+            push_last_kind(text, cluster, kind)?;
         }
         Notice::Stopped { app, node } => {
             text.push_str("stopped ")?;

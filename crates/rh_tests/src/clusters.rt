@@ -1,6 +1,6 @@
 //! Readers of a cluster that no step asks, copies, and which clusters are the same.
 
-use crate::support::cluster_of;
+use crate::support::{are_clusters_same, cluster_of};
 use crate::trees::show_term;
 use rh_cluster::{App, Cluster};
 use rh_samples::{ONE_NODE, TWO_NODES};
@@ -57,19 +57,14 @@ fn a_copy_stands_for_its_cluster_alone(rt: HostRuntime) {
     stands_for(&rt, rt.alloc(), &copy, ONE_NODE, TWO_NODES);
 }
 
-// Are the clusters of the two texts the same?
-fn are_same(rt: &impl Abort, alloc: Global, one: &str, other: &str) -> bool {
-    let one = cluster_of(rt, alloc, one);
-    one.same(&cluster_of(rt, alloc, other))
-}
-
 #[test]
 fn the_order_of_nodes_counts(rt: HostRuntime) {
     let alloc = rt.alloc();
     let this = "{node, a@x, []}. {node, b@x, []}.";
     let that = "{node, b@x, []}. {node, a@x, []}.";
-    assert!(rt; !are_same(&rt, alloc, this, that));
+    assert!(rt; !are_clusters_same(&rt, alloc, this, that));
     assert!(rt;
-        are_same(&rt, alloc, ONE_NODE, ONE_NODE) && !are_same(&rt, alloc, ONE_NODE, TWO_NODES)
+        are_clusters_same(&rt, alloc, ONE_NODE, ONE_NODE)
+            && !are_clusters_same(&rt, alloc, ONE_NODE, TWO_NODES)
     );
 }

@@ -1,6 +1,6 @@
 //! Clusters of both profiles: which is read, a permission that is given back, and the greatest numbers of the second one.
 
-use crate::support::{cluster_of, make_all, sim_on};
+use crate::support::{are_clusters_same, cluster_of, make_all, sim_on};
 use rh_cluster::{App, Cluster, Node, Restart};
 use rh_place::{candidates, choose, operational};
 use rh_state::{Kind, State};
@@ -42,19 +42,18 @@ fn profile_in_copy(rt: &impl Abort, alloc: Global, cluster: &Cluster) -> u8 {
     cluster.profile()
 }
 
-// Are the clusters of the two texts the same?
-fn are_same(rt: &impl Abort, alloc: Global, one: &str, other: &str) -> bool {
-    let one = cluster_of(rt, alloc, one);
-    one.same(&cluster_of(rt, alloc, other))
-}
-
 #[test]
 fn the_profile_of_a_cluster(rt: HostRuntime) {
     let alloc = rt.alloc();
     assert!(rt; profile_of(&rt, alloc, NONE) == 1 && profile_of(&rt, alloc, FIRST) == 1);
     assert!(rt; profile_of(&rt, alloc, SECOND) == 2);
-    assert!(rt; are_same(&rt, alloc, NONE, FIRST) && are_same(&rt, alloc, SECOND, SECOND));
-    assert!(rt; !are_same(&rt, alloc, NONE, SECOND) && !are_same(&rt, alloc, SECOND, FIRST));
+    assert!(rt;
+        are_clusters_same(&rt, alloc, NONE, FIRST) && are_clusters_same(&rt, alloc, SECOND, SECOND)
+    );
+    assert!(rt;
+        !are_clusters_same(&rt, alloc, NONE, SECOND)
+            && !are_clusters_same(&rt, alloc, SECOND, FIRST)
+    );
 }
 
 // The service may run at the first node, or may not.

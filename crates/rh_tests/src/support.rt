@@ -14,7 +14,13 @@ pub fn cluster_of(rt: &impl Abort, alloc: Global, text: &str) -> Cluster {
         .expect(rt, "a cluster")
 }
 
-/// A simulation on it, in the first state.
+/// Are the clusters of the two texts the same?
+pub fn are_clusters_same(rt: &impl Abort, alloc: Global, one: &str, other: &str) -> bool {
+    let one = cluster_of(rt, alloc, one);
+    one.same(&cluster_of(rt, alloc, other))
+}
+
+/// A simulation on the cluster that a text describes, in the first state.
 pub fn sim_on(rt: &impl Abort, alloc: Global, text: &str) -> Sim {
     Sim::open(alloc, cluster_of(rt, alloc, text), Pick::First)
         .ok()

@@ -66,7 +66,7 @@ fn a_copy_is_equal(rt: HostRuntime) {
 }
 
 // Are the terms the same, seen from both sides?
-fn are_same(rt: &impl Abort, one: &Terms, other: &Terms) -> bool {
+fn are_terms_same(rt: &impl Abort, one: &Terms, other: &Terms) -> bool {
     let answer = one.same(other);
     assert!(rt; other.same(one) == answer);
     answer
@@ -74,7 +74,7 @@ fn are_same(rt: &impl Abort, one: &Terms, other: &Terms) -> bool {
 
 // Is the text's list of terms the same as this one?
 fn is_same(rt: &impl Abort, alloc: Global, one: &Terms, text: &str) -> bool {
-    are_same(rt, one, &terms_of(rt, alloc, text))
+    are_terms_same(rt, one, &terms_of(rt, alloc, text))
 }
 
 #[test]
@@ -120,7 +120,7 @@ fn shared_terms_stay_where_others_go(rt: HostRuntime) {
 fn a_copy_of_shared_terms_is_equal(rt: HostRuntime) {
     let shared = shared_of(&rt, rt.alloc(), "{a, [1, \"t\"]}. [].");
     let copy = shared.copy(rt.alloc()).ok().expect(&rt, "memory");
-    assert!(rt; are_same(&rt, &copy, &shared));
+    assert!(rt; are_terms_same(&rt, &copy, &shared));
     drop(shared);
     are_shown(&rt, rt.alloc(), &copy, "{a,[1,\"t\",],},[],");
 }
@@ -139,7 +139,7 @@ fn terms_are_shared_twice(rt: HostRuntime) {
 fn terms_that_are_not_shared_are_copied(rt: HostRuntime) {
     let own = terms_of(&rt, rt.alloc(), "{a, [1, \"t\"]}. [].");
     let more = own.share(rt.alloc()).ok().expect(&rt, "memory");
-    assert!(rt; are_same(&rt, &more, &own));
+    assert!(rt; are_terms_same(&rt, &more, &own));
     drop(own);
     are_shown(&rt, rt.alloc(), &more, "{a,[1,\"t\",],},[],");
 }
@@ -147,7 +147,7 @@ fn terms_that_are_not_shared_are_copied(rt: HostRuntime) {
 // Is the text's list of terms the same as this one, whether they are shared or not?
 fn is_same_shared_too(rt: &impl Abort, alloc: Global, shared: &Terms, text: &str) -> bool {
     let answer = is_same(rt, alloc, shared, text);
-    assert!(rt; are_same(rt, shared, &shared_of(rt, alloc, text)) == answer);
+    assert!(rt; are_terms_same(rt, shared, &shared_of(rt, alloc, text)) == answer);
     answer
 }
 
