@@ -8,10 +8,10 @@ say() {
   printf 'rehearse: %s\n' "$@" >&2
 }
 
-# What takes files in place of standard input.
+# What takes files in place of standard input: the subcommands, as docs/make writes them here.
 is_subcommand() {
   case "${1-}" in
-    run | check | lint | sessions | sweep | explore | story | verify) ;;
+    run | check | lint | story | verify | sessions | sweep | explore) ;;
     *) return 1 ;;
   esac
 }
@@ -50,7 +50,8 @@ asks_code() {
 }
 
 # The words of a command line: `words` for the program, `files` in place of standard input, and in `asks_help` whether help is asked.
-# An option that isn't known here goes to the program as it is; behind `--` all words are files.
+# An option that isn't known here goes to the program as it is; behind `--` all words are files. docs/make writes which options take
+# a value.
 read_words() {
   words=("$1") files=() asks_help=
   shift

@@ -20,6 +20,9 @@ CHANGES = [
     ("crates.txt", "\nrh_plans: ", "\nrh_plans: rh_trail ", "docs/ARCHITECTURE.md line"),
     ("crates/rh_script/src/forms.rt", '"boot"', '"reboot"', "companions/rehearse_tools/commands.json line"),
     ("docs/help/run.txt", "\n  boot N ", "\n  reboot N ", "docs/help/run.txt line"),
+    ("crates/rh_command_line/src/help.rt", "says whether it is one", "tells whether it is one", "docs/help/check.txt line"),
+    ("crates/rh_command_line/src/table.rt", '"story"', '"tale"', "shipped/front.sh line"),
+    ("crates/rh_command_line/src/building.rt", '.long("workers")', '.long("threads")', "docs/help/sweep.txt line"),
     ("crates/rh_rules/src/event.rt", "StopA", "StopEveryA", "docs/CHANGING.md line"),
     ("docs/DEFINITIONS.md", "\n- `", "\n- by hand `", "docs/DEFINITIONS.md line"),
     ("docs/parts/contracts.md", "`", "`no_such_name` `", "docs/parts/contracts.md names what no source has: no_such_name"),
@@ -61,6 +64,8 @@ def copy_to(folder):
     """A copy of what docs/make reads; what it only searches for words is linked."""
     shutil.copytree(os.path.join(TOP, "docs"), os.path.join(folder, "docs"), ignore=shutil.ignore_patterns("images", "__pycache__"))
     shutil.copy(os.path.join(TOP, "crates.txt"), folder)
+    os.mkdir(os.path.join(folder, "shipped"))
+    shutil.copy(os.path.join(TOP, "shipped", "front.sh"), os.path.join(folder, "shipped"))
     for name in BESIDE:
         os.symlink(os.path.join(TOP, name), os.path.join(folder, name))
     for crate in os.listdir(os.path.join(TOP, "crates")):
