@@ -48,8 +48,10 @@ pub trait Together {
         requires writer { writer.old.failed ≡ false }
         requires together { is_alone program ≡ false }
         requires workers { IsStaffed program }
-        ensures ends { StatusGives S.gives S.fails K.takes K.flushes K.fails program result reader.old reader.new writer.old writer.new }
-        ensures done { result ≡ 0 → IsDone S.gives K.takes K.flushes program reader.old reader.new writer.old writer.new };
+        ensures ends { StatusGives S.gives S.fails K.takes K.flushes K.fails program result
+            reader.old reader.new writer.old writer.new }
+        ensures done { result ≡ 0 → IsDone S.gives K.takes K.flushes program reader.old reader.new
+            writer.old writer.new };
 }
 
 /// Does what the words ask, and answers the status with which the process ends. Where they ask for a program, it runs over the
@@ -67,7 +69,8 @@ pub fn process<S: Source + Drop, K: Sink + Drop, E: Complain, H: Together, W: Wa
     watch: &mut W,
 ) -> u8
     requires { H.ready threads.now }
-    ensures { ProcessGives S.gives S.fails K.takes K.flushes K.fails E.tells words.now reader writer errors.old errors.new result }
+    ensures { ProcessGives S.gives S.fails K.takes K.flushes K.fails E.tells words.now reader writer
+        errors.old errors.new result }
 {
     match asked_of(alloc, words) {
         Asked::For(program) => match writer {

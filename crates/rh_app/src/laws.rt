@@ -34,7 +34,8 @@ use std::alloc::Global;
 pub fn step_and_undo(alloc: Global, sim: &mut Sim, event: Event) -> Result<Vec<Notice>, Refusal>
     ensures words { sim.new.words ≡ sim.old.words }
     ensures accepted { IfOk result (λ notices. Accepts sim.old.seen event notices.items) }
-    ensures seen { OnOk result (sim.new.seen ≡ record sim.old.seen { trail = take sim.old.seen.cursor sim.old.seen.trail ++ event ∷ [] }) }
+    ensures seen { OnOk result (sim.new.seen ≡ record sim.old.seen
+        { trail = take sim.old.seen.cursor sim.old.seen.trail ++ event ∷ [] }) }
     ensures kept { OnErr result (sim.new ≡ sim.old) }
 {
     sim.is_chained();
@@ -74,8 +75,13 @@ pub fn step_undo_and_redo(
     sim: &mut Sim,
     event: Event,
 ) -> Result<Vec<Notice>, Refusal>
-    ensures allowed { IfOk result (λ notices. Allowed (read sim.old.words) event (outcome (read sim.new.words) notices.items)) }
-    ensures seen { OnOk result (sim.new.seen ≡ record sim.old.seen { trail = take sim.old.seen.cursor sim.old.seen.trail ++ event ∷ []; cursor = sim.old.seen.cursor + 1 }) }
+    ensures allowed { IfOk result (λ notices.
+        Allowed (read sim.old.words) event (outcome (read sim.new.words) notices.items)) }
+    ensures seen { OnOk result (sim.new.seen ≡ record sim.old.seen {
+      trail = take
+          sim.old.seen.cursor sim.old.seen.trail ++ event ∷ [];
+      cursor = sim.old.seen.cursor + 1;
+    }) }
     ensures kept { OnErr result (sim.new ≡ sim.old) }
 {
     sim.is_chained();
@@ -91,7 +97,8 @@ pub fn step_undo_and_redo(
 pub fn open_and_undo_all(alloc: Global, sim: &mut Sim) -> Result<Sim, OutOfMemory>
     ensures words { IfOk result (λ fresh. sim.new.words ≡ fresh.words) }
     ensures seen { OnOk result (sim.new.seen ≡ record sim.old.seen { cursor = 0 }) }
-    ensures fresh { IfOk result (λ fresh. (fresh.seen ≡ opened sim.old.seen.cluster sim.old.seen.pick) × (fresh.words ≡ first_words sim.old.seen.cluster)) }
+    ensures fresh { IfOk result (λ fresh. (fresh.seen ≡ opened sim.old.seen.cluster
+        sim.old.seen.pick) × (fresh.words ≡ first_words sim.old.seen.cluster)) }
     ensures kept { OnErr result (sim.new ≡ sim.old) }
 {
     sim.is_chained();
@@ -103,7 +110,8 @@ pub fn open_and_undo_all(alloc: Global, sim: &mut Sim) -> Result<Sim, OutOfMemor
 
 /// Takes all steps back, and makes all again: where none could be made again before, every word is as it was.
 pub fn undo_all_and_redo_all(sim: &mut Sim)
-    ensures words { sim.old.seen.cursor ≡ length sim.old.seen.trail → sim.new.words ≡ sim.old.words }
+    ensures words { sim.old.seen.cursor ≡ length sim.old.seen.trail
+        → sim.new.words ≡ sim.old.words }
     ensures seen { sim.new.seen ≡ record sim.old.seen { cursor = length sim.old.seen.trail } }
 {
     sim.is_chained();
@@ -115,8 +123,10 @@ pub fn undo_all_and_redo_all(sim: &mut Sim)
 /// stand than did before, and as many stand at the end, every word is as it was before.
 pub fn answer_all(alloc: Global, sim: &mut Sim, calls: &[Call]) -> Result<(), OutOfMemory>
     ensures seen { OnOk result (sim.new.seen ≡ sim_after sim.old.seen calls.now) }
-    ensures chain { OnOk result ((k : ℕ) → KeepsTo sim.old.seen calls.now k → chain sim.new k ≡ chain sim.old k) }
-    ensures words { OnOk result (KeepsTo sim.old.seen calls.now sim.old.seen.cursor → sim.new.seen.cursor ≡ sim.old.seen.cursor → sim.new.words ≡ sim.old.words) }
+    ensures chain { OnOk result
+        ((k : ℕ) → KeepsTo sim.old.seen calls.now k → chain sim.new k ≡ chain sim.old k) }
+    ensures words { OnOk result (KeepsTo sim.old.seen calls.now sim.old.seen.cursor
+        → sim.new.seen.cursor ≡ sim.old.seen.cursor → sim.new.words ≡ sim.old.words) }
 {
     sim.is_chained();
     for call in calls {
@@ -138,7 +148,9 @@ pub fn serve_step_and_undo(
 ) -> Result<Receipt, RoomFault>
     ensures words { OnOk result (room.new.sim.words ≡ room.old.sim.words) }
     ensures receipt { IfOk result (λ receipt. receipt ≡ receipt_of room.old (call.Step event)) }
-    ensures seen { OnOk result ((notices : List Notice) → Accepts room.old.sim.seen event notices → room.new.sim.seen ≡ record room.old.sim.seen { trail = take room.old.sim.seen.cursor room.old.sim.seen.trail ++ event ∷ [] }) }
+    ensures seen { OnOk result ((notices : List Notice) → Accepts room.old.sim.seen event notices
+        → room.new.sim.seen ≡ record room.old.sim.seen
+        { trail = take room.old.sim.seen.cursor room.old.sim.seen.trail ++ event ∷ [] }) }
 {
     room.sim().is_chained();
     let receipt = room.serve(alloc, one, Call::Step(event))?;
@@ -157,7 +169,9 @@ pub fn serve_step_and_own_undo(
 ) -> Result<Receipt, RoomFault>
     ensures words { OnOk result (room.new.sim.words ≡ room.old.sim.words) }
     ensures receipt { IfOk result (λ receipt. receipt ≡ receipt_of room.old (call.Step event)) }
-    ensures seen { OnOk result ((notices : List Notice) → Accepts room.old.sim.seen event notices → room.new.sim.seen ≡ record room.old.sim.seen { trail = take room.old.sim.seen.cursor room.old.sim.seen.trail ++ event ∷ [] }) }
+    ensures seen { OnOk result ((notices : List Notice) → Accepts room.old.sim.seen event notices
+        → room.new.sim.seen ≡ record room.old.sim.seen
+        { trail = take room.old.sim.seen.cursor room.old.sim.seen.trail ++ event ∷ [] }) }
 {
     room.sim().is_chained();
     let receipt = room.serve(alloc, pass, Call::Step(event))?;

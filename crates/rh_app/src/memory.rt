@@ -25,9 +25,12 @@ pub struct InMemory {
 /// # Errors
 /// A growth was refused.
 pub fn run_in_memory(alloc: Global, input: &[u8], pick: Pick) -> Result<InMemory, OutOfMemory>
-    ensures text { IfOk result (λ answer. length input.now ≤ input_limit → answer.text.items ≡ run_text input.now pick) }
-    ensures end { IfOk result (λ answer. length input.now ≤ input_limit → answer.end ≡ ended (run_end input.now)) }
-    ensures long { IfOk result (λ answer. input_limit < length input.now → (answer.text.items ≡ []) × (answer.end ≡ Err RunFault.Read)) }
+    ensures text { IfOk result
+        (λ answer. length input.now ≤ input_limit → answer.text.items ≡ run_text input.now pick) }
+    ensures end { IfOk result
+        (λ answer. length input.now ≤ input_limit → answer.end ≡ ended (run_end input.now)) }
+    ensures long { IfOk result (λ answer. input_limit < length input.now → (answer.text.items ≡ [])
+        × (answer.end ≡ Err RunFault.Read)) }
 {
     let mut reader = Watched::new(Bytes::new(input));
     let mut writer = Watched::new(Text::new(alloc));

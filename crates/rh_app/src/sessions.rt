@@ -48,7 +48,8 @@ pub fn run_sessions<T: Threads + Wait + Sync, S: Source, K: Sink>(
 ) -> Result<(), RunFault>
     requires reader { reader.old.failed ≡ false }
     requires writer { writer.old.failed ≡ false }
-    ensures { ProgramGives S.gives S.fails K.takes K.fails (MayGive pick) AskHistory result reader.old reader.new writer.old writer.new }
+    ensures { ProgramGives S.gives S.fails K.takes K.fails
+        (MayGive pick) AskHistory result reader.old reader.new writer.old writer.new }
 {
     let input = read_input(alloc, reader)?;
     let told = share_input(rt, alloc, input.as_slice(), writer, pick)?;
@@ -65,7 +66,8 @@ fn share_input<T: Threads + Wait + Sync, K: Sink>(
     pick: Pick,
 ) -> Result<Option<Told>, SessionsFault>
     requires { writer.old.failed ≡ false }
-    ensures { WroteOne K.takes K.fails (MayGive pick input.now) (AskHistory input.now) result writer.old writer.new }
+    ensures { WroteOne K.takes K.fails (MayGive pick input.now)
+        (AskHistory input.now) result writer.old writer.new }
 {
     let (text, script) = cut(input);
     match read_cluster(alloc, text) {
@@ -90,11 +92,11 @@ fn share_script<T: Threads + Wait + Sync, K: Sink>(
     pick: Pick,
 ) -> Result<Option<Told>, SessionsFault>
     requires { writer.old.failed ≡ false }
-    ensures { WroteOne K.takes K.fails (ScriptMayGive cluster.now pick
-        (commands_of (session_lines_asked cluster.now (map content (raw_lines script.now))))
-        (bad_session_line 1 0 (session_lines_asked cluster.now (map content (raw_lines script.now)))))
-        (bad_session_line 1 0 (session_lines_asked cluster.now (map content (raw_lines script.now))) ≡ None)
-        result writer.old writer.new }
+    ensures { WroteOne K.takes K.fails (ScriptMayGive cluster.now pick (commands_of
+        (session_lines_asked cluster.now (map content (raw_lines script.now)))) (bad_session_line 1
+        0 (session_lines_asked cluster.now (map content (raw_lines script.now)))))
+        (bad_session_line 1 0 (session_lines_asked cluster.now (map content (raw_lines script.now)))
+        ≡ None) result writer.old writer.new }
 {
     match commands_in(alloc, cluster, script)? {
         Script::BadLine(number) => {

@@ -35,7 +35,8 @@ pub fn run_sweep<T: Threads + Wait + Sync, S: Source, K: Sink>(
     requires reader { reader.old.failed ≡ false }
     requires writer { writer.old.failed ≡ false }
     requires workers { AreWorkers workers }
-    ensures { ProgramGives S.gives S.fails K.takes K.fails (OwesSweep pick) NoThreads result reader.old reader.new writer.old writer.new }
+    ensures { ProgramGives S.gives S.fails K.takes K.fails
+        (OwesSweep pick) NoThreads result reader.old reader.new writer.old writer.new }
 {
     run_sweep_by(&Threaded::new(rt, workers), alloc, reader, writer, pick)
 }
@@ -52,7 +53,8 @@ pub fn run_sweep_alone<S: Source, K: Sink>(
 ) -> Result<(), RunFault>
     requires reader { reader.old.failed ≡ false }
     requires writer { writer.old.failed ≡ false }
-    ensures { ProgramGives S.gives S.fails K.takes K.fails (OwesSweep pick) NoThreads result reader.old reader.new writer.old writer.new }
+    ensures { ProgramGives S.gives S.fails K.takes K.fails
+        (OwesSweep pick) NoThreads result reader.old reader.new writer.old writer.new }
 {
     run_sweep_by(&Alone, alloc, reader, writer, pick)
 }

@@ -75,7 +75,8 @@ impl LinkEdit {
     #[tactic(auto, unfolding(crate::specs::Exchange::turned))]
     pub fn list(&self) -> Option<u32>
         ensures list { result ≡ list_in self.now.changes }
-        ensures turned { (words : Words) → list_in (turned words self.now).changes ≡ slice_index_or words.owner (entry_in self.now.changes) result }
+        ensures turned { (words : Words) → list_in (turned words self.now).changes
+            ≡ slice_index_or words.owner (entry_in self.now.changes) result }
     {
         self.values.owner.wide()
     }

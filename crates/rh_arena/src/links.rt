@@ -103,7 +103,8 @@ impl Links {
     pub fn exchange(&mut self, spot: &Spot, values: &mut Values)
         requires { IsBetween spot.now }
         ensures words { self.new ≡ puts self.old (changes_at spot.now values.old) }
-        ensures values { changes_at spot.now values.new ≡ map (had self.old) (changes_at spot.now values.old) }
+        ensures values { changes_at spot.now values.new
+            ≡ map (had self.old) (changes_at spot.now values.old) }
     {
         self.exchange_entry(spot.entry, values);
         let list = spot.list;
@@ -118,8 +119,18 @@ impl Links {
     // four instructions more.
     #[inline]
     fn exchange_entry(&mut self, entry: u16, values: &mut Values)
-        ensures words { self.new ≡ record self.old { prev = slice_set self.old.prev entry values.old.prev; next = slice_set self.old.next entry values.old.next; owner = slice_set self.old.owner entry values.old.owner } }
-        ensures values { values.new ≡ record values.old { prev = slice_index_or self.old.prev entry values.old.prev; next = slice_index_or self.old.next entry values.old.next; owner = slice_index_or self.old.owner entry values.old.owner } }
+        ensures words { self.new ≡ record self.old {
+          prev = slice_set self.old.prev entry values.old.prev;
+          next = slice_set self.old.next
+              entry values.old.next;
+          owner = slice_set self.old.owner entry values.old.owner;
+        } }
+        ensures values { values.new ≡ record values.old {
+          prev = slice_index_or self.old.prev entry
+              values.old.prev;
+          next = slice_index_or self.old.next entry values.old.next;
+          owner = slice_index_or self.old.owner entry values.old.owner;
+        } }
     {
         if let Some(there) = self.entries.get_mut(usize::from(entry)) {
             let had = *there;
@@ -137,7 +148,8 @@ impl Links {
     // Exchanges how many entries a list has for a value.
     #[inline]
     fn exchange_count(&mut self, list: u16, value: &mut u16)
-        ensures words { self.new ≡ record self.old { count = slice_set self.old.count list value.old } }
+        ensures words { self.new
+            ≡ record self.old { count = slice_set self.old.count list value.old } }
         ensures value { value.new ≡ slice_index_or self.old.count list value.old }
     {
         if let Some(there) = self.lists.get_mut(usize::from(list)) {
@@ -149,9 +161,13 @@ impl Links {
     // the list's word for its first entry.
     #[inline]
     fn exchange_from_before(&mut self, list: u16, before: Link, value: &mut Link)
-        ensures words { self.new ≡ record self.old { next = set_at self.old.next before value.old; head = set_unless self.old.head before list value.old } }
+        ensures words { self.new ≡ record self.old {
+          next = set_at self.old.next before value.old;
+          head = set_unless self.old.head before list value.old;
+        } }
         ensures none { before ≡ None → value.new ≡ slice_index_or self.old.head list value.old }
-        ensures value { (i : ℕ) → before ≡ Some i → value.new ≡ slice_index_or self.old.next i value.old }
+        ensures value { (i : ℕ) → before ≡ Some i
+            → value.new ≡ slice_index_or self.old.next i value.old }
     {
         match before.get() {
             Some(before) => self.exchange_next(before, value),
@@ -163,9 +179,13 @@ impl Links {
     // the list's word for its last entry.
     #[inline]
     fn exchange_from_behind(&mut self, list: u16, after: Link, value: &mut Link)
-        ensures words { self.new ≡ record self.old { prev = set_at self.old.prev after value.old; tail = set_unless self.old.tail after list value.old } }
+        ensures words { self.new ≡ record self.old {
+          prev = set_at self.old.prev after value.old;
+          tail = set_unless self.old.tail after list value.old;
+        } }
         ensures none { after ≡ None → value.new ≡ slice_index_or self.old.tail list value.old }
-        ensures value { (i : ℕ) → after ≡ Some i → value.new ≡ slice_index_or self.old.prev i value.old }
+        ensures value { (i : ℕ) → after ≡ Some i
+            → value.new ≡ slice_index_or self.old.prev i value.old }
     {
         match after.get() {
             Some(after) => self.exchange_prev(after, value),
@@ -176,7 +196,8 @@ impl Links {
     // Exchanges what is behind an entry for a value.
     #[inline]
     fn exchange_next(&mut self, entry: u16, value: &mut Link)
-        ensures words { self.new ≡ record self.old { next = slice_set self.old.next entry value.old } }
+        ensures words { self.new
+            ≡ record self.old { next = slice_set self.old.next entry value.old } }
         ensures value { value.new ≡ slice_index_or self.old.next entry value.old }
     {
         if let Some(there) = self.entries.get_mut(usize::from(entry)) {
@@ -187,7 +208,8 @@ impl Links {
     // Exchanges what is before an entry for a value.
     #[inline]
     fn exchange_prev(&mut self, entry: u16, value: &mut Link)
-        ensures words { self.new ≡ record self.old { prev = slice_set self.old.prev entry value.old } }
+        ensures words { self.new
+            ≡ record self.old { prev = slice_set self.old.prev entry value.old } }
         ensures value { value.new ≡ slice_index_or self.old.prev entry value.old }
     {
         if let Some(there) = self.entries.get_mut(usize::from(entry)) {
@@ -198,7 +220,8 @@ impl Links {
     // Exchanges the first entry of a list for a value.
     #[inline]
     fn exchange_head(&mut self, list: u16, value: &mut Link)
-        ensures words { self.new ≡ record self.old { head = slice_set self.old.head list value.old } }
+        ensures words { self.new
+            ≡ record self.old { head = slice_set self.old.head list value.old } }
         ensures value { value.new ≡ slice_index_or self.old.head list value.old }
     {
         if let Some(there) = self.lists.get_mut(usize::from(list)) {
@@ -209,7 +232,8 @@ impl Links {
     // Exchanges the last entry of a list for a value.
     #[inline]
     fn exchange_tail(&mut self, list: u16, value: &mut Link)
-        ensures words { self.new ≡ record self.old { tail = slice_set self.old.tail list value.old } }
+        ensures words { self.new
+            ≡ record self.old { tail = slice_set self.old.tail list value.old } }
         ensures value { value.new ≡ slice_index_or self.old.tail list value.old }
     {
         if let Some(there) = self.lists.get_mut(usize::from(list)) {

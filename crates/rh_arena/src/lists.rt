@@ -33,7 +33,11 @@ impl Model for Lists {
 
     ghost view = { λ s. s.links };
 
-    ghost invariant = { λ s. record { formed : IsWellFormed s.links; entries : entry_count s.links ≤ 65535; lists : list_count s.links ≤ 65535 } };
+    ghost invariant = { λ s. record {
+      formed : IsWellFormed s.links;
+      entries : entry_count s.links ≤ 65535;
+      lists : list_count s.links ≤ 65535;
+    } };
 }
 
 impl Lists {
@@ -101,7 +105,8 @@ impl Lists {
     pub fn next(&self, entry: u32) -> Option<u32>
         requires { entry < entry_count self.now }
         ensures word { result ≡ next_of self.now entry }
-        ensures behind { (list : ℕ) → owner_of self.now entry ≡ Some list → result ≡ after entry (listed self.now list) }
+        ensures behind { (list : ℕ) → owner_of self.now entry ≡ Some list
+            → result ≡ after entry (listed self.now list) }
     {
         self.links.entry(entry as usize).next.wide()
     }
@@ -112,7 +117,8 @@ impl Lists {
     pub fn prev(&self, entry: u32) -> Option<u32>
         requires { entry < entry_count self.now }
         ensures word { result ≡ prev_of self.now entry }
-        ensures ahead { (list : ℕ) → owner_of self.now entry ≡ Some list → result ≡ before entry (listed self.now list) }
+        ensures ahead { (list : ℕ) → owner_of self.now entry ≡ Some list
+            → result ≡ before entry (listed self.now list) }
     {
         self.links.entry(entry as usize).prev.wide()
     }
@@ -122,7 +128,8 @@ impl Lists {
     pub fn list_of(&self, entry: u32) -> Option<u32>
         requires { entry < entry_count self.now }
         ensures word { result ≡ owner_of self.now entry }
-        ensures member { (list : ℕ) → (owner_of self.now entry ≡ Some list) ↔ Contains (listed self.now list) entry }
+        ensures member { (list : ℕ)
+            → (owner_of self.now entry ≡ Some list) ↔ Contains (listed self.now list) entry }
         ensures list { IfSome result (λ list. list < list_count self.now) }
     {
         self.links.entry(entry as usize).owner.wide()
@@ -147,7 +154,8 @@ impl Lists {
         requires free { owner_of self.old entry ≡ None }
         ensures words { self.new ≡ pushed self.old list entry }
         ensures list { listed self.new list ≡ listed self.old list ++ entry ∷ [] }
-        ensures others { (other : ℕ) → other ≢ list → listed self.new other ≡ listed self.old other }
+        ensures others { (other : ℕ) → other ≢ list
+            → listed self.new other ≡ listed self.old other }
         ensures entry_count { entry_count self.new ≡ entry_count self.old }
         ensures list_count { list_count self.new ≡ list_count self.old }
         ensures done { result.is_done ≡ true }
@@ -180,9 +188,12 @@ impl Lists {
     /// Takes an entry that is in a list out of it. Its own links stay as they are.
     pub fn remove(&mut self, entry: u32) -> LinkEdit
         requires { IsSome (owner_of self.old entry) }
-        ensures words { (list : ℕ) → owner_of self.old entry ≡ Some list → self.new ≡ removed self.old list entry }
-        ensures list { (list : ℕ) → owner_of self.old entry ≡ Some list → listed self.new list ≡ without entry (listed self.old list) }
-        ensures others { (other : ℕ) → owner_of self.old entry ≢ Some other → listed self.new other ≡ listed self.old other }
+        ensures words { (list : ℕ) → owner_of self.old entry ≡ Some list
+            → self.new ≡ removed self.old list entry }
+        ensures list { (list : ℕ) → owner_of self.old entry ≡ Some list
+            → listed self.new list ≡ without entry (listed self.old list) }
+        ensures others { (other : ℕ) → owner_of self.old entry ≢ Some other
+            → listed self.new other ≡ listed self.old other }
         ensures entry_count { entry_count self.new ≡ entry_count self.old }
         ensures list_count { list_count self.new ≡ list_count self.old }
         ensures done { result.is_done ≡ true }

@@ -43,7 +43,8 @@ pub fn report(alloc: Global, state: &State) -> Result<Vec<u8>, OutOfMemory>
 
 // Adds the line of the time.
 fn push_time(text: &mut String, state: &State) -> Result<(), OutOfMemory>
-    ensures { OnOk result (string_bytes text.new ≡ string_bytes text.old ++ time_line (read state.now)) }
+    ensures { OnOk result
+        (string_bytes text.new ≡ string_bytes text.old ++ time_line (read state.now)) }
 {
     text.push_str("now ")?;
     push_decimal(text, state.now())?;
@@ -54,7 +55,8 @@ fn push_time(text: &mut String, state: &State) -> Result<(), OutOfMemory>
 // Adds the lines of each node.
 #[tactic(auto, unfolding(rh_state::specs::Numbers::nodes_of))]
 fn push_nodes(text: &mut String, state: &State) -> Result<(), OutOfMemory>
-    ensures { OnOk result (string_bytes text.new ≡ string_bytes text.old ++ flat_map (node_lines (read state.now)) (nodes_of (read state.now).cluster)) }
+    ensures { OnOk result (string_bytes text.new ≡ string_bytes text.old
+        ++ flat_map (node_lines (read state.now)) (nodes_of (read state.now).cluster)) }
 {
     let count = state.cluster().node_count();
     for number in 0..count {
@@ -70,7 +72,8 @@ fn push_timers(
     timers: &[(u64, Timer)],
 ) -> Result<(), OutOfMemory>
     requires { All (λ entry. IsTimerOf cluster.now entry.1) timers.now }
-    ensures { OnOk result (string_bytes text.new ≡ string_bytes text.old ++ flat_map (timer_line cluster.now) timers.now) }
+    ensures { OnOk result (string_bytes text.new
+        ≡ string_bytes text.old ++ flat_map (timer_line cluster.now) timers.now) }
 {
     for entry in timers {
         push_timer_line(text, cluster, entry)?;
@@ -86,7 +89,8 @@ fn push_timer_line(
     entry: &(u64, Timer),
 ) -> Result<(), OutOfMemory>
     requires { IsTimerOf cluster.now entry.now.1 }
-    ensures { OnOk result (string_bytes text.new ≡ string_bytes text.old ++ timer_line cluster.now entry.now) }
+    ensures { OnOk result
+        (string_bytes text.new ≡ string_bytes text.old ++ timer_line cluster.now entry.now) }
 {
     match entry.1 {
         Timer::Sync(node) => {

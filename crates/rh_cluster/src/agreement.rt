@@ -312,7 +312,8 @@ fn check_boot_list(
 // Tests the boot list of each node, in node order.
 fn check_boot_lists(shares: &[Share], nodes: &[NodeSettings]) -> Result<(), ClusterFault>
     requires { length nodes.now ≤ MAX_NODES }
-    ensures { FindsFirst result (flat_map (boot_list_faults shares.now nodes.now) (numbers_below (length nodes.now))) }
+    ensures { FindsFirst result
+        (flat_map (boot_list_faults shares.now nodes.now) (numbers_below (length nodes.now))) }
 {
     for node in 0..nodes.len() {
         check_boot_list(shares, nodes, node)?;

@@ -28,7 +28,8 @@ fn dep_named(names: &Names, term: &Term) -> Option<Dep>
 
 // What these names stand for in `applications`, in order.
 fn deps_named(alloc: Global, names: &Names, terms: &[Term]) -> Result<Vec<Dep>, OutOfMemory>
-    ensures { IfOk result (λ deps. deps.items ≡ filter_map (dep_named names.now) (map tree_of terms.now)) }
+    ensures { IfOk result
+        (λ deps. deps.items ≡ filter_map (dep_named names.now) (map tree_of terms.now)) }
 {
     let mut deps = Vec::new(alloc);
     for term in terms {
@@ -41,7 +42,8 @@ fn deps_named(alloc: Global, names: &Names, terms: &[Term]) -> Result<Vec<Dep>, 
 
 // The module and the argument of `{Module, StartArg}`.
 fn start_in(value: Option<&Term>) -> Option<(&str, &Term)>
-    ensures { option_map (λ s. (s.0.now, tree_of s.1.now)) result ≡ start_in (option_map (λ t. tree_of t.now) value.entry) }
+    ensures { option_map (λ s. (s.0.now, tree_of s.1.now)) result
+        ≡ start_in (option_map (λ t. tree_of t.now) value.entry) }
 {
     shapes::entry(value?)
 }
@@ -69,7 +71,8 @@ pub fn app_settings(
     name: &str,
     keys: &Term,
 ) -> Result<AppSettings, OutOfMemory>
-    ensures { IfOk result (λ settings. settings ≡ app_view names.now shares.now name.now (tree_of keys.now)) }
+    ensures { IfOk result
+        (λ settings. settings ≡ app_view names.now shares.now name.now (tree_of keys.now)) }
 {
     let keys = elements(keys);
     let deps = deps_named(alloc, names, elements_under("applications", keys))?;

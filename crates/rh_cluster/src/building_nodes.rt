@@ -24,7 +24,8 @@ use std::alloc::Global;
 
 /// The nodes of these names.
 pub fn nodes_named(alloc: Global, names: &Names, terms: &[Term]) -> Result<Vec<Node>, OutOfMemory>
-    ensures { IfOk result (λ nodes. nodes.items ≡ filter_map (node_named names.now) (map tree_of terms.now)) }
+    ensures { IfOk result
+        (λ nodes. nodes.items ≡ filter_map (node_named names.now) (map tree_of terms.now)) }
 {
     let mut nodes = Vec::new(alloc);
     for term in terms {
@@ -63,7 +64,8 @@ fn boot_entries(
     names: &Names,
     terms: &[Term],
 ) -> Result<Vec<(App, Restart)>, OutOfMemory>
-    ensures { IfOk result (λ boot. boot.items ≡ filter_map (boot_entry names.now) (map tree_of terms.now)) }
+    ensures { IfOk result
+        (λ boot. boot.items ≡ filter_map (boot_entry names.now) (map tree_of terms.now)) }
 {
     let mut boot = Vec::new(alloc);
     for term in terms {
@@ -124,7 +126,8 @@ fn is_permitted(name: &str, entries: &[Term]) -> bool
 // For each application, whether it is permitted.
 #[tactic(auto, unfolding(crate::specs::Values::permissions_in))]
 fn permissions_in(alloc: Global, names: &Names, entries: &[Term]) -> Result<Vec<bool>, OutOfMemory>
-    ensures { IfOk result (λ permissions. permissions.items ≡ permissions_in names.now (map tree_of entries.now)) }
+    ensures { IfOk result
+        (λ permissions. permissions.items ≡ permissions_in names.now (map tree_of entries.now)) }
 {
     let mut permissions = Vec::new(alloc);
     let apps = names.apps();
@@ -136,7 +139,8 @@ fn permissions_in(alloc: Global, names: &Names, entries: &[Term]) -> Result<Vec<
 
 // Does the node have the platform name, as every node does or by its own list?
 fn has_platform(name: &str, terms: &[Term]) -> bool
-    ensures { result ≡ (is_among every_platform name.now || is_among (atoms (map tree_of terms.now)) name.now) }
+    ensures { result
+        ≡ (is_among every_platform name.now || is_among (atoms (map tree_of terms.now)) name.now) }
 {
     is_platform_everywhere(name) || repeats_atom(name, terms)
 }
@@ -144,7 +148,8 @@ fn has_platform(name: &str, terms: &[Term]) -> bool
 // For each platform name, whether the node has it.
 #[tactic(auto, unfolding(crate::specs::Values::platforms_of))]
 fn platforms_of(alloc: Global, names: &Names, terms: &[Term]) -> Result<Vec<bool>, OutOfMemory>
-    ensures { IfOk result (λ platforms. platforms.items ≡ platforms_of names.now (map tree_of terms.now)) }
+    ensures { IfOk result
+        (λ platforms. platforms.items ≡ platforms_of names.now (map tree_of terms.now)) }
 {
     let mut platforms = Vec::new(alloc);
     let all = names.platforms();

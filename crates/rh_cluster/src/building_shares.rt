@@ -64,7 +64,8 @@ fn share_of(alloc: Global, names: &Names, term: &Term) -> Result<Option<Share>, 
 
 // These entries, in order, without those whose application isn't known.
 fn shares_of(alloc: Global, names: &Names, terms: &[Term]) -> Result<Shares, OutOfMemory>
-    ensures { IfOk result (λ shares. shares ≡ filter_map (share_of names.now) (map tree_of terms.now)) }
+    ensures { IfOk result
+        (λ shares. shares ≡ filter_map (share_of names.now) (map tree_of terms.now)) }
 {
     let mut shares = Vec::new(alloc);
     for term in terms {
@@ -81,7 +82,8 @@ pub fn shares_under(
     names: &Names,
     value: Option<&Term>,
 ) -> Result<Shares, OutOfMemory>
-    ensures { IfOk result (λ shares. shares ≡ shares_under names.now (option_map (λ t. tree_of t.now) value.entry)) }
+    ensures { IfOk result
+        (λ shares. shares ≡ shares_under names.now (option_map (λ t. tree_of t.now) value.entry)) }
 {
     match value {
         Some(term) => shares_of(alloc, names, elements(term)),
@@ -99,8 +101,11 @@ pub fn own_shares(
     common: Option<&Term>,
     config: &Term,
 ) -> Result<Option<Shares>, OutOfMemory>
-    requires { IsTrue is_alike → IsNoOther (option_map (λ t. tree_of t.now) common) (distributed_in (tree_of config.now)) }
-    ensures { IfOk result (λ own. unwrap_or own (shares_under names.now (option_map (λ t. tree_of t.now) common.entry)) ≡ shares_in names.now (tree_of config.now)) }
+    requires { IsTrue is_alike
+        → IsNoOther (option_map (λ t. tree_of t.now) common) (distributed_in (tree_of config.now)) }
+    ensures { IfOk result (λ own.
+        unwrap_or own (shares_under names.now (option_map (λ t. tree_of t.now) common.entry))
+        ≡ shares_in names.now (tree_of config.now)) }
 {
     let value = distributed_in(config);
     if is_same_value(is_alike, value, common) {

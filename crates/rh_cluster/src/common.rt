@@ -44,7 +44,8 @@ pub fn first_filled(terms: &[Term]) -> Option<&Term>
 
 // Is the value the common one, if there is a value?
 fn is_no_other(common: Option<&Term>, value: Option<&Term>) -> bool
-    ensures { IsTrue result → IsNoOther (option_map (λ t. tree_of t.now) common.entry) (option_map (λ t. tree_of t.now) value.entry) }
+    ensures { IsTrue result → IsNoOther (option_map (λ t. tree_of t.now) common.entry)
+        (option_map (λ t. tree_of t.now) value.entry) }
 {
     match (common, value) {
         (_, None) => true,
@@ -56,15 +57,18 @@ fn is_no_other(common: Option<&Term>, value: Option<&Term>) -> bool
 /// Is the value the common one, if there is a value? Behind one that isn't, it isn't asked.
 pub fn is_still_alike(are_alike: bool, common: Option<&Term>, value: Option<&Term>) -> bool
     ensures before { IsTrue result → IsTrue are_alike }
-    ensures this { IsTrue result → IsNoOther (option_map (λ t. tree_of t.now) common.entry) (option_map (λ t. tree_of t.now) value.entry) }
+    ensures this { IsTrue result → IsNoOther (option_map (λ t. tree_of t.now) common.entry)
+        (option_map (λ t. tree_of t.now) value.entry) }
 {
     are_alike && is_no_other(common, value)
 }
 
 /// Are these the same value, or is there none? Two of which it is known that they never differ aren't compared.
 pub fn is_same_value(are_alike: bool, this: Option<&Term>, that: Option<&Term>) -> bool
-    requires { IsTrue are_alike → NeverDiffer (option_map (λ t. tree_of t.now) this) (option_map (λ t. tree_of t.now) that) }
-    ensures { IsTrue result → option_map (λ t. tree_of t.now) this.entry ≡ option_map (λ t. tree_of t.now) that.entry }
+    requires { IsTrue are_alike → NeverDiffer (option_map (λ t. tree_of t.now) this)
+        (option_map (λ t. tree_of t.now) that) }
+    ensures { IsTrue result
+        → option_map (λ t. tree_of t.now) this.entry ≡ option_map (λ t. tree_of t.now) that.entry }
 {
     match (this, that) {
         (Some(this), Some(that)) => are_alike || this.same(that),

@@ -41,7 +41,8 @@ fn repeats_member(name: &str, groups: &[Term]) -> bool
 // Is it among the names of the groups before, or before it in its own?
 #[tactic(auto, using(crate::proofs::MemberNames::is_among_both))]
 fn is_named_before(name: &str, before: &[Term], earlier: &[Term]) -> bool
-    ensures { result ≡ is_among (atoms (flat_map members (map tree_of before.now) ++ map tree_of earlier.now)) name.now }
+    ensures { result ≡ is_among
+        (atoms (flat_map members (map tree_of before.now) ++ map tree_of earlier.now)) name.now }
 {
     repeats_member(name, before) || repeats_atom(name, earlier)
 }
@@ -54,7 +55,8 @@ fn check_member(
     earlier: &[Term],
     term: &Term,
 ) -> Result<(), ClusterFault>
-    ensures { FindsFirst result (node_name_faults names.now (flat_map members (map tree_of before.now) ++ map tree_of earlier.now) (tree_of term.now)) }
+    ensures { FindsFirst result (node_name_faults names.now
+        (flat_map members (map tree_of before.now) ++ map tree_of earlier.now) (tree_of term.now)) }
 {
     let name = shapes::atom(term).ok_or(ClusterFault::BadValue)?;
     let is_repeated = is_named_before(name, before, earlier);
@@ -63,7 +65,8 @@ fn check_member(
 
 // Tests a group, behind the groups before.
 fn check_group(names: &Names, before: &[Term], group: &Term) -> Result<(), ClusterFault>
-    ensures { FindsFirst result (in_turn (node_name_faults names.now) (flat_map members (map tree_of before.now)) (members (tree_of group.now))) }
+    ensures { FindsFirst result (in_turn (node_name_faults names.now)
+        (flat_map members (map tree_of before.now)) (members (tree_of group.now))) }
 {
     check_each(members(group), |earlier, term| {
         check_member(names, before, earlier, term)

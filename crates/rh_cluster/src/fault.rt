@@ -49,7 +49,8 @@ impl ClusterFault {
     /// Whether a growth was refused. Any other fault is one of the text.
     pub fn is_memory(&self) -> bool
         ensures is { result ≡ is_memory self.now }
-        ensures other { result ≡ false → (self.now ≢ cluster.OutOfMemory) × (self.now ≢ cluster.Term terms.OutOfMemory) }
+        ensures other { result ≡ false → (self.now ≢ cluster.OutOfMemory)
+            × (self.now ≢ cluster.Term terms.OutOfMemory) }
     {
         match self {
             ClusterFault::OutOfMemory => true,

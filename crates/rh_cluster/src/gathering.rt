@@ -29,7 +29,8 @@ fn add_name(alloc: Global, names: &mut NameSet, name: &str) -> Result<(), OutOfM
 #[tactic(auto, unfolding(crate::specs::Values::with_first_name, crate::specs::Values::with_name))]
 fn add_first_name(alloc: Global, names: &mut NameSet, name: &str) -> Result<(), OutOfMemory>
     ensures names { OnOk result (names.new ≡ with_first_name names.old name.now) }
-    ensures few { OnOk result (length names.old ≤ MAX_PLATFORMS → length names.new ≤ MAX_PLATFORMS) }
+    ensures few { OnOk result
+        (length names.old ≤ MAX_PLATFORMS → length names.new ≤ MAX_PLATFORMS) }
 {
     if MAX_PLATFORMS <= names.len() || names.contains(name) {
         return Ok(());
@@ -49,8 +50,10 @@ fn add_known(alloc: Global, names: &mut NameSet, term: &Term) -> Result<(), OutO
 
 // The same, as long as there are fewer than `MAX_PLATFORMS`.
 fn add_first(alloc: Global, names: &mut NameSet, term: &Term) -> Result<(), OutOfMemory>
-    ensures names { OnOk result (names.new ≡ fold with_first_name names.old (atoms (tree_of term.now ∷ []))) }
-    ensures few { OnOk result (length names.old ≤ MAX_PLATFORMS → length names.new ≤ MAX_PLATFORMS) }
+    ensures names { OnOk result
+        (names.new ≡ fold with_first_name names.old (atoms (tree_of term.now ∷ []))) }
+    ensures few { OnOk result
+        (length names.old ≤ MAX_PLATFORMS → length names.new ≤ MAX_PLATFORMS) }
 {
     match shapes::atom(term) {
         Some(name) => add_first_name(alloc, names, name),
@@ -70,8 +73,10 @@ fn add_all_known(alloc: Global, names: &mut NameSet, terms: &[Term]) -> Result<(
 
 // The same, as long as there are fewer than `MAX_PLATFORMS`.
 fn add_all_first(alloc: Global, names: &mut NameSet, terms: &[Term]) -> Result<(), OutOfMemory>
-    ensures names { OnOk result (names.new ≡ fold with_first_name names.old (atoms (map tree_of terms.now))) }
-    ensures few { OnOk result (length names.old ≤ MAX_PLATFORMS → length names.new ≤ MAX_PLATFORMS) }
+    ensures names { OnOk result
+        (names.new ≡ fold with_first_name names.old (atoms (map tree_of terms.now))) }
+    ensures few { OnOk result
+        (length names.old ≤ MAX_PLATFORMS → length names.new ≤ MAX_PLATFORMS) }
 {
     for term in terms {
         add_first(alloc, names, term)?;
@@ -95,7 +100,8 @@ fn are_atoms(terms: &[Term]) -> bool
 #[tactic(auto, unfolding(crate::specs::Values::with_platforms))]
 fn add_list(alloc: Global, platforms: &mut Platforms, value: &Term) -> Result<(), OutOfMemory>
     ensures names { OnOk result (platforms.new ≡ with_platforms platforms.old (tree_of value.now)) }
-    ensures few { OnOk result (length platforms.old.first ≤ MAX_PLATFORMS → length platforms.new.first ≤ MAX_PLATFORMS) }
+    ensures few { OnOk result
+        (length platforms.old.first ≤ MAX_PLATFORMS → length platforms.new.first ≤ MAX_PLATFORMS) }
 {
     let terms = elements(value);
     add_all_first(alloc, &mut platforms.first, terms)?;
@@ -108,8 +114,10 @@ fn add_list(alloc: Global, platforms: &mut Platforms, value: &Term) -> Result<()
 // Adds those of a parameter.
 #[tactic(auto, unfolding(crate::specs::Values::platform_in_entry))]
 fn add_entry(alloc: Global, platforms: &mut Platforms, entry: &Term) -> Result<(), OutOfMemory>
-    ensures names { OnOk result (platforms.new ≡ fold with_platforms platforms.old (platform_in_entry (tree_of entry.now))) }
-    ensures few { OnOk result (length platforms.old.first ≤ MAX_PLATFORMS → length platforms.new.first ≤ MAX_PLATFORMS) }
+    ensures names { OnOk result (platforms.new
+        ≡ fold with_platforms platforms.old (platform_in_entry (tree_of entry.now))) }
+    ensures few { OnOk result
+        (length platforms.old.first ≤ MAX_PLATFORMS → length platforms.new.first ≤ MAX_PLATFORMS) }
 {
     match value_if("platform", entry) {
         Some(value) => add_list(alloc, platforms, value),
@@ -123,8 +131,10 @@ fn add_entries(
     platforms: &mut Platforms,
     entries: &[Term],
 ) -> Result<(), OutOfMemory>
-    ensures names { OnOk result (platforms.new ≡ fold with_platforms platforms.old (flat_map platform_in_entry (map tree_of entries.now))) }
-    ensures few { OnOk result (length platforms.old.first ≤ MAX_PLATFORMS → length platforms.new.first ≤ MAX_PLATFORMS) }
+    ensures names { OnOk result (platforms.new ≡ fold with_platforms platforms.old
+        (flat_map platform_in_entry (map tree_of entries.now))) }
+    ensures few { OnOk result
+        (length platforms.old.first ≤ MAX_PLATFORMS → length platforms.new.first ≤ MAX_PLATFORMS) }
 {
     for entry in entries {
         add_entry(alloc, platforms, entry)?;
@@ -135,8 +145,10 @@ fn add_entries(
 // Adds those of a section.
 #[tactic(auto, unfolding(crate::specs::Values::platform_in_section))]
 fn add_section(alloc: Global, platforms: &mut Platforms, section: &Term) -> Result<(), OutOfMemory>
-    ensures names { OnOk result (platforms.new ≡ fold with_platforms platforms.old (platform_in_section (tree_of section.now))) }
-    ensures few { OnOk result (length platforms.old.first ≤ MAX_PLATFORMS → length platforms.new.first ≤ MAX_PLATFORMS) }
+    ensures names { OnOk result (platforms.new
+        ≡ fold with_platforms platforms.old (platform_in_section (tree_of section.now))) }
+    ensures few { OnOk result
+        (length platforms.old.first ≤ MAX_PLATFORMS → length platforms.new.first ≤ MAX_PLATFORMS) }
 {
     match value_if("rehearse", section) {
         Some(value) => add_entries(alloc, platforms, elements(value)),
@@ -150,8 +162,10 @@ fn add_sections(
     platforms: &mut Platforms,
     sections: &[Term],
 ) -> Result<(), OutOfMemory>
-    ensures names { OnOk result (platforms.new ≡ fold with_platforms platforms.old (flat_map platform_in_section (map tree_of sections.now))) }
-    ensures few { OnOk result (length platforms.old.first ≤ MAX_PLATFORMS → length platforms.new.first ≤ MAX_PLATFORMS) }
+    ensures names { OnOk result (platforms.new ≡ fold with_platforms platforms.old
+        (flat_map platform_in_section (map tree_of sections.now))) }
+    ensures few { OnOk result
+        (length platforms.old.first ≤ MAX_PLATFORMS → length platforms.new.first ≤ MAX_PLATFORMS) }
 {
     for section in sections {
         add_section(alloc, platforms, section)?;
@@ -162,8 +176,10 @@ fn add_sections(
 // Adds those of a term.
 #[tactic(auto, unfolding(crate::specs::Values::platform_in_term))]
 fn add_term(alloc: Global, platforms: &mut Platforms, term: &Term) -> Result<(), OutOfMemory>
-    ensures names { OnOk result (platforms.new ≡ fold with_platforms platforms.old (platform_in_term (tree_of term.now))) }
-    ensures few { OnOk result (length platforms.old.first ≤ MAX_PLATFORMS → length platforms.new.first ≤ MAX_PLATFORMS) }
+    ensures names { OnOk result
+        (platforms.new ≡ fold with_platforms platforms.old (platform_in_term (tree_of term.now))) }
+    ensures few { OnOk result
+        (length platforms.old.first ≤ MAX_PLATFORMS → length platforms.new.first ≤ MAX_PLATFORMS) }
 {
     match shapes::node(term) {
         Some((_, config)) => add_sections(alloc, platforms, elements(config)),

@@ -20,7 +20,11 @@ use rh_model::{Names, SyncWait};
 /// The parts of an entry of `distributed`: its application, its timeout if it has one, and its groups.
 #[tactic(auto, unfolding(crate::specs::Sections::as_share))]
 pub fn share(term: &Term) -> Option<(&Term, Option<&Term>, &Term)>
-    ensures { option_map (λ s. (tree_of s.0.now, option_map (λ t. tree_of t.now) s.1, tree_of s.2.now)) result ≡ as_share (tree_of term.now) }
+    ensures { option_map (λ s. (
+      tree_of s.0.now,
+      option_map (λ t. tree_of t.now) s.1,
+      tree_of s.2.now,
+    )) result ≡ as_share (tree_of term.now) }
 {
     match shapes::tuple(term)? {
         [app, groups] => Some((app, None, groups)),
@@ -65,7 +69,8 @@ pub fn sync_wait(term: &Term) -> Option<SyncWait>
 // Tests an entry of `permissions`, behind earlier entries.
 #[tactic(auto, unfolding(crate::specs::Sections::permission_faults))]
 fn check_permission(names: &Names, earlier: &[Term], term: &Term) -> Result<(), ClusterFault>
-    ensures { FindsFirst result (permission_faults names.now (map tree_of earlier.now) (tree_of term.now)) }
+    ensures { FindsFirst result
+        (permission_faults names.now (map tree_of earlier.now) (tree_of term.now)) }
 {
     check_pair(names, earlier, term, |value| truth(value).is_some())
 }
@@ -73,7 +78,8 @@ fn check_permission(names: &Names, earlier: &[Term], term: &Term) -> Result<(), 
 // Tests an entry of `distributed`, behind earlier entries.
 #[tactic(auto, unfolding(crate::specs::Sections::share_faults))]
 fn check_share(names: &Names, earlier: &[Term], term: &Term) -> Result<(), ClusterFault>
-    ensures { FindsFirst result (share_faults names.now (map tree_of earlier.now) (tree_of term.now)) }
+    ensures { FindsFirst result
+        (share_faults names.now (map tree_of earlier.now) (tree_of term.now)) }
 {
     let (app, timeout, groups) = share(term).ok_or(ClusterFault::BadValue)?;
     check_app_name(names, earlier, app)?;
@@ -151,7 +157,8 @@ fn check_node_names(names: &Names, value: &Term) -> Result<(), ClusterFault>
 
 /// Tests the section `kernel`, but not its `distributed` where that has passed.
 pub fn check_kernel(names: &Names, has_passed: bool, value: &Term) -> Result<(), ClusterFault>
-    ensures { FindsFirst result (entries_faults kernel_key (kernel_faults_left has_passed names.now) (tree_of value.now)) }
+    ensures { FindsFirst result
+        (entries_faults kernel_key (kernel_faults_left has_passed names.now) (tree_of value.now)) }
 {
     check_entries(value, kernel_key, |key, value| {
         check_kernel_value(names, has_passed, key, value)

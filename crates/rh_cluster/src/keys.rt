@@ -26,8 +26,10 @@ fn check_dep(
     earlier: &mut NameSet,
     term: &Term,
 ) -> Result<(), ClusterFault>
-    ensures faults { Finds result (dep_faults names.now platforms.now own.now earlier.old (tree_of term.now)) }
-    ensures last { WantsLast result (dep_faults names.now platforms.now own.now earlier.old (tree_of term.now)) }
+    ensures faults { Finds result
+        (dep_faults names.now platforms.now own.now earlier.old (tree_of term.now)) }
+    ensures last { WantsLast result
+        (dep_faults names.now platforms.now own.now earlier.old (tree_of term.now)) }
     ensures earlier { OnOk result (earlier.new ≡ earlier.old ++ atoms (tree_of term.now ∷ [])) }
 {
     let name = shapes::atom(term).ok_or(ClusterFault::BadValue)?;
@@ -137,7 +139,8 @@ pub fn check_keys(
     own: &str,
     value: &Term,
 ) -> Result<(), ClusterFault>
-    ensures { Finds result (entries_faults app_key (key_faults names.now platforms.now own.now) (tree_of value.now)) }
+    ensures { Finds result
+        (entries_faults app_key (key_faults names.now platforms.now own.now) (tree_of value.now)) }
 {
     check_entries(value, app_key, |key, value| {
         check_key_value(alloc, names, platforms, own, key, value)

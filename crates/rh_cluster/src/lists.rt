@@ -28,8 +28,10 @@ pub fn check_each<F: Fn(&[Term], &Term) -> Result<(), ClusterFault>>(
     test: F,
 ) -> Result<(), ClusterFault>
     requires { F.IsAlwaysCallable test }
-    ensures finds { (faults : _) → FindsOfEach F.Fn test faults → Finds result (in_turn faults [] (map tree_of terms.now)) }
-    ensures exact { (faults : _) → FindsFirstOfEach F.Fn test faults → FindsFirst result (in_turn faults [] (map tree_of terms.now)) }
+    ensures finds { (faults : _) → FindsOfEach F.Fn test faults
+        → Finds result (in_turn faults [] (map tree_of terms.now)) }
+    ensures exact { (faults : _) → FindsFirstOfEach F.Fn test faults
+        → FindsFirst result (in_turn faults [] (map tree_of terms.now)) }
 {
     for (index, term) in terms.iter().enumerate() {
         test(&terms[..index], term)?;
@@ -44,8 +46,10 @@ pub fn check_list<F: Fn(&[Term], &Term) -> Result<(), ClusterFault>>(
     test: F,
 ) -> Result<(), ClusterFault>
     requires { F.IsAlwaysCallable test }
-    ensures finds { (faults : _) → FindsOfEach F.Fn test faults → Finds result (list_faults faults (tree_of value.now)) }
-    ensures exact { (faults : _) → FindsFirstOfEach F.Fn test faults → FindsFirst result (list_faults faults (tree_of value.now)) }
+    ensures finds { (faults : _) → FindsOfEach F.Fn test faults
+        → Finds result (list_faults faults (tree_of value.now)) }
+    ensures exact { (faults : _) → FindsFirstOfEach F.Fn test faults
+        → FindsFirst result (list_faults faults (tree_of value.now)) }
 {
     match shapes::list(value) {
         Some(terms) => check_each(terms, test),

@@ -71,7 +71,8 @@ pub fn check_word(name: &str, is_known: bool, is_repeated: bool) -> Result<(), C
 /// Tests a node's name in a list of them.
 #[tactic(auto, unfolding(crate::specs::Sections::node_name_faults, crate::specs::Sections::name_faults))]
 pub fn check_node_name(names: &Names, earlier: &[Term], term: &Term) -> Result<(), ClusterFault>
-    ensures { FindsFirst result (node_name_faults names.now (map tree_of earlier.now) (tree_of term.now)) }
+    ensures { FindsFirst result
+        (node_name_faults names.now (map tree_of earlier.now) (tree_of term.now)) }
 {
     let name = shapes::atom(term).ok_or(ClusterFault::BadValue)?;
     check_word(name, names.has_node(name), repeats_atom(name, earlier))
@@ -80,7 +81,8 @@ pub fn check_node_name(names: &Names, earlier: &[Term], term: &Term) -> Result<(
 /// Tests the name of an application at the front of an entry, behind earlier entries.
 #[tactic(auto, unfolding(crate::specs::Sections::app_name_faults, crate::specs::Sections::name_faults))]
 pub fn check_app_name(names: &Names, earlier: &[Term], term: &Term) -> Result<(), ClusterFault>
-    ensures { FindsFirst result (app_name_faults names.now (map tree_of earlier.now) (tree_of term.now)) }
+    ensures { FindsFirst result
+        (app_name_faults names.now (map tree_of earlier.now) (tree_of term.now)) }
 {
     let name = shapes::atom(term).ok_or(ClusterFault::BadValue)?;
     check_word(name, names.has_app(name), repeats_app(name, earlier))
@@ -94,7 +96,8 @@ pub fn check_pair<F: Fn(&Term) -> bool>(
     is_value: F,
 ) -> Result<(), ClusterFault>
     requires { F.IsAlwaysCallable is_value }
-    ensures { (values : _) → TellsValues F.Fn is_value values → FindsFirst result (pair_faults names.now values (map tree_of earlier.now) (tree_of term.now)) }
+    ensures { (values : _) → TellsValues F.Fn is_value values → FindsFirst result
+        (pair_faults names.now values (map tree_of earlier.now) (tree_of term.now)) }
 {
     let (app, value) = shapes::pair(term).ok_or(ClusterFault::BadValue)?;
     check_app_name(names, earlier, app)?;

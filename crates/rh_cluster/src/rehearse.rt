@@ -33,7 +33,8 @@ pub fn restart(term: &Term) -> Option<Restart>
 // Tests an entry of `boot`, behind earlier entries.
 #[tactic(auto, unfolding(crate::specs::Sections::boot_faults))]
 fn check_boot_entry(names: &Names, earlier: &[Term], term: &Term) -> Result<(), ClusterFault>
-    ensures { FindsFirst result (boot_faults names.now (map tree_of earlier.now) (tree_of term.now)) }
+    ensures { FindsFirst result
+        (boot_faults names.now (map tree_of earlier.now) (tree_of term.now)) }
 {
     check_pair(names, earlier, term, |value| restart(value).is_some())
 }
@@ -41,7 +42,8 @@ fn check_boot_entry(names: &Names, earlier: &[Term], term: &Term) -> Result<(), 
 // Tests a platform name, behind earlier ones of its list.
 #[tactic(auto, unfolding(crate::specs::Sections::platform_faults, crate::specs::Sections::name_faults))]
 fn check_platform_name(names: &Names, earlier: &[Term], term: &Term) -> Result<(), ClusterFault>
-    ensures { FindsFirst result (platform_faults names.now (map tree_of earlier.now) (tree_of term.now)) }
+    ensures { FindsFirst result
+        (platform_faults names.now (map tree_of earlier.now) (tree_of term.now)) }
 {
     let name = shapes::atom(term).ok_or(ClusterFault::BadValue)?;
     check_word(name, true, repeats_atom(name, earlier))?;
@@ -94,7 +96,8 @@ fn check_rehearse_value(
 
 /// Tests the section `rehearse`.
 pub fn check_rehearse(names: &Names, value: &Term) -> Result<(), ClusterFault>
-    ensures { FindsFirst result (entries_faults rehearse_key (rehearse_faults names.now) (tree_of value.now)) }
+    ensures { FindsFirst result
+        (entries_faults rehearse_key (rehearse_faults names.now) (tree_of value.now)) }
 {
     check_entries(value, rehearse_key, |key, value| {
         check_rehearse_value(names, key, value)

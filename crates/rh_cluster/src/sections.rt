@@ -57,7 +57,8 @@ fn check_section_value(
 // Tests the configuration of a node, of whose `distributed` it may be known that it passes.
 fn check_sections(names: &Names, has_passed: bool, value: &Term) -> Result<(), ClusterFault>
     requires { IsTrue has_passed → IsFaultless names.now (distributed_in (tree_of value.now)) }
-    ensures { FindsFirst result (entries_faults section_key (section_faults names.now) (tree_of value.now)) }
+    ensures { FindsFirst result
+        (entries_faults section_key (section_faults names.now) (tree_of value.now)) }
 {
     check_entries(value, section_key, |key, value| {
         check_section_value(names, has_passed, key, value)

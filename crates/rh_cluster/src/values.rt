@@ -32,7 +32,8 @@ pub fn value_if<'a>(key: &str, term: &'a Term) -> Option<&'a Term>
 
 /// The value of the first entry of this key.
 pub fn value_under<'a>(key: &str, terms: &'a [Term]) -> Option<&'a Term>
-    ensures { option_map (λ value. tree_of value.now) result ≡ value_under key.now (map tree_of terms.now) }
+    ensures { option_map (λ value. tree_of value.now) result
+        ≡ value_under key.now (map tree_of terms.now) }
 {
     for term in terms {
         if let Some(value) = value_if(key, term) {

@@ -196,7 +196,8 @@ fn fault_in(
     depth: u64,
     outer: Part,
 ) -> Result<Option<Step>, OutOfMemory>
-    ensures { IfOk result (λ found. found ≡ fault_among cut text.now code (parts_in text.now depth outer)) }
+    ensures { IfOk result
+        (λ found. found ≡ fault_among cut text.now code (parts_in text.now depth outer)) }
 {
     let parts = parts_in(alloc, text, depth, outer)?;
     fault_among(alloc, cut, text, code, parts)
@@ -268,7 +269,8 @@ fn applications(alloc: Global, text: &[u8], terms: &[Part]) -> Result<Vec<Part>,
 
 // Those that aren't.
 fn others(alloc: Global, text: &[u8], terms: &[Part]) -> Result<Vec<Part>, OutOfMemory>
-    ensures { IfOk result (λ found. found.items ≡ filter (λ p. not (is_application text.now p)) terms.now) }
+    ensures { IfOk result
+        (λ found. found.items ≡ filter (λ p. not (is_application text.now p)) terms.now) }
 {
     let mut found = Vec::new(alloc);
     for number in 0..terms.len() {

@@ -47,7 +47,8 @@ fn file_found(
     cluster: &Cluster,
     finding: &FileFinding,
 ) -> Result<Finding, OutOfMemory>
-    ensures { IfOk result (λ found. found ≡ file_found (lines_seen lines.now) cluster.now finding.now) }
+    ensures { IfOk result
+        (λ found. found ≡ file_found (lines_seen lines.now) cluster.now finding.now) }
 {
     let kind = if is_warning(finding) {
         Kind::Warning
@@ -70,7 +71,8 @@ pub fn push_file_findings(
     cluster: &Cluster,
     findings: &[FileFinding],
 ) -> Result<(), OutOfMemory>
-    ensures { OnOk result (found.new.items ≡ found.old.items ++ flat_map (λ f. file_found (lines_seen lines.now) cluster.now f ∷ []) findings.now) }
+    ensures { OnOk result (found.new.items ≡ found.old.items
+        ++ flat_map (λ f. file_found (lines_seen lines.now) cluster.now f ∷ []) findings.now) }
 {
     for finding in findings {
         found.push(file_found(alloc, lines, cluster, finding)?)?;

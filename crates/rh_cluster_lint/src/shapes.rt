@@ -34,7 +34,8 @@ pub fn tuple(term: &Term) -> Option<&[Term]>
 // The parts of a tuple of three.
 #[tactic(auto, unfolding(rh_cluster::specs::Shapes::as_triple))]
 fn triple(term: &Term) -> Option<(&Term, &Term, &Term)>
-    ensures { option_map (λ parts. (tree_of parts.0.now, tree_of parts.1.now, tree_of parts.2.now)) result ≡ as_triple (tree_of term.now) }
+    ensures { option_map (λ parts. (tree_of parts.0.now, tree_of parts.1.now, tree_of parts.2.now))
+        result ≡ as_triple (tree_of term.now) }
 {
     match tuple(term)? {
         [first, second, third] => Some((first, second, third)),
@@ -45,7 +46,8 @@ fn triple(term: &Term) -> Option<(&Term, &Term, &Term)>
 // The name and the last part of `{Word, Name, Part}`.
 #[tactic(auto, unfolding(rh_cluster::specs::Shapes::as_headed))]
 fn headed_by<'a>(word: &str, term: &'a Term) -> Option<(&'a Str, &'a Term)>
-    ensures { option_map (λ parts. (parts.0.now, tree_of parts.1.now)) result ≡ as_headed word.now (tree_of term.now) }
+    ensures { option_map (λ parts. (parts.0.now, tree_of parts.1.now)) result
+        ≡ as_headed word.now (tree_of term.now) }
 {
     let (first, name, part) = triple(term)?;
     let first = atom(first)?;
@@ -70,7 +72,8 @@ fn push_place(
     place: usize,
     term: &Term,
 ) -> Result<(), OutOfMemory>
-    ensures { OnOk result (places.new.items ≡ places.old.items ++ place_here word.now place (tree_of term.now)) }
+    ensures { OnOk result
+        (places.new.items ≡ places.old.items ++ place_here word.now place (tree_of term.now)) }
 {
     if is_headed(word, term) {
         places.push(place)?;

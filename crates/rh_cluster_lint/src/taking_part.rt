@@ -125,7 +125,8 @@ fn takes_part(terms: &[Term], name: &str, config: &Term) -> bool
 // The configuration that a term has, where it is that of a node that takes part.
 #[tactic(auto, unfolding(crate::specs::Differing::part_config))]
 fn part_config<'a>(terms: &[Term], term: &'a Term) -> Option<&'a Term>
-    ensures { option_map (λ config. tree_of config.now) result ≡ part_config (map tree_of terms.now) (tree_of term.now) }
+    ensures { option_map (λ config. tree_of config.now) result
+        ≡ part_config (map tree_of terms.now) (tree_of term.now) }
 {
     let (name, config) = node(term)?;
     if takes_part(terms, name.as_str(), config) {
@@ -138,7 +139,8 @@ fn part_config<'a>(terms: &[Term], term: &'a Term) -> Option<&'a Term>
 // The same, where it is that of the node of this name.
 #[tactic(auto, unfolding(crate::specs::Differing::node_config))]
 fn node_config<'a>(name: &str, term: &'a Term) -> Option<&'a Term>
-    ensures { option_map (λ config. tree_of config.now) result ≡ node_config name.now (tree_of term.now) }
+    ensures { option_map (λ config. tree_of config.now) result
+        ≡ node_config name.now (tree_of term.now) }
 {
     let (other, config) = node(term)?;
     if other.as_str() == name {
@@ -150,7 +152,8 @@ fn node_config<'a>(name: &str, term: &'a Term) -> Option<&'a Term>
 
 // The place of the first term of a node that takes part, and its configuration.
 fn first_part(terms: &[Term]) -> Option<(usize, &Term)>
-    ensures { option_map (λ found. (found.0, tree_of found.1.now)) result ≡ first_config (part_config (map tree_of terms.now)) 0 (map tree_of terms.now) }
+    ensures { option_map (λ found. (found.0, tree_of found.1.now)) result
+        ≡ first_config (part_config (map tree_of terms.now)) 0 (map tree_of terms.now) }
 {
     for place in 0..terms.len() {
         if let Some(config) = part_config(terms, &terms[place]) {
@@ -162,7 +165,8 @@ fn first_part(terms: &[Term]) -> Option<(usize, &Term)>
 
 // The same of the node of this name.
 fn node_named<'a>(name: &str, terms: &'a [Term]) -> Option<(usize, &'a Term)>
-    ensures { option_map (λ found. (found.0, tree_of found.1.now)) result ≡ first_config (node_config name.now) 0 (map tree_of terms.now) }
+    ensures { option_map (λ found. (found.0, tree_of found.1.now)) result
+        ≡ first_config (node_config name.now) 0 (map tree_of terms.now) }
 {
     for place in 0..terms.len() {
         if let Some(config) = node_config(name, &terms[place]) {

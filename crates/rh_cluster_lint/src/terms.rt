@@ -38,7 +38,8 @@ fn near_found(
     written: &Str,
     meant: ReadName,
 ) -> Result<Finding, OutOfMemory>
-    ensures { IfOk result (λ finding. finding ≡ near_found (lines_seen lines.now) term written.now meant) }
+    ensures { IfOk result
+        (λ finding. finding ≡ near_found (lines_seen lines.now) term written.now meant) }
 {
     Ok(Finding {
         line: lines.word_line(term, written.as_str()),
@@ -104,7 +105,8 @@ pub fn push_term_findings(
     lines: &Lines<'_>,
     findings: &[TermFinding],
 ) -> Result<(), OutOfMemory>
-    ensures { OnOk result (found.new.items ≡ found.old.items ++ flat_map (λ f. term_found (lines_seen lines.now) f ∷ []) findings.now) }
+    ensures { OnOk result (found.new.items ≡ found.old.items
+        ++ flat_map (λ f. term_found (lines_seen lines.now) f ∷ []) findings.now) }
 {
     for finding in findings {
         found.push(term_found(alloc, lines, finding)?)?;

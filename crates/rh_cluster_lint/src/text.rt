@@ -28,7 +28,8 @@ fn push_of_cluster(
     lines: &Lines<'_>,
     cluster: Option<&Cluster>,
 ) -> Result<(), OutOfMemory>
-    ensures { OnOk result (found.new.items ≡ found.old.items ++ of_cluster (lines_seen lines.now) (option_map (λ cluster. cluster.now) cluster.entry)) }
+    ensures { OnOk result (found.new.items ≡ found.old.items
+        ++ of_cluster (lines_seen lines.now) (option_map (λ cluster. cluster.now) cluster.entry)) }
 {
     match cluster {
         None => Ok(()),
@@ -48,7 +49,8 @@ fn of_terms(
     cluster: Option<&Cluster>,
 ) -> Result<Vec<Finding>, OutOfMemory>
     requires { length text.now + 1 < 2 ^ 32 }
-    ensures { IfOk result (λ found. found.items ≡ of_terms text.now (map tree_of (items_of terms.now)) (option_map (λ cluster. cluster.now) cluster.entry)) }
+    ensures { IfOk result (λ found. found.items ≡ of_terms text.now
+        (map tree_of (items_of terms.now)) (option_map (λ cluster. cluster.now) cluster.entry)) }
 {
     let findings = term_findings(alloc, terms)?;
     let starts = term_starts(alloc, text)?;
@@ -75,7 +77,8 @@ pub fn text_findings(
     cluster: Option<&Cluster>,
 ) -> Result<Vec<Finding>, OutOfMemory>
     requires { length text.now + 1 < 2 ^ 32 }
-    ensures { IfOk result (λ found. found.items ≡ text_found text.now (option_map (λ cluster. cluster.now) cluster.entry)) }
+    ensures { IfOk result (λ found.
+        found.items ≡ text_found text.now (option_map (λ cluster. cluster.now) cluster.entry)) }
 {
     // Most of a text stands in values of which nothing is told.
     match read_kept(alloc, Looked::File, text) {

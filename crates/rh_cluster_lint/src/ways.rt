@@ -53,7 +53,8 @@ fn push_step(way: &mut String, text: &[u8], step: Step) -> Result<(), OutOfMemor
 
 // Adds those of some steps.
 fn push_steps(way: &mut String, text: &[u8], steps: &[Step]) -> Result<(), OutOfMemory>
-    ensures { OnOk result (string_bytes way.new ≡ string_bytes way.old ++ flat_map (step_way text.now) steps.now) }
+    ensures { OnOk result
+        (string_bytes way.new ≡ string_bytes way.old ++ flat_map (step_way text.now) steps.now) }
 {
     for step in steps {
         push_step(way, text, *step)?;

@@ -42,7 +42,8 @@ fn add_subcommands<'a>(
     bare: Command<'a>,
     subcommands: &[Subcommand],
 ) -> Result<Command<'a>, Error>
-    ensures ok { (app : App) → IsCommand app bare.entry → IfOk result (IsCommand (with_subcommands parts.entry.picks app subcommands.now)) }
+    ensures ok { (app : App) → IsCommand app bare.entry
+        → IfOk result (IsCommand (with_subcommands parts.entry.picks app subcommands.now)) }
     ensures err { IfErr result (λ error. kind_of error ≡ kind.OutOfMemory) }
 {
     let mut command = bare;
@@ -71,7 +72,8 @@ fn add_settings<'a>(
     bare: Command<'a>,
     settings: &[Setting],
 ) -> Result<Command<'a>, Error>
-    ensures ok { (app : App) → IsCommand app bare.entry → IfOk result (IsCommand (with_settings parts.entry.picks app settings.now)) }
+    ensures ok { (app : App) → IsCommand app bare.entry
+        → IfOk result (IsCommand (with_settings parts.entry.picks app settings.now)) }
     ensures err { IfErr result (λ error. kind_of error ≡ kind.OutOfMemory) }
 {
     let mut command = bare;

@@ -93,7 +93,8 @@ fn refusal(alloc: Global, kind: ErrorKind, text: &str) -> Result<Error, Error>
 // The program that the words ask for, or why there is none.
 fn program_of(alloc: Global, words: &[String]) -> Result<Program, Error>
     ensures ok { IfOk result (AsksFor (map string_bytes words.now)) }
-    ensures err { IfErr result (λ error. (kind_of error ≡ ErrorKind.OutOfMemory) ⊎ Refuses (map string_bytes words.now) error) }
+    ensures err { IfErr result (λ error. (kind_of error ≡ ErrorKind.OutOfMemory)
+        ⊎ Refuses (map string_bytes words.now) error) }
 {
     let command = whole_command(alloc, PICKS.as_slice())?;
     let matches = command.try_get_matches_from(words)?;

@@ -182,8 +182,10 @@ fn pick_in(matches: &ArgMatches<'_>) -> Pick
 
 // The choice at a tie: the last for the word `last`, the first for any other and for none.
 fn pick_of(word: Option<&str>) -> Pick
-    ensures last { option_map (λ word. word.now) word.entry ≡ Some (codes "last") → result ≡ pick.Last }
-    ensures first { option_map (λ word. word.now) word.entry ≢ Some (codes "last") → result ≡ pick.First }
+    ensures last { option_map (λ word. word.now) word.entry ≡ Some (codes "last")
+        → result ≡ pick.Last }
+    ensures first { option_map (λ word. word.now) word.entry ≢ Some (codes "last")
+        → result ≡ pick.First }
 {
     match word {
         Some("last") => Pick::Last,

@@ -43,7 +43,8 @@ impl Model for Course {
 
     ghost Value = { CourseView };
 
-    ghost view = { λ c. record { app = c.app; changes = c.changes.items; place = c.place; time = c.time } };
+    ghost view = { λ c.
+        record { app = c.app; changes = c.changes.items; place = c.place; time = c.time } };
 }
 
 impl Course {

@@ -50,7 +50,8 @@ pub(crate) fn fire(
     requires timer { IsTimerOf (read state.old).cluster timer }
     requires first { earliest (read state.old) ≡ Some (due, timer) }
     requires sound { IsSound (read state.old) }
-    ensures fired { OnOk result (read state.new ≡ (fired_in pick (read state.old) (due, timer)).state) }
+    ensures fired { OnOk result
+        (read state.new ≡ (fired_in pick (read state.old) (due, timer)).state) }
 {
     let mut trace = Trace::of(Vec::new(alloc), Vec::new(alloc), alloc);
     take_off(state, due, timer, &mut trace)?;
@@ -63,7 +64,8 @@ pub(crate) fn fire(
 fn take_off(state: &mut State, due: u64, timer: Timer, trace: &mut Trace) -> Result<(), OutOfMemory>
     requires due { due ≤ time_limit }
     requires timer { IsTimerOf (read state.old).cluster timer }
-    ensures course { OnOk result (course (read state.new) trace.new ≡ taken_off (course (read state.old) trace.old) (due, timer)) }
+    ensures course { OnOk result (course (read state.new) trace.new
+        ≡ taken_off (course (read state.old) trace.old) (due, timer)) }
 {
     cancel_if_set(state, timer, trace)?;
     recording::set_now(state, due, trace)?;
@@ -76,8 +78,10 @@ fn take_effect(state: &mut State, timer: Timer, trace: &mut Trace) -> Result<(),
     requires timer { IsTimerOf (read state.old).cluster timer }
     requires running { (n : Node) → timer ≡ Sync n → running_at (read state.old) n ≡ [] }
     requires waiting { (n : Node) → timer ≡ Sync n → waiting_at (read state.old) n ≡ [] }
-    requires unset { (n : Node) (a : App) → timer ≡ Sync n → standing_of (read state.old) a ≡ Running n → IsNone (due_of (read state.old) (Failover a)) }
-    ensures course { OnOk result (course (read state.new) trace.new ≡ effect (course (read state.old) trace.old) timer) }
+    requires unset { (n : Node) (a : App) → timer ≡ Sync n → standing_of (read state.old) a
+        ≡ Running n → IsNone (due_of (read state.old) (Failover a)) }
+    ensures course { OnOk result
+        (course (read state.new) trace.new ≡ effect (course (read state.old) trace.old) timer) }
 {
     match timer {
         Timer::Sync(node) => end_wait(state, node, trace),
@@ -90,8 +94,10 @@ fn end_wait(state: &mut State, node: Node, trace: &mut Trace) -> Result<(), OutO
     requires node { IsNodeOf (read state.old).cluster node }
     requires running { running_at (read state.old) node ≡ [] }
     requires waiting { waiting_at (read state.old) node ≡ [] }
-    requires unset { (a : App) → standing_of (read state.old) a ≡ Running node → IsNone (due_of (read state.old) (Failover a)) }
-    ensures course { OnOk result (course (read state.new) trace.new ≡ effect (course (read state.old) trace.old) (Sync node)) }
+    requires unset { (a : App) → standing_of (read state.old) a ≡ Running node
+        → IsNone (due_of (read state.old) (Failover a)) }
+    ensures course { OnOk result (course (read state.new) trace.new
+        ≡ effect (course (read state.old) trace.old) (Sync node)) }
 {
     if all_alive(state, state.cluster().mandatory(node)) {
         come_up(state, node, trace)
@@ -103,7 +109,8 @@ fn end_wait(state: &mut State, node: Node, trace: &mut Trace) -> Result<(), OutO
 // An application that is lost is wanted.
 fn want_if_lost(state: &mut State, app: App, trace: &mut Trace) -> Result<(), OutOfMemory>
     requires { app.0 < app_count (read state.old).cluster }
-    ensures course { OnOk result (course (read state.new) trace.new ≡ effect (course (read state.old) trace.old) (Failover app)) }
+    ensures course { OnOk result (course (read state.new) trace.new
+        ≡ effect (course (read state.old) trace.old) (Failover app)) }
 {
     match state.standing(app) {
         Standing::Lost(node) => {

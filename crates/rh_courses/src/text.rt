@@ -29,7 +29,8 @@ pub fn course_text(alloc: Global, cluster: &Cluster, course: &Course) -> Result<
 // Adds the runs.
 #[tactic(auto, unfolding(crate::specs::Texts::runs_words))]
 fn push_runs(text: &mut String, cluster: &Cluster, runs: &[Stay]) -> Result<(), OutOfMemory>
-    ensures { OnOk result (string_bytes text.new ≡ string_bytes text.old ++ runs_words cluster.now runs.now) }
+    ensures { OnOk result
+        (string_bytes text.new ≡ string_bytes text.old ++ runs_words cluster.now runs.now) }
 {
     match runs.split_first() {
         None => write!(text, " never ran")?,
@@ -57,7 +58,8 @@ fn push_later(text: &mut String, cluster: &Cluster, runs: &[Stay]) -> Result<(),
 // Adds a run.
 #[tactic(auto, unfolding(crate::specs::Texts::run_words))]
 fn push_run(text: &mut String, cluster: &Cluster, run: Stay) -> Result<(), OutOfMemory>
-    ensures { OnOk result (string_bytes text.new ≡ string_bytes text.old ++ run_words cluster.now run) }
+    ensures { OnOk result
+        (string_bytes text.new ≡ string_bytes text.old ++ run_words cluster.now run) }
 {
     let place = place_word(cluster, run.place);
     let start = run.start;
@@ -81,7 +83,8 @@ fn place_word<'a>(cluster: &'a Cluster, place: Option<Node>) -> &'a str
 
 // Adds for how long an application ran nowhere, and in how many pieces, if it did.
 fn push_gaps(text: &mut String, away: u128, pieces: usize) -> Result<(), OutOfMemory>
-    ensures { OnOk result (string_bytes text.new ≡ string_bytes text.old ++ gaps_words away pieces) }
+    ensures { OnOk result
+        (string_bytes text.new ≡ string_bytes text.old ++ gaps_words away pieces) }
 {
     let never = pieces == 0;
     if never {

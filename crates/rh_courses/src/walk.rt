@@ -50,7 +50,8 @@ pub fn courses_of(alloc: Global, sim: &mut Sim) -> Result<Vec<Course>, OutOfMemo
 fn courses_along(alloc: Global, sim: &mut Sim, end: usize) -> Result<Vec<Course>, OutOfMemory>
     requires start { sim.old.seen.cursor ≡ 0 }
     requires end { end ≤ length sim.old.seen.trail }
-    ensures courses { IfOk result (λ courses. courses.items ≡ courses_in (record sim.old.seen { cursor = end })) }
+    ensures courses { IfOk result
+        (λ courses. courses.items ≡ courses_in (record sim.old.seen { cursor = end })) }
     ensures seen { sim.new.seen ≡ record sim.old.seen { cursor = sim.new.seen.cursor } }
     ensures within { sim.new.seen.cursor ≤ end }
     ensures chain { (k : ℕ) → k ≤ length sim.old.seen.trail → chain sim.new k ≡ chain sim.old k }
@@ -65,7 +66,8 @@ fn courses_along(alloc: Global, sim: &mut Sim, end: usize) -> Result<Vec<Course>
 // The courses of the distributed applications before any event.
 #[tactic(auto, unfolding(rh_state::specs::Numbers::apps_of))]
 fn none_ran(alloc: Global, cluster: &Cluster) -> Result<Vec<Course>, OutOfMemory>
-    ensures courses { IfOk result (λ courses. courses.items ≡ map not_run (distributed cluster.now)) }
+    ensures courses { IfOk result
+        (λ courses. courses.items ≡ map not_run (distributed cluster.now)) }
     ensures apps { IfOk result (λ courses. AreOf cluster.now courses.items) }
 {
     let mut courses = Vec::new(alloc);
@@ -85,7 +87,8 @@ fn push_if_distributed(
 ) -> Result<(), OutOfMemory>
     requires app { app.0 < app_count cluster.now }
     requires apps { AreOf cluster.now courses.old.items }
-    ensures courses { OnOk result (courses.new.items ≡ courses.old.items ++ map not_run (filter (λ a. not (is_local cluster.now a)) (app ∷ []))) }
+    ensures courses { OnOk result (courses.new.items ≡ courses.old.items
+        ++ map not_run (filter (λ a. not (is_local cluster.now a)) (app ∷ []))) }
     ensures apps { OnOk result (AreOf cluster.now courses.new.items) }
 {
     if cluster.spread(app).is_some() {
@@ -98,8 +101,9 @@ fn push_if_distributed(
 fn note_event(alloc: Global, sim: &mut Sim, courses: &mut Vec<Course>) -> Result<(), OutOfMemory>
     requires next { sim.old.seen.cursor < length sim.old.seen.trail }
     requires apps { AreOf sim.old.seen.cluster courses.old.items }
-    ensures noted { OnOk result ((e : Event) → slice_get sim.old.seen.trail sim.old.seen.cursor ≡ Some e
-        → courses.new.items ≡ noted_along courses.old.items (passed_in sim.old.seen.pick (state_of sim.old.seen) e)) }
+    ensures noted { OnOk result
+        ((e : Event) → slice_get sim.old.seen.trail sim.old.seen.cursor ≡ Some e → courses.new.items
+        ≡ noted_along courses.old.items (passed_in sim.old.seen.pick (state_of sim.old.seen) e)) }
     ensures apps { OnOk result (AreOf sim.old.seen.cluster courses.new.items) }
     ensures seen { sim.new.seen ≡ record sim.old.seen { cursor = sim.old.seen.cursor + 1 } }
     ensures chain { (k : ℕ) → k ≤ length sim.old.seen.trail → chain sim.new k ≡ chain sim.old k }
@@ -130,7 +134,8 @@ fn event_at(events: &[Event], index: usize) -> Event
 
 // A copy of the state, if a timer fires in this event.
 fn before_firings(alloc: Global, state: &State, event: &Event) -> Result<Option<State>, OutOfMemory>
-    ensures { IfOk result (λ found. MatchOption found ((pick : Pick) → behind_firings pick (read state.now) event.now ≡ [])
+    ensures { IfOk result (λ found.
+        MatchOption found ((pick : Pick) → behind_firings pick (read state.now) event.now ≡ [])
         (λ copy. (ms : ℕ) × (event.now ≡ Tick ms) × (copy ≡ state.now))) }
 {
     match *event {
@@ -169,8 +174,10 @@ fn note_firings(
     requires limit { limit ≤ time_limit }
     requires sound { IfSome before (λ state. IsSound (read state)) }
     requires apps { IfSome before (λ state. AreOf (read state).cluster courses.old.items) }
-    ensures noted { OnOk result (courses.new.items ≡ noted_along courses.old.items (behind_in pick limit before)) }
-    ensures apps { OnOk result ((v : ClusterView) → AreOf v courses.old.items → AreOf v courses.new.items) }
+    ensures noted { OnOk result
+        (courses.new.items ≡ noted_along courses.old.items (behind_in pick limit before)) }
+    ensures apps { OnOk result
+        ((v : ClusterView) → AreOf v courses.old.items → AreOf v courses.new.items) }
 {
     match before {
         None => Ok(()),
@@ -189,8 +196,10 @@ fn note_each(
     requires limit { limit ≤ time_limit }
     requires sound { IsSound (read state) }
     requires apps { AreOf (read state).cluster courses.old.items }
-    ensures noted { OnOk result (courses.new.items ≡ noted_along courses.old.items (behind_timers pick (length (read state).timers) limit (read state))) }
-    ensures apps { OnOk result ((v : ClusterView) → AreOf v courses.old.items → AreOf v courses.new.items) }
+    ensures noted { OnOk result (courses.new.items ≡ noted_along courses.old.items
+        (behind_timers pick (length (read state).timers) limit (read state))) }
+    ensures apps { OnOk result
+        ((v : ClusterView) → AreOf v courses.old.items → AreOf v courses.new.items) }
 {
     'timers: while let Some((due, timer)) = due_by(&state, limit) {
         fire(alloc, &mut state, due, timer, pick)?;
@@ -203,7 +212,8 @@ fn note_each(
 fn note(courses: &mut Vec<Course>, state: &State) -> Result<(), OutOfMemory>
     requires { AreOf (read state.now).cluster courses.old.items }
     ensures noted { OnOk result (courses.new.items ≡ all_noted courses.old.items (read state.now)) }
-    ensures apps { OnOk result ((v : ClusterView) → AreOf v courses.old.items → AreOf v courses.new.items) }
+    ensures apps { OnOk result
+        ((v : ClusterView) → AreOf v courses.old.items → AreOf v courses.new.items) }
 {
     'courses: for index in 0..courses.len() {
         courses[index].note(state)?;

@@ -56,14 +56,16 @@ impl Text {
 
     /// All that was written, if no growth was refused.
     pub fn into_bytes(self) -> Option<Vec<u8>>
-        ensures whole { IfSome result (λ bytes. (self.lacked ≡ false) × (bytes.items ≡ self.bytes.items)) }
+        ensures whole { IfSome result
+            (λ bytes. (self.lacked ≡ false) × (bytes.items ≡ self.bytes.items)) }
     {
         if self.lacked { None } else { Some(self.bytes) }
     }
 }
 
 impl Sink for Text {
-    ghost takes = { λ before after bytes. Holds before.lacked after.lacked before.bytes.items after.bytes.items bytes };
+    ghost takes = { λ before after bytes.
+        Holds before.lacked after.lacked before.bytes.items after.bytes.items bytes };
 
     ghost flushes = { λ before after. after ≡ before };
 

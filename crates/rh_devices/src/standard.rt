@@ -25,7 +25,8 @@ impl<R> Reader<R> {
 }
 
 impl<R: Read> Source for Reader<R> {
-    ghost gives = { λ before after bytes. GivesKnown (R.remaining before.inner) (R.remaining after.inner) bytes };
+    ghost gives = { λ before after bytes.
+        GivesKnown (R.remaining before.inner) (R.remaining after.inner) bytes };
 
     ghost fails = { λ before after. Keeps (R.remaining before.inner) (R.remaining after.inner) };
 
@@ -53,7 +54,8 @@ impl<W> Writer<W> {
 }
 
 impl<W: Write> Sink for Writer<W> {
-    ghost takes = { λ before after bytes. Appends (W.contents before.inner) (W.contents after.inner) bytes };
+    ghost takes = { λ before after bytes.
+        Appends (W.contents before.inner) (W.contents after.inner) bytes };
 
     ghost flushes = { λ before after. Keeps (W.contents before.inner) (W.contents after.inner) };
 
@@ -95,11 +97,14 @@ impl<W: Write + Drop> Buffered<W> {
 }
 
 impl<W: Write + Drop> Sink for Buffered<W> {
-    ghost takes = { λ before after bytes. Appends (writer_contents W.contents before.buffered) (writer_contents W.contents after.buffered) bytes };
+    ghost takes = { λ before after bytes. Appends (writer_contents W.contents before.buffered)
+        (writer_contents W.contents after.buffered) bytes };
 
-    ghost flushes = { λ before after. Keeps (writer_contents W.contents before.buffered) (writer_contents W.contents after.buffered) × (writer_buffer after.buffered ≡ []) };
+    ghost flushes = { λ before after. Keeps (writer_contents W.contents before.buffered)
+        (writer_contents W.contents after.buffered) × (writer_buffer after.buffered ≡ []) };
 
-    ghost fails = { λ before after. Keeps (writer_contents W.contents before.buffered) (writer_contents W.contents after.buffered) };
+    ghost fails = { λ before after. Keeps (writer_contents W.contents before.buffered)
+        (writer_contents W.contents after.buffered) };
 
     fn offer(&mut self, bytes: &[u8]) -> Result<usize, Failed> {
         match self.buffered.write(bytes) {

@@ -17,7 +17,8 @@ const CALL_LIMIT: u32 = 33_554_432;
 /// All bytes of a reader.
 pub fn read_input<S: Source>(alloc: Global, reader: &mut Watched<S>) -> Result<Vec<u8>, ReadFault>
     requires reader { reader.old.failed ≡ false }
-    ensures bytes { IfOk result (λ input. PassedAll S.gives reader.old.inner reader.new.inner input.items) }
+    ensures bytes { IfOk result
+        (λ input. PassedAll S.gives reader.old.inner reader.new.inner input.items) }
     ensures limit { IfOk result (λ input. length input.items ≤ input_limit) }
     ensures ok { OnOk result (reader.new.failed ≡ false) }
     ensures why { IfErr result (WhyUnread S.gives S.fails reader.old reader.new) }
@@ -44,7 +45,8 @@ pub fn write_text<K: Sink>(writer: &mut Watched<K>, text: &[u8]) -> Result<(), W
     requires { writer.old.failed ≡ false }
     ensures whole { OnOk result (Passed K.takes writer.old.inner writer.new.inner text.now) }
     ensures ok { OnOk result (writer.new.failed ≡ false) }
-    ensures front { OnErr result (FrontBroken K.takes K.fails writer.old.inner writer.new.inner text.now) }
+    ensures front { OnErr result
+        (FrontBroken K.takes K.fails writer.old.inner writer.new.inner text.now) }
     ensures err { OnErr result (writer.new.failed ≡ true) }
     ensures only { IfErr result (λ fault. fault ≡ WriteFault.Failed) }
 {

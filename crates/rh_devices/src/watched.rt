@@ -46,7 +46,8 @@ impl<S: Source> Source for Watched<S> {
     fn ask(&mut self, buffer: &mut [u8]) -> Result<usize, Failed>
         requires room { 0 < length buffer.old }
         ensures bound { IfOk result (λ n. n ≤ length buffer.new) }
-        ensures gives { IfOk result (λ n. S.gives self.old.inner self.new.inner (take n buffer.new)) }
+        ensures gives { IfOk result
+            (λ n. S.gives self.old.inner self.new.inner (take n buffer.new)) }
         ensures fails { OnErr result (S.fails self.old.inner self.new.inner) }
         ensures failed { self.new.failed ≡ (self.old.failed || is_err result) }
     {
@@ -69,7 +70,8 @@ impl<K: Sink> Sink for Watched<K> {
         requires some { 0 < length bytes.now }
         ensures some { IfOk result (λ n. 0 < n) }
         ensures bound { IfOk result (λ n. n ≤ length bytes.now) }
-        ensures takes { IfOk result (λ n. K.takes self.old.inner self.new.inner (take n bytes.now)) }
+        ensures takes { IfOk result
+            (λ n. K.takes self.old.inner self.new.inner (take n bytes.now)) }
         ensures fails { OnErr result (K.fails self.old.inner self.new.inner) }
         ensures failed { self.new.failed ≡ (self.old.failed || is_err result) }
     {

@@ -39,7 +39,8 @@ fn stop_running(
     requires node { IsNodeOf (read state.old).cluster node }
     requires app { IsAppOf (read state.old).cluster app }
     requires started { place_of (read state.old) node app ≢ Off }
-    ensures course { OnOk result (course (read state.new) trace.new ≡ stopped (course (read state.old) trace.old) node app) }
+    ensures course { OnOk result
+        (course (read state.new) trace.new ≡ stopped (course (read state.old) trace.old) node app) }
     ensures way { Goes state.old trace.old state.new trace.new }
     ensures few { FewEdits 0 trace.old trace.new }
 {
@@ -52,7 +53,8 @@ fn stop_running(
 #[tactic(auto, using(rh_trace::proofs::Ways::goes_none, rh_trace::proofs::Ways::goes_more))]
 fn quieten_if_nowhere(state: &mut State, app: App, trace: &mut Trace) -> Result<(), OutOfMemory>
     requires { IsAppOf (read state.old).cluster app }
-    ensures part { OnOk result (read state.new ≡ quiet_if_nowhere (read state.old) app (standing_of (read state.old) app)) }
+    ensures part { OnOk result (read state.new
+        ≡ quiet_if_nowhere (read state.old) app (standing_of (read state.old) app)) }
     ensures silent { TellsNothing trace.old trace.new }
     ensures way { Goes state.old trace.old state.new trace.new }
     ensures few { FewEdits 2 trace.old trace.new }
@@ -83,7 +85,8 @@ fn leave_waiting(
     requires node { IsNodeOf (read state.old).cluster node }
     requires app { IsAppOf (read state.old).cluster app }
     requires started { place_of (read state.old) node app ≢ Off }
-    ensures part { OnOk result (read state.new ≡ quiet_if_nowhere (unlisted (read state.old) node app) app (standing_of (read state.old) app)) }
+    ensures part { OnOk result (read state.new ≡ quiet_if_nowhere
+        (unlisted (read state.old) node app) app (standing_of (read state.old) app)) }
     ensures silent { TellsNothing trace.old trace.new }
     ensures way { Goes state.old trace.old state.new trace.new }
     ensures few { FewEdits 3 trace.old trace.new }
@@ -98,7 +101,8 @@ pub fn stop(state: &mut State, node: Node, app: App, trace: &mut Trace) -> Resul
     requires node { IsNodeOf (read state.old).cluster node }
     requires app { IsAppOf (read state.old).cluster app }
     requires started { place_of (read state.old) node app ≢ Off }
-    ensures course { OnOk result (course (read state.new) trace.new ≡ change (course (read state.old) trace.old) (Stop node app)) }
+    ensures course { OnOk result (course (read state.new) trace.new
+        ≡ change (course (read state.old) trace.old) (Stop node app)) }
     ensures way { Goes state.old trace.old state.new trace.new }
     ensures few { FewEdits 3 trace.old trace.new }
 {
@@ -114,7 +118,8 @@ fn forbid(state: &mut State, node: Node, app: App, trace: &mut Trace) -> Result<
     requires node { IsNodeOf (read state.old).cluster node }
     requires app { IsAppOf (read state.old).cluster app }
     requires started { place_of (read state.old) node app ≢ Off }
-    ensures course { OnOk result (course (read state.new) trace.new ≡ forbidden (course (read state.old) trace.old) node app) }
+    ensures course { OnOk result (course (read state.new) trace.new
+        ≡ forbidden (course (read state.old) trace.old) node app) }
     ensures way { Goes state.old trace.old state.new trace.new }
     ensures few { FewEdits 0 trace.old trace.new }
 {
@@ -156,7 +161,8 @@ fn free(
 ) -> Result<(), OutOfMemory>
     requires node { IsNodeOf (read state.now).cluster node }
     requires app { IsAppOf (read state.now).cluster app }
-    ensures freed { OnOk result (trace.new.freed ≡ trace.old.freed ++ freed_by (read state.now) node app allow) }
+    ensures freed { OnOk result
+        (trace.new.freed ≡ trace.old.freed ++ freed_by (read state.now) node app allow) }
     ensures told { trace.new.notices ≡ trace.old.notices }
     ensures marked { trace.new.marked ≡ trace.old.marked }
     ensures way { Goes state.now trace.old state.now trace.new }
@@ -180,7 +186,8 @@ pub fn permit(
 ) -> Result<(), OutOfMemory>
     requires node { IsNodeOf (read state.old).cluster node }
     requires app { IsAppOf (read state.old).cluster app }
-    ensures course { OnOk result (course (read state.new) trace.new ≡ permitted (course (read state.old) trace.old) node app allow) }
+    ensures course { OnOk result (course (read state.new) trace.new
+        ≡ permitted (course (read state.old) trace.old) node app allow) }
     ensures way { Goes state.old trace.old state.new trace.new }
     ensures few { FewEdits 1 trace.old trace.new }
 {
@@ -204,7 +211,8 @@ fn start_if_off(
     ensures cluster { OnOk result ((read state.new).cluster ≡ (read state.old).cluster) }
     ensures running { OnOk result ((read state.new).running ≡ (read state.old).running) }
     ensures started { OnOk result (place_of (read state.new) node app ≢ Off) }
-    ensures others { OnOk result (unlisted (read state.new) node app ≡ unlisted (read state.old) node app) }
+    ensures others { OnOk result
+        (unlisted (read state.new) node app ≡ unlisted (read state.old) node app) }
     ensures silent { TellsNothing trace.old trace.new }
     ensures way { Goes state.old trace.old state.new trace.new }
     ensures few { FewEdits 1 trace.old trace.new }
@@ -230,7 +238,8 @@ fn move_by_hand(
     requires from { IsNodeOf (read state.old).cluster from }
     requires other { from.0 ≢ node.0 }
     requires runs { runs_at (read state.old) from app ≡ true }
-    ensures course { OnOk result (course (read state.new) trace.new ≡ moved (course (read state.old) trace.old) (Takeover app from node)) }
+    ensures course { OnOk result (course (read state.new) trace.new
+        ≡ moved (course (read state.old) trace.old) (Takeover app from node)) }
     ensures way { Goes state.old trace.old state.new trace.new }
     ensures few { FewEdits 1 trace.old trace.new }
 {
@@ -252,7 +261,8 @@ pub fn take_over(
     requires app { IsAppOf (read state.old).cluster app }
     requires elsewhere { (m : Node) → standing_of (read state.old) app ≡ Running m → m.0 ≢ node.0 }
     requires runs { RunsWhereItStands (read state.old) }
-    ensures course { OnOk result (course (read state.new) trace.new ≡ taken_over (course (read state.old) trace.old) node app restart) }
+    ensures course { OnOk result (course (read state.new) trace.new
+        ≡ taken_over (course (read state.old) trace.old) node app restart) }
     ensures way { Goes state.old trace.old state.new trace.new }
     ensures few { FewEdits 2 trace.old trace.new }
 {
@@ -289,7 +299,8 @@ pub fn exit(
     requires app { IsAppOf (read state.old).cluster app }
     requires runs { runs_at (read state.old) node app ≡ true }
     requires sound { IsSound (read state.old) }
-    ensures course { OnOk result (course (read state.new) trace.new ≡ exited (course (read state.old) trace.old) node app normal) }
+    ensures course { OnOk result (course (read state.new) trace.new
+        ≡ exited (course (read state.old) trace.old) node app normal) }
     ensures way { Goes state.old trace.old state.new trace.new }
     ensures few { OnOk result (FewWeighed (read state.old).cluster 0 trace.old trace.new) }
 {

@@ -26,9 +26,11 @@ use rh_trace::Trace;
 pub fn change(state: &mut State, event: &Event, trace: &mut Trace) -> Result<(), OutOfMemory>
     requires accepted { refused (read state.old) event.now ≡ None }
     requires sound { IsSound (read state.old) }
-    ensures course { OnOk result (course (read state.new) trace.new ≡ change (course (read state.old) trace.old) event.now) }
+    ensures course { OnOk result
+        (course (read state.new) trace.new ≡ change (course (read state.old) trace.old) event.now) }
     ensures way { Goes state.old trace.old state.new trace.new }
-    ensures few { OnOk result (FewWeighed (read state.old).cluster (own_edits (read state.old).cluster event.now) trace.old trace.new) }
+    ensures few { OnOk result (FewWeighed (read state.old).cluster
+        (own_edits (read state.old).cluster event.now) trace.old trace.new) }
 {
     match *event {
         Event::Boot { node } => boot(state, node, trace),

@@ -25,7 +25,8 @@ pub fn come_up(state: &mut State, node: Node, trace: &mut Trace) -> Result<(), O
     requires node { IsNodeOf (read state.old).cluster node }
     requires running { running_at (read state.old) node ≡ [] }
     requires waiting { waiting_at (read state.old) node ≡ [] }
-    ensures course { OnOk result (course (read state.new) trace.new ≡ come_up (course (read state.old) trace.old) node) }
+    ensures course { OnOk result
+        (course (read state.new) trace.new ≡ come_up (course (read state.old) trace.old) node) }
     ensures way { Goes state.old trace.old state.new trace.new }
     ensures few { OnOk result (FewWeighed (read state.old).cluster 0 trace.old trace.new) }
 {
@@ -41,7 +42,8 @@ pub fn come_up(state: &mut State, node: Node, trace: &mut Trace) -> Result<(), O
 fn let_come_up_if_ready(state: &mut State, node: Node, trace: &mut Trace) -> Result<(), OutOfMemory>
     requires node { IsNodeOf (read state.old).cluster node }
     requires sound { IsSound (read state.old) }
-    ensures course { OnOk result (course (read state.new) trace.new ≡ come_up_if_ready (course (read state.old) trace.old) node) }
+    ensures course { OnOk result (course (read state.new) trace.new
+        ≡ come_up_if_ready (course (read state.old) trace.old) node) }
     ensures way { Goes state.old trace.old state.new trace.new }
     ensures few { OnOk result (FewWeighed (read state.old).cluster 0 trace.old trace.new) }
 {
@@ -55,7 +57,8 @@ fn let_come_up_if_ready(state: &mut State, node: Node, trace: &mut Trace) -> Res
 #[tactic(auto, unfolding(rh_rules::specs::NodesStart::ready_come_up, rh_state::specs::Numbers::nodes_of), using(rh_trace::proofs::Ways::goes_none))]
 pub fn let_ready_come_up(state: &mut State, trace: &mut Trace) -> Result<(), OutOfMemory>
     requires { IsSound (read state.old) }
-    ensures course { OnOk result (course (read state.new) trace.new ≡ ready_come_up (course (read state.old) trace.old)) }
+    ensures course { OnOk result
+        (course (read state.new) trace.new ≡ ready_come_up (course (read state.old) trace.old)) }
     ensures way { Goes state.old trace.old state.new trace.new }
     ensures few { OnOk result (FewWeighed (read state.old).cluster 0 trace.old trace.new) }
 {

@@ -27,7 +27,8 @@ use rh_trace::{Trace, recording};
 // An application that is started at a node, if there is one.
 fn first_started(state: &State, node: Node) -> Option<App>
     requires { IsNodeOf (read state.now).cluster node }
-    ensures none { IsNone result ↔ ((running_at (read state.now) node ≡ []) × (waiting_at (read state.now) node ≡ [])) }
+    ensures none { IsNone result
+        ↔ ((running_at (read state.now) node ≡ []) × (waiting_at (read state.now) node ≡ [])) }
     ensures started { IfSome result (λ app. is_started (read state.now) node app ≡ true) }
     ensures number { IfSome result (λ app. IsAppOf (read state.now).cluster app) }
 {
@@ -62,7 +63,8 @@ fn configure_app(
 ) -> Result<(), OutOfMemory>
     requires node { IsNodeOf (read state.old).cluster node }
     requires app { IsAppOf (read state.old).cluster app }
-    ensures part { OnOk result (read state.new ≡ with_allowed (read state.old) node app (is_permitted (read state.old).cluster node app)) }
+    ensures part { OnOk result (read state.new
+        ≡ with_allowed (read state.old) node app (is_permitted (read state.old).cluster node app)) }
     ensures silent { TellsNothing trace.old trace.new }
     ensures way { Goes state.old trace.old state.new trace.new }
     ensures few { FewEdits 1 trace.old trace.new }
@@ -74,7 +76,8 @@ fn configure_app(
 // Is what may run at a node as configured?
 fn is_configured(state: &State, node: Node) -> bool
     requires { IsNodeOf (read state.now).cluster node }
-    ensures { IsTrue result ↔ (row (read state.now).allowed node.0 ≡ configured (read state.now).cluster node) }
+    ensures { IsTrue result
+        ↔ (row (read state.now).allowed node.0 ≡ configured (read state.now).cluster node) }
 {
     state.permissions(node) == state.cluster().permissions(node)
 }
@@ -107,7 +110,8 @@ fn clear(state: &mut State, node: Node, trace: &mut Trace) -> Result<(), OutOfMe
     ensures part { OnOk result (read state.new ≡ cleared (read state.old) node) }
     ensures silent { TellsNothing trace.old trace.new }
     ensures way { Goes state.old trace.old state.new trace.new }
-    ensures few { OnOk result (FewEdits (2 + 2 * app_count (read state.old).cluster) trace.old trace.new) }
+    ensures few { OnOk result
+        (FewEdits (2 + 2 * app_count (read state.old).cluster) trace.old trace.new) }
 {
     cancel_if_set(state, Timer::Sync(node), trace)?;
     empty(state, node, trace)?;
@@ -158,7 +162,8 @@ fn lose_if_ran(
 ) -> Result<(), OutOfMemory>
     requires node { IsNodeOf (read state.old).cluster node }
     requires app { IsAppOf (read state.old).cluster app }
-    requires unset { standing_of (read state.old) app ≡ Running node → IsNone (due_of (read state.old) (Failover app)) }
+    requires unset { standing_of (read state.old) app ≡ Running node
+        → IsNone (due_of (read state.old) (Failover app)) }
     ensures part { OnOk result (read state.new ≡ lost_if_ran node (read state.old) app) }
     ensures silent { TellsNothing trace.old trace.new }
     ensures way { Goes state.old trace.old state.new trace.new }
@@ -174,11 +179,13 @@ fn lose_if_ran(
 #[tactic(auto, unfolding(rh_rules::specs::NodesEnd::all_lost, rh_state::specs::Numbers::apps_of), using(rh_trace::proofs::Ways::goes_none, rh_trace::proofs::Ways::goes_more))]
 fn lose_all(state: &mut State, node: Node, trace: &mut Trace) -> Result<(), OutOfMemory>
     requires node { IsNodeOf (read state.old).cluster node }
-    requires unset { (a : App) → standing_of (read state.old) a ≡ Running node → IsNone (due_of (read state.old) (Failover a)) }
+    requires unset { (a : App) → standing_of (read state.old) a ≡ Running node
+        → IsNone (due_of (read state.old) (Failover a)) }
     ensures part { OnOk result (read state.new ≡ all_lost (read state.old) node) }
     ensures silent { TellsNothing trace.old trace.new }
     ensures way { Goes state.old trace.old state.new trace.new }
-    ensures few { OnOk result (FewEdits (2 * app_count (read state.old).cluster) trace.old trace.new) }
+    ensures few { OnOk result
+        (FewEdits (2 * app_count (read state.old).cluster) trace.old trace.new) }
 {
     let count = state.cluster().app_count();
     'apps: for number in 0..count {
@@ -191,8 +198,10 @@ fn lose_all(state: &mut State, node: Node, trace: &mut Trace) -> Result<(), OutO
 #[tactic(auto, unfolding(rh_rules::specs::NodesEnd::ended), using(rh_trace::proofs::Ways::goes_told, rh_trace::proofs::Ways::goes_more))]
 pub fn end(state: &mut State, node: Node, trace: &mut Trace) -> Result<(), OutOfMemory>
     requires node { IsNodeOf (read state.old).cluster node }
-    requires unset { (a : App) → standing_of (read state.old) a ≡ Running node → IsNone (due_of (read state.old) (Failover a)) }
-    ensures course { OnOk result (course (read state.new) trace.new ≡ ended (course (read state.old) trace.old) node) }
+    requires unset { (a : App) → standing_of (read state.old) a ≡ Running node
+        → IsNone (due_of (read state.old) (Failover a)) }
+    ensures course { OnOk result
+        (course (read state.new) trace.new ≡ ended (course (read state.old) trace.old) node) }
     ensures way { Goes state.old trace.old state.new trace.new }
     ensures few { OnOk result (FewWeighed (read state.old).cluster 0 trace.old trace.new) }
 {

@@ -30,7 +30,8 @@ fn start_if_target(
 ) -> Result<(), OutOfMemory>
     requires node { IsNodeOf (read state.old).cluster node }
     requires app { IsAppOf (read state.old).cluster app }
-    ensures course { OnOk result (course (read state.new) trace.new ≡ start_if_target app restart (course (read state.old) trace.old) node) }
+    ensures course { OnOk result (course (read state.new) trace.new
+        ≡ start_if_target app restart (course (read state.old) trace.old) node) }
     ensures way { Goes state.old trace.old state.new trace.new }
     ensures few { FewEdits 4 trace.old trace.new }
 {
@@ -50,9 +51,11 @@ pub fn start_all(
     trace: &mut Trace,
 ) -> Result<(), OutOfMemory>
     requires app { IsAppOf (read state.old).cluster app }
-    ensures course { OnOk result (course (read state.new) trace.new ≡ start_all (course (read state.old) trace.old) app restart) }
+    ensures course { OnOk result (course (read state.new) trace.new
+        ≡ start_all (course (read state.old) trace.old) app restart) }
     ensures way { Goes state.old trace.old state.new trace.new }
-    ensures few { OnOk result (FewEdits (4 * node_count (read state.old).cluster) trace.old trace.new) }
+    ensures few { OnOk result
+        (FewEdits (4 * node_count (read state.old).cluster) trace.old trace.new) }
 {
     let count = state.cluster().node_count();
     'nodes: for number in 0..count {
@@ -66,7 +69,8 @@ pub fn start_all(
 fn leave(state: &mut State, node: Node, app: App, trace: &mut Trace) -> Result<(), OutOfMemory>
     requires node { IsNodeOf (read state.old).cluster node }
     requires app { IsAppOf (read state.old).cluster app }
-    ensures course { OnOk result (course (read state.new) trace.new ≡ leave_at app (course (read state.old) trace.old) node) }
+    ensures course { OnOk result (course (read state.new) trace.new
+        ≡ leave_at app (course (read state.old) trace.old) node) }
     ensures way { Goes state.old trace.old state.new trace.new }
     ensures few { FewEdits 1 trace.old trace.new }
 {
@@ -84,7 +88,8 @@ fn leave(state: &mut State, node: Node, app: App, trace: &mut Trace) -> Result<(
 #[tactic(auto, unfolding(rh_rules::specs::Everywhere::left_everywhere, rh_state::specs::Numbers::nodes_of), using(rh_trace::proofs::Ways::goes_none))]
 fn leave_everywhere(state: &mut State, app: App, trace: &mut Trace) -> Result<(), OutOfMemory>
     requires app { IsAppOf (read state.old).cluster app }
-    ensures course { OnOk result (course (read state.new) trace.new ≡ left_everywhere (course (read state.old) trace.old) app) }
+    ensures course { OnOk result (course (read state.new) trace.new
+        ≡ left_everywhere (course (read state.old) trace.old) app) }
     ensures cluster { OnOk result ((read state.new).cluster ≡ (read state.old).cluster) }
     ensures way { Goes state.old trace.old state.new trace.new }
     ensures few { OnOk result (FewEdits (node_count (read state.old).cluster) trace.old trace.new) }
@@ -101,9 +106,11 @@ fn leave_everywhere(state: &mut State, app: App, trace: &mut Trace) -> Result<()
 #[tactic(auto, unfolding(rh_rules::specs::Everywhere::stop_all), using(rh_trace::proofs::Ways::goes_more))]
 pub fn stop_all(state: &mut State, app: App, trace: &mut Trace) -> Result<(), OutOfMemory>
     requires app { IsAppOf (read state.old).cluster app }
-    ensures course { OnOk result (course (read state.new) trace.new ≡ stop_all (course (read state.old) trace.old) app) }
+    ensures course { OnOk result
+        (course (read state.new) trace.new ≡ stop_all (course (read state.old) trace.old) app) }
     ensures way { Goes state.old trace.old state.new trace.new }
-    ensures few { OnOk result (FewEdits (node_count (read state.old).cluster + 2) trace.old trace.new) }
+    ensures few { OnOk result
+        (FewEdits (node_count (read state.old).cluster + 2) trace.old trace.new) }
 {
     leave_everywhere(state, app, trace)?;
     recording::set_standing(state, app, Standing::Quiet, trace)?;

@@ -27,7 +27,8 @@ pub fn set_distributed_standing(
 ) -> Result<(), OutOfMemory>
     requires app { IsAppOf (read state.old).cluster app }
     requires standing { IsStandingOf (read state.old).cluster standing }
-    ensures part { OnOk result (read state.new ≡ with_distributed_standing (read state.old) app standing) }
+    ensures part { OnOk result
+        (read state.new ≡ with_distributed_standing (read state.old) app standing) }
     ensures silent { TellsNothing trace.old trace.new }
     ensures way { Goes state.old trace.old state.new trace.new }
     ensures few { FewEdits 1 trace.old trace.new }
@@ -48,7 +49,8 @@ fn want_by_mark(
 ) -> Result<(), OutOfMemory>
     requires node { IsNodeOf (read state.old).cluster node }
     requires app { IsAppOf (read state.old).cluster app }
-    ensures part { OnOk result (read state.new ≡ wanted_by_mark (read state.old) node app (standing_of (read state.old) app)) }
+    ensures part { OnOk result (read state.new
+        ≡ wanted_by_mark (read state.old) node app (standing_of (read state.old) app)) }
     ensures silent { TellsNothing trace.old trace.new }
     ensures way { Goes state.old trace.old state.new trace.new }
     ensures few { FewEdits 2 trace.old trace.new }
@@ -76,7 +78,8 @@ pub fn mark(
     requires node { IsNodeOf (read state.old).cluster node }
     requires app { IsAppOf (read state.old).cluster app }
     requires off { place_of (read state.old) node app ≡ Off }
-    ensures course { OnOk result (course (read state.new) trace.new ≡ mark (course (read state.old) trace.old) node app restart) }
+    ensures course { OnOk result (course (read state.new) trace.new
+        ≡ mark (course (read state.old) trace.old) node app restart) }
     ensures way { Goes state.old trace.old state.new trace.new }
     ensures few { FewEdits 4 trace.old trace.new }
 {
@@ -92,9 +95,11 @@ pub fn mark_booted(state: &mut State, node: Node, trace: &mut Trace) -> Result<(
     requires node { IsNodeOf (read state.old).cluster node }
     requires running { running_at (read state.old) node ≡ [] }
     requires waiting { waiting_at (read state.old) node ≡ [] }
-    ensures course { OnOk result (course (read state.new) trace.new ≡ mark_all (course (read state.old) trace.old) node (boot_of (read state.old).cluster node)) }
+    ensures course { OnOk result (course (read state.new) trace.new ≡ mark_all
+        (course (read state.old) trace.old) node (boot_of (read state.old).cluster node)) }
     ensures way { Goes state.old trace.old state.new trace.new }
-    ensures few { OnOk result (FewEdits (4 * length (boot_of (read state.old).cluster node)) trace.old trace.new) }
+    ensures few { OnOk result
+        (FewEdits (4 * length (boot_of (read state.old).cluster node)) trace.old trace.new) }
 {
     state.cluster().is_within();
     let count = state.cluster().boot(node).len();

@@ -72,7 +72,8 @@ pub fn is_ready(state: &State, node: Node) -> bool
 #[tactic(auto, using(crate::proofs::Alive::all_alive_joined))]
 fn has_others(state: &State, node: Node) -> bool
     requires { IsNodeOf (read state.now).cluster node }
-    ensures { result ≡ all_alive (read state.now) (mandatory_of (read state.now).cluster node ++ optional_of (read state.now).cluster node) }
+    ensures { result ≡ all_alive (read state.now)
+        (mandatory_of (read state.now).cluster node ++ optional_of (read state.now).cluster node) }
 {
     all_alive(state, state.cluster().mandatory(node))
         && all_alive(state, state.cluster().optional(node))

@@ -56,9 +56,12 @@ impl Space {
         requires idle { IsIdle worker.old }
         requires entered { worker.old.entered.edits.items ≡ [] }
         ensures kept { OnOk result (IsKeptFor search.now self.new) }
-        ensures next { IfOk result (λ end. IfNone end (front.new.next ≡ front.old.next + length family.events.items)) }
-        ensures under_way { IfOk result (λ end. IfNone end (IsUnderWayFor search.now self.new front.new.next)) }
-        ensures front { IfOk result (λ end. IfNone end (IsFrontOf search.now self.new front.new [])) }
+        ensures next { IfOk result
+            (λ end. IfNone end (front.new.next ≡ front.old.next + length family.events.items)) }
+        ensures under_way { IfOk result
+            (λ end. IfNone end (IsUnderWayFor search.now self.new front.new.next)) }
+        ensures front { IfOk result
+            (λ end. IfNone end (IsFrontOf search.now self.new front.new [])) }
         ensures ended { IfOk result (λ end. IfSome end (IsEndedFor search.now self.new)) }
         ensures idle { OnOk result (IsIdle worker.new) }
         ensures entered { OnOk result (worker.new.entered.edits.items ≡ []) }

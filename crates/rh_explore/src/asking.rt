@@ -81,7 +81,8 @@ impl Ask {
     ) -> Result<bool, OutOfMemory>
         requires valid { IsValid (read state.old) }
         requires none { trial.old.edits.items ≡ [] }
-        ensures met { IfOk result (λ met. met ≡ list_any (is_met_at pick self.now ms (read state.old)) (read state.old).timers) }
+        ensures met { IfOk result (λ met.
+            met ≡ list_any (is_met_at pick self.now ms (read state.old)) (read state.old).timers) }
         ensures state { OnOk result (state.new ≡ state.old) }
         ensures none { OnOk result (trial.new.edits.items ≡ []) }
     {

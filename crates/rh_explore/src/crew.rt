@@ -106,8 +106,10 @@ impl<T: Threads + Sync> Crew for Threaded<'_, T> {
             self.host,
             pieces,
             &|piece: VecDeque<Family>| -> Result<VecDeque<Expansion>, OutOfMemory>
-                requires { IsPiece piece × (length known.now.firsts.now ≡ length search.now.asks.now) }
-                ensures { IfOk result (λ expansions. AllZip (ExpandsFor search.entry.now (knowing known.entry.now))
+                requires { IsPiece piece
+                    × (length known.now.firsts.now ≡ length search.now.asks.now) }
+                ensures { IfOk result
+                    (λ expansions. AllZip (ExpandsFor search.entry.now (knowing known.entry.now))
                     (piece_waiting search.entry.now.pick piece) expansions.items) }
             { expand_piece(alloc, search, known, piece) },
         )?;

@@ -35,7 +35,8 @@ impl Front {
     /// The base alone.
     pub(crate) fn of(alloc: Global, base: State) -> Result<Front, OutOfMemory>
         requires { IsValid (read base) }
-        ensures waiting { IfOk result (λ front. (pick : Pick) → waiting_in pick front.families.items ≡ read base ∷ []) }
+        ensures waiting { IfOk result
+            (λ front. (pick : Pick) → waiting_in pick front.families.items ≡ read base ∷ []) }
         ensures families { IfOk result (λ front. All IsFamily front.families.items) }
         ensures next { IfOk result (λ front. front.next ≡ 0) }
     {
@@ -59,9 +60,11 @@ impl Front {
         requires count { 0 < count }
         requires most { 0 < most }
         ensures pieces { IfOk result (λ pieces. ArePieces pieces.items) }
-        ensures some { IfOk result (λ pieces. (pick : Pick) → 0 < length (flat_map (piece_waiting pick) pieces.items)) }
+        ensures some { IfOk result
+            (λ pieces. (pick : Pick) → 0 < length (flat_map (piece_waiting pick) pieces.items)) }
         ensures waiting { IfOk result (λ pieces. (pick : Pick)
-            → waiting_in pick self.old.families.items ≡ flat_map (piece_waiting pick) pieces.items ++ waiting_in pick self.new.families.items) }
+            → waiting_in pick self.old.families.items ≡ flat_map (piece_waiting pick) pieces.items
+            ++ waiting_in pick self.new.families.items) }
         ensures families { OnOk result (All IsFamily self.new.families.items) }
         ensures next { OnOk result (self.new.next ≡ self.old.next) }
     {
@@ -78,9 +81,11 @@ impl Front {
         requires families { All IsFamily self.old.families.items }
         requires most { 0 < most }
         ensures piece { IfOk result (λ piece. All IsFamily piece.items) }
-        ensures some { IfOk result (λ piece. 0 < length self.old.families.items → 0 < length piece.items) }
-        ensures waiting { IfOk result (λ piece. (pick : Pick)
-            → waiting_in pick self.old.families.items ≡ waiting_in pick piece.items ++ waiting_in pick self.new.families.items) }
+        ensures some { IfOk result
+            (λ piece. 0 < length self.old.families.items → 0 < length piece.items) }
+        ensures waiting { IfOk result
+            (λ piece. (pick : Pick) → waiting_in pick self.old.families.items
+            ≡ waiting_in pick piece.items ++ waiting_in pick self.new.families.items) }
         ensures families { OnOk result (All IsFamily self.new.families.items) }
         ensures next { OnOk result (self.new.next ≡ self.old.next) }
     {
@@ -109,8 +114,9 @@ impl Front {
         requires most { 0 < most }
         ensures part { IfOk result (λ part. IsFamily part) }
         ensures most { IfOk result (λ part. length part.events.items ≤ most) }
-        ensures waiting { IfOk result (λ part. (pick : Pick)
-            → children pick family ++ waiting_in pick self.old.families.items ≡ children pick part ++ waiting_in pick self.new.families.items) }
+        ensures waiting { IfOk result
+            (λ part. (pick : Pick) → children pick family ++ waiting_in pick self.old.families.items
+            ≡ children pick part ++ waiting_in pick self.new.families.items) }
         ensures families { OnOk result (All IsFamily self.new.families.items) }
         ensures next { OnOk result (self.new.next ≡ self.old.next) }
     {
@@ -136,9 +142,11 @@ impl Front {
     ) -> Result<(), OutOfMemory>
         requires some { 0 < length events.items → IsSome state }
         requires few { self.old.next + 1 < 2 ^ 64 }
-        ensures none { OnOk result (length events.items ≡ 0 → self.new.families.items ≡ self.old.families.items) }
-        ensures some { OnOk result ((s : Box Stored Global) → 0 < length events.items → state ≡ Some s
-            → self.new.families.items ≡ self.old.families.items ++ record { state = s; events = events } ∷ []) }
+        ensures none { OnOk result
+            (length events.items ≡ 0 → self.new.families.items ≡ self.old.families.items) }
+        ensures some { OnOk result ((s : Box Stored Global) → 0 < length events.items
+            → state ≡ Some s → self.new.families.items
+            ≡ self.old.families.items ++ record { state = s; events = events } ∷ []) }
         ensures next { OnOk result (self.new.next ≡ self.old.next + 1) }
     {
         self.next += 1;

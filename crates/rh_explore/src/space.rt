@@ -54,7 +54,8 @@ impl Space {
     pub(crate) fn of(alloc: Global, search: &Search) -> Result<Space, OutOfMemory>
         requires { IsValid (read search.now.base.now) }
         ensures kept { IfOk result (λ space. IsKeptFor search.now space) }
-        ensures found { IfOk result (λ space. space.found.items ≡ record { last = None; depth = 0 } ∷ []) }
+        ensures found { IfOk result
+            (λ space. space.found.items ≡ record { last = None; depth = 0 } ∷ []) }
     {
         let firsts = nothing_fails(alloc, search.asks.len())?;
         let mut space = Space {
@@ -106,7 +107,8 @@ impl Space {
         ensures new { IfOk result (λ new. MatchBool new
             (Contains (bytes_of self.old) marks.key.bytes.items → ⊥)
             (Contains (bytes_of self.old) marks.key.bytes.items)) }
-        ensures added { IfOk result (λ new. MatchBool new (HasOneMore found marks self.old self.new) (HasTheSame self.old self.new)) }
+        ensures added { IfOk result (λ new. MatchBool new (HasOneMore found marks self.old self.new)
+            (HasTheSame self.old self.new)) }
     {
         let Marks { key, fails } = marks;
         let bytes = key.bytes.len();
@@ -123,7 +125,8 @@ impl Space {
 
     // Is there no room for another state?
     fn is_full(&self, bounds: &Bounds) -> bool
-        ensures full { IsTrue result ↔ ((bounds.now.states ≤ length self.now.found.items) ⊎ (most_bytes bounds.now ≤ self.now.bytes)) }
+        ensures full { IsTrue result ↔ ((bounds.now.states ≤ length self.now.found.items)
+            ⊎ (most_bytes bounds.now ≤ self.now.bytes)) }
         ensures small { IsFalse result → self.now.bytes < 2 ^ 52 }
     {
         self.found.len() >= bounds.states || self.bytes >= bounds.most_bytes()
@@ -140,12 +143,16 @@ impl Space {
     ) -> Result<Option<Covered>, OutOfMemory>
         requires kept { IsKeptFor search.now self.old }
         requires under_way { IsUnderWayFor search.now self.old front.old.next }
-        requires front { (states : List StateView) × AllZip (ExpandsFor search.now (knowing_in self.old)) states expansions.items
+        requires front { (states : List StateView)
+            × AllZip (ExpandsFor search.now (knowing_in self.old)) states expansions.items
             × IsFrontOf search.now self.old front.old states }
         ensures kept { OnOk result (IsKeptFor search.now self.new) }
-        ensures next { IfOk result (λ end. IfNone end (front.new.next ≡ front.old.next + length expansions.items)) }
-        ensures under_way { IfOk result (λ end. IfNone end (IsUnderWayFor search.now self.new front.new.next)) }
-        ensures front { IfOk result (λ end. IfNone end (IsFrontOf search.now self.new front.new [])) }
+        ensures next { IfOk result
+            (λ end. IfNone end (front.new.next ≡ front.old.next + length expansions.items)) }
+        ensures under_way { IfOk result
+            (λ end. IfNone end (IsUnderWayFor search.now self.new front.new.next)) }
+        ensures front { IfOk result
+            (λ end. IfNone end (IsFrontOf search.now self.new front.new [])) }
         ensures ended { IfOk result (λ end. IfSome end (IsEndedFor search.now self.new)) }
     {
         let mut rest = expansions;
@@ -172,9 +179,11 @@ impl Space {
         ensures kept { OnOk result (IsKeptFor search.now self.new) }
         ensures known { IfOk result (λ end. IfNone end (IsKnown (knowing_in self.old) self.new)) }
         ensures next { IfOk result (λ end. IfNone end (front.new.next ≡ front.old.next + 1)) }
-        ensures under_way { IfOk result (λ end. IfNone end (IsUnderWayFor search.now self.new front.new.next)) }
-        ensures front { IfOk result (λ end. IfNone end ((s : StateView) (states : List StateView)
-            → IsFrontOf search.now self.old front.old (s ∷ states) → IsFrontOf search.now self.new front.new states)) }
+        ensures under_way { IfOk result
+            (λ end. IfNone end (IsUnderWayFor search.now self.new front.new.next)) }
+        ensures front { IfOk result
+            (λ end. IfNone end ((s : StateView) (states : List StateView) → IsFrontOf search.now
+            self.old front.old (s ∷ states) → IsFrontOf search.now self.new front.new states)) }
         ensures ended { IfOk result (λ end. IfSome end (IsEndedFor search.now self.new)) }
     {
         let at = front.next;
@@ -201,16 +210,20 @@ impl Space {
         requires kept { IsKeptFor search.now self.old }
         requires short { IsShort search.now.bounds self.old.found.items at }
         requires begun { IsExpandedFor search.now self.old at 0 }
-        requires leads { LeadAt search.now self.old at (λ k s. AreLeads (LeadsFor search.now k s) search.now.moves.now leads.items) }
+        requires leads { LeadAt search.now self.old
+            at (λ k s. AreLeads (LeadsFor search.now k s) search.now.moves.now leads.items) }
         ensures kept { OnOk result (IsKeptFor search.now self.new) }
         ensures grown { OnOk result (GoesOnFrom self.old.found.items self.new.found.items) }
-        ensures room { OnOk result (length self.new.found.items ≤ max (length self.old.found.items) search.now.bounds.states) }
+        ensures room { OnOk result (length self.new.found.items
+            ≤ max (length self.old.found.items) search.now.bounds.states) }
         ensures all { IfOk result (λ found. IfSome found (λ events.
             IsExpandedFor search.now self.new at (length search.now.moves.now))) }
-        ensures cut { IfOk result (λ found. IfNone found ((made : ℕ) × IsExpandedFor search.now self.new at made
-            × IsCutFor search.now self.new at)) }
-        ensures finds { IfOk result (λ found. IfSome found (λ events. FindsAt search.now at self.old self.new events.items)) }
-        ensures new { IfOk result (λ found. IfSome found (λ events. 0 < length events.items → list_any is_new leads.items ≡ true)) }
+        ensures cut { IfOk result (λ found. IfNone found ((made : ℕ)
+            × IsExpandedFor search.now self.new at made × IsCutFor search.now self.new at)) }
+        ensures finds { IfOk result (λ found.
+            IfSome found (λ events. FindsAt search.now at self.old self.new events.items)) }
+        ensures new { IfOk result (λ found.
+            IfSome found (λ events. 0 < length events.items → list_any is_new leads.items ≡ true)) }
     {
         let mut rest = VecDeque::from(leads);
         let mut events = Vec::new(alloc);
@@ -233,20 +246,22 @@ impl Space {
     ) -> Result<bool, OutOfMemory>
         requires kept { IsKeptFor search.now self.old }
         requires short { IsShort search.now.bounds self.old.found.items at }
-        requires leads { LeadAt search.now self.old at (λ k s. (made : ℕ) × (m : Move) × (slice_get search.now.moves.now made ≡ Some m)
+        requires leads { LeadAt search.now self.old
+            at (λ k s. (made : ℕ) × (m : Move) × (slice_get search.now.moves.now made ≡ Some m)
             × IsExpandedFor search.now self.old at made × LeadsFor search.now k s m lead) }
         ensures kept { OnOk result (IsKeptFor search.now self.new) }
         ensures grown { OnOk result (GoesOnFrom self.old.found.items self.new.found.items) }
-        ensures room { OnOk result (length self.new.found.items ≤ max (length self.old.found.items) search.now.bounds.states) }
-        ensures made { IfOk result (λ went. (k : Knowing) (x : Seen) (made : ℕ) (m : Move) → slice_get (seen_in search.now self.old) at ≡ Some x
-            → IsKnown k self.old → slice_get search.now.moves.now made ≡ Some m
+        ensures room { OnOk result (length self.new.found.items
+            ≤ max (length self.old.found.items) search.now.bounds.states) }
+        ensures made { IfOk result (λ went. (k : Knowing) (x : Seen) (made : ℕ) (m : Move)
+            → slice_get (seen_in search.now self.old) at ≡ Some x → IsKnown k self.old
+            → slice_get search.now.moves.now made ≡ Some m
             → IsExpandedFor search.now self.old at made → LeadsFor search.now k x.state m lead
-            → MatchBool went
-            (IsExpandedFor search.now self.new at (made + 1))
-            (IsExpandedFor search.now self.new at made
-            × IsCutFor search.now self.new at)) }
-        ensures finds { OnOk result ((more : List (Option Event)) × (events.new.items ≡ events.old.items ++ more) × FindsAt search.now at self.old self.new more
-            × (0 < length more → is_new lead ≡ true)) }
+            → MatchBool went (IsExpandedFor search.now self.new at (made + 1))
+            (IsExpandedFor search.now self.new at made × IsCutFor search.now self.new at)) }
+        ensures finds { OnOk result ((more : List (Option Event))
+            × (events.new.items ≡ events.old.items ++ more) × FindsAt search.now at self.old
+            self.new more × (0 < length more → is_new lead ≡ true)) }
     {
         match lead {
             Lead::Nowhere | Lead::Known => Ok(true),

@@ -84,8 +84,9 @@ impl Worker {
         requires known { length known.now.firsts.now ≡ length search.now.asks.now }
         requires idle { IsIdle self.old }
         requires entered { self.old.entered.edits.items ≡ [] }
-        ensures expansions { OnOk result ((more : List Expansion) × (expansions.new.items ≡ expansions.old.items ++ more)
-            × AllZip (ExpandsFor search.now (knowing known.now)) (children search.now.pick family) more) }
+        ensures expansions { OnOk result ((more : List Expansion)
+            × (expansions.new.items ≡ expansions.old.items ++ more) × AllZip
+            (ExpandsFor search.now (knowing known.now)) (children search.now.pick family) more) }
         ensures idle { OnOk result (IsIdle self.new) }
         ensures entered { OnOk result (self.new.entered.edits.items ≡ []) }
     {
@@ -112,7 +113,8 @@ impl Worker {
         requires known { length known.now.firsts.now ≡ length search.now.asks.now }
         requires idle { IsIdle self.old }
         requires entered { self.old.entered.edits.items ≡ [] }
-        ensures expansion { IfOk result (ExpandsFor search.now (knowing known.now) (child_by search.now.pick (read state.old) event)) }
+        ensures expansion { IfOk result (ExpandsFor search.now (knowing known.now)
+            (child_by search.now.pick (read state.old) event)) }
         ensures state { OnOk result (state.new ≡ state.old) }
         ensures idle { OnOk result (IsIdle self.new) }
         ensures entered { OnOk result (self.new.entered.edits.items ≡ []) }
@@ -137,7 +139,8 @@ impl Worker {
         requires known { length known.now.firsts.now ≡ length search.now.asks.now }
         requires idle { IsIdle self.old }
         requires entered { self.old.entered.edits.items ≡ [] }
-        ensures expansion { IfOk result (ExpandsFor search.now (knowing known.now) (step search.now.pick (read state.old) event)) }
+        ensures expansion { IfOk result (ExpandsFor search.now (knowing known.now)
+            (step search.now.pick (read state.old) event)) }
         ensures state { OnOk result (state.new ≡ state.old) }
         ensures idle { OnOk result (IsIdle self.new) }
         ensures entered { OnOk result (self.new.entered.edits.items ≡ []) }
@@ -159,7 +162,8 @@ impl Worker {
         requires valid { IsValid (read state.old) }
         requires known { length known.now.firsts.now ≡ length search.now.asks.now }
         requires idle { IsIdle self.old }
-        ensures expansion { IfOk result (ExpandsFor search.now (knowing known.now) (read state.old)) }
+        ensures expansion { IfOk result
+            (ExpandsFor search.now (knowing known.now) (read state.old)) }
         ensures state { OnOk result (state.new ≡ state.old) }
         ensures idle { OnOk result (IsIdle self.new) }
         ensures entered { OnOk result (self.new.entered ≡ self.old.entered) }
@@ -187,7 +191,8 @@ impl Worker {
         requires valid { IsValid (read state.old) }
         requires known { length known.now.firsts.now ≡ length search.now.asks.now }
         requires idle { IsIdle self.old }
-        ensures leads { IfOk result (λ leads. AreLeads (LeadsFor search.now (knowing known.now) (read state.old)) search.now.moves.now leads.items) }
+        ensures leads { IfOk result (λ leads. AreLeads (LeadsFor search.now (knowing known.now)
+            (read state.old)) search.now.moves.now leads.items) }
         ensures state { OnOk result (state.new ≡ state.old) }
         ensures idle { OnOk result (IsIdle self.new) }
         ensures entered { OnOk result (self.new.entered ≡ self.old.entered) }
@@ -247,7 +252,8 @@ impl Worker {
         requires valid { IsValid (read state.old) }
         requires known { length known.now.firsts.now ≡ length search.now.asks.now }
         requires calm { self.old.asked.edits.items ≡ [] }
-        ensures lead { IfOk result (LeadsToFor search.now (knowing known.now) (read state.old) event) }
+        ensures lead { IfOk result
+            (LeadsToFor search.now (knowing known.now) (read state.old) event) }
         ensures state { OnOk result (state.new ≡ state.old) }
         ensures calm { OnOk result (self.new.asked.edits.items ≡ []) }
         ensures tried { OnOk result (self.new.tried ≡ self.old.tried) }
@@ -275,8 +281,10 @@ impl Worker {
         requires valid { IsValid (read state.old) }
         requires known { length known.now.firsts.now ≡ length search.now.asks.now }
         requires calm { self.old.asked.edits.items ≡ [] }
-        ensures key { IfOk result (λ marks. marks.key.bytes.items ≡ self.old.maker.key.bytes.items) }
-        ensures fails { IfOk result (λ marks. FailThere search.now.pick known.now.firsts.now search.now.asks.now (read state.old) marks.fails.items) }
+        ensures key { IfOk result
+            (λ marks. marks.key.bytes.items ≡ self.old.maker.key.bytes.items) }
+        ensures fails { IfOk result (λ marks. FailThere search.now.pick known.now.firsts.now
+            search.now.asks.now (read state.old) marks.fails.items) }
         ensures state { OnOk result (state.new ≡ state.old) }
         ensures calm { OnOk result (self.new.asked.edits.items ≡ []) }
         ensures tried { OnOk result (self.new.tried ≡ self.old.tried) }
@@ -307,9 +315,10 @@ impl Worker {
         requires known { length known.now.firsts.now ≡ length search.now.asks.now }
         requires number { number < length search.now.asks.now }
         requires calm { self.old.asked.edits.items ≡ [] }
-        ensures fails { IfOk result (λ fails. (ask : Ask) → slice_get search.now.asks.now number ≡ Some ask → MatchBool fails
-            (holds_in search.now.pick ask (read state.old) ≡ false)
-            (slice_get known.now.firsts.now number ≡ Some None → holds_in search.now.pick ask (read state.old) ≡ true)) }
+        ensures fails { IfOk result (λ fails. (ask : Ask) → slice_get search.now.asks.now number
+            ≡ Some ask → MatchBool fails (holds_in search.now.pick ask (read state.old) ≡ false)
+            (slice_get known.now.firsts.now number ≡ Some None
+            → holds_in search.now.pick ask (read state.old) ≡ true)) }
         ensures state { OnOk result (state.new ≡ state.old) }
         ensures calm { OnOk result (self.new.asked.edits.items ≡ []) }
         ensures tried { OnOk result (self.new.tried ≡ self.old.tried) }
@@ -340,7 +349,8 @@ pub(crate) fn expand_piece(
 ) -> Result<VecDeque<Expansion>, OutOfMemory>
     requires piece { IsPiece piece }
     requires known { length known.now.firsts.now ≡ length search.now.asks.now }
-    ensures { IfOk result (λ expansions. AllZip (ExpandsFor search.now (knowing known.now)) (piece_waiting search.now.pick piece) expansions.items) }
+    ensures { IfOk result (λ expansions. AllZip (ExpandsFor search.now (knowing known.now))
+        (piece_waiting search.now.pick piece) expansions.items) }
 {
     let mut worker = Worker::of(alloc);
     let mut rest = piece;
@@ -360,7 +370,8 @@ pub(crate) fn base_marks(
     requires valid { IsValid (read search.now.base.now) }
     requires known { length known.now.firsts.now ≡ length search.now.asks.now }
     ensures key { IfOk result (λ marks. marks.key.bytes.items ≡ key_of (read search.now.base.now)) }
-    ensures fails { IfOk result (λ marks. FailThere search.now.pick known.now.firsts.now search.now.asks.now (read search.now.base.now) marks.fails.items) }
+    ensures fails { IfOk result (λ marks. FailThere search.now.pick known.now.firsts.now
+        search.now.asks.now (read search.now.base.now) marks.fails.items) }
 {
     let mut worker = Worker::of(alloc);
     let mut state = search.base.copy(alloc)?;

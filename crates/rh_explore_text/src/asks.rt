@@ -85,7 +85,8 @@ fn all_down(
     cluster: &Cluster,
     names: &[&str],
 ) -> Result<Option<Vec<Condition>>, OutOfMemory>
-    ensures { IfOk result (λ way. option_map (λ way. way.items) way ≡ all_down cluster.now (map (λ name. name.now) names.now)) }
+    ensures { IfOk result (λ way. option_map (λ way. way.items) way
+        ≡ all_down cluster.now (map (λ name. name.now) names.now)) }
 {
     if names.is_empty() || !are_nodes(cluster, names) {
         return Ok(None);
@@ -103,7 +104,8 @@ fn other_ways(
     cluster: &Cluster,
     words: &[&str],
 ) -> Result<Option<Vec<Vec<Condition>>>, OutOfMemory>
-    ensures { IfOk result (λ ways. option_map ways_view ways ≡ other_ways cluster.now (map (λ word. word.now) words.now)) }
+    ensures { IfOk result (λ ways.
+        option_map ways_view ways ≡ other_ways cluster.now (map (λ word. word.now) words.now)) }
 {
     match words {
         [] => Ok(Some(Vec::new(alloc))),
@@ -122,7 +124,8 @@ fn one_way(
     alloc: Global,
     way: Option<Vec<Condition>>,
 ) -> Result<Option<Vec<Vec<Condition>>>, OutOfMemory>
-    ensures { IfOk result (λ ways. option_map ways_view ways ≡ option_map (λ way. way ∷ []) (option_map (λ way. way.items) way)) }
+    ensures { IfOk result (λ ways. option_map ways_view ways
+        ≡ option_map (λ way. way ∷ []) (option_map (λ way. way.items) way)) }
 {
     match way {
         None => Ok(None),
@@ -140,7 +143,8 @@ fn ways_with(
     app: Option<App>,
     ways: Option<Vec<Vec<Condition>>>,
 ) -> Result<Option<Vec<Vec<Condition>>>, OutOfMemory>
-    ensures { IfOk result (λ all. option_map ways_view all ≡ ways_with app (option_map ways_view ways)) }
+    ensures { IfOk result
+        (λ all. option_map ways_view all ≡ ways_with app (option_map ways_view ways)) }
 {
     match (app, ways) {
         (Some(app), Some(mut ways)) => {
@@ -159,7 +163,8 @@ fn ways_named(
     cluster: &Cluster,
     words: &[&str],
 ) -> Result<Option<Vec<Vec<Condition>>>, OutOfMemory>
-    ensures { IfOk result (λ ways. option_map ways_view ways ≡ ways_named cluster.now (map (λ word. word.now) words.now)) }
+    ensures { IfOk result (λ ways.
+        option_map ways_view ways ≡ ways_named cluster.now (map (λ word. word.now) words.now)) }
 {
     match words {
         [word, name, state, more @ ..] => {
@@ -189,7 +194,8 @@ fn at_once_named(
     cluster: &Cluster,
     words: &[&str],
 ) -> Result<Option<Question>, OutOfMemory>
-    ensures { IfOk result (λ asked. asked ≡ at_once_named cluster.now (map (λ word. word.now) words.now)) }
+    ensures { IfOk result
+        (λ asked. asked ≡ at_once_named cluster.now (map (λ word. word.now) words.now)) }
 {
     match words {
         [] => Ok(None),
@@ -235,7 +241,8 @@ pub fn ask_named(
     cluster: &Cluster,
     words: &[&str],
 ) -> Result<Option<Question>, OutOfMemory>
-    ensures { IfOk result (λ asked. asked ≡ ask_named cluster.now (map (λ word. word.now) words.now)) }
+    ensures { IfOk result
+        (λ asked. asked ≡ ask_named cluster.now (map (λ word. word.now) words.now)) }
 {
     if !ends_within(words) {
         return at_once_named(alloc, cluster, words);

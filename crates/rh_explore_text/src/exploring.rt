@@ -49,7 +49,8 @@ pub fn run_explore<C: Crew, W: Watch, S: Source, K: Sink>(
     requires reader { reader.old.failed ≡ false }
     requires writer { writer.old.failed ≡ false }
     requires ready { C.ready crew.now }
-    ensures { ProgramGives S.gives S.fails K.takes K.fails (OwesExplore pick room) NoThreads result reader.old reader.new writer.old writer.new }
+    ensures { ProgramGives S.gives S.fails K.takes K.fails
+        (OwesExplore pick room) NoThreads result reader.old reader.new writer.old writer.new }
 {
     let input = read_input(alloc, reader)?;
     let Ok(answer) = answer_of(crew, watch, alloc, input.as_slice(), pick, room) else {
@@ -106,7 +107,8 @@ fn answer_script<C: Crew, W: Watch>(
     room: SearchRoom,
 ) -> Result<Answer, OutOfMemory>
     requires { C.ready crew.now }
-    ensures { IfOk result (λ answer. let lines = search_lines_asked cluster (map content (raw_lines script.now)) in
+    ensures { IfOk result
+        (λ answer. let lines = search_lines_asked cluster (map content (raw_lines script.now)) in
         MayTellLines cluster pick room lines (bad_search_line lines) answer.text.items answer.end) }
 {
     match search_in(alloc, &cluster, script)? {
@@ -132,8 +134,8 @@ fn answer_search<C: Crew, W: Watch>(
     room: SearchRoom,
 ) -> Result<Answer, OutOfMemory>
     requires { C.ready crew.now }
-    ensures { IfOk result (λ answer. MayFind cluster pick room (search_view search.now) (explored_text cluster pick (search_view search.now))
-        answer.text.items answer.end) }
+    ensures { IfOk result (λ answer. MayFind cluster pick room (search_view search.now)
+        (explored_text cluster pick (search_view search.now)) answer.text.items answer.end) }
 {
     let mut sim = Sim::open(alloc, cluster, pick)?;
     let mut text = answers_to(alloc, &mut sim, search.base.as_slice())?;
@@ -155,7 +157,8 @@ fn answer_search<C: Crew, W: Watch>(
 fn answers_to(alloc: Global, sim: &mut Sim, calls: &[Call]) -> Result<Vec<u8>, OutOfMemory>
     ensures sim { OnOk result (sim.new.seen ≡ sim_after sim.old.seen calls.now) }
     ensures cluster { OnOk result (sim.new.seen.cluster ≡ sim.old.seen.cluster) }
-    ensures text { IfOk result (λ text. text.items ≡ answers_text sim.old.seen.cluster sim.old.seen calls.now) }
+    ensures text { IfOk result
+        (λ text. text.items ≡ answers_text sim.old.seen.cluster sim.old.seen calls.now) }
 {
     let mut text = Vec::new(alloc);
     'calls: for call in calls {
@@ -174,7 +177,8 @@ fn push_answer(
 ) -> Result<(), OutOfMemory>
     ensures sim { OnOk result (sim.new.seen ≡ (served sim.old.seen call).sim) }
     ensures cluster { OnOk result (sim.new.seen.cluster ≡ sim.old.seen.cluster) }
-    ensures text { OnOk result (text.new.items ≡ text.old.items ++ answer_text sim.old.seen.cluster (served sim.old.seen call).reply) }
+    ensures text { OnOk result (text.new.items
+        ≡ text.old.items ++ answer_text sim.old.seen.cluster (served sim.old.seen call).reply) }
 {
     let reply = sim.answer(alloc, call)?.into_one();
     let answer = answer_text(alloc, sim.cluster(), &reply)?;

@@ -78,7 +78,8 @@ pub fn search_line(
     search: &Search,
     found: &Explored,
 ) -> Result<Vec<u8>, OutOfMemory>
-    ensures { IfOk result (λ line. line.items ≡ search_line cluster.now search.now.down search.now.steps found.now) }
+    ensures { IfOk result
+        (λ line. line.items ≡ search_line cluster.now search.now.down search.now.steps found.now) }
 {
     let mut line = Vec::new(alloc);
     push_states(alloc, &mut line, found)?;
@@ -109,7 +110,8 @@ fn push_each_event(
     cluster: &Cluster,
     events: &[Event],
 ) -> Result<(), OutOfMemory>
-    ensures { OnOk result (out.new.items ≡ out.old.items ++ flat_map (behind_comma (event_json cluster.now)) events.now) }
+    ensures { OnOk result (out.new.items
+        ≡ out.old.items ++ flat_map (behind_comma (event_json cluster.now)) events.now) }
 {
     for event in events {
         push_text(out, ",")?;
@@ -126,7 +128,8 @@ fn push_events(
     cluster: &Cluster,
     events: &[Event],
 ) -> Result<(), OutOfMemory>
-    ensures { OnOk result (out.new.items ≡ out.old.items ++ json_array (event_json cluster.now) events.now) }
+    ensures { OnOk result
+        (out.new.items ≡ out.old.items ++ json_array (event_json cluster.now) events.now) }
 {
     let start = out.len();
     push_each_event(alloc, out, cluster, events)?;
@@ -145,7 +148,8 @@ fn push_fails(
 ) -> Result<(), OutOfMemory>
     requires accepted { AllAccepted pick (read base.now) events.now }
     requires valid { IsValid (read base.now) }
-    ensures { OnOk result (out.new.items ≡ out.old.items ++ fails_json cluster.now pick (read base.now) events.now) }
+    ensures { OnOk result
+        (out.new.items ≡ out.old.items ++ fails_json cluster.now pick (read base.now) events.now) }
 {
     push_text(out, ",\"holds\":false,\"events\":")?;
     push_events(alloc, out, cluster, events)?;
@@ -166,7 +170,8 @@ fn push_verdict(
 ) -> Result<(), OutOfMemory>
     requires come { CanCome pick (read base.now) verdict.now }
     requires valid { IsValid (read base.now) }
-    ensures { OnOk result (out.new.items ≡ out.old.items ++ verdict_json cluster.now pick (read base.now) verdict.now) }
+    ensures { OnOk result (out.new.items
+        ≡ out.old.items ++ verdict_json cluster.now pick (read base.now) verdict.now) }
 {
     match verdict {
         Verdict::Holds => push_text(out, ",\"holds\":true}\n"),
@@ -195,7 +200,8 @@ pub fn verdict_line(
 ) -> Result<Vec<u8>, OutOfMemory>
     requires come { CanCome pick (read base.now) verdict.now }
     requires valid { IsValid (read base.now) }
-    ensures { IfOk result (λ line. line.items ≡ verdict_line cluster.now pick (read base.now) number verdict.now) }
+    ensures { IfOk result
+        (λ line. line.items ≡ verdict_line cluster.now pick (read base.now) number verdict.now) }
 {
     let mut line = Vec::new(alloc);
     push_asked(alloc, &mut line, number)?;

@@ -48,7 +48,8 @@ pub fn explore_json<C: Crew, W: Watch, S: Source, K: Sink>(
     requires reader { reader.old.failed ≡ false }
     requires writer { writer.old.failed ≡ false }
     requires ready { C.ready crew.now }
-    ensures { ProgramGives S.gives S.fails K.takes K.fails (OwesExploreJson pick room) NoThreads result reader.old reader.new writer.old writer.new }
+    ensures { ProgramGives S.gives S.fails K.takes K.fails
+        (OwesExploreJson pick room) NoThreads result reader.old reader.new writer.old writer.new }
 {
     let input = read_input(alloc, reader)?;
     let bytes = input.as_slice();
@@ -70,7 +71,8 @@ fn write_finding<K: Sink>(
     requires writer { writer.old.failed ≡ false }
     requires limit { length input.now ≤ input_limit }
     requires told { CanBeTold pick input.now finding }
-    ensures { Wrote K.takes K.fails result (finding_json pick input.now finding) (finding_end finding) writer.old writer.new }
+    ensures { Wrote K.takes K.fails result (finding_json pick input.now finding)
+        (finding_end finding) writer.old writer.new }
 {
     match finding {
         Finding::NoCluster(fault) => {
@@ -100,8 +102,8 @@ fn write_all<K: Sink>(
     requires writer { writer.old.failed ≡ false }
     requires limit { length input.now ≤ input_limit }
     requires told { IsOf it.now pick input.now }
-    ensures { Broke K.takes K.fails result
-        (base_json it.now.sim.seen.cluster pick (script_lines input.now) ++ searched_json it.now pick) writer.old writer.new }
+    ensures { Broke K.takes K.fails result (base_json it.now.sim.seen.cluster pick
+        (script_lines input.now) ++ searched_json it.now pick) writer.old writer.new }
 {
     write_base(alloc, it.sim.cluster(), input, writer, pick)?;
     write_searched(alloc, it, writer, pick)
@@ -137,8 +139,8 @@ fn write_search<K: Sink>(
     writer: &mut Watched<K>,
 ) -> Result<(), WriteFault>
     requires { writer.old.failed ≡ false }
-    ensures { Broke K.takes K.fails result
-        (search_line it.now.sim.seen.cluster it.now.search.down it.now.search.steps it.now.found) writer.old writer.new }
+    ensures { Broke K.takes K.fails result (search_line it.now.sim.seen.cluster it.now.search.down
+        it.now.search.steps it.now.found) writer.old writer.new }
 {
     let line = search_line(alloc, it.sim.cluster(), &it.search, &it.found)?;
     write_text(writer, line.as_slice())
@@ -156,7 +158,8 @@ fn write_verdicts<K: Sink>(
     requires writer { writer.old.failed ≡ false }
     requires come { All (CanCome pick (read base.now)) verdicts.now }
     requires valid { IsValid (read base.now) }
-    ensures { Broke K.takes K.fails result (verdict_lines cluster.now pick (read base.now) 1 verdicts.now) writer.old writer.new }
+    ensures { Broke K.takes K.fails result
+        (verdict_lines cluster.now pick (read base.now) 1 verdicts.now) writer.old writer.new }
 {
     for place in 0..verdicts.len() {
         let verdict = &verdicts[place];
@@ -178,7 +181,8 @@ fn write_verdict<K: Sink>(
     requires writer { writer.old.failed ≡ false }
     requires come { CanCome pick (read base.now) verdict.now }
     requires valid { IsValid (read base.now) }
-    ensures { Broke K.takes K.fails result (verdict_line cluster.now pick (read base.now) number verdict.now) writer.old writer.new }
+    ensures { Broke K.takes K.fails result
+        (verdict_line cluster.now pick (read base.now) number verdict.now) writer.old writer.new }
 {
     let line = verdict_line(alloc, cluster, base, pick, number, verdict)?;
     write_text(writer, line.as_slice())

@@ -148,7 +148,8 @@ fn search_command(
     word: &str,
     words: &[&str],
 ) -> Result<SearchLine, OutOfMemory>
-    ensures { IfOk result (λ line. line ≡ search_command cluster.now word.now (map (λ word. word.now) words.now)) }
+    ensures { IfOk result
+        (λ line. line ≡ search_command cluster.now word.now (map (λ word. word.now) words.now)) }
 {
     if word == "may" {
         may_line(alloc, cluster, words)
@@ -165,7 +166,8 @@ fn search_command(
 
 // What words ask.
 fn search_words(alloc: Global, cluster: &Cluster, words: &[&str]) -> Result<SearchLine, OutOfMemory>
-    ensures { IfOk result (λ line. line ≡ search_words cluster.now (map (λ word. word.now) words.now)) }
+    ensures { IfOk result
+        (λ line. line ≡ search_words cluster.now (map (λ word. word.now) words.now)) }
 {
     match words {
         [] => Ok(no_line()),

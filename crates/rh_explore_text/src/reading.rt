@@ -63,7 +63,8 @@ pub fn search_in(
     cluster: &Cluster,
     script: &[u8],
 ) -> Result<SearchScript, OutOfMemory>
-    ensures { IfOk result (IsSearchOf cluster.now (search_lines_asked cluster.now (map content (raw_lines script.now)))) }
+    ensures { IfOk result (IsSearchOf cluster.now
+        (search_lines_asked cluster.now (map content (raw_lines script.now)))) }
 {
     let mut search = nothing_asked(alloc, cluster);
     let mut rest = script;
@@ -83,8 +84,10 @@ pub fn search_in(
 // Takes a line to what was read. The answer is false where the line doesn't fit.
 fn take_line(cluster: &Cluster, search: &mut Search, asked: SearchLine) -> Result<bool, OutOfMemory>
     ensures fits { IfOk result (λ taken. taken ≡ fits_search search.old.begun asked) }
-    ensures begun { IfOk result (λ taken. IsTrue taken → search.new.begun ≡ begun_by search.old.begun asked) }
-    ensures taken { IfOk result (λ taken. IsTrue taken → search_view search.new ≡ with_line cluster.now (search_view search.old) asked) }
+    ensures begun { IfOk result
+        (λ taken. IsTrue taken → search.new.begun ≡ begun_by search.old.begun asked) }
+    ensures taken { IfOk result (λ taken. IsTrue taken
+        → search_view search.new ≡ with_line cluster.now (search_view search.old) asked) }
 {
     match asked {
         SearchLine::Plain(line) => return take_plain(search, line),
@@ -102,7 +105,8 @@ fn take_line(cluster: &Cluster, search: &mut Search, asked: SearchLine) -> Resul
 fn take_plain(search: &mut Search, line: Line) -> Result<bool, OutOfMemory>
     ensures fits { IfOk result (λ taken. taken ≡ fits_search search.old.begun (asks.Plain line)) }
     ensures begun { IfOk result (λ taken. search.new.begun ≡ search.old.begun) }
-    ensures taken { IfOk result (λ taken. IsTrue taken → (c : ClusterView) → search_view search.new ≡ with_line c (search_view search.old) (asks.Plain line)) }
+    ensures taken { IfOk result (λ taken. IsTrue taken → (c : ClusterView)
+        → search_view search.new ≡ with_line c (search_view search.old) (asks.Plain line)) }
 {
     match line {
         Line::Nothing => Ok(true),

@@ -56,8 +56,8 @@ pub fn found_from<C: Crew, W: Watch>(
     room: SearchRoom,
 ) -> Result<Explored, OutOfMemory>
     requires ready { C.ready crew.now }
-    ensures found { IfOk result
-        (IsFound (scope_from (state_of sim.now.seen) pick (search_view search.now)) search.now.steps room search.now.asks.items) }
+    ensures found { IfOk result (IsFound (scope_from (state_of sim.now.seen) pick
+        (search_view search.now)) search.now.steps room search.now.asks.items) }
     ensures come { IfOk result (λ x. All (CanCome pick (state_of sim.now.seen)) x.verdicts.items) }
 {
     let bounds = Bounds {
@@ -90,7 +90,8 @@ pub fn finding_of<C: Crew, W: Watch>(
     room: SearchRoom,
 ) -> Result<Finding, OutOfMemory>
     requires ready { C.ready crew.now }
-    ensures may { IfOk result (λ it. MayExploreJson pick room input.now (finding_json pick input.now it) (finding_end it)) }
+    ensures may { IfOk result (λ it.
+        MayExploreJson pick room input.now (finding_json pick input.now it) (finding_end it)) }
     ensures told { IfOk result (CanBeTold pick input.now) }
 {
     let (text, _) = cut(input);
@@ -118,7 +119,8 @@ fn finding_in<C: Crew, W: Watch>(
     requires ready { C.ready crew.now }
     requires cluster { cluster_of (cluster_text input.now) ≡ Ok cluster }
     ensures may { IfOk result (λ it. MayTellJson cluster pick room (script_lines input.now)
-        (bad_search_line (search_lines_asked cluster (script_lines input.now))) (finding_json pick input.now it) (finding_end it)) }
+        (bad_search_line (search_lines_asked cluster (script_lines input.now)))
+        (finding_json pick input.now it) (finding_end it)) }
     ensures told { IfOk result (CanBeTold pick input.now) }
 {
     let (_, script) = cut(input);
@@ -145,9 +147,10 @@ fn search_from<C: Crew, W: Watch>(
     ensures search { IfOk result (λ it. it.search ≡ search) }
     ensures base { IfOk result (λ it. it.sim.seen ≡ base_of cluster pick (search_view it.search)) }
     ensures cluster { IfOk result (λ it. it.sim.seen.cluster ≡ cluster) }
-    ensures found { IfOk result
-        (λ it. IsFound (scope_in cluster pick (search_view it.search)) it.search.steps room it.search.asks.items it.found) }
-    ensures come { IfOk result (λ it. All (CanCome pick (state_of it.sim.seen)) it.found.verdicts.items) }
+    ensures found { IfOk result (λ it. IsFound (scope_in cluster pick (search_view it.search))
+        it.search.steps room it.search.asks.items it.found) }
+    ensures come { IfOk result
+        (λ it. All (CanCome pick (state_of it.sim.seen)) it.found.verdicts.items) }
 {
     let mut sim = Sim::open(alloc, cluster, pick)?;
     make_calls(alloc, &mut sim, search.base.as_slice())?;

@@ -32,7 +32,8 @@ fn push_steps(text: &mut String, covered: Covered) -> Result<(), OutOfMemory>
 
 // How many nodes are not up at most, unless all may be.
 fn push_down(text: &mut String, cluster: &Cluster, down: usize) -> Result<(), OutOfMemory>
-    ensures { OnOk result (string_bytes text.new ≡ string_bytes text.old ++ down_words cluster.now down) }
+    ensures { OnOk result
+        (string_bytes text.new ≡ string_bytes text.old ++ down_words cluster.now down) }
 {
     if down < cluster.node_count() {
         write!(text, " up to {down} down")?;
@@ -82,7 +83,8 @@ fn push_events(
     cluster: &Cluster,
     events: &[Event],
 ) -> Result<(), OutOfMemory>
-    ensures { OnOk result (text.new.items ≡ text.old.items ++ flat_map (event_line cluster.now) events.now) }
+    ensures { OnOk result
+        (text.new.items ≡ text.old.items ++ flat_map (event_line cluster.now) events.now) }
 {
     'events: for event in events {
         push_event(alloc, text, cluster, *event)?;
@@ -132,7 +134,8 @@ fn push_fails(
 ) -> Result<(), OutOfMemory>
     requires accepted { AllAccepted pick (read base.now) events.now }
     requires valid { IsValid (read base.now) }
-    ensures { OnOk result (text.new.items ≡ text.old.items ++ fails_text cluster.now pick (read base.now) events.now) }
+    ensures { OnOk result (text.new.items
+        ≡ text.old.items ++ fails_text cluster.now pick (read base.now) events.now) }
 {
     let count = events.len();
     let line = format!(in alloc; "fails in {count}\n")?;
@@ -155,7 +158,8 @@ fn push_verdict(
 ) -> Result<(), OutOfMemory>
     requires come { CanCome pick (read base.now) verdict.now }
     requires valid { IsValid (read base.now) }
-    ensures { OnOk result (text.new.items ≡ text.old.items ++ verdict_text cluster.now pick (read base.now) verdict.now) }
+    ensures { OnOk result (text.new.items
+        ≡ text.old.items ++ verdict_text cluster.now pick (read base.now) verdict.now) }
 {
     match verdict {
         Verdict::Holds => {
@@ -177,7 +181,8 @@ fn push_verdicts(
 ) -> Result<(), OutOfMemory>
     requires come { All (CanCome pick (read base.now)) verdicts.now }
     requires valid { IsValid (read base.now) }
-    ensures { OnOk result (text.new.items ≡ text.old.items ++ flat_map (verdict_text cluster.now pick (read base.now)) verdicts.now) }
+    ensures { OnOk result (text.new.items
+        ≡ text.old.items ++ flat_map (verdict_text cluster.now pick (read base.now)) verdicts.now) }
 {
     'verdicts: for verdict in verdicts {
         push_verdict(alloc, text, cluster, base, pick, verdict)?;
@@ -217,7 +222,8 @@ pub fn push_found(
 ) -> Result<(), OutOfMemory>
     requires come { All (CanCome pick (read base.now)) found.now.verdicts.items }
     requires valid { IsValid (read base.now) }
-    ensures { OnOk result (text.new.items ≡ text.old.items ++ found_text cluster.now pick (read base.now) search.now.down search.now.steps found.now) }
+    ensures { OnOk result (text.new.items ≡ text.old.items
+        ++ found_text cluster.now pick (read base.now) search.now.down search.now.steps found.now) }
 {
     let head = head_line(alloc, cluster, search.down as usize, found)?;
     text.extend_from_slice(head.as_bytes())?;

@@ -12,14 +12,16 @@ use std::alloc::{AllocError, Global};
 
 // The line as a text, if it is one.
 pub fn text_of(line: &[u8]) -> Option<&str>
-    ensures { option_map (λ text. text.now) result ≡ (if is_utf8 line.now then Some line.now else None) }
+    ensures { option_map (λ text. text.now) result
+        ≡ (if is_utf8 line.now then Some line.now else None) }
 {
     str::from_utf8(line).ok()
 }
 
 // The parts round each space.
 fn parts_of(alloc: Global, line: &str) -> Result<Vec<&str>, AllocError>
-    ensures { IfOk result (λ parts. map (λ part. part.now) parts.items ≡ slice_split (λ b. b == 32) line.now) }
+    ensures { IfOk result
+        (λ parts. map (λ part. part.now) parts.items ≡ slice_split (λ b. b == 32) line.now) }
 {
     line.split(' ').collect(alloc)
 }

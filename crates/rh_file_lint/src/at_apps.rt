@@ -34,7 +34,8 @@ pub(crate) fn tell_at_apps(
     cluster: &Cluster,
     kind: AppKind,
 ) -> Result<(), OutOfMemory>
-    ensures { OnOk result (found.new.items ≡ found.old.items ++ at_apps cluster.now (found_at_app cluster.now kind)) }
+    ensures { OnOk result
+        (found.new.items ≡ found.old.items ++ at_apps cluster.now (found_at_app cluster.now kind)) }
 {
     for number in 0..cluster.app_count() {
         tell_at_app(alloc, found, cluster, kind, App(number as u8))?;

@@ -49,7 +49,8 @@ pub(crate) fn tell_at_nodes(
     cluster: &Cluster,
     kind: NodeKind,
 ) -> Result<(), OutOfMemory>
-    ensures { OnOk result (found.new.items ≡ found.old.items ++ at_nodes cluster.now (found_at_node cluster.now kind)) }
+    ensures { OnOk result (found.new.items
+        ≡ found.old.items ++ at_nodes cluster.now (found_at_node cluster.now kind)) }
 {
     for number in 0..cluster.node_count() {
         tell_at_node(found, cluster, kind, Node(number as u8))?;
@@ -66,7 +67,8 @@ fn tell_at_node(
     node: Node,
 ) -> Result<(), OutOfMemory>
     requires { node.0 < node_count cluster.now }
-    ensures { OnOk result (found.new.items ≡ found.old.items ++ found_at_node cluster.now kind node) }
+    ensures { OnOk result
+        (found.new.items ≡ found.old.items ++ found_at_node cluster.now kind node) }
 {
     match kind {
         NodeKind::NoLists => {
@@ -137,7 +139,8 @@ fn tell_unmet_dep(
 ) -> Result<(), OutOfMemory>
     requires node { node.0 < node_count cluster.now }
     requires app { app.0 < app_count cluster.now }
-    ensures { OnOk result (found.new.items ≡ found.old.items ++ option_to_list (option_map (BootBeforeDependency node app) (unmet_dep cluster.now node app))) }
+    ensures { OnOk result (found.new.items ≡ found.old.items ++ option_to_list
+        (option_map (BootBeforeDependency node app) (unmet_dep cluster.now node app))) }
 {
     if let Some(dep) = unmet_dep(cluster, node, app) {
         found.push(FileFinding::BootBeforeDependency { node, app, dep })?;
@@ -153,7 +156,8 @@ fn tell_boots_before_dependency(
     node: Node,
 ) -> Result<(), OutOfMemory>
     requires { node.0 < node_count cluster.now }
-    ensures { OnOk result (found.new.items ≡ found.old.items ++ boot_before_dependency cluster.now node) }
+    ensures { OnOk result
+        (found.new.items ≡ found.old.items ++ boot_before_dependency cluster.now node) }
 {
     for number in 0..cluster.app_count() {
         tell_unmet_dep(found, cluster, node, App(number as u8))?;
@@ -169,7 +173,8 @@ fn tell_not_booted(
     node: Node,
 ) -> Result<(), OutOfMemory>
     requires { node.0 < node_count cluster.now }
-    ensures { OnOk result (found.new.items ≡ found.old.items ++ not_booted_at_listed_node cluster.now node) }
+    ensures { OnOk result
+        (found.new.items ≡ found.old.items ++ not_booted_at_listed_node cluster.now node) }
 {
     for number in 0..cluster.app_count() {
         let app = App(number as u8);

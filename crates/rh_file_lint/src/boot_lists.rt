@@ -97,7 +97,8 @@ pub(crate) fn is_permanent_somewhere(cluster: &Cluster, app: App) -> bool
 // How many nodes boot the application?
 #[tactic(auto, using(crate::proofs::OneMore::count_more), unfolding(rh_state::specs::Numbers::nodes_of))]
 fn booting_count(cluster: &Cluster, app: App) -> usize
-    ensures { result ≡ length (filter (λ (n : Node). boots cluster.now n app) (nodes_of cluster.now)) }
+    ensures { result
+        ≡ length (filter (λ (n : Node). boots cluster.now n app) (nodes_of cluster.now)) }
 {
     let mut count = 0;
     for number in 0..cluster.node_count() {

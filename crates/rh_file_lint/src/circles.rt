@@ -37,7 +37,8 @@ fn one_step_more(
     marks: &[bool],
     other: App,
 ) -> Result<Vec<bool>, OutOfMemory>
-    ensures { IfOk result (λ more. more.items ≡ map (needs_marked cluster.now marks.now other) (apps_of cluster.now)) }
+    ensures { IfOk result (λ more.
+        more.items ≡ map (needs_marked cluster.now marks.now other) (apps_of cluster.now)) }
 {
     let mut more = Vec::new(alloc);
     for number in 0..cluster.app_count() {
@@ -57,7 +58,8 @@ fn are_same(marks: &[bool], others: &[bool]) -> bool
 // Marks the applications that depend on another one, as far as the cluster goes. A step that marks no other application is the last: all
 // later ones would do the same.
 fn mark_dependents(alloc: Global, cluster: &Cluster, other: App) -> Result<Vec<bool>, OutOfMemory>
-    ensures { IfOk result (λ marks. (a : App) → a.0 < app_count cluster.now → is_marked marks.items a ≡ depends_within (app_count cluster.now) cluster.now a other) }
+    ensures { IfOk result (λ marks. (a : App) → a.0 < app_count cluster.now
+        → is_marked marks.items a ≡ depends_within (app_count cluster.now) cluster.now a other) }
 {
     cluster.is_within();
     let mut marks = Vec::new(alloc);

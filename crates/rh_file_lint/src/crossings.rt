@@ -32,7 +32,8 @@ fn first_booting(
     app: App,
     other: App,
 ) -> Option<Node>
-    requires rows { map (λ row. row.items) rows.now ≡ map (row_of cluster.now BootPlaces) (apps_of cluster.now) }
+    requires rows { map (λ row. row.items) rows.now
+        ≡ map (row_of cluster.now BootPlaces) (apps_of cluster.now) }
     requires app { app.0 < app_count cluster.now }
     requires other { other.0 < app_count cluster.now }
     requires spread { is_distributed cluster.now app ≡ true }
@@ -58,7 +59,8 @@ fn tell_crossed(
     node: Option<Node>,
     crossing: Node,
 ) -> Result<(), OutOfMemory>
-    ensures { OnOk result (found.new.items ≡ found.old.items ++ crossed_orders app other node (Some crossing)) }
+    ensures { OnOk result
+        (found.new.items ≡ found.old.items ++ crossed_orders app other node (Some crossing)) }
 {
     if let Some(node) = node {
         found.push(FileFinding::CrossedBootLists {
@@ -81,10 +83,12 @@ fn tell_crossed_with(
     app: App,
     other: App,
 ) -> Result<(), OutOfMemory>
-    requires rows { map (λ row. row.items) rows.now ≡ map (row_of cluster.now BootPlaces) (apps_of cluster.now) }
+    requires rows { map (λ row. row.items) rows.now
+        ≡ map (row_of cluster.now BootPlaces) (apps_of cluster.now) }
     requires app { app.0 < app_count cluster.now }
     requires other { other.0 < app_count cluster.now }
-    ensures { OnOk result (found.new.items ≡ found.old.items ++ crossed_with cluster.now app other) }
+    ensures { OnOk result
+        (found.new.items ≡ found.old.items ++ crossed_with cluster.now app other) }
 {
     if !is_distributed_pair(cluster, app, other) {
         return Ok(());
@@ -106,9 +110,11 @@ fn tell_crossed_boot_lists(
     rows: &[Vec<Option<usize>>],
     app: App,
 ) -> Result<(), OutOfMemory>
-    requires rows { map (λ row. row.items) rows.now ≡ map (row_of cluster.now BootPlaces) (apps_of cluster.now) }
+    requires rows { map (λ row. row.items) rows.now
+        ≡ map (row_of cluster.now BootPlaces) (apps_of cluster.now) }
     requires app { app.0 < app_count cluster.now }
-    ensures { OnOk result (found.new.items ≡ found.old.items ++ crossed_boot_lists cluster.now app) }
+    ensures { OnOk result
+        (found.new.items ≡ found.old.items ++ crossed_boot_lists cluster.now app) }
 {
     for number in 0..cluster.app_count() {
         tell_crossed_with(found, cluster, rows, app, App(number as u8))?;
@@ -123,7 +129,8 @@ pub(crate) fn tell_crossings(
     found: &mut Vec<FileFinding>,
     cluster: &Cluster,
 ) -> Result<(), OutOfMemory>
-    ensures { OnOk result (found.new.items ≡ found.old.items ++ at_apps cluster.now (crossed_boot_lists cluster.now)) }
+    ensures { OnOk result (found.new.items
+        ≡ found.old.items ++ at_apps cluster.now (crossed_boot_lists cluster.now)) }
 {
     let rows = rows_of(alloc, cluster, RowKind::BootPlaces)?;
     for number in 0..cluster.app_count() {

@@ -46,7 +46,8 @@ fn has_distributed(cluster: &Cluster) -> bool
 // Adds that no application is distributed, if it is so.
 #[tactic(auto, unfolding(crate::specs::Findings::no_distributed_application))]
 fn tell_no_distributed(found: &mut Vec<FileFinding>, cluster: &Cluster) -> Result<(), OutOfMemory>
-    ensures { OnOk result (found.new.items ≡ found.old.items ++ no_distributed_application cluster.now) }
+    ensures { OnOk result
+        (found.new.items ≡ found.old.items ++ no_distributed_application cluster.now) }
 {
     let holds = !has_distributed(cluster);
     tell(found, FileFinding::NoDistributedApplication, holds)

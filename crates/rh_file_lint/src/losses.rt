@@ -77,7 +77,8 @@ fn set_places(
     firsts: &[Option<usize>],
     seconds: &[Option<usize>],
 ) -> Result<(), OutOfMemory>
-    ensures { OnOk result (places.new.items ≡ map (place_by firsts.now seconds.now) (nodes_of cluster.now)) }
+    ensures { OnOk result
+        (places.new.items ≡ map (place_by firsts.now seconds.now) (nodes_of cluster.now)) }
 {
     places.clear();
     for number in 0..cluster.node_count() {
@@ -108,7 +109,8 @@ fn is_standby_of(lost: Place, node: Place) -> bool
 
 // Is there a node of which both are standbys?
 fn have_lost_node(places: &[Place], node: Place, rival: Place) -> bool
-    ensures { result ≡ list_any (λ (k : Place). is_standby_of k node && is_standby_of k rival) places.now }
+    ensures { result
+        ≡ list_any (λ (k : Place). is_standby_of k node && is_standby_of k rival) places.now }
 {
     places.iter().any(|lost| is_standby_of(*lost, node) && is_standby_of(*lost, rival))
 }
@@ -173,7 +175,8 @@ fn are_lost_together(
     app: App,
     other: App,
 ) -> Result<bool, OutOfMemory>
-    requires rows { map (λ row. row.items) rows.now ≡ map (row_of cluster.now Groups) (apps_of cluster.now) }
+    requires rows { map (λ row. row.items) rows.now
+        ≡ map (row_of cluster.now Groups) (apps_of cluster.now) }
     requires app { app.0 < app_count cluster.now }
     requires other { other.0 < app_count cluster.now }
     ensures { IfOk result (λ holds. holds ≡ are_lost_together cluster.now app other) }
@@ -194,7 +197,8 @@ fn tell_lost_together(
     places: &mut Vec<Place>,
     app: App,
 ) -> Result<(), OutOfMemory>
-    requires rows { map (λ row. row.items) rows.now ≡ map (row_of cluster.now Groups) (apps_of cluster.now) }
+    requires rows { map (λ row. row.items) rows.now
+        ≡ map (row_of cluster.now Groups) (apps_of cluster.now) }
     requires app { app.0 < app_count cluster.now }
     ensures { OnOk result (found.new.items ≡ found.old.items ++ lost_together cluster.now app) }
 {
@@ -213,7 +217,8 @@ pub(crate) fn tell_losses(
     found: &mut Vec<FileFinding>,
     cluster: &Cluster,
 ) -> Result<(), OutOfMemory>
-    ensures { OnOk result (found.new.items ≡ found.old.items ++ at_apps cluster.now (lost_together cluster.now)) }
+    ensures { OnOk result
+        (found.new.items ≡ found.old.items ++ at_apps cluster.now (lost_together cluster.now)) }
 {
     let rows = rows_of(alloc, cluster, RowKind::Groups)?;
     let mut places = Vec::new(alloc);

@@ -74,7 +74,8 @@ pub(crate) fn rows_of(
     cluster: &Cluster,
     kind: RowKind,
 ) -> Result<Vec<Vec<Option<usize>>>, OutOfMemory>
-    ensures { IfOk result (λ rows. map (λ row. row.items) rows.items ≡ map (row_of cluster.now kind) (apps_of cluster.now)) }
+    ensures { IfOk result (λ rows.
+        map (λ row. row.items) rows.items ≡ map (row_of cluster.now kind) (apps_of cluster.now)) }
 {
     let mut rows = Vec::with_capacity(alloc, cluster.app_count())?;
     for number in 0..cluster.app_count() {

@@ -44,7 +44,8 @@ fn lists_both(cluster: &Cluster, app: App, node: Node, other: Node) -> bool
 // Does one distributed application list both nodes?
 #[tactic(auto, unfolding(crate::specs::Cluster::some_app, rh_state::specs::Numbers::apps_of))]
 fn share_some_app(cluster: &Cluster, node: Node, other: Node) -> bool
-    ensures { result ≡ some_app cluster.now (λ a. is_in_list cluster.now a node && is_in_list cluster.now a other) }
+    ensures { result ≡ some_app cluster.now
+        (λ a. is_in_list cluster.now a node && is_in_list cluster.now a other) }
 {
     for number in 0..cluster.app_count() {
         if lists_both(cluster, App(number as u8), node, other) {

@@ -119,7 +119,8 @@ fn push_ended(
     part: Option<Part>,
     byte: u8,
 ) -> Result<(), OutOfMemory>
-    ensures { OnOk result (parts.new.items ≡ parts.old.items ++ ended_here wanted standing depth part byte) }
+    ensures { OnOk result
+        (parts.new.items ≡ parts.old.items ++ ended_here wanted standing depth part byte) }
 {
     if ends_here(wanted, standing, depth, byte) {
         if let Some(ended) = part {

@@ -35,7 +35,8 @@ fn push_path(text: &mut String, path: &Option<Str>) -> Result<(), OutOfMemory>
 // Adds the line of a finding.
 #[tactic(auto, unfolding(crate::specs::Report::finding_line))]
 fn push_finding(text: &mut String, finding: &Finding) -> Result<(), OutOfMemory>
-    ensures { OnOk result (string_bytes text.new ≡ string_bytes text.old ++ finding_line finding.now) }
+    ensures { OnOk result
+        (string_bytes text.new ≡ string_bytes text.old ++ finding_line finding.now) }
 {
     push_line(text, finding.line)?;
     let kind = finding.kind.word();
@@ -48,7 +49,8 @@ fn push_finding(text: &mut String, finding: &Finding) -> Result<(), OutOfMemory>
 
 // Adds the lines of findings.
 fn push_findings(text: &mut String, findings: &[Finding]) -> Result<(), OutOfMemory>
-    ensures { OnOk result (string_bytes text.new ≡ string_bytes text.old ++ flat_map finding_line findings.now) }
+    ensures { OnOk result
+        (string_bytes text.new ≡ string_bytes text.old ++ flat_map finding_line findings.now) }
 {
     for finding in findings {
         push_finding(text, finding)?;
@@ -72,7 +74,8 @@ pub fn count(kind: Kind, findings: &[Finding]) -> usize
 // Adds the last line, which says how many findings there are of each kind.
 #[tactic(auto, unfolding(crate::specs::Report::last_line))]
 fn push_last(text: &mut String, findings: &[Finding]) -> Result<(), OutOfMemory>
-    ensures { OnOk result (string_bytes text.new ≡ string_bytes text.old ++ last_line findings.now) }
+    ensures { OnOk result
+        (string_bytes text.new ≡ string_bytes text.old ++ last_line findings.now) }
 {
     let errors = count(Kind::Error, findings);
     let warnings = count(Kind::Warning, findings);

@@ -42,7 +42,8 @@ fn push_start(
     at: usize,
     byte: u8,
 ) -> Result<(), OutOfMemory>
-    ensures { OnOk result (starts.new.items ≡ starts.old.items ++ start_here standing line at byte) }
+    ensures { OnOk result
+        (starts.new.items ≡ starts.old.items ++ start_here standing line at byte) }
 {
     if standing.begins_term(byte) {
         starts.push(Start { line, at })?;
@@ -54,7 +55,8 @@ fn push_start(
 #[tactic(auto, using(crate::proofs::Passed::plain_passed))]
 fn passed_len(standing: Standing, bytes: &[u8]) -> usize
     ensures within { result ≤ length bytes.now }
-    ensures starts { (line at : ℕ) → starts_from standing line at bytes.now ≡ starts_from standing line (at + result) (drop result bytes.now) }
+    ensures starts { (line at : ℕ) → starts_from standing line at bytes.now
+        ≡ starts_from standing line (at + result) (drop result bytes.now) }
 {
     match standing {
         Standing::Inside => plain_len(bytes),

@@ -27,7 +27,8 @@ pub fn check_json<S: Source, K: Sink>(
 ) -> Result<(), RunFault>
     requires reader { reader.old.failed ≡ false }
     requires writer { writer.old.failed ≡ false }
-    ensures { ProgramGives S.gives S.fails K.takes K.fails OwesCheckJson NoThreads result reader.old reader.new writer.old writer.new }
+    ensures { ProgramGives S.gives S.fails K.takes K.fails OwesCheckJson NoThreads result reader.old
+        reader.new writer.old writer.new }
 {
     let input = read_input(alloc, reader)?;
     let told = check_input(alloc, input.as_slice(), writer)?;
@@ -42,7 +43,8 @@ fn check_input<K: Sink>(
     writer: &mut Watched<K>,
 ) -> Result<Option<Told>, WriteFault>
     requires { writer.old.failed ≡ false }
-    ensures { Wrote K.takes K.fails result (check_json input.now) (check_end input.now) writer.old writer.new }
+    ensures { Wrote K.takes K.fails result (check_json input.now)
+        (check_end input.now) writer.old writer.new }
 {
     let (text, _) = cut(input);
     match read_cluster(alloc, text) {

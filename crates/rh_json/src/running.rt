@@ -37,7 +37,8 @@ pub fn run_json<S: Source, K: Sink>(
 ) -> Result<(), RunFault>
     requires reader { reader.old.failed ≡ false }
     requires writer { writer.old.failed ≡ false }
-    ensures { ProgramGives S.gives S.fails K.takes K.fails (OwesRunJson pick) NoThreads result reader.old reader.new writer.old writer.new }
+    ensures { ProgramGives S.gives S.fails K.takes K.fails
+        (OwesRunJson pick) NoThreads result reader.old reader.new writer.old writer.new }
 {
     let input = read_input(alloc, reader)?;
     let told = answer_input(alloc, input.as_slice(), writer, pick)?;
@@ -53,7 +54,8 @@ fn answer_input<K: Sink>(
     pick: Pick,
 ) -> Result<Option<Told>, WriteFault>
     requires { writer.old.failed ≡ false }
-    ensures { Wrote K.takes K.fails result (run_json input.now pick) (run_end input.now) writer.old writer.new }
+    ensures { Wrote K.takes K.fails result (run_json input.now pick)
+        (run_end input.now) writer.old writer.new }
 {
     let (text, script) = cut(input);
     match read_cluster(alloc, text) {
@@ -80,9 +82,9 @@ fn answer_script<K: Sink>(
     pick: Pick,
 ) -> Result<Option<u64>, WriteFault>
     requires { writer.old.failed ≡ false }
-    ensures { Wrote K.takes K.fails result
-        (cluster_line cluster ++ script_json cluster (opened cluster pick) 1 (map content (raw_lines script.now)))
-        (bad_line 1 (lines_asked cluster (map content (raw_lines script.now)))) writer.old writer.new }
+    ensures { Wrote K.takes K.fails result (cluster_line cluster ++ script_json cluster
+        (opened cluster pick) 1 (map content (raw_lines script.now))) (bad_line 1
+        (lines_asked cluster (map content (raw_lines script.now)))) writer.old writer.new }
 {
     write_cluster(alloc, &cluster, writer)?;
     answer_opened(alloc, cluster, script, writer, pick)
@@ -99,7 +101,8 @@ fn answer_opened<K: Sink>(
     requires { writer.old.failed ≡ false }
     ensures { Wrote K.takes K.fails result
         (script_json cluster (opened cluster pick) 1 (map content (raw_lines script.now)))
-        (bad_line 1 (lines_asked cluster (map content (raw_lines script.now)))) writer.old writer.new }
+        (bad_line 1 (lines_asked cluster (map content (raw_lines script.now))))
+        writer.old writer.new }
 {
     let mut sim = Sim::open(alloc, cluster, pick)?;
     answer_lines(alloc, &mut sim, script, writer)
@@ -115,7 +118,8 @@ fn answer_lines<K: Sink>(
     requires { writer.old.failed ≡ false }
     ensures { Wrote K.takes K.fails result
         (script_json sim.old.seen.cluster sim.old.seen 1 (map content (raw_lines script.now)))
-        (bad_line 1 (lines_asked sim.old.seen.cluster (map content (raw_lines script.now)))) writer.old writer.new }
+        (bad_line 1 (lines_asked sim.old.seen.cluster (map content (raw_lines script.now))))
+        writer.old writer.new }
 {
     let mut rest = script;
     let mut number: u64 = 1;
@@ -141,8 +145,8 @@ fn answer_line<K: Sink>(
     writer: &mut Watched<K>,
 ) -> Result<Option<u64>, WriteFault>
     requires { writer.old.failed ≡ false }
-    ensures text { (lines : List (List ℕ)) → Turns K.takes K.fails result sim.old.seen.cluster sim.old.seen sim.new.seen number
-        line.now lines writer.old writer.new }
+    ensures text { (lines : List (List ℕ)) → Turns K.takes K.fails result sim.old.seen.cluster
+        sim.old.seen sim.new.seen number line.now lines writer.old writer.new }
     ensures cluster { OnOk result (sim.new.seen.cluster ≡ sim.old.seen.cluster) }
 {
     match line_of(alloc, sim.cluster(), line)? {
@@ -183,7 +187,8 @@ pub fn answer_call<K: Sink>(
     requires { writer.old.failed ≡ false }
     ensures sim { OnOk result (sim.new.seen ≡ (served sim.old.seen call).sim) }
     ensures cluster { OnOk result (sim.new.seen.cluster ≡ sim.old.seen.cluster) }
-    ensures text { Broke K.takes K.fails result (answer_line sim.old.seen.cluster sim.old.seen number line.now call) writer.old writer.new }
+    ensures text { Broke K.takes K.fails result
+        (answer_line sim.old.seen.cluster sim.old.seen number line.now call) writer.old writer.new }
 {
     let text = line_of_call(alloc, sim, number, line, call)?;
     write_text(writer, text.as_slice())
@@ -192,7 +197,8 @@ pub fn answer_call<K: Sink>(
 // The line of a command that asks for the report, with the answer. The report isn't made as text, of which nothing would be told.
 #[tactic(auto, unfolding(rh_json_lines::specs::AnswerLines::answer_line))]
 fn line_of_look(alloc: Global, sim: &Sim, number: u64, line: &[u8]) -> Result<Vec<u8>, OutOfMemory>
-    ensures { IfOk result (λ text. text.items ≡ answer_line sim.now.seen.cluster sim.now.seen number line.now call.Look) }
+    ensures { IfOk result (λ text.
+        text.items ≡ answer_line sim.now.seen.cluster sim.now.seen number line.now call.Look) }
 {
     seen_line(
         alloc,
@@ -215,7 +221,8 @@ fn line_of_call(
 ) -> Result<Vec<u8>, OutOfMemory>
     ensures sim { OnOk result (sim.new.seen ≡ (served sim.old.seen call).sim) }
     ensures cluster { OnOk result (sim.new.seen.cluster ≡ sim.old.seen.cluster) }
-    ensures text { IfOk result (λ text. text.items ≡ answer_line sim.old.seen.cluster sim.old.seen number line.now call) }
+    ensures text { IfOk result
+        (λ text. text.items ≡ answer_line sim.old.seen.cluster sim.old.seen number line.now call) }
 {
     if let Call::Look = call {
         return line_of_look(alloc, sim, number, line);

@@ -51,7 +51,8 @@ pub fn sweep_json_by<C: Crew, S: Source, K: Sink>(
     requires writer { writer.old.failed ≡ false }
     requires ready { C.ready crew.now }
     requires workers { AreWorkers (C.workers crew.now) }
-    ensures { ProgramGives S.gives S.fails K.takes K.fails (OwesSweepJson pick) NoThreads result reader.old reader.new writer.old writer.new }
+    ensures { ProgramGives S.gives S.fails K.takes K.fails
+        (OwesSweepJson pick) NoThreads result reader.old reader.new writer.old writer.new }
 {
     let input = read_input(alloc, reader)?;
     let told = sweep_input(crew, alloc, input.as_slice(), writer, pick)?;
@@ -71,7 +72,8 @@ fn sweep_input<C: Crew, K: Sink>(
     requires ready { C.ready crew.now }
     requires workers { AreWorkers (C.workers crew.now) }
     requires limit { length input.now ≤ input_limit }
-    ensures { Wrote K.takes K.fails result (sweep_json input.now pick) (sweep_end input.now pick) writer.old writer.new }
+    ensures { Wrote K.takes K.fails result (sweep_json input.now pick)
+        (sweep_end input.now pick) writer.old writer.new }
 {
     let (text, _) = cut(input);
     match read_cluster(alloc, text) {
@@ -100,10 +102,10 @@ fn sweep_lines<C: Crew, K: Sink>(
     requires workers { AreWorkers (C.workers crew.now) }
     requires limit { length input.now ≤ input_limit }
     requires cluster { cluster_of (cluster_text input.now) ≡ Ok cluster }
-    ensures { Wrote K.takes K.fails result
-        (lines_json cluster pick (script_lines input.now) (bad_sweep_line (sweep_lines_asked cluster (script_lines input.now))))
-        (lines_end cluster pick (sweep_lines_asked cluster (script_lines input.now))
-        (bad_sweep_line (sweep_lines_asked cluster (script_lines input.now)))) writer.old writer.new }
+    ensures { Wrote K.takes K.fails result (lines_json cluster pick (script_lines input.now)
+        (bad_sweep_line (sweep_lines_asked cluster (script_lines input.now))))
+        (lines_end cluster pick (sweep_lines_asked cluster (script_lines input.now)) (bad_sweep_line
+        (sweep_lines_asked cluster (script_lines input.now)))) writer.old writer.new }
 {
     let (_, script) = cut(input);
     match sweep_in(alloc, &cluster, script)? {
@@ -132,7 +134,8 @@ pub fn write_base<K: Sink>(
     requires writer { writer.old.failed ≡ false }
     requires limit { length input.now ≤ input_limit }
     requires cluster { cluster_of (cluster_text input.now) ≡ Ok cluster.now }
-    ensures { Broke K.takes K.fails result (base_json cluster.now pick (script_lines input.now)) writer.old writer.new }
+    ensures { Broke K.takes K.fails result
+        (base_json cluster.now pick (script_lines input.now)) writer.old writer.new }
 {
     let base = base_text(alloc, cluster, input)?;
     write_run(alloc, base, writer, pick)
@@ -170,8 +173,8 @@ fn sweep_plans<C: Crew, K: Sink>(
     requires writer { writer.old.failed ≡ false }
     requires ready { C.ready crew.now }
     requires workers { AreWorkers (C.workers crew.now) }
-    ensures { Wrote K.takes K.fails result
-        (plans_json base.now.seen.cluster base.now.seen (map plan_text plans.now) (why_not_swept base.now.seen (map plan_text plans.now)))
+    ensures { Wrote K.takes K.fails result (plans_json base.now.seen.cluster base.now.seen
+        (map plan_text plans.now) (why_not_swept base.now.seen (map plan_text plans.now)))
         (plans_end base.now.seen (map plan_text plans.now)) writer.old writer.new }
 {
     match crew.sweep(alloc, base, plans) {
@@ -199,7 +202,8 @@ fn write_outcomes<K: Sink>(
 ) -> Result<(), WriteFault>
     requires writer { writer.old.failed ≡ false }
     requires outcomes { outcomes.now ≡ map (outcome_of base.now.seen) plans.now }
-    ensures { Broke K.takes K.fails result (flat_map (plan_line base.now.seen.cluster base.now.seen) (map plan_text plans.now)) writer.old writer.new }
+    ensures { Broke K.takes K.fails result (flat_map (plan_line base.now.seen.cluster base.now.seen)
+        (map plan_text plans.now)) writer.old writer.new }
 {
     for place in 0..plans.len() {
         let (name, outcome) = (&plans[place].name, &outcomes[place]);
@@ -217,7 +221,8 @@ fn write_outcome<K: Sink>(
     writer: &mut Watched<K>,
 ) -> Result<(), WriteFault>
     requires { writer.old.failed ≡ false }
-    ensures { Broke K.takes K.fails result (outcome_line cluster.now name.now outcome.now) writer.old writer.new }
+    ensures { Broke K.takes K.fails result
+        (outcome_line cluster.now name.now outcome.now) writer.old writer.new }
 {
     let line = outcome_line(alloc, cluster, name, outcome)?;
     write_text(writer, line.as_slice())

@@ -31,8 +31,9 @@ fn push_told(
     notices: &[Notice],
     fired: &Option<Vec<FiredTimer>>,
 ) -> Result<(), OutOfMemory>
-    ensures { OnOk result (out.new.items ≡ out.old.items
-        ++ (codes ",\"notices\":" ++ json_array (notice_json cluster.now) (timed_notices notices.now (option_map (λ f. f.items) fired.now)))) }
+    ensures { OnOk result (out.new.items
+        ≡ out.old.items ++ (codes ",\"notices\":" ++ json_array (notice_json cluster.now)
+        (timed_notices notices.now (option_map (λ f. f.items) fired.now)))) }
 {
     push_text(out, ",\"notices\":")?;
     push_notices(alloc, out, cluster, notices, fired)
@@ -46,7 +47,8 @@ fn push_seen(
     trail: usize,
     state: &State,
 ) -> Result<(), OutOfMemory>
-    ensures { OnOk result (out.new.items ≡ out.old.items ++ (codes ",\"report\":" ++ report_json cursor trail (read state.now))) }
+    ensures { OnOk result (out.new.items
+        ≡ out.old.items ++ (codes ",\"report\":" ++ report_json cursor trail (read state.now))) }
 {
     push_text(out, ",\"report\":")?;
     push_report(alloc, out, cursor, trail, state)
@@ -78,8 +80,8 @@ fn push_command(
     number: u64,
     command: &[u8],
 ) -> Result<(), OutOfMemory>
-    ensures { OnOk result (out.new.items ≡ out.old.items
-        ++ (codes "{\"line\":" ++ decimal number ++ codes ",\"command\":" ++ json_string command.now ++ codes ",\"answer\":")) }
+    ensures { OnOk result (out.new.items ≡ out.old.items ++ (codes "{\"line\":" ++ decimal number
+        ++ codes ",\"command\":" ++ json_string command.now ++ codes ",\"answer\":")) }
 {
     push_text(out, "{\"line\":")?;
     push_number(alloc, out, number as u128)?;
@@ -103,7 +105,8 @@ fn push_told_answer(
     cluster: &Cluster,
     reply: &Reply,
 ) -> Result<(), OutOfMemory>
-    ensures { OnOk result (out.new.items ≡ out.old.items ++ json_string (first_line (answer_text cluster.now reply.now))) }
+    ensures { OnOk result (out.new.items
+        ≡ out.old.items ++ json_string (first_line (answer_text cluster.now reply.now))) }
 {
     let answer = answer_text(alloc, cluster, reply)?;
     push_string(out, before_first(answer.as_slice(), b'\n'))
@@ -118,7 +121,8 @@ fn push_answer(
     cluster: &Cluster,
     reply: &Reply,
 ) -> Result<(), OutOfMemory>
-    ensures { OnOk result (out.new.items ≡ out.old.items ++ json_string (first_line (answer_text cluster.now reply.now))) }
+    ensures { OnOk result (out.new.items
+        ≡ out.old.items ++ json_string (first_line (answer_text cluster.now reply.now))) }
 {
     match reply {
         Reply::Done(_) | Reply::Seen { .. } => push_ok(out),
@@ -137,8 +141,8 @@ pub fn reply_line(
     fired: &Option<Vec<FiredTimer>>,
     reply: &Reply,
 ) -> Result<Vec<u8>, OutOfMemory>
-    ensures { IfOk result (λ line. line.items
-        ≡ reply_line cluster.now number command.now (option_map (λ f. f.items) fired.now) reply.now (read state.now)) }
+    ensures { IfOk result (λ line. line.items ≡ reply_line cluster.now number command.now
+        (option_map (λ f. f.items) fired.now) reply.now (read state.now)) }
 {
     // As much as most lines take.
     let mut line = Vec::with_capacity(alloc, 1_024)?;
@@ -160,8 +164,8 @@ pub fn seen_line(
     trail: usize,
     state: &State,
 ) -> Result<Vec<u8>, OutOfMemory>
-    ensures { IfOk result (λ line. (c : ClusterView) (report : List ℕ)
-        → line.items ≡ reply_line c number command.now None (reply.Seen cursor trail report) (read state.now)) }
+    ensures { IfOk result (λ line. (c : ClusterView) (report : List ℕ) → line.items
+        ≡ reply_line c number command.now None (reply.Seen cursor trail report) (read state.now)) }
 {
     // As much as most lines take.
     let mut line = Vec::with_capacity(alloc, 1_024)?;

@@ -32,7 +32,8 @@ pub fn push_app(out: &mut Vec<u8>, cluster: &Cluster, app: App) -> Result<(), Ou
 
 // Adds the names of nodes, each behind a comma.
 fn push_each_of(out: &mut Vec<u8>, cluster: &Cluster, nodes: &[Node]) -> Result<(), OutOfMemory>
-    ensures { OnOk result (out.new.items ≡ out.old.items ++ flat_map (behind_comma (node_json cluster.now)) nodes.now) }
+    ensures { OnOk result (out.new.items
+        ≡ out.old.items ++ flat_map (behind_comma (node_json cluster.now)) nodes.now) }
 {
     for node in nodes {
         push_text(out, ",")?;
@@ -63,7 +64,8 @@ fn push_each_group(
     cluster: &Cluster,
     groups: &[Group],
 ) -> Result<(), OutOfMemory>
-    ensures { OnOk result (out.new.items ≡ out.old.items ++ flat_map (behind_comma (group_json cluster.now)) groups.now) }
+    ensures { OnOk result (out.new.items
+        ≡ out.old.items ++ flat_map (behind_comma (group_json cluster.now)) groups.now) }
 {
     for group in groups {
         push_text(out, ",")?;
@@ -80,7 +82,8 @@ fn push_groups(
     cluster: &Cluster,
     groups: &[Group],
 ) -> Result<(), OutOfMemory>
-    ensures { OnOk result (out.new.items ≡ out.old.items ++ json_array (group_json cluster.now) groups.now) }
+    ensures { OnOk result
+        (out.new.items ≡ out.old.items ++ json_array (group_json cluster.now) groups.now) }
 {
     let mut values = Vec::new(alloc);
     push_each_group(alloc, &mut values, cluster, groups)?;
@@ -94,7 +97,8 @@ fn push_spread_groups(
     cluster: &Cluster,
     groups: &[Group],
 ) -> Result<(), OutOfMemory>
-    ensures { OnOk result (out.new.items ≡ out.old.items ++ (codes "true,\"nodes\":" ++ json_array (group_json cluster.now) groups.now)) }
+    ensures { OnOk result (out.new.items ≡ out.old.items
+        ++ (codes "true,\"nodes\":" ++ json_array (group_json cluster.now) groups.now)) }
 {
     push_text(out, "true,\"nodes\":")?;
     push_groups(alloc, out, cluster, groups)
@@ -107,7 +111,8 @@ fn push_spread(
     cluster: &Cluster,
     spread: Option<&Spread>,
 ) -> Result<(), OutOfMemory>
-    ensures { OnOk result (out.new.items ≡ out.old.items ++ spread_json cluster.now (option_map (λ s. s.now) spread.entry)) }
+    ensures { OnOk result (out.new.items
+        ≡ out.old.items ++ spread_json cluster.now (option_map (λ s. s.now) spread.entry)) }
 {
     match spread {
         None => push_text(out, "false"),
@@ -136,7 +141,8 @@ fn push_settings(
 // Adds the names of all nodes, each behind a comma.
 #[tactic(auto, unfolding(rh_state::specs::Numbers::nodes_of))]
 fn push_each_node(out: &mut Vec<u8>, cluster: &Cluster) -> Result<(), OutOfMemory>
-    ensures { OnOk result (out.new.items ≡ out.old.items ++ flat_map (behind_comma (node_json cluster.now)) (nodes_of cluster.now)) }
+    ensures { OnOk result (out.new.items
+        ≡ out.old.items ++ flat_map (behind_comma (node_json cluster.now)) (nodes_of cluster.now)) }
 {
     let count = cluster.node_count();
     for number in 0..count {
@@ -149,7 +155,8 @@ fn push_each_node(out: &mut Vec<u8>, cluster: &Cluster) -> Result<(), OutOfMemor
 // Adds all applications, each behind a comma.
 #[tactic(auto, unfolding(rh_state::specs::Numbers::apps_of))]
 fn push_each_app(alloc: Global, out: &mut Vec<u8>, cluster: &Cluster) -> Result<(), OutOfMemory>
-    ensures { OnOk result (out.new.items ≡ out.old.items ++ flat_map (behind_comma (settings_json cluster.now)) (apps_of cluster.now)) }
+    ensures { OnOk result (out.new.items ≡ out.old.items
+        ++ flat_map (behind_comma (settings_json cluster.now)) (apps_of cluster.now)) }
 {
     let count = cluster.app_count();
     for number in 0..count {
@@ -162,7 +169,8 @@ fn push_each_app(alloc: Global, out: &mut Vec<u8>, cluster: &Cluster) -> Result<
 // Adds the array of the nodes' names.
 #[tactic(auto, using(rh_json_text::proofs::Arrays::array_is_bracketed))]
 fn push_all_nodes(alloc: Global, out: &mut Vec<u8>, cluster: &Cluster) -> Result<(), OutOfMemory>
-    ensures { OnOk result (out.new.items ≡ out.old.items ++ json_array (node_json cluster.now) (nodes_of cluster.now)) }
+    ensures { OnOk result (out.new.items
+        ≡ out.old.items ++ json_array (node_json cluster.now) (nodes_of cluster.now)) }
 {
     let mut values = Vec::new(alloc);
     push_each_node(&mut values, cluster)?;
@@ -172,7 +180,8 @@ fn push_all_nodes(alloc: Global, out: &mut Vec<u8>, cluster: &Cluster) -> Result
 // Adds the array of the applications.
 #[tactic(auto, using(rh_json_text::proofs::Arrays::array_is_bracketed))]
 fn push_all_apps(alloc: Global, out: &mut Vec<u8>, cluster: &Cluster) -> Result<(), OutOfMemory>
-    ensures { OnOk result (out.new.items ≡ out.old.items ++ json_array (settings_json cluster.now) (apps_of cluster.now)) }
+    ensures { OnOk result (out.new.items
+        ≡ out.old.items ++ json_array (settings_json cluster.now) (apps_of cluster.now)) }
 {
     let mut values = Vec::new(alloc);
     push_each_app(alloc, &mut values, cluster)?;

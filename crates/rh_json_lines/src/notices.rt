@@ -22,7 +22,8 @@ use std::alloc::Global;
 // The field of a notice's kind: its word needs no escape.
 #[tactic(auto, unfolding(rh_script::specs::Answers::notice_line, rh_json_text::specs::Json::json_string, rh_json_text::specs::Json::escaped))]
 fn notice_field(notice: &Notice) -> &'static str
-    ensures { (c : ClusterView) → result.now ≡ codes "\"kind\":" ++ json_string (first_word (notice_line c notice.now)) }
+    ensures { (c : ClusterView)
+        → result.now ≡ codes "\"kind\":" ++ json_string (first_word (notice_line c notice.now)) }
 {
     match notice {
         Notice::Up { .. } => "\"kind\":\"up\"",
@@ -86,7 +87,8 @@ fn push_notice(
     time: Option<u64>,
     notice: &Notice,
 ) -> Result<(), OutOfMemory>
-    ensures { OnOk result (out.new.items ≡ out.old.items ++ behind_comma (notice_json cluster.now) (time, notice.now)) }
+    ensures { OnOk result (out.new.items
+        ≡ out.old.items ++ behind_comma (notice_json cluster.now) (time, notice.now)) }
 {
     push_text(out, ",{")?;
     push_time(alloc, out, time)?;
@@ -119,7 +121,8 @@ fn push_fired(
     cluster: &Cluster,
     timer: &FiredTimer,
 ) -> Result<(), OutOfMemory>
-    ensures { OnOk result (out.new.items ≡ out.old.items ++ flat_map (behind_comma (notice_json cluster.now)) (timed timer.now)) }
+    ensures { OnOk result (out.new.items
+        ≡ out.old.items ++ flat_map (behind_comma (notice_json cluster.now)) (timed timer.now)) }
 {
     push_each_notice(alloc, out, cluster, Some(timer.due()), timer.notices())
 }
@@ -131,8 +134,8 @@ fn push_each_fired(
     cluster: &Cluster,
     fired: &[FiredTimer],
 ) -> Result<(), OutOfMemory>
-    ensures { OnOk result (out.new.items ≡ out.old.items
-        ++ flat_map (λ (f : FiringView). flat_map (behind_comma (notice_json cluster.now)) (timed f)) fired.now) }
+    ensures { OnOk result (out.new.items ≡ out.old.items ++ flat_map (λ (f : FiringView).
+        flat_map (behind_comma (notice_json cluster.now)) (timed f)) fired.now) }
 {
     for timer in fired {
         push_fired(alloc, out, cluster, timer)?;
@@ -162,8 +165,9 @@ fn push_told(
     notices: &[Notice],
     fired: &Option<Vec<FiredTimer>>,
 ) -> Result<(), OutOfMemory>
-    ensures { OnOk result (out.new.items ≡ out.old.items
-        ++ flat_map (behind_comma (notice_json cluster.now)) (timed_notices notices.now (option_map (λ f. f.items) fired.now))) }
+    ensures { OnOk result
+        (out.new.items ≡ out.old.items ++ flat_map (behind_comma (notice_json cluster.now))
+        (timed_notices notices.now (option_map (λ f. f.items) fired.now))) }
 {
     match fired {
         None => push_each_notice(alloc, out, cluster, None, notices),
@@ -180,8 +184,8 @@ pub fn push_notices(
     notices: &[Notice],
     fired: &Option<Vec<FiredTimer>>,
 ) -> Result<(), OutOfMemory>
-    ensures { OnOk result (out.new.items ≡ out.old.items
-        ++ json_array (notice_json cluster.now) (timed_notices notices.now (option_map (λ f. f.items) fired.now))) }
+    ensures { OnOk result (out.new.items ≡ out.old.items ++ json_array (notice_json cluster.now)
+        (timed_notices notices.now (option_map (λ f. f.items) fired.now))) }
 {
     let start = out.len();
     push_told(alloc, out, cluster, notices, fired)?;
@@ -195,7 +199,8 @@ pub fn fired_by(
     sim: &mut Sim,
     call: &Call,
 ) -> Result<Option<Vec<FiredTimer>>, OutOfMemory>
-    ensures fired { IfOk result (λ fired. option_map (λ f. f.items) fired ≡ fired_by sim.old.seen call.now) }
+    ensures fired { IfOk result
+        (λ fired. option_map (λ f. f.items) fired ≡ fired_by sim.old.seen call.now) }
     ensures kept { sim.new ≡ sim.old }
 {
     let Call::Step(Event::Tick { ms }) = *call else {

@@ -81,7 +81,8 @@ fn push_refused(
     cluster: &Cluster,
     refused: Option<(usize, Refusal)>,
 ) -> Result<(), OutOfMemory>
-    ensures { OnOk result (out.new.items ≡ out.old.items ++ refused_event_json cluster.now refused) }
+    ensures { OnOk result
+        (out.new.items ≡ out.old.items ++ refused_event_json cluster.now refused) }
 {
     match refused {
         None => Ok(()),

@@ -24,7 +24,8 @@ use std::alloc::Global;
 // The field of a standing: its word needs no escape.
 #[tactic(auto, unfolding(rh_json_text::specs::Json::json_string, rh_json_text::specs::Json::escaped))]
 fn standing_field(standing: Standing) -> &'static str
-    ensures { (c : ClusterView) → result.now ≡ codes ",\"standing\":" ++ json_string (first_word (standing_words c standing)) }
+    ensures { (c : ClusterView) → result.now
+        ≡ codes ",\"standing\":" ++ json_string (first_word (standing_words c standing)) }
 {
     match standing {
         Standing::Quiet => ",\"standing\":\"quiet\"",
@@ -37,7 +38,8 @@ fn standing_field(standing: Standing) -> &'static str
 // The field of a timer's kind, with which its object begins: the word needs no escape.
 #[tactic(auto, unfolding(rh_json_text::specs::Json::json_string, rh_json_text::specs::Json::escaped))]
 fn timer_field(timer: Timer) -> &'static str
-    ensures { (c : ClusterView) → result.now ≡ codes "{\"timer\":" ++ json_string (first_word (timer_words c timer)) }
+    ensures { (c : ClusterView)
+        → result.now ≡ codes "{\"timer\":" ++ json_string (first_word (timer_words c timer)) }
 {
     match timer {
         Timer::Sync(_) => "{\"timer\":\"sync\"",
@@ -65,7 +67,8 @@ pub fn push_standing(
     app: App,
     standing: Standing,
 ) -> Result<(), OutOfMemory>
-    ensures { OnOk result (out.new.items ≡ out.old.items ++ standing_json cluster.now app standing) }
+    ensures { OnOk result
+        (out.new.items ≡ out.old.items ++ standing_json cluster.now app standing) }
 {
     push_text(out, "{\"name\":")?;
     push_app(out, cluster, app)?;
@@ -77,9 +80,9 @@ pub fn push_standing(
 // Adds an application behind a comma, if it is distributed.
 fn push_if_distributed(out: &mut Vec<u8>, state: &State, app: App) -> Result<(), OutOfMemory>
     requires { app.0 < app_count (read state.now).cluster }
-    ensures { OnOk result (out.new.items ≡ out.old.items
-        ++ (if not (is_local (read state.now).cluster app)
-        then behind_comma (λ a. standing_json (read state.now).cluster a (standing_of (read state.now) a)) app else [])) }
+    ensures { OnOk result (out.new.items
+        ≡ out.old.items ++ (if not (is_local (read state.now).cluster app) then behind_comma (λ a.
+        standing_json (read state.now).cluster a (standing_of (read state.now) a)) app else [])) }
 {
     if state.cluster().spread(app).is_none() {
         return Ok(());
@@ -91,8 +94,9 @@ fn push_if_distributed(out: &mut Vec<u8>, state: &State, app: App) -> Result<(),
 // Adds the distributed applications, each behind a comma.
 #[tactic(auto, unfolding(rh_state::specs::Numbers::apps_of))]
 fn push_each_distributed(out: &mut Vec<u8>, state: &State) -> Result<(), OutOfMemory>
-    ensures { OnOk result (out.new.items ≡ out.old.items
-        ++ flat_map (behind_comma (λ a. standing_json (read state.now).cluster a (standing_of (read state.now) a))) (distributed_in (read state.now).cluster)) }
+    ensures { OnOk result (out.new.items ≡ out.old.items ++ flat_map (behind_comma (λ a.
+        standing_json (read state.now).cluster a (standing_of (read state.now) a)))
+        (distributed_in (read state.now).cluster)) }
 {
     let count = state.cluster().app_count();
     for number in 0..count {
@@ -135,7 +139,8 @@ fn push_each_timer(
     cluster: &Cluster,
     timers: &[(u64, Timer)],
 ) -> Result<(), OutOfMemory>
-    ensures { OnOk result (out.new.items ≡ out.old.items ++ flat_map (behind_comma (timer_json cluster.now)) timers.now) }
+    ensures { OnOk result (out.new.items
+        ≡ out.old.items ++ flat_map (behind_comma (timer_json cluster.now)) timers.now) }
 {
     for entry in timers {
         push_text(out, ",")?;
@@ -147,7 +152,8 @@ fn push_each_timer(
 // Adds the nodes, each behind a comma.
 #[tactic(auto, unfolding(rh_state::specs::Numbers::nodes_of))]
 fn push_each_state(alloc: Global, out: &mut Vec<u8>, state: &State) -> Result<(), OutOfMemory>
-    ensures { OnOk result (out.new.items ≡ out.old.items ++ flat_map (behind_comma (state_json (read state.now))) (nodes_of (read state.now).cluster)) }
+    ensures { OnOk result (out.new.items ≡ out.old.items ++ flat_map
+        (behind_comma (state_json (read state.now))) (nodes_of (read state.now).cluster)) }
 {
     let count = state.cluster().node_count();
     for number in 0..count {
@@ -160,7 +166,8 @@ fn push_each_state(alloc: Global, out: &mut Vec<u8>, state: &State) -> Result<()
 // Adds the array of the nodes.
 #[tactic(auto, using(rh_json_text::proofs::Arrays::array_is_closed))]
 fn push_all_states(alloc: Global, out: &mut Vec<u8>, state: &State) -> Result<(), OutOfMemory>
-    ensures { OnOk result (out.new.items ≡ out.old.items ++ json_array (state_json (read state.now)) (nodes_of (read state.now).cluster)) }
+    ensures { OnOk result (out.new.items ≡ out.old.items
+        ++ json_array (state_json (read state.now)) (nodes_of (read state.now).cluster)) }
 {
     let start = out.len();
     push_each_state(alloc, out, state)?;
@@ -170,8 +177,9 @@ fn push_all_states(alloc: Global, out: &mut Vec<u8>, state: &State) -> Result<()
 // Adds the array of the distributed applications.
 #[tactic(auto, using(rh_json_text::proofs::Arrays::array_is_closed))]
 fn push_all_distributed(out: &mut Vec<u8>, state: &State) -> Result<(), OutOfMemory>
-    ensures { OnOk result (out.new.items ≡ out.old.items
-        ++ json_array (λ a. standing_json (read state.now).cluster a (standing_of (read state.now) a)) (distributed_in (read state.now).cluster)) }
+    ensures { OnOk result
+        (out.new.items ≡ out.old.items ++ json_array (λ a. standing_json (read state.now).cluster a
+        (standing_of (read state.now) a)) (distributed_in (read state.now).cluster)) }
 {
     let start = out.len();
     push_each_distributed(out, state)?;
@@ -181,7 +189,8 @@ fn push_all_distributed(out: &mut Vec<u8>, state: &State) -> Result<(), OutOfMem
 // Adds the array of the timers.
 #[tactic(auto, using(rh_json_text::proofs::Arrays::array_is_closed))]
 fn push_all_timers(alloc: Global, out: &mut Vec<u8>, state: &State) -> Result<(), OutOfMemory>
-    ensures { OnOk result (out.new.items ≡ out.old.items ++ json_array (timer_json (read state.now).cluster) (read state.now).timers) }
+    ensures { OnOk result (out.new.items ≡ out.old.items
+        ++ json_array (timer_json (read state.now).cluster) (read state.now).timers) }
 {
     let timers = state.timers(alloc)?;
     let start = out.len();
@@ -230,7 +239,8 @@ pub fn push_report(
     trail: usize,
     state: &State,
 ) -> Result<(), OutOfMemory>
-    ensures { OnOk result (out.new.items ≡ out.old.items ++ report_json cursor trail (read state.now)) }
+    ensures { OnOk result
+        (out.new.items ≡ out.old.items ++ report_json cursor trail (read state.now)) }
 {
     push_place(alloc, out, state.now(), cursor, trail)?;
     push_parts(alloc, out, state)?;

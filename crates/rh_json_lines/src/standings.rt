@@ -17,7 +17,8 @@ fn push_each_standing(
     cluster: &Cluster,
     standings: &[(App, Standing)],
 ) -> Result<(), OutOfMemory>
-    ensures { OnOk result (out.new.items ≡ out.old.items ++ flat_map (behind_comma (stands_json cluster.now)) standings.now) }
+    ensures { OnOk result (out.new.items
+        ≡ out.old.items ++ flat_map (behind_comma (stands_json cluster.now)) standings.now) }
 {
     for at in standings {
         push_text(out, ",")?;
@@ -33,7 +34,8 @@ pub fn push_standings(
     cluster: &Cluster,
     standings: &[(App, Standing)],
 ) -> Result<(), OutOfMemory>
-    ensures { OnOk result (out.new.items ≡ out.old.items ++ json_array (stands_json cluster.now) standings.now) }
+    ensures { OnOk result
+        (out.new.items ≡ out.old.items ++ json_array (stands_json cluster.now) standings.now) }
 {
     let start = out.len();
     push_each_standing(out, cluster, standings)?;

@@ -16,7 +16,8 @@ use rh_state::Kind;
 // The field of a start kind: its word needs no escape.
 #[tactic(auto, unfolding(rh_json_text::specs::Json::json_string, rh_json_text::specs::Json::escaped))]
 fn kind_field(kind: Kind) -> &'static str
-    ensures { (c : ClusterView) → result.now ≡ codes ",\"start\":" ++ json_string (first_word (kind_words c kind)) }
+    ensures { (c : ClusterView)
+        → result.now ≡ codes ",\"start\":" ++ json_string (first_word (kind_words c kind)) }
 {
     match kind {
         Kind::Normal => ",\"start\":\"normal\"",
@@ -32,7 +33,8 @@ pub fn push_node_at(
     cluster: &Cluster,
     node: Node,
 ) -> Result<(), OutOfMemory>
-    ensures { OnOk result (out.new.items ≡ out.old.items ++ (key.now ++ node_json cluster.now node)) }
+    ensures { OnOk result
+        (out.new.items ≡ out.old.items ++ (key.now ++ node_json cluster.now node)) }
 {
     push_text(out, key)?;
     push_node(out, cluster, node)

@@ -23,7 +23,8 @@ use std::alloc::Global;
 // written: nothing is left to look for.
 #[tactic(auto, unfolding(rh_json_text::specs::Json::json_string, rh_json_text::specs::Json::escaped))]
 fn mode_field(mode: Mode) -> &'static str
-    ensures { result.now ≡ codes ",\"mode\":" ++ json_string (mode_words mode) ++ codes ",\"starts\":" }
+    ensures { result.now
+        ≡ codes ",\"mode\":" ++ json_string (mode_words mode) ++ codes ",\"starts\":" }
 {
     match mode {
         Mode::Down => ",\"mode\":\"down\",\"starts\":",
@@ -49,7 +50,8 @@ fn restart_field(restart: Restart) -> &'static str
 fn push_started(out: &mut Vec<u8>, state: &State, node: Node, app: App) -> Result<(), OutOfMemory>
     requires node { node.0 < node_count (read state.now).cluster }
     requires app { app.0 < app_count (read state.now).cluster }
-    ensures { OnOk result (out.new.items ≡ out.old.items ++ behind_comma (started_json (read state.now) node) app) }
+    ensures { OnOk result
+        (out.new.items ≡ out.old.items ++ behind_comma (started_json (read state.now) node) app) }
 {
     push_text(out, ",{\"application\":")?;
     push_app(out, state.cluster(), app)?;
@@ -61,7 +63,8 @@ fn push_started(out: &mut Vec<u8>, state: &State, node: Node, app: App) -> Resul
 fn push_running(out: &mut Vec<u8>, state: &State, node: Node, app: App) -> Result<(), OutOfMemory>
     requires node { node.0 < node_count (read state.now).cluster }
     requires app { app.0 < app_count (read state.now).cluster }
-    ensures { OnOk result (out.new.items ≡ out.old.items ++ behind_comma (running_json (read state.now) node) app) }
+    ensures { OnOk result
+        (out.new.items ≡ out.old.items ++ behind_comma (running_json (read state.now) node) app) }
 {
     push_started(out, state, node, app)?;
     push_start(out, state.cluster(), state.kind_of(node, app))?;
@@ -73,7 +76,8 @@ fn push_running(out: &mut Vec<u8>, state: &State, node: Node, app: App) -> Resul
 fn push_waiting(out: &mut Vec<u8>, state: &State, node: Node, app: App) -> Result<(), OutOfMemory>
     requires node { node.0 < node_count (read state.now).cluster }
     requires app { app.0 < app_count (read state.now).cluster }
-    ensures { OnOk result (out.new.items ≡ out.old.items ++ behind_comma (waiting_json (read state.now) node) app) }
+    ensures { OnOk result
+        (out.new.items ≡ out.old.items ++ behind_comma (waiting_json (read state.now) node) app) }
 {
     push_started(out, state, node, app)?;
     push_text(out, "}")
@@ -82,7 +86,8 @@ fn push_waiting(out: &mut Vec<u8>, state: &State, node: Node, app: App) -> Resul
 // Adds the applications that run at a node, each behind a comma.
 fn push_each_running(out: &mut Vec<u8>, state: &State, node: Node) -> Result<(), OutOfMemory>
     requires { node.0 < node_count (read state.now).cluster }
-    ensures { OnOk result (out.new.items ≡ out.old.items ++ flat_map (behind_comma (running_json (read state.now) node)) (running_at (read state.now) node)) }
+    ensures { OnOk result (out.new.items ≡ out.old.items ++ flat_map
+        (behind_comma (running_json (read state.now) node)) (running_at (read state.now) node)) }
 {
     state.formed();
     let mut next = state.first_running(node);
@@ -96,7 +101,8 @@ fn push_each_running(out: &mut Vec<u8>, state: &State, node: Node) -> Result<(),
 // Adds the applications that wait at a node, each behind a comma.
 fn push_each_waiting(out: &mut Vec<u8>, state: &State, node: Node) -> Result<(), OutOfMemory>
     requires { node.0 < node_count (read state.now).cluster }
-    ensures { OnOk result (out.new.items ≡ out.old.items ++ flat_map (behind_comma (waiting_json (read state.now) node)) (waiting_at (read state.now) node)) }
+    ensures { OnOk result (out.new.items ≡ out.old.items ++ flat_map
+        (behind_comma (waiting_json (read state.now) node)) (waiting_at (read state.now) node)) }
 {
     state.formed();
     let mut next = state.first_waiting(node);
@@ -116,8 +122,9 @@ fn push_if_forbidden(
 ) -> Result<(), OutOfMemory>
     requires node { node.0 < node_count (read state.now).cluster }
     requires app { app.0 < app_count (read state.now).cluster }
-    ensures { OnOk result (out.new.items ≡ out.old.items
-        ++ (if not (is_allowed (read state.now) node app) then behind_comma (app_json (read state.now).cluster) app else [])) }
+    ensures { OnOk result
+        (out.new.items ≡ out.old.items ++ (if not (is_allowed (read state.now) node app)
+        then behind_comma (app_json (read state.now).cluster) app else [])) }
 {
     if state.allowed(node, app) {
         return Ok(());
@@ -130,8 +137,8 @@ fn push_if_forbidden(
 #[tactic(auto, unfolding(rh_state::specs::Numbers::apps_of))]
 fn push_each_forbidden(out: &mut Vec<u8>, state: &State, node: Node) -> Result<(), OutOfMemory>
     requires { node.0 < node_count (read state.now).cluster }
-    ensures { OnOk result (out.new.items ≡ out.old.items
-        ++ flat_map (behind_comma (app_json (read state.now).cluster)) (forbidden_at (read state.now) node)) }
+    ensures { OnOk result (out.new.items ≡ out.old.items ++ flat_map
+        (behind_comma (app_json (read state.now).cluster)) (forbidden_at (read state.now) node)) }
 {
     if !forbids_any(state, node) {
         return Ok(());
@@ -147,7 +154,8 @@ fn push_each_forbidden(out: &mut Vec<u8>, state: &State, node: Node) -> Result<(
 #[tactic(auto, using(rh_json_text::proofs::Arrays::array_is_closed))]
 fn push_all_running(out: &mut Vec<u8>, state: &State, node: Node) -> Result<(), OutOfMemory>
     requires { node.0 < node_count (read state.now).cluster }
-    ensures { OnOk result (out.new.items ≡ out.old.items ++ json_array (running_json (read state.now) node) (running_at (read state.now) node)) }
+    ensures { OnOk result (out.new.items ≡ out.old.items
+        ++ json_array (running_json (read state.now) node) (running_at (read state.now) node)) }
 {
     let start = out.len();
     push_each_running(out, state, node)?;
@@ -158,7 +166,8 @@ fn push_all_running(out: &mut Vec<u8>, state: &State, node: Node) -> Result<(), 
 #[tactic(auto, using(rh_json_text::proofs::Arrays::array_is_closed))]
 fn push_all_waiting(out: &mut Vec<u8>, state: &State, node: Node) -> Result<(), OutOfMemory>
     requires { node.0 < node_count (read state.now).cluster }
-    ensures { OnOk result (out.new.items ≡ out.old.items ++ json_array (waiting_json (read state.now) node) (waiting_at (read state.now) node)) }
+    ensures { OnOk result (out.new.items ≡ out.old.items
+        ++ json_array (waiting_json (read state.now) node) (waiting_at (read state.now) node)) }
 {
     let start = out.len();
     push_each_waiting(out, state, node)?;
@@ -169,7 +178,8 @@ fn push_all_waiting(out: &mut Vec<u8>, state: &State, node: Node) -> Result<(), 
 #[tactic(auto, using(rh_json_text::proofs::Arrays::array_is_closed))]
 fn push_all_forbidden(out: &mut Vec<u8>, state: &State, node: Node) -> Result<(), OutOfMemory>
     requires { node.0 < node_count (read state.now).cluster }
-    ensures { OnOk result (out.new.items ≡ out.old.items ++ json_array (app_json (read state.now).cluster) (forbidden_at (read state.now) node)) }
+    ensures { OnOk result (out.new.items ≡ out.old.items
+        ++ json_array (app_json (read state.now).cluster) (forbidden_at (read state.now) node)) }
 {
     let start = out.len();
     push_each_forbidden(out, state, node)?;

@@ -98,7 +98,8 @@ pub fn push_string(out: &mut Vec<u8>, text: &[u8]) -> Result<(), OutOfMemory>
 #[tactic(auto, using(crate::proofs::Arrays::bracket_for_comma, crate::proofs::Arrays::bracket_behind))]
 fn open_array(out: &mut Vec<u8>, start: usize) -> Result<(), OutOfMemory>
     requires { start ≤ length out.old.items }
-    ensures { OnOk result (out.new.items ≡ take start out.old.items ++ (codes "[" ++ drop 1 (drop start out.old.items))) }
+    ensures { OnOk result (out.new.items
+        ≡ take start out.old.items ++ (codes "[" ++ drop 1 (drop start out.old.items))) }
 {
     if start < out.len() {
         out[start] = b'[';
@@ -111,7 +112,8 @@ fn open_array(out: &mut Vec<u8>, start: usize) -> Result<(), OutOfMemory>
 /// refused, they may stand there still.
 pub fn close_array(out: &mut Vec<u8>, start: usize) -> Result<(), OutOfMemory>
     requires { start ≤ length out.old.items }
-    ensures { OnOk result (out.new.items ≡ take start out.old.items ++ bracketed (drop start out.old.items)) }
+    ensures { OnOk result
+        (out.new.items ≡ take start out.old.items ++ bracketed (drop start out.old.items)) }
 {
     open_array(out, start)?;
     push_text(out, "]")

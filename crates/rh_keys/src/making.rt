@@ -52,7 +52,8 @@ impl KeyMaker {
 // Writes all that isn't a timer, in place of what was there. There is room for the longest such parts before they are written, so that
 // their bytes are written without a question each whether they have any; timers are added behind them.
 fn write_parts(key: &mut Vec<u8>, state: &State) -> Result<(), OutOfMemory>
-    ensures { OnOk result (key.new.items ≡ code (flat_map (packed_node (read state.now)) (nodes_of (read state.now).cluster))
+    ensures { OnOk result (key.new.items
+        ≡ code (flat_map (packed_node (read state.now)) (nodes_of (read state.now).cluster))
         ++ code (flat_map (app_numbers (read state.now)) (apps_of (read state.now).cluster))) }
 {
     key.resize(room_of(state.cluster()), 0)?;
@@ -74,10 +75,13 @@ fn room_of(cluster: &Cluster) -> usize
 // Writes what is said of each node, and says where that ends.
 #[tactic(auto, unfolding(rh_state::specs::Numbers::nodes_of))]
 fn put_nodes(cells: &mut [u8], state: &State) -> usize
-    requires { node_count (read state.now).cluster * node_room (read state.now).cluster ≤ length cells.old }
+    requires { node_count (read state.now).cluster * node_room (read state.now).cluster
+        ≤ length cells.old }
     ensures length { length cells.new ≡ length cells.old }
-    ensures end { result ≤ node_count (read state.now).cluster * node_room (read state.now).cluster }
-    ensures bytes { take result cells.new ≡ code (flat_map (packed_node (read state.now)) (nodes_of (read state.now).cluster)) }
+    ensures end { result
+        ≤ node_count (read state.now).cluster * node_room (read state.now).cluster }
+    ensures bytes { take result cells.new
+        ≡ code (flat_map (packed_node (read state.now)) (nodes_of (read state.now).cluster)) }
 {
     let count = state.cluster().node_count();
     let mut end = 0;
@@ -93,7 +97,8 @@ fn put_apps(cells: &mut [u8], at: usize, state: &State) -> usize
     requires { at + 2 * app_count (read state.now).cluster ≤ length cells.old }
     ensures length { length cells.new ≡ length cells.old }
     ensures end { result ≡ at + 2 * app_count (read state.now).cluster }
-    ensures bytes { take result cells.new ≡ take at cells.old ++ code (flat_map (app_numbers (read state.now)) (apps_of (read state.now).cluster)) }
+    ensures bytes { take result cells.new ≡ take at cells.old
+        ++ code (flat_map (app_numbers (read state.now)) (apps_of (read state.now).cluster)) }
 {
     let count = state.cluster().app_count();
     for number in 0..count {
@@ -110,7 +115,8 @@ fn push_timers(
     taken: &mut Vec<Edit>,
 ) -> Result<(), OutOfMemory>
     requires { IsValid (read state.old) }
-    ensures key { OnOk result (key.new.items ≡ key.old.items ++ code (flat_map (timer_numbers (read state.old).time) (read state.old).timers)) }
+    ensures key { OnOk result (key.new.items ≡ key.old.items
+        ++ code (flat_map (timer_numbers (read state.old).time) (read state.old).timers)) }
     ensures state { OnOk result (state.new ≡ state.old) }
 {
     taken.clear();

@@ -22,7 +22,8 @@ pub(crate) fn put_node(cells: &mut [u8], at: usize, state: &State, node: Node) -
     requires room { at + node_room (read state.now).cluster ≤ length cells.old }
     ensures length { length cells.new ≡ length cells.old }
     ensures end { result ≤ at + node_room (read state.now).cluster }
-    ensures bytes { take result cells.new ≡ take at cells.old ++ code (packed_node (read state.now) node) }
+    ensures bytes { take result cells.new
+        ≡ take at cells.old ++ code (packed_node (read state.now) node) }
 {
     state.formed();
     cells[at] = mode_byte(state.mode(node));
@@ -39,7 +40,8 @@ fn put_running(cells: &mut [u8], at: usize, state: &State, node: Node) -> usize
     requires room { at + length (running_at (read state.now) node) ≤ length cells.old }
     ensures length { length cells.new ≡ length cells.old }
     ensures end { result ≡ at + length (running_at (read state.now) node) }
-    ensures bytes { take result cells.new ≡ take at cells.old ++ code (flat_map app_number (running_at (read state.now) node)) }
+    ensures bytes { take result cells.new
+        ≡ take at cells.old ++ code (flat_map app_number (running_at (read state.now) node)) }
 {
     state.formed();
     let _apps = state.cluster().app_count();
@@ -60,7 +62,8 @@ fn put_waiting(cells: &mut [u8], at: usize, state: &State, node: Node) -> usize
     requires room { at + length (waiting_at (read state.now) node) ≤ length cells.old }
     ensures length { length cells.new ≡ length cells.old }
     ensures end { result ≡ at + length (waiting_at (read state.now) node) }
-    ensures bytes { take result cells.new ≡ take at cells.old ++ code (flat_map app_number (waiting_at (read state.now) node)) }
+    ensures bytes { take result cells.new
+        ≡ take at cells.old ++ code (flat_map app_number (waiting_at (read state.now) node)) }
 {
     state.formed();
     let _apps = state.cluster().app_count();
@@ -82,7 +85,8 @@ fn put_each_pair(cells: &mut [u8], at: usize, state: &State, node: Node) -> usiz
     requires room { at + app_count (read state.now).cluster ≤ length cells.old }
     ensures length { length cells.new ≡ length cells.old }
     ensures end { result ≡ at + app_count (read state.now).cluster }
-    ensures bytes { take result cells.new ≡ take at cells.old ++ code (flat_map (packed_pair (read state.now) node) (apps_of (read state.now).cluster)) }
+    ensures bytes { take result cells.new ≡ take at cells.old
+        ++ code (flat_map (packed_pair (read state.now) node) (apps_of (read state.now).cluster)) }
 {
     let count = state.cluster().app_count();
     for number in 0..count {
@@ -99,7 +103,8 @@ fn put_row(cells: &mut [u8], at: usize, state: &State, node: Node) -> usize
     requires room { at + app_count (read state.now).cluster ≤ length cells.old }
     ensures length { length cells.new ≡ length cells.old }
     ensures end { result ≡ at + app_count (read state.now).cluster }
-    ensures bytes { take result cells.new ≡ take at cells.old ++ code (flat_map (packed_pair (read state.now) node) (apps_of (read state.now).cluster)) }
+    ensures bytes { take result cells.new ≡ take at cells.old
+        ++ code (flat_map (packed_pair (read state.now) node) (apps_of (read state.now).cluster)) }
 {
     let count = state.cluster().app_count();
     // They are gathered in a row of its own, which has room for all applications that a cluster may have.
@@ -124,7 +129,8 @@ fn put_pairs(cells: &mut [u8], at: usize, state: &State, node: Node) -> usize
     requires room { at + app_count (read state.now).cluster ≤ length cells.old }
     ensures length { length cells.new ≡ length cells.old }
     ensures end { result ≡ at + app_count (read state.now).cluster }
-    ensures bytes { take result cells.new ≡ take at cells.old ++ code (flat_map (packed_pair (read state.now) node) (apps_of (read state.now).cluster)) }
+    ensures bytes { take result cells.new ≡ take at cells.old
+        ++ code (flat_map (packed_pair (read state.now) node) (apps_of (read state.now).cluster)) }
 {
     if state.cluster().app_count() <= FEW {
         put_each_pair(cells, at, state, node)
@@ -139,7 +145,8 @@ pub(crate) fn put_standing(cells: &mut [u8], at: usize, state: &State, app: App)
     requires app { app.0 < app_count (read state.now).cluster }
     requires room { at + 2 ≤ length cells.old }
     ensures length { length cells.new ≡ length cells.old }
-    ensures bytes { take (at + 2) cells.new ≡ take at cells.old ++ code (app_numbers (read state.now) app) }
+    ensures bytes { take (at + 2) cells.new
+        ≡ take at cells.old ++ code (app_numbers (read state.now) app) }
 {
     let _nodes = state.cluster().node_count();
     let (tag, node) = standing_bytes(state.standing(app));

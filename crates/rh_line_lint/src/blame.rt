@@ -14,7 +14,8 @@ use std::alloc::Global;
 /// Adds a near name, if there is one.
 #[tactic(auto, unfolding(crate::specs::Lines::near_words))]
 pub fn push_near(text: &mut String, near: Option<&str>) -> Result<(), OutOfMemory>
-    ensures { OnOk result (string_bytes text.new ≡ string_bytes text.old ++ near_words (option_map (λ name. name.now) near.entry)) }
+    ensures { OnOk result (string_bytes text.new
+        ≡ string_bytes text.old ++ near_words (option_map (λ name. name.now) near.entry)) }
 {
     if let Some(name) = near {
         write!(text, "; {name} is near")?;
@@ -42,7 +43,8 @@ fn push_mistaken(
     argument: Argument,
     word: &str,
 ) -> Result<(), OutOfMemory>
-    ensures { OnOk result (string_bytes text.new ≡ string_bytes text.old ++ mistaken_words argument word.now) }
+    ensures { OnOk result
+        (string_bytes text.new ≡ string_bytes text.old ++ mistaken_words argument word.now) }
 {
     let near = nearest(alloc, word, choices(argument))?;
     let mismatched = mismatch(argument, word);
@@ -66,7 +68,8 @@ fn comment_words(word: &str) -> &'static str
 // Adds a word too many.
 #[tactic(auto, unfolding(crate::specs::Lines::surplus_words))]
 fn push_surplus(text: &mut String, word: &str) -> Result<(), OutOfMemory>
-    ensures { OnOk result (string_bytes text.new ≡ string_bytes text.old ++ surplus_words word.now) }
+    ensures { OnOk result
+        (string_bytes text.new ≡ string_bytes text.old ++ surplus_words word.now) }
 {
     write!(text, "; {word} is a word too many")?;
     text.push_str(comment_words(word))?;

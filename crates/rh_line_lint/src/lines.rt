@@ -21,7 +21,8 @@ fn push_of_line(
     number: u64,
     line: &[u8],
 ) -> Result<(), OutOfMemory>
-    ensures { OnOk result (found.new.items ≡ found.old.items ++ of_line cluster.now number line.now) }
+    ensures { OnOk result
+        (found.new.items ≡ found.old.items ++ of_line cluster.now number line.now) }
 {
     match line_of(alloc, cluster, line)? {
         Line::Nothing => Ok(()),
@@ -44,7 +45,8 @@ pub fn line_findings(
     script: &[u8],
 ) -> Result<Vec<Finding>, OutOfMemory>
     requires numbers { first + length script.now ≤ 2 ^ 64 }
-    ensures { IfOk result (λ found. found.items ≡ of_lines cluster.now first (map content (raw_lines script.now))) }
+    ensures { IfOk result
+        (λ found. found.items ≡ of_lines cluster.now first (map content (raw_lines script.now))) }
 {
     let mut found = Vec::new(alloc);
     let mut rest = script;

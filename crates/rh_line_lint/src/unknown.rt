@@ -50,7 +50,8 @@ fn push_unknown_node(
     number: u64,
     name: Option<&str>,
 ) -> Result<(), OutOfMemory>
-    ensures { OnOk result (found.new.items ≡ found.old.items ++ unknown_node cluster.now number (option_map (λ name. name.now) name.entry)) }
+    ensures { OnOk result (found.new.items ≡ found.old.items
+        ++ unknown_node cluster.now number (option_map (λ name. name.now) name.entry)) }
 {
     let Some(name) = name else {
         return Ok(());
@@ -71,7 +72,8 @@ fn push_unknown_app(
     number: u64,
     name: Option<&str>,
 ) -> Result<(), OutOfMemory>
-    ensures { OnOk result (found.new.items ≡ found.old.items ++ unknown_app cluster.now number (option_map (λ name. name.now) name.entry)) }
+    ensures { OnOk result (found.new.items ≡ found.old.items
+        ++ unknown_app cluster.now number (option_map (λ name. name.now) name.entry)) }
 {
     let Some(name) = name else {
         return Ok(());
@@ -85,7 +87,8 @@ fn push_unknown_app(
 
 // The word at a place, if there is a place, and a word there.
 fn word_at<'a>(words: &[&'a str], place: Option<usize>) -> Option<&'a str>
-    ensures { option_map (λ word. word.now) result ≡ word_at (map (λ word. word.now) words.now) place }
+    ensures { option_map (λ word. word.now) result
+        ≡ word_at (map (λ word. word.now) words.now) place }
 {
     words.get(place?).copied()
 }
@@ -118,7 +121,8 @@ fn push_of_command(
     arguments: &[Argument],
     words: &[&str],
 ) -> Result<(), OutOfMemory>
-    ensures { OnOk result (found.new.items ≡ found.old.items ++ of_command cluster.now number arguments.now (map (λ word. word.now) words.now)) }
+    ensures { OnOk result (found.new.items ≡ found.old.items
+        ++ of_command cluster.now number arguments.now (map (λ word. word.now) words.now)) }
 {
     let node = word_at(words, node_place(arguments));
     let app = word_at(words, app_place(arguments));
@@ -135,7 +139,8 @@ fn push_of_words(
     number: u64,
     words: &[&str],
 ) -> Result<(), OutOfMemory>
-    ensures { OnOk result (found.new.items ≡ found.old.items ++ of_words cluster.now number (map (λ word. word.now) words.now)) }
+    ensures { OnOk result (found.new.items
+        ≡ found.old.items ++ of_words cluster.now number (map (λ word. word.now) words.now)) }
 {
     match words {
         [] => Ok(()),
@@ -157,7 +162,8 @@ pub fn push_unknown_names(
     number: u64,
     line: &[u8],
 ) -> Result<(), OutOfMemory>
-    ensures { OnOk result (found.new.items ≡ found.old.items ++ unknown_names cluster.now number line.now) }
+    ensures { OnOk result
+        (found.new.items ≡ found.old.items ++ unknown_names cluster.now number line.now) }
 {
     let Some(text) = text_of(line) else {
         return Ok(());

@@ -9,7 +9,8 @@ use std::alloc::{AllocError, Global};
 
 // The parts round each space.
 fn parts_of(alloc: Global, line: &str) -> Result<Vec<&str>, AllocError>
-    ensures { IfOk result (λ parts. map (λ part. part.now) parts.items ≡ slice_split (λ b. b == 32) line.now) }
+    ensures { IfOk result
+        (λ parts. map (λ part. part.now) parts.items ≡ slice_split (λ b. b == 32) line.now) }
 {
     line.split(' ').collect(alloc)
 }

@@ -60,7 +60,8 @@ fn of_steps(
     all: bool,
 ) -> Result<Vec<Finding>, OutOfMemory>
     requires numbers { first + length script.now ≤ 2 ^ 64 }
-    ensures { IfOk result (λ found. found.items ≡ of_script_steps all (opened cluster pick) first (map content (raw_lines script.now))) }
+    ensures { IfOk result (λ found. found.items
+        ≡ of_script_steps all (opened cluster pick) first (map content (raw_lines script.now))) }
 {
     let mut sim = Sim::open(alloc, cluster, pick)?;
     step_lines(alloc, &mut sim, all, first, script)
@@ -78,7 +79,8 @@ fn of_script(
 ) -> Result<Vec<Finding>, OutOfMemory>
     requires text { length text.now + 1 < 2 ^ 32 }
     requires numbers { first + length script.now ≤ 2 ^ 64 }
-    ensures { IfOk result (λ found. found.items ≡ of_script text.now cluster pick all first (map content (raw_lines script.now))) }
+    ensures { IfOk result (λ found. found.items
+        ≡ of_script text.now cluster pick all first (map content (raw_lines script.now))) }
 {
     let mut found = text_findings(alloc, text, Some(&cluster))?;
     let mut lines = line_findings(alloc, &cluster, first, script)?;

@@ -30,7 +30,8 @@ pub fn run_dialogue<D: Source + Sink>(
     voice: Voice,
 ) -> Result<(), RunFault>
     requires { device.old.failed ≡ false }
-    ensures { DialogueGives D.Source.gives D.Source.fails D.Sink.takes D.Sink.flushes D.Sink.fails voice result device.old device.new }
+    ensures { DialogueGives D.Source.gives D.Source.fails D.Sink.takes D.Sink.flushes D.Sink.fails
+        voice result device.old device.new }
 {
     let told = talk(alloc, device, voice)?;
     ended(told)
@@ -43,7 +44,8 @@ fn talk<D: Source + Sink>(
     voice: Voice,
 ) -> Result<Option<Told>, DialogueFault>
     requires { device.old.failed ≡ false }
-    ensures { TalkGives D.Source.gives D.Source.fails D.Sink.takes D.Sink.flushes D.Sink.fails voice result device.old device.new }
+    ensures { TalkGives D.Source.gives D.Source.fails D.Sink.takes D.Sink.flushes D.Sink.fails voice
+        result device.old device.new }
 {
     let mut ear = Ear::new(alloc);
     let mut stage = Stage::Cluster(Vec::new(alloc));

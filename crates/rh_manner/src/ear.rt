@@ -49,7 +49,8 @@ impl Ear {
         requires device { device.old.failed ≡ false }
         requires count { self.old.count ≤ input_limit }
         requires rest { has_end self.old.rest.items ≡ false }
-        ensures { Hears D.Source.gives D.Source.fails D.Sink.flushes D.Sink.fails result device.old device.new self.old self.new }
+        ensures { Hears D.Source.gives D.Source.fails D.Sink.flushes D.Sink.fails result device.old
+            device.new self.old self.new }
     {
         if device.flush().is_err() {
             return Err(DialogueFault::Unsaid);
@@ -72,7 +73,8 @@ impl Ear {
     // The lines that these bytes make whole. What stands behind them is kept.
     fn whole_lines(&mut self, alloc: Global, bytes: &[u8]) -> Result<Vec<u8>, AllocError>
         requires rest { has_end self.old.rest.items ≡ false }
-        ensures all { IfOk result (λ lines. self.old.rest.items ++ bytes.now ≡ lines.items ++ self.new.rest.items) }
+        ensures all { IfOk result
+            (λ lines. self.old.rest.items ++ bytes.now ≡ lines.items ++ self.new.rest.items) }
         ensures whole { IfOk result (λ lines. AreWhole lines.items) }
         ensures rest { IfOk result (λ lines. has_end self.new.rest.items ≡ false) }
         ensures count { self.new.count ≡ self.old.count }

@@ -40,7 +40,8 @@ pub fn run_in<S: Source, K: Sink>(
 ) -> Result<(), RunFault>
     requires reader { reader.old.failed ≡ false }
     requires writer { writer.old.failed ≡ false }
-    ensures { ProgramGives S.gives S.fails K.takes K.fails (OwesRunIn manner pick) NoThreads result reader.old reader.new writer.old writer.new }
+    ensures { ProgramGives S.gives S.fails K.takes K.fails
+        (OwesRunIn manner pick) NoThreads result reader.old reader.new writer.old writer.new }
 {
     let input = read_input(alloc, reader)?;
     let told = answer_input(alloc, input.as_slice(), writer, pick, manner)?;
@@ -57,7 +58,8 @@ fn answer_input<K: Sink>(
     manner: Manner,
 ) -> Result<Option<Told>, WriteFault>
     requires { writer.old.failed ≡ false }
-    ensures { Wrote K.takes K.fails result (manner_text manner input.now pick) (manner_end manner input.now pick) writer.old writer.new }
+    ensures { Wrote K.takes K.fails result (manner_text manner input.now pick)
+        (manner_end manner input.now pick) writer.old writer.new }
 {
     let (text, script) = cut(input);
     match read_cluster(alloc, text) {
@@ -82,9 +84,9 @@ fn answer_script<K: Sink>(
     manner: Manner,
 ) -> Result<Option<Told>, WriteFault>
     requires { writer.old.failed ≡ false }
-    ensures { Wrote K.takes K.fails result
-        (said_text manner cluster (opened cluster pick) 1 (said_by cluster (map content (raw_lines script.now))))
-        (said_end manner (opened cluster pick) (said_by cluster (map content (raw_lines script.now)))) writer.old writer.new }
+    ensures { Wrote K.takes K.fails result (said_text manner cluster (opened cluster pick) 1
+        (said_by cluster (map content (raw_lines script.now)))) (said_end manner (opened cluster
+        pick) (said_by cluster (map content (raw_lines script.now)))) writer.old writer.new }
 {
     let mut sim = Sim::open(alloc, cluster, pick)?;
     answer_lines(alloc, &mut sim, script, writer, manner)
@@ -108,9 +110,10 @@ fn answer_lines<K: Sink>(
     manner: Manner,
 ) -> Result<Option<Told>, WriteFault>
     requires { writer.old.failed ≡ false }
-    ensures { Wrote K.takes K.fails result
-        (said_text manner sim.old.seen.cluster sim.old.seen 1 (said_by sim.old.seen.cluster (map content (raw_lines script.now))))
-        (said_end manner sim.old.seen (said_by sim.old.seen.cluster (map content (raw_lines script.now)))) writer.old writer.new }
+    ensures { Wrote K.takes K.fails result (said_text manner sim.old.seen.cluster sim.old.seen 1
+        (said_by sim.old.seen.cluster (map content (raw_lines script.now))))
+        (said_end manner sim.old.seen
+        (said_by sim.old.seen.cluster (map content (raw_lines script.now)))) writer.old writer.new }
 {
     let mut rest = script;
     let mut number: u64 = 1;
@@ -151,7 +154,8 @@ fn answer_line<K: Sink>(
     manner: Manner,
 ) -> Result<Turn, WriteFault>
     requires { writer.old.failed ≡ false }
-    ensures text { (lines : List Said) → Turns K.takes K.fails result manner sim.old.seen.cluster sim.old.seen sim.new.seen number
+    ensures text { (lines : List Said)
+        → Turns K.takes K.fails result manner sim.old.seen.cluster sim.old.seen sim.new.seen number
         (line.now, line_of sim.old.seen.cluster line.now) lines writer.old writer.new }
     ensures cluster { OnOk result (sim.new.seen.cluster ≡ sim.old.seen.cluster) }
 {
@@ -177,7 +181,8 @@ fn answer_bad_line<K: Sink>(
     manner: Manner,
 ) -> Result<(), WriteFault>
     requires { writer.old.failed ≡ false }
-    ensures { Broke K.takes K.fails result (echo_of manner line.now ++ bad_text number) writer.old writer.new }
+    ensures { Broke K.takes K.fails result
+        (echo_of manner line.now ++ bad_text number) writer.old writer.new }
 {
     write_echo(alloc, line, writer, manner)?;
     answer_bad(alloc, number, writer)
@@ -196,9 +201,10 @@ fn answer_command<K: Sink>(
     requires { writer.old.failed ≡ false }
     ensures sim { OnOk result (sim.new.seen ≡ (served sim.old.seen call).sim) }
     ensures cluster { OnOk result (sim.new.seen.cluster ≡ sim.old.seen.cluster) }
-    ensures refused { IfOk result (λ refused. refused ≡ is_refused_step (served sim.old.seen call).reply) }
-    ensures text { WroteCall K.takes K.fails result
-        (echo_of manner command.now ++ answer_text sim.old.seen.cluster (served sim.old.seen call).reply) writer.old writer.new }
+    ensures refused { IfOk result
+        (λ refused. refused ≡ is_refused_step (served sim.old.seen call).reply) }
+    ensures text { WroteCall K.takes K.fails result (echo_of manner command.now ++ answer_text
+        sim.old.seen.cluster (served sim.old.seen call).reply) writer.old writer.new }
 {
     write_echo(alloc, command, writer, manner)?;
     answer_call(alloc, sim, call, writer)
@@ -215,8 +221,10 @@ fn answer_call<K: Sink>(
     requires { writer.old.failed ≡ false }
     ensures sim { OnOk result (sim.new.seen ≡ (served sim.old.seen call).sim) }
     ensures cluster { OnOk result (sim.new.seen.cluster ≡ sim.old.seen.cluster) }
-    ensures refused { IfOk result (λ refused. refused ≡ is_refused_step (served sim.old.seen call).reply) }
-    ensures text { WroteCall K.takes K.fails result (answer_text sim.old.seen.cluster (served sim.old.seen call).reply) writer.old writer.new }
+    ensures refused { IfOk result
+        (λ refused. refused ≡ is_refused_step (served sim.old.seen call).reply) }
+    ensures text { WroteCall K.takes K.fails result
+        (answer_text sim.old.seen.cluster (served sim.old.seen call).reply) writer.old writer.new }
 {
     let reply = sim.answer(alloc, call)?.into_one();
     write_answer(alloc, sim.cluster(), &reply, writer)?;
@@ -238,7 +246,8 @@ fn write_answer<K: Sink>(
     writer: &mut Watched<K>,
 ) -> Result<(), WriteFault>
     requires { writer.old.failed ≡ false }
-    ensures { Broke K.takes K.fails result (answer_text cluster.now reply.now) writer.old writer.new }
+    ensures { Broke K.takes K.fails result
+        (answer_text cluster.now reply.now) writer.old writer.new }
 {
     let text = answer_text(alloc, cluster, reply)?;
     write_text(writer, text.as_slice())

@@ -44,7 +44,8 @@ pub fn take<K: Sink>(
 ) -> Result<Turn, WriteFault>
     requires writer { writer.old.failed ≡ false }
     requires room { next_number stage + length (raw_lines lines.now) < 2 ^ 64 }
-    ensures lines { Takes K.takes K.fails voice result stage (raw_lines lines.now) writer.old writer.new }
+    ensures lines { Takes K.takes K.fails voice result stage
+        (raw_lines lines.now) writer.old writer.new }
     ensures number { NumbersWithin result (next_number stage + length (raw_lines lines.now)) }
 {
     match stage {
@@ -63,7 +64,8 @@ pub fn finish<K: Sink>(
 ) -> Result<Option<Told>, WriteFault>
     requires writer { writer.old.failed ≡ false }
     requires room { next_number stage + length (raw_lines rest.now) < 2 ^ 64 }
-    ensures { Wrote K.takes K.fails result (text_from voice stage (raw_lines rest.now)) (end_from stage (raw_lines rest.now)) writer.old writer.new }
+    ensures { Wrote K.takes K.fails result (text_from voice stage (raw_lines rest.now))
+        (end_from stage (raw_lines rest.now)) writer.old writer.new }
 {
     let turn = take(alloc, stage, rest, writer, voice)?;
     match turn {
@@ -80,7 +82,8 @@ fn close<K: Sink>(
     voice: Voice,
 ) -> Result<Option<Told>, WriteFault>
     requires { writer.old.failed ≡ false }
-    ensures { Wrote K.takes K.fails result (text_from voice stage []) (end_from stage []) writer.old writer.new }
+    ensures { Wrote K.takes K.fails result (text_from voice stage [])
+        (end_from stage []) writer.old writer.new }
 {
     match stage {
         Stage::Script(_, _) => Ok(None),
@@ -101,7 +104,8 @@ fn take_cluster<K: Sink>(
 ) -> Result<Turn, WriteFault>
     requires writer { writer.old.failed ≡ false }
     requires room { 1 + length (raw_lines lines.now) < 2 ^ 64 }
-    ensures lines { Takes K.takes K.fails voice result (stage.Cluster before) (raw_lines lines.now) writer.old writer.new }
+    ensures lines { Takes K.takes K.fails voice result (stage.Cluster before)
+        (raw_lines lines.now) writer.old writer.new }
     ensures number { NumbersWithin result (1 + length (raw_lines lines.now)) }
 {
     let (front, script) = cut(lines);
@@ -171,7 +175,8 @@ fn take_script<K: Sink>(
 ) -> Result<Turn, WriteFault>
     requires writer { writer.old.failed ≡ false }
     requires room { first + length (raw_lines lines.now) < 2 ^ 64 }
-    ensures lines { Takes K.takes K.fails voice result (stage.Script start first) (raw_lines lines.now) writer.old writer.new }
+    ensures lines { Takes K.takes K.fails voice result (stage.Script start first)
+        (raw_lines lines.now) writer.old writer.new }
     ensures number { NumbersWithin result (first + length (raw_lines lines.now)) }
 {
     let mut sim = start;
@@ -198,9 +203,12 @@ fn answer_line<K: Sink>(
     form: Form,
 ) -> Result<bool, WriteFault>
     requires { writer.old.failed ≡ false }
-    ensures text { WroteLine K.takes K.fails result (line_said form sim.old.seen.cluster sim.old.seen number line.now (line_of sim.old.seen.cluster line.now)) writer.old writer.new }
+    ensures text { WroteLine K.takes K.fails result
+        (line_said form sim.old.seen.cluster sim.old.seen number line.now
+        (line_of sim.old.seen.cluster line.now)) writer.old writer.new }
     ensures bad { IfOk result (λ bad. bad ≡ is_bad (line_of sim.old.seen.cluster line.now)) }
-    ensures sim { OnOk result (sim.new.seen ≡ line_made sim.old.seen (line_of sim.old.seen.cluster line.now)) }
+    ensures sim { OnOk result
+        (sim.new.seen ≡ line_made sim.old.seen (line_of sim.old.seen.cluster line.now)) }
     ensures cluster { OnOk result (sim.new.seen.cluster ≡ sim.old.seen.cluster) }
 {
     match line_of(alloc, sim.cluster(), line)? {

@@ -74,7 +74,8 @@ impl Form {
         requires { writer.old.failed ≡ false }
         ensures sim { OnOk result (sim.new.seen ≡ (served sim.old.seen call).sim) }
         ensures cluster { OnOk result (sim.new.seen.cluster ≡ sim.old.seen.cluster) }
-        ensures text { Broke K.takes K.fails result (answer_in self sim.old.seen.cluster sim.old.seen number line.now call) writer.old writer.new }
+        ensures text { Broke K.takes K.fails result (answer_in self sim.old.seen.cluster
+            sim.old.seen number line.now call) writer.old writer.new }
     {
         match self {
             Form::Plain => rh_run::answer_call(alloc, sim, call, writer),

@@ -43,7 +43,8 @@ impl AppMarks {
     /// The marks of the first 64 applications, and those of the others.
     pub fn of_halves(low: u64, high: u64) -> AppMarks
         ensures low { (a : App) → a.0 < 64 → is_marked result a ≡ is_marked (marks_of low) a }
-        ensures high { (a b : App) → a.0 ≡ b.0 + 64 → is_marked result a ≡ is_marked (marks_of high) b }
+        ensures high { (a b : App) → a.0 ≡ b.0 + 64
+            → is_marked result a ≡ is_marked (marks_of high) b }
     {
         AppMarks {
             marks: (u128::from(high) << 64) + u128::from(low),
@@ -102,7 +103,8 @@ impl AppMarks {
         ensures first { IfSome result (λ a. (b : App) → b.0 < a.0 → is_marked self.old b ≡ false) }
         ensures few { IfSome result (λ a. a.0 < MAX_APPS) }
         ensures below { IfSome result (λ a. a.0 < count) }
-        ensures taken { IfSome result (λ a. (b : App) → is_marked self.new b ≡ (is_marked self.old b && not (b.0 == a.0))) }
+        ensures taken { IfSome result
+            (λ a. (b : App) → is_marked self.new b ≡ (is_marked self.old b && not (b.0 == a.0))) }
         ensures fewer { IfSome result (λ a. self.new.marks < self.old.marks) }
         ensures none { IsNone result → (b : App) → b.0 < count → is_marked self.old b ≡ false }
         ensures kept { IsNone result → self.new ≡ self.old }
@@ -123,7 +125,8 @@ impl AppMarks {
 /// Marks of 64 applications, where each mark of these moves to the next one, and the first is marked or isn't.
 pub fn with_mark_in_front(marks: u64, mark: bool) -> u64
     ensures first { (a : App) → a.0 ≡ 0 → is_marked (marks_of result) a ≡ mark }
-    ensures others { (a b : App) → b.0 ≡ a.0 + 1 → b.0 < 64 → is_marked (marks_of result) b ≡ is_marked (marks_of marks) a }
+    ensures others { (a b : App) → b.0 ≡ a.0 + 1 → b.0 < 64
+        → is_marked (marks_of result) b ≡ is_marked (marks_of marks) a }
 {
     (marks << 1) + u64::from(mark)
 }

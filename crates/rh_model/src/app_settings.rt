@@ -78,7 +78,8 @@ impl AppSettings {
 
     /// The module of its key `mod`, and the argument.
     pub fn start_arg(&self) -> Option<(&str, &Term)>
-        ensures { option_map (λ s. (s.0.now, symbols_of (tree_of s.1.now))) result ≡ self.now.start_arg }
+        ensures { option_map (λ s. (s.0.now, symbols_of (tree_of s.1.now))) result
+            ≡ self.now.start_arg }
     {
         let start = self.start.as_ref()?;
         Some((start.module.as_str(), &start.argument))
@@ -170,9 +171,9 @@ fn same_argument(this: &Term, that: &Term) -> bool
 
 // Are both absent, or are the modules and the start arguments equal?
 fn same_start(this: Option<(&str, &Term)>, that: Option<(&str, &Term)>) -> bool
-    ensures { IsTrue result ↔ (
-        option_map {U = List ℕ × List TermSymbol} (λ s. (s.0.now, symbols_of (tree_of s.1.now))) this.entry ≡
-        option_map {U = List ℕ × List TermSymbol} (λ s. (s.0.now, symbols_of (tree_of s.1.now))) that.entry) }
+    ensures { IsTrue result ↔ (option_map {U = List ℕ × List TermSymbol}
+        (λ s. (s.0.now, symbols_of (tree_of s.1.now))) this.entry ≡ option_map {U = List ℕ
+        × List TermSymbol} (λ s. (s.0.now, symbols_of (tree_of s.1.now))) that.entry) }
 {
     match (this, that) {
         (Some((module, argument)), Some((other_module, other_argument))) => {
@@ -185,7 +186,8 @@ fn same_start(this: Option<(&str, &Term)>, that: Option<(&str, &Term)>) -> bool
 
 // Are both absent, or are the timeouts and the groups equal?
 fn same_spread(this: Option<&Spread>, that: Option<&Spread>) -> bool
-    ensures { IsTrue result ↔ (option_map (λ s. s.now) this.entry ≡ option_map (λ s. s.now) that.entry) }
+    ensures { IsTrue result
+        ↔ (option_map (λ s. s.now) this.entry ≡ option_map (λ s. s.now) that.entry) }
 {
     match (this, that) {
         (Some(this), Some(that)) => {

@@ -48,8 +48,12 @@ impl Model for Cluster {
       apps = c.apps.items;
     } };
 
-    ghost invariant = { λ c.
-        (length c.nodes.items ≡ length c.names.nodes) × (length c.apps.items ≡ length c.names.apps) × (c.needs.items ≡ needs_in c.nodes.items c.apps.items) × MarksLocals c.apps.items c.locals × MarksTouched c.apps.items c.touched × IsWithin (record {
+    ghost invariant = { λ c. (length c.nodes.items ≡ length c.names.nodes)
+        × (length c.apps.items ≡ length c.names.apps)
+        × (c.needs.items ≡ needs_in c.nodes.items c.apps.items)
+        × MarksLocals c.apps.items c.locals
+        × MarksTouched c.apps.items c.touched
+        × IsWithin (record {
           profile = c.profile;
           node_names = c.names.nodes;
           app_names = c.names.apps;
@@ -246,7 +250,8 @@ impl Cluster {
     /// For each application, whether it may run on the node, as configured (kernel(6), `permissions`).
     pub fn permissions(&self, node: Node) -> &[bool]
         requires { node.0 < node_count self.now }
-        ensures { result.now ≡ map (is_permitted self.now node) (map app_numbered (range_with_len 0 (app_count self.now))) }
+        ensures { result.now ≡ map (is_permitted self.now node)
+            (map app_numbered (range_with_len 0 (app_count self.now))) }
     {
         self.is_within();
         self.parts_of(node).permissions()
@@ -301,7 +306,8 @@ impl Cluster {
 
     /// The applications that aren't distributed.
     pub fn locals(&self) -> AppMarks
-        ensures marks { (a : App) → a.0 < app_count self.now → is_marked result a ≡ is_none (spread_of self.now a) }
+        ensures marks { (a : App) → a.0 < app_count self.now
+            → is_marked result a ≡ is_none (spread_of self.now a) }
         ensures others { (a : App) → app_count self.now ≤ a.0 → is_marked result a ≡ false }
     {
         self.locals
@@ -310,7 +316,8 @@ impl Cluster {
     /// The applications that a move of this one touches: itself, and those that need it.
     pub fn touched_by(&self, app: App) -> AppMarks
         requires { app.0 < app_count self.now }
-        ensures marks { (a : App) → a.0 < app_count self.now → is_marked result a ≡ touches self.now app a }
+        ensures marks { (a : App) → a.0 < app_count self.now
+            → is_marked result a ≡ touches self.now app a }
         ensures others { (a : App) → app_count self.now ≤ a.0 → is_marked result a ≡ false }
     {
         let _few_apps = self.names.apps();
@@ -320,7 +327,8 @@ impl Cluster {
     /// The module and the start argument of the application (app(4), `mod`).
     pub fn start_arg(&self, app: App) -> Option<(&str, &Term)>
         requires { app.0 < app_count self.now }
-        ensures { option_map (λ s. (s.0.now, symbols_of (tree_of s.1.now))) result ≡ start_arg_of self.now app }
+        ensures { option_map (λ s. (s.0.now, symbols_of (tree_of s.1.now))) result
+            ≡ start_arg_of self.now app }
     {
         self.keys_of(app).start_arg()
     }

@@ -33,7 +33,8 @@ pub(crate) fn locals_in(apps: &[AppSettings]) -> AppMarks
 // a cluster has at most as many applications as there are rows.
 fn mark_need(rows: &mut MarkRows, app: App, dep: Dep)
     requires { app.0 < MAX_APPS }
-    ensures { (b a : App) → b.0 < MAX_APPS → is_marked_in rows.new b a ≡ (is_marked_in rows.old b a || (a.0 == app.0 && list_any (λ (x : App). b.0 == x.0) (option_to_list (listed dep)))) }
+    ensures { (b a : App) → b.0 < MAX_APPS → is_marked_in rows.new b a ≡ (is_marked_in rows.old b a
+        || (a.0 == app.0 && list_any (λ (x : App). b.0 == x.0) (option_to_list (listed dep)))) }
 {
     if let Dep::Listed(need) = dep {
         if (need.0 as usize) < MAX_APPS {
@@ -45,7 +46,8 @@ fn mark_need(rows: &mut MarkRows, app: App, dep: Dep)
 // Marks an application in its own row, and in the row of each application that it needs.
 fn mark_touched(rows: &mut MarkRows, app: App, deps: &[Dep])
     requires { app.0 < MAX_APPS }
-    ensures { (b a : App) → b.0 < MAX_APPS → is_marked_in rows.new b a ≡ (is_marked_in rows.old b a || (a.0 == app.0 && is_touched_by b a deps.now)) }
+    ensures { (b a : App) → b.0 < MAX_APPS → is_marked_in rows.new b a
+        ≡ (is_marked_in rows.old b a || (a.0 == app.0 && is_touched_by b a deps.now)) }
 {
     rows.mark(app, app);
     'deps: for dep in deps {

@@ -52,7 +52,8 @@ impl MarkRows {
     pub fn mark(&mut self, row: App, app: App)
         requires row { row.0 < MAX_APPS }
         requires app { app.0 < MAX_APPS }
-        ensures { (b a : App) → is_marked_in self.new b a ≡ (is_marked_in self.old b a || (b.0 == row.0 && a.0 == app.0)) }
+        ensures { (b a : App) → is_marked_in self.new b a
+            ≡ (is_marked_in self.old b a || (b.0 == row.0 && a.0 == app.0)) }
     {
         let mut marks = self.of(row);
         marks.mark(app);

@@ -30,7 +30,8 @@ impl Model for Names {
 
     ghost view = { λ n. record { nodes = n.nodes; apps = n.apps; platforms = n.platforms } };
 
-    ghost invariant = { λ n. (length n.nodes ≤ MAX_NODES) × (length n.apps ≤ MAX_APPS) × (length n.platforms ≤ MAX_PLATFORMS) };
+    ghost invariant = { λ n. (length n.nodes ≤ MAX_NODES) × (length n.apps ≤ MAX_APPS)
+        × (length n.platforms ≤ MAX_PLATFORMS) };
 }
 
 impl Names {

@@ -19,7 +19,8 @@ pub trait Crew {
     /// The outcomes of the plans, in their order, each tried from the base.
     fn sweep(&self, alloc: Global, base: &Sim, plans: &[Plan]) -> Result<Vec<Outcome>, SweepFault>
         requires { ready self.now }
-        ensures outcomes { IfOk result (λ outcomes. outcomes.items ≡ map (outcome_of base.now.seen) plans.now) }
+        ensures outcomes { IfOk result
+            (λ outcomes. outcomes.items ≡ map (outcome_of base.now.seen) plans.now) }
         ensures fine { OnOk result (MaySweep base.now.seen plans.now (workers self.now)) }
         ensures fault { IfErr result (WhyNotSwept base.now.seen plans.now (workers self.now)) };
 }

@@ -38,7 +38,8 @@ pub fn choose(state: &State, app: App, pick: Pick) -> Option<Node>
     requires { app.0 < app_count (read state.now).cluster }
     ensures choice { result ≡ picked pick (candidates (read state.now) app) }
     ensures number { IfSome result (λ n. IsNodeOf (read state.now).cluster n) }
-    ensures none { IsNone result ↔ ((n : Node) → is_operational (read state.now) app n ≡ true → IsNone (group_of (read state.now).cluster app n)) }
+    ensures none { IsNone result ↔ ((n : Node) → is_operational (read state.now) app n ≡ true
+        → IsNone (group_of (read state.now).cluster app n)) }
 {
     best(state, app, operational_nodes(state, app), pick)
 }
@@ -51,7 +52,8 @@ pub fn best(state: &State, app: App, set: NodeSet, pick: Pick) -> Option<Node>
     requires { app.0 < app_count (read state.now).cluster }
     ensures choice { result ≡ picked pick (best (read state.now) app (has set)) }
     ensures number { IfSome result (λ n. IsNodeOf (read state.now).cluster n) }
-    ensures none { IsNone result ↔ ((n : Node) → has set n ≡ true → IsNone (group_of (read state.now).cluster app n)) }
+    ensures none { IsNone result
+        ↔ ((n : Node) → has set n ≡ true → IsNone (group_of (read state.now).cluster app n)) }
 {
     let group = first_group(state, app, set);
     let count = least_count(state, group, set);
@@ -115,7 +117,8 @@ fn place_meeting(groups: &[Group], set: NodeSet) -> Option<usize>
 // The first of the groups of an application that has one; no node where none does.
 fn first_group(state: &State, app: App, set: NodeSet) -> &[Node]
     requires { app.0 < app_count (read state.now).cluster }
-    ensures first { filter (has set) result.now ≡ first_given (filter (has set)) (groups_of (read state.now).cluster app) }
+    ensures first { filter (has set) result.now
+        ≡ first_given (filter (has set)) (groups_of (read state.now).cluster app) }
     ensures numbers { All (IsNodeOf (read state.now).cluster) result.now }
 {
     state.cluster().is_within();
@@ -160,7 +163,8 @@ fn is_light(state: &State, node: Node, set: NodeSet, count: usize) -> bool
 // The nodes of the group that are in the set and at which so many applications run.
 fn lightest(state: &State, group: &[Node], set: NodeSet, count: usize) -> NodeSet
     requires { All (IsNodeOf (read state.now).cluster) group.now }
-    ensures { (n : Node) → has result n ≡ is_in n (filter (λ m. running_count (read state.now) m == count) (filter (has set) group.now)) }
+    ensures { (n : Node) → has result n ≡ is_in n
+        (filter (λ m. running_count (read state.now) m == count) (filter (has set) group.now)) }
 {
     let _few = state.cluster().node_count();
     let mut nodes = NodeSet::empty();
@@ -191,7 +195,8 @@ fn one_of_lightest(
     pick: Pick,
 ) -> Option<Node>
     requires { All (IsNodeOf (read state.now).cluster) group.now }
-    ensures choice { result ≡ picked pick (filter (λ m. running_count (read state.now) m == count) (filter (has set) group.now)) }
+    ensures choice { result ≡ picked pick
+        (filter (λ m. running_count (read state.now) m == count) (filter (has set) group.now)) }
     ensures number { IfSome result (λ n. IsNodeOf (read state.now).cluster n) }
 {
     let mut found: Option<Node> = None;

@@ -54,7 +54,8 @@ pub fn missing_dep(state: &State, node: Node, app: App) -> Option<Dep>
 fn needs_run(state: &State, node: Node, app: App) -> bool
     requires node { node.0 < node_count (read state.now).cluster }
     requires app { app.0 < app_count (read state.now).cluster }
-    ensures { result ≡ list_all (runs_at (read state.now) node) (needed_apps (read state.now).cluster app) }
+    ensures { result
+        ≡ list_all (runs_at (read state.now) node) (needed_apps (read state.now).cluster app) }
 {
     state.cluster().is_within();
     let needs = state.cluster().needs(app);

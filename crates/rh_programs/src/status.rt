@@ -38,8 +38,10 @@ pub fn rehearse_alone<S: Source, K: Sink, W: Watch>(
     requires reader { reader.old.failed ≡ false }
     requires writer { writer.old.failed ≡ false }
     requires alone { is_alone program ≡ true }
-    ensures ends { StatusGives S.gives S.fails K.takes K.flushes K.fails program result reader.old reader.new writer.old writer.new }
-    ensures done { result ≡ 0 → IsDone S.gives K.takes K.flushes program reader.old reader.new writer.old writer.new }
+    ensures ends { StatusGives S.gives S.fails K.takes K.flushes K.fails program result reader.old
+        reader.new writer.old writer.new }
+    ensures done { result ≡ 0
+        → IsDone S.gives K.takes K.flushes program reader.old reader.new writer.old writer.new }
 {
     let ended = ended_alone(alloc, program, reader, writer, watch);
     flush_and_answer(ended, writer)
@@ -60,8 +62,10 @@ pub fn rehearse_together<T: Threads + Wait + Sync, S: Source, K: Sink, W: Watch>
     requires reader { reader.old.failed ≡ false }
     requires writer { writer.old.failed ≡ false }
     requires workers { IsStaffed program }
-    ensures ends { StatusGives S.gives S.fails K.takes K.flushes K.fails program result reader.old reader.new writer.old writer.new }
-    ensures done { result ≡ 0 → IsDone S.gives K.takes K.flushes program reader.old reader.new writer.old writer.new }
+    ensures ends { StatusGives S.gives S.fails K.takes K.flushes K.fails program result reader.old
+        reader.new writer.old writer.new }
+    ensures done { result ≡ 0
+        → IsDone S.gives K.takes K.flushes program reader.old reader.new writer.old writer.new }
 {
     let ended = ended_together(rt, alloc, program, reader, writer, watch);
     flush_and_answer(ended, writer)
@@ -93,7 +97,8 @@ pub fn rehearse_dialogue<D: Source + Sink>(
     device: &mut Watched<D>,
 ) -> u8
     requires { device.old.failed ≡ false }
-    ensures { DialogueStatus D.Source.gives D.Source.fails D.Sink.takes D.Sink.flushes D.Sink.fails voice result device.old device.new }
+    ensures { DialogueStatus D.Source.gives D.Source.fails D.Sink.takes D.Sink.flushes D.Sink.fails
+        voice result device.old device.new }
 {
     let ended = run_dialogue(alloc, device, voice);
     flush_and_answer(ended, device)
@@ -110,7 +115,8 @@ fn ended_alone<S: Source, K: Sink, W: Watch>(
     requires reader { reader.old.failed ≡ false }
     requires writer { writer.old.failed ≡ false }
     requires alone { is_alone program ≡ true }
-    ensures { ProgramGives S.gives S.fails K.takes K.fails (Owes program) (MayTear program) result reader.old reader.new writer.old writer.new }
+    ensures { ProgramGives S.gives S.fails K.takes K.fails (Owes program)
+        (MayTear program) result reader.old reader.new writer.old writer.new }
 {
     match program {
         Program::Check => run_check(alloc, reader, writer),
@@ -147,7 +153,8 @@ fn ended_together<T: Threads + Wait + Sync, S: Source, K: Sink, W: Watch>(
     requires reader { reader.old.failed ≡ false }
     requires writer { writer.old.failed ≡ false }
     requires workers { IsStaffed program }
-    ensures { ProgramGives S.gives S.fails K.takes K.fails (Owes program) (MayTear program) result reader.old reader.new writer.old writer.new }
+    ensures { ProgramGives S.gives S.fails K.takes K.fails (Owes program)
+        (MayTear program) result reader.old reader.new writer.old writer.new }
 {
     match program {
         Program::Explore(pick, room, workers) => {

@@ -34,7 +34,8 @@ pub fn sweep_json<T: Threads + Wait + Sync, S: Source, K: Sink>(
     requires reader { reader.old.failed ≡ false }
     requires writer { writer.old.failed ≡ false }
     requires workers { AreWorkers workers }
-    ensures { ProgramGives S.gives S.fails K.takes K.fails (OwesSweepJson pick) NoThreads result reader.old reader.new writer.old writer.new }
+    ensures { ProgramGives S.gives S.fails K.takes K.fails
+        (OwesSweepJson pick) NoThreads result reader.old reader.new writer.old writer.new }
 {
     sweep_json_by(&Threaded::new(rt, workers), alloc, reader, writer, pick)
 }
@@ -51,7 +52,8 @@ pub fn sweep_json_alone<S: Source, K: Sink>(
 ) -> Result<(), RunFault>
     requires reader { reader.old.failed ≡ false }
     requires writer { writer.old.failed ≡ false }
-    ensures { ProgramGives S.gives S.fails K.takes K.fails (OwesSweepJson pick) NoThreads result reader.old reader.new writer.old writer.new }
+    ensures { ProgramGives S.gives S.fails K.takes K.fails
+        (OwesSweepJson pick) NoThreads result reader.old reader.new writer.old writer.new }
 {
     sweep_json_by(&Alone, alloc, reader, writer, pick)
 }

@@ -87,7 +87,9 @@ fn tick_refusal(state: &State, ms: u64) -> Option<Refusal>
 
 // Why nothing can be done by hand with an application at a node: the three tests that all such events have.
 fn refusal_by_hand(state: &State, node: Node, app: App) -> Option<Refusal>
-    ensures tests { (others : List (Bool × Refusal)) → first_that_applies (tests_by_hand (read state.now) node app others) ≡ option_or result (first_that_applies others) }
+    ensures tests { (others : List (Bool × Refusal))
+        → first_that_applies (tests_by_hand (read state.now) node app others)
+        ≡ option_or result (first_that_applies others) }
     ensures node { result ≡ None → IsNodeOf (read state.now).cluster node }
     ensures app { result ≡ None → IsAppOf (read state.now).cluster app }
 {
@@ -165,7 +167,9 @@ fn permit_refusal(state: &State, node: Node, app: App, allow: bool) -> Option<Re
 
 // Why it can't be taken over by the node from where it stands.
 fn standing_refusal(node: Node, standing: Standing) -> Option<Refusal>
-    ensures { (others : List (Bool × Refusal)) → first_that_applies ((not (is_running standing), NotRunning) ∷ (is_running_at node standing, RunsHere) ∷ others) ≡ option_or result (first_that_applies others) }
+    ensures { (others : List (Bool × Refusal)) → first_that_applies
+        ((not (is_running standing), NotRunning) ∷ (is_running_at node standing, RunsHere) ∷ others)
+        ≡ option_or result (first_that_applies others) }
 {
     match standing {
         Standing::Running(from) if from.0 == node.0 => Some(Refusal::RunsHere),

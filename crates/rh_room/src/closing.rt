@@ -59,7 +59,8 @@ pub fn close(
 ) -> Result<Closed, CloseFault>
     ensures sim { IfOk result (λ closed. closed.sim ≡ room.sim) }
     ensures log { IfOk result (λ closed. closed.log.items ≡ room.log) }
-    ensures history { IfOk result (λ closed. IsRoom closed.sim.seen room.sessions closed.log.items) }
+    ensures history { IfOk result
+        (λ closed. IsRoom closed.sim.seen room.sessions closed.log.items) }
     ensures reversible { IfOk result (λ closed. IsReversible closed.sim.seen) }
     ensures all { OnOk result (AreAll room.sessions passes.items) }
     ensures agree { IfOk result (λ closed. All (Agrees closed.log.items) passes.items) }
@@ -134,7 +135,8 @@ fn are_known(sessions: u8, passes: &[Pass]) -> bool
 
 // Has each session exactly one pass?
 fn are_once(sessions: u8, passes: &[Pass]) -> bool
-    ensures { IsTrue result ↔ ((session : ℕ) → IsSession sessions session → count_by (λ p. p.session == session) passes.now ≡ 1) }
+    ensures { IsTrue result ↔ ((session : ℕ) → IsSession sessions session
+        → count_by (λ p. p.session == session) passes.now ≡ 1) }
 {
     for session in 1..=sessions {
         if count_of(session, passes) != 1 {
@@ -174,7 +176,8 @@ fn disagreement(log: &[Entry], passes: &[Pass], sessions: u8) -> Option<(u8, usi
 // The first place at which a pass of the session doesn't agree with the log.
 fn disagreement_of(log: &[Entry], passes: &[Pass], session: u8) -> Option<usize>
     ensures none { IfNone result (All (λ p. p.session ≡ session → Agrees log.now p) passes.now) }
-    ensures some { IfSome result (λ place. Any (λ p. (p.session ≡ session) × IsFirstDifference p.receipts (of_session session log.now) place) passes.now) }
+    ensures some { IfSome result (λ place. Any (λ p. (p.session ≡ session)
+        × IsFirstDifference p.receipts (of_session session log.now) place) passes.now) }
 {
     for pass in passes {
         if pass.session() == session {
@@ -189,7 +192,8 @@ fn disagreement_of(log: &[Entry], passes: &[Pass], session: u8) -> Option<usize>
 // The first place at which what a pass was told differs from what the log has of the session.
 fn difference(log: &[Entry], session: u8, pass: &Pass) -> Option<usize>
     ensures none { IfNone result (pass.now.receipts ≡ of_session session log.now) }
-    ensures some { IfSome result (IsFirstDifference pass.now.receipts (of_session session log.now)) }
+    ensures some { IfSome result
+        (IsFirstDifference pass.now.receipts (of_session session log.now)) }
 {
     let receipts = pass.receipts();
     let mut met = 0;
@@ -214,14 +218,16 @@ fn difference(log: &[Entry], session: u8, pass: &Pass) -> Option<usize>
 
 // Is there a receipt at the index, and is it of this place?
 fn is_of_place(receipts: &[Receipt], index: usize, place: usize) -> bool
-    ensures { IsTrue result ↔ ((index < length receipts.now) × HoldsAt (λ r. r.place ≡ place) receipts.now index) }
+    ensures { IsTrue result
+        ↔ ((index < length receipts.now) × HoldsAt (λ r. r.place ≡ place) receipts.now index) }
 {
     index < receipts.len() && receipts[index].place == place
 }
 
 // Has the receipt the call and the reply of the entry?
 fn is_for(receipt: &Receipt, entry: &Entry) -> bool
-    ensures { IsTrue result ↔ ((receipt.now.call ≡ entry.now.call) × (receipt.now.reply ≡ entry.now.reply)) }
+    ensures { IsTrue result
+        ↔ ((receipt.now.call ≡ entry.now.call) × (receipt.now.reply ≡ entry.now.reply)) }
 {
     receipt.call == entry.call && receipt.reply.same(&entry.reply)
 }

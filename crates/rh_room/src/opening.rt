@@ -28,7 +28,8 @@ pub fn open_room(
     ensures sim { IfOk result (λ opening. opening.0.sim.seen ≡ opened cluster pick) }
     ensures sessions { IfOk result (λ opening. opening.0.sessions ≡ sessions) }
     ensures log { IfOk result (λ opening. opening.0.log ≡ []) }
-    ensures passes { IfOk result (λ opening. opening.1.items ≡ map new_pass (range_with_len 1 sessions)) }
+    ensures passes { IfOk result
+        (λ opening. opening.1.items ≡ map new_pass (range_with_len 1 sessions)) }
     ensures fine { OnOk result (IsSession session_limit sessions) }
     ensures fault { IfErr result (WhyNotOpened sessions) }
 {
@@ -52,7 +53,8 @@ fn room_with_passes(
     ensures sim { IfOk result (λ opening. opening.0.sim.seen ≡ opened cluster pick) }
     ensures sessions { IfOk result (λ opening. opening.0.sessions ≡ sessions) }
     ensures log { IfOk result (λ opening. opening.0.log ≡ []) }
-    ensures passes { IfOk result (λ opening. opening.1.items ≡ map new_pass (range_with_len 1 sessions)) }
+    ensures passes { IfOk result
+        (λ opening. opening.1.items ≡ map new_pass (range_with_len 1 sessions)) }
 {
     let passes = new_passes(alloc, sessions)?;
     let log = Vec::with_capacity(alloc, Room::LOG_LIMIT)?;

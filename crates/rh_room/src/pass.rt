@@ -47,7 +47,8 @@ impl Model for Pass {
 
     ghost view = { λ p. record { session = p.session; receipts = p.receipts.items } };
 
-    ghost invariant = { λ p. record { order : InOrder p.receipts.items; room : log_limit ≤ vec_capacity p.receipts } };
+    ghost invariant = { λ p.
+        record { order : InOrder p.receipts.items; room : log_limit ≤ vec_capacity p.receipts } };
 }
 
 impl Pass {

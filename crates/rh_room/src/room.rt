@@ -38,7 +38,10 @@ impl Model for Room {
 
     ghost view = { λ r. record { sim = r.sim; sessions = r.sessions; log = r.log.items } };
 
-    ghost invariant = { λ r. record { legal : IsRoom r.sim.seen r.sessions r.log.items; room : log_limit ≤ vec_capacity r.log } };
+    ghost invariant = { λ r. record {
+      legal : IsRoom r.sim.seen r.sessions r.log.items;
+      room : log_limit ≤ vec_capacity r.log;
+    } };
 }
 
 impl Room {
@@ -117,18 +120,25 @@ impl Room {
     ) -> Result<Receipt, RoomFault>
         ensures receipt { IfOk result (λ receipt. receipt ≡ receipt_of self.old call) }
         ensures sim { OnOk result (self.new.sim.seen ≡ (served self.old.sim.seen call).sim) }
-        ensures whole { IfOk result (λ receipt. is_refusal receipt.reply ≡ true → self.new.sim ≡ self.old.sim) }
+        ensures whole { IfOk result
+            (λ receipt. is_refusal receipt.reply ≡ true → self.new.sim ≡ self.old.sim) }
 
         // The words that undo and redo lead to stay, up to the cursor for a step and all of them for each other call.
-        ensures chain { (k : ℕ) → k ≤ kept_to self.old.sim.seen call → chain self.new.sim k ≡ chain self.old.sim k }
-        ensures words { IfOk result (λ receipt. is_refusal receipt.reply ≡ false → LeavesWords self.old.sim call self.new.sim) }
-        ensures records { IfOk result (λ receipt. is_refusal receipt.reply ≡ false → LeavesRecords self.old.sim call self.new.sim) }
+        ensures chain { (k : ℕ) → k ≤ kept_to self.old.sim.seen call
+            → chain self.new.sim k ≡ chain self.old.sim k }
+        ensures words { IfOk result (λ receipt. is_refusal receipt.reply ≡ false
+            → LeavesWords self.old.sim call self.new.sim) }
+        ensures records { IfOk result (λ receipt. is_refusal receipt.reply ≡ false
+            → LeavesRecords self.old.sim call self.new.sim) }
 
         ensures sessions { self.new.sessions ≡ self.old.sessions }
-        ensures log { IfOk result (λ receipt. self.new.log ≡ self.old.log ++ entry pass.old.session call receipt.reply ∷ []) }
+        ensures log { IfOk result (λ receipt.
+            self.new.log ≡ self.old.log ++ entry pass.old.session call receipt.reply ∷ []) }
         ensures session { pass.new.session ≡ pass.old.session }
-        ensures receipts { IfOk result (λ receipt. pass.new.receipts ≡ pass.old.receipts ++ receipt ∷ []) }
-        ensures fine { OnOk result (IsPassOf self.old pass.old × (length self.old.log < log_limit)) }
+        ensures receipts { IfOk result
+            (λ receipt. pass.new.receipts ≡ pass.old.receipts ++ receipt ∷ []) }
+        ensures fine { OnOk result
+            (IsPassOf self.old pass.old × (length self.old.log < log_limit)) }
         ensures kept { OnErr result ((self.new ≡ self.old) × (pass.new ≡ pass.old)) }
         ensures fault { IfErr result (WhyNot self.old pass.old call) }
     {
@@ -156,14 +166,20 @@ impl Room {
         requires room { length self.old.log < log_limit }
         ensures receipt { IfOk result (λ receipt. receipt ≡ receipt_of self.old call) }
         ensures sim { OnOk result (self.new.sim.seen ≡ (served self.old.sim.seen call).sim) }
-        ensures whole { IfOk result (λ receipt. is_refusal receipt.reply ≡ true → self.new.sim ≡ self.old.sim) }
-        ensures chain { (k : ℕ) → k ≤ kept_to self.old.sim.seen call → chain self.new.sim k ≡ chain self.old.sim k }
-        ensures words { IfOk result (λ receipt. is_refusal receipt.reply ≡ false → LeavesWords self.old.sim call self.new.sim) }
-        ensures records { IfOk result (λ receipt. is_refusal receipt.reply ≡ false → LeavesRecords self.old.sim call self.new.sim) }
+        ensures whole { IfOk result
+            (λ receipt. is_refusal receipt.reply ≡ true → self.new.sim ≡ self.old.sim) }
+        ensures chain { (k : ℕ) → k ≤ kept_to self.old.sim.seen call
+            → chain self.new.sim k ≡ chain self.old.sim k }
+        ensures words { IfOk result (λ receipt. is_refusal receipt.reply ≡ false
+            → LeavesWords self.old.sim call self.new.sim) }
+        ensures records { IfOk result (λ receipt. is_refusal receipt.reply ≡ false
+            → LeavesRecords self.old.sim call self.new.sim) }
         ensures sessions { self.new.sessions ≡ self.old.sessions }
-        ensures log { IfOk result (λ receipt. self.new.log ≡ self.old.log ++ entry pass.old.session call receipt.reply ∷ []) }
+        ensures log { IfOk result (λ receipt.
+            self.new.log ≡ self.old.log ++ entry pass.old.session call receipt.reply ∷ []) }
         ensures session { pass.new.session ≡ pass.old.session }
-        ensures receipts { IfOk result (λ receipt. pass.new.receipts ≡ pass.old.receipts ++ receipt ∷ []) }
+        ensures receipts { IfOk result
+            (λ receipt. pass.new.receipts ≡ pass.old.receipts ++ receipt ∷ []) }
         ensures kept { OnErr result ((self.new ≡ self.old) × (pass.new ≡ pass.old)) }
         ensures last { OnErr result (TakesMemory self.old.sim.seen call) }
     {

@@ -29,7 +29,8 @@ pub fn run_check<S: Source, K: Sink>(
 ) -> Result<(), RunFault>
     requires reader { reader.old.failed ≡ false }
     requires writer { writer.old.failed ≡ false }
-    ensures { ProgramGives S.gives S.fails K.takes K.fails OwesCheck NoThreads result reader.old reader.new writer.old writer.new }
+    ensures { ProgramGives S.gives S.fails K.takes K.fails OwesCheck NoThreads result reader.old
+        reader.new writer.old writer.new }
 {
     let input = read_input(alloc, reader)?;
     let told = check_input(alloc, input.as_slice(), writer)?;
@@ -44,7 +45,8 @@ fn check_input<K: Sink>(
     writer: &mut Watched<K>,
 ) -> Result<Option<Told>, WriteFault>
     requires { writer.old.failed ≡ false }
-    ensures { Wrote K.takes K.fails result (check_text input.now) (check_end input.now) writer.old writer.new }
+    ensures { Wrote K.takes K.fails result (check_text input.now)
+        (check_end input.now) writer.old writer.new }
 {
     let (text, _) = cut(input);
     match read_cluster(alloc, text) {

@@ -34,7 +34,8 @@ pub fn run<S: Source, K: Sink>(
 ) -> Result<(), RunFault>
     requires reader { reader.old.failed ≡ false }
     requires writer { writer.old.failed ≡ false }
-    ensures { ProgramGives S.gives S.fails K.takes K.fails (OwesRun pick) NoThreads result reader.old reader.new writer.old writer.new }
+    ensures { ProgramGives S.gives S.fails K.takes K.fails
+        (OwesRun pick) NoThreads result reader.old reader.new writer.old writer.new }
 {
     let input = read_input(alloc, reader)?;
     let told = answer_input(alloc, input.as_slice(), writer, pick)?;
@@ -50,7 +51,8 @@ fn answer_input<K: Sink>(
     pick: Pick,
 ) -> Result<Option<Told>, WriteFault>
     requires { writer.old.failed ≡ false }
-    ensures { Wrote K.takes K.fails result (run_text input.now pick) (run_end input.now) writer.old writer.new }
+    ensures { Wrote K.takes K.fails result (run_text input.now pick)
+        (run_end input.now) writer.old writer.new }
 {
     let (text, script) = cut(input);
     match read_cluster(alloc, text) {
@@ -90,9 +92,9 @@ fn answer_script<K: Sink>(
     pick: Pick,
 ) -> Result<Option<u64>, WriteFault>
     requires { writer.old.failed ≡ false }
-    ensures { Wrote K.takes K.fails result
-        (script_text cluster (opened cluster pick) 1 (lines_asked cluster (map content (raw_lines script.now))))
-        (bad_line 1 (lines_asked cluster (map content (raw_lines script.now)))) writer.old writer.new }
+    ensures { Wrote K.takes K.fails result (script_text cluster (opened cluster pick) 1
+        (lines_asked cluster (map content (raw_lines script.now)))) (bad_line 1
+        (lines_asked cluster (map content (raw_lines script.now)))) writer.old writer.new }
 {
     let mut sim = Sim::open(alloc, cluster, pick)?;
     answer_lines(alloc, &mut sim, script, writer)
@@ -106,9 +108,10 @@ fn answer_lines<K: Sink>(
     writer: &mut Watched<K>,
 ) -> Result<Option<u64>, WriteFault>
     requires { writer.old.failed ≡ false }
-    ensures { Wrote K.takes K.fails result
-        (script_text sim.old.seen.cluster sim.old.seen 1 (lines_asked sim.old.seen.cluster (map content (raw_lines script.now))))
-        (bad_line 1 (lines_asked sim.old.seen.cluster (map content (raw_lines script.now)))) writer.old writer.new }
+    ensures { Wrote K.takes K.fails result (script_text sim.old.seen.cluster sim.old.seen 1
+        (lines_asked sim.old.seen.cluster (map content (raw_lines script.now))))
+        (bad_line 1 (lines_asked sim.old.seen.cluster (map content (raw_lines script.now))))
+        writer.old writer.new }
 {
     let mut rest = script;
     let mut number: u64 = 1;
@@ -134,7 +137,8 @@ fn answer_line<K: Sink>(
     writer: &mut Watched<K>,
 ) -> Result<Option<u64>, WriteFault>
     requires { writer.old.failed ≡ false }
-    ensures text { (lines : List Line) → Turns K.takes K.fails result sim.old.seen.cluster sim.old.seen sim.new.seen number
+    ensures text { (lines : List Line)
+        → Turns K.takes K.fails result sim.old.seen.cluster sim.old.seen sim.new.seen number
         (line_of sim.old.seen.cluster (content line.now)) lines writer.old writer.new }
     ensures cluster { OnOk result (sim.new.seen.cluster ≡ sim.old.seen.cluster) }
 {
@@ -175,7 +179,8 @@ pub fn answer_call<K: Sink>(
     requires { writer.old.failed ≡ false }
     ensures sim { OnOk result (sim.new.seen ≡ (served sim.old.seen call).sim) }
     ensures cluster { OnOk result (sim.new.seen.cluster ≡ sim.old.seen.cluster) }
-    ensures text { Broke K.takes K.fails result (answer_text sim.old.seen.cluster (served sim.old.seen call).reply) writer.old writer.new }
+    ensures text { Broke K.takes K.fails result
+        (answer_text sim.old.seen.cluster (served sim.old.seen call).reply) writer.old writer.new }
 {
     let reply = sim.answer(alloc, call)?.into_one();
     write_answer(alloc, sim.cluster(), &reply, writer)
@@ -189,7 +194,8 @@ fn write_answer<K: Sink>(
     writer: &mut Watched<K>,
 ) -> Result<(), WriteFault>
     requires { writer.old.failed ≡ false }
-    ensures { Broke K.takes K.fails result (answer_text cluster.now reply.now) writer.old writer.new }
+    ensures { Broke K.takes K.fails result
+        (answer_text cluster.now reply.now) writer.old writer.new }
 {
     let text = answer_text(alloc, cluster, reply)?;
     write_text(writer, text.as_slice())

@@ -47,7 +47,8 @@ pub fn run_sweep_by<C: Crew, S: Source, K: Sink>(
     requires writer { writer.old.failed ≡ false }
     requires ready { C.ready crew.now }
     requires workers { AreWorkers (C.workers crew.now) }
-    ensures { ProgramGives S.gives S.fails K.takes K.fails (OwesSweep pick) NoThreads result reader.old reader.new writer.old writer.new }
+    ensures { ProgramGives S.gives S.fails K.takes K.fails
+        (OwesSweep pick) NoThreads result reader.old reader.new writer.old writer.new }
 {
     let input = read_input(alloc, reader)?;
     let told = sweep_input(crew, alloc, input.as_slice(), writer, pick)?;
@@ -66,7 +67,8 @@ fn sweep_input<C: Crew, K: Sink>(
     requires writer { writer.old.failed ≡ false }
     requires ready { C.ready crew.now }
     requires workers { AreWorkers (C.workers crew.now) }
-    ensures { Wrote K.takes K.fails result (sweep_text input.now pick) (sweep_end input.now pick) writer.old writer.new }
+    ensures { Wrote K.takes K.fails result (sweep_text input.now pick)
+        (sweep_end input.now pick) writer.old writer.new }
 {
     let (text, script) = cut(input);
     match read_cluster(alloc, text) {
@@ -97,7 +99,8 @@ fn sweep_script<C: Crew, K: Sink>(
         (lines_text cluster pick (sweep_lines_asked cluster (map content (raw_lines script.now)))
         (bad_sweep_line (sweep_lines_asked cluster (map content (raw_lines script.now)))))
         (lines_end cluster pick (sweep_lines_asked cluster (map content (raw_lines script.now)))
-        (bad_sweep_line (sweep_lines_asked cluster (map content (raw_lines script.now))))) writer.old writer.new }
+        (bad_sweep_line (sweep_lines_asked cluster (map content (raw_lines script.now)))))
+        writer.old writer.new }
 {
     match sweep_in(alloc, &cluster, script)? {
         SweepScript::BadLine(number) => {
@@ -122,7 +125,8 @@ fn answer_calls<K: Sink>(
     requires { writer.old.failed ≡ false }
     ensures sim { OnOk result (sim.new.seen ≡ sim_after sim.old.seen calls.now) }
     ensures cluster { OnOk result (sim.new.seen.cluster ≡ sim.old.seen.cluster) }
-    ensures text { Broke K.takes K.fails result (answers_text sim.old.seen.cluster sim.old.seen calls.now) writer.old writer.new }
+    ensures text { Broke K.takes K.fails result
+        (answers_text sim.old.seen.cluster sim.old.seen calls.now) writer.old writer.new }
 {
     for call in calls {
         answer_call(alloc, sim, *call, writer)?;
@@ -141,8 +145,8 @@ fn sweep_plans<C: Crew, K: Sink>(
     requires writer { writer.old.failed ≡ false }
     requires ready { C.ready crew.now }
     requires workers { AreWorkers (C.workers crew.now) }
-    ensures { Wrote K.takes K.fails result
-        (plans_text base.now.seen.cluster base.now.seen (map plan_text plans.now) (why_not_swept base.now.seen (map plan_text plans.now)))
+    ensures { Wrote K.takes K.fails result (plans_text base.now.seen.cluster base.now.seen
+        (map plan_text plans.now) (why_not_swept base.now.seen (map plan_text plans.now)))
         (plans_end base.now.seen (map plan_text plans.now)) writer.old writer.new }
 {
     match crew.sweep(alloc, base, plans) {
@@ -170,7 +174,9 @@ fn write_outcomes<K: Sink>(
 ) -> Result<(), WriteFault>
     requires writer { writer.old.failed ≡ false }
     requires outcomes { outcomes.now ≡ map (outcome_of base.now.seen) plans.now }
-    ensures { Broke K.takes K.fails result (flat_map (plan_outcome base.now.seen.cluster base.now.seen) (map plan_text plans.now)) writer.old writer.new }
+    ensures { Broke K.takes K.fails result
+        (flat_map (plan_outcome base.now.seen.cluster base.now.seen) (map plan_text plans.now))
+        writer.old writer.new }
 {
     for place in 0..plans.len() {
         let (name, outcome) = (&plans[place].name, &outcomes[place]);
@@ -188,7 +194,8 @@ fn write_outcome<K: Sink>(
     writer: &mut Watched<K>,
 ) -> Result<(), WriteFault>
     requires { writer.old.failed ≡ false }
-    ensures { Broke K.takes K.fails result (outcome_text cluster.now name.now outcome.now) writer.old writer.new }
+    ensures { Broke K.takes K.fails result
+        (outcome_text cluster.now name.now outcome.now) writer.old writer.new }
 {
     let text = outcome_text(alloc, cluster, name, outcome)?;
     write_text(writer, text.as_bytes())

@@ -15,7 +15,8 @@ use std::alloc::Global;
 
 // Adds an application and a node.
 fn push_pair(text: &mut String, cluster: &Cluster, app: App, node: Node) -> Result<(), OutOfMemory>
-    ensures { OnOk result (string_bytes text.new ≡ string_bytes text.old ++ pair_words cluster.now app node) }
+    ensures { OnOk result
+        (string_bytes text.new ≡ string_bytes text.old ++ pair_words cluster.now app node) }
 {
     text.push_str(app_word(cluster, app))?;
     text.push_str(" ")?;
@@ -26,7 +27,8 @@ fn push_pair(text: &mut String, cluster: &Cluster, app: App, node: Node) -> Resu
 // Adds how an application was started as the last word of a line, with the space before it and the line's end: most start normally,
 // which is one text to add.
 fn push_last_kind(text: &mut String, cluster: &Cluster, kind: Kind) -> Result<(), OutOfMemory>
-    ensures { OnOk result (string_bytes text.new ≡ string_bytes text.old ++ (codes " " ++ kind_words cluster.now kind ++ codes "\n")) }
+    ensures { OnOk result (string_bytes text.new
+        ≡ string_bytes text.old ++ (codes " " ++ kind_words cluster.now kind ++ codes "\n")) }
 {
     match kind {
         Kind::Normal => text.push_str(" normal\n")?,
@@ -42,7 +44,8 @@ fn push_last_kind(text: &mut String, cluster: &Cluster, kind: Kind) -> Result<()
 /// Adds the line of a notice, as it stands in an answer.
 #[tactic(auto, unfolding(crate::specs::Answers::notice_line))]
 pub fn push_notice(text: &mut String, cluster: &Cluster, notice: &Notice) -> Result<(), OutOfMemory>
-    ensures { OnOk result (string_bytes text.new ≡ string_bytes text.old ++ notice_line cluster.now notice.now) }
+    ensures { OnOk result
+        (string_bytes text.new ≡ string_bytes text.old ++ notice_line cluster.now notice.now) }
 {
     match *notice {
         Notice::Up { node } => {
@@ -81,7 +84,8 @@ pub fn push_notice(text: &mut String, cluster: &Cluster, notice: &Notice) -> Res
 
 // Adds the lines of notices.
 fn push_notices(text: &mut String, cluster: &Cluster, notices: &[Notice]) -> Result<(), OutOfMemory>
-    ensures { OnOk result (string_bytes text.new ≡ string_bytes text.old ++ flat_map (notice_line cluster.now) notices.now) }
+    ensures { OnOk result (string_bytes text.new
+        ≡ string_bytes text.old ++ flat_map (notice_line cluster.now) notices.now) }
 {
     for notice in notices {
         push_notice(text, cluster, notice)?;
@@ -95,7 +99,8 @@ pub fn push_reason(
     cluster: &Cluster,
     refusal: Refusal,
 ) -> Result<(), OutOfMemory>
-    ensures { OnOk result (string_bytes text.new ≡ string_bytes text.old ++ reason_words cluster.now refusal) }
+    ensures { OnOk result
+        (string_bytes text.new ≡ string_bytes text.old ++ reason_words cluster.now refusal) }
 {
     if let Refusal::DependencyNotStarted { dep } = refusal {
         text.push_str(" ")?;
@@ -106,7 +111,8 @@ pub fn push_reason(
 
 // Adds the line of a refusal.
 fn push_refusal(text: &mut String, cluster: &Cluster, refusal: Refusal) -> Result<(), OutOfMemory>
-    ensures { OnOk result (string_bytes text.new ≡ string_bytes text.old ++ refusal_line cluster.now refusal) }
+    ensures { OnOk result
+        (string_bytes text.new ≡ string_bytes text.old ++ refusal_line cluster.now refusal) }
 {
     write!(text, "refused {refusal}")?;
     push_reason(text, cluster, refusal)?;

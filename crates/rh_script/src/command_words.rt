@@ -28,7 +28,8 @@ pub fn reason_word(normal: bool) -> &'static str
 
 // Adds a word behind a space, where there is one.
 fn push_word(text: &mut String, word: Option<&str>) -> Result<(), OutOfMemory>
-    ensures { OnOk result (string_bytes text.new ≡ string_bytes text.old ++ spaced (λ word. word.now) word.entry) }
+    ensures { OnOk result
+        (string_bytes text.new ≡ string_bytes text.old ++ spaced (λ word. word.now) word.entry) }
 {
     if let Some(word) = word {
         text.push_str(" ")?;
@@ -55,7 +56,8 @@ fn push_argument(
     argument: Argument,
     given: Given,
 ) -> Result<(), OutOfMemory>
-    ensures { OnOk result (string_bytes text.new ≡ string_bytes text.old ++ argument_words cluster.now given argument) }
+    ensures { OnOk result (string_bytes text.new
+        ≡ string_bytes text.old ++ argument_words cluster.now given argument) }
 {
     match argument {
         Argument::Node => push_word(text, given.node.map(|node| node_word(cluster, node))),
@@ -74,7 +76,8 @@ fn push_arguments(
     arguments: &[Argument],
     given: Given,
 ) -> Result<(), OutOfMemory>
-    ensures { OnOk result (string_bytes text.new ≡ string_bytes text.old ++ flat_map (argument_words cluster.now given) arguments.now) }
+    ensures { OnOk result (string_bytes text.new
+        ≡ string_bytes text.old ++ flat_map (argument_words cluster.now given) arguments.now) }
 {
     for argument in arguments {
         push_argument(text, cluster, *argument, given)?;

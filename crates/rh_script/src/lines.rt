@@ -7,7 +7,8 @@ use memchr::memchr;
 
 // How many bytes the first line has, with its LF.
 fn line_len(bytes: &[u8]) -> usize
-    ensures line { 0 < length bytes.now → raw_lines bytes.now ≡ take result bytes.now ∷ raw_lines (drop result bytes.now) }
+    ensures line { 0 < length bytes.now
+        → raw_lines bytes.now ≡ take result bytes.now ∷ raw_lines (drop result bytes.now) }
     ensures within { result ≤ length bytes.now }
     ensures filled { 0 < length bytes.now → 0 < result }
 {

@@ -185,7 +185,8 @@ fn command_in(cluster: &Cluster, line: &str) -> Line
 
 /// The line as a text, if it is UTF-8.
 pub fn text_of(line: &[u8]) -> Option<&str>
-    ensures { option_map (λ text. text.now) result ≡ (if is_utf8 line.now then Some line.now else None) }
+    ensures { option_map (λ text. text.now) result
+        ≡ (if is_utf8 line.now then Some line.now else None) }
 {
     str::from_utf8(line).ok()
 }
@@ -193,7 +194,8 @@ pub fn text_of(line: &[u8]) -> Option<&str>
 // What a line asks that is no comment. It isn't made a part of its caller, so that a comment costs nothing of what words need.
 #[inline(never)]
 fn line_in(cluster: &Cluster, line: &[u8]) -> Line
-    ensures { result ≡ (if is_utf8 line.now then command_of cluster.now (words_of line.now) else Line.Bad) }
+    ensures { result
+        ≡ (if is_utf8 line.now then command_of cluster.now (words_of line.now) else Line.Bad) }
 {
     match text_of(line) {
         Some(text) => command_in(cluster, text),

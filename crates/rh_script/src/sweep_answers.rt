@@ -18,7 +18,8 @@ use std::alloc::Global;
 
 // Adds what was counted, behind its word.
 fn push_count(text: &mut String, word: &str, count: u128) -> Result<(), OutOfMemory>
-    ensures { OnOk result (string_bytes text.new ≡ string_bytes text.old ++ counted word.now count) }
+    ensures { OnOk result
+        (string_bytes text.new ≡ string_bytes text.old ++ counted word.now count) }
 {
     text.push_str(" ")?;
     text.push_str(word)?;
@@ -31,7 +32,8 @@ fn push_count(text: &mut String, word: &str, count: u128) -> Result<(), OutOfMem
 // Adds the line of a plan, with what was counted.
 #[tactic(auto, unfolding(crate::specs::SweepAnswers::plan_line))]
 fn push_plan_line(text: &mut String, name: &Str, outcome: &Outcome) -> Result<(), OutOfMemory>
-    ensures { OnOk result (string_bytes text.new ≡ string_bytes text.old ++ plan_line name.now outcome.now) }
+    ensures { OnOk result
+        (string_bytes text.new ≡ string_bytes text.old ++ plan_line name.now outcome.now) }
 {
     text.push_str("plan ")?;
     text.push_str(name.as_str())?;
@@ -49,7 +51,8 @@ fn push_refused_line(
     cluster: &Cluster,
     refused: Option<(usize, Refusal)>,
 ) -> Result<(), OutOfMemory>
-    ensures { OnOk result (string_bytes text.new ≡ string_bytes text.old ++ refused_line cluster.now refused) }
+    ensures { OnOk result
+        (string_bytes text.new ≡ string_bytes text.old ++ refused_line cluster.now refused) }
 {
     if let Some((place, refusal)) = refused {
         let number = place as u128 + 1;
@@ -66,7 +69,8 @@ fn push_standings(
     cluster: &Cluster,
     standings: &[(App, Standing)],
 ) -> Result<(), OutOfMemory>
-    ensures { OnOk result (string_bytes text.new ≡ string_bytes text.old ++ flat_map (λ at. standing_line cluster.now at.0 at.1) standings.now) }
+    ensures { OnOk result (string_bytes text.new ≡ string_bytes text.old
+        ++ flat_map (λ at. standing_line cluster.now at.0 at.1) standings.now) }
 {
     for at in standings {
         push_standing_line(text, cluster, at.0, at.1)?;
@@ -83,7 +87,8 @@ pub fn outcome_text(
     name: &Str,
     outcome: &Outcome,
 ) -> Result<String, OutOfMemory>
-    ensures { IfOk result (λ text. string_bytes text ≡ outcome_text cluster.now name.now outcome.now) }
+    ensures { IfOk result
+        (λ text. string_bytes text ≡ outcome_text cluster.now name.now outcome.now) }
 {
     // As much as the outcome of a plan in a small cluster takes.
     let mut text = String::with_capacity(alloc, 1_024)?;

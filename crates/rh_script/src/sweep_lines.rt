@@ -47,7 +47,8 @@ fn plan_named<'a>(words: &[&'a str]) -> Option<&'a str>
 
 // What the words ask.
 fn sweep_command(alloc: Global, cluster: &Cluster, words: &[&str]) -> Result<SweepLine, OutOfMemory>
-    ensures { IfOk result (λ asked. asked ≡ sweep_command cluster.now (map (λ word. word.now) words.now)) }
+    ensures { IfOk result
+        (λ asked. asked ≡ sweep_command cluster.now (map (λ word. word.now) words.now)) }
 {
     match plan_named(words) {
         Some(name) => Ok(SweepLine::Begins(text_of_bytes(alloc, name.as_bytes())?)),
@@ -79,7 +80,8 @@ fn sweep_line_of(alloc: Global, cluster: &Cluster, line: &[u8]) -> Result<SweepL
 
 /// The base and the plans of a script, or the number of its first bad line.
 pub fn sweep_in(alloc: Global, cluster: &Cluster, script: &[u8]) -> Result<SweepScript, OutOfMemory>
-    ensures { IfOk result (IsSweepOf (sweep_lines_asked cluster.now (map content (raw_lines script.now)))) }
+    ensures { IfOk result
+        (IsSweepOf (sweep_lines_asked cluster.now (map content (raw_lines script.now)))) }
 {
     let mut base = Vec::new(alloc);
     let mut plans = Vec::new(alloc);
@@ -104,10 +106,13 @@ fn take_line(
     plans: &mut Vec<Plan>,
     asked: SweepLine,
 ) -> Result<bool, OutOfMemory>
-    ensures fits { IfOk result (λ taken. taken ≡ fits_sweep (is_begun (map plan_text plans.old.items)) asked) }
-    ensures begun { IfOk result (λ taken. IsTrue taken → is_begun (map plan_text plans.new.items) ≡ begun_by (is_begun (map plan_text plans.old.items)) asked) }
-    ensures taken { IfOk result (λ taken. IsTrue taken → (lines : List SweepLine) →
-        read_on base.old.items (map plan_text plans.old.items) (asked ∷ lines) ≡ read_on base.new.items (map plan_text plans.new.items) lines) }
+    ensures fits { IfOk result
+        (λ taken. taken ≡ fits_sweep (is_begun (map plan_text plans.old.items)) asked) }
+    ensures begun { IfOk result (λ taken. IsTrue taken → is_begun (map plan_text plans.new.items)
+        ≡ begun_by (is_begun (map plan_text plans.old.items)) asked) }
+    ensures taken { IfOk result (λ taken. IsTrue taken → (lines : List SweepLine)
+        → read_on base.old.items (map plan_text plans.old.items) (asked ∷ lines)
+        ≡ read_on base.new.items (map plan_text plans.new.items) lines) }
 {
     match asked {
         SweepLine::Begins(name) => {

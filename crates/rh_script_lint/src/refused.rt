@@ -19,7 +19,8 @@ use std::alloc::Global;
 
 // A refusal, as it stands in an answer: the dependency that isn't started is named.
 fn refusal_text(alloc: Global, cluster: &Cluster, refusal: Refusal) -> Result<String, OutOfMemory>
-    ensures { IfOk result (λ text. string_bytes text ≡ refusal_words refusal ++ reason_words cluster.now refusal) }
+    ensures { IfOk result
+        (λ text. string_bytes text ≡ refusal_words refusal ++ reason_words cluster.now refusal) }
 {
     let mut text = format!(in alloc; "{refusal}")?;
     if let Refusal::DependencyNotStarted { dep } = refusal {
@@ -109,7 +110,8 @@ pub fn push_reply(
     findings: &[StepFinding],
     reply: &Reply,
 ) -> Result<(), OutOfMemory>
-    ensures { OnOk result (found.new.items ≡ found.old.items ++ of_reply cluster.now number call findings.now reply.now) }
+    ensures { OnOk result (found.new.items
+        ≡ found.old.items ++ of_reply cluster.now number call findings.now reply.now) }
 {
     if is_told_of_line(reply) || any_says_refused(findings) {
         return Ok(());

@@ -50,7 +50,8 @@ fn push_found(
     number: u64,
     findings: &[StepFinding],
 ) -> Result<(), OutOfMemory>
-    ensures { OnOk result (found.new.items ≡ found.old.items ++ flat_map (λ f. step_found cluster.now number f ∷ []) findings.now) }
+    ensures { OnOk result (found.new.items
+        ≡ found.old.items ++ flat_map (λ f. step_found cluster.now number f ∷ []) findings.now) }
 {
     for finding in findings {
         found.push(step_found(alloc, cluster, number, finding)?)?;
@@ -100,7 +101,8 @@ fn push_steps(
     number: u64,
     findings: &[StepFinding],
 ) -> Result<bool, OutOfMemory>
-    ensures found { OnOk result (found.new.items ≡ found.old.items ++ of_steps cluster.now number findings.now) }
+    ensures found { OnOk result
+        (found.new.items ≡ found.old.items ++ of_steps cluster.now number findings.now) }
     ensures ends { IfOk result (λ ends. ends ≡ list_any is_another_past findings.now) }
 {
     push_found(alloc, found, cluster, number, findings)?;
@@ -130,7 +132,8 @@ fn take_call(
     number: u64,
     call: Call,
 ) -> Result<bool, OutOfMemory>
-    ensures found { OnOk result (found.new.items ≡ found.old.items ++ of_call sim.old.seen number call) }
+    ensures found { OnOk result
+        (found.new.items ≡ found.old.items ++ of_call sim.old.seen number call) }
     ensures ends { IfOk result (λ ends. ends ≡ ends_at sim.old.seen call) }
     ensures sim { OnOk result (sim.new.seen ≡ (served sim.old.seen call).sim) }
 {
@@ -151,7 +154,8 @@ fn take_line(
     number: u64,
     line: &[u8],
 ) -> Result<bool, OutOfMemory>
-    ensures { IfOk result (λ ends. (lines : List _) → found.new.items ++ of_rest ends all sim.new.seen (number + 1) lines
+    ensures { IfOk result (λ ends. (lines : List _)
+        → found.new.items ++ of_rest ends all sim.new.seen (number + 1) lines
         ≡ found.old.items ++ of_script_steps all sim.old.seen number (line.now ∷ lines)) }
 {
     match line_of(alloc, sim.cluster(), line)? {
@@ -177,7 +181,8 @@ pub fn step_lines(
     script: &[u8],
 ) -> Result<Vec<Finding>, OutOfMemory>
     requires numbers { first + length script.now ≤ 2 ^ 64 }
-    ensures { IfOk result (λ found. found.items ≡ of_script_steps all sim.old.seen first (map content (raw_lines script.now))) }
+    ensures { IfOk result (λ found.
+        found.items ≡ of_script_steps all sim.old.seen first (map content (raw_lines script.now))) }
 {
     let mut found = Vec::new(alloc);
     let mut rest = script;

@@ -52,7 +52,8 @@ impl AppSets {
     // An application has this set from now on.
     pub fn set(&mut self, app: App, set: NodeSet)
         requires { app.0 < MAX_APPS }
-        ensures { (a : App) (n : Node) → is_among self.new a n ≡ (if same_app a app then has set n else is_among self.old a n) }
+        ensures { (a : App) (n : Node) → is_among self.new a n
+            ≡ (if same_app a app then has set n else is_among self.old a n) }
     {
         self.sets[app.0 as usize] = set;
     }
@@ -61,7 +62,8 @@ impl AppSets {
     pub fn put(&mut self, app: App, node: Node, member: bool)
         requires app { app.0 < MAX_APPS }
         requires node { node.0 < LIMIT }
-        ensures { (a : App) (n : Node) → is_among self.new a n ≡ (if same_app a app && same_node n node then member else is_among self.old a n) }
+        ensures { (a : App) (n : Node) → is_among self.new a n
+            ≡ (if same_app a app && same_node n node then member else is_among self.old a n) }
     {
         let set = self.of(app).put(node, member);
         self.set(app, set);

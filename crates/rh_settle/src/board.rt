@@ -50,7 +50,13 @@ impl Model for Board {
 
     ghost Value = { BoardView };
 
-    ghost view = { λ b. record { starts = b.starts; local = b.local; moving = b.moving; fresh = b.fresh; able = b.able } };
+    ghost view = { λ b. record {
+      starts = b.starts;
+      local = b.local;
+      moving = b.moving;
+      fresh = b.fresh;
+      able = b.able;
+    } };
 }
 
 impl Board {
@@ -99,7 +105,8 @@ impl Board {
     /// The nodes at which an application can run and has a fresh pair.
     pub fn callers(&self, app: App) -> NodeSet
         requires { app.0 < MAX_APPS }
-        ensures { (n : Node) → has result n ≡ (is_among self.now.fresh app n && is_among self.now.able app n) }
+        ensures { (n : Node)
+            → has result n ≡ (is_among self.now.fresh app n && is_among self.now.able app n) }
     {
         self.fresh.of(app).and(self.able.of(app))
     }
@@ -112,11 +119,18 @@ impl Board {
         ensures marks { self.new.local ≡ self.old.local }
         ensures moving { self.new.moving ≡ self.old.moving }
         ensures fresh { self.new.fresh ≡ self.old.fresh }
-        ensures local { touches_local (read state.now).cluster moved ≡ true → has self.new.starts node ≡ is_some (head (local_moves (read state.now) node)) }
-        ensures apart { touches_local (read state.now).cluster moved ≡ false → self.new.starts ≡ self.old.starts }
-        ensures starts { (n : Node) → same_node n node ≡ false → has self.new.starts n ≡ has self.old.starts n }
-        ensures here { (a : App) → IsAppOf (read state.now).cluster a → is_marked self.new.moving a ≡ true → touches (read state.now).cluster moved a ≡ true → matters (read state.now) self.new.fresh a node ≡ true → is_among self.new.able a node ≡ is_operational (read state.now) a node }
-        ensures able { (a : App) (n : Node) → touches (read state.now).cluster moved a && same_node n node ≡ false → is_among self.new.able a n ≡ is_among self.old.able a n }
+        ensures local { touches_local (read state.now).cluster moved ≡ true
+            → has self.new.starts node ≡ is_some (head (local_moves (read state.now) node)) }
+        ensures apart { touches_local (read state.now).cluster moved ≡ false
+            → self.new.starts ≡ self.old.starts }
+        ensures starts { (n : Node) → same_node n node ≡ false
+            → has self.new.starts n ≡ has self.old.starts n }
+        ensures here { (a : App) → IsAppOf (read state.now).cluster a
+            → is_marked self.new.moving a ≡ true → touches (read state.now).cluster moved a ≡ true
+            → matters (read state.now) self.new.fresh a node ≡ true
+            → is_among self.new.able a node ≡ is_operational (read state.now) a node }
+        ensures able { (a : App) (n : Node) → touches (read state.now).cluster moved a
+            && same_node n node ≡ false → is_among self.new.able a n ≡ is_among self.old.able a n }
     {
         let _few_apps = state.cluster().app_count();
         let _few_nodes = state.cluster().node_count();
@@ -138,7 +152,8 @@ impl Board {
         requires app { IsAppOf (read state.now).cluster (mover made) }
         requires nodes { All (IsNodeOf (read state.now).cluster) (nodes_changed made) }
         requires marks { MarksLocals (read state.now).cluster self.old.local }
-        ensures { (s : StateView) (fresh : List Pair) → IsBoardOf s fresh self.old → read state.now ≡ moved_state s made → IsBoardOf (read state.now) fresh self.new }
+        ensures { (s : StateView) (fresh : List Pair) → IsBoardOf s fresh self.old
+            → read state.now ≡ moved_state s made → IsBoardOf (read state.now) fresh self.new }
     {
         state.formed();
         match made {
@@ -164,7 +179,8 @@ fn touches_local(cluster: &Cluster, local: &AppMarks, moved: App) -> bool
 // Puts a pair to the fresh ones, and marks its application.
 fn add_pair(sets: &mut AppSets, marks: &mut AppMarks, pair: Pair)
     requires { Covers marks.old sets.old }
-    ensures pairs { (a : App) (n : Node) → a.0 < MAX_APPS → n.0 < LIMIT → is_among sets.new a n ≡ (is_among sets.old a n || (same_node n pair.node && same_app a pair.app)) }
+    ensures pairs { (a : App) (n : Node) → a.0 < MAX_APPS → n.0 < LIMIT → is_among sets.new a n
+        ≡ (is_among sets.old a n || (same_node n pair.node && same_app a pair.app)) }
     ensures covered { Covers marks.new sets.new }
     ensures kept { (a : App) → is_marked marks.old a ≡ true → is_marked marks.new a ≡ true }
 {
@@ -177,7 +193,8 @@ fn add_pair(sets: &mut AppSets, marks: &mut AppMarks, pair: Pair)
 // Puts pairs to the fresh ones, and marks their applications.
 fn add_fresh(sets: &mut AppSets, marks: &mut AppMarks, pairs: &[Pair])
     requires { Covers marks.old sets.old }
-    ensures pairs { (a : App) (n : Node) → a.0 < MAX_APPS → n.0 < LIMIT → is_among sets.new a n ≡ (is_among sets.old a n || is_fresh pairs.now n a) }
+    ensures pairs { (a : App) (n : Node) → a.0 < MAX_APPS → n.0 < LIMIT
+        → is_among sets.new a n ≡ (is_among sets.old a n || is_fresh pairs.now n a) }
     ensures covered { Covers marks.new sets.new }
     ensures kept { (a : App) → is_marked marks.old a ≡ true → is_marked marks.new a ≡ true }
 {
@@ -226,7 +243,9 @@ fn with_list(set: NodeSet, cluster: &Cluster, app: App) -> NodeSet
 // The nodes at which an application can run, as far as that is asked.
 fn able_nodes(state: &State, app: App, fresh: NodeSet) -> NodeSet
     requires { IsAppOf (read state.now).cluster app }
-    ensures { (n : Node) → (is_wanted (standing_of (read state.now) app) && is_some (group_of (read state.now).cluster app n)) || has fresh n ≡ true → has result n ≡ is_operational (read state.now) app n }
+    ensures { (n : Node) → (is_wanted (standing_of (read state.now) app)
+        && is_some (group_of (read state.now).cluster app n)) || has fresh n ≡ true
+        → has result n ≡ is_operational (read state.now) app n }
 {
     match state.standing(app) {
         Standing::Wanted(_) => {
@@ -238,7 +257,9 @@ fn able_nodes(state: &State, app: App, fresh: NodeSet) -> NodeSet
 
 // Finds for each of these applications where it can run, as far as that is asked.
 fn find_able(state: &State, moving: &AppMarks, fresh: &AppSets, able: &mut AppSets)
-    ensures { (n : Node) (a : App) → IsAppOf (read state.now).cluster a → is_marked moving.now a ≡ true → is_asked (read state.now) fresh.now a n ≡ true → is_among able.new a n ≡ is_operational (read state.now) a n }
+    ensures { (n : Node) (a : App) → IsAppOf (read state.now).cluster a
+        → is_marked moving.now a ≡ true → is_asked (read state.now) fresh.now a n ≡ true
+        → is_among able.new a n ≡ is_operational (read state.now) a n }
 {
     let count = state.cluster().app_count();
     let mut rest = moving.copy();
@@ -260,8 +281,10 @@ fn matters(state: &State, fresh: &AppSets, app: App, node: Node) -> bool
 fn look_again_for(state: &State, fresh: &AppSets, app: App, node: Node, able: &mut AppSets)
     requires app { IsAppOf (read state.now).cluster app }
     requires node { IsNodeOf (read state.now).cluster node }
-    ensures here { matters (read state.now) fresh.now app node ≡ true → is_among able.new app node ≡ is_operational (read state.now) app node }
-    ensures others { (a : App) (n : Node) → same_app a app && same_node n node ≡ false → is_among able.new a n ≡ is_among able.old a n }
+    ensures here { matters (read state.now) fresh.now app node ≡ true
+        → is_among able.new app node ≡ is_operational (read state.now) app node }
+    ensures others { (a : App) (n : Node) → same_app a app && same_node n node ≡ false
+        → is_among able.new a n ≡ is_among able.old a n }
 {
     let _few = state.cluster().app_count();
     let _nodes = state.cluster().node_count();
@@ -281,8 +304,11 @@ fn look_again_at(
 )
     requires app { IsAppOf (read state.now).cluster moved }
     requires node { IsNodeOf (read state.now).cluster node }
-    ensures here { (a : App) → IsAppOf (read state.now).cluster a → is_marked moving.now a ≡ true → touches (read state.now).cluster moved a ≡ true → matters (read state.now) fresh.now a node ≡ true → is_among able.new a node ≡ is_operational (read state.now) a node }
-    ensures others { (a : App) (n : Node) → touches (read state.now).cluster moved a && same_node n node ≡ false → is_among able.new a n ≡ is_among able.old a n }
+    ensures here { (a : App) → IsAppOf (read state.now).cluster a → is_marked moving.now a ≡ true
+        → touches (read state.now).cluster moved a ≡ true → matters (read state.now) fresh.now a
+        node ≡ true → is_among able.new a node ≡ is_operational (read state.now) a node }
+    ensures others { (a : App) (n : Node) → touches (read state.now).cluster moved a
+        && same_node n node ≡ false → is_among able.new a n ≡ is_among able.old a n }
 {
     let count = state.cluster().app_count();
     let mut rest = moving.and(&state.cluster().touched_by(moved));

@@ -14,7 +14,8 @@ use rh_state::{Standing, State};
 
 // Does the group of a node come before that of another one? The walk ends at the first group that has one of the two.
 fn comes_before(groups: &[Group], node: Node, other: Node) -> bool
-    ensures { result ≡ comes_before (position (is_in node) groups.now) (position (is_in other) groups.now) }
+    ensures { result
+        ≡ comes_before (position (is_in node) groups.now) (position (is_in other) groups.now) }
 {
     'groups: for group in groups {
         if is_in(other, group.as_slice()) {
@@ -30,7 +31,8 @@ fn comes_before(groups: &[Group], node: Node, other: Node) -> bool
 // Does the group of a node come before that of another one in an application's node list?
 fn is_earlier(cluster: &Cluster, app: App, node: Node, other: Node) -> bool
     requires { IsAppOf cluster.now app }
-    ensures { result ≡ comes_before (group_of cluster.now app node) (group_of cluster.now app other) }
+    ensures { result
+        ≡ comes_before (group_of cluster.now app node) (group_of cluster.now app other) }
 {
     match cluster.spread(app) {
         Some(spread) => comes_before(spread.groups.as_slice(), node, other),
@@ -65,7 +67,8 @@ fn any_can_call(state: &State, pairs: &[Pair]) -> bool
 /// each takes a walk along its application's list, and a board takes one walk for an application, however many of its pairs
 /// are fresh.
 pub(crate) fn may_call(state: &State, pairs: &[Pair]) -> bool
-    ensures { result ≡ (nat_lt (app_count (read state.now).cluster) (length pairs.now) || list_any (can_call (read state.now)) pairs.now) }
+    ensures { result ≡ (nat_lt (app_count (read state.now).cluster) (length pairs.now)
+        || list_any (can_call (read state.now)) pairs.now) }
 {
     pairs.len() > state.cluster().app_count() || any_can_call(state, pairs)
 }

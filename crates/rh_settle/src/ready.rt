@@ -110,7 +110,8 @@ fn half_marks(state: &State, from: usize, end: usize) -> u64
     requires end { end ≤ app_count (read state.now).cluster }
     requires from { from ≤ end }
     requires few { end ≤ from + 64 }
-    ensures { (a b : App) → a.0 < end → a.0 ≡ b.0 + from → is_marked (marks_of result) b ≡ is_wanted (standing_of (read state.now) a) }
+    ensures { (a b : App) → a.0 < end → a.0 ≡ b.0 + from
+        → is_marked (marks_of result) b ≡ is_wanted (standing_of (read state.now) a) }
 {
     let _few_apps = state.cluster().app_count();
     let mut wanted = 0;
@@ -126,7 +127,8 @@ fn half_marks(state: &State, from: usize, end: usize) -> u64
 // The applications of a state that are to run. Each half of them has marks in a word of its own on the way: a mark that moves
 // up in a word of twice that size takes twice the instructions.
 fn all_marks(state: &State) -> AppMarks
-    ensures { (a : App) → IsAppOf (read state.now).cluster a → is_marked result a ≡ is_wanted (standing_of (read state.now) a) }
+    ensures { (a : App) → IsAppOf (read state.now).cluster a
+        → is_marked result a ≡ is_wanted (standing_of (read state.now) a) }
 {
     let count = state.cluster().app_count();
     let half = if count < 64 { count } else { 64 };
@@ -137,7 +139,8 @@ fn all_marks(state: &State) -> AppMarks
 
 // The same, where mostly none is to run: to ask that of all of them at once costs less than their marks.
 fn wanted_marks(state: &State) -> AppMarks
-    ensures { (a : App) → IsAppOf (read state.now).cluster a → is_marked result a ≡ is_wanted (standing_of (read state.now) a) }
+    ensures { (a : App) → IsAppOf (read state.now).cluster a
+        → is_marked result a ≡ is_wanted (standing_of (read state.now) a) }
 {
     if has_wanted(state.standings()) {
         all_marks(state)
@@ -168,7 +171,8 @@ fn local_nodes(state: &State, local: &AppMarks) -> NodeSet
 fn with_pair(set: NodeSet, state: &State, local: &AppMarks, pair: Pair) -> NodeSet
     requires local { MarksLocals (read state.now).cluster local.now }
     requires pair { IsPairOf (read state.now).cluster pair }
-    ensures { (n : Node) → has result n ≡ (has set n || (same_node n pair.node && (waits_at (read state.now) pair.node pair.app && can_start (read state.now) pair.node pair.app))) }
+    ensures { (n : Node) → has result n ≡ (has set n || (same_node n pair.node && (waits_at
+        (read state.now) pair.node pair.app && can_start (read state.now) pair.node pair.app))) }
 {
     state.formed();
     let _few_apps = state.cluster().app_count();

@@ -124,7 +124,8 @@ pub(crate) fn starts_at(state: &State, local: &AppMarks, node: Node) -> bool
 // The local move that comes next.
 fn next_local(state: &State, board: &Board) -> Option<Move>
     requires { (n : Node) → IsExactAt (read state.now) board.now n }
-    ensures { (pick : Pick) → result ≡ picked pick (first_given (local_moves (read state.now)) (nodes_of (read state.now).cluster)) }
+    ensures { (pick : Pick) → result ≡ picked pick
+        (first_given (local_moves (read state.now)) (nodes_of (read state.now).cluster)) }
 {
     state.formed();
     match board.starts().first() {
@@ -152,7 +153,8 @@ fn placement_of(state: &State, board: &Board, app: App, pick: Pick) -> Option<Mo
 // The placement that comes next.
 fn next_placement(state: &State, board: &Board, pick: Pick) -> Option<Move>
     requires { (n : Node) → IsExactAt (read state.now) board.now n }
-    ensures { result ≡ picked pick (first_given (placements (read state.now)) (apps_of (read state.now).cluster)) }
+    ensures { result ≡ picked pick
+        (first_given (placements (read state.now)) (apps_of (read state.now).cluster)) }
 {
     let count = state.cluster().app_count();
     let mut rest = board.moving_apps();
@@ -168,7 +170,8 @@ fn next_placement(state: &State, board: &Board, pick: Pick) -> Option<Move>
 fn with_group(set: NodeSet, group: &[Node], from: Node) -> Option<NodeSet>
     requires { All (λ (n : Node). n.0 < LIMIT) group.now }
     ensures apart { IfSome result (λ more. is_in from group.now ≡ false) }
-    ensures more { IfSome result (λ more. (n : Node) → has more n ≡ (has set n || is_in n group.now)) }
+    ensures more { IfSome result
+        (λ more. (n : Node) → has more n ≡ (has set n || is_in n group.now)) }
     ensures here { IsNone result → is_in from group.now ≡ true }
 {
     let mut more = set;
@@ -185,7 +188,8 @@ fn with_group(set: NodeSet, group: &[Node], from: Node) -> Option<NodeSet>
 // application runs at the first node where it can.
 fn nodes_before(groups: &[Group], from: Node) -> NodeSet
     requires { All (All (λ (n : Node). n.0 < LIMIT)) groups.now }
-    ensures { (n : Node) → has result n ≡ comes_before (position (is_in n) groups.now) (position (is_in from) groups.now) }
+    ensures { (n : Node) → has result n
+        ≡ comes_before (position (is_in n) groups.now) (position (is_in from) groups.now) }
 {
     let mut nodes = NodeSet::empty();
     'groups: for group in groups {
@@ -200,7 +204,9 @@ fn nodes_before(groups: &[Group], from: Node) -> NodeSet
 // The nodes of the set whose groups come before that of a node.
 fn earlier(state: &State, app: App, from: Node, set: NodeSet) -> NodeSet
     requires { app.0 < app_count (read state.now).cluster }
-    ensures nodes { (n : Node) → has result n ≡ (comes_before (group_of (read state.now).cluster app n) (group_of (read state.now).cluster app from) && has set n) }
+    ensures nodes { (n : Node)
+        → has result n ≡ (comes_before (group_of (read state.now).cluster app n)
+        (group_of (read state.now).cluster app from) && has set n) }
     ensures others { (n : Node) → node_count (read state.now).cluster ≤ n.0 → has result n ≡ false }
 {
     let cluster = state.cluster();
@@ -216,7 +222,9 @@ fn earlier(state: &State, app: App, from: Node, set: NodeSet) -> NodeSet
 fn takeover_from(state: &State, app: App, from: Node, callers: NodeSet, pick: Pick) -> Option<Move>
     requires app { app.0 < app_count (read state.now).cluster }
     requires from { from.0 < node_count (read state.now).cluster }
-    ensures { (fresh : List Pair) → ((n : Node) → n.0 < node_count (read state.now).cluster → has callers n ≡ (is_fresh fresh n app && is_operational (read state.now) app n)) → result ≡ picked pick (takeovers_from (read state.now) fresh app (Running from)) }
+    ensures { (fresh : List Pair) → ((n : Node) → n.0 < node_count (read state.now).cluster
+        → has callers n ≡ (is_fresh fresh n app && is_operational (read state.now) app n))
+        → result ≡ picked pick (takeovers_from (read state.now) fresh app (Running from)) }
 {
     state.formed();
     let _few = state.cluster().node_count();
@@ -237,7 +245,9 @@ fn takeover_from(state: &State, app: App, from: Node, callers: NodeSet, pick: Pi
 #[tactic(auto, unfolding(rh_rules::specs::Moves::takeovers))]
 fn takeover_by(state: &State, app: App, callers: NodeSet, pick: Pick) -> Option<Move>
     requires { app.0 < app_count (read state.now).cluster }
-    ensures { (fresh : List Pair) → ((n : Node) → n.0 < node_count (read state.now).cluster → has callers n ≡ (is_fresh fresh n app && is_operational (read state.now) app n)) → result ≡ picked pick (takeovers (read state.now) fresh app) }
+    ensures { (fresh : List Pair) → ((n : Node) → n.0 < node_count (read state.now).cluster
+        → has callers n ≡ (is_fresh fresh n app && is_operational (read state.now) app n))
+        → result ≡ picked pick (takeovers (read state.now) fresh app) }
 {
     match state.standing(app) {
         Standing::Running(from) => takeover_from(state, app, from, callers, pick),
@@ -248,7 +258,8 @@ fn takeover_by(state: &State, app: App, callers: NodeSet, pick: Pick) -> Option<
 // The takeover of an application.
 fn takeover_of(state: &State, board: &Board, app: App, pick: Pick) -> Option<Move>
     requires { app.0 < app_count (read state.now).cluster }
-    ensures { (fresh : List Pair) → IsBoardOf (read state.now) fresh board.now → result ≡ picked pick (takeovers (read state.now) fresh app) }
+    ensures { (fresh : List Pair) → IsBoardOf (read state.now) fresh board.now
+        → result ≡ picked pick (takeovers (read state.now) fresh app) }
 {
     state.formed();
     let _few = state.cluster().app_count();
@@ -261,7 +272,8 @@ fn takeover_of(state: &State, board: &Board, app: App, pick: Pick) -> Option<Mov
 
 // The takeover that comes next.
 fn next_takeover(state: &State, board: &Board, pick: Pick) -> Option<Move>
-    ensures { (fresh : List Pair) → IsBoardOf (read state.now) fresh board.now → result ≡ picked pick (first_given (takeovers (read state.now) fresh) (apps_of (read state.now).cluster)) }
+    ensures { (fresh : List Pair) → IsBoardOf (read state.now) fresh board.now → result ≡ picked
+        pick (first_given (takeovers (read state.now) fresh) (apps_of (read state.now).cluster)) }
 {
     state.formed();
     let count = state.cluster().app_count();
@@ -277,7 +289,8 @@ fn next_takeover(state: &State, board: &Board, pick: Pick) -> Option<Move>
 /// The move that comes next, by the state's board.
 pub(crate) fn next_on(state: &State, board: &Board, pick: Pick) -> Option<Move>
     requires { (n : Node) → IsExactAt (read state.now) board.now n }
-    ensures { (fresh : List Pair) → IsBoardOf (read state.now) fresh board.now → result ≡ picked pick (next_moves (read state.now) fresh) }
+    ensures { (fresh : List Pair) → IsBoardOf (read state.now) fresh board.now
+        → result ≡ picked pick (next_moves (read state.now) fresh) }
 {
     if let Some(next) = next_local(state, board) {
         return Some(next);

@@ -32,7 +32,8 @@ fn make_ready_moves(
 ) -> Result<(), OutOfMemory>
     requires ready { IsReadyOf (read state.old) ready }
     requires runs { RunsWhereItStands (read state.old) }
-    ensures moved { OnOk result (course (read state.new) trace.new ≡ all_moved pick (course (read state.old) trace.old)) }
+    ensures moved { OnOk result
+        (course (read state.new) trace.new ≡ all_moved pick (course (read state.old) trace.old)) }
     ensures still { OnOk result (nexts (course (read state.new) trace.new) ≡ []) }
     ensures cluster { (read state.new).cluster ≡ (read state.old).cluster }
     ensures runs { OnOk result (RunsWhereItStands (read state.new)) }
@@ -59,7 +60,8 @@ fn make_moves(
 ) -> Result<(), OutOfMemory>
     requires ready { IsReadyOf (read state.old) ready }
     requires runs { RunsWhereItStands (read state.old) }
-    ensures moved { OnOk result (course (read state.new) trace.new ≡ all_moved pick (course (read state.old) trace.old)) }
+    ensures moved { OnOk result
+        (course (read state.new) trace.new ≡ all_moved pick (course (read state.old) trace.old)) }
     ensures still { OnOk result (nexts (course (read state.new) trace.new) ≡ []) }
     ensures cluster { (read state.new).cluster ≡ (read state.old).cluster }
     ensures runs { OnOk result (RunsWhereItStands (read state.new)) }
@@ -85,7 +87,8 @@ fn waits(state: &State, pair: Pair) -> bool
 // A pair is told if it waits.
 fn tell_if_waiting(state: &State, pair: Pair, trace: &mut Trace) -> Result<(), OutOfMemory>
     requires { IsPairOf (read state.now).cluster pair }
-    ensures course { OnOk result (course (read state.now) trace.new ≡ tell_waiting (course (read state.now) trace.old) pair) }
+    ensures course { OnOk result (course (read state.now) trace.new
+        ≡ tell_waiting (course (read state.now) trace.old) pair) }
     ensures way { Goes state.now trace.old state.now trace.new }
     ensures few { FewEdits 0 trace.old trace.new }
 {
@@ -102,7 +105,8 @@ fn tell_if_waiting(state: &State, pair: Pair, trace: &mut Trace) -> Result<(), O
 #[tactic(auto, using(rh_trace::proofs::Ways::goes_none))]
 fn tell_waiting(state: &State, trace: &mut Trace) -> Result<(), OutOfMemory>
     requires { All (IsPairOf (read state.now).cluster) trace.old.marked }
-    ensures course { OnOk result (course (read state.now) trace.new ≡ waits_told (course (read state.now) trace.old)) }
+    ensures course { OnOk result
+        (course (read state.now) trace.new ≡ waits_told (course (read state.now) trace.old)) }
     ensures way { Goes state.now trace.old state.now trace.new }
     ensures few { FewEdits 0 trace.old trace.new }
 {
@@ -124,10 +128,14 @@ fn settle_ready(
     requires ready { IsReadyOf (read state.old) ready }
     requires marked { All (IsPairOf (read state.old).cluster) trace.old.marked }
     requires runs { RunsWhereItStands (read state.old) }
-    ensures settled { OnOk result (course (read state.new) trace.new ≡ settled pick (course (read state.old) trace.old)) }
-    ensures allowed { OnOk result (Settles (course (read state.old) trace.old) (course (read state.new) trace.new)) }
-    ensures few { (p : Course) (run : Settles (course (read state.old) trace.old) p) → length run.moves ≤ 2 * pair_count (read state.old).cluster }
-    ensures still { OnOk result (NoneEnabled (read state.new) (fresh_of (course (read state.new) trace.new))) }
+    ensures settled { OnOk result
+        (course (read state.new) trace.new ≡ settled pick (course (read state.old) trace.old)) }
+    ensures allowed { OnOk result
+        (Settles (course (read state.old) trace.old) (course (read state.new) trace.new)) }
+    ensures few { (p : Course) (run : Settles (course (read state.old) trace.old) p)
+        → length run.moves ≤ 2 * pair_count (read state.old).cluster }
+    ensures still { OnOk result
+        (NoneEnabled (read state.new) (fresh_of (course (read state.new) trace.new))) }
     ensures cluster { (read state.new).cluster ≡ (read state.old).cluster }
     ensures runs { OnOk result (RunsWhereItStands (read state.new)) }
     ensures way { Goes state.old trace.old state.new trace.new }
@@ -143,10 +151,14 @@ fn settle_ready(
 pub fn settle(state: &mut State, pick: Pick, trace: &mut Trace) -> Result<(), OutOfMemory>
     requires marked { All (IsPairOf (read state.old).cluster) trace.old.marked }
     requires runs { RunsWhereItStands (read state.old) }
-    ensures settled { OnOk result (course (read state.new) trace.new ≡ settled pick (course (read state.old) trace.old)) }
-    ensures allowed { OnOk result (Settles (course (read state.old) trace.old) (course (read state.new) trace.new)) }
-    ensures few { (p : Course) (run : Settles (course (read state.old) trace.old) p) → length run.moves ≤ 2 * pair_count (read state.old).cluster }
-    ensures still { OnOk result (NoneEnabled (read state.new) (fresh_of (course (read state.new) trace.new))) }
+    ensures settled { OnOk result
+        (course (read state.new) trace.new ≡ settled pick (course (read state.old) trace.old)) }
+    ensures allowed { OnOk result
+        (Settles (course (read state.old) trace.old) (course (read state.new) trace.new)) }
+    ensures few { (p : Course) (run : Settles (course (read state.old) trace.old) p)
+        → length run.moves ≤ 2 * pair_count (read state.old).cluster }
+    ensures still { OnOk result
+        (NoneEnabled (read state.new) (fresh_of (course (read state.new) trace.new))) }
     ensures cluster { (read state.new).cluster ≡ (read state.old).cluster }
     ensures runs { OnOk result (RunsWhereItStands (read state.new)) }
     ensures way { Goes state.old trace.old state.new trace.new }
@@ -162,10 +174,14 @@ pub fn settle_marked(state: &mut State, pick: Pick, trace: &mut Trace) -> Result
     requires marked { All (IsPairOf (read state.old).cluster) trace.old.marked }
     requires runs { RunsWhereItStands (read state.old) }
     requires starts { StartsAreMarked (course (read state.old) trace.old) }
-    ensures settled { OnOk result (course (read state.new) trace.new ≡ settled pick (course (read state.old) trace.old)) }
-    ensures allowed { OnOk result (Settles (course (read state.old) trace.old) (course (read state.new) trace.new)) }
-    ensures few { (p : Course) (run : Settles (course (read state.old) trace.old) p) → length run.moves ≤ 2 * pair_count (read state.old).cluster }
-    ensures still { OnOk result (NoneEnabled (read state.new) (fresh_of (course (read state.new) trace.new))) }
+    ensures settled { OnOk result
+        (course (read state.new) trace.new ≡ settled pick (course (read state.old) trace.old)) }
+    ensures allowed { OnOk result
+        (Settles (course (read state.old) trace.old) (course (read state.new) trace.new)) }
+    ensures few { (p : Course) (run : Settles (course (read state.old) trace.old) p)
+        → length run.moves ≤ 2 * pair_count (read state.old).cluster }
+    ensures still { OnOk result
+        (NoneEnabled (read state.new) (fresh_of (course (read state.new) trace.new))) }
     ensures cluster { (read state.new).cluster ≡ (read state.old).cluster }
     ensures runs { OnOk result (RunsWhereItStands (read state.new)) }
     ensures way { Goes state.old trace.old state.new trace.new }

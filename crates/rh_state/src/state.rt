@@ -54,9 +54,32 @@ impl Model for State {
 
     ghost Value = { Stored };
 
-    ghost view = { λ s. record { cluster = s.cluster.value; time = s.time; modes = s.modes.items; incarnations = s.incarnations.items; links = s.links; restarts = s.restarts; kinds = s.kinds; allowed = s.allowed; standings = s.standings.items; wheel = s.wheel } };
+    ghost view = { λ s. record {
+      cluster = s.cluster.value;
+      time = s.time;
+      modes = s.modes.items;
+      incarnations = s.incarnations.items;
+      links = s.links;
+      restarts = s.restarts;
+      kinds = s.kinds;
+      allowed = s.allowed;
+      standings = s.standings.items;
+      wheel = s.wheel;
+    } };
 
-    ghost invariant = { λ s. IsFormed (record { cluster = s.cluster.value; time = s.time; modes = s.modes.items; incarnations = s.incarnations.items; links = s.links; restarts = s.restarts; kinds = s.kinds; allowed = s.allowed; standings = s.standings.items; wheel = s.wheel }) };
+    ghost invariant = { λ s.
+        IsFormed (record {
+          cluster = s.cluster.value;
+          time = s.time;
+          modes = s.modes.items;
+          incarnations = s.incarnations.items;
+          links = s.links;
+          restarts = s.restarts;
+          kinds = s.kinds;
+          allowed = s.allowed;
+          standings = s.standings.items;
+          wheel = s.wheel;
+        }) };
 }
 
 impl State {
@@ -199,7 +222,8 @@ fn push_permissions(
     node: Node,
 ) -> Result<(), OutOfMemory>
     requires { node.0 < node_count cluster.now }
-    ensures { IfOk result (λ _. permissions.new.items ≡ permissions.old.items ++ configured cluster.now node) }
+    ensures { IfOk result
+        (λ _. permissions.new.items ≡ permissions.old.items ++ configured cluster.now node) }
 {
     for number in 0..cluster.app_count() {
         permissions.push(cluster.permitted(node, App(number as u8)))?;

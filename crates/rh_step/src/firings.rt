@@ -81,7 +81,8 @@ fn fire_each(
 ) -> Result<Vec<FiredTimer>, OutOfMemory>
     requires limit { limit ≤ time_limit }
     requires valid { IsValid (read state.old) }
-    ensures firings { IfOk result (λ fired. fired.items ≡ firings_by pick (length (read state.old).timers) limit (read state.old)) }
+    ensures firings { IfOk result (λ fired.
+        fired.items ≡ firings_by pick (length (read state.old).timers) limit (read state.old)) }
     ensures edits { Grows state.old edits.old.items state.new edits.new.items }
 {
     let mut fired = Vec::new(alloc);
@@ -105,8 +106,10 @@ fn fire_alone(
     requires timer { IsTimerOf (read state.old).cluster timer }
     requires first { earliest (read state.old) ≡ Some (due, timer) }
     requires valid { IsValid (read state.old) }
-    ensures firing { IfOk result (λ f. f ≡ firing due (fired_in pick (read state.old) (due, timer)).notices) }
-    ensures state { OnOk result (read state.new ≡ (fired_in pick (read state.old) (due, timer)).state) }
+    ensures firing { IfOk result
+        (λ f. f ≡ firing due (fired_in pick (read state.old) (due, timer)).notices) }
+    ensures state { OnOk result
+        (read state.new ≡ (fired_in pick (read state.old) (due, timer)).state) }
     ensures edits { Grows state.old edits.old.items state.new edits.new.items }
 {
     let before = mem::replace(edits, Vec::new(alloc));

@@ -56,11 +56,12 @@ pub fn perform(
     requires accepted { refused (read state.old) event.now ≡ None }
     requires valid { IsValid (read state.old) }
     ensures state { OnOk result (read state.new ≡ (next (read state.old) event.now pick).state) }
-    ensures notices { OnOk result (notices.new.items ≡ notices.old.items ++ (next (read state.old) event.now pick).notices) }
+    ensures notices { OnOk result
+        (notices.new.items ≡ notices.old.items ++ (next (read state.old) event.now pick).notices) }
 
     // The rules allow this outcome, and it is again a state that a cluster reaches.
-    ensures allowed { OnOk result ((told : List Notice) × (notices.new.items ≡ notices.old.items ++ told)
-        × Allowed (read state.old) event.now (outcome (read state.new) told)) }
+    ensures allowed { OnOk result ((told : List Notice) × (notices.new.items ≡ notices.old.items
+        ++ told) × Allowed (read state.old) event.now (outcome (read state.new) told)) }
     ensures valid { OnOk result (IsValid (read state.new)) }
 
     // The edits that were added lead back to the state before, word for word, over states that are well formed.
@@ -94,9 +95,11 @@ fn make(state: &mut State, event: &Event, pick: Pick, trace: &mut Trace) -> Resu
     requires accepted { refused (read state.old) event.now ≡ None }
     requires valid { IsValid (read state.old) }
     requires marked { All (IsPairOf (read state.old).cluster) trace.old.marked }
-    ensures course { OnOk result (course (read state.new) trace.new ≡ next_from (course (read state.old) trace.old) event.now pick) }
+    ensures course { OnOk result (course (read state.new) trace.new
+        ≡ next_from (course (read state.old) trace.old) event.now pick) }
     ensures way { Goes state.old trace.old state.new trace.new }
-    ensures few { OnOk result (FewWeighed (read state.old).cluster (step_edits (read state.old) event.now (read state.new)) trace.old trace.new) }
+    ensures few { OnOk result (FewWeighed (read state.old).cluster
+        (step_edits (read state.old) event.now (read state.new)) trace.old trace.new) }
 {
     match *event {
         Event::Tick { ms } => pass_time(state, ms, pick, trace),
@@ -115,9 +118,11 @@ fn happen(
     requires accepted { refused (read state.old) event.now ≡ None }
     requires valid { IsValid (read state.old) }
     requires marked { All (IsPairOf (read state.old).cluster) trace.old.marked }
-    ensures course { OnOk result (course (read state.new) trace.new ≡ followed pick (course (read state.old) trace.old) event.now) }
+    ensures course { OnOk result (course (read state.new) trace.new
+        ≡ followed pick (course (read state.old) trace.old) event.now) }
     ensures way { Goes state.old trace.old state.new trace.new }
-    ensures few { OnOk result (FewWeighed (read state.old).cluster (own_edits (read state.old).cluster event.now) trace.old trace.new) }
+    ensures few { OnOk result (FewWeighed (read state.old).cluster
+        (own_edits (read state.old).cluster event.now) trace.old trace.new) }
 {
     change(state, event, trace)?;
     if may_let_start(event) {
@@ -142,7 +147,8 @@ fn may_let_start(event: &Event) -> bool
 fn follow(state: &mut State, pick: Pick, trace: &mut Trace) -> Result<(), OutOfMemory>
     requires sound { IsSound (read state.old) }
     requires marked { All (IsPairOf (read state.old).cluster) trace.old.marked }
-    ensures course { OnOk result (course (read state.new) trace.new ≡ settled pick (ready_come_up (course (read state.old) trace.old))) }
+    ensures course { OnOk result (course (read state.new) trace.new
+        ≡ settled pick (ready_come_up (course (read state.old) trace.old))) }
     ensures way { Goes state.old trace.old state.new trace.new }
     ensures few { OnOk result (FewWeighed (read state.old).cluster 0 trace.old trace.new) }
 {
@@ -155,7 +161,8 @@ pub fn follow_marked(state: &mut State, pick: Pick, trace: &mut Trace) -> Result
     requires sound { IsSound (read state.old) }
     requires marked { All (IsPairOf (read state.old).cluster) trace.old.marked }
     requires starts { StartsAreMarked (course (read state.old) trace.old) }
-    ensures course { OnOk result (course (read state.new) trace.new ≡ settled pick (ready_come_up (course (read state.old) trace.old))) }
+    ensures course { OnOk result (course (read state.new) trace.new
+        ≡ settled pick (ready_come_up (course (read state.old) trace.old))) }
     ensures way { Goes state.old trace.old state.new trace.new }
     ensures few { OnOk result (FewWeighed (read state.old).cluster 0 trace.old trace.new) }
 {

@@ -35,9 +35,11 @@ pub fn pass_time(
 ) -> Result<(), OutOfMemory>
     requires end { (read state.old).time + ms ≤ time_limit }
     requires valid { IsValid (read state.old) }
-    ensures course { OnOk result (course (read state.new) trace.new ≡ ticked pick (course (read state.old) trace.old) ms) }
+    ensures course { OnOk result
+        (course (read state.new) trace.new ≡ ticked pick (course (read state.old) trace.old) ms) }
     ensures way { Goes state.old trace.old state.new trace.new }
-    ensures few { OnOk result (FewWeighed (read state.old).cluster (1 + 3 * (length (read state.old).timers - length (read state.new).timers)) trace.old trace.new) }
+    ensures few { OnOk result (FewWeighed (read state.old).cluster (1 + 3 *
+        (length (read state.old).timers - length (read state.new).timers)) trace.old trace.new) }
 {
     let end = state.now() + ms;
     fire_due(state, end, pick, trace)?;
@@ -49,9 +51,11 @@ pub fn pass_time(
 fn fire_due(state: &mut State, limit: u64, pick: Pick, trace: &mut Trace) -> Result<(), OutOfMemory>
     requires limit { limit ≤ time_limit }
     requires valid { IsValid (read state.old) }
-    ensures course { OnOk result (course (read state.new) trace.new ≡ all_fired pick limit (course (read state.old) trace.old)) }
+    ensures course { OnOk result (course (read state.new) trace.new
+        ≡ all_fired pick limit (course (read state.old) trace.old)) }
     ensures way { Goes state.old trace.old state.new trace.new }
-    ensures few { OnOk result (FewWeighed (read state.old).cluster (3 * (length (read state.old).timers - length (read state.new).timers)) trace.old trace.new) }
+    ensures few { OnOk result (FewWeighed (read state.old).cluster (3 *
+        (length (read state.old).timers - length (read state.new).timers)) trace.old trace.new) }
 {
     'timers: while let Some((due, timer)) = due_by(state, limit) {
         fire(state, due, timer, pick, trace)?;
@@ -76,7 +80,8 @@ pub(crate) fn due_by(state: &State, limit: u64) -> Option<(u64, Timer)>
 fn take_off(state: &mut State, due: u64, timer: Timer, trace: &mut Trace) -> Result<(), OutOfMemory>
     requires due { due ≤ time_limit }
     requires timer { IsTimerOf (read state.old).cluster timer }
-    ensures course { OnOk result (course (read state.new) trace.new ≡ taken_off (course (read state.old) trace.old) (due, timer)) }
+    ensures course { OnOk result (course (read state.new) trace.new
+        ≡ taken_off (course (read state.old) trace.old) (due, timer)) }
     ensures way { Goes state.old trace.old state.new trace.new }
     ensures few { FewEdits 2 trace.old trace.new }
 {
@@ -99,7 +104,8 @@ pub(crate) fn fire(
     requires timer { IsTimerOf (read state.old).cluster timer }
     requires first { earliest (read state.old) ≡ Some (due, timer) }
     requires valid { IsValid (read state.old) }
-    ensures course { OnOk result (course (read state.new) trace.new ≡ fired pick (course (read state.old) trace.old) (due, timer)) }
+    ensures course { OnOk result (course (read state.new) trace.new
+        ≡ fired pick (course (read state.old) trace.old) (due, timer)) }
     ensures way { Goes state.old trace.old state.new trace.new }
     ensures few { OnOk result (FewWeighed (read state.old).cluster 3 trace.old trace.new) }
 {
@@ -113,8 +119,10 @@ fn take_effect(state: &mut State, timer: Timer, trace: &mut Trace) -> Result<(),
     requires timer { IsTimerOf (read state.old).cluster timer }
     requires running { (n : Node) → timer ≡ Sync n → running_at (read state.old) n ≡ [] }
     requires waiting { (n : Node) → timer ≡ Sync n → waiting_at (read state.old) n ≡ [] }
-    requires unset { (n : Node) (a : App) → timer ≡ Sync n → standing_of (read state.old) a ≡ Running n → IsNone (due_of (read state.old) (Failover a)) }
-    ensures course { OnOk result (course (read state.new) trace.new ≡ effect (course (read state.old) trace.old) timer) }
+    requires unset { (n : Node) (a : App) → timer ≡ Sync n → standing_of (read state.old) a
+        ≡ Running n → IsNone (due_of (read state.old) (Failover a)) }
+    ensures course { OnOk result
+        (course (read state.new) trace.new ≡ effect (course (read state.old) trace.old) timer) }
     ensures way { Goes state.old trace.old state.new trace.new }
     ensures few { OnOk result (FewWeighed (read state.old).cluster 1 trace.old trace.new) }
 {
@@ -129,8 +137,10 @@ fn end_wait(state: &mut State, node: Node, trace: &mut Trace) -> Result<(), OutO
     requires node { IsNodeOf (read state.old).cluster node }
     requires running { running_at (read state.old) node ≡ [] }
     requires waiting { waiting_at (read state.old) node ≡ [] }
-    requires unset { (a : App) → standing_of (read state.old) a ≡ Running node → IsNone (due_of (read state.old) (Failover a)) }
-    ensures course { OnOk result (course (read state.new) trace.new ≡ effect (course (read state.old) trace.old) (Sync node)) }
+    requires unset { (a : App) → standing_of (read state.old) a ≡ Running node
+        → IsNone (due_of (read state.old) (Failover a)) }
+    ensures course { OnOk result (course (read state.new) trace.new
+        ≡ effect (course (read state.old) trace.old) (Sync node)) }
     ensures way { Goes state.old trace.old state.new trace.new }
     ensures few { OnOk result (FewWeighed (read state.old).cluster 0 trace.old trace.new) }
 {
@@ -145,7 +155,8 @@ fn end_wait(state: &mut State, node: Node, trace: &mut Trace) -> Result<(), OutO
 #[tactic(auto, using(rh_trace::proofs::Ways::goes_none))]
 fn want_if_lost(state: &mut State, app: App, trace: &mut Trace) -> Result<(), OutOfMemory>
     requires { app.0 < app_count (read state.old).cluster }
-    ensures part { OnOk result (read state.new ≡ wanted_if_lost (read state.old) app (standing_of (read state.old) app)) }
+    ensures part { OnOk result
+        (read state.new ≡ wanted_if_lost (read state.old) app (standing_of (read state.old) app)) }
     ensures silent { TellsNothing trace.old trace.new }
     ensures way { Goes state.old trace.old state.new trace.new }
     ensures few { FewEdits 1 trace.old trace.new }

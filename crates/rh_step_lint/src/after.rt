@@ -43,7 +43,8 @@ impl<'a> Step<'a> {
     // Has a node all others for which it waits, with the one that boots?
     #[tactic(auto, using(crate::proofs::Joined::all_joined))]
     fn has_others_with(&self, booting: Node, node: Node) -> bool
-        ensures { result ≡ has_others_with self.now.state booting node (sync_wait_of self.now.state.cluster node) }
+        ensures { result ≡ has_others_with self.now.state booting node
+            (sync_wait_of self.now.state.cluster node) }
     {
         match self.sync_wait(node) {
             SyncWait::Unset => true,

@@ -62,7 +62,8 @@ impl<'a> Step<'a> {
 
     /// Is a node in the lists of one that waits for others at its start?
     pub(crate) fn is_in_lists(&self, node: Node, other: Node) -> bool
-        ensures { result ≡ is_in_lists self.now.state.cluster node other (sync_wait_of self.now.state.cluster node) }
+        ensures { result ≡ is_in_lists self.now.state.cluster node other
+            (sync_wait_of self.now.state.cluster node) }
     {
         match self.sync_wait(node) {
             SyncWait::Unset => false,
@@ -108,7 +109,8 @@ impl<'a> Step<'a> {
 
     // Is a node's group a tuple, and isn't it outranked? One walk through the groups tells its rank: that is asked first.
     fn asks_as_tuple(&self, app: App, node: Node) -> bool
-        ensures { result ≡ (is_in_tuple self.now.state.cluster app node && not (is_outranked self.now.state self.now.event app node)) }
+        ensures { result ≡ (is_in_tuple self.now.state.cluster app node
+            && not (is_outranked self.now.state self.now.event app node)) }
     {
         !self.is_outranked(app, node) && self.is_in_tuple(app, node)
     }

@@ -117,7 +117,8 @@ impl<'a> Step<'a> {
         touch: &Touch,
     ) -> Result<(), OutOfMemory>
         requires { touch.now ≡ touch_of self.now.state self.now.event touch.now.node touch.now.app }
-        ensures { OnOk result (found.new.items ≡ found.old.items ++ found_in self.now.state self.now.event code touch.now) }
+        ensures { OnOk result (found.new.items
+            ≡ found.old.items ++ found_in self.now.state self.now.event code touch.now) }
     {
         if may_speak(code, touch) {
             push_if_any(found, self.found(code, touch.node, touch.app))?;
@@ -133,7 +134,8 @@ impl<'a> Step<'a> {
         touched: &[Touch],
     ) -> Result<(), OutOfMemory>
         requires { touched.now ≡ all_touched self.now.state self.now.event }
-        ensures { OnOk result (found.new.items ≡ found.old.items ++ found_of self.now.state self.now.event code) }
+        ensures { OnOk result
+            (found.new.items ≡ found.old.items ++ found_of self.now.state self.now.event code) }
     {
         for touch in touched {
             self.push_in(found, code, touch)?;
@@ -149,7 +151,8 @@ impl<'a> Step<'a> {
         touched: &[Touch],
     ) -> Result<(), OutOfMemory>
         requires { touched.now ≡ all_touched self.now.state self.now.event }
-        ensures { OnOk result (found.new.items ≡ found.old.items ++ flat_map (found_of self.now.state self.now.event) codes.now) }
+        ensures { OnOk result (found.new.items
+            ≡ found.old.items ++ flat_map (found_of self.now.state self.now.event) codes.now) }
     {
         for code in codes {
             self.push_of(found, *code, touched)?;
@@ -159,7 +162,8 @@ impl<'a> Step<'a> {
 
     // Adds those of nodes that come up while another one waits.
     fn push_waits(&self, found: &mut Vec<StepFinding>) -> Result<(), OutOfMemory>
-        ensures { OnOk result (found.new.items ≡ found.old.items ++ flat_map (waits_found self.now.state self.now.event) (nodes_of self.now.state.cluster)) }
+        ensures { OnOk result (found.new.items ≡ found.old.items ++ flat_map
+            (waits_found self.now.state self.now.event) (nodes_of self.now.state.cluster)) }
     {
         let nodes = self.nodes.as_slice();
         for node in nodes {
@@ -170,7 +174,8 @@ impl<'a> Step<'a> {
 
     // Adds those of nodes whose lists lack a node.
     fn push_lists(&self, found: &mut Vec<StepFinding>) -> Result<(), OutOfMemory>
-        ensures { OnOk result (found.new.items ≡ found.old.items ++ flat_map (lists_found self.now.state self.now.event) (nodes_of self.now.state.cluster)) }
+        ensures { OnOk result (found.new.items ≡ found.old.items ++ flat_map
+            (lists_found self.now.state self.now.event) (nodes_of self.now.state.cluster)) }
     {
         let nodes = self.nodes.as_slice();
         for node in nodes {

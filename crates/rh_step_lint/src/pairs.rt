@@ -23,7 +23,8 @@ impl<'a> Step<'a> {
     /// Does it run behind the best group?
     #[tactic(auto, unfolding(rh_step_findings::specs::Pairs::is_behind))]
     pub(crate) fn is_behind(&self, app: App) -> bool
-        ensures { result ≡ is_behind self.now.state self.now.event app (runner self.now.state self.now.event app) }
+        ensures { result ≡ is_behind self.now.state self.now.event app
+            (runner self.now.state self.now.event app) }
     {
         match self.runner(app) {
             None => false,
@@ -33,7 +34,8 @@ impl<'a> Step<'a> {
 
     // Is it started at a node that may run it?
     fn starts_available(&self, app: App, node: Node) -> bool
-        ensures { result ≡ (starts_now self.now.state self.now.event node app && is_available self.now.state self.now.event app node) }
+        ensures { result ≡ (starts_now self.now.state self.now.event node app
+            && is_available self.now.state self.now.event app node) }
     {
         self.starts_now(node, app) && self.is_available(app, node)
     }
@@ -62,7 +64,8 @@ impl<'a> Step<'a> {
 
     // Is it started at a node of the best group?
     fn starts_best(&self, app: App, node: Node) -> bool
-        ensures { result ≡ (starts_now self.now.state self.now.event node app && is_best self.now.state self.now.event app node) }
+        ensures { result ≡ (starts_now self.now.state self.now.event node app
+            && is_best self.now.state self.now.event app node) }
     {
         self.starts_now(node, app) && self.is_best(app, node)
     }
@@ -104,7 +107,8 @@ impl<'a> Step<'a> {
 
     // Is the other node's group a tuple, and does it stand before the node's? Few groups stand before it: so that is asked first.
     fn is_tuple_before(&self, app: App, other: Node, node: Node) -> bool
-        ensures { result ≡ (is_in_tuple self.now.state.cluster app other && ranks_before self.now.state.cluster app other node) }
+        ensures { result ≡ (is_in_tuple self.now.state.cluster app other
+            && ranks_before self.now.state.cluster app other node) }
     {
         self.ranks_before(app, other, node) && self.is_in_tuple(app, other)
     }

@@ -21,7 +21,8 @@ impl<'a> Step<'a> {
 
     #[tactic(auto, unfolding(rh_step_findings::specs::Pairs::found))]
     pub(crate) fn dependency_forbidden_at_start(&self, node: Node, app: App) -> Option<StepFinding>
-        ensures { result ≡ found self.now.state self.now.event code.DependencyForbiddenAtStart node app }
+        ensures { result
+            ≡ found self.now.state self.now.event code.DependencyForbiddenAtStart node app }
     {
         if !self.boots_now(node, app) {
             return None;
@@ -98,7 +99,8 @@ impl<'a> Step<'a> {
 
     #[tactic(auto, unfolding(rh_step_findings::specs::Pairs::found))]
     pub(crate) fn local_stop_while_forbidden(&self, node: Node, app: App) -> Option<StepFinding>
-        ensures { result ≡ found self.now.state self.now.event code.LocalStopWhileForbidden node app }
+        ensures { result
+            ≡ found self.now.state self.now.event code.LocalStopWhileForbidden node app }
     {
         if !self.stops_forbidden(node, app) {
             return None;
@@ -123,7 +125,8 @@ impl<'a> Step<'a> {
 
     #[tactic(auto, unfolding(rh_step_findings::specs::Pairs::found))]
     pub(crate) fn forbid_with_unlisted_nodes(&self, node: Node, app: App) -> Option<StepFinding>
-        ensures { result ≡ found self.now.state self.now.event code.ForbidWithUnlistedNodes node app }
+        ensures { result
+            ≡ found self.now.state self.now.event code.ForbidWithUnlistedNodes node app }
     {
         if !self.forbids_last(node, app) {
             return None;

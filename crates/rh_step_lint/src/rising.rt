@@ -27,7 +27,8 @@ impl<'a> Step<'a> {
     // Does another node boot an application, and does it stand no later in its list than a node?
     fn may_get_app(&self, node: Node, other: Node, app: App) -> bool
         ensures { result ≡ (boots self.now.state.cluster other app
-            && (is_some (group_of self.now.state.cluster app other) && not (ranks_before self.now.state.cluster app node other))) }
+            && (is_some (group_of self.now.state.cluster app other)
+            && not (ranks_before self.now.state.cluster app node other))) }
     {
         self.boots(other, app)
             && self.group(app, other).is_some()
@@ -76,7 +77,8 @@ impl<'a> Step<'a> {
 
     // The first node that does.
     fn first_left_waiting(&self, node: Node) -> Option<Node>
-        ensures { result ≡ find (is_left_waiting self.now.state self.now.event node) (nodes_of self.now.state.cluster) }
+        ensures { result ≡ find (is_left_waiting self.now.state self.now.event node)
+            (nodes_of self.now.state.cluster) }
     {
         let nodes = self.nodes.as_slice();
         'others: for other in nodes {
@@ -122,7 +124,8 @@ impl<'a> Step<'a> {
 
     // The first node of which that is so.
     fn first_overlooked(&self, node: Node) -> Option<Node>
-        ensures { result ≡ find (is_overlooked self.now.state node) (nodes_of self.now.state.cluster) }
+        ensures { result
+            ≡ find (is_overlooked self.now.state node) (nodes_of self.now.state.cluster) }
     {
         let nodes = self.nodes.as_slice();
         'others: for other in nodes {

@@ -33,7 +33,8 @@ impl<'a> Model for Step<'a> {
 
     ghost view = { λ s. record { state = read s.state.now; event = s.event } };
 
-    ghost invariant = { λ s. (s.nodes.items ≡ nodes_of (read s.state.now).cluster) × (s.apps.items ≡ apps_of (read s.state.now).cluster) };
+    ghost invariant = { λ s. (s.nodes.items ≡ nodes_of (read s.state.now).cluster)
+        × (s.apps.items ≡ apps_of (read s.state.now).cluster) };
 }
 
 // The nodes of a cluster, in their order.

@@ -129,7 +129,8 @@ impl<'a> Step<'a> {
         app: App,
     ) -> Result<(), OutOfMemory>
         requires { rises ≡ comes_up self.now.state self.now.event node }
-        ensures { OnOk result (touched.new.items ≡ touched.old.items ++ touched_with self.now.state self.now.event node app) }
+        ensures { OnOk result (touched.new.items
+            ≡ touched.old.items ++ touched_with self.now.state self.now.event node app) }
     {
         if self.is_touched(rises, node, app) {
             touched.push(self.touch(node, app))?;
@@ -146,7 +147,8 @@ impl<'a> Step<'a> {
         apps: &[App],
     ) -> Result<(), OutOfMemory>
         requires { rises ≡ comes_up self.now.state self.now.event node }
-        ensures { OnOk result (touched.new.items ≡ touched.old.items ++ flat_map (touched_with self.now.state self.now.event node) apps.now) }
+        ensures { OnOk result (touched.new.items ≡ touched.old.items
+            ++ flat_map (touched_with self.now.state self.now.event node) apps.now) }
     {
         for app in apps {
             self.push_touch(touched, rises, node, *app)?;
@@ -163,7 +165,8 @@ impl<'a> Step<'a> {
         node: Node,
     ) -> Result<(), OutOfMemory>
         requires { movers.now ≡ all_movers self.now.state self.now.event }
-        ensures { OnOk result (touched.new.items ≡ touched.old.items ++ touched_at self.now.state self.now.event node) }
+        ensures { OnOk result (touched.new.items
+            ≡ touched.old.items ++ touched_at self.now.state self.now.event node) }
     {
         if self.comes_up(node) {
             self.push_among(touched, true, node, self.apps.as_slice())
@@ -175,7 +178,8 @@ impl<'a> Step<'a> {
     /// All that the step touches, in the order of the cluster file, node by node.
     #[tactic(auto, unfolding(rh_step_findings::specs::Touched::all_touched))]
     pub(crate) fn touched_pairs(&self, alloc: Global) -> Result<Vec<Touch>, OutOfMemory>
-        ensures { IfOk result (λ touched. touched.items ≡ all_touched self.now.state self.now.event) }
+        ensures { IfOk result
+            (λ touched. touched.items ≡ all_touched self.now.state self.now.event) }
     {
         let mut touched = Vec::new(alloc);
         let movers = self.movers(alloc)?;

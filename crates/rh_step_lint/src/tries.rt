@@ -96,7 +96,8 @@ impl<'a> Step<'a> {
 
     // Doesn't it stay where it runs?
     fn is_open(&self, node: Node, app: App) -> bool
-        ensures { result ≡ is_open_from self.now.state self.now.event node app (runner self.now.state self.now.event app) }
+        ensures { result ≡ is_open_from self.now.state self.now.event node app
+            (runner self.now.state self.now.event app) }
     {
         match self.runner(app) {
             None => true,

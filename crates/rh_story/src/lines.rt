@@ -49,9 +49,12 @@ pub fn tell_line(
     number: u64,
     line: &[u8],
 ) -> Result<bool, OutOfMemory>
-    ensures text { OnOk result (text.new.items ≡ line_text sim.old.seen number line.now (line_of sim.old.seen.cluster (content line.now))) }
-    ensures bad { IfOk result (λ bad. bad ≡ is_bad (line_of sim.old.seen.cluster (content line.now))) }
-    ensures sim { OnOk result (sim.new.seen ≡ behind_line sim.old.seen (line_of sim.old.seen.cluster (content line.now))) }
+    ensures text { OnOk result (text.new.items ≡ line_text sim.old.seen number line.now
+        (line_of sim.old.seen.cluster (content line.now))) }
+    ensures bad { IfOk result
+        (λ bad. bad ≡ is_bad (line_of sim.old.seen.cluster (content line.now))) }
+    ensures sim { OnOk result (sim.new.seen
+        ≡ behind_line sim.old.seen (line_of sim.old.seen.cluster (content line.now))) }
 {
     empty(text);
     let asked = line_of(alloc, sim.cluster(), content(line))?;
@@ -94,7 +97,8 @@ fn push_call(
     sim: &mut Sim,
     call: Call,
 ) -> Result<(), OutOfMemory>
-    ensures text { OnOk result (text.new.items ≡ text.old.items ++ call_lines sim.old.seen call (served sim.old.seen call).reply) }
+    ensures text { OnOk result (text.new.items
+        ≡ text.old.items ++ call_lines sim.old.seen call (served sim.old.seen call).reply) }
     ensures sim { OnOk result (sim.new.seen ≡ (served sim.old.seen call).sim) }
 {
     match call {
@@ -111,7 +115,8 @@ fn push_reply(
     sim: &mut Sim,
     call: Call,
 ) -> Result<(), OutOfMemory>
-    ensures text { OnOk result (text.new.items ≡ text.old.items ++ answer_lines (answer_text sim.old.seen.cluster (served sim.old.seen call).reply)) }
+    ensures text { OnOk result (text.new.items ≡ text.old.items
+        ++ answer_lines (answer_text sim.old.seen.cluster (served sim.old.seen call).reply)) }
     ensures sim { OnOk result (sim.new.seen ≡ (served sim.old.seen call).sim) }
 {
     let reply = sim.answer(alloc, call)?.into_one();
@@ -127,7 +132,8 @@ fn push_step(
     sim: &mut Sim,
     event: Event,
 ) -> Result<(), OutOfMemory>
-    ensures text { OnOk result (text.new.items ≡ text.old.items ++ call_lines sim.old.seen (call.Step event) (served sim.old.seen (call.Step event)).reply) }
+    ensures text { OnOk result (text.new.items ≡ text.old.items ++ call_lines sim.old.seen
+        (call.Step event) (served sim.old.seen (call.Step event)).reply) }
     ensures sim { OnOk result (sim.new.seen ≡ (served sim.old.seen (call.Step event)).sim) }
 {
     if refusal_of(sim.state(), &event).is_some() || sim.cursor() == Sim::TRAIL_LIMIT {
@@ -150,7 +156,9 @@ fn push_event(
 ) -> Result<(), OutOfMemory>
     requires fine { refused (state_of sim.old.seen) event ≡ None }
     requires room { sim.old.seen.cursor ≢ trail_limit }
-    ensures text { OnOk result (text.new.items ≡ text.old.items ++ flat_map (notice_lines (state_of (served sim.old.seen (call.Step event)).sim)) (next (state_of sim.old.seen) event sim.old.seen.pick).notices) }
+    ensures text { OnOk result (text.new.items ≡ text.old.items
+        ++ flat_map (notice_lines (state_of (served sim.old.seen (call.Step event)).sim))
+        (next (state_of sim.old.seen) event sim.old.seen.pick).notices) }
     ensures sim { OnOk result (sim.new.seen ≡ (served sim.old.seen (call.Step event)).sim) }
 {
     match sim.step(alloc, event) {
@@ -169,7 +177,8 @@ fn push_boot(
     requires fine { refused (state_of sim.old.seen) (Boot node) ≡ None }
     requires room { sim.old.seen.cursor ≢ trail_limit }
     ensures text { OnOk result (text.new.items ≡ text.old.items
-        ++ (flat_map (notice_lines (state_of (served sim.old.seen (call.Step (Boot node))).sim)) (next (state_of sim.old.seen) (Boot node) sim.old.seen.pick).notices
+        ++ (flat_map (notice_lines (state_of (served sim.old.seen (call.Step (Boot node))).sim))
+        (next (state_of sim.old.seen) (Boot node) sim.old.seen.pick).notices
         ++ node_lines (state_of (served sim.old.seen (call.Step (Boot node))).sim) node)) }
     ensures sim { OnOk result (sim.new.seen ≡ (served sim.old.seen (call.Step (Boot node))).sim) }
 {
@@ -182,7 +191,8 @@ fn push_tick(alloc: Global, text: &mut Vec<u8>, sim: &mut Sim, ms: u64) -> Resul
     requires fine { refused (state_of sim.old.seen) (Tick ms) ≡ None }
     requires room { sim.old.seen.cursor ≢ trail_limit }
     ensures text { OnOk result (text.new.items ≡ text.old.items
-        ++ flat_map (firing_lines (state_of (served sim.old.seen (call.Step (Tick ms))).sim)) (firings (state_of sim.old.seen) ms sim.old.seen.pick)) }
+        ++ flat_map (firing_lines (state_of (served sim.old.seen (call.Step (Tick ms))).sim))
+        (firings (state_of sim.old.seen) ms sim.old.seen.pick)) }
     ensures sim { OnOk result (sim.new.seen ≡ (served sim.old.seen (call.Step (Tick ms))).sim) }
 {
     let fired = sim.firings(alloc, ms)?;

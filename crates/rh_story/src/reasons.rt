@@ -33,7 +33,8 @@ fn push_if_any(
     cluster: &Cluster,
     reason: Option<Reason>,
 ) -> Result<(), OutOfMemory>
-    ensures { OnOk result (text.new.items ≡ text.old.items ++ flat_map (λ reason. reason_line (reason_text cluster.now reason)) (option_to_list reason)) }
+    ensures { OnOk result (text.new.items ≡ text.old.items ++ flat_map (λ reason.
+        reason_line (reason_text cluster.now reason)) (option_to_list reason)) }
 {
     if let Some(reason) = reason {
         line.clear();
@@ -52,8 +53,9 @@ fn push_reasons(
     cluster: &Cluster,
     reasons: Reasons,
 ) -> Result<(), OutOfMemory>
-    ensures { OnOk result (text.new.items ≡ text.old.items
-        ++ flat_map (λ reason. reason_line (reason_text cluster.now reason)) (option_to_list reasons.lacking ++ option_to_list reasons.forbidding ++ option_to_list reasons.by_standing)) }
+    ensures { OnOk result (text.new.items ≡ text.old.items ++ flat_map (λ reason.
+        reason_line (reason_text cluster.now reason)) (option_to_list reasons.lacking
+        ++ option_to_list reasons.forbidding ++ option_to_list reasons.by_standing)) }
 {
     push_if_any(text, line, cluster, reasons.lacking)?;
     push_if_any(text, line, cluster, reasons.forbidding)?;
@@ -86,7 +88,8 @@ pub fn push_why(
     notice: &Notice,
 ) -> Result<(), OutOfMemory>
     requires { IsValid (read state.now) }
-    ensures { OnOk result (text.new.items ≡ text.old.items ++ why_lines (read state.now) notice.now) }
+    ensures { OnOk result
+        (text.new.items ≡ text.old.items ++ why_lines (read state.now) notice.now) }
 {
     match *notice {
         Notice::Waits { app, node } => push_app(text, line, state, app, node),

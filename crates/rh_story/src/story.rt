@@ -41,7 +41,8 @@ pub fn run_story<S: Source, K: Sink>(
 ) -> Result<(), RunFault>
     requires reader { reader.old.failed ≡ false }
     requires writer { writer.old.failed ≡ false }
-    ensures { ProgramGives S.gives S.fails K.takes K.fails (OwesStory pick whole) NoThreads result reader.old reader.new writer.old writer.new }
+    ensures { ProgramGives S.gives S.fails K.takes K.fails
+        (OwesStory pick whole) NoThreads result reader.old reader.new writer.old writer.new }
 {
     let input = read_input(alloc, reader)?;
     let told = tell_input(alloc, input.as_slice(), writer, pick, whole)?;
@@ -58,7 +59,8 @@ fn tell_input<K: Sink>(
     whole: bool,
 ) -> Result<Option<Told>, WriteFault>
     requires { writer.old.failed ≡ false }
-    ensures { Wrote K.takes K.fails result (story_text input.now pick whole) (run_end input.now) writer.old writer.new }
+    ensures { Wrote K.takes K.fails result (story_text input.now pick whole)
+        (run_end input.now) writer.old writer.new }
 {
     let (text, _script) = cut(input);
     match read_cluster(alloc, text) {
@@ -88,8 +90,8 @@ fn tell_cluster<K: Sink>(
 ) -> Result<Option<u64>, WriteFault>
     requires { writer.old.failed ≡ false }
     ensures { Wrote K.takes K.fails result
-        (head_if whole (raw_lines input.now)
-        ++ lines_text (opened cluster pick) 1 (lack_behind [] (head_if whole (raw_lines input.now))) (lines_behind (raw_lines input.now)))
+        (head_if whole (raw_lines input.now) ++ lines_text (opened cluster pick) 1
+        (lack_behind [] (head_if whole (raw_lines input.now))) (lines_behind (raw_lines input.now)))
         (bad_line 1 (lines_asked cluster (script_lines input.now))) writer.old writer.new }
 {
     let head = head_if(alloc, input, whole)?;
@@ -129,8 +131,8 @@ fn tell_script<K: Sink>(
 ) -> Result<Option<u64>, WriteFault>
     requires { writer.old.failed ≡ false }
     ensures { Wrote K.takes K.fails result
-        (lines_text (opened cluster pick) 1 lack.now (raw_lines script.now))
-        (bad_line 1 (lines_asked cluster (map content (raw_lines script.now)))) writer.old writer.new }
+        (lines_text (opened cluster pick) 1 lack.now (raw_lines script.now)) (bad_line 1
+        (lines_asked cluster (map content (raw_lines script.now)))) writer.old writer.new }
 {
     let mut sim = Sim::open(alloc, cluster, pick)?;
     tell_lines(alloc, &mut sim, lack, script, writer)
@@ -148,7 +150,8 @@ fn tell_lines<K: Sink>(
     requires { writer.old.failed ≡ false }
     ensures { Wrote K.takes K.fails result
         (lines_text sim.old.seen 1 lack.now (raw_lines script.now))
-        (bad_line 1 (lines_asked sim.old.seen.cluster (map content (raw_lines script.now)))) writer.old writer.new }
+        (bad_line 1 (lines_asked sim.old.seen.cluster (map content (raw_lines script.now))))
+        writer.old writer.new }
 {
     let mut room = Vec::new(alloc);
     let mut rest = script;
@@ -180,7 +183,8 @@ fn write_table<K: Sink>(
     writer: &mut Watched<K>,
 ) -> Result<(), WriteFault>
     requires { writer.old.failed ≡ false }
-    ensures { Broke K.takes K.fails result (table_text lack.now sim.old.seen) writer.old writer.new }
+    ensures { Broke K.takes K.fails result
+        (table_text lack.now sim.old.seen) writer.old writer.new }
 {
     let text = table_text(alloc, sim, lack)?;
     write_text(writer, text.as_slice())

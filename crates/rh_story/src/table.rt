@@ -49,7 +49,8 @@ fn push_courses(
     cluster: &Cluster,
     courses: &[Course],
 ) -> Result<(), OutOfMemory>
-    ensures { OnOk result (text.new.items ≡ text.old.items ++ flat_map (course_line cluster.now) courses.now) }
+    ensures { OnOk result
+        (text.new.items ≡ text.old.items ++ flat_map (course_line cluster.now) courses.now) }
 {
     for course in courses {
         push_course(alloc, text, cluster, course)?;

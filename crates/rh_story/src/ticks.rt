@@ -45,7 +45,8 @@ fn push_notice(
     notice: &Notice,
 ) -> Result<(), OutOfMemory>
     requires { IsValid (read state.now) }
-    ensures { OnOk result (text.new.items ≡ text.old.items ++ notice_lines (read state.now) notice.now) }
+    ensures { OnOk result
+        (text.new.items ≡ text.old.items ++ notice_lines (read state.now) notice.now) }
 {
     line.clear();
     // As much as most lines take.
@@ -63,7 +64,8 @@ pub fn push_notices(
     notices: &[Notice],
 ) -> Result<(), OutOfMemory>
     requires { IsValid (read state.now) }
-    ensures { OnOk result (text.new.items ≡ text.old.items ++ flat_map (notice_lines (read state.now)) notices.now) }
+    ensures { OnOk result
+        (text.new.items ≡ text.old.items ++ flat_map (notice_lines (read state.now)) notices.now) }
 {
     let mut line = String::new(alloc);
     for notice in notices {
@@ -80,7 +82,8 @@ fn push_firing(
     fired: &FiredTimer,
 ) -> Result<(), OutOfMemory>
     requires { IsValid (read state.now) }
-    ensures { OnOk result (text.new.items ≡ text.old.items ++ firing_lines (read state.now) fired.now) }
+    ensures { OnOk result
+        (text.new.items ≡ text.old.items ++ firing_lines (read state.now) fired.now) }
 {
     if fired.notices().is_empty() {
         return Ok(());
@@ -97,7 +100,8 @@ pub fn push_firings(
     firings: &[FiredTimer],
 ) -> Result<(), OutOfMemory>
     requires { IsValid (read state.now) }
-    ensures { OnOk result (text.new.items ≡ text.old.items ++ flat_map (firing_lines (read state.now)) firings.now) }
+    ensures { OnOk result
+        (text.new.items ≡ text.old.items ++ flat_map (firing_lines (read state.now)) firings.now) }
 {
     for fired in firings {
         push_firing(alloc, text, state, fired)?;

@@ -51,8 +51,10 @@ pub(crate) fn in_plan_order(
     parts: Vec<Result<Vec<Outcome>, OutOfMemory>>,
 ) -> Result<Vec<Outcome>, OutOfMemory>
     requires some { 0 < length parts.items }
-    requires parts { (w : ℕ) (d : _) → w < length parts.items → IfOk (slice_index_or parts.items w d) (λ outcomes. AreOutcomes base.now.seen plans.now (length parts.items) w outcomes.items) }
-    ensures outcomes { IfOk result (λ outcomes. outcomes.items ≡ map (outcome_of base.now.seen) plans.now) }
+    requires parts { (w : ℕ) (d : _) → w < length parts.items → IfOk (slice_index_or parts.items w
+        d) (λ outcomes. AreOutcomes base.now.seen plans.now (length parts.items) w outcomes.items) }
+    ensures outcomes { IfOk result
+        (λ outcomes. outcomes.items ≡ map (outcome_of base.now.seen) plans.now) }
     ensures whole { OnOk result (All IsOk parts.items) }
 {
     // Only the contract speaks of the base.
@@ -72,7 +74,8 @@ fn turns_of(
     alloc: Global,
     parts: Vec<Result<Vec<Outcome>, OutOfMemory>>,
 ) -> Result<VecDeque<VecDeque<Outcome>>, OutOfMemory>
-    ensures { IfOk result (λ turns. map (λ turn. Some turn.items) turns.items ≡ map given parts.items) }
+    ensures { IfOk result
+        (λ turns. map (λ turn. Some turn.items) turns.items ≡ map given parts.items) }
 {
     let mut turns = VecDeque::with_capacity(alloc, parts.len())?;
     for part in parts {

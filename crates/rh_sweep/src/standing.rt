@@ -32,7 +32,8 @@ fn push_standing(
     app: App,
 ) -> Result<(), OutOfMemory>
     requires { app.0 < app_count (read state.now).cluster }
-    ensures { OnOk result (standings.new.items ≡ standings.old.items ++ standing_in (read state.now) app) }
+    ensures { OnOk result
+        (standings.new.items ≡ standings.old.items ++ standing_in (read state.now) app) }
 {
     if state.cluster().spread(app).is_some() {
         standings.push((app, state.standing(app)))?;

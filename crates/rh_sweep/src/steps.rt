@@ -28,15 +28,19 @@ pub(crate) trait Steps {
         notices: &mut Vec<Notice>,
     ) -> Result<(), Refusal>
         requires { (base : Held) × (s : SimView) × stands self.old base s }
-        ensures done { OnOk result ((base : Held) (s : SimView) → stands self.old base s → s.cursor < trail_limit
-            → (served s (call.Step event) ≡ answered (reply.Done notices.new.items) (with_event s event)) × stands self.new base (with_event s event)) }
-        ensures refused { IfErr result (λ refusal. refusal ≢ Refusal.OutOfMemory → (base : Held) (s : SimView) → stands self.old base s
+        ensures done { OnOk result ((base : Held) (s : SimView) → stands self.old base s → s.cursor
+            < trail_limit → (served s (call.Step event) ≡ answered (reply.Done notices.new.items)
+            (with_event s event)) × stands self.new base (with_event s event)) }
+        ensures refused { IfErr result (λ refusal. refusal ≢ Refusal.OutOfMemory
+            → (base : Held) (s : SimView) → stands self.old base s
             → served s (call.Step event) ≡ answered (reply.Refused refusal) s) }
-        ensures kept { OnErr result ((base : Held) (s : SimView) → stands self.old base s → stands self.new base s) };
+        ensures kept { OnErr result
+            ((base : Held) (s : SimView) → stands self.old base s → stands self.new base s) };
 
     /// Where the distributed applications stand.
     fn standings(&self, alloc: Global) -> Result<Standings, OutOfMemory>
-        ensures { IfOk result (λ standings. (base : Held) (s : SimView) → stands self.now base s → standings ≡ standings_in (state_of s)) };
+        ensures { IfOk result (λ standings. (base : Held) (s : SimView) → stands self.now base s
+            → standings ≡ standings_in (state_of s)) };
 }
 
 impl Steps for Sim {

@@ -53,9 +53,10 @@ pub(crate) fn try_events<S: Steps>(
     notices: &mut Vec<Notice>,
 ) -> Result<Outcome, OutOfMemory>
     requires { (base : Held) × (s : SimView) × S.stands steps.old base s × HasRoomFor s events.now }
-    ensures outcome { IfOk result (λ outcome. (base : Held) (s : SimView) → S.stands steps.old base s → HasRoomFor s events.now
-        → outcome ≡ outcome_in s events.now) }
-    ensures ahead { (base : Held) (s : SimView) → S.stands steps.old base s → HasRoomFor s events.now → (t : SimView) × S.stands steps.new base t }
+    ensures outcome { IfOk result (λ outcome. (base : Held) (s : SimView)
+        → S.stands steps.old base s → HasRoomFor s events.now → outcome ≡ outcome_in s events.now) }
+    ensures ahead { (base : Held) (s : SimView) → S.stands steps.old base s
+        → HasRoomFor s events.now → (t : SimView) × S.stands steps.new base t }
 {
     let count = go_ahead(alloc, steps, events, notices)?;
     let standings = steps.standings(alloc)?;
@@ -76,9 +77,11 @@ fn go_ahead<S: Steps>(
     notices: &mut Vec<Notice>,
 ) -> Result<Count, OutOfMemory>
     requires { (base : Held) × (s : SimView) × S.stands steps.old base s × HasRoomFor s events.now }
-    ensures outcome { IfOk result (λ c. (base : Held) (s : SimView) → S.stands steps.old base s → HasRoomFor s events.now
-        → (t : SimView) × S.stands steps.new base t × (ended (state_of t) c.accepted c.refused c.failovers c.takeovers ≡ outcome_in s events.now)) }
-    ensures ahead { (base : Held) (s : SimView) → S.stands steps.old base s → HasRoomFor s events.now → (t : SimView) × S.stands steps.new base t }
+    ensures outcome { IfOk result (λ c. (base : Held) (s : SimView) → S.stands steps.old base s
+        → HasRoomFor s events.now → (t : SimView) × S.stands steps.new base t × (ended (state_of t)
+        c.accepted c.refused c.failovers c.takeovers ≡ outcome_in s events.now)) }
+    ensures ahead { (base : Held) (s : SimView) → S.stands steps.old base s
+        → HasRoomFor s events.now → (t : SimView) × S.stands steps.new base t }
 {
     let mut failovers = 0;
     let mut takeovers = 0;

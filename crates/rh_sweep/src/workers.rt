@@ -65,7 +65,8 @@ pub fn sweep<R: Threads + Wait + Sync, G: Gate + Sync>(
     workers: usize,
     gate: &G,
 ) -> Result<Vec<Outcome>, SweepFault>
-    ensures outcomes { IfOk result (λ outcomes. outcomes.items ≡ map (outcome_of base.now.seen) plans.now) }
+    ensures outcomes { IfOk result
+        (λ outcomes. outcomes.items ≡ map (outcome_of base.now.seen) plans.now) }
     ensures left { OnOk result ((n : ℕ) → n < length plans.now → G.left gate.now n) }
     ensures fine { OnOk result (MaySweep base.now.seen plans.now workers) }
     ensures fault { IfErr result (WhyNotSwept base.now.seen plans.now workers) }
@@ -87,8 +88,11 @@ fn parts_of<R: Threads + Wait + Sync, G: Gate + Sync>(
     gate: &G,
 ) -> Result<Vec<Result<Vec<Outcome>, OutOfMemory>>, SweepFault>
     ensures count { IfOk result (λ parts. length parts.items ≡ workers) }
-    ensures outcomes { IfOk result (λ parts. (w : ℕ) (d : _) → w < workers → IfOk (slice_index_or parts.items w d) (λ outcomes. AreOutcomes base.now.seen plans.now workers w outcomes.items)) }
-    ensures left { IfOk result (λ parts. (w : ℕ) (d : _) → w < workers → OnOk (slice_index_or parts.items w d) (EachOf (G.left gate.now) (length plans.now) workers w)) }
+    ensures outcomes { IfOk result
+        (λ parts. (w : ℕ) (d : _) → w < workers → IfOk (slice_index_or parts.items w d)
+        (λ outcomes. AreOutcomes base.now.seen plans.now workers w outcomes.items)) }
+    ensures left { IfOk result (λ parts. (w : ℕ) (d : _) → w < workers → OnOk
+        (slice_index_or parts.items w d) (EachOf (G.left gate.now) (length plans.now) workers w)) }
     ensures fine { OnOk result (MaySweep base.now.seen plans.now workers) }
     ensures fault { IfErr result (WhyNotSwept base.now.seen plans.now workers) }
 {
@@ -120,7 +124,8 @@ fn work<R: Wait, G: Gate>(
     requires workers { AreWorkers workers }
     requires first { first < workers }
     requires room { All (HasRoom base.now.seen) plans.now }
-    ensures outcomes { IfOk result (λ outcomes. AreOutcomes base.now.seen plans.now workers first outcomes.items) }
+    ensures outcomes { IfOk result
+        (λ outcomes. AreOutcomes base.now.seen plans.now workers first outcomes.items) }
     ensures left { OnOk result (EachOf (G.left gate.now) (length plans.now) workers first) }
 {
     let mut outcomes = Vec::new(alloc);
@@ -151,7 +156,8 @@ fn try_inside<R: Wait, G: Gate>(
     requires at { IsAtBase branch.old base.now }
     requires number { number < length plans.now }
     requires room { All (HasRoom base.now.seen) plans.now }
-    ensures outcome { IfOk result (λ outcome. Some outcome ≡ option_map (outcome_of base.now.seen) (slice_get plans.now number)) }
+    ensures outcome { IfOk result (λ outcome.
+        Some outcome ≡ option_map (outcome_of base.now.seen) (slice_get plans.now number)) }
     ensures at { OnOk result (IsAtBase branch.new base.now) }
     ensures left { G.left gate.now number }
 {

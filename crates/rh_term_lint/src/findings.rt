@@ -55,7 +55,8 @@ fn push_terms(
     found: &mut Vec<TermFinding>,
     terms: &[Term],
 ) -> Result<(), OutOfMemory>
-    ensures { OnOk result (found.new.items ≡ found.old.items ++ flat_map (λ at. of_term at.0 at.1) (enumerate_from 0 (map tree_of terms.now))) }
+    ensures { OnOk result (found.new.items ≡ found.old.items
+        ++ flat_map (λ at. of_term at.0 at.1) (enumerate_from 0 (map tree_of terms.now))) }
 {
     for (place, term) in terms.iter().enumerate() {
         push_term(alloc, found, place, term)?;

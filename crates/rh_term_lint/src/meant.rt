@@ -44,7 +44,8 @@ fn is_read(names: &[ReadName], word: &str) -> bool
 
 // The first of these names that a word is near.
 fn near_name(alloc: Global, names: &[ReadName], word: &str) -> Result<Option<ReadName>, OutOfMemory>
-    ensures { IfOk result (λ found. found ≡ find (λ name. is_near word.now (word_of name)) names.now) }
+    ensures { IfOk result
+        (λ found. found ≡ find (λ name. is_near word.now (word_of name)) names.now) }
 {
     for name in names {
         if is_near(alloc, word, name.word())? {
@@ -71,7 +72,8 @@ pub fn mistaken_name(
     names: &[ReadName],
     word: &Str,
 ) -> Result<Option<(Str, ReadName)>, OutOfMemory>
-    ensures { IfOk result (λ found. found ≡ option_map (λ name. (word.now, name)) (meant names.now word.now)) }
+    ensures { IfOk result
+        (λ found. found ≡ option_map (λ name. (word.now, name)) (meant names.now word.now)) }
 {
     match meant(alloc, names, word.as_str())? {
         Some(name) => Ok(Some((word.copy(alloc)?, name))),

@@ -38,8 +38,9 @@ fn nearer<'a>(
     name: &'a str,
 ) -> Result<Option<&'a str>, OutOfMemory>
     // Behind any names of which that is the nearest, it is the nearest with this name among them.
-    ensures { IfOk result (λ found. (names : _) → option_map (λ other. other.now) best.entry ≡ nearest word.now names →
-        option_map (λ other. other.now) found ≡ nearest word.now (names ++ name.now ∷ [])) }
+    ensures { IfOk result
+        (λ found. (names : _) → option_map (λ other. other.now) best.entry ≡ nearest word.now names
+        → option_map (λ other. other.now) found ≡ nearest word.now (names ++ name.now ∷ [])) }
 {
     if !is_near(alloc, word, name)? {
         return Ok(best);
@@ -64,7 +65,8 @@ pub fn nearest<'a>(
     word: &str,
     known: &[&'a str],
 ) -> Result<Option<&'a str>, OutOfMemory>
-    ensures { IfOk result (λ found. option_map (λ name. name.now) found ≡ nearest word.now (map (λ name. name.now) known.now)) }
+    ensures { IfOk result (λ found.
+        option_map (λ name. name.now) found ≡ nearest word.now (map (λ name. name.now) known.now)) }
 {
     let mut best = None;
     for name in known {

@@ -35,7 +35,8 @@ pub fn push_sections(
     place: usize,
     sections: &[Term],
 ) -> Result<(), OutOfMemory>
-    ensures { OnOk result (found.new.items ≡ found.old.items ++ flat_map (of_section place) (filter_map as_entry (map tree_of sections.now))) }
+    ensures { OnOk result (found.new.items ≡ found.old.items
+        ++ flat_map (of_section place) (filter_map as_entry (map tree_of sections.now))) }
 {
     for section in sections {
         push_section(alloc, found, place, section)?;
@@ -51,7 +52,8 @@ fn push_section(
     place: usize,
     section: &Term,
 ) -> Result<(), OutOfMemory>
-    ensures { OnOk result (found.new.items ≡ found.old.items ++ flat_map (of_section place) (option_to_list (as_entry (tree_of section.now)))) }
+    ensures { OnOk result (found.new.items ≡ found.old.items
+        ++ flat_map (of_section place) (option_to_list (as_entry (tree_of section.now)))) }
 {
     let Some((name, value)) = shapes::entry(section) else {
         return Ok(());
@@ -76,7 +78,8 @@ fn push_parameters(
     place: usize,
     parameters: &[Term],
 ) -> Result<(), OutOfMemory>
-    ensures { OnOk result (found.new.items ≡ found.old.items ++ flat_map (of_parameter place) (filter_map as_entry (map tree_of parameters.now))) }
+    ensures { OnOk result (found.new.items ≡ found.old.items
+        ++ flat_map (of_parameter place) (filter_map as_entry (map tree_of parameters.now))) }
 {
     for parameter in parameters {
         push_parameter(alloc, found, place, parameter)?;
@@ -92,7 +95,8 @@ fn push_parameter(
     place: usize,
     parameter: &Term,
 ) -> Result<(), OutOfMemory>
-    ensures { OnOk result (found.new.items ≡ found.old.items ++ flat_map (of_parameter place) (option_to_list (as_entry (tree_of parameter.now)))) }
+    ensures { OnOk result (found.new.items ≡ found.old.items
+        ++ flat_map (of_parameter place) (option_to_list (as_entry (tree_of parameter.now)))) }
 {
     let Some((name, value)) = shapes::entry(parameter) else {
         return Ok(());
@@ -117,7 +121,8 @@ pub fn push_keys(
     place: usize,
     keys: &[Term],
 ) -> Result<(), OutOfMemory>
-    ensures { OnOk result (found.new.items ≡ found.old.items ++ flat_map (of_key place) (filter_map as_entry (map tree_of keys.now))) }
+    ensures { OnOk result (found.new.items
+        ≡ found.old.items ++ flat_map (of_key place) (filter_map as_entry (map tree_of keys.now))) }
 {
     for key in keys {
         push_key(alloc, found, place, key)?;
@@ -133,7 +138,8 @@ fn push_key(
     place: usize,
     key: &Term,
 ) -> Result<(), OutOfMemory>
-    ensures { OnOk result (found.new.items ≡ found.old.items ++ flat_map (of_key place) (option_to_list (as_entry (tree_of key.now)))) }
+    ensures { OnOk result (found.new.items ≡ found.old.items
+        ++ flat_map (of_key place) (option_to_list (as_entry (tree_of key.now)))) }
 {
     let Some((name, _)) = shapes::entry(key) else {
         return Ok(());

@@ -56,7 +56,8 @@ fn tuple(term: &Term) -> Option<&[Term]>
 // The parts of a tuple of two.
 #[tactic(auto, unfolding(rh_cluster::specs::Shapes::as_pair))]
 fn pair(term: &Term) -> Option<(&Term, &Term)>
-    ensures { option_map (λ parts. (tree_of parts.0.now, tree_of parts.1.now)) result ≡ as_pair (tree_of term.now) }
+    ensures { option_map (λ parts. (tree_of parts.0.now, tree_of parts.1.now)) result
+        ≡ as_pair (tree_of term.now) }
 {
     match tuple(term)? {
         [first, second] => Some((first, second)),
@@ -67,7 +68,8 @@ fn pair(term: &Term) -> Option<(&Term, &Term)>
 // The parts of a tuple of three.
 #[tactic(auto, unfolding(rh_cluster::specs::Shapes::as_triple))]
 fn triple(term: &Term) -> Option<(&Term, &Term, &Term)>
-    ensures { option_map (λ parts. (tree_of parts.0.now, tree_of parts.1.now, tree_of parts.2.now)) result ≡ as_triple (tree_of term.now) }
+    ensures { option_map (λ parts. (tree_of parts.0.now, tree_of parts.1.now, tree_of parts.2.now))
+        result ≡ as_triple (tree_of term.now) }
 {
     match tuple(term)? {
         [first, second, third] => Some((first, second, third)),
@@ -78,7 +80,8 @@ fn triple(term: &Term) -> Option<(&Term, &Term, &Term)>
 /// The parts of `{Atom, Value}`.
 #[tactic(auto, unfolding(rh_cluster::specs::Shapes::as_entry))]
 pub fn entry(term: &Term) -> Option<(&Str, &Term)>
-    ensures { option_map (λ parts. (parts.0.now, tree_of parts.1.now)) result ≡ as_entry (tree_of term.now) }
+    ensures { option_map (λ parts. (parts.0.now, tree_of parts.1.now)) result
+        ≡ as_entry (tree_of term.now) }
 {
     let (key, value) = pair(term)?;
     let key = atom(key)?;
@@ -88,7 +91,8 @@ pub fn entry(term: &Term) -> Option<(&Str, &Term)>
 // The name and the last part of `{Word, Name, Part}`.
 #[tactic(auto, unfolding(rh_cluster::specs::Shapes::as_headed))]
 fn headed_by<'a>(word: &str, term: &'a Term) -> Option<(&'a Str, &'a Term)>
-    ensures { option_map (λ parts. (parts.0.now, tree_of parts.1.now)) result ≡ as_headed word.now (tree_of term.now) }
+    ensures { option_map (λ parts. (parts.0.now, tree_of parts.1.now)) result
+        ≡ as_headed word.now (tree_of term.now) }
 {
     let (first, name, part) = triple(term)?;
     let first = atom(first)?;
@@ -101,14 +105,16 @@ fn headed_by<'a>(word: &str, term: &'a Term) -> Option<(&'a Str, &'a Term)>
 
 /// The name and the configuration of a node term.
 pub fn node(term: &Term) -> Option<(&Str, &Term)>
-    ensures { option_map (λ parts. (parts.0.now, tree_of parts.1.now)) result ≡ as_node (tree_of term.now) }
+    ensures { option_map (λ parts. (parts.0.now, tree_of parts.1.now)) result
+        ≡ as_node (tree_of term.now) }
 {
     headed_by("node", term)
 }
 
 /// The name and the keys of an application term.
 pub fn app(term: &Term) -> Option<(&Str, &Term)>
-    ensures { option_map (λ parts. (parts.0.now, tree_of parts.1.now)) result ≡ as_app (tree_of term.now) }
+    ensures { option_map (λ parts. (parts.0.now, tree_of parts.1.now)) result
+        ≡ as_app (tree_of term.now) }
 {
     headed_by("application", term)
 }

@@ -13,7 +13,8 @@ pub fn one_reading()
 
 /// The law that a text stops at one line at most.
 pub fn stops_at_one_line()
-    ensures { (bytes : List ℕ) (line other : ℕ) → StopsAt line bytes → StopsAt other bytes → line ≡ other }
+    ensures { (bytes : List ℕ) (line other : ℕ) → StopsAt line bytes → StopsAt other bytes
+        → line ≡ other }
 {}
 
 /// The law that the definition's bounds on the number of elements and of terms are never met:
@@ -21,5 +22,6 @@ pub fn stops_at_one_line()
 pub fn bounds_are_never_met()
     ensures elements { (room close n m : ℕ) (bs : List ℕ) → length bs ≤ n → length bs ≤ m →
         some_terms (term_at room) close n bs ≡ some_terms (term_at room) close m bs }
-    ensures terms { (n m : ℕ) (bs : List ℕ) → length bs ≤ n → length bs ≤ m → dotted n bs ≡ dotted m bs }
+    ensures terms { (n m : ℕ) (bs : List ℕ) → length bs ≤ n → length bs ≤ m
+        → dotted n bs ≡ dotted m bs }
 {}

@@ -41,7 +41,8 @@ pub fn term_of<'a, K: Keep>(
 ) -> Result<(Term, &'a [u8]), ReadError>
     requires text { IsUtf8 bytes.now }
     requires known { IsRead again.old }
-    ensures read { ReadsAs (λ x. (tree_of x.0, x.1.now)) result (under (kept_tree K.behind_key keep) (term_at room bytes.now)) }
+    ensures read { ReadsAs (λ x. (tree_of x.0, x.1.now)) result
+        (under (kept_tree K.behind_key keep) (term_at room bytes.now)) }
     ensures stack { OnOk result (stack.new.items ≡ stack.old.items) }
     ensures known { OnOk result (IsRead again.new) }
 {
@@ -78,7 +79,8 @@ fn list_of<'a, K: Keep>(
     requires text { IsUtf8 bytes.now }
     requires opens { begins (λ b. b == 91) bytes.now ≡ true }
     requires known { IsRead again.old }
-    ensures read { ReadsAs (λ x. (list (trees_of (items_of x.0)), x.1.now)) result (under (kept_tree K.behind_key keep) (term_at room bytes.now)) }
+    ensures read { ReadsAs (λ x. (list (trees_of (items_of x.0)), x.1.now)) result
+        (under (kept_tree K.behind_key keep) (term_at room bytes.now)) }
     ensures stack { OnOk result (stack.new.items ≡ stack.old.items) }
     ensures known { OnOk result (IsRead again.new) }
 {
@@ -112,7 +114,8 @@ fn outermost_list_of<'a, K: Keep>(
     requires opens { begins (λ b. b == 91) bytes.now ≡ true }
     requires whole { (key : List ℕ) → K.behind_key keep key ≡ Some keep }
     requires known { IsRead again.old }
-    ensures read { ReadsAs (λ x. (list (trees_of (items_of x.0)), x.1.now)) result (under (kept_tree K.behind_key keep) (term_at room bytes.now)) }
+    ensures read { ReadsAs (λ x. (list (trees_of (items_of x.0)), x.1.now)) result
+        (under (kept_tree K.behind_key keep) (term_at room bytes.now)) }
     ensures stack { OnOk result (stack.new.items ≡ stack.old.items) }
     ensures known { OnOk result (IsRead again.new) }
 {
@@ -143,7 +146,8 @@ fn terms_inside<'a, K: Keep>(
     requires text { IsUtf8 bytes.now }
     requires ascii { close < 128 }
     requires known { IsRead again.old }
-    ensures read { ReadsAs (λ x. (trees_of (items_of x.0), x.1.now)) result (under (kept_trees K.behind_key next) (inside room close bytes.now)) }
+    ensures read { ReadsAs (λ x. (trees_of (items_of x.0), x.1.now)) result
+        (under (kept_trees K.behind_key next) (inside room close bytes.now)) }
     ensures stack { OnOk result (stack.new.items ≡ stack.old.items) }
     ensures known { OnOk result (IsRead again.new) }
 {
@@ -173,7 +177,8 @@ fn elements_of<'a, K: Keep>(
     requires text { IsUtf8 bytes.now }
     requires ascii { close < 128 }
     requires known { IsRead again.old }
-    ensures read { ReadsAs (λ x. (trees_of (items_of x.0), x.1.now)) result (under (kept_trees K.behind_key next) (elements_at room close bytes.now)) }
+    ensures read { ReadsAs (λ x. (trees_of (items_of x.0), x.1.now)) result
+        (under (kept_trees K.behind_key next) (elements_at room close bytes.now)) }
     ensures stack { OnOk result (stack.new.items ≡ stack.old.items) }
     ensures known { OnOk result (IsRead again.new) }
 {
@@ -213,7 +218,9 @@ fn further_elements_of<'a, K: Keep>(
     requires text { IsUtf8 bytes.now }
     requires ascii { close < 128 }
     requires known { IsRead again.old }
-    ensures read { ReadsAs (λ x. (trees_of (items_of x.0), x.1.now)) result (with_trees (trees_of items.items) (under (kept_trees K.behind_key next) (elements_at room close bytes.now))) }
+    ensures read { ReadsAs (λ x. (trees_of (items_of x.0), x.1.now)) result
+        (with_trees (trees_of items.items)
+        (under (kept_trees K.behind_key next) (elements_at room close bytes.now))) }
     ensures stack { OnOk result (stack.new.items ≡ stack.old.items) }
     ensures known { OnOk result (IsRead again.new) }
 {
@@ -246,7 +253,8 @@ fn next_term<'a, K: Keep>(
 ) -> Result<(Term, &'a [u8]), ReadError>
     requires text { IsUtf8 bytes.now }
     requires known { IsRead again.old }
-    ensures read { ReadsAs (λ x. (tree_of x.0, x.1.now)) result (under (kept_next K.behind_key next) (term_at room bytes.now)) }
+    ensures read { ReadsAs (λ x. (tree_of x.0, x.1.now)) result
+        (under (kept_next K.behind_key next) (term_at room bytes.now)) }
     ensures stack { OnOk result (stack.new.items ≡ stack.old.items) }
     ensures known { OnOk result (IsRead again.new) }
 {

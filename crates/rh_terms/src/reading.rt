@@ -106,11 +106,13 @@ pub fn read_terms(alloc: Global, bytes: &[u8]) -> Result<Terms, TermFault>
     // The text spells what is read.
     ensures spelled { IfOk result (λ ts. AreDotted (trees_of (items_of ts)) bytes.now) }
     // What a text in UTF-8 spells is read, want of memory aside.
-    ensures read { (ts : Trees) → AreDotted ts bytes.now → IsTrue (is_utf8 bytes.now) → Tells result (Ok ts) }
+    ensures read { (ts : Trees) → AreDotted ts bytes.now → IsTrue (is_utf8 bytes.now)
+        → Tells result (Ok ts) }
     // Where a text is refused by a syntax fault, the longest front that a text of terms can begin with ends on that line.
     ensures syntax { (line : ℕ) → result ≡ Err (TermFault.Syntax line) → StopsAt line bytes.now }
     // Where a text is refused as unsupported, one of the constructs stands on that line, where reading comes to it.
-    ensures unsupported { (line : ℕ) → result ≡ Err (TermFault.Unsupported line) → HasConstruct line bytes.now }
+    ensures unsupported { (line : ℕ) → result ≡ Err (TermFault.Unsupported line)
+        → HasConstruct line bytes.now }
 {
     read_kept(alloc, KeepAll, bytes)
 }

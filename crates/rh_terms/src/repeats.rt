@@ -44,7 +44,8 @@ impl<'a> Again<'a> {
     /// where it can't be shared once more: the list is read again then.
     pub fn share_at(&self, alloc: Global, room: usize, bytes: &'a [u8]) -> Option<(Terms, &'a [u8])>
         requires { IsRead self.now }
-        ensures { IfSome result (λ x. term_at room bytes.now ≡ Ok (tree.list (trees_of (items_of x.0)), x.1.now)) }
+        ensures { IfSome result
+            (λ x. term_at room bytes.now ≡ Ok (tree.list (trees_of (items_of x.0)), x.1.now)) }
     {
         match &self.list {
             Some(list) if self.room == room && bytes.starts_with(self.text) => {
@@ -69,7 +70,8 @@ impl<'a> Again<'a> {
     ) -> Terms
         requires known { IsRead self.old }
         requires opens { begins (λ b. b == 91) bytes.now ≡ true }
-        requires read { term_at room bytes.now ≡ Ok (tree.list (trees_of (items_of list)), rest.now) }
+        requires read { term_at room bytes.now
+            ≡ Ok (tree.list (trees_of (items_of list)), rest.now) }
         ensures known { IsRead self.new }
         ensures list { trees_of (items_of result) ≡ trees_of (items_of list) }
     {

@@ -89,7 +89,8 @@ pub fn skipped_term<'a>(
     bytes: &'a [u8],
 ) -> Result<(Term, &'a [u8]), ReadError>
     requires { IsRead again.old }
-    ensures read { ReadsAs (λ x. (tree_of x.0, x.1.now)) result (under hollow (term_at room bytes.now)) }
+    ensures read { ReadsAs (λ x. (tree_of x.0, x.1.now)) result
+        (under hollow (term_at room bytes.now)) }
     ensures known { OnOk result (IsRead again.new) }
 {
     let rest = behind_again(again, room, bytes)?;

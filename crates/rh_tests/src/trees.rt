@@ -452,7 +452,8 @@ impl Keep for Behind {
     ghost use Rattle.std.specs.Prelude.{None, Some, true, codes, if◌then◌else◌};
     ghost use Rattle.std.specs.Str.{bytes_eq};
 
-    ghost behind_key = { λ k key. if k.is_kept then Some k else if bytes_eq key (codes "keep") then Some (record { is_kept = true }) else None };
+    ghost behind_key = { λ k key. if k.is_kept then Some k else if bytes_eq key (codes "keep")
+        then Some (record { is_kept = true }) else None };
 
     fn behind(self, key: &str) -> Option<Behind> {
         if self.is_kept {

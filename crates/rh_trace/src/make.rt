@@ -116,8 +116,8 @@ fn place(
 
 // An application has started at a node in place of another.
 fn tell_takeover(app: App, from: Node, node: Node, trace: &mut Trace) -> Result<(), OutOfMemory>
-    ensures told { OnOk result (trace.new.notices
-        ≡ (trace.old.notices ++ Started app node (kind.Takeover from) None ∷ []) ++ Stopped app from ∷ []) }
+    ensures told { OnOk result (trace.new.notices ≡ (trace.old.notices
+        ++ Started app node (kind.Takeover from) None ∷ []) ++ Stopped app from ∷ []) }
     ensures marked { trace.new.marked ≡ trace.old.marked }
     ensures freed { trace.new.freed ≡ trace.old.freed }
     ensures edits { trace.new.edits ≡ trace.old.edits }

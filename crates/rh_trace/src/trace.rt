@@ -24,7 +24,12 @@ impl Model for Trace {
 
     ghost Value = { TraceView };
 
-    ghost view = { λ t. record { notices = t.notices.items; marked = t.marked.items; freed = t.freed.items; edits = t.edits.items } };
+    ghost view = { λ t. record {
+      notices = t.notices.items;
+      marked = t.marked.items;
+      freed = t.freed.items;
+      edits = t.edits.items;
+    } };
 }
 
 impl Trace {
@@ -71,7 +76,8 @@ impl Trace {
 
     /// Tells a notice. Where memory is refused nothing is told.
     pub fn tell(&mut self, notice: Notice) -> Result<(), OutOfMemory>
-        ensures told { OnOk result (self.new ≡ trace_of (self.old.notices ++ notice ∷ []) self.old.marked self.old.freed self.old.edits) }
+        ensures told { OnOk result (self.new ≡ trace_of (self.old.notices ++ notice ∷ [])
+            self.old.marked self.old.freed self.old.edits) }
         ensures err { OnErr result (self.new ≡ self.old) }
     {
         self.notices.push(notice)?;
@@ -80,7 +86,8 @@ impl Trace {
 
     /// Marks a pair. Where memory is refused nothing is marked.
     pub fn mark(&mut self, pair: Pair) -> Result<(), OutOfMemory>
-        ensures marked { OnOk result (self.new ≡ trace_of self.old.notices (self.old.marked ++ pair ∷ []) self.old.freed self.old.edits) }
+        ensures marked { OnOk result (self.new ≡ trace_of self.old.notices
+            (self.old.marked ++ pair ∷ []) self.old.freed self.old.edits) }
         ensures err { OnErr result (self.new ≡ self.old) }
     {
         self.marked.push(pair)?;
@@ -99,7 +106,8 @@ impl Trace {
 
     /// Frees a pair: it is fresh, and isn't marked. Where memory is refused nothing is freed.
     pub fn free(&mut self, pair: Pair) -> Result<(), OutOfMemory>
-        ensures freed { OnOk result (self.new ≡ trace_of self.old.notices self.old.marked (self.old.freed ++ pair ∷ []) self.old.edits) }
+        ensures freed { OnOk result (self.new ≡ trace_of self.old.notices self.old.marked
+            (self.old.freed ++ pair ∷ []) self.old.edits) }
         ensures err { OnErr result (self.new ≡ self.old) }
     {
         self.freed.push(pair)?;

@@ -65,7 +65,8 @@ impl Records {
         requires index { index < length self.old }
         requires all { AllBack exchange CanGoBack state.old (slice_index_or self.old index []) }
         ensures words { state.new ≡ back exchange state.old (slice_index_or self.old index []) }
-        ensures records { self.new ≡ slice_set self.old index (backed exchange turned state.old (slice_index_or self.old index [])) }
+        ensures records { self.new ≡ slice_set self.old index
+            (backed exchange turned state.old (slice_index_or self.old index [])) }
         ensures count { result ≡ length (slice_index_or self.old index []) }
     {
         let start = start_of(self.ends.as_slice(), index);
@@ -79,7 +80,8 @@ impl Records {
         requires index { index < length self.old }
         requires all { AllForth exchange CanGoForth state.old (slice_index_or self.old index []) }
         ensures words { state.new ≡ forth exchange state.old (slice_index_or self.old index []) }
-        ensures records { self.new ≡ slice_set self.old index (forthed exchange turned state.old (slice_index_or self.old index [])) }
+        ensures records { self.new ≡ slice_set self.old index
+            (forthed exchange turned state.old (slice_index_or self.old index [])) }
         ensures count { result ≡ length (slice_index_or self.old index []) }
     {
         let start = start_of(self.ends.as_slice(), index);

@@ -50,9 +50,32 @@ impl Model for Sim {
 
     ghost Value = { Held };
 
-    ghost view = { λ s. record { seen = record { cluster = s.state.cluster; pick = s.pick; trail = s.trail.items; cursor = s.cursor }; words = s.state; records = s.records } };
+    ghost view = { λ s. record {
+      seen = record {
+        cluster = s.state.cluster;
+        pick = s.pick;
+        trail = s.trail.items;
+        cursor = s.cursor;
+      };
+      words = s.state;
+      records = s.records;
+    } };
 
-    ghost invariant = { λ s. record { chain : IsChain (record { seen = record { cluster = s.state.cluster; pick = s.pick; trail = s.trail.items; cursor = s.cursor }; words = s.state; records = s.records }); spare : s.spare.items ≡ []; shown : IfSome s.shown (λ text. text ≡ report_text (read s.state)) } };
+    ghost invariant = { λ s. record {
+      chain : IsChain
+          (record {
+            seen = record {
+              cluster = s.state.cluster;
+              pick = s.pick;
+              trail = s.trail.items;
+              cursor = s.cursor;
+            };
+            words = s.state;
+            records = s.records;
+          });
+      spare : s.spare.items ≡ [];
+      shown : IfSome s.shown (λ text. text ≡ report_text (read s.state));
+    } };
 }
 
 impl Sim {

@@ -29,8 +29,9 @@ pub fn write_stray<K: Sink>(
 ) -> Result<u64, WriteFault>
     requires writer { writer.old.failed ≡ false }
     requires numbers { first + length lines.now ≤ 2 ^ 64 }
-    ensures text { let found = filter (λ at. is_expectation at.1) (numbered first (map (λ line. line.now) lines.now)) in
-        Gave K.takes K.fails result (flat_map stray_text found) (length found) writer.old writer.new }
+    ensures text { let found = filter (λ at. is_expectation at.1)
+        (numbered first (map (λ line. line.now) lines.now)) in Gave K.takes K.fails result
+        (flat_map stray_text found) (length found) writer.old writer.new }
     ensures within { IfOk result (λ count. count ≤ length lines.now) }
 {
     let mut count: u64 = 0;
@@ -56,11 +57,11 @@ pub fn write_blocks<K: Sink>(
     requires writer { writer.old.failed ≡ false }
     requires begun { 1 ≤ first }
     requires numbers { first + length script.now ≤ 2 ^ 64 }
-    ensures text { let c = sim.old.seen.cluster in
-        let all = checks sim.old.seen first (asked_by c (lines_of script.now)) in
-        Gave K.takes K.fails result (flat_map (block_text c) all) (tally_of c all, bad_line 1 (lines_asked c (lines_of script.now)))
-        writer.old writer.new }
-    ensures counted { IfOk result (λ v. (v.0.commands ≤ length script.now) × (v.0.checked ≤ length script.now) × (v.0.differing ≤ length script.now)) }
+    ensures text { let c = sim.old.seen.cluster in let all = checks sim.old.seen first (asked_by c
+        (lines_of script.now)) in Gave K.takes K.fails result (flat_map (block_text c) all)
+        (tally_of c all, bad_line 1 (lines_asked c (lines_of script.now))) writer.old writer.new }
+    ensures counted { IfOk result (λ v. (v.0.commands ≤ length script.now)
+        × (v.0.checked ≤ length script.now) × (v.0.differing ≤ length script.now)) }
 {
     let mut tally = Tally {
         commands: 0,
@@ -117,14 +118,15 @@ fn take_line<'a, K: Sink>(
     requires commands { tally.old.commands + 1 < 2 ^ 64 }
     requires checked { tally.old.checked + 1 < 2 ^ 64 }
     requires differing { tally.old.differing + 1 < 2 ^ 64 }
-    ensures taken { let c = sim.old.seen.cluster in
-        Takes K.takes K.fails (was_bad result) c sim.old.seen sim.new.seen tally.old tally.new number (line.now, line_of c line.now)
-        (asked_by c (lines_of after.now)) writer.old writer.new }
+    ensures taken { let c = sim.old.seen.cluster in Takes K.takes K.fails
+        (was_bad result) c sim.old.seen sim.new.seen tally.old tally.new number
+        (line.now, line_of c line.now) (asked_by c (lines_of after.now)) writer.old writer.new }
     ensures cluster { OnOk result (sim.new.seen.cluster ≡ sim.old.seen.cluster) }
-    ensures rest { let c = sim.old.seen.cluster in
-        IfOk result (λ taken. Passes (asked_by c (lines_of after.now)) (asked_by c (lines_of taken.rest.now)) taken.count) }
+    ensures rest { let c = sim.old.seen.cluster in IfOk result (λ taken. Passes
+        (asked_by c (lines_of after.now)) (asked_by c (lines_of taken.rest.now)) taken.count) }
     ensures some { IfOk result (λ taken. 1 ≤ taken.count) }
-    ensures within { IfOk result (λ taken. taken.count + length taken.rest.now ≤ length after.now + 1) }
+    ensures within { IfOk result
+        (λ taken. taken.count + length taken.rest.now ≤ length after.now + 1) }
 {
     match line_of(alloc, sim.cluster(), line)? {
         Line::Nothing => Ok(Taken {

@@ -35,9 +35,12 @@ pub fn lines_ahead<'a>(
     lines: &mut Vec<&'a [u8]>,
     script: &'a [u8],
 ) -> Result<&'a [u8], OutOfMemory>
-    ensures lines { OnOk result (map (λ line. line.now) lines.new.items ≡ ahead (asked_by cluster.now (lines_of script.now))) }
-    ensures rest { IfOk result (λ rest. asked_by cluster.now (lines_of script.now) ≡ passed_by (map (λ line. line.now) lines.new.items) ++ asked_by cluster.now (lines_of rest.now)) }
-    ensures within { IfOk result (λ rest. length lines.new.items + length rest.now ≤ length script.now) }
+    ensures lines { OnOk result (map (λ line. line.now) lines.new.items
+        ≡ ahead (asked_by cluster.now (lines_of script.now))) }
+    ensures rest { IfOk result (λ rest. asked_by cluster.now (lines_of script.now) ≡ passed_by
+        (map (λ line. line.now) lines.new.items) ++ asked_by cluster.now (lines_of rest.now)) }
+    ensures within { IfOk result
+        (λ rest. length lines.new.items + length rest.now ≤ length script.now) }
 {
     empty(lines);
     let mut rest = script;
@@ -59,7 +62,8 @@ pub fn lines_before<'a>(
     cluster: &Cluster,
     script: &'a [u8],
 ) -> Result<Vec<&'a [u8]>, OutOfMemory>
-    ensures lines { IfOk result (λ lines. map (λ line. line.now) lines.items ≡ ahead (asked_by cluster.now (lines_of script.now))) }
+    ensures lines { IfOk result (λ lines.
+        map (λ line. line.now) lines.items ≡ ahead (asked_by cluster.now (lines_of script.now))) }
     ensures within { IfOk result (λ lines. length lines.items ≤ length script.now) }
 {
     let mut lines = Vec::new(alloc);
@@ -83,7 +87,8 @@ fn push_answer<'a>(texts: &mut Vec<&'a [u8]>, line: &'a [u8]) -> Result<(), OutO
 
 // The lines of an answer that these lines want.
 pub fn answers_in<'a>(alloc: Global, lines: &[&'a [u8]]) -> Result<Vec<&'a [u8]>, OutOfMemory>
-    ensures { IfOk result (λ texts. map (λ text. text.now) texts.items ≡ answers_in (map (λ line. line.now) lines.now)) }
+    ensures { IfOk result (λ texts.
+        map (λ text. text.now) texts.items ≡ answers_in (map (λ line. line.now) lines.now)) }
 {
     let mut texts = Vec::new(alloc);
     for line in lines {
@@ -108,7 +113,8 @@ fn push_wanted<'a>(texts: &mut Vec<&'a [u8]>, line: &'a [u8]) -> Result<(), OutO
 
 // The lines of a report that these lines want.
 pub fn wanted_among<'a>(alloc: Global, lines: &[&'a [u8]]) -> Result<Vec<&'a [u8]>, OutOfMemory>
-    ensures { IfOk result (λ texts. map (λ text. text.now) texts.items ≡ wanted_among (map (λ line. line.now) lines.now)) }
+    ensures { IfOk result (λ texts.
+        map (λ text. text.now) texts.items ≡ wanted_among (map (λ line. line.now) lines.now)) }
 {
     let mut texts = Vec::new(alloc);
     for line in lines {

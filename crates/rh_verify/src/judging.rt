@@ -21,7 +21,8 @@ use std::alloc::Global;
 
 // What stands behind this line and its end, where a text begins with them.
 fn behind_line<'a>(text: &'a [u8], line: &[u8]) -> Option<&'a [u8]>
-    ensures { MatchOption result ((rest : List ℕ) → text.now ≢ line.now ++ codes "\n" ++ rest) (λ rest. text.now ≡ line.now ++ codes "\n" ++ rest.now) }
+    ensures { MatchOption result ((rest : List ℕ) → text.now ≢ line.now ++ codes "\n" ++ rest)
+        (λ rest. text.now ≡ line.now ++ codes "\n" ++ rest.now) }
 {
     match text.strip_prefix(line) {
         Some(rest) => rest.strip_prefix(b"\n".as_slice()),
@@ -31,7 +32,8 @@ fn behind_line<'a>(text: &'a [u8], line: &[u8]) -> Option<&'a [u8]>
 
 // Whether a text is these lines, each with its end.
 fn is_joined(lines: &[&[u8]], text: &[u8]) -> bool
-    ensures { result ≡ bytes_eq (flat_map (λ l. l ++ codes "\n") (map (λ line. line.now) lines.now)) text.now }
+    ensures { result
+        ≡ bytes_eq (flat_map (λ l. l ++ codes "\n") (map (λ line. line.now) lines.now)) text.now }
 {
     let mut rest = text;
     for line in lines {
@@ -72,7 +74,8 @@ fn missing_lines<'a>(
     report: &[u8],
     wanted: &[&'a [u8]],
 ) -> Result<Vec<&'a [u8]>, OutOfMemory>
-    ensures { IfOk result (λ lines. map (λ line. line.now) lines.items ≡ missing report.now (map (λ line. line.now) wanted.now)) }
+    ensures { IfOk result (λ lines. map (λ line. line.now) lines.items
+        ≡ missing report.now (map (λ line. line.now) wanted.now)) }
 {
     let report = lines_of(alloc, report)?;
     let mut lines = Vec::new(alloc);
@@ -90,7 +93,8 @@ fn missing_in_report<'a>(
     state: &State,
     wanted: &[&'a [u8]],
 ) -> Result<Vec<&'a [u8]>, OutOfMemory>
-    ensures { IfOk result (λ lines. map (λ line. line.now) lines.items ≡ missing (report_text (read state.now)) (map (λ line. line.now) wanted.now)) }
+    ensures { IfOk result (λ lines. map (λ line. line.now) lines.items
+        ≡ missing (report_text (read state.now)) (map (λ line. line.now) wanted.now)) }
 {
     if wanted.is_empty() {
         return Ok(Vec::new(alloc));
@@ -116,8 +120,9 @@ fn push_answer(
     wanted: &[&[u8]],
     came: &[u8],
 ) -> Result<(), OutOfMemory>
-    ensures { OnOk result (block.new.items ≡ block.old.items
-        ++ (flat_map (below (codes "wanted ")) (map (λ line. line.now) wanted.now) ++ flat_map (below (codes "came ")) (lines_of came.now))) }
+    ensures { OnOk result (block.new.items
+        ≡ block.old.items ++ (flat_map (below (codes "wanted ")) (map (λ line. line.now) wanted.now)
+        ++ flat_map (below (codes "came ")) (lines_of came.now))) }
 {
     let came = lines_of(alloc, came)?;
     push_each(block, "wanted ", wanted)?;
@@ -133,8 +138,8 @@ fn block_of(
     came: &[u8],
     lacking: &[&[u8]],
 ) -> Result<Vec<u8>, OutOfMemory>
-    ensures { IfOk result (λ text. text.items
-        ≡ block_of number line.now (map (λ l. l.now) wanted.now) came.now (map (λ l. l.now) lacking.now)) }
+    ensures { IfOk result (λ text. text.items ≡ block_of number line.now
+        (map (λ l. l.now) wanted.now) came.now (map (λ l. l.now) lacking.now)) }
 {
     let is_answered = is_answered(wanted, came);
     if is_answered && lacking.is_empty() {
@@ -157,10 +162,12 @@ pub fn judge(
     came: &[u8],
     behind: &[&[u8]],
 ) -> Result<(Vec<u8>, Verdict), OutOfMemory>
-    ensures block { IfOk result (λ found. let lines = map (λ l. l.now) behind.now in
-        found.0.items ≡ block_of number line.now (answers_in lines) came.now (missing (report_text (read state.now)) (wanted_among lines))) }
-    ensures verdict { IfOk result (λ found. let lines = map (λ l. l.now) behind.now in
-        found.1 ≡ verdict_of (answers_in lines) came.now (wanted_among lines) (missing (report_text (read state.now)) (wanted_among lines))) }
+    ensures block { IfOk result (λ found.
+        let lines = map (λ l. l.now) behind.now in found.0.items ≡ block_of number line.now
+        (answers_in lines) came.now (missing (report_text (read state.now)) (wanted_among lines))) }
+    ensures verdict { IfOk result (λ found.
+        let lines = map (λ l. l.now) behind.now in found.1 ≡ verdict_of (answers_in lines) came.now
+        (wanted_among lines) (missing (report_text (read state.now)) (wanted_among lines))) }
 {
     let answers = answers_in(alloc, behind)?;
     let wanted = wanted_among(alloc, behind)?;

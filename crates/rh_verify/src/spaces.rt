@@ -91,7 +91,8 @@ fn push_below(block: &mut Vec<u8>, words: &str, text: &[u8]) -> Result<(), OutOf
 
 // Adds such a line for each of these texts.
 pub fn push_each(block: &mut Vec<u8>, words: &str, texts: &[&[u8]]) -> Result<(), OutOfMemory>
-    ensures { OnOk result (block.new.items ≡ block.old.items ++ flat_map (below words.now) (map (λ text. text.now) texts.now)) }
+    ensures { OnOk result (block.new.items
+        ≡ block.old.items ++ flat_map (below words.now) (map (λ text. text.now) texts.now)) }
 {
     for text in texts {
         push_below(block, words, *text)?;

@@ -37,7 +37,8 @@ pub fn run_verify<S: Source, K: Sink>(
 ) -> Result<(), RunFault>
     requires reader { reader.old.failed ≡ false }
     requires writer { writer.old.failed ≡ false }
-    ensures { ProgramGives S.gives S.fails K.takes K.fails (OwesVerify pick) NoThreads result reader.old reader.new writer.old writer.new }
+    ensures { ProgramGives S.gives S.fails K.takes K.fails
+        (OwesVerify pick) NoThreads result reader.old reader.new writer.old writer.new }
 {
     let input = read_input(alloc, reader)?;
     let told = verify_input(alloc, input.as_slice(), writer, pick)?;
@@ -53,7 +54,8 @@ fn verify_input<K: Sink>(
     pick: Pick,
 ) -> Result<Option<Told>, WriteFault>
     requires { writer.old.failed ≡ false }
-    ensures { Wrote K.takes K.fails result (verify_text input.now pick) (verify_end input.now pick) writer.old writer.new }
+    ensures { Wrote K.takes K.fails result (verify_text input.now pick)
+        (verify_end input.now pick) writer.old writer.new }
 {
     let (text, script) = cut(input);
     let first = line_count(text) + 2;
@@ -99,7 +101,8 @@ fn write_last<K: Sink>(
     writer: &mut Watched<K>,
 ) -> Result<Option<Told>, WriteFault>
     requires { writer.old.failed ≡ false }
-    ensures { Wrote K.takes K.fails result (last_text tally bad) (last_end tally bad) writer.old writer.new }
+    ensures { Wrote K.takes K.fails result (last_text tally bad)
+        (last_end tally bad) writer.old writer.new }
 {
     match bad {
         Some(number) => {

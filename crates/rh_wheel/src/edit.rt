@@ -32,14 +32,24 @@ impl Model for TimerEdit {
 
     ghost Value = { EditView };
 
-    ghost view = { λ e. record { is_done = e.links.is_done; changes = e.links.changes; timer = entry_in e.links.changes; due = option_map (λ slot. from_le_bytes w64 e.due) (list_in e.links.changes) } };
+    ghost view = { λ e. record {
+      is_done = e.links.is_done;
+      changes = e.links.changes;
+      timer = entry_in e.links.changes;
+      due = option_map (λ slot. from_le_bytes w64 e.due) (list_in e.links.changes);
+    } };
 }
 
 impl TimerEdit {
     // An edit of links, with the due time of the timer if they give it a slot.
     pub(crate) fn new(links: LinkEdit, due: Option<u64>) -> TimerEdit
         requires { IsSome due ↔ IsSome (list_in links.changes) }
-        ensures { result ≡ record { is_done = links.is_done; changes = links.changes; timer = entry_in links.changes; due = due } }
+        ensures { result ≡ record {
+          is_done = links.is_done;
+          changes = links.changes;
+          timer = entry_in links.changes;
+          due = due;
+        } }
     {
         TimerEdit {
             links,
@@ -50,7 +60,8 @@ impl TimerEdit {
     // The timer's number, which the edit has on its other side too.
     pub(crate) fn timer(&self) -> u16
         ensures timer { result ≡ self.now.timer }
-        ensures turned { (words : Words) → entry_in (turned words (links_of self.now)).changes ≡ result }
+        ensures turned { (words : Words)
+            → entry_in (turned words (links_of self.now)).changes ≡ result }
     {
         self.links.entry()
     }
@@ -58,7 +69,8 @@ impl TimerEdit {
     // When the timer is due, if it is armed. On its other side the edit gives it the slot that it had.
     pub(crate) fn due(&self) -> Option<u64>
         ensures due { result ≡ self.now.due }
-        ensures turned { (words : Words) → list_in (turned words (links_of self.now)).changes ≡ slice_index_or words.owner self.now.timer (list_in self.now.changes) }
+        ensures turned { (words : Words) → list_in (turned words (links_of self.now)).changes
+            ≡ slice_index_or words.owner self.now.timer (list_in self.now.changes) }
     {
         match self.links.list() {
             None => None,

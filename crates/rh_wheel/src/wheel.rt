@@ -33,7 +33,11 @@ impl Model for Wheel {
 
     ghost view = { λ wheel. record { links = wheel.slots; dues = wheel.dues.items } };
 
-    ghost invariant = { λ wheel. record { formed : IsFormed (record { links = wheel.slots; dues = wheel.dues.items }); few : length wheel.dues.items ≤ 65535 } };
+    ghost invariant = { λ wheel.
+        record {
+          formed : IsFormed (record { links = wheel.slots; dues = wheel.dues.items });
+          few : length wheel.dues.items ≤ 65535;
+        } };
 }
 
 impl Wheel {
@@ -97,9 +101,11 @@ impl Wheel {
         // So this timer is armed, each other one is as it was, cancelling gives the list of before, and of the timers
         // that are due together this one fires last.
         ensures armed { due_in timer (listed self.new) ≡ Some due }
-        ensures others { (t : ℕ) → t ≢ timer → due_in t (listed self.new) ≡ due_in t (listed self.old) }
+        ensures others { (t : ℕ) → t ≢ timer
+            → due_in t (listed self.new) ≡ due_in t (listed self.old) }
         ensures cancelled { without timer (listed self.new) ≡ listed self.old }
-        ensures last_of_equals { due_at due (listed self.new) ≡ due_at due (listed self.old) ++ (due, timer) ∷ [] }
+        ensures last_of_equals { due_at due (listed self.new)
+            ≡ due_at due (listed self.old) ++ (due, timer) ∷ [] }
 
         // The edit takes it back, to the last word.
         ensures done { result.is_done ≡ true }
@@ -119,7 +125,8 @@ impl Wheel {
 
         // So this timer isn't armed, each other one is as it was, and one less is armed.
         ensures unarmed { IsNone (due_in timer (listed self.new)) }
-        ensures others { (t : ℕ) → t ≢ timer → due_in t (listed self.new) ≡ due_in t (listed self.old) }
+        ensures others { (t : ℕ) → t ≢ timer
+            → due_in t (listed self.new) ≡ due_in t (listed self.old) }
         ensures one_less { length (listed self.new) + 1 ≡ length (listed self.old) }
 
         // The edit takes it back, to the last word.
@@ -165,7 +172,8 @@ impl Wheel {
     pub fn earliest(&self) -> Option<(u64, u32)>
         ensures first { result ≡ slice_get (listed self.now) 0 }
         ensures none { IsNone result ↔ (listed self.now ≡ []) }
-        ensures least { IfSome result (λ entry. All (λ other. entry.0 ≤ other.0) (listed self.now)) }
+        ensures least { IfSome result
+            (λ entry. All (λ other. entry.0 ≤ other.0) (listed self.now)) }
         ensures armed { IfSome result (λ entry. due_in entry.1 (listed self.now) ≡ Some entry.0) }
         ensures numbered { IfSome result (λ entry. entry.1 < timer_count self.now) }
 

@@ -40,10 +40,14 @@ pub fn why_app_waits(
 pub fn reasons_of(state: &State, app: App, node: Node) -> Reasons
     requires node { node.0 < node_count (read state.now).cluster }
     requires app { app.0 < app_count (read state.now).cluster }
-    ensures all { option_to_list result.lacking ++ option_to_list result.forbidding ++ option_to_list result.by_standing ≡ reasons (read state.now) app node }
-    ensures lacking { option_to_list result.lacking ≡ (if waits_at (read state.now) node app then lacking (read state.now) app node else []) }
-    ensures forbidding { option_to_list result.forbidding ≡ (if waits_at (read state.now) node app then forbidding (read state.now) app node else []) }
-    ensures by_standing { option_to_list result.by_standing ≡ (if waits_at (read state.now) node app then by_standing (read state.now) app else []) }
+    ensures all { option_to_list result.lacking ++ option_to_list result.forbidding
+        ++ option_to_list result.by_standing ≡ reasons (read state.now) app node }
+    ensures lacking { option_to_list result.lacking
+        ≡ (if waits_at (read state.now) node app then lacking (read state.now) app node else []) }
+    ensures forbidding { option_to_list result.forbidding ≡
+        (if waits_at (read state.now) node app then forbidding (read state.now) app node else []) }
+    ensures by_standing { option_to_list result.by_standing
+        ≡ (if waits_at (read state.now) node app then by_standing (read state.now) app else []) }
 {
     if !waits(state, app, node) {
         return Reasons {

@@ -51,7 +51,8 @@ fn waits_for_others(state: &State, node: Node) -> bool
 #[tactic(auto, unfolding(rh_state::specs::Numbers::nodes_of))]
 fn missing_nodes(alloc: Global, state: &State, node: Node) -> Result<Vec<Node>, OutOfMemory>
     requires { node.0 < node_count (read state.now).cluster }
-    ensures { IfOk result (λ nodes. nodes.items ≡ filter (is_awaited (read state.now) node) (nodes_of (read state.now).cluster)) }
+    ensures { IfOk result (λ nodes. nodes.items
+        ≡ filter (is_awaited (read state.now) node) (nodes_of (read state.now).cluster)) }
 {
     let mut nodes = Vec::new(alloc);
     for number in 0..state.cluster().node_count() {
@@ -70,7 +71,8 @@ fn push_if_awaited(
 ) -> Result<(), OutOfMemory>
     requires node { node.0 < node_count (read state.now).cluster }
     requires other { other.0 < node_count (read state.now).cluster }
-    ensures { OnOk result (nodes.new.items ≡ nodes.old.items ++ (if is_awaited (read state.now) node other then other ∷ [] else [])) }
+    ensures { OnOk result (nodes.new.items
+        ≡ nodes.old.items ++ (if is_awaited (read state.now) node other then other ∷ [] else [])) }
 {
     if is_awaited(state, node, other) {
         nodes.push(other)?;

@@ -24,7 +24,8 @@ pub fn reason_text(alloc: Global, cluster: &Cluster, reason: &Reason) -> Result<
 /// Adds why an application waits, as [`reason_text`] says it.
 #[tactic(auto, unfolding(crate::specs::Texts::reason_text))]
 pub fn push_reason(text: &mut String, cluster: &Cluster, reason: &Reason) -> Result<(), OutOfMemory>
-    ensures { OnOk result (string_bytes text.new ≡ string_bytes text.old ++ reason_text cluster.now reason.now) }
+    ensures { OnOk result
+        (string_bytes text.new ≡ string_bytes text.old ++ reason_text cluster.now reason.now) }
 {
     match *reason {
         Reason::Needs { dep } => {
@@ -55,7 +56,8 @@ pub fn awaited_text(
     cluster: &Cluster,
     awaited: &Awaited,
 ) -> Result<String, OutOfMemory>
-    ensures { IfOk result (λ text. string_bytes text ≡ awaited_text cluster.now awaited.now.nodes.items awaited.now.until) }
+    ensures { IfOk result (λ text.
+        string_bytes text ≡ awaited_text cluster.now awaited.now.nodes.items awaited.now.until) }
 {
     let mut text = String::new(alloc);
     write!(text, "waits for")?;
@@ -66,7 +68,8 @@ pub fn awaited_text(
 
 // Adds the name of each node behind a blank.
 fn push_nodes(text: &mut String, cluster: &Cluster, nodes: &[Node]) -> Result<(), OutOfMemory>
-    ensures { OnOk result (string_bytes text.new ≡ string_bytes text.old ++ flat_map (one_word cluster.now) nodes.now) }
+    ensures { OnOk result (string_bytes text.new
+        ≡ string_bytes text.old ++ flat_map (one_word cluster.now) nodes.now) }
 {
     for node in nodes {
         let name = node_word(cluster, *node);

@@ -22,7 +22,8 @@ pub enum Script {
 
 /// The commands of a script, or the number of its first bad line.
 pub fn commands_in(alloc: Global, cluster: &Cluster, script: &[u8]) -> Result<Script, OutOfMemory>
-    ensures script { IfOk result (IsScriptOf (session_lines_asked cluster.now (map content (raw_lines script.now)))) }
+    ensures script { IfOk result
+        (IsScriptOf (session_lines_asked cluster.now (map content (raw_lines script.now)))) }
     ensures sessions { IfOk result AreNumbered }
 {
     let mut commands = Vec::new(alloc);
@@ -43,7 +44,8 @@ pub fn commands_in(alloc: Global, cluster: &Cluster, script: &[u8]) -> Result<Sc
 // Adds the command of a line, if it is one. The answer is false, and nothing is added, where the line doesn't fit.
 fn take_line(commands: &mut Vec<Command>, asked: SessionLine) -> Result<bool, OutOfMemory>
     ensures fits { IfOk result (λ taken. taken ≡ fits (length commands.old.items) asked) }
-    ensures taken { IfOk result (λ taken. IsTrue taken → commands.new.items ≡ commands.old.items ++ command_in asked) }
+    ensures taken { IfOk result
+        (λ taken. IsTrue taken → commands.new.items ≡ commands.old.items ++ command_in asked) }
 {
     match asked {
         SessionLine::Nothing => Ok(true),

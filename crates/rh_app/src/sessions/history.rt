@@ -25,7 +25,8 @@ pub fn write_history<K: Sink>(
     writer: &mut Watched<K>,
 ) -> Result<(), WriteFault>
     requires { writer.old.failed ≡ false }
-    ensures { Broke K.takes K.fails result (history_text cluster.now closed.now.log.items (state_of closed.now.sim.seen)) writer.old writer.new }
+    ensures { Broke K.takes K.fails result (history_text cluster.now closed.now.log.items
+        (state_of closed.now.sim.seen)) writer.old writer.new }
 {
     write_entries(alloc, cluster, closed.log.as_slice(), writer)?;
     write_final(alloc, closed.sim.state(), writer)
@@ -39,7 +40,8 @@ fn write_entries<K: Sink>(
     writer: &mut Watched<K>,
 ) -> Result<(), WriteFault>
     requires { writer.old.failed ≡ false }
-    ensures { Broke K.takes K.fails result (flat_map (entry_text cluster.now) log.now) writer.old writer.new }
+    ensures { Broke K.takes K.fails result
+        (flat_map (entry_text cluster.now) log.now) writer.old writer.new }
 {
     for entry in log {
         write_entry(alloc, cluster, entry, writer)?;
@@ -55,7 +57,8 @@ fn write_entry<K: Sink>(
     writer: &mut Watched<K>,
 ) -> Result<(), WriteFault>
     requires { writer.old.failed ≡ false }
-    ensures { Broke K.takes K.fails result (entry_text cluster.now entry.now) writer.old writer.new }
+    ensures { Broke K.takes K.fails result
+        (entry_text cluster.now entry.now) writer.old writer.new }
 {
     let text = entry_text(alloc, cluster, entry)?;
     write_text(writer, text.as_slice())
@@ -82,7 +85,8 @@ fn write_final<K: Sink>(
     writer: &mut Watched<K>,
 ) -> Result<(), WriteFault>
     requires { writer.old.failed ≡ false }
-    ensures { Broke K.takes K.fails result (codes "final\n" ++ report_text (read state.now)) writer.old writer.new }
+    ensures { Broke K.takes K.fails result
+        (codes "final\n" ++ report_text (read state.now)) writer.old writer.new }
 {
     let text = final_text(alloc, state)?;
     write_text(writer, text.as_slice())

@@ -39,8 +39,10 @@ pub fn history_of<T: Threads + Wait + Sync>(
     pick: Pick,
 ) -> Result<Closed, HistoryFault>
     requires { All (λ c. IsSession session_limit c.session) commands.now }
-    ensures history { IfOk result (λ closed. IsHistory cluster.now pick commands.now closed.log.items) }
-    ensures sim { IfOk result (λ closed. closed.sim.seen ≡ sim_after (opened cluster.now pick) (calls closed.log.items)) }
+    ensures history { IfOk result
+        (λ closed. IsHistory cluster.now pick commands.now closed.log.items) }
+    ensures sim { IfOk result
+        (λ closed. closed.sim.seen ≡ sim_after (opened cluster.now pick) (calls closed.log.items)) }
 {
     let (room, passes) = open_with_passes(alloc, cluster, commands, pick)?;
     let (room, passes) = serve_sessions(rt, alloc, room, passes, commands)?;
@@ -57,8 +59,10 @@ fn history_in(
     passes: Vec<Pass>,
 ) -> Result<Closed, HistoryFault>
     requires { All (λ c. IsSession session_limit c.session) commands.now }
-    ensures history { IfOk result (λ closed. IsHistory cluster.now pick commands.now closed.log.items) }
-    ensures sim { IfOk result (λ closed. closed.sim.seen ≡ sim_after (opened cluster.now pick) (calls closed.log.items)) }
+    ensures history { IfOk result
+        (λ closed. IsHistory cluster.now pick commands.now closed.log.items) }
+    ensures sim { IfOk result
+        (λ closed. closed.sim.seen ≡ sim_after (opened cluster.now pick) (calls closed.log.items)) }
     ensures fault { IfErr result (WhyNoHistory cluster.now pick commands.now room passes.items) }
 {
     let Ok(closed) = close(room, passes, cluster, pick) else {
@@ -82,7 +86,8 @@ fn open_with_passes(
     ensures sim { IfOk result (λ opening. opening.0.sim.seen ≡ opened cluster.now pick) }
     ensures sessions { IfOk result (λ opening. opening.0.sessions ≡ session_count commands.now) }
     ensures log { IfOk result (λ opening. opening.0.log ≡ []) }
-    ensures passes { IfOk result (λ opening. opening.1.items ≡ map new_pass (range_with_len 1 (session_count commands.now))) }
+    ensures passes { IfOk result (λ opening.
+        opening.1.items ≡ map new_pass (range_with_len 1 (session_count commands.now))) }
 {
     let copy = cluster.copy(alloc)?;
     open_room(alloc, copy, pick, session_count(commands)).map_err(|_| OutOfMemory)
@@ -136,7 +141,8 @@ fn in_threads<T: Threads + Wait + Sync>(
 // Makes the commands of a session, in order, as far as there is no fault. Without one, the session was answered all of them.
 fn work<T: Wait>(rt: &T, alloc: Global, shared: &Shared, given: Pass, commands: &[Command]) -> Ended
     ensures session { result.pass.session ≡ given.session }
-    ensures answered { IsNone result.fault → answered result.pass ≡ answered given ++ calls_by given.session commands.now }
+    ensures answered { IsNone result.fault
+        → answered result.pass ≡ answered given ++ calls_by given.session commands.now }
 {
     let mut pass = given;
     let fault = make_own(rt, alloc, shared, &mut pass, commands).err();
@@ -152,7 +158,8 @@ fn make_own<T: Wait>(
     commands: &[Command],
 ) -> Result<(), RoomFault>
     ensures session { pass.new.session ≡ pass.old.session }
-    ensures answered { OnOk result (answered pass.new ≡ answered pass.old ++ calls_by pass.old.session commands.now) }
+    ensures answered { OnOk result
+        (answered pass.new ≡ answered pass.old ++ calls_by pass.old.session commands.now) }
 {
     let own = commands_by(alloc, pass.session(), commands).map_err(|_| RoomFault::OutOfMemory)?;
     make_all(rt, alloc, shared, pass, own.as_slice())
@@ -167,7 +174,8 @@ fn make_all<T: Wait>(
     commands: &[Command],
 ) -> Result<(), RoomFault>
     ensures session { pass.new.session ≡ pass.old.session }
-    ensures answered { OnOk result (answered pass.new ≡ answered pass.old ++ map (λ c. c.call) commands.now) }
+    ensures answered { OnOk result
+        (answered pass.new ≡ answered pass.old ++ map (λ c. c.call) commands.now) }
 {
     for command in commands {
         make_one(rt, alloc, shared, pass, command.call)?;
@@ -226,7 +234,8 @@ fn had_fault(ended: &[Ended]) -> bool
 fn are_interleaved(alloc: Global, commands: &[Command], log: &[Entry]) -> Result<bool, OutOfMemory>
     requires commands { All (λ c. IsSession session_limit c.session) commands.now }
     requires log { All (λ e. IsSession session_limit e.session) log.now }
-    ensures { IfOk result (λ are. IsTrue are ↔ ((session : ℕ) → by_session session (map asked log.now) ≡ by_session session commands.now)) }
+    ensures { IfOk result (λ are. IsTrue are ↔ ((session : ℕ)
+        → by_session session (map asked log.now) ≡ by_session session commands.now)) }
 {
     let logged = commands_in_log(alloc, log)?;
     for before in 0..Room::SESSION_LIMIT {

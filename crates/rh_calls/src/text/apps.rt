@@ -15,7 +15,8 @@ use rh_state::{Standing, State};
 // Adds the line of each distributed application.
 #[tactic(auto, unfolding(rh_state::specs::Numbers::apps_of))]
 pub(crate) fn push_apps(text: &mut String, state: &State) -> Result<(), OutOfMemory>
-    ensures { OnOk result (string_bytes text.new ≡ string_bytes text.old ++ app_lines (read state.now)) }
+    ensures { OnOk result
+        (string_bytes text.new ≡ string_bytes text.old ++ app_lines (read state.now)) }
 {
     let count = state.cluster().app_count();
     for number in 0..count {
@@ -28,7 +29,8 @@ pub(crate) fn push_apps(text: &mut String, state: &State) -> Result<(), OutOfMem
 #[tactic(auto, unfolding(crate::specs::Report::app_line))]
 fn push_app_line(text: &mut String, state: &State, app: App) -> Result<(), OutOfMemory>
     requires { app.0 < app_count (read state.now).cluster }
-    ensures { OnOk result (string_bytes text.new ≡ string_bytes text.old ++ app_line (read state.now) app) }
+    ensures { OnOk result
+        (string_bytes text.new ≡ string_bytes text.old ++ app_line (read state.now) app) }
 {
     let cluster = state.cluster();
     if cluster.spread(app).is_some() {
@@ -46,7 +48,8 @@ pub fn push_standing_line(
     app: App,
     standing: Standing,
 ) -> Result<(), OutOfMemory>
-    ensures { OnOk result (string_bytes text.new ≡ string_bytes text.old ++ standing_line cluster.now app standing) }
+    ensures { OnOk result
+        (string_bytes text.new ≡ string_bytes text.old ++ standing_line cluster.now app standing) }
 {
     text.push_str("app ")?;
     text.push_str(app_word(cluster, app))?;

@@ -24,7 +24,8 @@ pub(crate) fn push_node_lines(
     node: Node,
 ) -> Result<(), OutOfMemory>
     requires { node.0 < node_count (read state.now).cluster }
-    ensures { OnOk result (string_bytes text.new ≡ string_bytes text.old ++ node_lines (read state.now) node) }
+    ensures { OnOk result
+        (string_bytes text.new ≡ string_bytes text.old ++ node_lines (read state.now) node) }
 {
     push_node_line(text, state, node)?;
     push_running(text, state, node)?;
@@ -36,7 +37,8 @@ pub(crate) fn push_node_lines(
 #[tactic(auto, unfolding(crate::specs::Report::node_line))]
 fn push_node_line(text: &mut String, state: &State, node: Node) -> Result<(), OutOfMemory>
     requires { node.0 < node_count (read state.now).cluster }
-    ensures { OnOk result (string_bytes text.new ≡ string_bytes text.old ++ node_line (read state.now) node) }
+    ensures { OnOk result
+        (string_bytes text.new ≡ string_bytes text.old ++ node_line (read state.now) node) }
 {
     text.push_str("node ")?;
     text.push_str(state.cluster().node_name(node))?;
@@ -49,7 +51,8 @@ fn push_node_line(text: &mut String, state: &State, node: Node) -> Result<(), Ou
 // Adds a line for each application that runs at a node.
 fn push_running(text: &mut String, state: &State, node: Node) -> Result<(), OutOfMemory>
     requires { node.0 < node_count (read state.now).cluster }
-    ensures { OnOk result (string_bytes text.new ≡ string_bytes text.old ++ flat_map (running_line (read state.now) node) (running_at (read state.now) node)) }
+    ensures { OnOk result (string_bytes text.new ≡ string_bytes text.old
+        ++ flat_map (running_line (read state.now) node) (running_at (read state.now) node)) }
 {
     state.formed();
     let mut next = state.first_running(node);
@@ -70,7 +73,8 @@ fn push_running_line(
 ) -> Result<(), OutOfMemory>
     requires node { node.0 < node_count (read state.now).cluster }
     requires app { app.0 < app_count (read state.now).cluster }
-    ensures { OnOk result (string_bytes text.new ≡ string_bytes text.old ++ running_line (read state.now) node app) }
+    ensures { OnOk result
+        (string_bytes text.new ≡ string_bytes text.old ++ running_line (read state.now) node app) }
 {
     text.push_str("  running ")?;
     text.push_str(state.cluster().app_name(app))?;
@@ -81,7 +85,8 @@ fn push_running_line(
 // Adds a line for each application that waits at a node.
 fn push_waiting(text: &mut String, state: &State, node: Node) -> Result<(), OutOfMemory>
     requires { node.0 < node_count (read state.now).cluster }
-    ensures { OnOk result (string_bytes text.new ≡ string_bytes text.old ++ flat_map (waiting_line (read state.now) node) (waiting_at (read state.now) node)) }
+    ensures { OnOk result (string_bytes text.new ≡ string_bytes text.old
+        ++ flat_map (waiting_line (read state.now) node) (waiting_at (read state.now) node)) }
 {
     state.formed();
     let mut next = state.first_waiting(node);
@@ -102,7 +107,8 @@ fn push_waiting_line(
 ) -> Result<(), OutOfMemory>
     requires node { node.0 < node_count (read state.now).cluster }
     requires app { app.0 < app_count (read state.now).cluster }
-    ensures { OnOk result (string_bytes text.new ≡ string_bytes text.old ++ waiting_line (read state.now) node app) }
+    ensures { OnOk result
+        (string_bytes text.new ≡ string_bytes text.old ++ waiting_line (read state.now) node app) }
 {
     text.push_str("  waiting ")?;
     text.push_str(state.cluster().app_name(app))?;
@@ -124,7 +130,8 @@ fn has_no(answers: &[bool]) -> bool
 /// Whether there is an application that may not run at a node. At most nodes there is none, and this says so before each is asked for.
 pub fn forbids_any(state: &State, node: Node) -> bool
     requires { node.0 < node_count (read state.now).cluster }
-    ensures { result ≡ list_any (λ a. not (is_allowed (read state.now) node a)) (apps_of (read state.now).cluster) }
+    ensures { result ≡ list_any (λ a. not (is_allowed (read state.now) node a))
+        (apps_of (read state.now).cluster) }
 {
     state.formed();
     has_no(state.permissions(node))
@@ -134,7 +141,8 @@ pub fn forbids_any(state: &State, node: Node) -> bool
 #[tactic(auto, unfolding(rh_state::specs::Numbers::apps_of))]
 fn push_forbidden(text: &mut String, state: &State, node: Node) -> Result<(), OutOfMemory>
     requires { node.0 < node_count (read state.now).cluster }
-    ensures { OnOk result (string_bytes text.new ≡ string_bytes text.old ++ flat_map (line_if_forbidden (read state.now) node) (apps_of (read state.now).cluster)) }
+    ensures { OnOk result (string_bytes text.new ≡ string_bytes text.old
+        ++ flat_map (line_if_forbidden (read state.now) node) (apps_of (read state.now).cluster)) }
 {
     if !forbids_any(state, node) {
         return Ok(());
@@ -156,7 +164,8 @@ fn push_line_if_forbidden(
 ) -> Result<(), OutOfMemory>
     requires node { node.0 < node_count (read state.now).cluster }
     requires app { app.0 < app_count (read state.now).cluster }
-    ensures { OnOk result (string_bytes text.new ≡ string_bytes text.old ++ line_if_forbidden (read state.now) node app) }
+    ensures { OnOk result (string_bytes text.new
+        ≡ string_bytes text.old ++ line_if_forbidden (read state.now) node app) }
 {
     if state.allowed(node, app) {
         return Ok(());
@@ -167,7 +176,8 @@ fn push_line_if_forbidden(
 // Adds the line of an application that may not run.
 #[tactic(auto, unfolding(crate::specs::Report::forbidden_line))]
 fn push_forbidden_line(text: &mut String, cluster: &Cluster, app: App) -> Result<(), OutOfMemory>
-    ensures { OnOk result (string_bytes text.new ≡ string_bytes text.old ++ forbidden_line cluster.now app) }
+    ensures { OnOk result
+        (string_bytes text.new ≡ string_bytes text.old ++ forbidden_line cluster.now app) }
 {
     text.push_str("  forbidden ")?;
     text.push_str(app_word(cluster, app))?;

@@ -103,7 +103,8 @@ pub fn push_decimal(text: &mut String, number: u64) -> Result<(), OutOfMemory>
 
 /// Adds how an application was started, with the node that it came from.
 pub fn push_kind(text: &mut String, cluster: &Cluster, kind: Kind) -> Result<(), OutOfMemory>
-    ensures { OnOk result (string_bytes text.new ≡ string_bytes text.old ++ kind_words cluster.now kind) }
+    ensures { OnOk result
+        (string_bytes text.new ≡ string_bytes text.old ++ kind_words cluster.now kind) }
 {
     match kind {
         Kind::Normal => text.push_str("normal")?,
@@ -125,7 +126,8 @@ pub(crate) fn push_kind_end(
     cluster: &Cluster,
     kind: Kind,
 ) -> Result<(), OutOfMemory>
-    ensures { OnOk result (string_bytes text.new ≡ string_bytes text.old ++ (kind_words cluster.now kind ++ codes "\n")) }
+    ensures { OnOk result (string_bytes text.new
+        ≡ string_bytes text.old ++ (kind_words cluster.now kind ++ codes "\n")) }
 {
     match kind {
         Kind::Normal => text.push_str("normal\n")?,
@@ -139,7 +141,8 @@ pub(crate) fn push_kind_end(
 
 // Adds the name of a node, and the end of its line.
 fn push_node_end(text: &mut String, cluster: &Cluster, node: Node) -> Result<(), OutOfMemory>
-    ensures { OnOk result (string_bytes text.new ≡ string_bytes text.old ++ (node_word cluster.now node ++ codes "\n")) }
+    ensures { OnOk result (string_bytes text.new
+        ≡ string_bytes text.old ++ (node_word cluster.now node ++ codes "\n")) }
 {
     text.push_str(node_word(cluster, node))?;
     text.push_str("\n")?;
@@ -152,7 +155,8 @@ pub(crate) fn push_standing_end(
     cluster: &Cluster,
     standing: Standing,
 ) -> Result<(), OutOfMemory>
-    ensures { OnOk result (string_bytes text.new ≡ string_bytes text.old ++ (codes " " ++ standing_words cluster.now standing ++ codes "\n")) }
+    ensures { OnOk result (string_bytes text.new ≡ string_bytes text.old
+        ++ (codes " " ++ standing_words cluster.now standing ++ codes "\n")) }
 {
     match standing {
         Standing::Quiet => text.push_str(" quiet\n")?,

@@ -20,7 +20,9 @@ impl State {
 
     // The time, what is said of each node, and where each application stands.
     fn same_marks(&self, other: &State) -> bool
-        ensures { IsTrue result ↔ ((self.now.time ≡ other.now.time) × (self.now.modes ≡ other.now.modes) × (self.now.incarnations ≡ other.now.incarnations) × (self.now.standings ≡ other.now.standings)) }
+        ensures { IsTrue result ↔ ((self.now.time ≡ other.now.time)
+            × (self.now.modes ≡ other.now.modes) × (self.now.incarnations ≡ other.now.incarnations)
+            × (self.now.standings ≡ other.now.standings)) }
     {
         self.time == other.time
             && are_same(self.modes.as_slice(), other.modes.as_slice())
@@ -30,7 +32,8 @@ impl State {
 
     // The tables over pairs.
     fn same_tables(&self, other: &State) -> bool
-        ensures { IsTrue result ↔ ((self.now.restarts ≡ other.now.restarts) × (self.now.kinds ≡ other.now.kinds) × (self.now.allowed ≡ other.now.allowed)) }
+        ensures { IsTrue result ↔ ((self.now.restarts ≡ other.now.restarts)
+            × (self.now.kinds ≡ other.now.kinds) × (self.now.allowed ≡ other.now.allowed)) }
     {
         self.restarts.same(&other.restarts)
             && self.kinds.same(&other.kinds)

@@ -68,7 +68,8 @@ impl State {
     /// All timers that are set, each behind its due time, in the order in which they fire.
     pub fn timers(&self, alloc: Global) -> Result<Vec<(u64, Timer)>, OutOfMemory>
         ensures timers { IfOk result (λ timers. timers.items ≡ (read self.now).timers) }
-        ensures numbers { IfOk result (λ timers. All (λ entry. IsTimerOf (read self.now).cluster entry.1) timers.items) }
+        ensures numbers { IfOk result
+            (λ timers. All (λ entry. IsTimerOf (read self.now).cluster entry.1) timers.items) }
     {
         let mut wheel = self.wheel.copy(alloc)?;
         let mut timers = Vec::new(alloc);

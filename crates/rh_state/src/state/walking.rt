@@ -28,7 +28,8 @@ impl State {
     /// The pair of the application that stands first among those that run at a node.
     pub fn first_running_pair(&self, node: Node) -> Option<u32>
         requires { node.0 < node_count (read self.now).cluster }
-        ensures first { option_map (app_of_pair (read self.now).cluster node) result ≡ slice_get (running_at (read self.now) node) 0 }
+        ensures first { option_map (app_of_pair (read self.now).cluster node) result
+            ≡ slice_get (running_at (read self.now) node) 0 }
         ensures pair { IfSome result (IsPairOfNode (read self.now).cluster node) }
     {
         self.links.first(node.0 as u32)
@@ -37,7 +38,8 @@ impl State {
     /// The pair of the application that stands first among those that wait at a node.
     pub fn first_waiting_pair(&self, node: Node) -> Option<u32>
         requires { node.0 < node_count (read self.now).cluster }
-        ensures first { option_map (app_of_pair (read self.now).cluster node) result ≡ slice_get (waiting_at (read self.now) node) 0 }
+        ensures first { option_map (app_of_pair (read self.now).cluster node) result
+            ≡ slice_get (waiting_at (read self.now) node) 0 }
         ensures pair { IfSome result (IsPairOfNode (read self.now).cluster node) }
     {
         self.links.first(self.waiting_list(node))
@@ -47,7 +49,8 @@ impl State {
     pub fn next_pair(&self, node: Node, pair: u32) -> Option<u32>
         requires node { node.0 < node_count (read self.now).cluster }
         requires pair { IsPairOfNode (read self.now).cluster node pair }
-        requires listed { place_of (read self.now) node (app_of_pair (read self.now).cluster node pair) ≢ Off }
+        requires listed { place_of (read self.now) node
+            (app_of_pair (read self.now).cluster node pair) ≢ Off }
         ensures next { option_map (app_of_pair (read self.now).cluster node) result
             ≡ next_in_list (read self.now) node (app_of_pair (read self.now).cluster node pair) }
         ensures pair { IfSome result (IsPairOfNode (read self.now).cluster node) }

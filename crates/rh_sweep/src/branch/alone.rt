@@ -18,7 +18,8 @@ use std::alloc::Global;
 /// # Errors
 /// Those of [`crate::sweep`] with one worker.
 pub fn sweep_alone(alloc: Global, base: &Sim, plans: &[Plan]) -> Result<Vec<Outcome>, SweepFault>
-    ensures outcomes { IfOk result (λ outcomes. outcomes.items ≡ map (outcome_of base.now.seen) plans.now) }
+    ensures outcomes { IfOk result
+        (λ outcomes. outcomes.items ≡ map (outcome_of base.now.seen) plans.now) }
     ensures fine { OnOk result (MaySweep base.now.seen plans.now 1) }
     ensures fault { IfErr result (WhyNotSwept base.now.seen plans.now 1) }
 {

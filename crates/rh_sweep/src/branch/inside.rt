@@ -42,7 +42,8 @@ impl Inside {
         requires at { IsAtBase branch.old base.now }
         requires plan { self.now.plan < length plans.now }
         requires room { All (HasRoom base.now.seen) plans.now }
-        ensures outcome { IfOk result (λ outcome. Some outcome ≡ option_map (outcome_of base.now.seen) (slice_get plans.now self.now.plan)) }
+        ensures outcome { IfOk result (λ outcome. Some outcome
+            ≡ option_map (outcome_of base.now.seen) (slice_get plans.now self.now.plan)) }
         ensures at { OnOk result (IsAtBase branch.new base.now) }
     {
         branch.try_plan(alloc, base, &plans[self.plan])

@@ -16,7 +16,8 @@ impl Sim {
     /// lent: it is as before, also where memory is wanting.
     pub fn firings(&mut self, alloc: Global, ms: u64) -> Result<Vec<FiredTimer>, OutOfMemory>
         requires { refused (state_of self.old.seen) (Tick ms) ≡ None }
-        ensures firings { IfOk result (λ fired. fired.items ≡ firings (state_of self.old.seen) ms self.old.seen.pick) }
+        ensures firings { IfOk result
+            (λ fired. fired.items ≡ firings (state_of self.old.seen) ms self.old.seen.pick) }
         ensures kept { self.new ≡ self.old }
     {
         firings_of(alloc, &mut self.state, ms, self.pick)

@@ -32,16 +32,21 @@ impl Sim {
     /// Makes an event, and gives its notices in order. An accepted event drops what could be made again;
     /// a refused one changes nothing.
     pub fn step(&mut self, alloc: Global, event: Event) -> Result<Vec<Notice>, Refusal>
-        ensures done { IfOk result (λ notices. served self.old.seen (call.Step event) ≡ answered (reply.Done notices.items) self.new.seen) }
-        ensures refused { IfErr result (λ refusal. refusal ≢ Refusal.OutOfMemory → served self.old.seen (call.Step event) ≡ answered (reply.Refused refusal) self.new.seen) }
+        ensures done { IfOk result (λ notices. served self.old.seen (call.Step event)
+            ≡ answered (reply.Done notices.items) self.new.seen) }
+        ensures refused { IfErr result (λ refusal. refusal ≢ Refusal.OutOfMemory → served
+            self.old.seen (call.Step event) ≡ answered (reply.Refused refusal) self.new.seen) }
         ensures kept { OnErr result (self.new ≡ self.old) }
 
         // Want of memory is the last reason.
-        ensures last { result ≡ Err Refusal.OutOfMemory → (refused (state_of self.old.seen) event ≡ None) × (self.old.seen.cursor < trail_limit) }
+        ensures last { result ≡ Err Refusal.OutOfMemory →
+            (refused (state_of self.old.seen) event ≡ None) × (self.old.seen.cursor < trail_limit) }
 
         // What stood before stands, and its records are as they were.
-        ensures chain { OnOk result ((k : ℕ) → k ≤ self.old.seen.cursor → chain self.new k ≡ chain self.old k) }
-        ensures records { OnOk result (take self.old.seen.cursor self.new.records ≡ take self.old.seen.cursor self.old.records) }
+        ensures chain { OnOk result
+            ((k : ℕ) → k ≤ self.old.seen.cursor → chain self.new k ≡ chain self.old k) }
+        ensures records { OnOk result (take self.old.seen.cursor self.new.records
+            ≡ take self.old.seen.cursor self.old.records) }
     {
         if let Err(refusal) = self.accept(&event) {
             return Err(refusal);
@@ -56,7 +61,8 @@ impl Sim {
     fn accept(&self, event: &Event) -> Result<(), Refusal>
         ensures room { OnOk result (self.now.seen.cursor < trail_limit) }
         ensures fine { OnOk result (refused (state_of self.now.seen) event.now ≡ None) }
-        ensures refused { IfErr result (λ refusal. served self.now.seen (call.Step event.now) ≡ answered (reply.Refused refusal) self.now.seen) }
+        ensures refused { IfErr result (λ refusal. served self.now.seen (call.Step event.now)
+            ≡ answered (reply.Refused refusal) self.now.seen) }
         ensures reason { IfErr result (λ refusal. refusal ≢ Refusal.OutOfMemory) }
     {
         if let Some(refusal) = refusal_of(self.state(), event) {
@@ -97,12 +103,17 @@ impl Sim {
 
     /// Takes the last step back, and says how many edits it has.
     pub fn undo(&mut self) -> Result<usize, AtStart>
-        ensures answer { served self.old.seen call.Undo ≡ answered (undo_reply result) self.new.seen }
+        ensures answer { served self.old.seen call.Undo
+            ≡ answered (undo_reply result) self.new.seen }
         ensures kept { OnErr result (self.new ≡ self.old) }
-        ensures chain { (k : ℕ) → k ≤ length self.old.seen.trail → chain self.new k ≡ chain self.old k }
+        ensures chain { (k : ℕ) → k ≤ length self.old.seen.trail
+            → chain self.new k ≡ chain self.old k }
         ensures words { OnOk result (self.new.words ≡ chain self.old (self.old.seen.cursor - 1)) }
-        ensures records { OnOk result (self.new.records ≡ slice_set self.old.records (self.old.seen.cursor - 1) (backed exchange turned self.old.words (record_at self.old (self.old.seen.cursor - 1)))) }
-        ensures edits { IfOk result (λ count. count ≡ length (record_at self.old (self.old.seen.cursor - 1))) }
+        ensures records { OnOk result
+            (self.new.records ≡ slice_set self.old.records (self.old.seen.cursor - 1) (backed
+            exchange turned self.old.words (record_at self.old (self.old.seen.cursor - 1)))) }
+        ensures edits { IfOk result
+            (λ count. count ≡ length (record_at self.old (self.old.seen.cursor - 1))) }
         ensures few { IfOk result (IsSmall self.old.seen (self.old.seen.cursor - 1)) }
     {
         if self.cursor == 0 {
@@ -116,12 +127,17 @@ impl Sim {
 
     /// Makes the next step again, and says how many edits it has.
     pub fn redo(&mut self) -> Result<usize, AtEnd>
-        ensures answer { served self.old.seen call.Redo ≡ answered (redo_reply result) self.new.seen }
+        ensures answer { served self.old.seen call.Redo
+            ≡ answered (redo_reply result) self.new.seen }
         ensures kept { OnErr result (self.new ≡ self.old) }
-        ensures chain { (k : ℕ) → k ≤ length self.old.seen.trail → chain self.new k ≡ chain self.old k }
+        ensures chain { (k : ℕ) → k ≤ length self.old.seen.trail
+            → chain self.new k ≡ chain self.old k }
         ensures words { OnOk result (self.new.words ≡ chain self.old (self.old.seen.cursor + 1)) }
-        ensures records { OnOk result (self.new.records ≡ slice_set self.old.records self.old.seen.cursor (forthed exchange turned self.old.words (record_at self.old self.old.seen.cursor))) }
-        ensures edits { IfOk result (λ count. count ≡ length (record_at self.old self.old.seen.cursor)) }
+        ensures records { OnOk result
+            (self.new.records ≡ slice_set self.old.records self.old.seen.cursor
+            (forthed exchange turned self.old.words (record_at self.old self.old.seen.cursor))) }
+        ensures edits { IfOk result
+            (λ count. count ≡ length (record_at self.old self.old.seen.cursor)) }
         ensures few { IfOk result (IsSmall self.old.seen self.old.seen.cursor) }
     {
         if self.cursor == self.trail.len() {
@@ -135,10 +151,14 @@ impl Sim {
 
     /// Takes all steps back, and says how many.
     pub fn undo_all(&mut self) -> u32
-        ensures answer { served self.old.seen call.UndoAll ≡ answered (reply.Moved result) self.new.seen }
-        ensures chain { (k : ℕ) → k ≤ length self.old.seen.trail → chain self.new k ≡ chain self.old k }
+        ensures answer { served self.old.seen call.UndoAll
+            ≡ answered (reply.Moved result) self.new.seen }
+        ensures chain { (k : ℕ) → k ≤ length self.old.seen.trail
+            → chain self.new k ≡ chain self.old k }
         ensures words { self.new.words ≡ chain self.old 0 }
-        ensures records { self.new.records ≡ backed (back exchange) (backed exchange turned) self.old.words (take self.old.seen.cursor self.old.records) ++ drop self.old.seen.cursor self.old.records }
+        ensures records { self.new.records ≡ backed (back exchange)
+            (backed exchange turned) self.old.words (take self.old.seen.cursor self.old.records)
+            ++ drop self.old.seen.cursor self.old.records }
     {
         self.is_chained();
         let count = self.cursor();
@@ -150,10 +170,14 @@ impl Sim {
 
     /// Makes all steps again, and says how many.
     pub fn redo_all(&mut self) -> u32
-        ensures answer { served self.old.seen call.RedoAll ≡ answered (reply.Moved result) self.new.seen }
-        ensures chain { (k : ℕ) → k ≤ length self.old.seen.trail → chain self.new k ≡ chain self.old k }
+        ensures answer { served self.old.seen call.RedoAll
+            ≡ answered (reply.Moved result) self.new.seen }
+        ensures chain { (k : ℕ) → k ≤ length self.old.seen.trail
+            → chain self.new k ≡ chain self.old k }
         ensures words { self.new.words ≡ chain self.old (length self.old.seen.trail) }
-        ensures records { self.new.records ≡ take self.old.seen.cursor self.old.records ++ forthed (forth exchange) (forthed exchange turned) self.old.words (drop self.old.seen.cursor self.old.records) }
+        ensures records { self.new.records
+            ≡ take self.old.seen.cursor self.old.records ++ forthed (forth exchange)
+            (forthed exchange turned) self.old.words (drop self.old.seen.cursor self.old.records) }
     {
         self.is_chained();
         let end = self.trail().len();
@@ -179,8 +203,10 @@ impl Sim {
 
     /// Serves a call of any kind, and gives the reply. Want of memory changes nothing.
     pub fn answer(&mut self, alloc: Global, call: Call) -> Result<Replies, OutOfMemory>
-        ensures ok { IfOk result (λ reply. served self.old.seen call ≡ answered reply self.new.seen) }
-        ensures chain { (k : ℕ) → k ≤ kept_to self.old.seen call → chain self.new k ≡ chain self.old k }
+        ensures ok { IfOk result
+            (λ reply. served self.old.seen call ≡ answered reply self.new.seen) }
+        ensures chain { (k : ℕ) → k ≤ kept_to self.old.seen call
+            → chain self.new k ≡ chain self.old k }
         ensures words { IfOk result (λ reply. is_refusal reply ≡ false
             → LeavesWords self.old call self.new) }
         ensures records { IfOk result (λ reply. is_refusal reply ≡ false
@@ -217,7 +243,8 @@ impl Sim {
     /// Looks at the simulation, which changes nothing: the reply has the cursor, the length of the trail, and the report of
     /// the state.
     pub fn look(&self, alloc: Global) -> Result<Reply, OutOfMemory>
-        ensures { IfOk result (λ reply. served self.now.seen call.Look ≡ answered reply self.now.seen) }
+        ensures { IfOk result
+            (λ reply. served self.now.seen call.Look ≡ answered reply self.now.seen) }
     {
         let text = match self.kept_report() {
             Some(text) => text.share()?,
