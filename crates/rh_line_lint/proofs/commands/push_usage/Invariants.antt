@@ -7,4 +7,4 @@ use Rattle.rh_line_lint.proofs.commands.push_usage.Given as goal
 
 abbrev pub invariant-loop-argument : goal.invariant-loop-argument
 invariant-loop-argument l = string_bytes l.text
-    ≡ string_bytes l.fn.text ++ (word_of l.verb ++ flat_map (λ a. codes " " ++ argument_words a) (take l.argument-index l.argument-items))
+    ≡ string_bytes l.fn.text ++ (word_of l.fn.verb ++ flat_map (λ a. codes " " ++ argument_words a) (take l.argument-index l.argument-items))
