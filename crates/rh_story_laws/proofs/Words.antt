@@ -11,10 +11,10 @@ use Rattle.rh_model.specs.declared.node.Node.{Node}
 use Rattle.rh_model.specs.declared.node.App.{App}
 use Rattle.rh_model.specs.declared.settings.Dep.{Dep}
 use Rattle.rh_model.specs.declared.settings.Dep.TheVariants.{Listed, Platform}
-use Rattle.rh_calls.specs.Report.{no_name, node_word, app_word}
+use Rattle.rh_calls.specs.Report.{no_name, node_word, app_word, dep_word}
 use Rattle.rh_why.specs.declared.reason.Reason.{Reason}
 use Rattle.rh_why.specs.declared.reason.Reason.TheVariants.{Needs, Forbidden, RunsAt, LostWith, Quiet}
-use Rattle.rh_why.specs.Texts.{dep_word, reason_text, one_word, until_text, awaited_text}
+use Rattle.rh_why.specs.Texts.{reason_text, one_word, until_text, awaited_text}
 use Rattle.rh_courses.specs.declared.course.Stay.{Stay}
 use Rattle.rh_courses.specs.Courses.{CourseView, runs, away, pieces}
 use Rattle.rh_courses.specs.Texts.{place_words, end_words, run_words, runs_words, away_words, piece_words, pieces_words, gaps_words, course_text}
