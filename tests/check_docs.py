@@ -9,8 +9,8 @@ has the exit status 0 (a document shows another one by `; echo "status $?"`). Ea
 `check` accepts. Each command in a help text runs, and docs/help has these texts. Each text that the program can print
 stands in docs/SCRIPTS.md. Each definition that docs/RULES.md names stands where it says. Each construct that
 docs/CLUSTER_FILES.md calls refused is. Each script of tests/live in which live nodes differ names its places in docs/LIVE_OTP.md.
-Each wrong body can be applied (shelves.py). No clause of a source is too wide, and no file too long (sources.py). What the documents say of the sources is as docs/make makes it, which tells where it
-isn't (made_pages.py).
+Each wrong body can be applied (shelves.py). No clause of a source is too wide, and no file too long (source_form.py). What the documents
+say of the sources is as docs/make makes it, which tells where it isn't (made_pages.py).
 
 run_program.py counts these tests too. The last line is 'N passed, M failed'.
 """
@@ -24,7 +24,7 @@ import tempfile
 import front
 import made_pages
 import shelves
-import sources
+import source_form
 from groups import Group, command_line, finish
 from support import LONGEST_RUN, TOP, files_below, run
 
@@ -290,7 +290,7 @@ def help_files(program):
 
 # Whether the pages are made isn't among them: run_program.py has that among the tests of ./test --quick.
 TESTS = (pages_are_few, links, answers_told, definitions_named, constructs_refused, Group(shown_examples, documents()), help_examples,
-         help_links, live_scripts, help_files, *shelves.TESTS, *sources.TESTS)
+         help_links, live_scripts, help_files, *shelves.TESTS, *source_form.TESTS)
 
 
 def main():
