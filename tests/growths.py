@@ -85,7 +85,7 @@ MADE = {
     "rows/json/report": ("run_json", "answer_call", "reply_line", "seen_line", "forbids_any", "push_string", "push_number",
                          "close_array", "push_text", "push_bytes", "before_first", "after_first"),
     "rows/json/failover": ("fired_by", "Trace::expect_boot"),
-    "rows/json/refused-and-bad": ("bad_line",),
+    "rows/json/refused-and-bad": ("write_bad", "bad_line"),
     "rows/json/names": ("check_json", "write_cluster", "cluster_line", "push_array"),
     "rows/json/fault-value": ("write_fault", "fault_line"),
     "rows/json/sweep": ("outcome_line",),
@@ -292,7 +292,7 @@ FACTS = {"Cluster::is_within", "Lists::formed", "Wheel::formed", "State::formed"
 # Parts of calls that have rows, which crates above make by themselves too.
 PARTS = {
     "text_of_bytes", "text_of_vec", "read_kept", "is_in", "Cluster::of", "first_state_sharing", "operational_among",
-    "operational_nodes", "missing_dep", "deps_run", "Outcome::sharing", "Bytes::same", "Reply::same", "Sim::answer",
+    "operational_nodes", "missing_dep", "deps_run", "Outcome::share_standings", "Bytes::same", "Reply::same", "Sim::answer",
     "Sim::look", "State::next_pair"}
 # Readers that no program makes, and that are lent no allocator.
 UNMADE = {"Course::place", "Course::ran"}
