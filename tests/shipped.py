@@ -146,6 +146,9 @@ def other_machines(program):
         yield "./build without the kit", told(call(clone, ["./build"]), 7, b"the command rt isn't on the PATH", b"./rehearse")
         yield "./build of what is no program", told(call(clone, ["./build", "rh_base"]), 1, b"there is no program rh_base", b"rehearse")
         yield "./build with words that it doesn't know", told(call(clone, ["./build", "--help"]), 1, b"./build --ship")
+        with open(os.path.join(clone, "crates", "rehearse", "src", "main.rt"), "ab") as file:
+            file.write(b"// Not committed.\n")
+        yield "./build --ship of sources that aren't committed", told(call(clone, ["./build", "--ship"]), 1, b"aren't committed")
         os.remove(os.path.join(clone, SHIPPED))
         yield "./rehearse where there is no program", told(call(clone, ["./rehearse", "run"]), 7, b"there is no program: ./build makes it")
 
