@@ -18,12 +18,12 @@ CRATES = Path(TOP, "crates")
 WRONG_BODIES = Path(TOP, "wrong-bodies")
 TESTED = WRONG_BODIES / "tests"
 # The crates whose edits rt ci tries: those on which most stands, and which aren't dear. The first edit of a crate costs a proof of the
-# whole crate again, so each of them has several, and the other crates have none in the gate.
-IN_GATE = {"rh_arena", "rh_wheel", "rh_terms", "rh_model", "rh_state", "rh_trace", "rh_settle", "rh_events", "rh_step", "rh_trail",
-           "rh_room", "rh_sweep", "rh_keys"}
+# whole crate again, so each of them has several, and the other crates have none in the gate, which took 153 minutes on the machine of
+# CI with six crates more here.
+IN_GATE = {"rh_arena", "rh_wheel", "rh_settle", "rh_step", "rh_trail", "rh_room", "rh_sweep", "rh_history"}
 LEAST_OF_A_CRATE = 3
 # How many edits there may be for rt ci to try: with 150 in some fifty crates they took as long as all proofs together.
-MOST_IN_GATE = 80
+MOST_IN_GATE = 60
 
 # A test's name, and what is wrong, or None.
 Test = tuple[str, str | None]
