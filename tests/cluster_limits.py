@@ -1,6 +1,9 @@
 """Cluster files at each limit and one beyond it, and what `check` answers: cluster_limits(program) gives pairs of a name and of
-what is wrong, or None."""
-from support import fault_of, run
+what is wrong, or None. How many nodes and applications there may be is what the page on cluster files promises."""
+import os
+import re
+
+from support import TOP, fault_of, read, run
 
 NODE = b"{node, z, []}.\n"
 TOO_MANY, BAD_NAME, UNKNOWN = b"C3 too_many", b"C11 bad_name", b"C5 unknown_name"
@@ -91,8 +94,21 @@ def cases(front, node_count, app_count):
         yield f"{what}, 256 bytes", front + text, accepted(1, 1) if want is None else refused(BAD_NAME)
 
 
+def promised():
+    """The most nodes and applications of each profile: two pairs. They are what the page on cluster files says, and the help of
+    `check` has to say the same."""
+    page = read(os.path.join(TOP, "docs", "CLUSTER_FILES.md")).decode()
+    rows = dict(re.findall(r"(?m)^\| (nodes|applications) \| (\d+; in \[profile 2\]\([^)]*\) \d+) \|$", page))
+    (first_nodes, nodes_), (first_apps, apps_) = ((row.split(";")[0], row.split()[-1]) for row in (rows["nodes"], rows["applications"]))
+    told = " ".join(read(os.path.join(TOP, "docs", "help", "check.txt")).decode().split())
+    helped = re.findall(r"At most (\d+) nodes and (\d+) applications; in profile 2, [^.]*, (\d+) and (\d+)\.", told)
+    assert helped == [(first_nodes, first_apps, nodes_, apps_)], helped
+    return (int(first_nodes), int(first_apps)), (int(nodes_), int(apps_))
+
+
 def cluster_limits(program):
-    for front, node_count, app_count in (b"", 32, 64), (b"{profile, 1}. ", 32, 64), (b"{profile, 2}. ", 64, 128):
+    first, second = promised()
+    for front, (node_count, app_count) in (b"", first), (b"{profile, 1}. ", first), (b"{profile, 2}. ", second):
         for name, text, (status, output) in cases(front, node_count, app_count):
             found = fault_of(run(program, ["check"], input=text), status, output)
             yield f"check of {front.decode()}{name}", found

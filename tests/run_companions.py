@@ -46,6 +46,8 @@ def named(companion, group):
     group = group if isinstance(group, Group) else Group(group)
 
     def tests(program, *words):
+        # By REHEARSE a companion that isn't told a program otherwise finds this one, and not that which ./rehearse runs.
+        os.environ["REHEARSE"] = os.path.abspath(program)
         for test, wrong in group.tests(program, *words):
             yield f"companions/{companion}: {test}", wrong
 

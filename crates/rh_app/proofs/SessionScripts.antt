@@ -11,7 +11,7 @@ use Rattle.rh_script.specs.SessionLines.{command, session_named, asked_by, sessi
 use Rattle.rh_script.specs.declared.script.Line.{Line}
 use Rattle.rh_script.specs.declared.script.Line.TheVariants as line
 use Rattle.rh_script.specs.declared.session_lines.Command.{Command}
-use Rattle.rh_script.specs.declared.session_lines.TheConstants.{LAST_SESSION}
+use Rattle.rh_calls.specs.declared.call.TheConstants.{LAST_SESSION}
 use Rattle.rh_script.specs.declared.session_lines.SessionLine.TheVariants.{Nothing, Bad}
 use Rattle.rh_app.specs.Histories.{session_lines_asked, command_in, commands_of}
 

@@ -58,6 +58,9 @@ impl Bytes {
     }
 }
 
+/// The last of the sessions that may share a simulation, which are numbered from 1 (ours).
+pub const LAST_SESSION: u8 = 8;
+
 /// What a caller asks of a simulation.
 #[derive(Clone, Copy, Debug, PartialEq, Eq)]
 pub enum Call {

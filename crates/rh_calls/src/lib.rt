@@ -13,7 +13,7 @@ mod notices;
 mod replies;
 mod text;
 
-pub use call::{Bytes, Call, Reply};
+pub use call::{Bytes, Call, LAST_SESSION, Reply};
 pub use notices::Notices;
 pub use replies::Replies;
 pub use text::{

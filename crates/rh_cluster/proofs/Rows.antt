@@ -11,8 +11,8 @@ use Rattle.rh_terms.specs.Tokens.{digits_at, integer_at, name_at, quoted, quoted
 use Rattle.rh_terms.specs.Grammar.{terms_of, dotted, dot_at, inside, terms_up_to, some_terms, next_at, term_by, word_at}
 use Rattle.rh_model.specs.declared.settings.Dep.TheVariants.{Listed, Platform}
 use Rattle.rh_model.specs.declared.settings.Restart.TheVariants.{Temporary}
-use Rattle.rh_model.specs.declared.settings.SyncWait.TheVariants.{Unset}
 use Rattle.rh_model.specs.ClusterView.{ClusterView, AppView, app_numbered, deps_of}
+use Rattle.rh_model.proofs.PlainNode.{plain_node}
 use Rattle.rh_model.specs.Limits.{node_limit, app_limit, timeout_limit}
 use Rattle.rh_model.specs.declared.limits.TheConstants.{MAX_PLATFORMS}
 use Rattle.rh_cluster.specs.declared.fault.ClusterFault.TheVariants as fault
@@ -120,10 +120,7 @@ three_apps_row : cluster_of (codes
       node_names = codes "one@lab" ∷ [];
       app_names = codes "a" ∷ codes "b" ∷ codes "c" ∷ [];
       platform_names = codes "kernel" ∷ codes "stdlib" ∷ [];
-      nodes = record {
-        mandatory = [];
-        optional = [];
-        sync_wait = Unset;
+      nodes = record plain_node {
         boot = (app_numbered 0, Temporary) ∷ (app_numbered 1, Temporary) ∷ (app_numbered 2, Temporary) ∷ [];
         permissions = true ∷ true ∷ true ∷ [];
         platforms = true ∷ true ∷ [];

@@ -1,5 +1,5 @@
 -- Worked rows: which fault of a cluster file comes before which, and what its nodes agree on.
-use Rattle.std.proofs.Common.{◌≡◌, [], ◌∷◌, true, false, Some, None, codes, refl, ℕ, List, ◌++◌, Option, map, replicate, length}
+use Rattle.std.proofs.Common.{◌≡◌, ◌+◌, [], ◌∷◌, true, false, Some, None, codes, refl, ℕ, List, ◌++◌, Option, map, replicate, length}
 use Rattle.std.specs.Str.{is_utf8, chars}
 use lib.Utf8.{encode}
 use Rattle.rh_terms.specs.Bytes.{past}
@@ -30,6 +30,7 @@ use Rattle.rh_cluster.specs.declared.fault.ClusterFault.TheVariants.{NoNodes, To
 use Rattle.rh_terms.specs.declared.fault.TermFault.TheVariants.{Syntax}
 use Rattle.rh_cluster.specs.declared.fault.ClusterFault.TheVariants.{Term}
 use Rattle.rh_base.specs.Tree.{Tree, atom, list, tuple, none, more}
+use Rattle.rh_model.specs.Limits.{node_limit, app_limit}
 use Rattle.std.specs.List.{range_with_len}
 
 -- the fault of a text, if it has one
@@ -139,9 +140,9 @@ new_name_row = (refl, refl, refl)
 abbrev named : List ℕ → List ℕ → List Tree
 named word letters = map (λ letter. tuple (more (atom word) (more (atom (letter ∷ [])) (more (list none) none)))) letters
 
-most_terms_row : (headers_stage 1 (named (codes "node") (range_with_len 65 32)) ≡ []) × (headers_stage 1 (named (codes "node") (range_with_len 65 33)) ≡ TooMany ∷ [])
-    × (headers_stage 1 (named (codes "node") (65 ∷ []) ++ named (codes "application") (range_with_len 128 64)) ≡ [])
-    × (headers_stage 1 (named (codes "node") (65 ∷ []) ++ named (codes "application") (range_with_len 128 65)) ≡ TooMany ∷ [])
+most_terms_row : (headers_stage 1 (named (codes "node") (range_with_len 65 (node_limit 1))) ≡ []) × (headers_stage 1 (named (codes "node") (range_with_len 65 (node_limit 1 + 1))) ≡ TooMany ∷ [])
+    × (headers_stage 1 (named (codes "node") (65 ∷ []) ++ named (codes "application") (range_with_len 128 (app_limit 1))) ≡ [])
+    × (headers_stage 1 (named (codes "node") (65 ∷ []) ++ named (codes "application") (range_with_len 128 (app_limit 1 + 1))) ≡ TooMany ∷ [])
 unfolding headers_stage header_faults new_name_faults node_names app_names as_headed as_triple as_tuple as_atom is_name
 most_terms_row = (refl, refl, refl, refl)
 

@@ -34,6 +34,7 @@ use Rattle.rh_cluster.specs.Sections.{permission_faults, as_truth, platform_faul
 use Rattle.rh_model.specs.declared.settings.Restart.TheVariants.{Permanent, Transient}
 use Rattle.rh_model.specs.declared.settings.SyncWait.TheVariants.{After, Forever}
 use Rattle.rh_model.specs.ClusterView.{numbered, node_of, app_of, dep_name, is_permitted, is_platform, group_of, is_listed_at}
+use Rattle.rh_model.proofs.PlainNode.{plain_node}
 use Rattle.rh_model.specs.TermSymbols.{an_atom, an_int, a_text, list_of, tuple_of}
 
 -- two nodes and two applications, of which one is distributed
@@ -67,25 +68,19 @@ view = record {
   node_names = codes "n1" ∷ codes "n2" ∷ codes "n3" ∷ [];
   app_names = codes "svc" ∷ codes "log" ∷ [];
   platform_names = codes "kernel" ∷ codes "stdlib" ∷ codes "sasl" ∷ codes "tools" ∷ [];
-  nodes = record {
+  nodes = record plain_node {
     mandatory = n2 ∷ [];
     optional = n3 ∷ n2 ∷ [];
     sync_wait = After 700;
     boot = (log, Permanent) ∷ (svc, Transient) ∷ [];
     permissions = false ∷ true ∷ [];
     platforms = true ∷ true ∷ true ∷ false ∷ [];
-  } ∷ record {
-    mandatory = [];
-    optional = [];
+  } ∷ record plain_node {
     sync_wait = After 700;
-    boot = [];
     permissions = true ∷ true ∷ [];
     platforms = true ∷ true ∷ false ∷ false ∷ [];
-  } ∷ record {
-    mandatory = [];
-    optional = [];
+  } ∷ record plain_node {
     sync_wait = After 700;
-    boot = [];
     permissions = true ∷ true ∷ [];
     platforms = true ∷ true ∷ false ∷ true ∷ [];
   } ∷ [];

@@ -1,5 +1,5 @@
 -- Worked rows: the profile of a cluster file, and what depends on it.
-use Rattle.std.proofs.Common.{◌≡◌, [], ◌∷◌, Some, None, codes, refl, ℕ, List, ◌++◌, Option, map, replicate, pos}
+use Rattle.std.proofs.Common.{◌≡◌, ◌+◌, [], ◌∷◌, Some, None, codes, refl, ℕ, List, ◌++◌, Option, map, replicate, pos}
 use Rattle.std.specs.Str.{is_utf8, chars}
 use lib.Utf8.{encode}
 use Rattle.rh_terms.specs.Bytes.{past}
@@ -27,6 +27,7 @@ use Rattle.rh_cluster.specs.Sections.{permission_faults, as_truth, platform_faul
 use Rattle.std.specs.Result.{result_ok, result_err}
 use Rattle.std.specs.Option.{option_map}
 use Rattle.rh_model.specs.ClusterView.{ClusterView}
+use Rattle.rh_model.specs.Limits.{node_limit, app_limit}
 use Rattle.rh_cluster.specs.declared.fault.ClusterFault.{ClusterFault}
 use Rattle.rh_cluster.specs.declared.fault.ClusterFault.TheVariants.{NoNodes, TooMany, DuplicateName, UnknownName, BadValue, BadName}
 use Rattle.rh_terms.specs.declared.fault.TermFault.TheVariants.{Syntax}
@@ -108,21 +109,21 @@ file_of profile nodes apps =
 abbrev header_faults_in : List Tree → List ClusterFault
 header_faults_in ts = headers_stage (profile_of ts) (behind_profile ts)
 
-most_of_second_row : (header_faults_in (file_of 2 64 128) ≡ []) × (header_faults_in (file_of 2 65 0) ≡ TooMany ∷ [])
-    × (header_faults_in (file_of 2 1 129) ≡ TooMany ∷ [])
+most_of_second_row : (header_faults_in (file_of 2 (node_limit 2) (app_limit 2)) ≡ []) × (header_faults_in (file_of 2 (node_limit 2 + 1) 0) ≡ TooMany ∷ [])
+    × (header_faults_in (file_of 2 1 (app_limit 2 + 1)) ≡ TooMany ∷ [])
 unfolding profile_of behind_profile as_profile as_entry as_pair as_int headers_stage header_faults new_name_faults node_names app_names as_headed as_triple
     as_tuple as_atom is_name
 most_of_second_row = (refl, refl, refl)
 
-most_of_first_row : (header_faults_in (file_of 1 32 64) ≡ []) × (header_faults_in (file_of 1 33 0) ≡ TooMany ∷ [])
-    × (header_faults_in (file_of 1 1 65) ≡ TooMany ∷ [])
+most_of_first_row : (header_faults_in (file_of 1 (node_limit 1) (app_limit 1)) ≡ []) × (header_faults_in (file_of 1 (node_limit 1 + 1) 0) ≡ TooMany ∷ [])
+    × (header_faults_in (file_of 1 1 (app_limit 1 + 1)) ≡ TooMany ∷ [])
 unfolding profile_of behind_profile as_profile as_entry as_pair as_int headers_stage header_faults new_name_faults node_names app_names as_headed as_triple
     as_tuple as_atom is_name
 most_of_first_row = (refl, refl, refl)
 
 -- so many are accepted, and one more isn't
-accepted_row : (result_err (cluster_of_terms (file_of 2 64 128)) ≡ None) × (result_err (cluster_of_terms (file_of 2 65 128)) ≡ Some TooMany)
-    × (result_err (cluster_of_terms (file_of 1 33 0)) ≡ Some TooMany)
+accepted_row : (result_err (cluster_of_terms (file_of 2 (node_limit 2) (app_limit 2))) ≡ None) × (result_err (cluster_of_terms (file_of 2 (node_limit 2 + 1) (app_limit 2))) ≡ Some TooMany)
+    × (result_err (cluster_of_terms (file_of 1 (node_limit 1 + 1) 0)) ≡ Some TooMany)
 unfolding is_utf8 chars encode terms_of dotted dot_at inside terms_up_to some_terms next_at term_by word_at name_at past quoted quoted_atom_at text_at
     integer_at digits_at cluster_of cluster_of_terms profile_of behind_profile as_profile faults_in headers_stage header_faults new_name_faults node_names app_names as_headed as_triple as_tuple as_atom is_name
     faults_behind_headers names_of parts_stage parts_faults section_faults entry_faults has_key list_faults as_list as_entry as_pair kernel_faults share_faults

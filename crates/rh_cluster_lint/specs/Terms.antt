@@ -1,6 +1,6 @@
 -- How the findings of terms are told (ours).
 use Rattle.std.specs.Prelude.{ℕ, List, [], codes, None}
-use Rattle.rh_term_lint.specs.declared.finding.ReadName.{ReadName}
+use Rattle.rh_term_lint.specs.declared.names.ReadName.{ReadName}
 use Rattle.rh_term_lint.specs.declared.finding.TermFinding.{TermFinding}
 use Rattle.rh_term_lint.specs.declared.finding.TermFinding.TheVariants.{NoProfile, NearSection, NearParameter, UndefinedWritten, NearKey}
 use Rattle.rh_term_lint.specs.Meant.{word_of}

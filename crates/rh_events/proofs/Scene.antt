@@ -2,6 +2,7 @@
 -- local; and job, far and tool need aid.
 use Rattle.std.proofs.Common.{ℕ, List, Bool, [], ◌∷◌, map, true, false, None, Some}
 use Rattle.rh_model.specs.ClusterView.{ClusterView, NodeView, AppView}
+use Rattle.rh_model.proofs.PlainNode.{plain_node}
 use Rattle.rh_model.specs.declared.node.Node.{Node}
 use Rattle.rh_model.specs.declared.node.App.{App}
 use Rattle.rh_model.specs.declared.settings.Dep.{Dep}
@@ -54,13 +55,11 @@ abbrev spread_app : List Dep → ℕ → List (List Node) → AppView
 spread_app deps timeout groups = record { deps = deps; start_arg = None; phases = false; spread = Some (record { timeout = timeout; groups = groups }) }
 
 abbrev node : List Node → SyncWait → List (App × Restart) → NodeView
-node mandatory wait boot = record {
+node mandatory wait boot = record plain_node {
   mandatory = mandatory;
-  optional = [];
   sync_wait = wait;
   boot = boot;
   permissions = true ∷ true ∷ true ∷ true ∷ true ∷ [];
-  platforms = [];
 }
 
 -- all but job

@@ -2,9 +2,10 @@
 use Rattle.std.proofs.Common.{◌≡◌, ◌≤◌, ◌+◌, ◌-◌, ℕ, zero, suc, true, false, Some, None, [], ◌∷◌, codes, slice_get, inl, inr, refl, ap, ◌∙◌, arith}
 use Rattle.std.proofs.lemmas.Option.{same_Some}
 use Rattle.rh_model.specs.ClusterView.{ClusterView, NodeView, numbered, app_numbered}
+use Rattle.rh_model.proofs.PlainNode.{plain_node}
 use Rattle.rh_model.specs.declared.node.Node.{Node}
 use Rattle.rh_model.specs.declared.node.App.{App}
-use Rattle.rh_model.specs.declared.settings.SyncWait.TheVariants.{After, Unset}
+use Rattle.rh_model.specs.declared.settings.SyncWait.TheVariants.{After}
 use Rattle.rh_state.specs.Numbers.{nodes_of, apps_of}
 use Rattle.rh_state.specs.declared.status.Mode.TheVariants as mode
 use Rattle.rh_state.specs.declared.status.Kind.TheVariants as kind
@@ -56,7 +57,7 @@ abbrev other : App
 other = app_numbered 1
 
 abbrev alone : NodeView
-alone = record { mandatory = []; optional = []; sync_wait = Unset; boot = []; permissions = true ∷ []; platforms = [] }
+alone = record plain_node { permissions = true ∷ [] }
 
 abbrev cluster : ClusterView
 cluster = record {

@@ -1,6 +1,7 @@
 -- The cluster of the rows: nodes n1, n2 and n3, and applications a, b and c. Nothing is found in it as it stands.
 use Rattle.std.proofs.Common.{ℕ, true, false, Option, Some, None, List, [], ◌∷◌, codes}
 use Rattle.rh_model.specs.ClusterView.{ClusterView, NodeView, AppView, numbered, app_numbered}
+use Rattle.rh_model.proofs.PlainNode.{plain_node}
 use Rattle.rh_model.specs.declared.node.Node.{Node}
 use Rattle.rh_model.specs.declared.node.App.{App}
 use Rattle.rh_model.specs.declared.settings.Dep.{Dep}
@@ -30,7 +31,7 @@ c = app_numbered 2
 
 -- a node with these lists, this timeout and this boot list; it has the one platform name
 abbrev pub node : List Node → List Node → SyncWait → List (App × Restart) → NodeView
-node mandatory optional wait boot = record {
+node mandatory optional wait boot = record plain_node {
   mandatory = mandatory;
   optional = optional;
   sync_wait = wait;

@@ -2,6 +2,7 @@
 -- for n2, and doesn't come up without it.
 use Rattle.std.proofs.Common.{◌≡◌, ℕ, true, false, Some, None, List, [], ◌∷◌, slice_get, codes, refl, ap, arith}
 use Rattle.rh_model.specs.ClusterView.{ClusterView, NodeView, numbered, app_numbered}
+use Rattle.rh_model.proofs.PlainNode.{plain_node}
 use Rattle.rh_model.specs.declared.node.Node.{Node}
 use Rattle.rh_model.specs.declared.node.App.{App}
 use Rattle.rh_model.specs.declared.settings.SyncWait.TheVariants.{After}
@@ -37,7 +38,7 @@ abbrev web : App
 web = app_numbered 0
 
 abbrev waits_for : List Node → NodeView
-waits_for others = record { mandatory = others; optional = []; sync_wait = After 1000; boot = []; permissions = true ∷ []; platforms = [] }
+waits_for others = record plain_node { mandatory = others; sync_wait = After 1000; permissions = true ∷ [] }
 
 abbrev cluster : ClusterView
 cluster = record {

@@ -1,3 +1,4 @@
+pub mod PlainNode
 pub mod Alike
 pub mod Texts
 pub mod Prefix

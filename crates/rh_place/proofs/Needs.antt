@@ -8,8 +8,8 @@ use Rattle.rh_model.specs.declared.node.Node.{Node}
 use Rattle.rh_model.specs.declared.node.App.{App}
 use Rattle.rh_model.specs.declared.settings.Dep.{Dep}
 use Rattle.rh_model.specs.declared.settings.Dep.TheVariants.{Listed, Platform}
-use Rattle.rh_model.specs.declared.settings.SyncWait.TheVariants.{Unset}
 use Rattle.rh_model.specs.ClusterView.{NodeView, deps_of, is_platform, node_count, IsWithin}
+use Rattle.rh_model.proofs.PlainNode.{plain_node}
 use Rattle.rh_model.specs.Needs.{is_at_hand, has_platforms, listed, is_home, needed_apps}
 use Rattle.rh_state.specs.StateView.{StateView, runs_at}
 use Rattle.rh_rules.specs.Placing.{dep_runs, deps_run}
@@ -37,7 +37,7 @@ by_kind s n v is (Platform p ∷ deps) = ap (λ x. is_platform s.cluster n p && 
 pub deps_by_kind : (s : StateView) (n : Node) (a : App) → n.0 < node_count s.cluster → IsWithin s.cluster
     → is_home s.cluster a n && list_all (runs_at s n) (needed_apps s.cluster a) ≡ deps_run s n a
 unfolding is_home needed_apps deps_run
-deps_by_kind s n a known within = by (slice_get s.cluster.nodes n.0) refl (some_inside s.cluster.nodes n.0 (record { mandatory = []; optional = []; sync_wait = Unset; boot = []; permissions = []; platforms = [] }) (omega (arith, known, within.nodes)))
+deps_by_kind s n a known within = by (slice_get s.cluster.nodes n.0) refl (some_inside s.cluster.nodes n.0 plain_node (omega (arith, known, within.nodes)))
   where
     by : (o : Option NodeView) → slice_get s.cluster.nodes n.0 ≡ o → IsSome (slice_get s.cluster.nodes n.0)
         → unwrap_or (option_map (has_platforms (deps_of s.cluster a)) (slice_get s.cluster.nodes n.0)) false

@@ -1,10 +1,10 @@
 -- Three nodes n1, n2 and n3, and an application with the groups n1 and {n2, n3}, computed from the definitions.
 use Rattle.std.proofs.Common.{◌≡◌, Bool, true, false, Some, None, [], ◌∷◌, refl}
 use Rattle.rh_model.specs.ClusterView.{ClusterView, NodeView, AppView, is_in}
+use Rattle.rh_model.proofs.PlainNode.{plain_node}
 use Rattle.rh_model.specs.declared.node.Node.{Node}
 use Rattle.rh_model.specs.declared.node.App.{App}
 use Rattle.rh_model.specs.declared.settings.Dep.TheVariants.{Listed, Platform}
-use Rattle.rh_model.specs.declared.settings.SyncWait.TheVariants.{Unset}
 use Rattle.rh_state.specs.declared.status.Kind.TheVariants.{Normal, Failover}
 use Rattle.rh_state.specs.declared.status.Mode.TheVariants.{Down, Up}
 use Rattle.rh_state.specs.First.{first}
@@ -33,14 +33,7 @@ abbrev helper : App
 helper = record { 0 = 2 }
 
 abbrev node_view : NodeView
-node_view = record {
-  mandatory = [];
-  optional = [];
-  sync_wait = Unset;
-  boot = [];
-  permissions = true ∷ true ∷ true ∷ [];
-  platforms = true ∷ false ∷ [];
-}
+node_view = record plain_node { permissions = true ∷ true ∷ true ∷ []; platforms = true ∷ false ∷ [] }
 
 abbrev app_view : Bool → AppView
 app_view phases = record { deps = []; start_arg = None; phases = phases; spread = Some (record { timeout = 0; groups = (n1 ∷ []) ∷ (n2 ∷ n3 ∷ []) ∷ [] }) }

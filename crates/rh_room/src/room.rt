@@ -12,7 +12,7 @@ ghost use Rattle.rh_room.specs.Serving.{last_of, place_of, IsPassOf, receipt_of,
 use crate::pass::{Entry, Pass, Receipt, RoomFault};
 use crate::replies::reply_to;
 use rh_base::OutOfMemory;
-use rh_calls::Call;
+use rh_calls::{Call, LAST_SESSION};
 use rh_trail::Sim;
 use std::alloc::Global;
 use std::marker::Model;
@@ -46,7 +46,7 @@ impl Model for Room {
 
 impl Room {
     /// The greatest number of sessions.
-    pub const SESSION_LIMIT: u8 = 8;
+    pub const SESSION_LIMIT: u8 = LAST_SESSION;
 
     /// The greatest number of entries in a log.
     pub const LOG_LIMIT: usize = 65_535;

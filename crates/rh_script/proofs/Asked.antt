@@ -17,7 +17,7 @@ use Rattle.rh_script.specs.declared.script.Line.TheVariants.{Nothing, Asks, Bad}
 use Rattle.rh_script.specs.declared.session_lines.Command.{Command}
 use Rattle.rh_script.specs.declared.session_lines.SessionLine.{SessionLine}
 use Rattle.rh_script.specs.declared.session_lines.SessionLine.TheVariants as line
-use Rattle.rh_script.specs.declared.session_lines.TheConstants.{LAST_SESSION}
+use Rattle.rh_calls.specs.declared.call.TheConstants.{LAST_SESSION}
 use Rattle.rh_script.specs.declared.forms.Argument.{Argument}
 use Rattle.rh_script.specs.declared.forms.Argument.TheVariants as argument
 use Rattle.rh_script.specs.declared.forms.Verb.{Verb}

@@ -23,7 +23,7 @@ use Rattle.rh_script.specs.declared.forms.Argument.{Argument}
 use Rattle.rh_script.specs.declared.forms.Argument.TheVariants as argument
 use Rattle.rh_script.specs.declared.forms.Given.{Given}
 use Rattle.rh_script.specs.declared.session_lines.SessionLine.TheVariants as line
-use Rattle.rh_script.specs.declared.session_lines.TheConstants.{LAST_SESSION}
+use Rattle.rh_calls.specs.declared.call.TheConstants.{LAST_SESSION}
 use Rattle.rh_script.specs.Forms.{word_of, arguments_of, nothing, call_of, said}
 use Rattle.rh_script.specs.Commands.{words_of, named, named_app, begins_with, milliseconds, restart_named, first_of, with_argument, given_in, row_asks, asking, command_of, line_of}
 use Rattle.rh_script.specs.CommandWords.{truth_word, reason_word, spaced, argument_words, command_words}

@@ -14,7 +14,7 @@ use Rattle.rh_script.specs.declared.script.Line.TheVariants.{Asks}
 use Rattle.rh_script.specs.declared.forms.Given.{Given}
 use Rattle.rh_script.specs.declared.session_lines.Command.{Command}
 use Rattle.rh_script.specs.declared.session_lines.SessionLine.TheVariants as line
-use Rattle.rh_script.specs.declared.session_lines.TheConstants.{LAST_SESSION}
+use Rattle.rh_calls.specs.declared.call.TheConstants.{LAST_SESSION}
 use Rattle.rh_script.specs.Lines.{raw_lines, content}
 use Rattle.rh_script.specs.Forms.{said}
 use Rattle.rh_script.specs.Commands.{line_of}

@@ -8,7 +8,7 @@ use Rattle.rh_script.specs.declared.script.Line.TheVariants as line
 use Rattle.rh_script.specs.declared.session_lines.Command.{Command}
 use Rattle.rh_script.specs.declared.session_lines.SessionLine.{SessionLine}
 use Rattle.rh_script.specs.declared.session_lines.SessionLine.TheVariants.{Nothing, Asks, Bad}
-use Rattle.rh_script.specs.declared.session_lines.TheConstants.{LAST_SESSION}
+use Rattle.rh_calls.specs.declared.call.TheConstants.{LAST_SESSION}
 use Rattle.rh_script.specs.Commands.{words_of, begins_with, command_of}
 
 -- a call, and the session that makes it

@@ -93,7 +93,7 @@ fn push_notices(text: &mut String, cluster: &Cluster, notices: &[Notice]) -> Res
     Ok(())
 }
 
-// Adds the name of the dependency that isn't started, where one is told.
+/// Adds the name of the dependency that a refusal names, behind a space; nothing where it names none.
 pub fn push_reason(
     text: &mut String,
     cluster: &Cluster,

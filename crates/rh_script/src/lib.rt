@@ -24,7 +24,7 @@ mod session_lines;
 mod sweep_answers;
 mod sweep_lines;
 
-pub use answers::{answer_text, bad_text, fault_text, push_notice};
+pub use answers::{answer_text, bad_text, fault_text, push_notice, push_reason};
 pub use command_words::command_text;
 pub use forms::{Argument, Given, VERBS, Verb, call_of, said, verb_named};
 pub use laws::words_ask_again;
@@ -32,6 +32,6 @@ pub use lines::{content, cut, split_line};
 pub use note_laws::notes_are_marked;
 pub use notes::{Kind, is_told, mark, note_of};
 pub use script::{Line, line_of, milliseconds, text_of};
-pub use session_lines::{Command, LAST_SESSION, SessionLine, session_line_of};
+pub use session_lines::{Command, SessionLine, session_line_of};
 pub use sweep_answers::{outcome_text, sweep_fault_text};
 pub use sweep_lines::{SweepScript, sweep_in};

@@ -6,12 +6,9 @@ ghost use Rattle.rh_script.specs.SessionLines.{session_named, asked_by, session_
 
 use crate::script::{Line, begins_with, command_of, first_words, text_of};
 use rh_base::{OutOfMemory, Same};
-use rh_calls::Call;
+use rh_calls::{Call, LAST_SESSION};
 use rh_cluster::Cluster;
 use std::alloc::Global;
-
-/// The last session that a line can name.
-pub const LAST_SESSION: u8 = 8;
 
 /// A call, and the session that makes it.
 #[derive(Clone, Copy, Debug, PartialEq, Eq)]

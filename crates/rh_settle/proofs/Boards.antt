@@ -29,7 +29,7 @@ use Rattle.rh_rules.specs.declared.notice.Move.TheVariants.{Local, Placement, Ta
 use Rattle.rh_rules.specs.declared.notice.Pair.{Pair}
 use Rattle.rh_model.specs.Marks.{AppMarks, is_marked, touches}
 use Rattle.rh_settle.specs.Boards.{AppSets, BoardView, is_among, is_wanted, touches_local, matters, is_asked, mover}
-use Rattle.rh_settle.specs.Boards.{MarksLocals, IsExactAt, IsBoardOf}
+use Rattle.rh_settle.specs.Boards.{AreLocals, IsExactAt, IsBoardOf}
 use Rattle.rh_rules.specs.Course.{is_fresh, is_local}
 use Rattle.rh_rules.specs.Moves.{can_start, local_move, local_moves, comes_before, calls_away, placements, placements_from, takeovers, takeovers_from, moved_state}
 use Rattle.rh_base.proofs.Truths.{both, same_number, same_refl, or_left, or_right}
@@ -383,9 +383,9 @@ module _ (s t : StateView) (m : Move) (pairs : List Pair) (is : t ≡ moved_stat
   same_cluster : t.cluster ≡ s.cluster
   same_cluster = ap (λ (u : StateView). u.cluster) is ∙ cluster_same s m
 
-  still_local : (b c : BoardView) → c.local ≡ b.local → IsBoardOf s pairs b → MarksLocals t.cluster c.local
-  still_local b c marks h = subst (λ (ms : AppMarks). MarksLocals t.cluster ms) (sym marks)
-      (subst (λ (v : ClusterView). MarksLocals v b.local) (sym same_cluster) h.local)
+  still_local : (b c : BoardView) → c.local ≡ b.local → IsBoardOf s pairs b → AreLocals t.cluster c.local
+  still_local b c marks h = subst (λ (ms : AppMarks). AreLocals t.cluster ms) (sym marks)
+      (subst (λ (v : ClusterView). AreLocals v b.local) (sym same_cluster) h.local)
 
   still_fresh : (b c : BoardView) → c.fresh ≡ b.fresh → IsBoardOf s pairs b → (a : App) (n : Node) → IsAppOf t.cluster a → IsNodeOf t.cluster n
       → is_among c.fresh a n ≡ is_fresh pairs n a

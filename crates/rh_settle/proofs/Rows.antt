@@ -2,10 +2,10 @@
 -- other one: what follows of itself, computed from the definitions.
 use Rattle.std.proofs.Common.{◌≡◌, List, Bool, true, false, Some, None, [], ◌∷◌, refl, arith}
 use Rattle.rh_model.specs.ClusterView.{ClusterView, NodeView, group_of}
+use Rattle.rh_model.proofs.PlainNode.{plain_node}
 use Rattle.rh_model.specs.declared.node.Node.{Node}
 use Rattle.rh_model.specs.declared.node.App.{App}
 use Rattle.rh_model.specs.declared.settings.Dep.TheVariants.{Listed}
-use Rattle.rh_model.specs.declared.settings.SyncWait.TheVariants.{Unset}
 use Rattle.rh_state.specs.declared.status.Kind.TheVariants as kind
 use Rattle.rh_state.specs.declared.status.Mode.TheVariants.{Up}
 use Rattle.rh_state.specs.declared.status.Standing.{Standing}
@@ -49,14 +49,7 @@ abbrev pair : Node → App → Pair
 pair n a = record { node = n; app = a }
 
 abbrev node_view : NodeView
-node_view = record {
-  mandatory = [];
-  optional = [];
-  sync_wait = Unset;
-  boot = [];
-  permissions = true ∷ true ∷ true ∷ [];
-  platforms = [];
-}
+node_view = record plain_node { permissions = true ∷ true ∷ true ∷ [] }
 
 abbrev cluster : Bool → ClusterView
 cluster phases = record {

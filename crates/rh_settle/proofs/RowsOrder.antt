@@ -2,10 +2,10 @@
 -- definitions.
 use Rattle.std.proofs.Common.{◌≡◌, List, true, false, Some, None, [], ◌∷◌, refl}
 use Rattle.rh_model.specs.ClusterView.{ClusterView, NodeView, AppView}
+use Rattle.rh_model.proofs.PlainNode.{plain_node}
 use Rattle.rh_model.specs.declared.node.Node.{Node}
 use Rattle.rh_model.specs.declared.node.App.{App}
 use Rattle.rh_model.specs.declared.settings.Restart.TheVariants.{Permanent, Temporary}
-use Rattle.rh_model.specs.declared.settings.SyncWait.TheVariants.{Unset}
 use Rattle.rh_state.specs.declared.status.Kind.TheVariants as kind
 use Rattle.rh_state.specs.declared.status.Mode.TheVariants.{Up}
 use Rattle.rh_state.specs.declared.status.Standing.{Standing}
@@ -40,7 +40,7 @@ abbrev pair : Node → App → Pair
 pair n x = record { node = n; app = x }
 
 abbrev node : NodeView
-node = record { mandatory = []; optional = []; sync_wait = Unset; boot = []; permissions = true ∷ true ∷ []; platforms = [] }
+node = record plain_node { permissions = true ∷ true ∷ [] }
 
 -- both prefer p and q, which rank alike, to r
 abbrev app : AppView

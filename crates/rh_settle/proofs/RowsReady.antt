@@ -1,6 +1,7 @@
 -- Which waiting nodes are ready, computed from the definitions.
 use Rattle.std.proofs.Common.{◌≡◌, List, [], ◌∷◌, map, Bool, true, false, refl}
 use Rattle.rh_model.specs.ClusterView.{ClusterView, NodeView}
+use Rattle.rh_model.proofs.PlainNode.{plain_node}
 use Rattle.rh_model.specs.declared.node.Node.{Node}
 use Rattle.rh_model.specs.declared.settings.SyncWait.{SyncWait}
 use Rattle.rh_model.specs.declared.settings.SyncWait.TheVariants.{Unset, After, Forever}
@@ -19,7 +20,7 @@ abbrev may : Node
 may = record { 0 = 2 }
 
 abbrev node : List Node → List Node → SyncWait → NodeView
-node mandatory optional wait = record { mandatory = mandatory; optional = optional; sync_wait = wait; boot = []; permissions = []; platforms = [] }
+node mandatory optional wait = record plain_node { mandatory = mandatory; optional = optional; sync_wait = wait }
 
 -- the first node has itself and the second for mandatory ones, and itself and the third for optional ones
 abbrev cluster : SyncWait → ClusterView

@@ -26,7 +26,7 @@ use Rattle.rh_settle.specs.Calls.{can_call}
 use Rattle.rh_model.specs.Marks.{AppMarks, is_marked}
 use Rattle.rh_state.specs.declared.status.Standing.{Standing}
 use Rattle.rh_state.specs.declared.status.Standing.TheVariants.{Quiet}
-use Rattle.rh_settle.specs.Boards.{is_wanted, ReadyView, MarksLocals, IsReadyOf}
+use Rattle.rh_settle.specs.Boards.{is_wanted, ReadyView, AreLocals, IsReadyOf}
 use Rattle.rh_settle.proofs.Boards.{given_nowhere, no_head, unwanted_stays}
 use Rattle.rh_settle.proofs.Callers.{uncalled_stays}
 use Rattle.rh_base.proofs.Truths.{both, same_number, same_refl, or_left, or_right}
@@ -78,7 +78,7 @@ unfolding can_start
 no_start s n a f = ap (λ p. p && (is_allowed s n a && deps_run s n a)) f
 
 -- where none of the marked ones does, there is none
-pub none_starts : (s : StateView) (n : Node) (marks : AppMarks) → IsShaped s → MarksLocals s.cluster marks
+pub none_starts : (s : StateView) (n : Node) (marks : AppMarks) → IsShaped s → AreLocals s.cluster marks
     → ((a : App) → IsAppOf s.cluster a → is_marked marks a ≡ true → waits_at s n a && can_start s n a ≡ false) → is_some (head (local_moves s n)) ≡ false
 unfolding local_moves
 none_starts s n marks shape are none = none_of s n (waiting_at s n)

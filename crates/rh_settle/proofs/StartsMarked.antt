@@ -14,7 +14,7 @@ use Rattle.rh_place.specs.Sets.{NodeBits, has}
 use Rattle.rh_rules.specs.declared.notice.Pair.{Pair}
 use Rattle.rh_rules.specs.Course.{is_fresh, is_local, course_of}
 use Rattle.rh_rules.specs.Moves.{can_start, local_moves}
-use Rattle.rh_settle.specs.Boards.{MarksLocals}
+use Rattle.rh_settle.specs.Boards.{AreLocals}
 use Rattle.rh_settle.specs.Starting.{StartsAreMarked}
 use Rattle.rh_base.proofs.Truths.{both, same_number}
 use Rattle.rh_trace.proofs.Entries.{is_false}
@@ -73,7 +73,7 @@ adds s n a p is waits starts =
     all_three false y z f g h = f
 
 -- at the end of it the set has each node at which a local application can start
-pub all_asked : (s : StateView) (marks : AppMarks) (pairs : List Pair) (set : NodeBits) → IsShaped s → MarksLocals s.cluster marks
+pub all_asked : (s : StateView) (marks : AppMarks) (pairs : List Pair) (set : NodeBits) → IsShaped s → AreLocals s.cluster marks
     → StartsAreMarked (course_of s [] pairs)
     → ((n : Node) → has set n ≡ true → is_some (head (local_moves s n)) ≡ true)
     → ((n : Node) (a : App) → is_fresh pairs n a ≡ true → waits_at s n a ≡ true → can_start s n a ≡ true → has set n ≡ true)

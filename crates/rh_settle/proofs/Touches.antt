@@ -12,7 +12,7 @@ use Rattle.rh_state.specs.Lists.{without_app}
 use Rattle.rh_state.specs.Shape.{IsAppOf}
 use Rattle.rh_base.specs.Lists.{or_else, first_given}
 use Rattle.rh_base.proofs.Lists.{cases}
-use Rattle.rh_settle.specs.Boards.{touches_local, MarksLocals}
+use Rattle.rh_settle.specs.Boards.{touches_local, AreLocals}
 use Rattle.rh_rules.specs.Course.{is_local}
 use Rattle.rh_base.proofs.Truths.{both, same_number}
 use Rattle.rh_trace.proofs.Entries.{taken, put, is_false, is_below, is_above}
@@ -83,7 +83,7 @@ none_met c x none = list_any_none p (apps_of c)
 module _ (c : ClusterView) (x : App) (touched local both : AppMarks)
     (marks : (a : App) → is_marked both a ≡ (is_marked touched a && is_marked local a))
     (kept : (a : App) → IsAppOf c a → is_marked touched a ≡ touches c x a)
-    (others : (a : App) → app_count c ≤ a.0 → is_marked touched a ≡ false) (locals : MarksLocals c local) where
+    (others : (a : App) → app_count c ≤ a.0 → is_marked touched a ≡ false) (locals : AreLocals c local) where
   met : (a : App) → IsAppOf c a → is_marked both a ≡ (touches c x a && is_local c a)
   met a of = marks a ∙ (λ i. kept a of i && locals a of i)
 

@@ -46,8 +46,8 @@ pub record BoardView : Type 0 where
   pub able : AppSets
 
 -- of the applications of a cluster the local ones are marked
-abbrev pub MarksLocals : ClusterView → AppMarks → Type 0
-MarksLocals c marks = (a : App) → IsAppOf c a → is_marked marks a ≡ is_local c a
+abbrev pub AreLocals : ClusterView → AppMarks → Type 0
+AreLocals c marks = (a : App) → IsAppOf c a → is_marked marks a ≡ is_local c a
 
 -- each application that has a node in its set is marked
 abbrev pub Covers : AppMarks → AppSets → Type 0
@@ -61,7 +61,7 @@ is_wanted _ = false
 -- the nodes at which a local application can start, the local applications, and those that are to run
 pub record IsReadyOf (s : StateView) (r : ReadyView) : Type 0 where
   pub starts : (n : Node) → has r.starts n ≡ is_some (head (local_moves s n))
-  pub local : MarksLocals s.cluster r.local
+  pub local : AreLocals s.cluster r.local
   pub wanted : (a : App) → IsAppOf s.cluster a → is_marked r.wanted a ≡ is_wanted (standing_of s a)
 
 -- where an application can run matters to its placement, and at the nodes of its fresh pairs to its takeover
@@ -85,7 +85,7 @@ pub record IsExactAt (s : StateView) (b : BoardView) (n : Node) : Type 0 where
 
 -- the same of each node, the fresh pairs are these, and those are marked that are local
 pub record IsBoardOf (s : StateView) (pairs : List Pair) (b : BoardView) : Type 0 where
-  pub local : MarksLocals s.cluster b.local
+  pub local : AreLocals s.cluster b.local
   pub fresh : (a : App) (n : Node) → IsAppOf s.cluster a → IsNodeOf s.cluster n → is_among b.fresh a n ≡ is_fresh pairs n a
   pub exact : (n : Node) → IsExactAt s b n
 

@@ -16,7 +16,7 @@ ghost use Rattle.rh_rules.specs.Placing.{is_operational};
 ghost use Rattle.rh_place.specs.Sets.{has};
 ghost use Rattle.rh_rules.specs.declared.notice.Pair.{Pair};
 ghost use Rattle.rh_model.specs.Marks.{is_marked, touches};
-ghost use Rattle.rh_settle.specs.Boards.{is_among, is_wanted, touches_local, matters, is_asked, nodes_changed, mover, MarksLocals, Covers, IsReadyOf, IsBoardOf};
+ghost use Rattle.rh_settle.specs.Boards.{is_among, is_wanted, touches_local, matters, is_asked, nodes_changed, mover, AreLocals, Covers, IsReadyOf, IsBoardOf};
 ghost use Rattle.rh_rules.specs.Course.{is_fresh};
 ghost use Rattle.rh_rules.specs.Moves.{local_moves, moved_state};
 
@@ -115,7 +115,7 @@ impl Board {
     fn look_again(&mut self, state: &State, moved: App, node: Node)
         requires app { IsAppOf (read state.now).cluster moved }
         requires node { IsNodeOf (read state.now).cluster node }
-        requires marks { MarksLocals (read state.now).cluster self.old.local }
+        requires marks { AreLocals (read state.now).cluster self.old.local }
         ensures marks { self.new.local ≡ self.old.local }
         ensures moving { self.new.moving ≡ self.old.moving }
         ensures fresh { self.new.fresh ≡ self.old.fresh }
@@ -151,7 +151,7 @@ impl Board {
     pub fn follow(&mut self, state: &State, made: Move)
         requires app { IsAppOf (read state.now).cluster (mover made) }
         requires nodes { All (IsNodeOf (read state.now).cluster) (nodes_changed made) }
-        requires marks { MarksLocals (read state.now).cluster self.old.local }
+        requires marks { AreLocals (read state.now).cluster self.old.local }
         ensures { (s : StateView) (fresh : List Pair) → IsBoardOf s fresh self.old
             → read state.now ≡ moved_state s made → IsBoardOf (read state.now) fresh self.new }
     {
@@ -170,7 +170,7 @@ impl Board {
 // Does a move of an application touch a local one?
 fn touches_local(cluster: &Cluster, local: &AppMarks, moved: App) -> bool
     requires app { IsAppOf cluster.now moved }
-    requires marks { MarksLocals cluster.now local.now }
+    requires marks { AreLocals cluster.now local.now }
     ensures { result ≡ touches_local cluster.now moved }
 {
     !cluster.touched_by(moved).and(local).is_empty()

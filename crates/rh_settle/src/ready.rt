@@ -14,7 +14,7 @@ ghost use Rattle.rh_place.specs.Sets.{has};
 ghost use Rattle.rh_rules.specs.Course.{course_of};
 ghost use Rattle.rh_rules.specs.Moves.{can_start, local_moves};
 ghost use Rattle.rh_model.specs.Marks.{is_marked, marks_of};
-ghost use Rattle.rh_settle.specs.Boards.{is_wanted, MarksLocals, IsReadyOf};
+ghost use Rattle.rh_settle.specs.Boards.{is_wanted, AreLocals, IsReadyOf};
 ghost use Rattle.rh_settle.specs.Starting.{StartsAreMarked};
 ghost use Rattle.rh_trace.specs.Traces.{IsPairOf};
 
@@ -90,7 +90,7 @@ pub(crate) fn is_wanted(state: &State, app: App) -> bool
 
 // The local applications.
 fn local_marks(state: &State) -> AppMarks
-    ensures { MarksLocals (read state.now).cluster result }
+    ensures { AreLocals (read state.now).cluster result }
 {
     state.cluster().locals()
 }
@@ -151,7 +151,7 @@ fn wanted_marks(state: &State) -> AppMarks
 
 // The nodes at which a local application can start.
 fn local_nodes(state: &State, local: &AppMarks) -> NodeSet
-    requires { MarksLocals (read state.now).cluster local.now }
+    requires { AreLocals (read state.now).cluster local.now }
     ensures { (n : Node) → has result n ≡ is_some (head (local_moves (read state.now) n)) }
 {
     state.formed();
@@ -169,7 +169,7 @@ fn local_nodes(state: &State, local: &AppMarks) -> NodeSet
 
 // The nodes of a set, and that of a pair if its application is local, waits there and can start.
 fn with_pair(set: NodeSet, state: &State, local: &AppMarks, pair: Pair) -> NodeSet
-    requires local { MarksLocals (read state.now).cluster local.now }
+    requires local { AreLocals (read state.now).cluster local.now }
     requires pair { IsPairOf (read state.now).cluster pair }
     ensures { (n : Node) → has result n ≡ (has set n || (same_node n pair.node && (waits_at
         (read state.now) pair.node pair.app && can_start (read state.now) pair.node pair.app))) }
@@ -185,7 +185,7 @@ fn with_pair(set: NodeSet, state: &State, local: &AppMarks, pair: Pair) -> NodeS
 
 // The nodes at which a local application can start, where that is so at these pairs alone.
 fn nodes_of_pairs(state: &State, local: &AppMarks, pairs: &[Pair]) -> NodeSet
-    requires local { MarksLocals (read state.now).cluster local.now }
+    requires local { AreLocals (read state.now).cluster local.now }
     requires pairs { All (IsPairOf (read state.now).cluster) pairs.now }
     requires starts { StartsAreMarked (course_of (read state.now) [] pairs.now) }
     ensures { (n : Node) → has result n ≡ is_some (head (local_moves (read state.now) n)) }

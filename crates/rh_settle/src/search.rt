@@ -15,7 +15,7 @@ ghost use Rattle.rh_place.specs.declared.node_set.TheConstants.NodeSet.{LIMIT};
 ghost use Rattle.rh_place.specs.Sets.{has};
 ghost use Rattle.rh_rules.specs.declared.notice.Pair.{Pair};
 ghost use Rattle.rh_rules.specs.Course.{is_fresh, is_local};
-ghost use Rattle.rh_settle.specs.Boards.{MarksLocals, IsExactAt, IsBoardOf};
+ghost use Rattle.rh_settle.specs.Boards.{AreLocals, IsExactAt, IsBoardOf};
 ghost use Rattle.rh_rules.specs.Moves.{can_start, local_moves, placements, comes_before, takeovers, takeovers_from};
 ghost use Rattle.rh_rules.specs.Settling.{next_moves};
 
@@ -73,7 +73,7 @@ pub(crate) fn starts(state: &State, node: Node, app: App) -> bool
 // Can one of the local applications start at a node? These are their marks, and each is asked.
 fn any_starts(state: &State, local: &AppMarks, node: Node) -> bool
     requires node { node.0 < node_count (read state.now).cluster }
-    requires marks { MarksLocals (read state.now).cluster local.now }
+    requires marks { AreLocals (read state.now).cluster local.now }
     ensures { result ≡ is_some (head (local_moves (read state.now) node)) }
 {
     state.formed();
@@ -102,7 +102,7 @@ fn most_steps(state: &State, local: usize, node: Node) -> usize
 // walk takes few steps then, and behind them the local ones are asked.
 pub(crate) fn starts_at(state: &State, local: &AppMarks, node: Node) -> bool
     requires node { node.0 < node_count (read state.now).cluster }
-    requires marks { MarksLocals (read state.now).cluster local.now }
+    requires marks { AreLocals (read state.now).cluster local.now }
     ensures { result ≡ is_some (head (local_moves (read state.now) node)) }
 {
     state.formed();

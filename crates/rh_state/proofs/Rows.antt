@@ -1,9 +1,9 @@
 -- States computed from the definitions.
 use Rattle.std.proofs.Common.{◌≡◌, ℕ, Bool, true, false, Some, None, List, [], ◌∷◌, replicate, refl}
 use Rattle.rh_model.specs.ClusterView.{ClusterView, NodeView, AppView, numbered, app_numbered}
+use Rattle.rh_model.proofs.PlainNode.{plain_node}
 use Rattle.rh_model.specs.Limits.{node_limit, app_limit}
 use Rattle.rh_model.specs.declared.node.App.{App}
-use Rattle.rh_model.specs.declared.settings.SyncWait.TheVariants.{Unset}
 use Rattle.rh_arena.specs.Words.{Words, unlinked, next_of}
 use Rattle.rh_arena.specs.Linking.{pushed, removed}
 use Rattle.rh_arena.specs.Lists.{listed}
@@ -28,7 +28,7 @@ use Rattle.rh_state.specs.Pairs.{pair_number, app_of_pair, waiting_list, running
 use Rattle.rh_state.specs.Stored.{Stored, read}
 
 abbrev node : List Bool → NodeView
-node permissions = record { mandatory = []; optional = []; sync_wait = Unset; boot = []; permissions = permissions; platforms = [] }
+node permissions = record plain_node { permissions = permissions }
 
 abbrev app : AppView
 app = record { deps = []; start_arg = None; phases = false; spread = None }

@@ -1,13 +1,13 @@
 -- Worked rows of local applications: the definitions compute to what an operator expects.
 use Rattle.std.proofs.Common.{◌≡◌, List, Bool, true, false, [], ◌∷◌, Some, None, codes, refl}
 use Rattle.rh_model.specs.ClusterView.{ClusterView, NodeView, AppView, numbered, app_numbered}
+use Rattle.rh_model.proofs.PlainNode.{plain_node}
 use Rattle.rh_model.specs.declared.node.Node.{Node}
 use Rattle.rh_model.specs.declared.node.App.{App}
 use Rattle.rh_model.specs.declared.settings.Dep.{Dep}
 use Rattle.rh_model.specs.declared.settings.Dep.TheVariants.{Listed, Platform}
 use Rattle.rh_model.specs.declared.settings.Restart.{Restart}
 use Rattle.rh_model.specs.declared.settings.Restart.TheVariants.{Permanent, Temporary}
-use Rattle.rh_model.specs.declared.settings.SyncWait.TheVariants.{Unset}
 use Rattle.rh_state.specs.declared.status.Kind.TheVariants.{Normal}
 use Rattle.rh_state.specs.Numbers.{nodes_of, apps_of}
 use Rattle.rh_state.specs.First.{first, configured}
@@ -37,7 +37,7 @@ answers s [] = []
 answers s (e ∷ events) = (next s e First).notices ∷ answers (next s e First).state events
 
 abbrev node : List (App × Restart) → List Bool → NodeView
-node boot permissions = record { mandatory = []; optional = []; sync_wait = Unset; boot = boot; permissions = permissions; platforms = true ∷ true ∷ [] }
+node boot permissions = record plain_node { boot = boot; permissions = permissions; platforms = true ∷ true ∷ [] }
 
 abbrev local : List Dep → AppView
 local deps = record { deps = deps; start_arg = None; phases = false; spread = None }

@@ -1,6 +1,7 @@
 -- Worked rows of distributed applications: the definitions compute to what an operator expects.
 use Rattle.std.proofs.Common.{◌≡◌, List, true, false, [], ◌∷◌, Some, None, codes, refl}
 use Rattle.rh_model.specs.ClusterView.{ClusterView, NodeView, numbered, app_numbered}
+use Rattle.rh_model.proofs.PlainNode.{plain_node}
 use Rattle.rh_model.specs.declared.node.Node.{Node}
 use Rattle.rh_model.specs.declared.node.App.{App}
 use Rattle.rh_model.specs.declared.settings.Restart.{Restart}
@@ -26,13 +27,12 @@ use Rattle.rh_rules.specs.Steps.{followed, next}
 use Rattle.rh_step.proofs.Rows.{state_after, answers}
 
 abbrev node : List Node → List Node → SyncWait → List (App × Restart) → NodeView
-node mandatory optional wait boot = record {
+node mandatory optional wait boot = record plain_node {
   mandatory = mandatory;
   optional = optional;
   sync_wait = wait;
   boot = boot;
   permissions = true ∷ true ∷ [];
-  platforms = [];
 }
 
 abbrev pub p : Node

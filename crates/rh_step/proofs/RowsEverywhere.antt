@@ -1,11 +1,11 @@
 -- Worked rows of applications that are started or stopped at all their nodes: the definitions compute to what an operator expects.
 use Rattle.std.proofs.Common.{◌≡◌, true, false, [], ◌∷◌, Some, None, codes, refl}
 use Rattle.rh_model.specs.ClusterView.{ClusterView, numbered, app_numbered}
+use Rattle.rh_model.proofs.PlainNode.{plain_node}
 use Rattle.rh_model.specs.declared.node.Node.{Node}
 use Rattle.rh_model.specs.declared.node.App.{App}
 use Rattle.rh_model.specs.declared.settings.Dep.TheVariants.{Listed}
 use Rattle.rh_model.specs.declared.settings.Restart.TheVariants.{Permanent, Transient, Temporary}
-use Rattle.rh_model.specs.declared.settings.SyncWait.TheVariants.{Unset}
 use Rattle.rh_state.specs.declared.status.Kind.TheVariants as kind
 use Rattle.rh_state.specs.declared.status.Standing.TheVariants.{Quiet}
 use Rattle.rh_state.specs.Numbers.{nodes_of, apps_of}
@@ -112,7 +112,7 @@ needing = record {
   node_names = codes "u" ∷ [];
   app_names = codes "q" ∷ codes "d" ∷ [];
   platform_names = codes "kernel" ∷ codes "stdlib" ∷ [];
-  nodes = record { mandatory = []; optional = []; sync_wait = Unset; boot = []; permissions = true ∷ true ∷ []; platforms = true ∷ true ∷ [] } ∷ [];
+  nodes = record plain_node { permissions = true ∷ true ∷ []; platforms = true ∷ true ∷ [] } ∷ [];
   apps = record { deps = Listed aid ∷ []; start_arg = None; phases = false; spread = Some (record { timeout = 0; groups = (u ∷ []) ∷ [] }) }
       ∷ record { deps = []; start_arg = None; phases = false; spread = None }
       ∷ [];

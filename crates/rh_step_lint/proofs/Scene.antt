@@ -2,6 +2,7 @@
 -- n2, else at n3, and site at n1 or n2, else at n3 or n4.
 use Rattle.std.proofs.Common.{List, [], ◌∷◌, Bool, true, false, Some, None, codes}
 use Rattle.rh_model.specs.ClusterView.{ClusterView, NodeView, AppView, numbered, app_numbered}
+use Rattle.rh_model.proofs.PlainNode.{plain_node}
 use Rattle.rh_model.specs.declared.node.Node.{Node}
 use Rattle.rh_model.specs.declared.node.App.{App}
 use Rattle.rh_model.specs.declared.settings.Dep.{Dep}
@@ -43,7 +44,7 @@ site = app_numbered 3
 
 -- a node that boots these, and waits so for those
 abbrev pub node : SyncWait → List Node → List (App × Restart) → NodeView
-node wait others boot = record { mandatory = []; optional = others; sync_wait = wait; boot = boot; permissions = true ∷ true ∷ true ∷ true ∷ []; platforms = [] }
+node wait others boot = record plain_node { optional = others; sync_wait = wait; boot = boot; permissions = true ∷ true ∷ true ∷ true ∷ [] }
 
 abbrev pub plain : NodeView
 plain = node Unset [] ((db, Permanent) ∷ (web, Permanent) ∷ [])

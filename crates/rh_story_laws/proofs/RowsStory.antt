@@ -4,6 +4,7 @@ use Rattle.std.specs.Fmt.{digits}
 use Rattle.std.specs.Str.{is_utf8, chars}
 use lib.Utf8.{encode}
 use Rattle.rh_model.specs.ClusterView.{ClusterView, NodeView, numbered, app_numbered}
+use Rattle.rh_model.proofs.PlainNode.{plain_node}
 use Rattle.rh_model.specs.declared.settings.Restart.TheVariants.{Permanent}
 use Rattle.rh_model.specs.declared.settings.SyncWait.TheVariants.{Unset, After}
 use Rattle.rh_state.specs.Numbers.{nodes_of, apps_of}
@@ -80,14 +81,7 @@ whole_row = (refl, refl)
 
 -- ---- an application w, which runs at a, and a second after a's end at b
 abbrev boots : NodeView
-boots = record {
-  mandatory = [];
-  optional = [];
-  sync_wait = Unset;
-  boot = (app_numbered 0, Permanent) ∷ [];
-  permissions = true ∷ [];
-  platforms = [];
-}
+boots = record plain_node { boot = (app_numbered 0, Permanent) ∷ []; permissions = true ∷ [] }
 
 abbrev two : ClusterView
 two = record alone {
@@ -116,7 +110,7 @@ table_row = (refl, refl, refl)
 
 -- ---- a node that waits for another one
 abbrev waits : NodeView
-waits = record { mandatory = numbered 1 ∷ []; optional = []; sync_wait = After 500; boot = []; permissions = []; platforms = [] }
+waits = record plain_node { mandatory = numbered 1 ∷ []; sync_wait = After 500 }
 
 abbrev pair : ClusterView
 pair = record alone { node_names = codes "a" ∷ codes "b" ∷ []; nodes = waits ∷ record waits { mandatory = []; sync_wait = Unset } ∷ [] }

@@ -4,8 +4,8 @@ use Rattle.std.specs.Fmt.{digits}
 use Rattle.std.specs.Str.{is_utf8, chars}
 use lib.Utf8.{encode}
 use Rattle.rh_model.specs.ClusterView.{ClusterView, numbered, app_numbered}
+use Rattle.rh_model.proofs.PlainNode.{plain_node}
 use Rattle.rh_model.specs.declared.settings.Restart.TheVariants.{Permanent}
-use Rattle.rh_model.specs.declared.settings.SyncWait.TheVariants.{Unset}
 use Rattle.rh_state.specs.Numbers.{nodes_of, apps_of}
 use Rattle.rh_state.specs.First.{configured}
 use Rattle.rh_rules.specs.Placing.{missing_dep, deps_run, is_operational, best, candidates}
@@ -91,7 +91,7 @@ bad_line_row = (refl, refl)
 abbrev one : ClusterView
 one = record alone {
   app_names = codes "w" ∷ [];
-  nodes = record { mandatory = []; optional = []; sync_wait = Unset; boot = (app_numbered 0, Permanent) ∷ []; permissions = true ∷ []; platforms = [] } ∷ [];
+  nodes = record plain_node { boot = (app_numbered 0, Permanent) ∷ []; permissions = true ∷ [] } ∷ [];
   apps = record { deps = []; start_arg = None; phases = false; spread = Some (record { timeout = 0; groups = (numbered 0 ∷ []) ∷ [] }) } ∷ [];
 }
 

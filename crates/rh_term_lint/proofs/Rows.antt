@@ -2,7 +2,7 @@
 use Rattle.std.proofs.Common.{◌≡◌, true, false, [], ◌∷◌, map, Some, None, codes}
 use Rattle.std.specs.Str.{chars}
 use Rattle.strsim.specs.Edits.{next_row, cost_at}
-use Rattle.rh_term_lint.specs.declared.finding.ReadName.TheVariants.{Kernel, Rehearse, Distributed, SyncNodesMandatory, SyncNodesTimeout, Permissions, Applications, StartPhases}
+use Rattle.rh_term_lint.specs.declared.names.ReadName.TheVariants.{Kernel, Rehearse, Distributed, SyncNodesMandatory, SyncNodesTimeout, Permissions, Applications, StartPhases}
 use Rattle.rh_term_lint.specs.Near.{edits, is_near, nearest}
 use Rattle.rh_term_lint.specs.Meant.{sections, parameters, keys, meant}
 use Rattle.rh_term_lint.proofs.Table.{edits_is, near_is, meant_is, nearest_is}

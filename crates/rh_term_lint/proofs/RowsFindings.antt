@@ -6,7 +6,7 @@ use Rattle.rh_base.specs.Tree.{Tree, atom, int, text, list, tuple, trees_from}
 use Rattle.rh_cluster.specs.Shapes.{as_atom, as_list, as_tuple, as_pair, as_triple, as_entry, as_headed}
 use Rattle.rh_cluster.specs.Sections.{has_key}
 use Rattle.rh_cluster.specs.Values.{elements}
-use Rattle.rh_term_lint.specs.declared.finding.ReadName.TheVariants.{Kernel, Rehearse, Distributed, SyncNodesOptional, SyncNodesTimeout, Applications, StartPhases}
+use Rattle.rh_term_lint.specs.declared.names.ReadName.TheVariants.{Kernel, Rehearse, Distributed, SyncNodesOptional, SyncNodesTimeout, Applications, StartPhases}
 use Rattle.rh_term_lint.specs.declared.finding.TermFinding.TheVariants.{NoProfile, NearSection, NearParameter, UndefinedWritten, NearKey}
 use Rattle.rh_term_lint.specs.Findings.{findings, of_term, of_section, of_parameter, of_key, is_undefined}
 use Rattle.rh_term_lint.proofs.Table.{meant_is}

@@ -6,7 +6,7 @@ use Rattle.std.proofs.lemmas.List.FromFn.{get_or-map-range_with_len, get_or-rang
 use mathlib.Core.Path.{fun_ext}
 use Rattle.strsim.specs.Edits.{next_row, rows, cost_at}
 use Rattle.rh_base.specs.Lists.{lightest, head}
-use Rattle.rh_term_lint.specs.declared.finding.ReadName.{ReadName}
+use Rattle.rh_term_lint.specs.declared.names.ReadName.{ReadName}
 use Rattle.rh_term_lint.specs.Near.{edits, is_near, nearest}
 use Rattle.rh_term_lint.specs.Meant.{word_of, is_read, meant}
 

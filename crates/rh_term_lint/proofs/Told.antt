@@ -7,7 +7,7 @@ use Rattle.std.proofs.lemmas.List.Elements.{All-nil, All-cons, All-append, All-c
 use Rattle.std.proofs.lemmas.Slice.Eq.{bytes_eq-Decides}
 use Rattle.rh_base.specs.Tree.{Tree}
 use Rattle.rh_cluster.specs.Shapes.{as_node, as_app}
-use Rattle.rh_term_lint.specs.declared.finding.ReadName.{ReadName}
+use Rattle.rh_term_lint.specs.declared.names.ReadName.{ReadName}
 use Rattle.rh_term_lint.specs.declared.finding.TermFinding.{TermFinding}
 use Rattle.rh_term_lint.specs.declared.finding.TermFinding.TheVariants.{NoProfile, NearSection, NearParameter, UndefinedWritten, NearKey}
 use Rattle.rh_term_lint.specs.Near.{is_near}

@@ -7,7 +7,7 @@ use Rattle.rh_base.specs.Tree.{Tree}
 use Rattle.rh_cluster.specs.Shapes.{as_atom, as_entry, as_node, as_app}
 use Rattle.rh_cluster.specs.Sections.{atom_is, has_key}
 use Rattle.rh_cluster.specs.Values.{elements}
-use Rattle.rh_term_lint.specs.declared.finding.ReadName.{ReadName}
+use Rattle.rh_term_lint.specs.declared.names.ReadName.{ReadName}
 use Rattle.rh_term_lint.specs.declared.finding.TermFinding.{TermFinding}
 use Rattle.rh_term_lint.specs.declared.finding.TermFinding.TheVariants.{NoProfile, NearSection, NearParameter, UndefinedWritten, NearKey}
 use Rattle.rh_term_lint.specs.Meant.{sections, parameters, keys, meant}

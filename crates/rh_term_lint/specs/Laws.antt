@@ -4,7 +4,7 @@ use Rattle.std.specs.List.{slice_get}
 use Rattle.rh_base.specs.Tree.{Tree}
 use Rattle.rh_cluster.specs.Shapes.{as_node, as_app}
 use Rattle.rh_cluster.specs.Sections.{section_key, kernel_key, app_key}
-use Rattle.rh_term_lint.specs.declared.finding.ReadName.{ReadName}
+use Rattle.rh_term_lint.specs.declared.names.ReadName.{ReadName}
 use Rattle.rh_term_lint.specs.declared.finding.TermFinding.{TermFinding}
 use Rattle.rh_term_lint.specs.declared.finding.TermFinding.TheVariants.{NoProfile, NearSection, NearParameter, UndefinedWritten, NearKey}
 use Rattle.rh_term_lint.specs.Near.{is_near}

@@ -2,8 +2,8 @@
 use Rattle.std.specs.Prelude.{ℕ, List, [], ◌∷◌, codes, Bool, Option, None, if◌then◌else◌}
 use Rattle.std.specs.List.{list_any, find}
 use Rattle.std.specs.Str.{bytes_eq}
-use Rattle.rh_term_lint.specs.declared.finding.ReadName.{ReadName}
-use Rattle.rh_term_lint.specs.declared.finding.ReadName.TheVariants.{Kernel, Rehearse, Distributed, SyncNodesMandatory, SyncNodesOptional, SyncNodesTimeout, Permissions, Applications, Mod, StartPhases}
+use Rattle.rh_term_lint.specs.declared.names.ReadName.{ReadName}
+use Rattle.rh_term_lint.specs.declared.names.ReadName.TheVariants.{Kernel, Rehearse, Distributed, SyncNodesMandatory, SyncNodesOptional, SyncNodesTimeout, Permissions, Applications, Mod, StartPhases}
 use Rattle.rh_term_lint.specs.Near.{is_near}
 
 -- the sections of a node (config(4); `rehearse` is ours)

@@ -1,31 +1,7 @@
-//! What is found, and the names that are read.
+//! What is found.
 
+use crate::names::ReadName;
 use rh_base::Str;
-
-/// A name that a cluster file is read for. All other sections, parameters of `kernel` and keys of an application are skipped.
-#[derive(Clone, Copy, Debug, PartialEq, Eq)]
-pub enum ReadName {
-    /// The section `kernel` of a node (kernel(6)).
-    Kernel,
-    /// The section `rehearse` of a node (ours).
-    Rehearse,
-    /// The parameter `distributed` (kernel(6)).
-    Distributed,
-    /// The parameter `sync_nodes_mandatory` (kernel(6)).
-    SyncNodesMandatory,
-    /// The parameter `sync_nodes_optional` (kernel(6)).
-    SyncNodesOptional,
-    /// The parameter `sync_nodes_timeout` (kernel(6)).
-    SyncNodesTimeout,
-    /// The parameter `permissions` (kernel(6)).
-    Permissions,
-    /// The key `applications` of an application (app(4)).
-    Applications,
-    /// The key `mod` of an application (app(4)).
-    Mod,
-    /// The key `start_phases` of an application (app(4)).
-    StartPhases,
-}
 
 /// What the terms of a cluster file say that wasn't meant so. `term` is the place of the node's or the application's term in the
 /// file's list of terms, from 0.

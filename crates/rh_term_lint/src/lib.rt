@@ -9,12 +9,14 @@ mod finding;
 mod findings;
 mod laws;
 mod meant;
+mod names;
 mod near;
 mod parts;
 mod shapes;
 
-pub use finding::{ReadName, TermFinding};
+pub use finding::TermFinding;
 pub use findings::term_findings;
 pub use laws::{findings_are_so, names_are_read};
+pub use names::ReadName;
 pub use near::nearest;
 pub use shapes::{elements, entry, node, term_name};

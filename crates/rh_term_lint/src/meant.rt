@@ -1,34 +1,14 @@
-//! The names that are read, and what a skipped name was meant to be.
+//! What a skipped name was meant to be.
 
 ghost use Rattle.std.specs.Prelude.{◌≡◌, IfOk, find};
 ghost use Rattle.std.specs.Option.{option_map};
 ghost use Rattle.rh_term_lint.specs.Meant.{word_of, is_read, meant};
 ghost use Rattle.rh_term_lint.specs.Near.{is_near};
 
-use crate::finding::ReadName;
+use crate::names::ReadName;
 use crate::near::is_near;
 use rh_base::{OutOfMemory, Str};
 use std::alloc::Global;
-
-impl ReadName {
-    /// The name as a file has it: `sync_nodes_timeout`.
-    pub fn word(self) -> &'static str
-        ensures { result.now ≡ word_of self }
-    {
-        match self {
-            ReadName::Kernel => "kernel",
-            ReadName::Rehearse => "rehearse",
-            ReadName::Distributed => "distributed",
-            ReadName::SyncNodesMandatory => "sync_nodes_mandatory",
-            ReadName::SyncNodesOptional => "sync_nodes_optional",
-            ReadName::SyncNodesTimeout => "sync_nodes_timeout",
-            ReadName::Permissions => "permissions",
-            ReadName::Applications => "applications",
-            ReadName::Mod => "mod",
-            ReadName::StartPhases => "start_phases",
-        }
-    }
-}
 
 // Is it one of these names?
 fn is_read(names: &[ReadName], word: &str) -> bool

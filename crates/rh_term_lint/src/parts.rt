@@ -7,26 +7,12 @@ ghost use Rattle.rh_base.specs.Tree.{tree_of};
 ghost use Rattle.rh_cluster.specs.Shapes.{as_entry};
 ghost use Rattle.rh_term_lint.specs.Findings.{of_parameter, of_section, of_key};
 
-use crate::finding::{ReadName, TermFinding};
+use crate::finding::TermFinding;
 use crate::meant::mistaken_name;
+use crate::names::{KEYS, PARAMETERS, SECTIONS};
 use crate::shapes;
 use rh_base::{OutOfMemory, Term};
 use std::alloc::Global;
-
-// The sections of a node that are read.
-const SECTIONS: [ReadName; 2] = [ReadName::Kernel, ReadName::Rehearse];
-
-// The parameters of `kernel` that are read.
-const PARAMETERS: [ReadName; 5] = [
-    ReadName::Distributed,
-    ReadName::SyncNodesMandatory,
-    ReadName::SyncNodesOptional,
-    ReadName::SyncNodesTimeout,
-    ReadName::Permissions,
-];
-
-// The keys of an application that are read.
-const KEYS: [ReadName; 3] = [ReadName::Applications, ReadName::Mod, ReadName::StartPhases];
 
 /// Adds what is found in each of these sections of a node.
 pub fn push_sections(

@@ -26,7 +26,7 @@ use Rattle.rh_cluster.specs.Profile.{profile_of, behind_profile}
 use Rattle.rh_terms.specs.Tokens.{text_at}
 use Rattle.rh_cluster.specs.Sections.{permission_faults, as_truth, platform_faults, is_start, are_phases}
 use Rattle.rh_model.specs.ClusterView.{ClusterView, numbered}
-use Rattle.rh_model.specs.declared.settings.SyncWait.TheVariants.{Unset}
+use Rattle.rh_model.proofs.PlainNode.{plain_node}
 use Rattle.rh_rules.specs.declared.pick.Pick.TheVariants.{First}
 use Rattle.rh_state.specs.Numbers.{nodes_of, apps_of}
 use Rattle.rh_state.specs.First.{configured}
@@ -76,7 +76,7 @@ one = record {
   node_names = codes "a" ∷ [];
   app_names = [];
   platform_names = codes "kernel" ∷ codes "stdlib" ∷ [];
-  nodes = record { mandatory = []; optional = []; sync_wait = Unset; boot = []; permissions = []; platforms = true ∷ true ∷ [] } ∷ [];
+  nodes = record plain_node { platforms = true ∷ true ∷ [] } ∷ [];
   apps = [];
 }
 

@@ -4,7 +4,7 @@ use Rattle.std.specs.Fmt.{digits}
 use Rattle.std.specs.Str.{is_utf8, chars}
 use lib.Utf8.{encode}
 use Rattle.rh_model.specs.ClusterView.{ClusterView, numbered}
-use Rattle.rh_model.specs.declared.settings.SyncWait.TheVariants.{Unset}
+use Rattle.rh_model.proofs.PlainNode.{plain_node}
 use Rattle.rh_state.specs.Limits.{time_limit, incarnation_limit}
 use Rattle.rh_state.specs.Numbers.{nodes_of, apps_of}
 use Rattle.rh_state.specs.First.{configured}
@@ -54,7 +54,7 @@ script_row = refl
 abbrev one_spread : ClusterView
 one_spread = record one_node {
   app_names = codes "w" ∷ [];
-  nodes = record { mandatory = []; optional = []; sync_wait = Unset; boot = []; permissions = true ∷ []; platforms = [] } ∷ [];
+  nodes = record plain_node { permissions = true ∷ [] } ∷ [];
   apps = record { deps = []; start_arg = None; phases = false; spread = Some (record { timeout = 0; groups = (numbered 0 ∷ []) ∷ [] }) } ∷ [];
 }
 

@@ -2,6 +2,7 @@
 use Rattle.std.proofs.Common.{◌≡◌, Bool, true, false, Some, None, [], ◌∷◌, codes, refl}
 use Rattle.std.specs.Fmt.{digits}
 use Rattle.rh_model.specs.ClusterView.{ClusterView, NodeView, numbered, app_numbered}
+use Rattle.rh_model.proofs.PlainNode.{plain_node}
 use Rattle.rh_model.specs.declared.node.Node.{Node}
 use Rattle.rh_model.specs.declared.node.App.{App}
 use Rattle.rh_model.specs.declared.settings.Dep.TheVariants.{Listed, Platform}
@@ -37,17 +38,16 @@ web = app_numbered 1
 
 -- n1 waits for n3 and n2, and names itself; the others wait for nobody
 abbrev waits_so : SyncWait → NodeView
-waits_so wait = record {
+waits_so wait = record plain_node {
   mandatory = n3 ∷ n1 ∷ [];
   optional = n2 ∷ n3 ∷ [];
   sync_wait = wait;
-  boot = [];
   permissions = true ∷ true ∷ [];
   platforms = true ∷ [];
 }
 
 abbrev alone : Bool → NodeView
-alone platform = record { mandatory = []; optional = []; sync_wait = Unset; boot = []; permissions = true ∷ true ∷ []; platforms = platform ∷ [] }
+alone platform = record plain_node { permissions = true ∷ true ∷ []; platforms = platform ∷ [] }
 
 abbrev cluster : SyncWait → ClusterView
 cluster wait = record {

@@ -3,7 +3,7 @@ use Rattle.rh_model.specs.ClusterView.{ClusterView}
 use Rattle.rh_state.specs.Shape.{IsNodeOf, IsAppOf}
 use Rattle.rh_state.specs.Stored.{read}
 use Rattle.rh_rules.specs.declared.notice.Pair.{Pair}
-use Rattle.rh_settle.specs.Boards.{nodes_changed, mover, MarksLocals, IsBoardOf}
+use Rattle.rh_settle.specs.Boards.{nodes_changed, mover, AreLocals, IsBoardOf}
 use Rattle.rh_rules.specs.Course.{Course, fresh_of}
 use Rattle.rh_trace.specs.Traces.{course}
 use Rattle.rh_settle.proofs.Movers.{changed_nodes, moved_app}
@@ -28,7 +28,7 @@ follow-requires c =
     record {
       app = subst (λ (v : ClusterView). IsAppOf v (mover c.in-Some.next)) same (moved_app (read c.moves.state) c.in-Some.next made);
       nodes = subst (λ (v : ClusterView). All (IsNodeOf v) (nodes_changed c.in-Some.next)) same (changed_nodes (read c.moves.state) c.in-Some.next made);
-      marks = subst (λ (v : ClusterView). MarksLocals v c.moves.board.local) same c.moves.invariant.board.local;
+      marks = subst (λ (v : ClusterView). AreLocals v c.moves.board.local) same c.moves.invariant.board.local;
     }
 
 pub moves-preserved : goal.moves-preserved
