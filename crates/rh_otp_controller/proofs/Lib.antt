@@ -1,0 +1,2 @@
+pub mod Replies
+mod Rows

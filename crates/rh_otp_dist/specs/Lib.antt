@@ -1,0 +1,11 @@
+pub mod Views
+pub mod State
+pub mod Sending
+pub mod Attempts
+pub mod Choosing
+pub mod Waiting
+pub mod Told
+pub mod Down
+pub mod Calls
+pub mod Received
+pub mod Outside

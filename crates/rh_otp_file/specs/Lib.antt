@@ -1,0 +1,4 @@
+pub mod Distributed
+pub mod Waits
+pub mod Files
+pub mod Laws

@@ -1,0 +1,4 @@
+pub mod Processes
+pub mod Own
+pub mod Rows
+pub mod Flags

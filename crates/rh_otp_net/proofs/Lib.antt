@@ -1,0 +1,3 @@
+pub mod Pairs
+mod Rows
+pub mod Seen

@@ -1,0 +1,5 @@
+pub mod Alike
+pub mod Links
+pub mod Locks
+pub mod Queue
+pub mod Timers

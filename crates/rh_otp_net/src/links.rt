@@ -1,0 +1,195 @@
+//! Nodes that are connected.
+
+ghost use Rattle.std.specs.Prelude.{◌≡◌, IfOk, OnOk};
+ghost use Rattle.std.specs.List.{list_any};
+ghost use Rattle.rh_otp_net.specs.Links.{is_between, is_at, other_end, same_as};
+
+use rh_base::{Duplicate, OutOfMemory};
+use rh_model::Node;
+use std::alloc::Global;
+use std::marker::Model;
+
+/// Two nodes that are connected.
+#[derive(Clone, Copy, Debug, PartialEq, Eq)]
+pub struct Link(pub Node, pub Node);
+
+/// Nodes that are connected, in the order in which they were.
+#[derive(Drop)]
+pub struct Links {
+    links: Vec<Link>,
+}
+
+/// Contracts see `Links` as their list.
+impl Model for Links {
+    ghost use Rattle.std.specs.Prelude.{List};
+    ghost use Rattle.rh_otp_net.specs.declared.links.Link.{Link};
+
+    ghost Value = { List Link };
+
+    ghost view = { λ l. l.links.items };
+}
+
+// Does the link join these two, either way round?
+fn is_between(one: Node, two: Node, link: Link) -> bool
+    ensures { result ≡ is_between one two link }
+{
+    (link.0.0 == one.0 && link.1.0 == two.0) || (link.0.0 == two.0 && link.1.0 == one.0)
+}
+
+// Is the node at an end of the link?
+fn is_at(node: Node, link: Link) -> bool
+    ensures { result ≡ is_at node link }
+{
+    link.0.0 == node.0 || link.1.0 == node.0
+}
+
+// The node at the other end, where this one is at an end of the link.
+fn other_end(node: Node, link: Link) -> Option<Node>
+    ensures { result ≡ other_end node link }
+{
+    if link.0.0 == node.0 {
+        Some(link.1)
+    } else if link.1.0 == node.0 {
+        Some(link.0)
+    } else {
+        None
+    }
+}
+
+// Is the node one of these?
+fn is_among(node: Node, nodes: &[Node]) -> bool
+    ensures { result ≡ list_any (same_as node) nodes.now }
+{
+    nodes.iter().any(|one| one.0 == node.0)
+}
+
+impl Links {
+    ghost use Rattle.std.specs.Prelude.{◌++◌, ◌∷◌, []};
+    ghost use Rattle.rh_otp_net.specs.Links.{link, are_linked, linked_with, without_node};
+
+    /// No nodes are connected.
+    pub fn new(alloc: Global) -> Links
+        ensures { result ≡ [] }
+    {
+        Links {
+            links: Vec::new(alloc),
+        }
+    }
+
+    /// As a list.
+    pub fn as_slice(&self) -> &[Link]
+        ensures { result.now ≡ self.now }
+    {
+        self.links.as_slice()
+    }
+
+    /// Are the two connected, either way round?
+    pub fn are_linked(&self, one: Node, two: Node) -> bool
+        ensures { result ≡ are_linked one two self.now }
+    {
+        self.as_slice()
+            .iter()
+            .any(|link| is_between(one, two, *link))
+    }
+
+    /// nodes(): the others that a node sees, that with which it was connected first in front.
+    pub fn linked_with(&self, alloc: Global, node: Node) -> Result<Vec<Node>, OutOfMemory>
+        ensures { IfOk result (λ nodes. nodes.items ≡ linked_with node self.now) }
+    {
+        let links = self.links.iter();
+        let others = links.filter_map(|link| other_end(node, *link));
+        Ok(others.collect(alloc)?)
+    }
+
+    /// The two are connected.
+    pub fn add(&mut self, one: Node, two: Node) -> Result<(), OutOfMemory>
+        ensures { OnOk result (self.new ≡ self.old ++ link one two ∷ []) }
+    {
+        self.links.push(Link(one, two))?;
+        Ok(())
+    }
+
+    /// A node has ended: without its links.
+    pub fn forget_node(&mut self, node: Node)
+        ensures { self.new ≡ without_node node self.old }
+    {
+        self.links.retain(|link| !is_at(node, *link));
+    }
+}
+
+impl Links {
+    ghost use Rattle.std.specs.Prelude.{◌++◌};
+    ghost use Rattle.rh_otp_net.specs.Links.{are_linked, around, is_to_connect, joined, linked_with, to_connect};
+
+    // The node itself, and those that it sees.
+    fn around(&self, alloc: Global, node: Node) -> Result<Vec<Node>, OutOfMemory>
+        ensures { IfOk result (λ nodes. nodes.items ≡ around node self.now) }
+    {
+        let mut nodes = self.linked_with(alloc, node)?;
+        nodes.insert(0, node)?;
+        Ok(nodes)
+    }
+
+    // Are the two connected, where these are whom the first one sees?
+    #[tactic(auto, using(crate::proofs::Seen::seen_is_linked))]
+    fn sees(&self, seen: &[Node], a: Node, b: Node) -> bool
+        requires { seen.now ≡ linked_with a self.now }
+        ensures { result ≡ are_linked a b self.now }
+    {
+        is_among(b, seen)
+    }
+
+    // Does global connect the last two when this pair is? These are whom the first of the two sees.
+    fn is_to_connect(&self, pair: Link, seen: &[Node], a: Node, b: Node) -> bool
+        requires { seen.now ≡ linked_with a self.now }
+        ensures { result ≡ is_to_connect pair.0 pair.1 self.now a b }
+    {
+        a.0 != b.0 && !self.sees(seen, a, b) && !is_between(pair.0, pair.1, Link(a, b))
+    }
+
+    // A node with each of these that global connects with it. Whom it sees is looked up once: the others are asked among these alone, and
+    // not among all links (a profile of 32 nodes had nine tenths of its time there).
+    fn join(
+        &self,
+        alloc: Global,
+        found: &mut Vec<Link>,
+        pair: Link,
+        node: Node,
+        others: &[Node],
+    ) -> Result<(), OutOfMemory>
+        ensures { OnOk result (found.new.items
+            ≡ found.old.items ++ joined pair self.now node others.now) }
+    {
+        let seen = self.linked_with(alloc, node)?;
+        for other in others {
+            if self.is_to_connect(pair, seen.as_slice(), node, *other) {
+                found.push(Link(node, *other))?;
+            }
+        }
+        Ok(())
+    }
+
+    /// What global connects when these two are: what either of them sees with the other, and with what that sees.
+    #[tactic(auto, unfolding(crate::specs::Links::to_connect))]
+    pub fn to_connect(&self, alloc: Global, one: Node, two: Node) -> Result<Vec<Link>, OutOfMemory>
+        ensures { IfOk result (λ links. links.items ≡ to_connect one two self.now) }
+    {
+        let these = self.around(alloc, one)?;
+        let those = self.around(alloc, two)?;
+        let mut found = Vec::new(alloc);
+        for node in these.as_slice() {
+            self.join(alloc, &mut found, Link(one, two), *node, those.as_slice())?;
+        }
+        Ok(found)
+    }
+}
+
+impl Duplicate for Links {
+    fn copy(&self, alloc: Global) -> Result<Links, OutOfMemory>
+        ensures { IfOk result (λ copy. copy ≡ self.now) }
+    {
+        Ok(Links {
+            links: Vec::from_slice(alloc, self.links.as_slice())?,
+        })
+    }
+}

@@ -1,0 +1,5 @@
+pub mod Live
+pub mod Turns
+pub mod Kernel
+pub mod Boot
+pub mod Remote

@@ -1,0 +1,8 @@
+use Rattle.std.proofs.Common.{◌≡◌, ◌++◌, drop, filter, map}
+use Rattle.rh_otp_report.specs.Rows.{waits_here, waits_as, waiting_rows}
+use Rattle.rh_otp_report.proofs.rows.waiting_rows.Given as goal
+
+abbrev pub invariant-loop-row : goal.invariant-loop-row
+invariant-loop-row l =
+    l.rows.items ++ map (λ row. waits_as row.0 row.1) (filter (λ row. waits_here row.0 l.controller) (drop l.row-index l.row-items))
+    ≡ waiting_rows l.controller

@@ -1,0 +1,7 @@
+pub mod Views
+pub mod Rows
+pub mod Blocks
+pub mod NodeTimers
+pub mod OpenCalls
+pub mod Apps
+pub mod Report

@@ -1,0 +1,179 @@
+//! The program `run --rules otp25`: commands are answered one after the other.
+
+ghost use Rattle.std.specs.Prelude.{List, ◌≡◌, map, false, OnOk};
+ghost use Rattle.rh_otp_sim.specs.Sim.{opened};
+ghost use Rattle.rh_otp_sim.specs.Calls.{made_by, reply_to};
+ghost use Rattle.rh_otp_file.specs.Files.{own_files};
+ghost use Rattle.rh_otp_text.specs.Replies.{reply_text};
+ghost use Rattle.rh_script.specs.Lines.{raw_lines, content};
+ghost use Rattle.rh_script.specs.declared.script.Line.{Line};
+ghost use Rattle.rh_script.specs.Commands.{line_of};
+ghost use Rattle.rh_run.specs.RunText.{bad_line, lines_asked, run_end, Wrote, Broke};
+ghost use Rattle.rh_run.specs.Programs.{ProgramGives, NoThreads};
+ghost use Rattle.rh_otp_run.specs.LiveText.{script_text, live_text, OwesLiveRun, Turns};
+
+use rh_calls::Call;
+use rh_cluster::{Cluster, read_cluster};
+use rh_devices::{Sink, Source, Watched, WriteFault, read_input, write_text};
+use rh_otp_file::own_files;
+use rh_otp_model::OwnFile;
+use rh_otp_sim::{LiveReply, LiveSim};
+use rh_otp_text::reply_text;
+use rh_run::{RunFault, Told, answer_bad, ended, write_fault};
+use rh_script::{Line, content, cut, line_of, split_line};
+use std::alloc::Global;
+
+/// Reads all of the input, a cluster file, a line `===` and a script, and then writes the answer of live nodes to each command.
+///
+/// It ends at the first line that is no command. The input has at most 16,777,216 bytes. Neither device is flushed.
+///
+/// # Errors
+/// `Cluster` and `BadLine` are the end of the text that was written. `Read` comes where the reader has failed or the
+/// input is too long: nothing was written. `Write` comes where the writer has failed, and `OutOfMemory` where a growth
+/// was refused: a front of the text was written.
+pub fn run_live<S: Source, K: Sink>(
+    alloc: Global,
+    reader: &mut Watched<S>,
+    writer: &mut Watched<K>,
+) -> Result<(), RunFault>
+    requires reader { reader.old.failed ≡ false }
+    requires writer { writer.old.failed ≡ false }
+    ensures { ProgramGives S.gives S.fails K.takes K.fails
+        OwesLiveRun NoThreads result reader.old reader.new writer.old writer.new }
+{
+    let input = read_input(alloc, reader)?;
+    let told = answer_input(alloc, input.as_slice(), writer)?;
+    ended(told)
+}
+
+// Writes the answers to an input.
+#[tactic(auto, unfolding(crate::specs::LiveText::live_text, rh_run::specs::RunText::run_end))]
+fn answer_input<K: Sink>(
+    alloc: Global,
+    input: &[u8],
+    writer: &mut Watched<K>,
+) -> Result<Option<Told>, WriteFault>
+    requires { writer.old.failed ≡ false }
+    ensures { Wrote K.takes K.fails result (live_text input.now)
+        (run_end input.now) writer.old writer.new }
+{
+    let (text, script) = cut(input);
+    match read_cluster(alloc, text) {
+        Err(fault) => {
+            if fault.is_memory() {
+                return Err(WriteFault::OutOfMemory);
+            }
+            write_fault(alloc, &fault, writer)?;
+            Ok(Some(Told::Cluster(fault)))
+        }
+        Ok(cluster) => {
+            let files = own_files(alloc, &cluster, text)?;
+            let bad = answer_script(alloc, cluster, files, script, writer)?;
+            Ok(bad.map(Told::BadLine))
+        }
+    }
+}
+
+// Writes the answers to a script. The answer is the number of the bad line that ended it, if one did.
+fn answer_script<K: Sink>(
+    alloc: Global,
+    cluster: Cluster,
+    files: Vec<OwnFile>,
+    script: &[u8],
+    writer: &mut Watched<K>,
+) -> Result<Option<u64>, WriteFault>
+    requires { writer.old.failed ≡ false }
+    ensures { Wrote K.takes K.fails result (script_text (opened cluster files.items) 1
+        (lines_asked cluster (map content (raw_lines script.now)))) (bad_line 1
+        (lines_asked cluster (map content (raw_lines script.now)))) writer.old writer.new }
+{
+    let mut sim = LiveSim::open(alloc, cluster, files)?;
+    answer_lines(alloc, &mut sim, script, writer)
+}
+
+// Writes the answers to lines, the first of which has number 1, up to the first bad line, and answers its number.
+fn answer_lines<K: Sink>(
+    alloc: Global,
+    sim: &mut LiveSim,
+    script: &[u8],
+    writer: &mut Watched<K>,
+) -> Result<Option<u64>, WriteFault>
+    requires { writer.old.failed ≡ false }
+    ensures { Wrote K.takes K.fails result (script_text sim.old 1
+        (lines_asked sim.old.cluster (map content (raw_lines script.now))))
+        (bad_line 1 (lines_asked sim.old.cluster (map content (raw_lines script.now))))
+        writer.old writer.new }
+{
+    let mut rest = script;
+    let mut number: u64 = 1;
+    'lines: while !rest.is_empty() {
+        let (line, after) = split_line(rest);
+        match answer_line(alloc, sim, number, line, writer)? {
+            Some(bad) => return Ok(Some(bad)),
+            None => {
+                rest = after;
+                number += 1;
+            }
+        }
+    }
+    Ok(None)
+}
+
+// Writes the answer to a line, if it gets one. The answer is the number of a bad line.
+fn answer_line<K: Sink>(
+    alloc: Global,
+    sim: &mut LiveSim,
+    number: u64,
+    line: &[u8],
+    writer: &mut Watched<K>,
+) -> Result<Option<u64>, WriteFault>
+    requires { writer.old.failed ≡ false }
+    ensures text { (lines : List Line)
+        → Turns K.takes K.fails result sim.old sim.new number
+        (line_of sim.old.cluster (content line.now)) lines writer.old writer.new }
+    ensures cluster { OnOk result (sim.new.cluster ≡ sim.old.cluster) }
+{
+    match line_of(alloc, sim.cluster(), content(line))? {
+        Line::Nothing => Ok(None),
+        Line::Asks(call) => {
+            answer_call(alloc, sim, call, writer)?;
+            Ok(None)
+        }
+        Line::Bad => {
+            answer_bad(alloc, number, writer)?;
+            Ok(Some(number))
+        }
+    }
+}
+
+// Gives a call to the simulation, and writes the answer.
+#[tactic(auto, using(crate::proofs::Keeping::call_keeps_cluster))]
+fn answer_call<K: Sink>(
+    alloc: Global,
+    sim: &mut LiveSim,
+    call: Call,
+    writer: &mut Watched<K>,
+) -> Result<(), WriteFault>
+    requires { writer.old.failed ≡ false }
+    ensures sim { OnOk result (sim.new ≡ made_by call sim.old) }
+    ensures cluster { OnOk result (sim.new.cluster ≡ sim.old.cluster) }
+    ensures text { Broke K.takes K.fails result
+        (reply_text (made_by call sim.old) (reply_to call sim.old)) writer.old writer.new }
+{
+    let reply = sim.answer(alloc, call)?;
+    write_answer(alloc, sim, &reply, writer)
+}
+
+// Writes the text of an answer, where the simulation is this behind the call.
+fn write_answer<K: Sink>(
+    alloc: Global,
+    sim: &LiveSim,
+    reply: &LiveReply,
+    writer: &mut Watched<K>,
+) -> Result<(), WriteFault>
+    requires { writer.old.failed ≡ false }
+    ensures { Broke K.takes K.fails result (reply_text sim.now reply.now) writer.old writer.new }
+{
+    let text = reply_text(alloc, sim, reply)?;
+    write_text(writer, text.as_bytes())
+}

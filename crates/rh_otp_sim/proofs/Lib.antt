@@ -1,0 +1,4 @@
+pub mod Kept
+pub mod Reversals
+pub mod Steps
+mod Rows

@@ -1,0 +1,10 @@
+pub mod Views
+pub mod Verdicts
+pub mod Telling
+pub mod Sim
+pub mod Waiting
+pub mod Refusing
+pub mod Acting
+pub mod Stepping
+pub mod Calls
+pub mod Laws

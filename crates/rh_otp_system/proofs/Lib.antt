@@ -1,0 +1,5 @@
+pub mod Node
+pub mod Moving
+pub mod OneMore
+pub mod Kept
+pub mod Counting

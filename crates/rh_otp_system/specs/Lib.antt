@@ -1,0 +1,15 @@
+pub mod Calls
+pub mod Views
+pub mod State
+pub mod Sending
+pub mod Connecting
+pub mod Outputs
+pub mod Working
+pub mod Ending
+pub mod Joining
+pub mod Calling
+pub mod Delivering
+pub mod Moves
+pub mod Doing
+pub mod Resting
+pub mod Laws

@@ -1,0 +1,8 @@
+use Rattle.std.proofs.Common.{◌≡◌, ◌++◌, take}
+use Rattle.std.specs.List.{flat_map}
+use Rattle.std.specs.String.{string_bytes}
+use Rattle.rh_otp_text.specs.Nodes.{node_lines}
+use Rattle.rh_otp_text.proofs.report.push_nodes.Given as goal
+
+abbrev pub invariant-loop-node : goal.invariant-loop-node
+invariant-loop-node l = string_bytes l.text ≡ string_bytes l.fn.text ++ flat_map (node_lines l.cluster) (take l.node-index l.nodes)
