@@ -62,7 +62,7 @@ read_words() {
         return
         ;;
       -h | --help) asks_help=yes ;;
-      --pick | --workers | --states | --memory)
+      --pick | --rules | --workers | --states | --memory)
         words+=("${@:1:2}")
         (($# == 1)) || shift
         ;;

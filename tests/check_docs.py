@@ -39,7 +39,7 @@ PRINTED = ["rh_calls/specs/Report", "rh_script/specs/Answers", "rh_script/specs/
            "rh_run/specs/CheckText", "rh_app/specs/Histories",
            "rh_rules/specs/Refusals", "rh_cluster/specs/FaultTexts", "rh_terms/specs/FaultTexts"]
 # The pages that are written by hand. All others say in their first line that docs/make writes them.
-BY_HAND = {"ARCHITECTURE", "CHANGING", "CLUSTER_FILES", "EVENING", "LIVE_OTP", "MEASURED", "PERF", "PERF_CLAUSES", "PROVED", "RULES", "SCRIPTS", "TOOLS"}
+BY_HAND = {"ARCHITECTURE", "CHANGING", "CLUSTER_FILES", "EVENING", "LAYERS", "LIVE_OTP", "MEASURED", "PERF", "PERF_CLAUSES", "PROVED", "RULES", "SCRIPTS", "TOOLS"}
 # A reader is to come to the end of these: as many lines each may have.
 MOST_LINES = {"README.md": 120, "docs/PROVED.md": 250}
 # A subcommand has a page of help each.

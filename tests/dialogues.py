@@ -20,7 +20,7 @@ LONGEST_WAIT = 20
 NOTHING_COMES = 0.05
 FORMS = ((), ("--json",))
 # In another manner no line is answered as it comes.
-OTHERS = {"--echo", "--strict", "--interactive"}
+OTHERS = {"--echo", "--strict", "--interactive", "--rules"}
 
 
 class Talk:

@@ -67,6 +67,8 @@ INPUTS = {
                        b'{"profile":1,"nodes":["a@x","b@x"],"applications":[{"name":"web","distributed":false}]}\n'
                        b'{"line":1,"command":"boot a@x","answer":"ok","notices":[{"kind":"up","node":"a@x"}]}\n'
                        b'{"states":2,"deepest":1,"finished":true}\n{"ask":1,"holds":true}\n'),
+    "run --rules otp25": (CLUSTER + b"boot a@x\nboot a@x\nshow\n",
+                          b"ok\nup a@x\nrefused S3 already_alive\nok\nnow 0\nnode a@x up 1\nnode b@x down 0\n"),
     "run --interactive": (CLUSTER + b"boot a@x\n# again\nboot a@x\nundo", b"ok\nup a@x\nrefused S3 already_alive\nok\n"),
     "run --interactive --json": (CLUSTER + b"boot a@x\nboot a@x", b'{"profile":1,"nodes":["a@x","b@x"],"applications":[]}\n'
                                  b'{"line":1,"command":"boot a@x","answer":"ok","notices":[{"kind":"up","node":"a@x"}]}\n'

@@ -29,6 +29,7 @@ def inputs():
     yield "sweep", cluster + b"boot a@x\nplan p\ncrash a@x\n" + b"plan q\n" * 40
     yield "explore", cluster + b"boot a@x\nundo\n" * 40 + b"may crash *\nmay boot *\n"
     yield "explore --json", cluster + b"boot a@x\nundo\n" * 20 + b"may crash *\nmay boot *\n"
+    yield "run --rules otp25", cluster + b"boot a@x\ncrash a@x\n" * 40
     yield "run --interactive", cluster + b"boot a@x\ncrash a@x\n" * 40
     yield "run --interactive --json", cluster + b"boot a@x\ncrash a@x\n" * 20
 

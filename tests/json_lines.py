@@ -378,7 +378,7 @@ def json_of_rows(program):
     for path in files_below(ROWS):
         row = row_at(path)
         check = {"run": check_run, "lint": check_lint, "sweep": check_sweep, "explore": check_explore}.get(row.words[0] if row.words else "")
-        is_plain = not {"--json", "--echo", "--strict"} & {*row.words} and row.status in (0, 2, 3, 6)
+        is_plain = not {"--json", "--echo", "--strict", "--rules"} & {*row.words} and row.status in (0, 2, 3, 6)
         # With status 1 nothing is told: it is no command line.
         if check and row.status != 1 and (is_plain or check in (check_lint, check_explore) and "--json" not in row.words):
             yield f"json of {os.path.relpath(path, ROWS)}", fault_in(check, program, row.words[1:], row.input)

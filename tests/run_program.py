@@ -9,9 +9,9 @@ fail, and memory (refused_memory.py), more devices (hostile.py) and each of thei
 profiles (profiles.py), random scripts beside a model (random_scripts.py), searches beside the model (explored.py) and of states whose
 keys would collide (colliding_keys.py), runs whose lines are answered as they come (dialogues.py), what is told as
 JSON (json_lines.py), what lint owes for the examples and for mistaken inputs (linted.py), what it tells of random rehearsals, by a
-second way and beside live nodes (lint_measure.py), stories of the examples (stories.py), rows by pytest (pytest_items.py), the scripts
-that run, build and ship the program (shipped.py), what ./rehearse does in front of it (front.py, front_talks.py) and tells of refused files
-(places.py), the packages of it (package.py), one of them installed (own_root.py), the benchmark's inputs (benched.py) and the documents (check_docs.py). Calls that the
+second way and beside live nodes (lint_measure.py), rehearsals by the rules of OTP 25 beside their model (live_rules.py), stories of the
+examples (stories.py), rows by pytest (pytest_items.py), the scripts that run, build and ship the program (shipped.py), what ./rehearse
+does in front of it (front.py, front_talks.py) and tells of refused files (places.py), the packages of it (package.py), one of them installed (own_root.py), the benchmark's inputs (benched.py) and the documents (check_docs.py). Calls that the
 programs `rh_growths` and `rh_part_growths` beside PROGRAM make have their growths of memory counted and refused, and have to leave all
 as it was (growths.py). All of it runs side by side on all processors (groups.py).
 The last line is 'N passed, M failed'. Where paths of rows are given, these alone are run.
@@ -38,6 +38,7 @@ import hostile  # noqa: E402
 import json_lines  # noqa: E402
 import lint_measure  # noqa: E402
 import linted  # noqa: E402
+import live_rules  # noqa: E402
 import made_pages  # noqa: E402
 import own_root  # noqa: E402
 import package  # noqa: E402
@@ -278,7 +279,7 @@ QUICK = (*made_pages.TESTS, *refused_memory.TESTS, *failing_calls.TESTS, *hostil
          Group(no_threads, needs=("cc",)), *shipped.TESTS, *front.TESTS, *front_talks.TESTS, *places.TESTS, *stories.TESTS, *linted.TESTS,
          *colliding_keys.TESTS, *dialogues.TESTS, *pytest_items.TESTS)
 # Those that take longest begin first.
-ALL = (*prefixes.TESTS, *growths.TESTS, *lint_measure.TESTS, *random_scripts.TESTS, *explored.TESTS, *benched.TESTS, *json_lines.TESTS,
+ALL = (*prefixes.TESTS, *growths.TESTS, *lint_measure.TESTS, *live_rules.TESTS, *random_scripts.TESTS, *explored.TESTS, *benched.TESTS, *json_lines.TESTS,
        *check_docs.TESTS, *package.TESTS, *own_root.TESTS, *QUICK, *MADE, *map(profiles.under_profile_1, MADE), *profiles.TESTS, cluster_limits,
        command_lines, full_inputs, several_sessions)
 

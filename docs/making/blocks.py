@@ -4,12 +4,12 @@ from collections.abc import Callable, Iterator
 from functools import cache
 from pathlib import Path
 
-from commands import made_commands
+from commands import made_commands, made_refusals
 from tree import TOP, BadSource, Crate, crates, head_of, proved_crates, read, shown
 
 BLOCK = re.compile(r"(?ms)^(<!-- made: (\w+)(?: ([^\n]+?))? -->\n).*?^(<!-- end -->)$")
 # Pages whose blocks are made: in one of these a word tells nothing of what is to be changed.
-PAGES = ("ARCHITECTURE.md", "CHANGING.md", "SCRIPTS.md")
+PAGES = ("ARCHITECTURE.md", "CHANGING.md", "RULES.md", "SCRIPTS.md")
 MADE_PAGES = ("CONTRACTS.md", "DEFINITIONS.md", "GUARDS.md", "LINT.md", "CHANGING.md")
 SOURCE_FOLDERS = ("src", "specs", "proofs", "must-fail")
 
@@ -94,7 +94,8 @@ def made_files(words: str) -> Iterator[str]:
 
 
 MAKERS: dict[str, Callable[[str], Iterator[str]]] = {
-    "drawing": made_drawing, "crates": made_table, "files": made_files, "commands": made_commands}
+    "drawing": made_drawing, "crates": made_table, "files": made_files, "commands": made_commands,
+    "refusals": made_refusals}
 
 
 def with_blocks(path: Path) -> str:

@@ -56,10 +56,17 @@ def told_of(verb: str, lines: list[str]) -> tuple[str, dict[str, str]]:
     return does, items
 
 
+@cache
+def words_of_refusals() -> dict[str, tuple[str, str]]:
+    """The code and the word of each refusal, by its variant."""
+    found = re.findall(r'^refusal_words (?:\()?(\w+)[^=]*= codes "(S\d+) (\w+)', read(REFUSALS), re.M)
+    return {name: (code, word) for name, code, word in found}
+
+
 def codes_in(text: str) -> list[str]:
     """The codes of the refusals that a definition names, in their order."""
-    names = dict(re.findall(r'^refusal_words (?:\()?(\w+)[^=]*= codes "(S\d+) ', read(REFUSALS), re.M))
-    return [names[name] for name in re.findall(r"\b[A-Z]\w+", text) if name in names]
+    names = words_of_refusals()
+    return [names[name][0] for name in re.findall(r"\b[A-Z]\w+", text) if name in names]
 
 
 @cache
@@ -125,3 +132,13 @@ def made_commands(_words: str) -> Iterator[str]:
     for it in commands():
         does = (it.does if it.does.startswith(("A,", "`")) else it.does[0].lower() + it.does[1:]).rstrip(".")
         yield f"| `{it.usage}` | {does} | {it.needs + ' ' if it.needs else ''}|"
+
+
+def made_refusals(_words: str) -> Iterator[str]:
+    """For which reasons each command is refused, in the order of the tests. A reason is named in full where it comes first."""
+    words = dict(words_of_refusals().values())
+    yield from ("| Command | Tested in this order |", "|---|---|")
+    for it in commands():
+        if it.refusals:
+            told = ", ".join(f"{code} {words.pop(code)}" if code in words else code for code in it.refusals)
+            yield f"| `{it.usage}` | {told} |"

@@ -9,7 +9,7 @@ from commands import HELP_SOURCE, with_help
 from tree import CRATES, TOP, BadSource, read, shown
 
 SOURCES = CRATES / "rh_command_line" / "src"
-TABLE, BUILDING = SOURCES / "table.rt", SOURCES / "building.rt"
+TABLE, BUILDING, NAMES = SOURCES / "table.rt", SOURCES / "building.rt", SOURCES / "command_line.rt"
 HELP, FRONT = TOP / "docs" / "help", TOP / "shipped" / "front.sh"
 PROGRAM, HELP_OPTION, VERSION_OPTION = "rehearse", ("  -h, --help", "Print help"), ("  -V, --version", "Print version")
 # A string of the source: one line, or lines behind a backslash.
@@ -62,6 +62,13 @@ def subcommands() -> tuple[Subcommand, ...]:
     return tuple(rows[name] for name in order)
 
 
+def names_of(field: str) -> list[str]:
+    """The names that an option takes, by their field among all names."""
+    source = read(NAMES)
+    table = one(rf"{field}: (\w+)\.as_slice\(\)", source, f"names {field}")
+    return re.findall(STRING, one(rf"static {table}: [^=]*= \[(.*?)\];", source, f"table {table}"))
+
+
 @cache
 def valued() -> dict[str, tuple[str, str]]:
     """The options that take a value, by their names in the table: how each is written, and what help says of it."""
@@ -70,7 +77,7 @@ def valued() -> dict[str, tuple[str, str]]:
         body = one(rf"(?s)\nfn {maker}<.*?\n\{{\n(.*?)\n\}}", read(BUILDING), maker)
         name = one(r'\.long\("(\w+)"\)', body, f"name in {maker}")
         told = one(r"(?s)\.help\(\s*" + STRING, body, f"help in {maker}") + f" [default: {one(STRING, body.partition('.default_value(')[2], maker)}]"
-        told += " [possible values: first, last]" if "ValueParser::Names" in body else ""
+        told += "".join(f" [possible values: {', '.join(names_of(field))}]" for field in re.findall(r"ValueParser::Names\(parts\.names\.(\w+)\)", body))
         found[setting] = (name, told)
     return found
 

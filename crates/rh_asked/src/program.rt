@@ -15,11 +15,13 @@ pub enum Program {
     CheckJson,
     /// The commands of a script are answered.
     Run(Pick),
-    /// The same, in a manner of its own.
+    /// The same, by what live nodes of OTP 25.2.3 do.
+    RunLive,
+    /// The commands of a script are answered, in a manner of its own.
     RunIn(Pick, Manner),
-    /// The same, as lines of JSON.
+    /// The same as `Run`, as lines of JSON.
     RunJson(Pick),
-    /// The same, each command before more is read, by `rehearse_dialogue` of `rh_programs`. A reader and a writer apart are run over as by `Run`.
+    /// The same as `Run`, each command before more is read, by `rehearse_dialogue` of `rh_programs`. A reader and a writer apart are run over as by `Run`.
     Dialogue(Pick),
     /// The same, as lines of JSON.
     DialogueJson(Pick),

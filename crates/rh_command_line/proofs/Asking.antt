@@ -10,27 +10,28 @@ use Rattle.clap.specs.declared.error.Error.{Error}
 use Rattle.clap.specs.declared.error.kind.ErrorKind.TheVariants as kind
 use Rattle.clap.specs.declared.parser.matches.ArgMatches.{ArgMatches}
 use Rattle.rh_asked.specs.declared.program.Program.{Program}
-use Rattle.rh_command_line.specs.CommandLine.{Picks, ArePicks, line}
+use Rattle.rh_command_line.specs.CommandLine.{AreNames, line}
+use Rattle.rh_command_line.specs.declared.building.Names.{Names}
 use Rattle.rh_command_line.specs.Asking.{AsksFor, IsAskedBy, IsNotUtf8, IsRefusedBy, Refuses, program_among}
 use Rattle.rh_command_line.specs.declared.command_line.Asked.{Asked}
 use Rattle.rh_command_line.specs.declared.command_line.Asked.TheVariants as asked
 
 -- the command line is one of those of which the parser says all
-is_plain : (picks : Picks) → is_simple_and_free (line picks) ≡ true
-is_plain picks = refl
+is_plain : (names : Names) → is_simple_and_free (line names) ≡ true
+is_plain names = refl
 
-has_matches : (picks : Picks) → is_simple (line picks) ≡ true
-has_matches picks = refl
+has_matches : (names : Names) → is_simple (line names) ≡ true
+has_matches names = refl
 
-module _ (app : App) (picks : Picks) (words : List Text) (is : app ≡ line picks) where
-  pub no_fault : (is_simple_and_free app ≡ true → fault_of app words ≡ []) → fault_of (line picks) words ≡ []
-  no_fault found = subst (λ (a : App). (is_simple_and_free a ≡ true → fault_of a words ≡ [])) is found (is_plain picks)
+module _ (app : App) (names : Names) (words : List Text) (is : app ≡ line names) where
+  pub no_fault : (is_simple_and_free app ≡ true → fault_of app words ≡ []) → fault_of (line names) words ≡ []
+  no_fault found = subst (λ (a : App). (is_simple_and_free a ≡ true → fault_of a words ≡ [])) is found (is_plain names)
 
-  pub some_fault : (error : Error) → (is_simple_and_free app ≡ true → HasKind (fault_of app words) error) → HasKind (fault_of (line picks) words) error
-  some_fault error found = subst (λ (a : App). (is_simple_and_free a ≡ true → HasKind (fault_of a words) error)) is found (is_plain picks)
+  pub some_fault : (error : Error) → (is_simple_and_free app ≡ true → HasKind (fault_of app words) error) → HasKind (fault_of (line names) words) error
+  some_fault error found = subst (λ (a : App). (is_simple_and_free a ≡ true → HasKind (fault_of a words) error)) is found (is_plain names)
 
-  pub subcommand_met : (m : ArgMatches) → HasMatchesOf app words m → subcommand_rows_of m ≡ subcommand_of (line picks) words
-  subcommand_met m has = (subst (λ (a : App). HasMatchesOf a words m) is has (has_matches picks)).1
+  pub subcommand_met : (m : ArgMatches) → HasMatchesOf app words m → subcommand_rows_of m ≡ subcommand_of (line names) words
+  subcommand_met m has = (subst (λ (a : App). HasMatchesOf a words m) is has (has_matches names)).1
 
 -- an error that is handed on as it was
 pub handed_on : {T : Type 0} (result : Result T Error) (error : Error) (Why : Error → Type 0) → IsErrAnd result (λ same. same ≡ error) → Why error
@@ -39,10 +40,10 @@ handed_on (Ok x) error Why is why = absurd is
 handed_on (Err same) error Why is why = subst Why (sym is) why
 
 -- a fault of the parser refuses the words
-pub faulty : (picks : Picks) (words : List Text) (error : Error) → ArePicks picks → HasKind (fault_of (line picks) words) error
+pub faulty : (names : Names) (words : List Text) (error : Error) → AreNames names → HasKind (fault_of (line names) words) error
     → (kind_of error ≡ kind.OutOfMemory) ⊎ Refuses words error
-faulty picks words error are (inl memory) = inl memory
-faulty picks words error are (inr among) = inr (picks, are, inl among)
+faulty names words error are (inl memory) = inl memory
+faulty names words error are (inr among) = inr (names, are, inl among)
 
 -- an error that refuses the words, or tells want of memory, is what they ask
 pub refused : (words : List Text) (error : Error) (it : Asked) → IsRefusedBy error it → (kind_of error ≡ kind.OutOfMemory) ⊎ Refuses words error

@@ -9,8 +9,9 @@ use Rattle.clap.specs.declared.error.kind.ErrorKind.TheVariants as kind
 use Rattle.clap.proofs.OnLiterals.{clap_on_literals}
 use Rattle.rh_rules.specs.declared.pick.Pick.TheVariants.{First, Last}
 use Rattle.rh_asked.specs.declared.program.Program.{Program}
-use Rattle.rh_asked.specs.declared.program.Program.TheVariants.{Check, CheckJson, Run, RunIn, RunJson, Dialogue, DialogueJson, Story, Verify, Lint, Explore, ExploreJson, Sessions, Sweep, SweepJson}
-use Rattle.rh_command_line.specs.CommandLine.{Picks, ArePicks, line}
+use Rattle.rh_asked.specs.declared.program.Program.TheVariants.{Check, CheckJson, Run, RunLive, RunIn, RunJson, Dialogue, DialogueJson, Story, Verify, Lint, Explore, ExploreJson, Sessions, Sweep, SweepJson}
+use Rattle.rh_command_line.specs.CommandLine.{AreNames, line}
+use Rattle.rh_command_line.specs.declared.building.Names.{Names}
 use Rattle.rh_command_line.specs.Table.{subcommand_named}
 use Rattle.rh_command_line.specs.Asking.{program_among}
 
@@ -18,22 +19,25 @@ use Rattle.rh_command_line.specs.Asking.{program_among}
 abbrev at : {X : Type 0} → X → Bor X
 at x = record { ref_ptr = (0, 0); now = x }
 
-abbrev picks : Picks
-picks = at (at (codes "first") ∷ at (codes "last") ∷ [])
+abbrev names : Names
+names = record {
+  picks = at (at (codes "first") ∷ at (codes "last") ∷ []);
+  rules = at (at (codes "manual") ∷ at (codes "otp25") ∷ []);
+}
 
-are_picks : ArePicks picks
-are_picks = refl
+are_names : AreNames names
+are_names = (refl, refl)
 
 -- the program that the words behind the program's name ask for
 abbrev asks : List Text → Option Program
-asks words = program_among (subcommand_of (line picks) (codes "rehearse" ∷ words))
+asks words = program_among (subcommand_of (line names) (codes "rehearse" ∷ words))
 
 -- the kinds of fault that the parser finds in them
 abbrev faults : List Text → Kinds
-faults words = fault_of (line picks) (codes "rehearse" ∷ words)
+faults words = fault_of (line names) (codes "rehearse" ∷ words)
 
 -- the parser's statements hold of this command line
-simple_row : is_simple_and_free (line picks) ≡ true
+simple_row : is_simple_and_free (line names) ≡ true
 simple_row = refl
 
 check_row : (asks (codes "check" ∷ []) ≡ Some Check) × (faults (codes "check" ∷ []) ≡ [])
@@ -50,6 +54,19 @@ pick_row : (asks (codes "run" ∷ codes "--pick" ∷ codes "last" ∷ []) ≡ So
     × (asks (codes "run" ∷ codes "--pick" ∷ codes "first" ∷ []) ≡ Some (Run First))
 unfolding clap_on_literals subcommand_named
 pick_row = (refl, refl, refl)
+
+-- the rules by which a run answers: the manual's where none are named; those of live nodes have no other manner, and no choice at a tie
+rules_row : (asks (codes "run" ∷ codes "--rules" ∷ codes "otp25" ∷ []) ≡ Some RunLive)
+    × (faults (codes "run" ∷ codes "--rules" ∷ codes "otp25" ∷ []) ≡ [])
+    × (asks (codes "run" ∷ codes "--rules=manual" ∷ codes "--pick=last" ∷ []) ≡ Some (Run Last))
+    × (asks (codes "run" ∷ codes "--rules=otp25" ∷ codes "--pick=first" ∷ []) ≡ Some RunLive)
+    × (asks (codes "run" ∷ codes "--rules=otp25" ∷ codes "--pick=last" ∷ []) ≡ None)
+    × (asks (codes "run" ∷ codes "--json" ∷ codes "--rules=otp25" ∷ []) ≡ None)
+    × (asks (codes "run" ∷ codes "--rules=otp25" ∷ codes "--interactive" ∷ []) ≡ None)
+    × (faults (codes "run" ∷ codes "--rules=otp26" ∷ []) ≡ kind.InvalidValue ∷ [])
+    × (faults (codes "story" ∷ codes "--rules=otp25" ∷ []) ≡ kind.UnknownArgument ∷ [])
+unfolding clap_on_literals subcommand_named
+rules_row = (refl, refl, refl, refl, refl, refl, refl, refl, refl)
 
 -- each word beside the choice, and both; a word that stands twice, and one that is given a value
 flags_row : (asks (codes "run" ∷ codes "--echo" ∷ []) ≡ Some (RunIn First (record { echo = true; strict = false })))

@@ -20,7 +20,8 @@ use Rattle.rh_asked.specs.declared.program.Program.{Program}
 use Rattle.rh_asked.specs.declared.program.Program.TheVariants as program
 use Rattle.rh_asked.specs.Programs.{IsStaffed}
 use Rattle.rh_command_line.specs.Table.{flag_word, subcommand_named}
-use Rattle.rh_command_line.specs.CommandLine.{Picks, ArePicks, line}
+use Rattle.rh_command_line.specs.CommandLine.{AreNames, line}
+use Rattle.rh_command_line.specs.declared.building.Names.{Names}
 use Rattle.rh_command_line.specs.declared.table.TheConstants.{MOST_MEBIBYTES, MOST_STATES}
 use Rattle.rh_command_line.specs.declared.table.Flag.{Flag}
 use Rattle.rh_command_line.specs.declared.table.Flag.TheVariants.{Echo, Strict, Json, Whole, Hints, All, Interactive}
@@ -104,6 +105,25 @@ abbrev pub run_as : Pick → Bool → Bool → Bool → Bool → Option Program
 run_as pick echo strict json interactive =
     if json || interactive then (if echo || strict then None else Some (answering pick json interactive)) else Some (run_of pick echo strict)
 
+-- whether a word names the rules of live nodes: `otp25` does, and no other, nor none
+abbrev pub is_live : Option Text → Bool
+is_live None = false
+is_live (Some word) = bytes_eq word (codes "otp25")
+
+abbrev pub is_live_in : List Row → Bool
+is_live_in rows = is_live (first_of (codes "rules") rows)
+
+-- a run on live nodes: it has no other manner, and no choice at a tie
+abbrev pub live_run : Pick → Bool → Option Program
+live_run First other = if other then None else Some program.RunLive
+live_run Last other = None
+
+-- a run by the rules that are named
+abbrev pub run_in : List Row → Option Program
+run_in rows =
+    if is_live_in rows then live_run (pick_in rows) (flag_in Echo rows || flag_in Strict rows || flag_in Json rows || flag_in Interactive rows)
+    else run_as (pick_in rows) (flag_in Echo rows) (flag_in Strict rows) (flag_in Json rows) (flag_in Interactive rows)
+
 -- a list of what is wrong, in this manner
 abbrev pub lint_of : Pick → Bool → Bool → Bool → Program
 lint_of pick all strict json = program.Lint pick (record { all = all; strict = strict; json = json })
@@ -124,7 +144,7 @@ explore_with pick json (Some room) workers = option_map (explore_of pick json ro
 -- the program that a subcommand means with these matches
 abbrev pub program_of : Subcommand → List Row → Option Program
 program_of Check rows = Some (if flag_in Json rows then program.CheckJson else program.Check)
-program_of Run rows = run_as (pick_in rows) (flag_in Echo rows) (flag_in Strict rows) (flag_in Json rows) (flag_in Interactive rows)
+program_of Run rows = run_in rows
 program_of Story rows = Some (program.Story (pick_in rows) (flag_in Whole rows))
 program_of Lint rows = Some (lint_of (pick_in rows) (flag_in All rows) (flag_in Hints rows) (flag_in Json rows))
 program_of Verify rows = Some (program.Verify (pick_in rows))
@@ -142,13 +162,13 @@ program_among = option_and_then (λ p. program_in p.0 p.1)
 
 -- the words ask for this program: the parser finds no fault in them, and their subcommand is this program
 abbrev pub AsksFor : List Text → Program → Type 0
-AsksFor words program = (picks : Picks) × ArePicks picks × (fault_of (line picks) words ≡ [])
-    × (program_among (subcommand_of (line picks) words) ≡ Some program) × IsStaffed program
+AsksFor words program = (names : Names) × AreNames names × (fault_of (line names) words ≡ [])
+    × (program_among (subcommand_of (line names) words) ≡ Some program) × IsStaffed program
 
 -- the words are refused with this error: it is a fault that the parser finds in them, or they name no program
 abbrev pub Refuses : List Text → Error → Type 0
-Refuses words error = (picks : Picks) × ArePicks picks
-    × (IsAmong (kind_of error) (fault_of (line picks) words) ⊎ (program_among (subcommand_of (line picks) words) ≡ None))
+Refuses words error = (names : Names) × AreNames names
+    × (IsAmong (kind_of error) (fault_of (line names) words) ⊎ (program_among (subcommand_of (line names) words) ≡ None))
 
 -- what these words ask; memory may be wanting for each
 abbrev pub IsAskedBy : List Text → Asked → Type 0

@@ -5,7 +5,7 @@ ghost use Rattle.clap.specs.Words.{App, app_of, kind_of, rule_of};
 ghost use Rattle.clap.specs.declared.error.kind.ErrorKind.{ErrorKind};
 ghost use Rattle.clap.specs.declared.error.kind.ErrorKind.TheVariants as kind;
 ghost use Rattle.rh_command_line.specs.Table.{flag_word};
-ghost use Rattle.rh_command_line.specs.CommandLine.{IsCommand, flag_option, line, memory_option, pick_option, setting_option, states_option, subcommand_line, with_settings, with_subcommands, workers_option};
+ghost use Rattle.rh_command_line.specs.CommandLine.{IsCommand, flag_option, line, memory_option, pick_option, rules_option, setting_option, states_option, subcommand_line, with_settings, with_subcommands, workers_option};
 
 use crate::help::{ABOUT, AFTER_HELP};
 use crate::table::{Flag, MOST_MEBIBYTES, MOST_STATES, SUBCOMMANDS, Setting, Subcommand};
@@ -14,16 +14,25 @@ use clap::{Arg, ArgAction, Command, Error};
 use rh_plans::MAX_WORKERS;
 use std::alloc::Global;
 
-// What arguments are made of: the allocator, and the names of the choices at a tie.
+/// The names that options take.
+#[derive(Clone, Copy)]
+pub struct Names<'a> {
+    /// Those of the choices at a tie.
+    pub picks: &'a [&'a str],
+    /// Those of the rules by which a script is answered.
+    pub rules: &'a [&'a str],
+}
+
+// What arguments are made of: the allocator, and the names that options take.
 #[derive(Clone, Copy)]
 pub struct Parts<'a> {
     pub alloc: Global,
-    pub picks: &'a [&'a str],
+    pub names: Names<'a>,
 }
 
-/// The command line with its subcommands, and these choices at a tie.
-pub fn whole_command<'a>(alloc: Global, picks: &'a [&'a str]) -> Result<Command<'a>, Error>
-    ensures ok { IfOk result (λ command. app_of command ≡ line picks.entry) }
+/// The command line with its subcommands, and these names.
+pub fn whole_command<'a>(alloc: Global, names: Names<'a>) -> Result<Command<'a>, Error>
+    ensures ok { IfOk result (λ command. app_of command ≡ line names.entry) }
     ensures err { IfErr result (λ error. kind_of error ≡ kind.OutOfMemory) }
 {
     let bare = Command::new(alloc, "rehearse")
@@ -31,7 +40,7 @@ pub fn whole_command<'a>(alloc: Global, picks: &'a [&'a str]) -> Result<Command<
         .about(ABOUT)
         .after_help(AFTER_HELP)
         .subcommand_required(true);
-    let parts = Parts { alloc, picks };
+    let parts = Parts { alloc, names };
     let command = add_subcommands(parts, bare, SUBCOMMANDS.as_slice())?;
     Ok(command)
 }
@@ -43,7 +52,7 @@ fn add_subcommands<'a>(
     subcommands: &[Subcommand],
 ) -> Result<Command<'a>, Error>
     ensures ok { (app : App) → IsCommand app bare.entry
-        → IfOk result (IsCommand (with_subcommands parts.entry.picks app subcommands.now)) }
+        → IfOk result (IsCommand (with_subcommands parts.entry.names app subcommands.now)) }
     ensures err { IfErr result (λ error. kind_of error ≡ kind.OutOfMemory) }
 {
     let mut command = bare;
@@ -56,7 +65,7 @@ fn add_subcommands<'a>(
 
 // A subcommand, with its options and its texts of help.
 fn subcommand_command<'a>(parts: Parts<'a>, subcommand: Subcommand) -> Result<Command<'a>, Error>
-    ensures ok { IfOk result (IsCommand (subcommand_line parts.entry.picks subcommand)) }
+    ensures ok { IfOk result (IsCommand (subcommand_line parts.entry.names subcommand)) }
     ensures err { IfErr result (λ error. kind_of error ≡ kind.OutOfMemory) }
 {
     let entry = subcommand.entry();
@@ -73,7 +82,7 @@ fn add_settings<'a>(
     settings: &[Setting],
 ) -> Result<Command<'a>, Error>
     ensures ok { (app : App) → IsCommand app bare.entry
-        → IfOk result (IsCommand (with_settings parts.entry.picks app settings.now)) }
+        → IfOk result (IsCommand (with_settings parts.entry.names app settings.now)) }
     ensures err { IfErr result (λ error. kind_of error ≡ kind.OutOfMemory) }
 {
     let mut command = bare;
@@ -85,11 +94,12 @@ fn add_settings<'a>(
 
 // An option, as an argument.
 fn argument<'a>(parts: Parts<'a>, setting: Setting) -> Arg<'a>
-    ensures rule { rule_of result ≡ setting_option parts.entry.picks setting }
+    ensures rule { rule_of result ≡ setting_option parts.entry.names setting }
     ensures local { result.global ≡ false }
 {
     match setting {
         Setting::Pick => pick_argument(parts),
+        Setting::Rules => rules_argument(parts),
         Setting::Workers => workers_argument(parts),
         Setting::States => states_argument(parts),
         Setting::Memory => memory_argument(parts),
@@ -99,15 +109,28 @@ fn argument<'a>(parts: Parts<'a>, setting: Setting) -> Arg<'a>
 
 // The choice at a tie, as an argument.
 fn pick_argument<'a>(parts: Parts<'a>) -> Arg<'a>
-    ensures rule { rule_of result ≡ pick_option parts.entry.picks }
+    ensures rule { rule_of result ≡ pick_option parts.entry.names }
     ensures local { result.global ≡ false }
 {
     Arg::new(parts.alloc, "pick")
         .long("pick")
         .action(ArgAction::Set)
-        .value_parser(ValueParser::Names(parts.picks))
+        .value_parser(ValueParser::Names(parts.names.picks))
         .default_value("first")
         .help("At a tie, takes the node that is written first or last in its group")
+}
+
+// The rules by which a script is answered, as an argument.
+fn rules_argument<'a>(parts: Parts<'a>) -> Arg<'a>
+    ensures rule { rule_of result ≡ rules_option parts.entry.names }
+    ensures local { result.global ≡ false }
+{
+    Arg::new(parts.alloc, "rules")
+        .long("rules")
+        .action(ArgAction::Set)
+        .value_parser(ValueParser::Names(parts.names.rules))
+        .default_value("manual")
+        .help("Answers by the manual's rules, or as live nodes of OTP 25 do")
 }
 
 // The number of workers, as an argument.

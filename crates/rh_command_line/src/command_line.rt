@@ -4,8 +4,9 @@ ghost use Rattle.std.specs.Prelude.{◌≡◌, ◌⊎◌, map, IfOk, IfErr};
 ghost use Rattle.std.specs.String.{string_bytes};
 ghost use Rattle.clap.specs.Words.{kind_of};
 ghost use Rattle.rh_command_line.specs.Asking.{AsksFor, IsAsked, IsAskedBy, IsNotUtf8, IsRefusedBy, Refuses};
+ghost use Rattle.rh_command_line.specs.CommandLine.{AreNames};
 
-use crate::building::whole_command;
+use crate::building::{Names, whole_command};
 use crate::reading::program_among;
 use clap::Error;
 use clap::error::ErrorKind;
@@ -14,6 +15,9 @@ use std::alloc::Global;
 
 // The choices at a tie.
 static PICKS: [&str; 2] = ["first", "last"];
+
+// The rules by which a script is answered.
+static RULES: [&str; 2] = ["manual", "otp25"];
 
 /// What a command line asks.
 #[derive(Drop)]
@@ -80,12 +84,22 @@ fn refused_by(error: Error) -> Asked
     }
 }
 
+// The names that options take.
+fn names<'a>() -> Names<'a>
+    ensures { AreNames result }
+{
+    Names {
+        picks: PICKS.as_slice(),
+        rules: RULES.as_slice(),
+    }
+}
+
 // An error of this kind and with this text, in the form of `clap`'s own.
 fn refusal(alloc: Global, kind: ErrorKind, text: &str) -> Result<Error, Error>
     ensures ok { IfOk result (λ error. kind_of error ≡ kind) }
     ensures err { IfErr result (λ error. kind_of error ≡ ErrorKind.OutOfMemory) }
 {
-    let mut command = whole_command(alloc, PICKS.as_slice())?;
+    let mut command = whole_command(alloc, names())?;
     let error = command.error(kind, text)?;
     Ok(error)
 }
@@ -96,7 +110,7 @@ fn program_of(alloc: Global, words: &[String]) -> Result<Program, Error>
     ensures err { IfErr result (λ error. (kind_of error ≡ ErrorKind.OutOfMemory)
         ⊎ Refuses (map string_bytes words.now) error) }
 {
-    let command = whole_command(alloc, PICKS.as_slice())?;
+    let command = whole_command(alloc, names())?;
     let matches = command.try_get_matches_from(words)?;
     match program_among(&matches) {
         Some(program) => Ok(program),

@@ -112,6 +112,21 @@ is read: at a terminal, or over a pipe by which another program talks. The text
 is the same. It goes with `--json`, and with neither of the first two. Of
 `./rehearse run --interactive FILE..` standard input goes on behind the files.
 
+With `--rules otp25` the same input is answered as live nodes of OTP 25 do, and
+not by the manual's rules: a call can be answered late, or never. It goes with
+none of the other options. What such nodes tell beside the lines above:
+
+  error WHY            what the call answered, as Erlang writes it
+  no answer            the call is still open
+  answered COMMAND: .. a call of an earlier command was answered
+  failed A N WHY       the start of A by N's boot script has failed
+  pending A N          A is being started at N, and that hasn't ended
+  endless              nodes would send messages for ever: nothing has changed
+
+`show` tells of each node for what it waits that doesn't come by itself, as
+`blocked dist_ac start web for n1@lab`, and which calls are open.
+docs/LIVE_OTP.md has these rules.
+
 docs/SCRIPTS.md explains each line, the fields of JSON, and what each command
 needs; docs/RULES.md what follows from it.
 

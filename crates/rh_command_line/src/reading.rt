@@ -7,7 +7,7 @@ ghost use Rattle.rh_rules.specs.declared.pick.Pick.TheVariants as pick;
 ghost use Rattle.rh_plans.specs.Workers.{AreWorkers};
 ghost use Rattle.rh_asked.specs.Programs.{IsStaffed};
 ghost use Rattle.rh_asked.specs.declared.program.Program.TheVariants as program;
-ghost use Rattle.rh_command_line.specs.Asking.{allowed, allowed_memory, allowed_states, answering, explore_of, flag_in, is_given, lint_of, memory_in, pick_in, program_among, program_in, program_of, room_in, run_as, run_of, states_in, sweep_of, workers_in};
+ghost use Rattle.rh_command_line.specs.Asking.{allowed, allowed_memory, allowed_states, answering, explore_of, flag_in, is_given, is_live, is_live_in, lint_of, live_run, memory_in, pick_in, program_among, program_in, program_of, room_in, run_as, run_in, run_of, states_in, sweep_of, workers_in};
 
 use crate::table::{Flag, MOST_MEBIBYTES, MOST_STATES, Subcommand, subcommand_named};
 use clap::ArgMatches;
@@ -40,13 +40,7 @@ fn program_of(subcommand: Subcommand, matches: &ArgMatches<'_>) -> Option<Progra
 {
     match subcommand {
         Subcommand::Check => Some(check_of(flag_in(matches, Flag::Json))),
-        Subcommand::Run => run_as(
-            pick_in(matches),
-            flag_in(matches, Flag::Echo),
-            flag_in(matches, Flag::Strict),
-            flag_in(matches, Flag::Json),
-            flag_in(matches, Flag::Interactive),
-        ),
+        Subcommand::Run => run_in(matches),
         Subcommand::Story => Some(Program::Story(pick_in(matches), flag_in(matches, Flag::Whole))),
         Subcommand::Lint => Some(lint_of(
             pick_in(matches),
@@ -79,6 +73,34 @@ fn check_of(json: bool) -> Program
         Program::CheckJson
     } else {
         Program::Check
+    }
+}
+
+// A run by the rules that are named.
+fn run_in(matches: &ArgMatches<'_>) -> Option<Program>
+    ensures named { result ≡ run_in (rows_of (found_of matches.now)) }
+    ensures staffed { IfSome result IsStaffed }
+{
+    let pick = pick_in(matches);
+    let echo = flag_in(matches, Flag::Echo);
+    let strict = flag_in(matches, Flag::Strict);
+    let json = flag_in(matches, Flag::Json);
+    let interactive = flag_in(matches, Flag::Interactive);
+    if is_live_in(matches) {
+        live_run(pick, echo || strict || json || interactive)
+    } else {
+        run_as(pick, echo, strict, json, interactive)
+    }
+}
+
+// A run on live nodes: it has no other manner, and no choice at a tie.
+fn live_run(pick: Pick, other: bool) -> Option<Program>
+    ensures named { result ≡ live_run pick other }
+    ensures staffed { IfSome result IsStaffed }
+{
+    match pick {
+        Pick::First if !other => Some(Program::RunLive),
+        _ => None,
     }
 }
 
@@ -169,6 +191,23 @@ fn is_given(text: Option<&str>) -> bool
 {
     match text {
         Some(text) => text == "true",
+        None => false,
+    }
+}
+
+// Whether the rules are those of live nodes.
+fn is_live_in(matches: &ArgMatches<'_>) -> bool
+    ensures { result ≡ is_live_in (rows_of (found_of matches.now)) }
+{
+    is_live(matches.get_str("rules"))
+}
+
+// Whether this word names the rules of live nodes.
+fn is_live(word: Option<&str>) -> bool
+    ensures { result ≡ is_live (option_map (λ word. word.now) word.entry) }
+{
+    match word {
+        Some(word) => word == "otp25",
         None => false,
     }
 }

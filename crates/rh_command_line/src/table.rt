@@ -70,6 +70,8 @@ pub const MOST_MEBIBYTES: usize = 1_048_576;
 pub enum Setting {
     /// The choice at a tie.
     Pick,
+    /// The rules by which a script is answered.
+    Rules,
     /// The number of workers.
     Workers,
     /// How many states are kept.
@@ -107,8 +109,9 @@ static PICK_WORKERS_STATES_MEMORY_JSON: [Setting; 5] = [
     Setting::Flag(Flag::Json),
 ];
 
-static PICK_ECHO_STRICT_JSON_INTERACTIVE: [Setting; 5] = [
+static PICK_RULES_ECHO_STRICT_JSON_INTERACTIVE: [Setting; 6] = [
     Setting::Pick,
+    Setting::Rules,
     Setting::Flag(Flag::Echo),
     Setting::Flag(Flag::Strict),
     Setting::Flag(Flag::Json),
@@ -158,7 +161,7 @@ impl Subcommand {
         match self {
             Subcommand::Run => entry_of(
                 "run",
-                PICK_ECHO_STRICT_JSON_INTERACTIVE.as_slice(),
+                PICK_RULES_ECHO_STRICT_JSON_INTERACTIVE.as_slice(),
                 RUN_ABOUT,
                 RUN_AFTER_HELP,
             ),

@@ -4,4 +4,4 @@ use Rattle.rh_command_line.specs.CommandLine.{IsCommand, with_subcommands}
 use Rattle.rh_command_line.proofs.building.add_subcommands.Given as goal
 
 abbrev pub invariant-loop-subcommand : goal.invariant-loop-subcommand
-invariant-loop-subcommand l = (app : App) → IsCommand app l.fn.bare → IsCommand (with_subcommands l.parts.picks app (take l.subcommand-index l.subcommands)) l.command
+invariant-loop-subcommand l = (app : App) → IsCommand app l.fn.bare → IsCommand (with_subcommands l.parts.names app (take l.subcommand-index l.subcommands)) l.command

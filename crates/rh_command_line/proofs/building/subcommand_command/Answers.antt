@@ -8,9 +8,9 @@ use Rattle.rh_command_line.proofs.building.subcommand_command.Goals as goal
 
 pub returns-clause-ok : goal.returns-clause-ok
 returns-clause-ok c =
-    let picks = c.args.parts.picks in
+    let names = c.args.parts.names in
     let bare = after_help_set _ _ _ _ c.after_help-bare.ensures (about_set _ _ _ _ c.about.ensures (c.new.ensures.app, c.new.ensures.local)) in
-    subst (λ (word : List ℕ). IfOk c.add_settings.result (IsCommand (with_settings picks (new_app word) (settings_of c.args.subcommand))))
+    subst (λ (word : List ℕ). IfOk c.add_settings.result (IsCommand (with_settings names (new_app word) (settings_of c.args.subcommand))))
     c.entry-entry.ensures.word
-    (subst (λ (settings : List Setting). IfOk c.add_settings.result (IsCommand (with_settings picks (new_app c.entry-entry.result.word.now) settings)))
+    (subst (λ (settings : List Setting). IfOk c.add_settings.result (IsCommand (with_settings names (new_app c.entry-entry.result.word.now) settings)))
     c.entry-entry.ensures.settings (c.add_settings.ensures.ok _ bare))

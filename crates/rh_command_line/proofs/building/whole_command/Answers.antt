@@ -12,4 +12,4 @@ returns-clause-ok c =
     let told = after_help_set _ _ _ _ c.after_help.ensures (about_set _ _ _ _ c.about.ensures named) in
     let bare = subcommand_wanted _ _ _ c.subcommand_required-bare.ensures told in
     let all : c.as_slice.result.now ≡ subcommands = search rules in
-    subst (λ (ss : List Subcommand). app_of c.in_ok-command.command ≡ with_subcommands c.args.picks bare_line ss) all (c.in_ok-command.ensures.ok _ bare).0
+    subst (λ (ss : List Subcommand). app_of c.in_ok-command.command ≡ with_subcommands c.args.names bare_line ss) all (c.in_ok-command.ensures.ok _ bare).0
