@@ -1,3 +1,3 @@
-pub mod Pairs
 mod Rows
-pub mod Seen
+pub mod Cells
+pub mod Pairs

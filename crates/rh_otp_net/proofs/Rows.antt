@@ -11,10 +11,12 @@ use Rattle.rh_otp_model.specs.declared.process.Process.{Process}
 use Rattle.rh_otp_model.specs.declared.process.Role.TheVariants as role
 use Rattle.rh_otp_model.specs.Processes.{process_at}
 use Rattle.rh_otp_net.specs.declared.locks.Held.{Held}
+use Rattle.rh_otp_net.specs.declared.order.Order.TheVariants.{FirstComes, LastComes, Drawn}
 use Rattle.rh_otp_net.specs.declared.timers.Timer.{Timer}
 use Rattle.rh_otp_net.specs.Links.{link, linked_with, to_connect, without_node}
 use Rattle.rh_otp_net.specs.Locks.{taken, freed}
 use Rattle.rh_otp_net.specs.Locks as locks
+use Rattle.rh_otp_net.specs.Order.{drawn, place_in, next_order}
 use Rattle.rh_otp_net.specs.Queue.{first_of_pair}
 use Rattle.rh_otp_net.specs.Timers.{next_due, fired, left}
 
@@ -104,3 +106,21 @@ fires_in_order = refl
 
 others_stay : left (timer 10 2 0 ∷ timer 20 1 0 ∷ timer 10 2 1 ∷ []) ≡ timer 20 1 0 ∷ []
 others_stay = refl
+
+-- ---- in which order
+
+-- the first numbers of the minimal standard generator, and the places that they give
+draws_first : drawn 1 ≡ 48271
+draws_first = refl
+
+draws_next : drawn 48271 ≡ 182605794
+draws_next = refl
+
+takes_drawn : (place_in (Drawn 1) 10 ≡ 1) × (next_order (Drawn 1) ≡ Drawn 48271)
+takes_drawn = (refl, refl)
+
+takes_first : (place_in FirstComes 10 ≡ 0) × (next_order FirstComes ≡ FirstComes)
+takes_first = (refl, refl)
+
+takes_last : (place_in LastComes 10 ≡ 9) × (next_order LastComes ≡ LastComes)
+takes_last = (refl, refl)

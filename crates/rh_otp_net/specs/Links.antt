@@ -19,10 +19,6 @@ is_at n l = l.0.0 == n.0 || l.1.0 == n.0
 abbrev pub other_end : Node → Link → Option Node
 other_end n l = if l.0.0 == n.0 then Some l.1 else if l.1.0 == n.0 then Some l.0 else None
 
--- are they the same node?
-abbrev pub same_as : Node → Node → Bool
-same_as n m = m.0 == n.0
-
 -- are the two connected, either way round?
 abbrev pub are_linked : Node → Node → List Link → Bool
 are_linked a b links = list_any (is_between a b) links

@@ -1,9 +1,9 @@
 //! Nodes that are connected.
 
 ghost use Rattle.std.specs.Prelude.{◌≡◌, IfOk, OnOk};
-ghost use Rattle.std.specs.List.{list_any};
-ghost use Rattle.rh_otp_net.specs.Links.{is_between, is_at, other_end, same_as};
+ghost use Rattle.rh_otp_net.specs.Links.{is_between, is_at, other_end};
 
+use crate::matrix::{Matrix, is_inside};
 use rh_base::{Duplicate, OutOfMemory};
 use rh_model::Node;
 use std::alloc::Global;
@@ -56,13 +56,6 @@ fn other_end(node: Node, link: Link) -> Option<Node>
     }
 }
 
-// Is the node one of these?
-fn is_among(node: Node, nodes: &[Node]) -> bool
-    ensures { result ≡ list_any (same_as node) nodes.now }
-{
-    nodes.iter().any(|one| one.0 == node.0)
-}
-
 impl Links {
     ghost use Rattle.std.specs.Prelude.{◌++◌, ◌∷◌, []};
     ghost use Rattle.rh_otp_net.specs.Links.{link, are_linked, linked_with, without_node};
@@ -83,13 +76,18 @@ impl Links {
         self.links.as_slice()
     }
 
-    /// Are the two connected, either way round?
+    /// Are the two connected, either way round? The last connections are looked at first: of those that a node has just begun with it is
+    /// asked most.
     pub fn are_linked(&self, one: Node, two: Node) -> bool
         ensures { result ≡ are_linked one two self.now }
     {
-        self.as_slice()
-            .iter()
-            .any(|link| is_between(one, two, *link))
+        let links = self.links.as_slice();
+        for at in (0..links.len()).rev() {
+            if is_between(one, two, links[at]) {
+                return true;
+            }
+        }
+        false
     }
 
     /// nodes(): the others that a node sees, that with which it was connected first in front.
@@ -119,7 +117,8 @@ impl Links {
 
 impl Links {
     ghost use Rattle.std.specs.Prelude.{◌++◌};
-    ghost use Rattle.rh_otp_net.specs.Links.{are_linked, around, is_to_connect, joined, linked_with, to_connect};
+    ghost use Rattle.rh_otp_net.specs.Links.{are_linked, around, is_to_connect, joined, to_connect};
+    ghost use Rattle.rh_otp_net.specs.Matrix.{IsMatrixOf};
 
     // The node itself, and those that it sees.
     fn around(&self, alloc: Global, node: Node) -> Result<Vec<Node>, OutOfMemory>
@@ -130,55 +129,59 @@ impl Links {
         Ok(nodes)
     }
 
-    // Are the two connected, where these are whom the first one sees?
-    #[tactic(auto, using(crate::proofs::Seen::seen_is_linked))]
-    fn sees(&self, seen: &[Node], a: Node, b: Node) -> bool
-        requires { seen.now ≡ linked_with a self.now }
+    // Are the two connected? The matrix says so, where it has a cell for them.
+    fn are_linked_by(&self, matrix: &Matrix, a: Node, b: Node) -> bool
+        requires { IsMatrixOf self.now matrix.now }
         ensures { result ≡ are_linked a b self.now }
     {
-        is_among(b, seen)
+        if is_inside(a, b) {
+            matrix.is_marked(a, b)
+        } else {
+            self.are_linked(a, b)
+        }
     }
 
-    // Does global connect the last two when this pair is? These are whom the first of the two sees.
-    fn is_to_connect(&self, pair: Link, seen: &[Node], a: Node, b: Node) -> bool
-        requires { seen.now ≡ linked_with a self.now }
+    // Does global connect the last two when this pair is?
+    fn is_to_connect(&self, matrix: &Matrix, pair: Link, a: Node, b: Node) -> bool
+        requires { IsMatrixOf self.now matrix.now }
         ensures { result ≡ is_to_connect pair.0 pair.1 self.now a b }
     {
-        a.0 != b.0 && !self.sees(seen, a, b) && !is_between(pair.0, pair.1, Link(a, b))
+        a.0 != b.0 && !self.are_linked_by(matrix, a, b) && !is_between(pair.0, pair.1, Link(a, b))
     }
 
-    // A node with each of these that global connects with it. Whom it sees is looked up once: the others are asked among these alone, and
-    // not among all links (a profile of 32 nodes had nine tenths of its time there).
+    // A node with each of these that global connects with it.
     fn join(
         &self,
-        alloc: Global,
+        matrix: &Matrix,
         found: &mut Vec<Link>,
         pair: Link,
         node: Node,
         others: &[Node],
     ) -> Result<(), OutOfMemory>
+        requires { IsMatrixOf self.now matrix.now }
         ensures { OnOk result (found.new.items
             ≡ found.old.items ++ joined pair self.now node others.now) }
     {
-        let seen = self.linked_with(alloc, node)?;
         for other in others {
-            if self.is_to_connect(pair, seen.as_slice(), node, *other) {
+            if self.is_to_connect(matrix, pair, node, *other) {
                 found.push(Link(node, *other))?;
             }
         }
         Ok(())
     }
 
-    /// What global connects when these two are: what either of them sees with the other, and with what that sees.
+    /// What global connects when these two are: what either of them sees with the other, and with what that sees. All connections are
+    /// read once, into a matrix, and not again for each two of these.
     #[tactic(auto, unfolding(crate::specs::Links::to_connect))]
     pub fn to_connect(&self, alloc: Global, one: Node, two: Node) -> Result<Vec<Link>, OutOfMemory>
         ensures { IfOk result (λ links. links.items ≡ to_connect one two self.now) }
     {
         let these = self.around(alloc, one)?;
         let those = self.around(alloc, two)?;
+        let matrix = Matrix::of(alloc, self.as_slice())?;
         let mut found = Vec::new(alloc);
         for node in these.as_slice() {
-            self.join(alloc, &mut found, Link(one, two), *node, those.as_slice())?;
+            self.join(&matrix, &mut found, Link(one, two), *node, those.as_slice())?;
         }
         Ok(found)
     }
