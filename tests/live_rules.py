@@ -4,7 +4,8 @@ script the model answers from a copy of what it was before each step.
 
 An answer agrees if its first line is the same, if what happened is the same in the same order, and if the same applications wait. Behind
 each command stands a `show`, of which all is compared with the model's state: nodes, what runs there, in the order of the starts, what
-waits there and is being started, for what its processes wait, timers, where each distributed application runs, and which calls are open.
+waits there, is forbidden there and is being started, for what its processes wait, timers, where each distributed application runs, and
+which calls are open.
 """
 import os
 import random
@@ -104,11 +105,19 @@ def more_of(system: System, name: str) -> list[str]:
         return []
     timers = [(timer.due, timer.message) for timer in system.timers if timer.to.node == name and timer.to.life == node.life]
     lines = [f"  timer failover {message.app} {due}" for due, message in timers if hasattr(message, "app")]
+    forbidden = [f"  forbidden {app}" for app in system.file.apps if is_forbidden(node, app)]
     if not node.is_up:
-        return [f"  timer sync {due}" for due, message in timers if type(message).__name__ == "Timeout"] + lines
+        return [*forbidden, *(f"  timer sync {due}" for due, message in timers if type(message).__name__ == "Timeout"), *lines]
     starting = [f"  starting {row[0]}" for row in reversed(node.controller.starting)]
     boot = [f"  blocked boot {node.script.is_at}"] if node.script.is_at else []
-    return [*starting, *blocked_of(node), *boot, *lines]
+    return [*forbidden, *starting, *blocked_of(node), *boot, *lines]
+
+
+def is_forbidden(node: Node, app: str) -> bool:
+    """Whether an application is forbidden at a node that is alive: its dist_ac knows that of those that it controls, else its controller."""
+    if node.dist_ac is not None and app in node.dist_ac.apps:
+        return not node.dist_ac.apps[app].run[node.name]
+    return (node.controller.permissions or {}).get(app) is False
 
 
 def blocked_of(node: Node) -> list[str]:

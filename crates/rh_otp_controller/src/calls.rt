@@ -1,9 +1,10 @@
 //! Calls of an operator.
 
 ghost use Rattle.std.specs.Prelude.{◌≡◌, OnOk};
+ghost use Rattle.rh_otp_model.specs.Rows.{keyfind};
 ghost use Rattle.rh_otp_controller.specs.Calls.{is_forbidden, request_start, start_unless, start, stop_running, stop, update_permissions, permit_waiting, permit_started, permit_idle, permit_distributed, permit, ends_with, is_here, top_ends};
 
-use crate::state::Place;
+use crate::state::{Controller, Place};
 use crate::turn::Turn;
 use rh_base::OutOfMemory;
 use rh_model::{App, Dep, Restart};
@@ -11,7 +12,7 @@ use rh_otp_model::{
     Event, Fault, Message, Outcome, Process, StartType, has_row, key_delete, key_find, key_store,
 };
 
-// Is the application forbidden at this node, as its controller knows?
+// Is an application forbidden that has this row among the permissions of a controller?
 fn is_forbidden(allowed: Option<bool>) -> bool
     ensures { result ≡ is_forbidden allowed }
 {
@@ -34,6 +35,15 @@ fn is_here(place: Option<Place>) -> bool
     ensures { result ≡ is_here place }
 {
     matches!(place, Some(Place::Here))
+}
+
+impl Controller {
+    /// Is the application forbidden at its node, as far as the controller knows? Of those that dist_ac controls, dist_ac may know otherwise.
+    pub fn is_forbidden(&self, app: App) -> bool
+        ensures { result ≡ is_forbidden (keyfind app self.now.permissions) }
+    {
+        is_forbidden(key_find(self.permissions.as_slice(), app))
+    }
 }
 
 impl<'a> Turn<'a> {

@@ -1,17 +1,19 @@
--- The nodes that may run an application, one number after the other.
+-- The nodes, or the applications, of a cluster that pass a test, one number after the other.
 use Rattle.std.proofs.Common.{◌≡◌, ◌+◌, ℕ, Bool, true, false, cond, List, [], ◌∷◌, ◌++◌, filter, map, ap, ◌∙◌, zero-add, append-nil}
 use Rattle.std.specs.List.{range_with_len}
 use Rattle.std.proofs.lemmas.List.FromFn.{filter_of_map_range_with_len_more}
-use Rattle.rh_model.specs.ClusterView.{numbered}
-use Rattle.rh_model.specs.declared.node.Node.{Node}
 
--- those below a number that pass the test
-abbrev pub below : (Node → Bool) → ℕ → List Node
-below p k = filter p (map numbered (range_with_len 0 k))
+-- one of them by its number
+module _ {X : Type 0} (named : ℕ → X) (p : X → Bool) (k : ℕ) where
+  -- those below a number that pass the test
+  abbrev pub below : List X
+  below = filter p (map named (range_with_len 0 k))
 
-pub one_more : (p : Node → Bool) (k : ℕ) → p (numbered k) ≡ true → below p (k + 1) ≡ below p k ++ numbered k ∷ []
-one_more p k passes = filter_of_map_range_with_len_more p numbered 0 k k (zero-add k) ∙ ap (λ b. below p k ++ cond b (numbered k ∷ []) []) passes
+  more : filter p (map named (range_with_len 0 (k + 1))) ≡ below ++ cond (p (named k)) (named k ∷ []) []
+  more = filter_of_map_range_with_len_more p named 0 k k (zero-add k)
 
-pub none_more : (p : Node → Bool) (k : ℕ) → p (numbered k) ≡ false → below p (k + 1) ≡ below p k
-none_more p k fails =
-    filter_of_map_range_with_len_more p numbered 0 k k (zero-add k) ∙ ap (λ b. below p k ++ cond b (numbered k ∷ []) []) fails ∙ append-nil (below p k)
+  pub one_more : p (named k) ≡ true → filter p (map named (range_with_len 0 (k + 1))) ≡ below ++ named k ∷ []
+  one_more passes = more ∙ ap (λ b. below ++ cond b (named k ∷ []) []) passes
+
+  pub none_more : p (named k) ≡ false → filter p (map named (range_with_len 0 (k + 1))) ≡ below
+  none_more fails = more ∙ ap (λ b. below ++ cond b (named k ∷ []) []) fails ∙ append-nil below

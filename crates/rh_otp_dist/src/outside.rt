@@ -2,13 +2,14 @@
 
 ghost use Rattle.std.specs.Prelude.{◌≡◌, ◌∷◌, [], IfOk, OnOk, length};
 ghost use Rattle.std.specs.List.{list_any};
-ghost use Rattle.rh_otp_dist.specs.State.{standing_of};
+ghost use Rattle.rh_otp_dist.specs.State.{standing_of, may_run};
 ghost use Rattle.rh_otp_dist.specs.Told.{is_local};
 ghost use Rattle.rh_otp_dist.specs.Waiting.{introduce};
 ghost use Rattle.rh_otp_dist.specs.Received.{next_mail};
 ghost use Rattle.rh_otp_dist.specs.Outside.{with_message, at_lock, with_monitor, without_monitors, monitors, unparked, answers, answer_to, introduced_back, idle_need, go_need, need_at, need_of, introduction, introduced_to};
 
 use crate::nodes::drop_node;
+use crate::reading::may_run;
 use crate::state::{Appl, Dist, PermitWait, Stand, Standing};
 use crate::told::{goes_on, is_local};
 use crate::turn::Turn;
@@ -122,6 +123,13 @@ impl Dist {
             Some(appl) => appl.standing,
             None => Standing::Undefined,
         }
+    }
+
+    /// May the node run the application, as far as it is known here?
+    pub fn may_run(&self, node: Node, app: App) -> bool
+        ensures { result ≡ may_run self.now node app }
+    {
+        may_run(self, node, app)
     }
 
     /// How often a node stands in [`Dist::monitored`].

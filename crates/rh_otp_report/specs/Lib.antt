@@ -4,4 +4,5 @@ pub mod Blocks
 pub mod NodeTimers
 pub mod OpenCalls
 pub mod Apps
+pub mod Forbidden
 pub mod Report

@@ -9,14 +9,15 @@ use Rattle.rh_otp_report.specs.declared.rows.Runs.{Runs}
 use Rattle.rh_otp_report.specs.declared.rows.Waits.{Waits}
 use Rattle.rh_otp_report.specs.declared.timers.NodeTimer.{NodeTimer}
 
--- a node: how far it is, how often it has begun, what runs there, waits there and is being started, for what its dist_ac and its boot
--- script wait, and its timers
+-- a node: how far it is, how often it has begun, what runs there, waits there, is forbidden there and is being started, for what its
+-- dist_ac and its boot script wait, and its timers
 pub record NodeReportView : Type 0 where
   pub node : Node
   pub phase : Phase
   pub life : ℕ
   pub running : List Runs
   pub waiting : List Waits
+  pub forbidden : List App
   pub starting : List App
   pub block : Option Block
   pub boot : Option App

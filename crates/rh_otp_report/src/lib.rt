@@ -1,4 +1,4 @@
-//! What is told of the state of live nodes: where each application runs, what waits, and what hangs.
+//! What is told of the state of live nodes: where each application runs, what waits, what is forbidden, and what hangs.
 //!
 //! [`report_of`] reads it of a simulation (`rh_otp_sim`) as values, which `rh_otp_text` prints. What live nodes can show an observer is
 //! there, beside that what only the simulation knows: for what a dist_ac or a boot script waits, which calls are open, and which
@@ -8,6 +8,7 @@
 mod apps;
 mod block;
 mod calls;
+mod forbidden;
 mod node;
 mod report;
 mod rows;

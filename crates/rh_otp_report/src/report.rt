@@ -51,7 +51,10 @@ fn node_told(
     ensures { IfOk result (λ report. report ≡ node_told sim.now net.now node) }
 {
     match sim.live(node) {
-        Some(live) => Ok(Some(node_report(alloc, sim.cluster(), net, node, live)?)),
+        Some(live) => {
+            let file = sim.file(node);
+            Ok(Some(node_report(alloc, sim.cluster(), net, file, node, live)?))
+        }
         None => Ok(None),
     }
 }

@@ -2,7 +2,7 @@
 use Rattle.std.specs.Prelude.{ℕ, List, [], ◌++◌, codes, Option, Some, None}
 use Rattle.std.specs.Fmt.{decimal}
 use Rattle.std.specs.List.{flat_map}
-use Rattle.rh_calls.specs.Report.{node_word, app_word, restart_words, kind_words}
+use Rattle.rh_calls.specs.Report.{node_word, app_word, restart_words, kind_words, forbidden_line}
 use Rattle.rh_model.specs.ClusterView.{ClusterView}
 use Rattle.rh_model.specs.declared.node.App.{App}
 use Rattle.rh_model.specs.declared.settings.Restart.{Restart}
@@ -68,7 +68,7 @@ timer_words c (timer.Failover a due) = codes "failover " ++ app_word c a ++ code
 unfoldable pub timer_line : ClusterView → NodeTimer → List ℕ
 timer_line c t = codes "  timer " ++ timer_words c t ++ codes "\n"
 
--- a node's own line, then what runs, waits and is being started there, what hangs, and its timers
+-- a node's own line, then what runs, waits, is forbidden and is being started there, what hangs, and its timers
 unfoldable pub node_lines : ClusterView → NodeReportView → List ℕ
 node_lines c r = node_line c r ++ flat_map (running_line c) r.running ++ flat_map (waiting_line c) r.waiting
-    ++ flat_map (starting_line c) r.starting ++ block_line c r.block ++ boot_line c r.boot ++ flat_map (timer_line c) r.timers
+    ++ flat_map (forbidden_line c) r.forbidden ++ flat_map (starting_line c) r.starting ++ block_line c r.block ++ boot_line c r.boot ++ flat_map (timer_line c) r.timers

@@ -3,6 +3,7 @@
 ghost use Rattle.std.specs.Prelude.{◌≡◌, ◌++◌, codes, OnOk};
 ghost use Rattle.std.specs.List.{flat_map};
 ghost use Rattle.std.specs.String.{string_bytes};
+ghost use Rattle.rh_calls.specs.Report.{forbidden_line};
 ghost use Rattle.rh_otp_text.specs.Nodes.{phase_words, known_words, node_line, running_line, waiting_line, starting_line, block_words, block_line, boot_line, timer_words, timer_line, node_lines};
 
 use crate::lines::kind_of;
@@ -99,6 +100,28 @@ fn push_waiting(text: &mut String, cluster: &Cluster, rows: &[Waits]) -> Result<
 {
     for row in rows {
         push_waiting_line(text, cluster, *row)?;
+    }
+    Ok(())
+}
+
+// Adds the line of an application that is forbidden.
+fn push_forbidden_line(text: &mut String, cluster: &Cluster, app: App) -> Result<(), OutOfMemory>
+    ensures { OnOk result
+        (string_bytes text.new ≡ string_bytes text.old ++ forbidden_line cluster.now app) }
+{
+    text.push_str("  forbidden ")?;
+    text.push_str(app_word(cluster, app))?;
+    text.push_str("\n")?;
+    Ok(())
+}
+
+// Adds those of all that are.
+fn push_forbidden(text: &mut String, cluster: &Cluster, apps: &[App]) -> Result<(), OutOfMemory>
+    ensures { OnOk result (string_bytes text.new
+        ≡ string_bytes text.old ++ flat_map (forbidden_line cluster.now) apps.now) }
+{
+    for app in apps {
+        push_forbidden_line(text, cluster, *app)?;
     }
     Ok(())
 }
@@ -246,7 +269,7 @@ fn push_timers(
     Ok(())
 }
 
-/// Adds the lines of a node: its own, what runs, waits and is being started there, what hangs, and its timers.
+/// Adds the lines of a node: its own, what runs, waits, is forbidden and is being started there, what hangs, and its timers.
 #[tactic(auto, unfolding(crate::specs::Nodes::node_lines))]
 pub fn push_node_lines(
     text: &mut String,
@@ -259,6 +282,7 @@ pub fn push_node_lines(
     push_node_line(text, cluster, report)?;
     push_running(text, cluster, report.running.as_slice())?;
     push_waiting(text, cluster, report.waiting.as_slice())?;
+    push_forbidden(text, cluster, report.forbidden.as_slice())?;
     push_starting(text, cluster, report.starting.as_slice())?;
     push_block_line(text, cluster, report.block)?;
     push_boot_line(text, cluster, report.boot)?;

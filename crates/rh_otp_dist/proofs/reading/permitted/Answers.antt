@@ -13,8 +13,8 @@ loop-number-preserved c =
       | then-may_run+in_ok-push w ↦
           ap (λ (v : Vec Node). v.items) w.nodes-is ∙ w.in_ok-push.ensures.items
           ∙ ap (λ (nodes : List Node). nodes ++ numbered c.loop-number.number ∷ []) c.loop-number.invariant
-          ∙ sym (one_more (λ n. may_run c.args.state.now n c.args.app) c.loop-number.number (sym c.may_run.ensures ∙ w.if-may_run.true))
+          ∙ sym (one_more numbered (λ n. may_run c.args.state.now n c.args.app) c.loop-number.number (sym c.may_run.ensures ∙ w.if-may_run.true))
       | else-may_run w ↦
           ap (λ (v : Vec Node). v.items) w.nodes-is ∙ c.loop-number.invariant
-          ∙ sym (none_more (λ n. may_run c.args.state.now n c.args.app) c.loop-number.number (sym c.may_run.ensures ∙ w.if-may_run.false))
+          ∙ sym (none_more numbered (λ n. may_run c.args.state.now n c.args.app) c.loop-number.number (sym c.may_run.ensures ∙ w.if-may_run.false))
     ]

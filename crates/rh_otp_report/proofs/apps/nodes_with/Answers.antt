@@ -13,8 +13,8 @@ loop-number-preserved c =
       | then-runs_at+in_ok-push w ↦
           ap (λ (v : Vec Node). v.items) w.nodes-is ∙ w.in_ok-push.ensures.items
           ∙ ap (λ (nodes : List Node). nodes ++ numbered c.loop-number.number ∷ []) c.loop-number.invariant
-          ∙ sym (one_more (λ n. runs_at c.args.sim.now c.args.app n) c.loop-number.number (sym c.runs_at.ensures ∙ w.if-runs_at.true))
+          ∙ sym (one_more numbered (λ n. runs_at c.args.sim.now c.args.app n) c.loop-number.number (sym c.runs_at.ensures ∙ w.if-runs_at.true))
       | else-runs_at w ↦
           ap (λ (v : Vec Node). v.items) w.nodes-is ∙ c.loop-number.invariant
-          ∙ sym (none_more (λ n. runs_at c.args.sim.now c.args.app n) c.loop-number.number (sym c.runs_at.ensures ∙ w.if-runs_at.false))
+          ∙ sym (none_more numbered (λ n. runs_at c.args.sim.now c.args.app n) c.loop-number.number (sym c.runs_at.ensures ∙ w.if-runs_at.false))
     ]

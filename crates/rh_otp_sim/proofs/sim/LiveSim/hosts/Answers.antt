@@ -13,8 +13,8 @@ loop-number-preserved c =
       | then-is_host+in_ok-push w ↦
           ap (λ (v : Vec Node). v.items) w.nodes-is ∙ w.in_ok-push.ensures.items
           ∙ ap (λ (nodes : List Node). nodes ++ numbered c.loop-number.number ∷ []) c.loop-number.invariant
-          ∙ sym (one_more (λ n. is_host c.args.self.now c.args.app n) c.loop-number.number (sym c.is_host.ensures ∙ w.if-is_host.true))
+          ∙ sym (one_more numbered (λ n. is_host c.args.self.now c.args.app n) c.loop-number.number (sym c.is_host.ensures ∙ w.if-is_host.true))
       | else-is_host w ↦
           ap (λ (v : Vec Node). v.items) w.nodes-is ∙ c.loop-number.invariant
-          ∙ sym (none_more (λ n. is_host c.args.self.now c.args.app n) c.loop-number.number (sym c.is_host.ensures ∙ w.if-is_host.false))
+          ∙ sym (none_more numbered (λ n. is_host c.args.self.now c.args.app n) c.loop-number.number (sym c.is_host.ensures ∙ w.if-is_host.false))
     ]
