@@ -22,7 +22,8 @@ PROGRAM, TOOLS = "rehearse", "rehearse-tools"
 OPTION = re.compile(r" +((?:-\w, )?--[\w-]+)(?: <([^>]+)>|=<([^>]+)>)?(?:\.\.\.)? +(\S.*)")
 # What the script in front takes itself, by the subcommand behind which it stands: the text of its help, and the option.
 OWN = {"lint": ("explain.txt", "      --explain <code>  Prints what a code says, and what live nodes do there, and reads no input")}
-VALUES = re.compile(r" ?\[possible values: ([^]]*)\]")
+# Which values it may have: clap's own words, or ours where a number may stand, too, which is written N.
+VALUES = re.compile(r" ?\[(?:possible )?values: ([^]]*)\]")
 
 
 @dataclass(frozen=True)
@@ -74,7 +75,8 @@ def program_option(line: str) -> Option:
         raise BadSource(f"docs/help: this is no option: {line}")
     values = VALUES.search(found[4])
     names = tuple(found[1].split(", "))
-    return Option(names, found[2] or found[3] or "", tuple(values[1].split(", ")) if values else (), VALUES.sub("", found[4]))
+    choices = tuple(value for value in values[1].split(", ") if value != "N") if values else ()
+    return Option(names, found[2] or found[3] or "", choices, VALUES.sub("", found[4]))
 
 
 def program_command(name: str) -> Command:

@@ -117,7 +117,7 @@ def whole_page() -> str:
 def front() -> str:
     """The script in front, with the words of the table."""
     words = " | ".join(it.word for it in subcommands())
-    names = " | ".join(f"--{name}" for name, _ in valued().values())
+    names = " | ".join(dict.fromkeys(f"--{name}" for name, _ in valued().values()))
     text = read(FRONT)
     for pattern, told in ((WORDS_IN_FRONT, words), (OPTIONS_IN_FRONT, names)):
         text, count = pattern.subn(lambda found, told=told: found[1] + told + found[2], text)

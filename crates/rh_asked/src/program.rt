@@ -4,6 +4,7 @@ ghost use Rattle.std.specs.Prelude.{◌≡◌};
 ghost use Rattle.rh_asked.specs.Programs.{is_alone};
 
 use crate::manner::{LintManner, Manner, SearchRoom};
+use rh_otp_net::Order;
 use rh_rules::Pick;
 
 /// What is done with the input.
@@ -15,8 +16,8 @@ pub enum Program {
     CheckJson,
     /// The commands of a script are answered.
     Run(Pick),
-    /// The same, by what live nodes of OTP 25.2.3 do.
-    RunLive,
+    /// The same, by what live nodes of OTP 25.2.3 do, with messages taken in an order.
+    RunLive(Order),
     /// The commands of a script are answered, in a manner of its own.
     RunIn(Pick, Manner),
     /// The same as `Run`, as lines of JSON.

@@ -8,6 +8,7 @@ use Rattle.clap.specs.Faults.{fault_of, is_simple_and_free}
 use Rattle.clap.specs.declared.error.kind.ErrorKind.TheVariants as kind
 use Rattle.clap.proofs.OnLiterals.{clap_on_literals}
 use Rattle.rh_rules.specs.declared.pick.Pick.TheVariants.{First, Last}
+use Rattle.rh_otp_net.specs.declared.order.Order.TheVariants.{FirstComes, LastComes, Drawn}
 use Rattle.rh_asked.specs.declared.program.Program.{Program}
 use Rattle.rh_asked.specs.declared.program.Program.TheVariants.{Check, CheckJson, Run, RunLive, RunIn, RunJson, Dialogue, DialogueJson, Story, Verify, Lint, Explore, ExploreJson, Sessions, Sweep, SweepJson}
 use Rattle.rh_command_line.specs.CommandLine.{AreNames, line}
@@ -55,18 +56,31 @@ pick_row : (asks (codes "run" ∷ codes "--pick" ∷ codes "last" ∷ []) ≡ So
 unfolding clap_on_literals subcommand_named
 pick_row = (refl, refl, refl)
 
--- the rules by which a run answers: the manual's where none are named; those of live nodes have no other manner, and no choice at a tie
-rules_row : (asks (codes "run" ∷ codes "--rules" ∷ codes "otp25" ∷ []) ≡ Some RunLive)
+-- the rules by which a run answers: the manual's where none are named; those of live nodes have no other manner
+rules_row : (asks (codes "run" ∷ codes "--rules" ∷ codes "otp25" ∷ []) ≡ Some (RunLive FirstComes))
     × (faults (codes "run" ∷ codes "--rules" ∷ codes "otp25" ∷ []) ≡ [])
     × (asks (codes "run" ∷ codes "--rules=manual" ∷ codes "--pick=last" ∷ []) ≡ Some (Run Last))
-    × (asks (codes "run" ∷ codes "--rules=otp25" ∷ codes "--pick=first" ∷ []) ≡ Some RunLive)
-    × (asks (codes "run" ∷ codes "--rules=otp25" ∷ codes "--pick=last" ∷ []) ≡ None)
+    × (asks (codes "run" ∷ codes "--rules=otp25" ∷ codes "--pick=first" ∷ []) ≡ Some (RunLive FirstComes))
+    × (asks (codes "run" ∷ codes "--rules=otp25" ∷ codes "--pick=last" ∷ []) ≡ Some (RunLive LastComes))
     × (asks (codes "run" ∷ codes "--json" ∷ codes "--rules=otp25" ∷ []) ≡ None)
     × (asks (codes "run" ∷ codes "--rules=otp25" ∷ codes "--interactive" ∷ []) ≡ None)
     × (faults (codes "run" ∷ codes "--rules=otp26" ∷ []) ≡ kind.InvalidValue ∷ [])
     × (faults (codes "story" ∷ codes "--rules=otp25" ∷ []) ≡ kind.UnknownArgument ∷ [])
 unfolding clap_on_literals subcommand_named
 rules_row = (refl, refl, refl, refl, refl, refl, refl, refl, refl)
+
+-- a number decides the order of messages of live nodes, from 1 to 2^31 - 2; by the manual's rules there is none to decide
+number_row : (asks (codes "run" ∷ codes "--rules=otp25" ∷ codes "--pick=7" ∷ []) ≡ Some (RunLive (Drawn 7)))
+    × (faults (codes "run" ∷ codes "--rules=otp25" ∷ codes "--pick=7" ∷ []) ≡ [])
+    × (asks (codes "run" ∷ codes "--pick" ∷ codes "2147483646" ∷ codes "--rules" ∷ codes "otp25" ∷ []) ≡ Some (RunLive (Drawn 2147483646)))
+    × (asks (codes "run" ∷ codes "--rules=otp25" ∷ codes "--pick=0" ∷ []) ≡ None)
+    × (asks (codes "run" ∷ codes "--rules=otp25" ∷ codes "--pick=2147483647" ∷ []) ≡ None)
+    × (asks (codes "run" ∷ codes "--rules=otp25" ∷ codes "--pick=middle" ∷ []) ≡ None)
+    × (asks (codes "run" ∷ codes "--pick=7" ∷ []) ≡ None)
+    × (asks (codes "run" ∷ codes "--pick=middle" ∷ []) ≡ None)
+    × (faults (codes "story" ∷ codes "--pick=7" ∷ []) ≡ kind.InvalidValue ∷ [])
+unfolding clap_on_literals subcommand_named
+number_row = (refl, refl, refl, refl, refl, refl, refl, refl, refl)
 
 -- each word beside the choice, and both; a word that stands twice, and one that is given a value
 flags_row : (asks (codes "run" ∷ codes "--echo" ∷ []) ≡ Some (RunIn First (record { echo = true; strict = false })))
@@ -164,7 +178,7 @@ unfolding clap_on_literals subcommand_named
 explore_json_row = (refl, refl, refl)
 
 -- another choice, an option that a subcommand hasn't, one that stands twice
-options_row : (faults (codes "run" ∷ codes "--pick" ∷ codes "middle" ∷ []) ≡ kind.InvalidValue ∷ [])
+options_row : (faults (codes "sweep" ∷ codes "--pick" ∷ codes "middle" ∷ []) ≡ kind.InvalidValue ∷ [])
     × (faults (codes "check" ∷ codes "--pick" ∷ codes "last" ∷ []) ≡ kind.UnknownArgument ∷ [])
     × (faults (codes "run" ∷ codes "--workers" ∷ codes "4" ∷ []) ≡ kind.UnknownArgument ∷ [])
     × (faults (codes "run" ∷ codes "--pick=last" ∷ codes "--pick=last" ∷ []) ≡ kind.ArgumentConflict ∷ [])

@@ -15,6 +15,8 @@ use Rattle.clap.specs.declared.error.kind.ErrorKind.TheVariants as kind
 use Rattle.rh_rules.specs.declared.pick.Pick.{Pick}
 use Rattle.rh_rules.specs.declared.pick.Pick.TheVariants.{First, Last}
 use Rattle.rh_plans.specs.declared.workers.TheConstants.{MAX_WORKERS}
+use Rattle.rh_otp_net.specs.declared.order.Order.{Order}
+use Rattle.rh_otp_net.specs.declared.order.Order.TheVariants as order
 use Rattle.rh_asked.specs.declared.manner.SearchRoom.{SearchRoom}
 use Rattle.rh_asked.specs.declared.program.Program.{Program}
 use Rattle.rh_asked.specs.declared.program.Program.TheVariants as program
@@ -22,7 +24,7 @@ use Rattle.rh_asked.specs.Programs.{IsStaffed}
 use Rattle.rh_command_line.specs.Table.{flag_word, subcommand_named}
 use Rattle.rh_command_line.specs.CommandLine.{AreNames, line}
 use Rattle.rh_command_line.specs.declared.building.Names.{Names}
-use Rattle.rh_command_line.specs.declared.table.TheConstants.{MOST_MEBIBYTES, MOST_STATES}
+use Rattle.rh_command_line.specs.declared.table.TheConstants.{MOST_MEBIBYTES, MOST_NUMBER, MOST_STATES}
 use Rattle.rh_command_line.specs.declared.table.Flag.{Flag}
 use Rattle.rh_command_line.specs.declared.table.Flag.TheVariants.{Echo, Strict, Json, Whole, Hints, All, Interactive}
 use Rattle.rh_command_line.specs.declared.table.Subcommand.{Subcommand}
@@ -43,6 +45,31 @@ pick_of word = if is_last word then Last else First
 -- the choice among the matches of a subcommand
 abbrev pub pick_in : List Row → Pick
 pick_in rows = pick_of (first_of (codes "pick") rows)
+
+-- the choice that a word names, where other words may stand there, too
+abbrev pub pick_named : Option Text → Option Pick
+pick_named None = None
+pick_named (Some word) =
+    if bytes_eq word (codes "first") then Some First else if bytes_eq word (codes "last") then Some Last else None
+
+-- a number that decides an order, if it may be this one; the one that a text means, and that among the matches
+abbrev pub allowed_number : ℕ → Option ℕ
+allowed_number number = if nat_le 1 number && nat_le number MOST_NUMBER then Some number else None
+
+abbrev pub number_of : Text → Option ℕ
+number_of text = if is_unsigned_in 1 MOST_NUMBER text then Some (digits_value 10 (without_leading_plus text)) else None
+
+abbrev pub number_in : List Row → Option ℕ
+number_in rows = option_and_then number_of (one_of (codes "pick") rows)
+
+-- the order of messages that a choice names, or a number decides
+abbrev pub order_of : Option Pick → Option ℕ → Option Order
+order_of (Some First) number = Some order.FirstComes
+order_of (Some Last) number = Some order.LastComes
+order_of None number = option_map order.Drawn number
+
+abbrev pub order_in : List Row → Option Order
+order_in rows = order_of (pick_named (first_of (codes "pick") rows)) (number_in rows)
 
 -- a number of workers, if there may be so many
 abbrev pub allowed : ℕ → Option ℕ
@@ -113,16 +140,21 @@ is_live (Some word) = bytes_eq word (codes "otp25")
 abbrev pub is_live_in : List Row → Bool
 is_live_in rows = is_live (first_of (codes "rules") rows)
 
--- a run on live nodes: it has no other manner, and no choice at a tie
-abbrev pub live_run : Pick → Bool → Option Program
-live_run First other = if other then None else Some program.RunLive
-live_run Last other = None
+-- a run on live nodes, with messages in this order: it has no other manner
+abbrev pub live_run : Option Order → Bool → Option Program
+live_run None other = None
+live_run (Some order) other = if other then None else Some (program.RunLive order)
+
+-- a run by the manual's rules, where this choice is named
+abbrev pub manual_run : Option Pick → Bool → Bool → Bool → Bool → Option Program
+manual_run None echo strict json interactive = None
+manual_run (Some pick) echo strict json interactive = run_as pick echo strict json interactive
 
 -- a run by the rules that are named
 abbrev pub run_in : List Row → Option Program
 run_in rows =
-    if is_live_in rows then live_run (pick_in rows) (flag_in Echo rows || flag_in Strict rows || flag_in Json rows || flag_in Interactive rows)
-    else run_as (pick_in rows) (flag_in Echo rows) (flag_in Strict rows) (flag_in Json rows) (flag_in Interactive rows)
+    if is_live_in rows then live_run (order_in rows) (flag_in Echo rows || flag_in Strict rows || flag_in Json rows || flag_in Interactive rows)
+    else manual_run (pick_named (first_of (codes "pick") rows)) (flag_in Echo rows) (flag_in Strict rows) (flag_in Json rows) (flag_in Interactive rows)
 
 -- a list of what is wrong, in this manner
 abbrev pub lint_of : Pick → Bool → Bool → Bool → Program

@@ -27,6 +27,15 @@ pick_option names = record (new_rule (codes "pick")) {
   parser = Some (parser.Names names.picks);
 }
 
+-- `--pick WORD`, any word, and `first` where it isn't given: which words mean something is asked behind the parser
+abbrev pub word_option : Rule
+word_option = record (new_rule (codes "pick")) {
+  long = Some (codes "pick");
+  action = Some Set;
+  defaults = codes "first" ∷ [];
+  parser = Some parser.String;
+}
+
 -- `--rules NAME`, one of these names, and `manual` where it isn't given
 abbrev pub rules_option : Names → Rule
 rules_option names = record (new_rule (codes "rules")) {
@@ -70,6 +79,7 @@ flag_option word = record (new_rule word) { long = Some word; action = Some SetT
 -- what each option of the table is read as
 abbrev pub setting_option : Names → Setting → Rule
 setting_option names setting.Pick = pick_option names
+setting_option names setting.PickOrNumber = word_option
 setting_option names setting.Rules = rules_option names
 setting_option names setting.Workers = workers_option
 setting_option names setting.States = states_option

@@ -5,7 +5,7 @@ ghost use Rattle.clap.specs.Words.{App, app_of, kind_of, rule_of};
 ghost use Rattle.clap.specs.declared.error.kind.ErrorKind.{ErrorKind};
 ghost use Rattle.clap.specs.declared.error.kind.ErrorKind.TheVariants as kind;
 ghost use Rattle.rh_command_line.specs.Table.{flag_word};
-ghost use Rattle.rh_command_line.specs.CommandLine.{IsCommand, flag_option, line, memory_option, pick_option, rules_option, setting_option, states_option, subcommand_line, with_settings, with_subcommands, workers_option};
+ghost use Rattle.rh_command_line.specs.CommandLine.{IsCommand, flag_option, line, memory_option, pick_option, rules_option, setting_option, states_option, subcommand_line, with_settings, with_subcommands, word_option, workers_option};
 
 use crate::help::{ABOUT, AFTER_HELP};
 use crate::table::{Flag, MOST_MEBIBYTES, MOST_STATES, SUBCOMMANDS, Setting, Subcommand};
@@ -99,6 +99,7 @@ fn argument<'a>(parts: Parts<'a>, setting: Setting) -> Arg<'a>
 {
     match setting {
         Setting::Pick => pick_argument(parts),
+        Setting::PickOrNumber => pick_or_number_argument(parts),
         Setting::Rules => rules_argument(parts),
         Setting::Workers => workers_argument(parts),
         Setting::States => states_argument(parts),
@@ -118,6 +119,21 @@ fn pick_argument<'a>(parts: Parts<'a>) -> Arg<'a>
         .value_parser(ValueParser::Names(parts.names.picks))
         .default_value("first")
         .help("At a tie, takes the node that is written first or last in its group")
+}
+
+// The same where a number may stand, too, as an argument.
+fn pick_or_number_argument<'a>(parts: Parts<'a>) -> Arg<'a>
+    ensures rule { rule_of result ≡ word_option }
+    ensures local { result.global ≡ false }
+{
+    Arg::new(parts.alloc, "pick")
+        .long("pick")
+        .action(ArgAction::Set)
+        .value_parser(ValueParser::String)
+        .default_value("first")
+        .help(
+            "At a tie, takes the node that is written first or last in its group; on live nodes, takes messages so, or as a number decides [values: first, last, N]",
+        )
 }
 
 // The rules by which a script is answered, as an argument.

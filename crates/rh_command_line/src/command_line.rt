@@ -7,7 +7,7 @@ ghost use Rattle.rh_command_line.specs.Asking.{AsksFor, IsAsked, IsAskedBy, IsNo
 ghost use Rattle.rh_command_line.specs.CommandLine.{AreNames};
 
 use crate::building::{Names, whole_command};
-use crate::reading::program_among;
+use crate::reading::{program_among, why_none};
 use clap::Error;
 use clap::error::ErrorKind;
 use rh_asked::Program;
@@ -114,10 +114,6 @@ fn program_of(alloc: Global, words: &[String]) -> Result<Program, Error>
     let matches = command.try_get_matches_from(words)?;
     match program_among(&matches) {
         Some(program) => Ok(program),
-        None => Err(refusal(
-            alloc,
-            ErrorKind::InvalidSubcommand,
-            "no program has this name and these options",
-        )?),
+        None => Err(refusal(alloc, ErrorKind::InvalidSubcommand, why_none(&matches))?),
     }
 }

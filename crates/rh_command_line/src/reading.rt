@@ -2,16 +2,17 @@
 
 ghost use Rattle.std.specs.Prelude.{◌≡◌, ◌≢◌, IfSome, Some, codes, if◌then◌else◌};
 ghost use Rattle.std.specs.Option.{option_map};
-ghost use Rattle.clap.specs.Words.{found_of, rows_of, subcommand_rows_of};
+ghost use Rattle.clap.specs.Words.{first_of, found_of, rows_of, subcommand_rows_of};
 ghost use Rattle.rh_rules.specs.declared.pick.Pick.TheVariants as pick;
 ghost use Rattle.rh_plans.specs.Workers.{AreWorkers};
 ghost use Rattle.rh_asked.specs.Programs.{IsStaffed};
 ghost use Rattle.rh_asked.specs.declared.program.Program.TheVariants as program;
-ghost use Rattle.rh_command_line.specs.Asking.{allowed, allowed_memory, allowed_states, answering, explore_of, flag_in, is_given, is_live, is_live_in, lint_of, live_run, memory_in, pick_in, program_among, program_in, program_of, room_in, run_as, run_in, run_of, states_in, sweep_of, workers_in};
+ghost use Rattle.rh_command_line.specs.Asking.{allowed, allowed_memory, allowed_number, allowed_states, answering, explore_of, flag_in, is_given, is_live, is_live_in, lint_of, live_run, manual_run, memory_in, number_in, order_in, order_of, pick_in, pick_named, program_among, program_in, program_of, room_in, run_as, run_in, run_of, states_in, sweep_of, workers_in};
 
-use crate::table::{Flag, MOST_MEBIBYTES, MOST_STATES, Subcommand, subcommand_named};
+use crate::table::{Flag, MOST_MEBIBYTES, MOST_NUMBER, MOST_STATES, Subcommand, subcommand_named};
 use clap::ArgMatches;
 use rh_asked::{LintManner, Manner, Program, SearchRoom};
+use rh_otp_net::Order;
 use rh_plans::MAX_WORKERS;
 use rh_rules::Pick;
 
@@ -22,6 +23,29 @@ pub fn program_among(matches: &ArgMatches<'_>) -> Option<Program>
 {
     let (name, matches) = matches.subcommand()?;
     program_in(name, matches)
+}
+
+/// Why matches of the whole command line name no program, in words.
+pub fn why_none<'a>(matches: &ArgMatches<'_>) -> &'a str {
+    match matches.subcommand() {
+        Some(("run", matches)) => why_no_run(matches),
+        _ => "no program has this name and these options",
+    }
+}
+
+// Why there is no such run.
+fn why_no_run<'a>(matches: &ArgMatches<'_>) -> &'a str {
+    if is_live_in(matches) {
+        if order_in(matches).is_some() {
+            "--rules otp25 goes with no other option than --pick"
+        } else {
+            "with --rules otp25, --pick takes first, last or a number from 1 to 2147483646"
+        }
+    } else if named_in(matches).is_some() {
+        "--json and --interactive go with neither --echo nor --strict"
+    } else {
+        "--pick takes first or last, and a number only with --rules otp25"
+    }
 }
 
 // The program of the subcommand with this word and these matches.
@@ -81,27 +105,40 @@ fn run_in(matches: &ArgMatches<'_>) -> Option<Program>
     ensures named { result ≡ run_in (rows_of (found_of matches.now)) }
     ensures staffed { IfSome result IsStaffed }
 {
-    let pick = pick_in(matches);
     let echo = flag_in(matches, Flag::Echo);
     let strict = flag_in(matches, Flag::Strict);
     let json = flag_in(matches, Flag::Json);
     let interactive = flag_in(matches, Flag::Interactive);
     if is_live_in(matches) {
-        live_run(pick, echo || strict || json || interactive)
+        live_run(order_in(matches), echo || strict || json || interactive)
     } else {
-        run_as(pick, echo, strict, json, interactive)
+        manual_run(named_in(matches), echo, strict, json, interactive)
     }
 }
 
-// A run on live nodes: it has no other manner, and no choice at a tie.
-fn live_run(pick: Pick, other: bool) -> Option<Program>
-    ensures named { result ≡ live_run pick other }
+// A run on live nodes, if the order of messages is known: it has no other manner.
+fn live_run(order: Option<Order>, other: bool) -> Option<Program>
+    ensures named { result ≡ live_run order other }
     ensures staffed { IfSome result IsStaffed }
 {
-    match pick {
-        Pick::First if !other => Some(Program::RunLive),
+    match order {
+        Some(order) if !other => Some(Program::RunLive(order)),
         _ => None,
     }
+}
+
+// A run by the manual's rules, if the choice is known.
+fn manual_run(
+    pick: Option<Pick>,
+    echo: bool,
+    strict: bool,
+    json: bool,
+    interactive: bool,
+) -> Option<Program>
+    ensures named { result ≡ manual_run pick echo strict json interactive }
+    ensures staffed { IfSome result IsStaffed }
+{
+    run_as(pick?, echo, strict, json, interactive)
 }
 
 // A run, by JSON or not, line by line or not: only the one that is neither has another manner.
@@ -230,6 +267,69 @@ fn pick_of(word: Option<&str>) -> Pick
         Some("last") => Pick::Last,
         _ => Pick::First,
     }
+}
+
+// The choice that is named, where other words may stand there, too.
+fn named_in(matches: &ArgMatches<'_>) -> Option<Pick>
+    ensures { result ≡ pick_named (first_of (codes "pick") (rows_of (found_of matches.now))) }
+{
+    pick_named(matches.get_str("pick"))
+}
+
+// The choice that this word names, if it names one.
+fn pick_named(word: Option<&str>) -> Option<Pick>
+    ensures { result ≡ pick_named (option_map (λ word. word.now) word.entry) }
+{
+    let word = word?;
+    if word == "first" {
+        Some(Pick::First)
+    } else if word == "last" {
+        Some(Pick::Last)
+    } else {
+        None
+    }
+}
+
+// The number that decides an order, if it may be this one.
+fn number_in(matches: &ArgMatches<'_>) -> Option<u32>
+    ensures { result ≡ number_in (rows_of (found_of matches.now)) }
+{
+    match matches.get_one::<usize>("pick") {
+        Some(number) => allowed_number(number),
+        None => None,
+    }
+}
+
+// This number, if it may be this one.
+fn allowed_number(number: usize) -> Option<u32>
+    ensures { result ≡ allowed_number number }
+{
+    if number >= 1 && number <= MOST_NUMBER {
+        Some(number as u32)
+    } else {
+        None
+    }
+}
+
+// The order of messages, by the choice that is named or by a number.
+fn order_of(pick: Option<Pick>, number: Option<u32>) -> Option<Order>
+    ensures { result ≡ order_of pick number }
+{
+    match pick {
+        Some(Pick::First) => Some(Order::FirstComes),
+        Some(Pick::Last) => Some(Order::LastComes),
+        None => match number {
+            Some(number) => Some(Order::Drawn(number)),
+            None => None,
+        },
+    }
+}
+
+// The order of messages.
+fn order_in(matches: &ArgMatches<'_>) -> Option<Order>
+    ensures { result ≡ order_in (rows_of (found_of matches.now)) }
+{
+    order_of(named_in(matches), number_in(matches))
 }
 
 // The number of workers, if there may be so many.

@@ -65,11 +65,16 @@ pub const MOST_STATES: usize = 4_294_967_295;
 /// The most mebibytes that the keys of a search can be asked to take: a tebibyte.
 pub const MOST_MEBIBYTES: usize = 1_048_576;
 
+/// The greatest number that can decide the order of messages: two less than 2^31.
+pub const MOST_NUMBER: usize = 2_147_483_646;
+
 /// An option of a subcommand.
 #[derive(Clone, Copy)]
 pub enum Setting {
     /// The choice at a tie.
     Pick,
+    /// The same, or on live nodes the order of messages, which a number can decide.
+    PickOrNumber,
     /// The rules by which a script is answered.
     Rules,
     /// The number of workers.
@@ -110,7 +115,7 @@ static PICK_WORKERS_STATES_MEMORY_JSON: [Setting; 5] = [
 ];
 
 static PICK_RULES_ECHO_STRICT_JSON_INTERACTIVE: [Setting; 6] = [
-    Setting::Pick,
+    Setting::PickOrNumber,
     Setting::Rules,
     Setting::Flag(Flag::Echo),
     Setting::Flag(Flag::Strict),

@@ -13,6 +13,7 @@ use Rattle.rh_script.specs.Commands.{calls_of}
 use Rattle.rh_script.specs.Answers.{fault_text}
 use Rattle.rh_run.specs.declared.fault.Told.{Told}
 use Rattle.rh_run.specs.RunText.{bad_line, end_text, lines_asked, run_end, Wrote}
+use Rattle.rh_otp_net.specs.declared.order.Order.{Order}
 use Rattle.rh_otp_file.specs.Files.{own_files}
 use Rattle.rh_otp_sim.specs.Sim.{LiveSimView, opened}
 use Rattle.rh_otp_sim.specs.Calls.{made_by, reply_to}
@@ -32,17 +33,17 @@ abbrev pub script_text : LiveSimView → ℕ → List Line → List ℕ
 script_text sim k lines = answers_text sim (calls_of lines) ++ end_text (bad_line k lines)
 
 -- the text for a cluster of this text and a script, or for the fault of a text that is no cluster
-abbrev pub text_over : List ℕ → List (List ℕ) → Result ClusterView ClusterFault → List ℕ
-text_over text lines (Ok c) = script_text (opened c (own_files c text)) 1 (lines_asked c lines)
-text_over text lines (Err f) = fault_text f
+abbrev pub text_over : Order → List ℕ → List (List ℕ) → Result ClusterView ClusterFault → List ℕ
+text_over order text lines (Ok c) = script_text (opened c (own_files c text) order) 1 (lines_asked c lines)
+text_over order text lines (Err f) = fault_text f
 
--- what is written
-unfoldable pub live_text : List ℕ → List ℕ
-live_text bytes = text_over (cluster_text bytes) (script_lines bytes) (cluster_of (cluster_text bytes))
+-- what is written, where messages are taken in this order
+unfoldable pub live_text : Order → List ℕ → List ℕ
+live_text order bytes = text_over order (cluster_text bytes) (script_lines bytes) (cluster_of (cluster_text bytes))
 
 -- what a run on live nodes owes: its text, and at its end the fault that a run by the manual's rules tells
-abbrev pub OwesLiveRun : List ℕ → List ℕ → Option Told → Type 0
-OwesLiveRun bytes text owed = (text ≡ live_text bytes) × (owed ≡ run_end bytes)
+abbrev pub OwesLiveRun : Order → List ℕ → List ℕ → Option Told → Type 0
+OwesLiveRun order bytes text owed = (text ≡ live_text order bytes) × (owed ≡ run_end bytes)
 
 -- ---- how it is written
 

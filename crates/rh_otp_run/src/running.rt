@@ -17,13 +17,15 @@ use rh_cluster::{Cluster, read_cluster};
 use rh_devices::{Sink, Source, Watched, WriteFault, read_input, write_text};
 use rh_otp_file::own_files;
 use rh_otp_model::OwnFile;
+use rh_otp_net::Order;
 use rh_otp_sim::{LiveReply, LiveSim};
 use rh_otp_text::reply_text;
 use rh_run::{RunFault, Told, answer_bad, ended, write_fault};
 use rh_script::{Line, content, cut, line_of, split_line};
 use std::alloc::Global;
 
-/// Reads all of the input, a cluster file, a line `===` and a script, and then writes the answer of live nodes to each command.
+/// Reads all of the input, a cluster file, a line `===` and a script, and then writes the answer of live nodes to each command, with
+/// messages taken in this order.
 ///
 /// It ends at the first line that is no command. The input has at most 16,777,216 bytes. Neither device is flushed.
 ///
@@ -35,14 +37,15 @@ pub fn run_live<S: Source, K: Sink>(
     alloc: Global,
     reader: &mut Watched<S>,
     writer: &mut Watched<K>,
+    order: Order,
 ) -> Result<(), RunFault>
     requires reader { reader.old.failed ≡ false }
     requires writer { writer.old.failed ≡ false }
     ensures { ProgramGives S.gives S.fails K.takes K.fails
-        OwesLiveRun NoThreads result reader.old reader.new writer.old writer.new }
+        (OwesLiveRun order) NoThreads result reader.old reader.new writer.old writer.new }
 {
     let input = read_input(alloc, reader)?;
-    let told = answer_input(alloc, input.as_slice(), writer)?;
+    let told = answer_input(alloc, input.as_slice(), writer, order)?;
     ended(told)
 }
 
@@ -52,9 +55,10 @@ fn answer_input<K: Sink>(
     alloc: Global,
     input: &[u8],
     writer: &mut Watched<K>,
+    order: Order,
 ) -> Result<Option<Told>, WriteFault>
     requires { writer.old.failed ≡ false }
-    ensures { Wrote K.takes K.fails result (live_text input.now)
+    ensures { Wrote K.takes K.fails result (live_text order input.now)
         (run_end input.now) writer.old writer.new }
 {
     let (text, script) = cut(input);
@@ -68,7 +72,7 @@ fn answer_input<K: Sink>(
         }
         Ok(cluster) => {
             let files = own_files(alloc, &cluster, text)?;
-            let bad = answer_script(alloc, cluster, files, script, writer)?;
+            let bad = answer_script(alloc, cluster, files, order, script, writer)?;
             Ok(bad.map(Told::BadLine))
         }
     }
@@ -79,15 +83,16 @@ fn answer_script<K: Sink>(
     alloc: Global,
     cluster: Cluster,
     files: Vec<OwnFile>,
+    order: Order,
     script: &[u8],
     writer: &mut Watched<K>,
 ) -> Result<Option<u64>, WriteFault>
     requires { writer.old.failed ≡ false }
-    ensures { Wrote K.takes K.fails result (script_text (opened cluster files.items) 1
+    ensures { Wrote K.takes K.fails result (script_text (opened cluster files.items order) 1
         (lines_asked cluster (map content (raw_lines script.now)))) (bad_line 1
         (lines_asked cluster (map content (raw_lines script.now)))) writer.old writer.new }
 {
-    let mut sim = LiveSim::open(alloc, cluster, files)?;
+    let mut sim = LiveSim::open(alloc, cluster, files, order)?;
     answer_lines(alloc, &mut sim, script, writer)
 }
 

@@ -8,6 +8,7 @@ use Rattle.rh_otp_system.specs.declared.calls.Ask.{Ask}
 use Rattle.rh_otp_system.specs.declared.calls.Ask.TheVariants as ask
 use Rattle.rh_otp_system.specs.State.{SystemView, system_of}
 use Rattle.rh_otp_system.specs.Views.{NetView}
+use Rattle.rh_otp_net.specs.declared.order.Order.{Order}
 use Rattle.rh_otp_system.proofs.Kept.{kept_settled, kept_booted, kept_called, kept_ticked, kept_crashed}
 use Rattle.rh_otp_system.specs.Resting.{forgotten, rested}
 use Rattle.rh_otp_sim.specs.Acting.{most_moves, waits_for_end, booted_if, called_if, called_at, time_passed, done_first, acted_at_once, acted}
@@ -32,8 +33,8 @@ kept_calls : (a : Ask) (nodes : List Node) (app : App) (s : SystemView) → Kept
 kept_calls a [] app s = refl
 kept_calls a (n ∷ nodes) app s = kept_calls a nodes app _ ∙ kept_call a n app s
 
-kept_time : (ms : ℕ) (s : SystemView) → Kept s (time_passed ms s)
-kept_time ms s = either _ _ _ s (kept_ticked _ _ s) refl
+kept_time : (ms : ℕ) (o : Order) (s : SystemView) → Kept s (time_passed ms o s)
+kept_time ms o s = either _ _ _ s (kept_ticked _ _ o s) refl
 
 kept_first : (e : Event) (sim : LiveSimView) (s : SystemView) → Kept s (done_first e sim s)
 kept_first (event.Boot n) sim s = kept_boot n s
@@ -49,13 +50,13 @@ kept_first (event.StopAll a) sim s = kept_calls _ (hosts sim a) a s
 
 kept_done : (most : ℕ) (e : Event) (sim : LiveSimView) (s : SystemView) → Kept s (acted_at_once most e sim s)
 unfolding acted_at_once
-kept_done most e sim s = kept_settled most (done_first e sim s) ∙ kept_first e sim s
+kept_done most e sim s = kept_settled most sim.order (done_first e sim s) ∙ kept_first e sim s
 
 kept_acted : (e : Event) (sim : LiveSimView) (s : SystemView) → Kept s (acted e sim s)
 unfolding acted
 kept_acted (event.Boot n) sim s = kept_done most_moves (event.Boot n) sim s
 kept_acted (event.Crash n) sim s = kept_done most_moves (event.Crash n) sim s
-kept_acted (event.Tick ms) sim s = kept_time ms s
+kept_acted (event.Tick ms) sim s = kept_time ms sim.order s
 kept_acted (event.Start n a restart) sim s = kept_done most_moves (event.Start n a restart) sim s
 kept_acted (event.Stop n a) sim s = kept_done most_moves (event.Stop n a) sim s
 kept_acted (event.Permit n a allow) sim s = kept_done most_moves (event.Permit n a allow) sim s

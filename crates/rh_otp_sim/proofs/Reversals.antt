@@ -131,11 +131,11 @@ undone_step cells sim within closed =
     ∙ get_or_from_slice_get h.states h.cursor h.now [] closed
 
 pub live_calls_reversible : LiveCallsAreReversible
-live_calls_reversible cluster files calls =
+live_calls_reversible cluster files order calls =
     let first : List Cell = first_cells (node_count cluster) in
-    let sim : LiveSimView = behind calls (opened cluster files) in
+    let sim : LiveSimView = behind calls (opened cluster files order) in
     let from : IsFrom first sim.history =
-    behind_from first calls (opened cluster files) (record { within = omega arith; closed = refl; begins = refl }) in
+    behind_from first calls (opened cluster files order) (record { within = omega arith; closed = refl; begins = refl }) in
     record {
       closed = from.closed;
       made_again = λ can. redone_undone sim can from.within from.closed;

@@ -13,6 +13,7 @@ use Rattle.rh_otp_model.specs.declared.process.StartType.TheVariants.{Normal}
 use Rattle.rh_otp_model.specs.declared.wait.OwnFile.{OwnFile}
 use Rattle.rh_otp_model.specs.declared.wait.Wait.TheVariants as wait
 use Rattle.rh_otp_model.specs.Own.{OwnView}
+use Rattle.rh_otp_net.specs.declared.order.Order.TheVariants.{FirstComes}
 use Rattle.rh_otp_sim.specs.declared.lines.Answer.TheVariants.{Told, NoAnswer}
 use Rattle.rh_otp_sim.specs.declared.lines.Line.TheVariants as line
 use Rattle.rh_otp_sim.specs.declared.stepping.Outcome.TheVariants as outcome
@@ -108,7 +109,7 @@ abbrev file : OwnFile
 file = record { own = own; wait = wait.After 12000 }
 
 abbrev first : LiveSimView
-first = opened cluster (file ∷ file ∷ [])
+first = opened cluster (file ∷ file ∷ []) FirstComes
 
 abbrev waiting : LiveSimView
 waiting = stepped (event.Boot n1) first
@@ -196,7 +197,7 @@ silent_file = record {
 }
 
 abbrev third : LiveSimView
-third = opened apart (silent_file ∷ silent_file ∷ silent_file ∷ [])
+third = opened apart (silent_file ∷ silent_file ∷ silent_file ∷ []) FirstComes
 
 abbrev one : LiveSimView
 one = stepped (event.Boot m3) third

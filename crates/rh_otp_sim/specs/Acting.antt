@@ -5,6 +5,7 @@ use Rattle.rh_model.specs.declared.node.App.{App}
 use Rattle.rh_model.specs.declared.node.Node.{Node}
 use Rattle.rh_rules.specs.declared.event.Event.{Event}
 use Rattle.rh_rules.specs.declared.event.Event.TheVariants as event
+use Rattle.rh_otp_net.specs.declared.order.Order.{Order}
 use Rattle.rh_otp_system.specs.declared.calls.Ask.{Ask}
 use Rattle.rh_otp_system.specs.declared.calls.Ask.TheVariants as ask
 use Rattle.rh_otp_system.specs.Doing.{booted, called, ticked, is_ticked}
@@ -38,11 +39,11 @@ called_at asked [] a s = s
 called_at asked (n ∷ nodes) a s = called_at asked nodes a (called_if asked n a s)
 
 -- time passes, if the clock reaches so far
-abbrev pub time_passed : ℕ → SystemView → SystemView
-time_passed ms s = if nat_lt (s.clock + ms) (2 ^ 64) then ticked (s.clock + ms) most_moves s else s
+abbrev pub time_passed : ℕ → Order → SystemView → SystemView
+time_passed ms order s = if nat_lt (s.clock + ms) (2 ^ 64) then ticked (s.clock + ms) most_moves order s else s
 
-abbrev pub is_passed : ℕ → SystemView → Bool
-is_passed ms s = if nat_lt (s.clock + ms) (2 ^ 64) then is_ticked (s.clock + ms) most_moves s else true
+abbrev pub is_passed : ℕ → Order → SystemView → Bool
+is_passed ms order s = if nat_lt (s.clock + ms) (2 ^ 64) then is_ticked (s.clock + ms) most_moves order s else true
 
 -- what an event does at first, but for time that passes
 abbrev pub done_first : Event → LiveSimView → SystemView → SystemView
@@ -59,17 +60,17 @@ done_first (event.StopAll a) sim s = called_at ask.Stop (hosts sim a) a s
 
 -- what an event does at once, until nothing moves, so often at most
 unfoldable pub acted_at_once : ℕ → Event → LiveSimView → SystemView → SystemView
-acted_at_once most e sim s = settled most (done_first e sim s)
+acted_at_once most e sim s = settled most sim.order (done_first e sim s)
 
 unfoldable pub is_quiet_at_once : ℕ → Event → LiveSimView → SystemView → Bool
-is_quiet_at_once most e sim s = is_settled_by most (done_first e sim s)
+is_quiet_at_once most e sim s = is_settled_by most sim.order (done_first e sim s)
 
 -- what an event does, until nothing moves
 unfoldable pub acted : Event → LiveSimView → SystemView → SystemView
-acted (event.Tick ms) sim s = time_passed ms s
+acted (event.Tick ms) sim s = time_passed ms sim.order s
 acted e sim s = acted_at_once most_moves e sim s
 
 -- is all quiet behind it?
 unfoldable pub is_acted : Event → LiveSimView → SystemView → Bool
-is_acted (event.Tick ms) sim s = is_passed ms s
+is_acted (event.Tick ms) sim s = is_passed ms sim.order s
 is_acted e sim s = is_quiet_at_once most_moves e sim s

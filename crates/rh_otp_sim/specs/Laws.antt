@@ -4,6 +4,7 @@ use Rattle.rh_model.specs.ClusterView.{ClusterView, node_count}
 use Rattle.rh_history.specs.HistoryView.{IsClosed}
 use Rattle.rh_calls.specs.declared.call.Call.{Call}
 use Rattle.rh_otp_model.specs.declared.wait.OwnFile.{OwnFile}
+use Rattle.rh_otp_net.specs.declared.order.Order.{Order}
 use Rattle.rh_otp_system.specs.declared.cell.Cell.{Cell}
 use Rattle.rh_otp_sim.specs.Sim.{LiveSimView, opened, first_cells, at_step_of, can_undo, can_redo, undone, redone}
 use Rattle.rh_otp_sim.specs.Calls.{made_by}
@@ -25,7 +26,7 @@ pub record IsReversible (cells : List Cell) (sim : LiveSimView) : Type 0 where
   -- any step that is written is undone: the cells, pending timers and open calls included, are as they were
   pub step_undone : (written : List Cell) → (undone (with_step written sim)).history.now ≡ sim.history.now
 
--- after any calls to a new simulation of any cluster, whatever its nodes' own files say
+-- after any calls to a new simulation of any cluster, whatever its nodes' own files say and in which order messages are taken
 abbrev pub LiveCallsAreReversible : Type 0
-LiveCallsAreReversible = (cluster : ClusterView) (files : List OwnFile) (calls : List Call)
-    → IsReversible (first_cells (node_count cluster)) (behind calls (opened cluster files))
+LiveCallsAreReversible = (cluster : ClusterView) (files : List OwnFile) (order : Order) (calls : List Call)
+    → IsReversible (first_cells (node_count cluster)) (behind calls (opened cluster files order))

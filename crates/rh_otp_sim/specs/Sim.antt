@@ -5,17 +5,19 @@ use Rattle.rh_model.specs.ClusterView.{ClusterView, node_count}
 use Rattle.rh_model.specs.declared.node.Node.{Node}
 use Rattle.rh_history.specs.HistoryView.{HistoryView, at_step}
 use Rattle.rh_otp_model.specs.declared.wait.OwnFile.{OwnFile}
+use Rattle.rh_otp_net.specs.declared.order.Order.{Order}
 use Rattle.rh_otp_node.specs.Live.{LiveView, never_begun}
 use Rattle.rh_otp_system.specs.declared.cell.Cell.{Cell}
 use Rattle.rh_otp_system.specs.declared.cell.Cell.TheVariants as cell
 use Rattle.rh_otp_system.specs.Views.{NetView}
 use Rattle.rh_otp_system.specs.State as system
 
--- the cluster, what its nodes' own files say, and the history of the cells: a cell for each node, and the last one for what is between
--- them
+-- the cluster, what its nodes' own files say, the order in which messages are taken at each command, and the history of the cells: a
+-- cell for each node, and the last one for what is between them
 pub record LiveSimView : Type 0 where
   pub cluster : ClusterView
   pub files : List OwnFile
+  pub order : Order
   pub history : HistoryView Cell
 
 -- nothing has happened between the nodes
@@ -38,10 +40,11 @@ abbrev pub first_cells : ℕ → List Cell
 first_cells nodes = replicate nodes (cell.Node never_begun) ++ cell.Net first_net ∷ []
 
 -- the simulation in which no node has begun, with no step
-abbrev pub opened : ClusterView → List OwnFile → LiveSimView
-opened cluster files = record {
+abbrev pub opened : ClusterView → List OwnFile → Order → LiveSimView
+opened cluster files order = record {
   cluster = cluster;
   files = files;
+  order = order;
   history = record {
     now = first_cells (node_count cluster);
     states = first_cells (node_count cluster) ∷ [];

@@ -7,6 +7,7 @@ ghost use Rattle.rh_otp_sim.specs.Acting.{waits_for_end, booted_if, called_if, c
 use crate::sim::LiveSim;
 use rh_base::OutOfMemory;
 use rh_model::{App, Node};
+use rh_otp_net::Order;
 use rh_otp_system::{Ask, System};
 use rh_rules::Event;
 use std::alloc::Global;
@@ -51,13 +52,13 @@ fn call_at(system: &mut System, ask: Ask, nodes: &[Node], app: App) -> Result<()
     Ok(())
 }
 
-// Time passes. Is all quiet behind it?
-fn pass(system: &mut System, ms: u64) -> Result<bool, OutOfMemory>
-    ensures is_quiet { IfOk result (λ is_quiet. is_quiet ≡ is_passed ms system.old) }
-    ensures state { OnOk result (system.new ≡ time_passed ms system.old) }
+// Time passes, and all moves in this order. Is all quiet behind it?
+fn pass(system: &mut System, ms: u64, order: Order) -> Result<bool, OutOfMemory>
+    ensures is_quiet { IfOk result (λ is_quiet. is_quiet ≡ is_passed ms order system.old) }
+    ensures state { OnOk result (system.new ≡ time_passed ms order system.old) }
 {
     match system.clock().checked_add(ms) {
-        Some(end) => system.tick(end, MOST_MOVES),
+        Some(end) => system.tick(end, MOST_MOVES, order),
         None => Ok(true),
     }
 }
@@ -116,7 +117,7 @@ impl LiveSim {
             (system.new ≡ acted_at_once most event self.now system.old) }
     {
         self.do_first(alloc, system, event)?;
-        system.settle(most)
+        system.settle(most, self.order)
     }
 
     // What an event does, until nothing moves. Is all quiet behind it?
@@ -131,7 +132,7 @@ impl LiveSim {
         ensures state { OnOk result (system.new ≡ acted event self.now system.old) }
     {
         match event {
-            Event::Tick { ms } => pass(system, ms),
+            Event::Tick { ms } => pass(system, ms, self.order),
             _ => self.act_at_once(alloc, system, event, MOST_MOVES),
         }
     }

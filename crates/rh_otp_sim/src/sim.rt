@@ -10,6 +10,7 @@ use rh_base::{Duplicate, OutOfMemory};
 use rh_history::History;
 use rh_model::{Cluster, Node};
 use rh_otp_model::OwnFile;
+use rh_otp_net::Order;
 use rh_otp_node::LiveNode;
 use rh_otp_system::{Cell, Net};
 use std::alloc::Global;
@@ -20,6 +21,8 @@ use std::marker::Model;
 pub struct LiveSim {
     pub(crate) cluster: Cluster,
     pub(crate) files: Vec<OwnFile>,
+    // In which order messages are taken at each command.
+    pub(crate) order: Order,
     // A cell for each node, and the last one for what is between them.
     pub(crate) history: History<Cell>,
 }
@@ -34,6 +37,7 @@ impl Model for LiveSim {
     ghost view = { λ s. record {
       cluster = s.cluster;
       files = s.files.items;
+      order = s.order;
       history = s.history;
     } };
 
@@ -54,18 +58,21 @@ fn first_cells(alloc: Global, nodes: usize) -> Result<Vec<Cell>, OutOfMemory>
 }
 
 impl LiveSim {
-    /// The simulation of this cluster, whose nodes' own files say this; no node has begun.
+    /// The simulation of this cluster, whose nodes' own files say this, with messages taken in this order at each command; no node
+    /// has begun.
     pub fn open(
         alloc: Global,
         cluster: Cluster,
         files: Vec<OwnFile>,
+        order: Order,
     ) -> Result<LiveSim, OutOfMemory>
-        ensures { IfOk result (λ sim. sim ≡ opened cluster files.items) }
+        ensures { IfOk result (λ sim. sim ≡ opened cluster files.items order) }
     {
         let cells = first_cells(alloc, cluster.node_count())?;
         Ok(LiveSim {
             cluster,
             files,
+            order,
             history: History::new(alloc, cells),
         })
     }

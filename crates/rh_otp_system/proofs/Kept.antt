@@ -22,9 +22,11 @@ use Rattle.rh_otp_model.specs.declared.wait.Wait.TheVariants as wait
 use Rattle.rh_otp_dist.specs.declared.outside.Need.{Need}
 use Rattle.rh_otp_dist.specs.declared.outside.Need.TheVariants as need
 use Rattle.rh_otp_net.specs.declared.links.Link.{Link}
+use Rattle.rh_otp_net.specs.declared.order.Order.{Order}
 use Rattle.rh_otp_net.specs.declared.timers.Timer.{Timer}
 use Rattle.rh_otp_net.specs.Links as links
 use Rattle.rh_otp_net.specs.Locks.{is_free}
+use Rattle.rh_otp_net.specs.Order.{next_order}
 use Rattle.rh_otp_net.specs.Queue.{first_of_pair}
 use Rattle.rh_otp_net.specs.Timers as timers
 use Rattle.rh_otp_node.specs.Kernel as kernel
@@ -380,12 +382,12 @@ kept_moved_by : (go_on : SystemView → SystemView) (next : Option Move) (s : Sy
 kept_moved_by go_on None s rest = refl
 kept_moved_by go_on (Some next) s rest = rest _ ∙ kept_made next s
 
-kept_moved : (most : ℕ) (s : SystemView) → Kept s (moves.moved most s)
-kept_moved zero s = refl
-kept_moved (suc most) s = kept_moved_by (moves.moved most) (moves.next_move s) s (kept_moved most)
+kept_moved : (most : ℕ) (o : Order) (s : SystemView) → Kept s (moves.moved most o s)
+kept_moved zero o s = refl
+kept_moved (suc most) o s = kept_moved_by (moves.moved most (next_order o)) (moves.next_move o s) s (kept_moved most (next_order o))
 
-pub kept_settled : (most : ℕ) (s : SystemView) → (moves.settled most s).nodes.base ≡ s.nodes.base
-kept_settled most s = kept_moved most (record s { answers = [] })
+pub kept_settled : (most : ℕ) (o : Order) (s : SystemView) → (moves.settled most o s).nodes.base ≡ s.nodes.base
+kept_settled most o s = kept_moved most o (record s { answers = [] })
 
 -- ---- Doing
 
@@ -435,26 +437,27 @@ kept_fired_next : (due : ℕ) (s : SystemView) → Kept s (doing.fired_next due 
 unfolding doing.fired_next
 kept_fired_next due s = kept_fired (timers.fired s.timers) (record s { clock = due; timers = timers.left s.timers })
 
-kept_passed_by : (go_on : SystemView → SystemView) (most : ℕ) (due : Option ℕ) (s : SystemView) → ((t : SystemView) → Kept t (go_on t))
-    → Kept s (doing.passed_by go_on most due s)
-kept_passed_by go_on most None s rest = refl
-kept_passed_by go_on most (Some due) s rest =
-    either (moves.is_settled_by most (doing.fired_next due s)) _ _ s (rest _ ∙ kept_settled most (doing.fired_next due s)
-    ∙ kept_fired_next due s) (kept_settled most (doing.fired_next due s) ∙ kept_fired_next due s)
+kept_passed_by : (go_on : SystemView → SystemView) (most : ℕ) (o : Order) (due : Option ℕ) (s : SystemView)
+    → ((t : SystemView) → Kept t (go_on t)) → Kept s (doing.passed_by go_on most o due s)
+kept_passed_by go_on most o None s rest = refl
+kept_passed_by go_on most o (Some due) s rest =
+    either (moves.is_settled_by most o (doing.fired_next due s)) _ _ s (rest _ ∙ kept_settled most o (doing.fired_next due s)
+    ∙ kept_fired_next due s) (kept_settled most o (doing.fired_next due s) ∙ kept_fired_next due s)
 
-kept_passed : (times end most : ℕ) (s : SystemView) → Kept s (doing.passed times end most s)
-kept_passed zero end most s = refl
-kept_passed (suc times) end most s = kept_passed_by (doing.passed times end most) most (doing.next_until end s) s (kept_passed times end most)
+kept_passed : (times end most : ℕ) (o : Order) (s : SystemView) → Kept s (doing.passed times end most o s)
+kept_passed zero end most o s = refl
+kept_passed (suc times) end most o s =
+    kept_passed_by (doing.passed times end most o) most o (doing.next_until end s) s (kept_passed times end most o)
 
-kept_ticked_behind : (end most : ℕ) (is_quiet : Bool) (s : SystemView) → Kept s (doing.ticked_behind end most is_quiet s)
-kept_ticked_behind end most true s = kept_passed most end most s
-kept_ticked_behind end most false s = refl
+kept_ticked_behind : (end most : ℕ) (o : Order) (is_quiet : Bool) (s : SystemView) → Kept s (doing.ticked_behind end most o is_quiet s)
+kept_ticked_behind end most o true s = kept_passed most end most o s
+kept_ticked_behind end most o false s = refl
 
-pub kept_ticked : (end most : ℕ) (s : SystemView) → (doing.ticked end most s).nodes.base ≡ s.nodes.base
+pub kept_ticked : (end most : ℕ) (o : Order) (s : SystemView) → (doing.ticked end most o s).nodes.base ≡ s.nodes.base
 unfolding doing.ticked
-kept_ticked end most s =
+kept_ticked end most o s =
     let begun : SystemView = record s { is_ticking = true } in
-    kept_ticked_behind end most (moves.is_settled_by most begun) (moves.settled most begun) ∙ kept_settled most begun
+    kept_ticked_behind end most o (moves.is_settled_by most o begun) (moves.settled most o begun) ∙ kept_settled most o begun
 
 pub kept_crashed : (n : Node) (s : SystemView) → (resting.crashed n s).nodes.base ≡ s.nodes.base
 kept_crashed n s = kept_ended n s

@@ -1,10 +1,13 @@
 -- What `settle` does are moves that the rules allow.
-use Rattle.std.proofs.Common.{◌≡◌, ◌+◌, ◌<◌, ℕ, zero, suc, Bool, true, false, cond, List, [], ◌∷◌, length, find, slice_get, Option, Some, None, refl, sym, ap, subst, ◌∙◌, arith}
+use Rattle.std.proofs.Common.{◌≡◌, ◌+◌, ◌-◌, ◌<◌, ℕ, zero, suc, Bool, true, false, cond, List, [], ◌∷◌, length, find, slice_get, Option, Some, None, refl, sym, ap, subst, ◌∙◌, arith}
 use Rattle.std.specs.Option.{option_map}
 use Rattle.std.proofs.lemmas.Bool.{false≢true}
 use Rattle.std.proofs.lemmas.Option.{none-some, same_Some}
 use Rattle.rh_model.specs.declared.node.Node.{Node}
 use Rattle.rh_otp_model.specs.declared.output.Envelope.{Envelope}
+use Rattle.rh_otp_net.specs.declared.order.Order.{Order}
+use Rattle.rh_otp_net.specs.declared.order.Order.TheVariants.{FirstComes, LastComes, Drawn}
+use Rattle.rh_otp_net.specs.Order.{drawn, place_in, next_order}
 use Rattle.rh_otp_system.specs.declared.calls.Call.{Call}
 use Rattle.rh_otp_system.specs.declared.moves.Move.{Move}
 use Rattle.rh_otp_system.specs.declared.moves.Move.TheVariants as move
@@ -93,20 +96,32 @@ possible_lock s (Some n) m quiet is next =
     let at : IsAmong n s.alive × (can_go_on_at n s ≡ true) = found_among (λ n. can_go_on_at n s) s.alive n is in
     moved_to s (move.Lock n) m next (quiet, at.0, at.1)
 
-possible_slow : (s : SystemView) (slow : List Slow) (m : Move) → s.messages ≡ [] → s.slow ≡ slow → slow_or_more slow s ≡ Some m → IsPossible s m
-possible_slow s [] m none is next = possible_lock s (next_node s) m (none, is) refl next
-possible_slow s (what ∷ slow) m none is next =
-    let some : 0 < length s.slow = omega (arith, ap length is) in
-    moved_to s (move.Slow 0) m next (none, some)
+-- the place that an order takes is one of these
+place_within : (order : Order) (count : ℕ) → 0 < count → place_in order count < count
+place_within FirstComes count some = some
+place_within LastComes count some = omega arith
+place_within (Drawn number) count some = omega (arith, some)
 
-possible_by : (s : SystemView) (messages : List Envelope) (m : Move) → s.messages ≡ messages → message_or_more messages s ≡ Some m → IsPossible s m
-possible_by s [] m is next = possible_slow s s.slow m is refl next
-possible_by s (e ∷ messages) m is next =
-    let some : 0 < length s.messages = omega (arith, ap length is) in
-    moved_to s (move.Deliver 0) m next some
+possible_slow : (o : Order) (s : SystemView) (slow : List Slow) (m : Move) → s.messages ≡ [] → s.slow ≡ slow → slow_or_more o slow s ≡ Some m
+    → IsPossible s m
+possible_slow o s [] m none is next = possible_lock s (next_node s) m (none, is) refl next
+possible_slow o s (what ∷ slow) m none is next =
+    let some : 0 < length (what ∷ slow) = omega arith in
+    let within : place_in o (length (what ∷ slow)) < length s.slow =
+    subst (λ (l : List Slow). place_in o (length (what ∷ slow)) < length l) (sym is) (place_within o (length (what ∷ slow)) some) in
+    moved_to s (move.Slow (place_in o (length (what ∷ slow)))) m next (none, within)
 
-possible : (s : SystemView) (m : Move) → next_move s ≡ Some m → IsPossible s m
-possible s m next = possible_by s s.messages m refl next
+possible_by : (o : Order) (s : SystemView) (messages : List Envelope) (m : Move) → s.messages ≡ messages → message_or_more o messages s ≡ Some m
+    → IsPossible s m
+possible_by o s [] m is next = possible_slow o s s.slow m is refl next
+possible_by o s (e ∷ messages) m is next =
+    let some : 0 < length (e ∷ messages) = omega arith in
+    let within : place_in o (length (e ∷ messages)) < length s.messages =
+    subst (λ (l : List Envelope). place_in o (length (e ∷ messages)) < length l) (sym is) (place_within o (length (e ∷ messages)) some) in
+    moved_to s (move.Deliver (place_in o (length (e ∷ messages)))) m next within
+
+possible : (o : Order) (s : SystemView) (m : Move) → next_move o s ≡ Some m → IsPossible s m
+possible o s m next = possible_by o s s.messages m refl next
 
 -- ---- where nothing moves next nothing is possible
 
@@ -125,51 +140,53 @@ no_lock s None none =
     (refl, more.0, more.1)
 no_lock s (Some n) none = absurd (none-some (move.Lock n) (sym none))
 
-no_slow : (s : SystemView) (slow : List Slow) → slow_or_more slow s ≡ None → (slow ≡ []) × (quiet_move s ≡ None)
-no_slow s [] none = (refl, none)
-no_slow s (what ∷ slow) none = absurd (none-some (move.Slow 0) (sym none))
+no_slow : (o : Order) (s : SystemView) (slow : List Slow) → slow_or_more o slow s ≡ None → (slow ≡ []) × (quiet_move s ≡ None)
+no_slow o s [] none = (refl, none)
+no_slow o s (what ∷ slow) none = absurd (none-some (move.Slow (place_in o (length (what ∷ slow)))) (sym none))
 
-no_message : (s : SystemView) (messages : List Envelope) → message_or_more messages s ≡ None → (messages ≡ []) × (slow_or_more s.slow s ≡ None)
-no_message s [] none = (refl, none)
-no_message s (e ∷ messages) none = absurd (none-some (move.Deliver 0) (sym none))
+no_message : (o : Order) (s : SystemView) (messages : List Envelope) → message_or_more o messages s ≡ None
+    → (messages ≡ []) × (slow_or_more o s.slow s ≡ None)
+no_message o s [] none = (refl, none)
+no_message o s (e ∷ messages) none = absurd (none-some (move.Deliver (place_in o (length (e ∷ messages)))) (sym none))
 
 none_within : {A : Type 0} (place : ℕ) (xs : List A) → xs ≡ [] → place < length xs → ⊥
 none_within place xs none within = absurd (omega (arith, ap length none))
 
-settled_by : (s : SystemView) → (s.messages ≡ []) × (slow_or_more s.slow s ≡ None) → (s.slow ≡ []) × (quiet_move s ≡ None)
+settled_by : (s : SystemView) → s.messages ≡ [] → s.slow ≡ []
     → (next_node s ≡ None) × (first_call s ≡ None) × (next_end s ≡ None) → IsSettled s
-settled_by s a b c (move.Deliver place) possible = none_within place s.messages a.0 possible
-settled_by s a b c (move.Slow place) possible = none_within place s.slow b.0 possible.1
+settled_by s a b c (move.Deliver place) possible = none_within place s.messages a possible
+settled_by s a b c (move.Slow place) possible = none_within place s.slow b possible.1
 settled_by s a b c (move.Lock n) possible = none_among (λ n. can_go_on_at n s) s.alive n possible.1.0 c.0 possible.1.1 possible.2
 settled_by s a b c (move.Call place) possible = no_call s s.calls 0 place possible.1.0 c.1 possible.1.1 possible.1.2
 settled_by s a b c (move.End n) possible = none_among (λ n. is_to_end n s) s.alive n possible.1.0 c.2 possible.1.1 possible.2
 
-nothing_moves : (s : SystemView) → next_move s ≡ None → IsSettled s
-nothing_moves s none =
-    let a : (s.messages ≡ []) × (slow_or_more s.slow s ≡ None) = no_message s s.messages none in
-    let b : (s.slow ≡ []) × (quiet_move s ≡ None) = no_slow s s.slow a.1 in
-    settled_by s a b (no_lock s (next_node s) b.1)
+nothing_moves : (o : Order) (s : SystemView) → next_move o s ≡ None → IsSettled s
+nothing_moves o s none =
+    let a : (s.messages ≡ []) × (slow_or_more o s.slow s ≡ None) = no_message o s s.messages none in
+    let b : (s.slow ≡ []) × (quiet_move s ≡ None) = no_slow o s s.slow a.1 in
+    settled_by s a.0 b.0 (no_lock s (next_node s) b.1)
 
 -- ---- move by move
 
-reaches_by : (most : ℕ) (s : SystemView) (next : Option Move) → next_move s ≡ next → ((t : SystemView) → Reaches t (moved most t))
-    → Reaches s (moved_by (moved most) next s)
-reaches_by most s None is more = here s
-reaches_by most s (Some m) is more = behind_one s (made m s) (moved most (made m s)) (m, possible s m is, refl) (more (made m s))
+reaches_by : (most : ℕ) (o : Order) (s : SystemView) (next : Option Move) → next_move o s ≡ next
+    → ((t : SystemView) → Reaches t (moved most (next_order o) t)) → Reaches s (moved_by (moved most (next_order o)) next s)
+reaches_by most o s None is more = here s
+reaches_by most o s (Some m) is more =
+    behind_one s (made m s) (moved most (next_order o) (made m s)) (m, possible o s m is, refl) (more (made m s))
 
-reaches : (most : ℕ) (s : SystemView) → Reaches s (moved most s)
-reaches zero s = here s
-reaches (suc most) s = reaches_by most s (next_move s) refl (reaches most)
+reaches : (most : ℕ) (o : Order) (s : SystemView) → Reaches s (moved most o s)
+reaches zero o s = here s
+reaches (suc most) o s = reaches_by most o s (next_move o s) refl (reaches most (next_order o))
 
-quiet_by : (most : ℕ) (s : SystemView) (next : Option Move) → next_move s ≡ next
-    → ((t : SystemView) → is_quiet_behind most t ≡ true → IsSettled (moved most t))
-    → is_quiet_by (is_quiet_behind most) next s ≡ true → IsSettled (moved_by (moved most) next s)
-quiet_by most s None is more quiet = nothing_moves s is
-quiet_by most s (Some m) is more quiet = more (made m s) quiet
+quiet_by : (most : ℕ) (o : Order) (s : SystemView) (next : Option Move) → next_move o s ≡ next
+    → ((t : SystemView) → is_quiet_behind most (next_order o) t ≡ true → IsSettled (moved most (next_order o) t))
+    → is_quiet_by (is_quiet_behind most (next_order o)) next s ≡ true → IsSettled (moved_by (moved most (next_order o)) next s)
+quiet_by most o s None is more quiet = nothing_moves o s is
+quiet_by most o s (Some m) is more quiet = more (made m s) quiet
 
-is_settled : (most : ℕ) (s : SystemView) → is_quiet_behind most s ≡ true → IsSettled (moved most s)
-is_settled zero s quiet = absurd (false≢true quiet)
-is_settled (suc most) s quiet = quiet_by most s (next_move s) refl (is_settled most) quiet
+is_settled : (most : ℕ) (o : Order) (s : SystemView) → is_quiet_behind most o s ≡ true → IsSettled (moved most o s)
+is_settled zero o s quiet = absurd (false≢true quiet)
+is_settled (suc most) o s quiet = quiet_by most o s (next_move o s) refl (is_settled most (next_order o)) quiet
 
 pub settles : SettlesByMoves
-settles most s = (reaches most (record s { answers = [] }), is_settled most (record s { answers = [] }))
+settles most o s = (reaches most o (record s { answers = [] }), is_settled most o (record s { answers = [] }))

@@ -6,6 +6,7 @@ use Rattle.rh_otp_model.specs.declared.message.Message.TheVariants as message
 use Rattle.rh_otp_model.specs.declared.process.Role.TheVariants as role
 use Rattle.rh_otp_model.specs.declared.wait.Wait.{Wait}
 use Rattle.rh_otp_model.specs.declared.wait.Wait.TheVariants as wait
+use Rattle.rh_otp_net.specs.declared.order.Order.{Order}
 use Rattle.rh_otp_net.specs.declared.timers.Timer.{Timer}
 use Rattle.rh_otp_net.specs.Timers as timers
 use Rattle.rh_otp_node.specs.Live.{begun}
@@ -113,38 +114,41 @@ until_if end (Some time) = if nat_le time.0 end then Some time.0 else None
 abbrev pub next_until : ℕ → SystemView → Option ℕ
 next_until end s = until_if end (timers.next_due s.timers)
 
-abbrev pub passed_by : (SystemView → SystemView) → ℕ → Option ℕ → SystemView → SystemView
-passed_by go_on most None s = s
-passed_by go_on most (Some due) s =
-    if is_settled_by most (fired_next due s) then go_on (settled most (fired_next due s)) else settled most (fired_next due s)
+abbrev pub passed_by : (SystemView → SystemView) → ℕ → Order → Option ℕ → SystemView → SystemView
+passed_by go_on most order None s = s
+passed_by go_on most order (Some due) s =
+    if is_settled_by most order (fired_next due s) then go_on (settled most order (fired_next due s))
+    else settled most order (fired_next due s)
 
--- the timers that are due until then fire, so often at most, and between them all moves until nothing does
-abbrev pub passed : ℕ → ℕ → ℕ → SystemView → SystemView
-passed zero end most s = s
-passed (suc times) end most s = passed_by (passed times end most) most (next_until end s) s
+-- the timers that are due until then fire, so often at most, and between them all moves in this order until nothing does
+abbrev pub passed : ℕ → ℕ → ℕ → Order → SystemView → SystemView
+passed zero end most order s = s
+passed (suc times) end most order s = passed_by (passed times end most order) most order (next_until end s) s
 
-abbrev pub is_past_by : (SystemView → Bool) → ℕ → Option ℕ → SystemView → Bool
-is_past_by go_on most None s = true
-is_past_by go_on most (Some due) s =
-    if is_settled_by most (fired_next due s) then go_on (settled most (fired_next due s)) else false
+abbrev pub is_past_by : (SystemView → Bool) → ℕ → Order → Option ℕ → SystemView → Bool
+is_past_by go_on most order None s = true
+is_past_by go_on most order (Some due) s =
+    if is_settled_by most order (fired_next due s) then go_on (settled most order (fired_next due s)) else false
 
 -- are all of them over, and does nothing move?
-abbrev pub is_past : ℕ → ℕ → ℕ → SystemView → Bool
-is_past zero end most s = false
-is_past (suc times) end most s = is_past_by (is_past times end most) most (next_until end s) s
+abbrev pub is_past : ℕ → ℕ → ℕ → Order → SystemView → Bool
+is_past zero end most order s = false
+is_past (suc times) end most order s = is_past_by (is_past times end most order) most order (next_until end s) s
 
 -- time begins to pass: those who sleep ask for their lock again
-abbrev pub ticking : ℕ → SystemView → SystemView
-ticking most s = settled most (record s { is_ticking = true })
+abbrev pub ticking : ℕ → Order → SystemView → SystemView
+ticking most order s = settled most order (record s { is_ticking = true })
 
-abbrev pub ticked_behind : ℕ → ℕ → Bool → SystemView → SystemView
-ticked_behind end most true s = record (passed most end most s) { clock = end; is_ticking = false }
-ticked_behind end most false s = s
+abbrev pub ticked_behind : ℕ → ℕ → Order → Bool → SystemView → SystemView
+ticked_behind end most order true s = record (passed most end most order s) { clock = end; is_ticking = false }
+ticked_behind end most order false s = s
 
 -- time passes until the clock stands there
-unfoldable pub ticked : ℕ → ℕ → SystemView → SystemView
-ticked end most s = ticked_behind end most (is_settled_by most (record s { is_ticking = true })) (ticking most s)
+unfoldable pub ticked : ℕ → ℕ → Order → SystemView → SystemView
+ticked end most order s =
+    ticked_behind end most order (is_settled_by most order (record s { is_ticking = true })) (ticking most order s)
 
 -- is all quiet behind it?
-unfoldable pub is_ticked : ℕ → ℕ → SystemView → Bool
-is_ticked end most s = if is_settled_by most (record s { is_ticking = true }) then is_past most end most (ticking most s) else false
+unfoldable pub is_ticked : ℕ → ℕ → Order → SystemView → Bool
+is_ticked end most order s =
+    if is_settled_by most order (record s { is_ticking = true }) then is_past most end most order (ticking most order s) else false

@@ -1,5 +1,5 @@
 -- What can move, and that it moves until nothing does. Which of several things moves next is left open by `IsPossible`; `next_move` is
--- one choice, in which messages arrive in the order in which they were sent.
+-- the choice of an order.
 use Rattle.std.specs.Prelude.{◌≡◌, ◌<◌, ℕ, zero, suc, List, [], ◌∷◌, ◌&&◌, ◌||◌, not, Bool, true, false, find, length, slice_get, Option, Some, None, if◌then◌else◌}
 use Rattle.std.specs.List.{list_any, remove}
 use Rattle.std.specs.Option.{option_map}
@@ -13,7 +13,9 @@ use Rattle.rh_otp_dist.specs.declared.state.Stand.{Stand}
 use Rattle.rh_otp_dist.specs.declared.state.Stand.TheVariants as stand
 use Rattle.rh_otp_dist.specs.State.{DistView}
 use Rattle.rh_otp_net.specs.Alike.{is_process}
+use Rattle.rh_otp_net.specs.declared.order.Order.{Order}
 use Rattle.rh_otp_net.specs.Locks.{is_free}
+use Rattle.rh_otp_net.specs.Order.{place_in, next_order}
 use Rattle.rh_otp_node.specs.Live.{is_ending}
 use Rattle.rh_otp_node.specs.Remote as remote
 use Rattle.rh_otp_system.specs.declared.calls.Call.{Call}
@@ -100,17 +102,17 @@ lock_or_more None s = call_or_end (first_call s) s
 abbrev pub quiet_move : SystemView → Option Move
 quiet_move s = lock_or_more (next_node s) s
 
-abbrev pub slow_or_more : List Slow → SystemView → Option Move
-slow_or_more [] s = quiet_move s
-slow_or_more (what ∷ slow) s = Some (move.Slow 0)
+abbrev pub slow_or_more : Order → List Slow → SystemView → Option Move
+slow_or_more order [] s = quiet_move s
+slow_or_more order (what ∷ slow) s = Some (move.Slow (place_in order (length (what ∷ slow))))
 
-abbrev pub message_or_more : List Envelope → SystemView → Option Move
-message_or_more [] s = slow_or_more s.slow s
-message_or_more (e ∷ messages) s = Some (move.Deliver 0)
+abbrev pub message_or_more : Order → List Envelope → SystemView → Option Move
+message_or_more order [] s = slow_or_more order s.slow s
+message_or_more order (e ∷ messages) s = Some (move.Deliver (place_in order (length (e ∷ messages))))
 
--- what moves next, if anything does
-abbrev pub next_move : SystemView → Option Move
-next_move s = message_or_more s.messages s
+-- what moves next in this order, if anything does
+abbrev pub next_move : Order → SystemView → Option Move
+next_move order s = message_or_more order s.messages s
 
 -- ---- that it moves
 
@@ -149,25 +151,25 @@ abbrev pub moved_by : (SystemView → SystemView) → Option Move → SystemView
 moved_by go_on None s = s
 moved_by go_on (Some next) s = go_on (made next s)
 
--- so many moves at most
-abbrev pub moved : ℕ → SystemView → SystemView
-moved zero s = s
-moved (suc most) s = moved_by (moved most) (next_move s) s
+-- so many moves at most, in this order
+abbrev pub moved : ℕ → Order → SystemView → SystemView
+moved zero order s = s
+moved (suc most) order s = moved_by (moved most (next_order order)) (next_move order s) s
 
 abbrev pub is_quiet_by : (SystemView → Bool) → Option Move → SystemView → Bool
 is_quiet_by go_on None s = true
 is_quiet_by go_on (Some next) s = go_on (made next s)
 
 -- was it quiet before so many moves were made?
-abbrev pub is_quiet_behind : ℕ → SystemView → Bool
-is_quiet_behind zero s = false
-is_quiet_behind (suc most) s = is_quiet_by (is_quiet_behind most) (next_move s) s
+abbrev pub is_quiet_behind : ℕ → Order → SystemView → Bool
+is_quiet_behind zero order s = false
+is_quiet_behind (suc most) order s = is_quiet_by (is_quiet_behind most (next_order order)) (next_move order s) s
 
-abbrev pub settled : ℕ → SystemView → SystemView
-settled most s = moved most (record s { answers = [] })
+abbrev pub settled : ℕ → Order → SystemView → SystemView
+settled most order s = moved most order (record s { answers = [] })
 
-abbrev pub is_settled_by : ℕ → SystemView → Bool
-is_settled_by most s = is_quiet_behind most (record s { answers = [] })
+abbrev pub is_settled_by : ℕ → Order → SystemView → Bool
+is_settled_by most order s = is_quiet_behind most order (record s { answers = [] })
 
 -- ---- what the rules allow
 

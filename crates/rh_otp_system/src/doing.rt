@@ -10,7 +10,7 @@ use crate::system::System;
 use rh_base::{Duplicate, OutOfMemory};
 use rh_model::{App, Node};
 use rh_otp_model::{Message, Role, Wait};
-use rh_otp_net::Timer;
+use rh_otp_net::{Order, Timer};
 
 /// A node begins.
 impl<'a> System<'a> {
@@ -201,17 +201,17 @@ impl<'a> System<'a> {
         Ok(())
     }
 
-    // The timers that are due next fire, and then all moves until nothing does. Does nothing move any more?
+    // The timers that are due next fire, and then all moves in this order until nothing does. Does nothing move any more?
     #[tactic(auto, unfolding(crate::specs::Doing::fired_next))]
-    fn fire_next(&mut self, due: u64, most: u32) -> Result<bool, OutOfMemory>
+    fn fire_next(&mut self, due: u64, most: u32, order: Order) -> Result<bool, OutOfMemory>
         ensures is_quiet { IfOk result
-            (λ is_quiet. is_quiet ≡ is_settled_by most (fired_next due self.old)) }
-        ensures state { OnOk result (self.new ≡ settled most (fired_next due self.old)) }
+            (λ is_quiet. is_quiet ≡ is_settled_by most order (fired_next due self.old)) }
+        ensures state { OnOk result (self.new ≡ settled most order (fired_next due self.old)) }
     {
         self.net.clock = due;
         let timers = self.net.timers.fire_next(self.alloc)?;
         self.fire_all(timers)?;
-        self.settle(most)
+        self.settle(most, order)
     }
 
     // When the next timer is due, if it is until then.
@@ -225,35 +225,36 @@ impl<'a> System<'a> {
     }
 
     // The timers that are due until then fire, so often at most. Are all of them over, and does nothing move?
-    fn pass(&mut self, end: u64, most: u32) -> Result<bool, OutOfMemory>
-        ensures is_quiet { IfOk result (λ is_quiet. is_quiet ≡ is_past most end most self.old) }
-        ensures state { OnOk result (self.new ≡ passed most end most self.old) }
+    fn pass(&mut self, end: u64, most: u32, order: Order) -> Result<bool, OutOfMemory>
+        ensures is_quiet { IfOk result
+            (λ is_quiet. is_quiet ≡ is_past most end most order self.old) }
+        ensures state { OnOk result (self.new ≡ passed most end most order self.old) }
     {
         for number in 0..most {
             let _number = number;
             let Some(due) = self.next_due(end) else {
                 return Ok(true);
             };
-            if !self.fire_next(due, most)? {
+            if !self.fire_next(due, most, order)? {
                 return Ok(false);
             }
         }
         Ok(false)
     }
 
-    /// Time passes until the clock stands there. So often at most something moves at a time; says whether nothing moves any more at
-    /// the end. Of timers that are due at once, those of an earlier command fire first. After an error the system is good for
-    /// nothing.
+    /// Time passes until the clock stands there. So often at most something moves at a time, in this order; says whether nothing
+    /// moves any more at the end. Of timers that are due at once, those of an earlier command fire first. After an error the system
+    /// is good for nothing.
     #[tactic(auto, unfolding(crate::specs::Doing::ticked, crate::specs::Doing::is_ticked))]
-    pub fn tick(&mut self, end: u64, most: u32) -> Result<bool, OutOfMemory>
-        ensures is_quiet { IfOk result (λ is_quiet. is_quiet ≡ is_ticked end most self.old) }
-        ensures state { OnOk result (self.new ≡ ticked end most self.old) }
+    pub fn tick(&mut self, end: u64, most: u32, order: Order) -> Result<bool, OutOfMemory>
+        ensures is_quiet { IfOk result (λ is_quiet. is_quiet ≡ is_ticked end most order self.old) }
+        ensures state { OnOk result (self.new ≡ ticked end most order self.old) }
     {
         self.is_ticking = true;
-        if !self.settle(most)? {
+        if !self.settle(most, order)? {
             return Ok(false);
         }
-        let is_quiet = self.pass(end, most)?;
+        let is_quiet = self.pass(end, most, order)?;
         self.net.clock = end;
         self.is_ticking = false;
         Ok(is_quiet)

@@ -2,8 +2,8 @@
 
 ghost use Rattle.rh_otp_system.specs.Laws.{SettlesByMoves};
 
-/// What [`System::settle`](crate::System::settle) does are moves that the rules allow, one after the other; and where it says that
-/// nothing moves any more, the rules allow no move.
+/// In whatever order, what [`System::settle`](crate::System::settle) does are moves that the rules allow, one after the other; and
+/// where it says that nothing moves any more, the rules allow no move.
 pub fn settles_by_moves()
     ensures { SettlesByMoves }
 {}

@@ -10,7 +10,7 @@ use rh_base::OutOfMemory;
 use rh_model::Node;
 use rh_otp_dist::Stand;
 use rh_otp_model::{Process, Requester, Role};
-use rh_otp_net::is_process;
+use rh_otp_net::{Order, is_process};
 
 /// Something that moves.
 #[derive(Clone, Copy, Debug, PartialEq, Eq)]
@@ -146,16 +146,18 @@ impl<'a> System<'a> {
         Ok(self.first_to_end().map(Move::End))
     }
 
-    /// What moves next, if anything does: messages, the first one first; then what takes longer; then who asks for locks, and
-    /// calls; then nodes that end.
-    pub fn next_move(&self) -> Result<Option<Move>, OutOfMemory>
-        ensures { IfOk result (λ next. next ≡ next_move self.now) }
+    /// What moves next in this order, if anything does: messages; then what takes longer; then who asks for locks, and calls; then
+    /// nodes that end. Of messages, and of what takes longer, the order decides which is the next.
+    pub fn next_move(&self, order: Order) -> Result<Option<Move>, OutOfMemory>
+        ensures { IfOk result (λ next. next ≡ next_move order self.now) }
     {
-        if !self.messages.is_empty() {
-            return Ok(Some(Move::Deliver(0)));
+        let messages = self.messages.len();
+        if messages > 0 {
+            return Ok(Some(Move::Deliver(order.place(messages))));
         }
-        if !self.slow.is_empty() {
-            return Ok(Some(Move::Slow(0)));
+        let slow = self.slow.len();
+        if slow > 0 {
+            return Ok(Some(Move::Slow(order.place(slow))));
         }
         self.quiet_move()
     }
@@ -229,29 +231,32 @@ ghost use Rattle.rh_otp_system.specs.Moves.{unparked};
 
 /// Until nothing moves.
 impl<'a> System<'a> {
-    // So often at most. Does nothing move any more?
-    fn move_on(&mut self, most: u32) -> Result<bool, OutOfMemory>
-        ensures is_quiet { IfOk result (λ is_quiet. is_quiet ≡ is_quiet_behind most self.old) }
-        ensures state { OnOk result (self.new ≡ moved most self.old) }
+    // So often at most, in the order that begins so. Does nothing move any more?
+    fn move_on(&mut self, most: u32, first: Order) -> Result<bool, OutOfMemory>
+        ensures is_quiet { IfOk result
+            (λ is_quiet. is_quiet ≡ is_quiet_behind most first self.old) }
+        ensures state { OnOk result (self.new ≡ moved most first self.old) }
     {
+        let mut order = first;
         for number in 0..most {
             let _number = number;
-            let Some(next) = self.next_move()? else {
+            let Some(next) = self.next_move(order)? else {
                 return Ok(true);
             };
+            order = order.next_order();
             self.make(next)?;
         }
         Ok(false)
     }
 
-    /// Lets move what moves, so often at most, and says whether nothing moves any more. After an error the system is good for
-    /// nothing.
-    pub fn settle(&mut self, most: u32) -> Result<bool, OutOfMemory>
-        ensures is_quiet { IfOk result (λ is_quiet. is_quiet ≡ is_settled_by most self.old) }
-        ensures state { OnOk result (self.new ≡ settled most self.old) }
+    /// Lets move what moves, so often at most and in this order, and says whether nothing moves any more. After an error the system
+    /// is good for nothing.
+    pub fn settle(&mut self, most: u32, order: Order) -> Result<bool, OutOfMemory>
+        ensures is_quiet { IfOk result (λ is_quiet. is_quiet ≡ is_settled_by most order self.old) }
+        ensures state { OnOk result (self.new ≡ settled most order self.old) }
     {
         self.answers.clear();
-        self.move_on(most)
+        self.move_on(most, order)
     }
 }
 

@@ -31,7 +31,7 @@ abbrev pub Owes : Program → List ℕ → List ℕ → Option Told → Type 0
 Owes Check = OwesCheck
 Owes CheckJson = OwesCheckJson
 Owes (Run pick) = OwesRun pick
-Owes RunLive = OwesLiveRun
+Owes (RunLive order) = OwesLiveRun order
 Owes (RunIn pick manner) = OwesRunIn manner pick
 Owes (RunJson pick) = OwesRunJson pick
 Owes (Dialogue pick) = OwesRun pick

@@ -123,7 +123,7 @@ fn ended_alone<S: Source, K: Sink, W: Watch>(
         Program::Check => run_check(alloc, reader, writer),
         Program::CheckJson => check_json(alloc, reader, writer),
         Program::Run(pick) | Program::Dialogue(pick) => run(alloc, reader, writer, pick),
-        Program::RunLive => run_live(alloc, reader, writer),
+        Program::RunLive(order) => run_live(alloc, reader, writer, order),
         Program::RunIn(pick, manner) => run_in(alloc, reader, writer, pick, manner),
         Program::RunJson(pick) | Program::DialogueJson(pick) => {
             run_json(alloc, reader, writer, pick)

@@ -60,6 +60,7 @@ returns-clause-state c =
     (λ i. record {
       cluster = c.self.inside.cluster;
       files = c.self.inside.files.items;
+      order = c.self.inside.order;
       history = (c.in_ok-make.ensures.ok ∙ (λ j. committed (record c.self.inside.history { now = cells j }))) i;
     })
     ∙ (λ i. with_step (cells_behind c.args.net.now (node_count c.args.self.now.cluster) (system_with c.args.net.now c.args.event c.args.self.now))

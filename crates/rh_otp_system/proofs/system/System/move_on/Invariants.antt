@@ -4,6 +4,6 @@ use Rattle.rh_otp_system.proofs.system.System.move_on.Given as goal
 
 abbrev pub invariant-loop-number : goal.invariant-loop-number
 invariant-loop-number l = record {
-  state : moved (l.most - l.number) l.self ≡ moved l.most l.fn.self;
-  is_quiet : is_quiet_behind (l.most - l.number) l.self ≡ is_quiet_behind l.most l.fn.self;
+  state : moved (l.most - l.number) l.order l.self ≡ moved l.most l.fn.first l.fn.self;
+  is_quiet : is_quiet_behind (l.most - l.number) l.order l.self ≡ is_quiet_behind l.most l.fn.first l.fn.self;
 }

@@ -4,6 +4,6 @@ use Rattle.rh_otp_system.proofs.system.System.pass.Given as goal
 
 abbrev pub invariant-loop-number : goal.invariant-loop-number
 invariant-loop-number l = record {
-  state : passed (l.most - l.number) l.end l.most l.self ≡ passed l.most l.end l.most l.fn.self;
-  is_quiet : is_past (l.most - l.number) l.end l.most l.self ≡ is_past l.most l.end l.most l.fn.self;
+  state : passed (l.most - l.number) l.end l.most l.order l.self ≡ passed l.most l.end l.most l.order l.fn.self;
+  is_quiet : is_past (l.most - l.number) l.end l.most l.order l.self ≡ is_past l.most l.end l.most l.order l.fn.self;
 }
