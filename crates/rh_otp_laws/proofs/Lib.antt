@@ -1,0 +1,25 @@
+pub mod Turn
+pub mod Nodes
+pub mod Alike
+pub mod Lists
+pub mod Working
+pub mod Moving
+pub mod Beginning
+pub mod Sent
+pub mod Order
+pub mod Time
+pub mod Hanging
+pub mod Locking
+pub mod Reached
+pub mod Overdue
+pub mod Lives
+pub mod Listing
+pub mod Knowing
+pub mod Crashing
+pub mod Telling
+pub mod Starting
+pub mod Ended
+pub mod Ticking
+pub mod Commands
+mod Rows
+pub mod Weighing

@@ -1,0 +1,9 @@
+pub mod Acting
+pub mod Turns
+pub mod Messages
+pub mod Time
+pub mod Locking
+pub mod Lives
+pub mod Knowing
+pub mod Hanging
+pub mod Starting
