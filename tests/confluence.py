@@ -1,0 +1,261 @@
+"""When the order of messages matters: random rehearsals (random_live.py) in several orders of messages, by the model of live nodes, and by
+the program, with any words on its command line by which it takes messages in one order or another (WORDS).
+
+Messages from one process to another keep their order; which of those that are on their way arrives next may differ, and so may which of
+several timers fires first that are due at one moment, and how long a process sleeps that asks for a lock in vain. What is told of a
+command is its answer and the report behind it, each as a first line and a set of lines, a line of a node with its node: of the
+lines of one answer the order counts nothing. Two orders part at the first command of which they tell otherwise.
+
+The conditions say where no two orders part, in what the file tells, and the reports and answers in the order in which messages are sent:
+no list has a tuple, each node waits for all others, nothing hangs before the command, and no two timers are due at one moment that it
+reaches; a failover time of 0 counts as one that is due at once. Within them no two of the orders that are tried may part. Without any
+one of them some rehearsal parts, which is told by name.
+"""
+import os
+import random
+import sys
+from collections.abc import Callable, Iterable, Iterator, Sequence
+from dataclasses import dataclass
+from typing import Optional, Union
+
+from agreement import answers_of, has_tuple, ranges
+from groups import Group
+from lint_measure import is_in_page, shown
+from live_conditions import lacks_lists
+from live_rules import report_of
+from random_live import KINDS, Rehearsal, rehearsal, sane, wild
+from support import TOP, fault_of, run
+
+sys.path.append(os.path.join(TOP, "companions"))
+from rehearse_tools.inputs import is_command, joined, split_input, words_of  # noqa: E402
+from rehearse_tools.live_sides import doubled  # noqa: E402
+from rehearse_tools.otp25 import rehearsal as model  # noqa: E402
+from rehearse_tools.otp25.cluster import ClusterFile, cluster_of  # noqa: E402
+from rehearse_tools.otp25.system import System  # noqa: E402
+
+# Random rehearsals of any kind, and seeds of which those are taken whose files are within the conditions.
+FIRST, COUNT, AT_ONCE = 50_000, 500, 25
+KEPT_FIRST, KEPT_COUNT, KEPT_AT_ONCE = 70_000, 2_000, 100
+# That in which messages are sent is among them.
+ORDERS = 8
+# At least so many rehearsals have to have such a file, with so many commands within the conditions.
+LEAST_REHEARSALS, LEAST_COMMANDS = 200, 2_000
+# For each condition a rehearsal that breaks it alone, and in which orders part: a script of tests/live, or a random one of a seed; and in
+# how many orders that shows.
+NEEDED: tuple[tuple[str, Union[str, int], int], ...] = (
+    ("plain lists", "permit-within-a-tuple.txt", ORDERS), ("complete lists", 54_847, ORDERS),
+    ("nothing hangs", "blocked-permit.txt", ORDERS), ("one timer at a time", "crossed-lists.txt", ORDERS),
+    ("one loss at once", "crossed-lists-at-once.txt", 200))
+# More words on the program's command line, by each of which it has to tell what the model does, within the conditions.
+WORDS: tuple[tuple[str, ...], ...] = ((),)
+
+Test = tuple[str, Optional[str]]
+Lines = tuple[str, frozenset[tuple[str, int]]]
+
+
+# ---- What is told
+
+
+@dataclass(frozen=True)
+class Told:
+    """What is told of a command: its answer, and the report behind it."""
+    answer: Lines
+    report: Lines
+
+
+def lines_of(told: list[str]) -> Lines:
+    """The first line of an answer, and the set of the others, each with how often it stands there."""
+    found, node = [], ""
+    for line in told[1:]:
+        node = words_of(line)[1] if line.startswith("node ") else node
+        found.append(f"{node}{line}" if line.startswith("  ") else line)
+    return told[0], frozenset((line, found.count(line)) for line in found)
+
+
+def by_model(text: str, order: int) -> list[Told]:
+    """What the model tells of a rehearsal in an order of messages; 0 is that in which they are sent."""
+    parts = split_input(text)
+    state = model.Rehearsal(System(cluster_of(parts.cluster), random.Random(order) if order else None))
+    told = []
+    for words in map(words_of, filter(is_command, parts.lines)):
+        answer = ["ok"] if words == ["show"] else state.do(words)
+        told.append(Told(lines_of(answer), lines_of(report_of(state))))
+    return told
+
+
+def by_program(program: str, text: str, more: Sequence[str] = ()) -> list[Told]:
+    """What the program tells of a rehearsal, with more words on its command line."""
+    parts = split_input(text)
+    commands = list(filter(is_command, parts.lines))
+    done = run(program, ["run", "--rules", "otp25", *more], input=joined(parts.cluster, doubled(commands)).encode())
+    wrong, answers = fault_of(done, 0, None), answers_of(done.stdout.decode())
+    if wrong is not None or len(answers) != 2 * len(commands):
+        raise ValueError(f"{wrong}, {len(answers)} answers to {2 * len(commands)} commands")
+    return [Told(lines_of(["ok"] if words_of(command) == ["show"] else answer), lines_of(report))
+            for command, answer, report in zip(commands, answers[::2], answers[1::2])]
+
+
+# ---- The conditions
+
+
+def times_of(report: Lines) -> dict[int, set[str]]:
+    """For each moment at which timers are due what is due then: the end of a node's wait, or of an application's failover time, which
+    each standby has."""
+    due: dict[int, set[str]] = {}
+    for line, _ in report[1]:
+        _, _, timer = line.partition("  timer ")
+        if timer:
+            kind, *rest = words_of(timer)
+            due.setdefault(int(rest[-1]), set()).add(line if kind == "sync" else rest[0])
+    return due
+
+
+def now_of(report: Lines) -> int:
+    """What the clock is."""
+    return next(int(words_of(line)[1]) for line, _ in report[1] if line.startswith("now "))
+
+
+def broken_by_file(cluster: ClusterFile) -> set[str]:
+    """The conditions that a file breaks: a list has a tuple, or a node doesn't wait for all others."""
+    return {name for name, breaks in (("plain lists", has_tuple), ("complete lists", lacks_lists)) if breaks(cluster)}
+
+
+def ends_two(cluster: ClusterFile, before: Lines, answer: Lines) -> bool:
+    """A node ends at which two applications run that fail over at once."""
+    ended = [words_of(line)[1] for line, _ in answer[1] if line.startswith("ended ")]
+    running = [words_of(line)[2] for line, _ in before[1] for node in ended if line.startswith(f"{node}  running ")]
+    return sum(app in cluster.entries and cluster.entries[app].timeout == 0 for app in running) > 1
+
+
+def broken_by_step(cluster: ClusterFile, command: str, before: Lines, answer: Lines) -> set[str]:
+    """The conditions that a command breaks: a call is open before it or a process stands in the middle of something, or it reaches two
+    timers that are due at one moment, or two losses that are due at once."""
+    word, *rest = words_of(command)
+    end = now_of(before) + int(rest[0]) if word == "tick" else 0
+    hangs = any("  blocked " in line or line.startswith("open ") for line, _ in before[1])
+    meet = any(moment <= end and len(due) > 1 for moment, due in times_of(before).items())
+    return {name for name, is_so in (("nothing hangs", hangs), ("one timer at a time", meet),
+                                     ("one loss at once", ends_two(cluster, before, answer))) if is_so}
+
+
+@dataclass(frozen=True)
+class Measured:
+    """A rehearsal: its commands, the conditions that each of them breaks, those of the file the first one, and the first command at which
+    two orders part."""
+    name: str
+    kind: str
+    commands: list[str]
+    broken: list[set[str]]
+    first: Optional[int]
+
+    @property
+    def within(self) -> int:
+        """So many commands, from the first one on, break no condition."""
+        return next((place for place, names in enumerate(self.broken) if names), len(self.commands))
+
+    @property
+    def wrong(self) -> Optional[str]:
+        """At which command two orders part within the conditions, or None."""
+        if self.first is None or self.first >= self.within:
+            return None
+        return f"two orders part at command {self.first + 1}, {self.commands[self.first]}"
+
+
+def broken_in(text: str, commands: list[str], told: list[Told]) -> list[set[str]]:
+    """The conditions that each command of a rehearsal breaks."""
+    cluster = cluster_of(split_input(text).cluster)
+    later = [broken_by_step(cluster, command, before.report, one.answer) for command, before, one in zip(commands[1:], told, told[1:])]
+    return [broken_by_file(cluster), *later]
+
+
+def parting(told: list[list[Told]]) -> Optional[int]:
+    """The first command of which several orders tell otherwise than the first one."""
+    return next((place for place, one in enumerate(told[0]) if any(other[place] != one for other in told[1:])), None)
+
+
+def measured(one: Rehearsal, told: list[list[Told]]) -> Measured:
+    """A rehearsal of which something is told in several orders."""
+    commands = list(filter(is_command, split_input(one.text).lines))
+    return Measured(str(one.seed), one.kind, commands, broken_in(one.text, commands, told[0]), parting(told))
+
+
+# ---- The tests
+
+
+def in_orders(one: Rehearsal, orders: int = ORDERS) -> Measured:
+    """A rehearsal by the model, in several orders."""
+    return measured(one, [by_model(one.text, order) for order in range(orders)])
+
+
+def anywhere(_program: str, seeds: range) -> Iterator[Test]:
+    """Random rehearsals of any kind."""
+    found = [in_orders(rehearsal(seed)) for seed in seeds]
+    for one in found:
+        yield f"orders of messages, rehearsal {one.name}", one.wrong
+    return found
+
+
+def is_kept(seed: int) -> bool:
+    """Whether the cluster file of a random rehearsal is within the conditions."""
+    cluster = {"sane": sane, "wild": wild}[KINDS[seed % 2]](random.Random(seed))
+    return not broken_by_file(cluster_of(cluster.text))
+
+
+def kept(_program: str, seeds: range) -> Iterator[Test]:
+    """Random rehearsals whose files are within the conditions."""
+    found = [in_orders(rehearsal(seed)) for seed in seeds if is_kept(seed)]
+    for one in found:
+        yield f"orders of messages within the conditions, rehearsal {one.name}", one.wrong
+    return found
+
+
+def by_words(program: str, seeds: range) -> Iterator[Test]:
+    """The same rehearsals by the program, with several command lines, beside the model in the order in which messages are sent."""
+    for one in (rehearsal(seed) for seed in seeds if is_kept(seed)):
+        told = [by_model(one.text, 0), *(by_program(program, one.text, words) for words in WORDS)]
+        yield f"orders of the program within the conditions, rehearsal {one.seed}", measured(one, told).wrong
+
+
+def needed(_program: str) -> Iterator[Test]:
+    """Each condition is needed: where it alone is broken, two orders part."""
+    for name, source, orders in NEEDED:
+        found = in_orders(rehearsal(source) if isinstance(source, int) else script(source), orders)
+        broken = set().union(*found.broken[:len(found.commands) if found.first is None else found.first + 1])
+        is_so = found.first is not None and broken == {name}
+        yield f"orders of messages: {name} is needed", None if is_so else f"{source}: parts at {found.first}, breaks {sorted(broken)}"
+
+
+def script(name: str) -> Rehearsal:
+    """A script of tests/live."""
+    with open(os.path.join(TOP, "tests", "live", name), encoding="utf-8") as file:
+        return Rehearsal(0, name, file.read())
+
+
+def row_of(text: str, found: list[Measured]) -> str:
+    """A line of the page's table."""
+    parted = [one for one in found if one.first is not None]
+    return (f"| {text} | {len(found):,} | {shown(len(parted), len(found))} | {sum(len(one.commands) for one in found):,} "
+            f"| {sum(one.within for one in found):,} | {sum(one.wrong is not None for one in found)} |")
+
+
+def of_anywhere(parts: list[list[Measured]]) -> Iterator[Test]:
+    """Somewhere orders do part, and the page has the counts."""
+    found = [one for part in parts for one in part]
+    yield "orders of messages: they matter", None if any(one.first is not None for one in found) else "no two orders part anywhere"
+    rows = [row_of(kind.capitalize(), [one for one in found if one.kind == kind]) for kind in KINDS]
+    yield "orders of messages: the page", is_in_page([*rows, row_of("All", found)])
+
+
+def of_kept(parts: list[list[Measured]]) -> Iterator[Test]:
+    """Enough rehearsals and commands are within the conditions, and the page has the counts."""
+    found = [one for part in parts for one in part]
+    within = sum(one.within for one in found)
+    is_enough = len(found) >= LEAST_REHEARSALS and within >= LEAST_COMMANDS
+    yield "orders of messages: enough within the conditions", None if is_enough else f"{len(found)} rehearsals, {within} commands"
+    yield "orders of messages within the conditions: the page", is_in_page([row_of("Plain and complete lists", found)])
+
+
+KEPT = ranges(KEPT_FIRST, KEPT_COUNT, KEPT_AT_ONCE)
+TESTS: tuple[Group | Callable[[str], Iterable[Test]], ...] = (
+    Group(anywhere, ranges(FIRST, COUNT, AT_ONCE), is_long=True, end=of_anywhere), Group(kept, KEPT, is_long=True, end=of_kept),
+    Group(by_words, KEPT), needed)
