@@ -24,6 +24,7 @@ from groups import Group
 from lint_measure import is_in_page, shown, told_of
 from live_conditions import (Condition, State, Step, careful, has_other_platforms, has_other_profile, is_weighed_in_another_order,
                              lacks_lists, may_be_lost_together, needs_a_distributed_one, state_of)
+from live_rules import split_answers
 from random_live import CAREFUL, KINDS, Rehearsal, rehearsal
 from support import COMMANDS, TOP, fault_of, run
 
@@ -39,7 +40,6 @@ CAREFUL_COUNT, CAREFUL_AT_ONCE = 80, 10
 # At least such shares of the sane rehearsals, and of their commands, have to be within the conditions.
 LEAST_REHEARSALS, LEAST_COMMANDS = 0.1, 0.2
 PARTING = os.path.join(TOP, "tests", "parting")
-FIRST_WORDS = ("ok", "refused", "no answer", "error", "endless", "bad line", "cluster refused")
 # Lines of a report that tell that something hangs, or hasn't ended.
 HANGS = ("starting", "blocked", "open")
 # These findings say nothing of live nodes.
@@ -51,22 +51,12 @@ Test = tuple[str, Optional[str]]
 # ---- Both answers
 
 
-def answers_of(text: str) -> list[list[str]]:
-    """What the program printed, by command."""
-    answers: list[list[str]] = []
-    for line in text.splitlines():
-        if line.startswith(FIRST_WORDS):
-            answers.append([])
-        answers[-1].append(line)
-    return answers
-
-
 def told_by(program: str, rules: str, text: str) -> list[list[str]]:
     """The answers to each command of a rehearsal by a set of rules, each with a report behind it; in front stands the first report."""
     parts = split_input(text)
     commands = [line for line in parts.lines if is_command(line)]
     done = run(program, ["run", "--rules", rules], input=joined(parts.cluster, ["show", *doubled(commands)]).encode())
-    wrong, answers = fault_of(done, 0, None), answers_of(done.stdout.decode())
+    wrong, answers = fault_of(done, 0, None), split_answers(done.stdout.decode())
     if wrong is not None or len(answers) != 1 + 2 * len(commands):
         raise ValueError(f"--rules {rules}: {wrong}, {len(answers)} answers to {1 + 2 * len(commands)} commands")
     return answers

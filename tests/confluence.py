@@ -18,11 +18,11 @@ from collections.abc import Callable, Iterable, Iterator, Sequence
 from dataclasses import dataclass
 from typing import Optional, Union
 
-from agreement import answers_of, has_tuple, ranges
+from agreement import has_tuple, ranges
 from groups import Group
 from lint_measure import is_in_page, shown
 from live_conditions import lacks_lists
-from live_rules import report_of
+from live_rules import report_of, split_answers
 from random_live import KINDS, Rehearsal, rehearsal, sane, wild
 from support import TOP, fault_of, run
 
@@ -88,7 +88,7 @@ def by_program(program: str, text: str, more: Sequence[str] = ()) -> list[Told]:
     parts = split_input(text)
     commands = list(filter(is_command, parts.lines))
     done = run(program, ["run", "--rules", "otp25", *more], input=joined(parts.cluster, doubled(commands)).encode())
-    wrong, answers = fault_of(done, 0, None), answers_of(done.stdout.decode())
+    wrong, answers = fault_of(done, 0, None), split_answers(done.stdout.decode())
     if wrong is not None or len(answers) != 2 * len(commands):
         raise ValueError(f"{wrong}, {len(answers)} answers to {2 * len(commands)} commands")
     return [Told(lines_of(["ok"] if words_of(command) == ["show"] else answer), lines_of(report))

@@ -29,7 +29,7 @@ from rehearse_tools.otp25.waiting import stands  # noqa: E402
 SCRIPTS = sorted(glob(os.path.join(TOP, "tests", "live", "*.txt")))
 # So many random rehearsals as they are, and so many that go back and forth.
 FIRST, COUNT, BACK_COUNT, AT_ONCE = 5_000, 240, 120, 20
-FIRST_WORDS = ("ok", "refused", "no answer", "error", "endless", "bad line")
+FIRST_WORDS = ("ok", "refused", "no answer", "error", "endless", "bad line", "cluster refused")
 ORDERLESS = ("waits ", "pending ", "  waiting ", "  timer ")
 
 Test = tuple[str, Optional[str]]
