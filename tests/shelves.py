@@ -20,7 +20,7 @@ TESTED = WRONG_BODIES / "tests"
 # The crates whose edits rt ci tries: those on which most stands, and which aren't dear. The first edit of a crate costs a proof of the
 # whole crate again, so each of them has several, and the other crates have none in the gate, which took 153 minutes on the machine of
 # CI with six crates more here.
-IN_GATE = {"rh_arena", "rh_wheel", "rh_settle", "rh_step", "rh_trail", "rh_room", "rh_sweep", "rh_history"}
+IN_GATE = {"rh_arena", "rh_wheel", "rh_settle", "rh_step", "rh_trail", "rh_room", "rh_sweep", "rh_history", "rh_otp_net", "rh_otp_text"}
 LEAST_OF_A_CRATE = 3
 # How many edits there may be for rt ci to try: with 150 in some fifty crates they took as long as all proofs together.
 MOST_IN_GATE = 60
