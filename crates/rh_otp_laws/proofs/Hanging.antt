@@ -1,6 +1,5 @@
 -- Where nothing can move nothing does.
 use Rattle.std.proofs.Common.{◌≡◌, ◌<◌, ◌&&◌, ◌||◌, false, cond, List, [], ◌∷◌, length, Option, Some, None, refl, sym, ◌∙◌, arith}
-use Rattle.rh_otp_net.specs.declared.order.Order.{Order}
 use Rattle.rh_otp_system.specs.declared.moves.Move.TheVariants as move
 use Rattle.rh_otp_system.specs.State.{SystemView, node_at, lives}
 use Rattle.rh_otp_system.specs.Calling.{can_go_on_from}

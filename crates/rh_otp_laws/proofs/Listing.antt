@@ -1,5 +1,5 @@
 -- Those that are alive are listed, each once.
-use Rattle.std.proofs.Common.{◌≡◌, ◌≢◌, ◌<◌, ◌⊎◌, ◌↔◌, ◌++◌, ◌==◌, ℕ, zero, suc, Bool, true, false, not, List, [], ◌∷◌, length, map, slice_get, get_or, unwrap_or, Option, Some, refl, sym, ap, subst, ◌∙◌, inl, inr, arith}
+use Rattle.std.proofs.Common.{◌≡◌, ◌≢◌, ◌<◌, ◌⊎◌, ◌↔◌, ◌++◌, ◌==◌, ℕ, zero, suc, Bool, true, false, not, List, [], ◌∷◌, length, map, slice_get, get_or, Some, refl, sym, ap, subst, ◌∙◌, inl, inr, arith}
 use Rattle.std.specs.Prelude.{AllPairs}
 use Rattle.std.proofs.lemmas.Bool.{false≢true, cases_eq, ne_eqb, eqb-false, not-true}
 use Rattle.std.proofs.lemmas.List.Kept.{AllPairs-filter}
@@ -8,7 +8,7 @@ use Rattle.std.proofs.lemmas.Option.{none-some, same_Some, slice_get-get_or}
 use Rattle.rh_model.specs.declared.node.Node.{Node}
 use Rattle.rh_otp_net.specs.Timers as timers
 use Rattle.rh_otp_node.specs.Kernel.{without_node}
-use Rattle.rh_otp_node.specs.Live.{LiveView, never_begun, is_alive, begun, with_kind}
+use Rattle.rh_otp_node.specs.Live.{LiveView, is_alive, begun, with_kind}
 use Rattle.rh_otp_node.specs.Remote.{without_monitors}
 use Rattle.rh_otp_system.specs.Doing.{begun_at}
 use Rattle.rh_otp_system.specs.Ending.{taken_down}
@@ -167,8 +167,7 @@ always_listed = record {
     begun = begins_listed;
     turn = in_turn;
   };
-  noted = λ s t same is.
-      same_list s t same.alive (λ m. ap (λ (o : Option LiveView). is_alive (unwrap_or o never_begun)) (same.nodes m)) is;
+  noted = λ s t same is. same_list s t same.alive same.nodes is;
   fired = λ s due step next is. subst IsListed (sym (due_fire s due)) (same_list s (fired_as s due) refl (λ m. refl) is);
   passed = λ s time on none is. same_list s (record s { clock = time }) refl (λ m. refl) is;
 }

@@ -83,7 +83,7 @@ lives_on_if : (b : Bool) (v x y : LiveView) → LivesOn v x → LivesOn v y → 
 lives_on_if true v x y p q = p
 lives_on_if false v x y p q = q
 
-seen_on : (other : Node) (v : LiveView) → LivesOn v (kernel.seen other v)
+pub seen_on : (other : Node) (v : LiveView) → LivesOn v (kernel.seen other v)
 seen_on other v = lives_on_if (is_in other v.mandatory) v _ _ (refl, refl) (refl, refl)
 
 sees : (n other : Node) (s : SystemView) → is_alive_at s n ≡ true → Turn n s (joining.has_seen n other s)

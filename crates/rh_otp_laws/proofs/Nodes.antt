@@ -18,7 +18,7 @@ written_there [] k v w is = absurd (none-some v is)
 written_there (c ∷ cells) zero v w is = refl
 written_there (c ∷ cells) (suc k) v w is = written_there cells k v w is
 
-written_elsewhere : (cells : List Cell) (k j : ℕ) (c : Cell) → (j ≡ k → ⊥) → slice_get (slice_set cells k c) j ≡ slice_get cells j
+pub written_elsewhere : (cells : List Cell) (k j : ℕ) (c : Cell) → (j ≡ k → ⊥) → slice_get (slice_set cells k c) j ≡ slice_get cells j
 written_elsewhere [] k j c other = refl
 written_elsewhere (d ∷ cells) zero zero c other = absurd (other refl)
 written_elsewhere (d ∷ cells) zero (suc j) c other = refl

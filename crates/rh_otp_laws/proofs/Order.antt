@@ -5,11 +5,11 @@ use Rattle.std.proofs.lemmas.Bool.{false≢true, and_parts, and_from, false_from
 use Rattle.std.proofs.lemmas.List.{get_or-take, length-take-le}
 use Rattle.std.proofs.lemmas.List.Quantifiers.{position-Some}
 use Rattle.std.proofs.lemmas.List.Sums.{prefix_len_passes}
-use Rattle.std.proofs.lemmas.Option.{none-some, same_Some, slice_get-get_or, get_or_from_slice_get}
+use Rattle.std.proofs.lemmas.Option.{none-some, same_Some, slice_get_within, slice_get-get_or, get_or_from_slice_get}
 use Rattle.rh_otp_model.specs.declared.output.Envelope.{Envelope}
 use Rattle.rh_otp_model.proofs.Places.{no_place}
 use Rattle.rh_otp_net.specs.Alike.{is_process}
-use Rattle.rh_otp_net.specs.Queue.{is_of_pair, first_of_pair}
+use Rattle.rh_otp_net.specs.Queue.{is_of_pair, first_like, first_of_pair}
 use Rattle.rh_otp_net.proofs.Pairs.{first_is}
 use Rattle.rh_otp_system.specs.declared.moves.Move.TheVariants as move
 use Rattle.rh_otp_system.specs.State.{SystemView}
@@ -23,11 +23,11 @@ use Rattle.rh_otp_laws.proofs.Sent.{IsBehind, sends_behind}
 
 -- ---- pairs of processes
 
-pair_itself : (e : Envelope) → is_of_pair e e ≡ true
+pub pair_itself : (e : Envelope) → is_of_pair e e ≡ true
 pair_itself e = and_from (is_process e.from e.from) (is_process e.to e.to) (process_itself e.from) (process_itself e.to)
 
 -- a message of the same pair has the same pair
-same_pair : (e f g : Envelope) → is_of_pair e f ≡ true → is_of_pair f g ≡ is_of_pair e g
+pub same_pair : (e f g : Envelope) → is_of_pair e f ≡ true → is_of_pair f g ≡ is_of_pair e g
 same_pair e f g is =
     let parts : (is_process e.from f.from ≡ true) × (is_process e.to f.to ≡ true) =
     and_parts (is_process e.from f.from) (is_process e.to f.to) is in
@@ -126,15 +126,35 @@ arrives_in_order s place e f first is =
       behind = ap (λ (t : SystemView). t.messages) arrives_there ∙ sends.1;
     }
 
+-- what is found at the place of the first of the pair of the message at this place
+first_of : (messages : List Envelope) (place : ℕ) (e : Envelope) → slice_get messages place ≡ Some e
+    → IsFirstAt (is_of_pair e) messages e (first_of_pair messages place)
+first_of messages place e there =
+    subst (IsFirstAt (is_of_pair e) messages e)
+    (first_is messages place e (position (is_of_pair e) (take place messages)) there refl)
+    (first_by (is_of_pair e) messages e place (position (is_of_pair e) (take place messages)) (slice_get_within messages place e there)
+    (ap (is_of_pair e) (get_or_from_slice_get messages place e e there) ∙ pair_itself e) refl)
+
 pub keeps_order : MessagesKeepTheirOrder
 keeps_order s place within =
     let some : (e : Envelope) × (slice_get s.messages place ≡ Some e) = some_message s.messages place within in
     let e : Envelope = some.0 in
-    let there : slice_get s.messages place ≡ Some e = some.1 in
-    let first : IsFirstAt (is_of_pair e) s.messages e (first_of_pair s.messages place) =
-    subst (IsFirstAt (is_of_pair e) s.messages e)
-    (first_is s.messages place e (position (is_of_pair e) (take place s.messages)) there refl)
-    (first_by (is_of_pair e) s.messages e place (position (is_of_pair e) (take place s.messages)) within
-    (ap (is_of_pair e) (get_or_from_slice_get s.messages place e e there) ∙ pair_itself e) refl) in
+    let first : IsFirstAt (is_of_pair e) s.messages e (first_of_pair s.messages place) = first_of s.messages place e some.1 in
     let at : ℕ = first_of_pair s.messages place in
     arrives_in_order s place e (get_or s.messages at e) first (slice_get-get_or s.messages at e first.within)
+
+-- none in front of the message that arrives is of its pair
+pub none_in_front : (s : SystemView) (place : ℕ) (f : Envelope) → arriving place s ≡ Some f
+    → (d : Envelope) × ((k : ℕ) → k < first_of_pair s.messages place → is_of_pair f (get_or s.messages k d) ≡ false)
+none_in_front s place f is = by (slice_get s.messages place) refl
+  where
+    by : (o : Option Envelope) → slice_get s.messages place ≡ o
+        → (d : Envelope) × ((k : ℕ) → k < first_of_pair s.messages place → is_of_pair f (get_or s.messages k d) ≡ false)
+    by None past =
+        let at : first_of_pair s.messages place ≡ place = ap (λ (o : Option Envelope). first_like o place (take place s.messages)) past in
+        absurd (none-some f (sym (ap (slice_get s.messages) at ∙ past) ∙ is))
+    by (Some e) there =
+        let first : IsFirstAt (is_of_pair e) s.messages e (first_of_pair s.messages place) = first_of s.messages place e there in
+        let same : is_of_pair e f ≡ true =
+        ap (is_of_pair e) (sym (get_or_from_slice_get s.messages (first_of_pair s.messages place) f e is)) ∙ first.passes in
+        (e, λ k before. same_pair e f (get_or s.messages k e) same ∙ first.none_before k before)

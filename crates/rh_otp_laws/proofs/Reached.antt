@@ -1,10 +1,10 @@
 -- What each thing that happens keeps holds of all that live nodes reach.
-use Rattle.std.proofs.Common.{◌≡◌, ◌≤◌, ℕ, List, [], false, Some, refl}
+use Rattle.std.proofs.Common.{◌≡◌, ◌≤◌, ◌⊎◌, ℕ, Bool, List, [], false, Option, Some, None, unwrap_or, refl, sym, ap, ◌∙◌, inl, inr}
 use Rattle.rh_model.specs.ClusterView.{numbered}
 use Rattle.rh_model.specs.declared.node.Node.{Node}
 use Rattle.rh_otp_model.specs.declared.output.Envelope.{Envelope}
 use Rattle.rh_otp_net.specs.Timers.{next_due}
-use Rattle.rh_otp_node.specs.Live.{LiveView}
+use Rattle.rh_otp_node.specs.Live.{LiveView, never_begun, is_alive}
 use Rattle.rh_otp_system.specs.State.{SystemView, live_at, is_alive_at}
 use Rattle.rh_otp_system.specs.Doing.{begun_at, fired_next}
 use Rattle.rh_otp_system.specs.Resting.{rested, forgotten}
@@ -29,7 +29,7 @@ acts_keep P stays _ _ (calls s a n app) p = stays.turn n _ _ (calls_on n a n app
 
 -- between commands all that this law is about is as it was
 pub record IsNoted (s t : SystemView) : Type 0 where
-  pub nodes : (n : Node) → live_at t n ≡ live_at s n
+  pub nodes : (n : Node) → is_alive_at t n ≡ is_alive_at s n
   pub alive : t.alive ≡ s.alive
   pub locks : t.locks ≡ s.locks
   pub timers : t.timers ≡ s.timers
@@ -42,6 +42,15 @@ rested_noted s = record { nodes = λ n. refl; alive = refl; locks = refl; timers
 pub forgotten_noted : (s : SystemView) → IsNoted s (forgotten s)
 unfolding forgotten
 forgotten_noted s = record { nodes = λ n. refl; alive = refl; locks = refl; timers = refl; clock = refl }
+
+abbrev pub alive_in : Option LiveView → Bool
+alive_in o = is_alive (unwrap_or o never_begun)
+
+-- whoever is taken up is alive as before
+taken_up_alive : (s t : SystemView) (n : Node) → (live_at t n ≡ live_at s n) ⊎ ((live_at t n ≡ None) × (is_alive_at s n ≡ false))
+    → is_alive_at t n ≡ is_alive_at s n
+taken_up_alive s t n (inl as_it_was) = ap alive_in as_it_was
+taken_up_alive s t n (inr none) = ap alive_in none.0 ∙ sym none.1
 
 -- it holds where no node has begun, and stays through all that happens
 pub record StaysAlways (P : SystemView → Type 0) : Type 0 where
@@ -63,7 +72,7 @@ happens_keep P always _ _ (rests s) p = always.noted s (rested s) (rested_noted 
 happens_keep P always _ _ (forgets s) p = always.noted s (forgotten s) (forgotten_noted s) p
 happens_keep P always _ _ (takes_up s cells told ends_soon quiet same) p =
     always.noted s (taken_up s cells told ends_soon)
-    (record { nodes = same; alive = refl; locks = refl; timers = refl; clock = refl }) p
+    (record { nodes = λ n. taken_up_alive s (taken_up s cells told ends_soon) n (same n); alive = refl; locks = refl; timers = refl; clock = refl }) p
 
 pub holds_always : (P : SystemView → Type 0) → StaysAlways P → (s : SystemView) → IsReached s → P s
 holds_always P always _ (new s is) = always.first s is

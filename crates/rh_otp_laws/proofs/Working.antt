@@ -81,7 +81,7 @@ sends_to_dist n to m s =
 
 -- ---- what a node's own processes write
 
-changed : (f : DistView → DistView) (o : Option DistView) (v : LiveView) → LivesOn v (remote.with_change f o v)
+pub changed : (f : DistView → DistView) (o : Option DistView) (v : LiveView) → LivesOn v (remote.with_change f o v)
 changed f None v = (refl, refl)
 changed f (Some d) v = (refl, refl)
 
@@ -99,7 +99,7 @@ introduced_of : (c : ClusterView) (own : OwnView) (n : Node) (nodes : List Node)
 introduced_of c own n nodes v None = (refl, refl)
 introduced_of c own n nodes v (Some d) = (refl, refl)
 
-introduced_on : (c : ClusterView) (own : OwnView) (n : Node) (nodes : List Node) (v : LiveView)
+pub introduced_on : (c : ClusterView) (own : OwnView) (n : Node) (nodes : List Node) (v : LiveView)
     → LivesOn v (introduced_by c own n nodes v).0
 unfolding introduced_by
 introduced_on c own n nodes v = introduced_of c own n nodes v v.dist
@@ -109,7 +109,7 @@ handled_of : (c : ClusterView) (own : OwnView) (n : Node) (asked : Asked) (v : L
 handled_of c own n asked v None = (refl, refl)
 handled_of c own n asked v (Some d) = (refl, refl)
 
-handled_on : (c : ClusterView) (own : OwnView) (n : Node) (asked : Asked) (v : LiveView) → LivesOn v (handled_by c own n asked v).0
+pub handled_on : (c : ClusterView) (own : OwnView) (n : Node) (asked : Asked) (v : LiveView) → LivesOn v (handled_by c own n asked v).0
 unfolding handled_by
 handled_on c own n asked v = handled_of c own n asked v v.dist
 

@@ -1,5 +1,5 @@
 -- What live nodes do, and what happens to them: in whatever order the moves are made, and however far they are when a command begins.
-use Rattle.std.specs.Prelude.{◌≡◌, ◌≤◌, ℕ, [], Bool, true, false, List, All, Some}
+use Rattle.std.specs.Prelude.{◌≡◌, ◌≤◌, ◌⊎◌, ℕ, [], Bool, true, false, List, All, Some, None}
 use Rattle.rh_model.specs.declared.node.App.{App}
 use Rattle.rh_model.specs.declared.node.Node.{Node}
 use Rattle.rh_otp_net.specs.declared.timers.Timer.{Timer}
@@ -33,6 +33,10 @@ IsNoneDueBefore time timers = All (λ (t : Timer). time ≤ t.due) timers
 abbrev pub taken_up : SystemView → List Cell → List (App × Node) → Bool → SystemView
 taken_up s cells told ends_soon = system_of s.cluster s.files cells (record (net_of s) { told = told }) ends_soon
 
+-- each node is as it was; and where there is none of a number, none of this number was alive
+abbrev pub HasNodesOf : SystemView → SystemView → Type 0
+HasNodesOf s t = (n : Node) → (live_at t n ≡ live_at s n) ⊎ ((live_at t n ≡ None) × (is_alive_at s n ≡ false))
+
 -- The same, and time passes: the timers that are due next fire, or the clock goes on while none is due. And a command is over, or the
 -- next one takes up the nodes and what is between them: answered calls are forgotten, and what was counted, told and seen.
 pub data Happens : SystemView → SystemView → Type 0 where
@@ -44,7 +48,7 @@ pub data Happens : SystemView → SystemView → Type 0 where
   rests : (s : SystemView) → Happens s (rested s)
   forgets : (s : SystemView) → Happens s (forgotten s)
   takes_up : (s : SystemView) (cells : List Cell) (told : List (App × Node)) (ends_soon : Bool) → IsQuiet s
-      → ((n : Node) → live_at (taken_up s cells told ends_soon) n ≡ live_at s n) → Happens s (taken_up s cells told ends_soon)
+      → HasNodesOf s (taken_up s cells told ends_soon) → Happens s (taken_up s cells told ends_soon)
 
 -- no node has begun, and nothing is between them
 pub record IsNew (s : SystemView) : Type 0 where
