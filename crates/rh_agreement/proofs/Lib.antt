@@ -1,0 +1,4 @@
+mod Beginning
+mod Reversing
+mod Refusing
+mod Quiet
