@@ -1,0 +1,5 @@
+pub mod Calls
+pub mod Notices
+pub mod Nodes
+pub mod Reports
+pub mod Replies
