@@ -90,7 +90,8 @@ MADE = {
     "rows/json/fault-value": ("write_fault", "fault_line"),
     "rows/json/sweep": ("outcome_line",),
     "rows/json/sweep-not-at-end": ("sweep_fault_line",),
-    "rows/manner/echo-and-strict": ("run_in",),
+    "rows/manner/echo-and-strict": ("run_in", "write_echo", "end_of"),
+    "rows/manner/echo-of-a-bad-line": ("answer_bad_line",),
     "rows/manner/interactive": ("run_dialogue",),
 }
 # Those that are made five thousand times, of a cluster of the second profile with 128 applications: none wants memory.

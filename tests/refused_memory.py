@@ -12,8 +12,8 @@ RUNS = ("rows/bare-nodes/two-bare-nodes", "rows/sessions/one-session-all-calls",
         "rows/sweep/plans-by-1-workers", "rows/sweep/plans-by-2-workers", "rows/story/firings", "rows/story/reasons",
         "rows/story/waits-for", "rows/verify/report", "rows/json/report", "rows/json/failover", "rows/json/names",
         "rows/json/refused-and-bad", "rows/json/fault-value", "rows/json/sweep-not-at-end",
-        "rows/manner/echo-and-strict", "rows/manner/interactive", "rows/otp25/answered-late", "rows/json/interactive", "rows/explore/verdicts", "rows/json/sweep",
-        "rows/json/sweep-base-alone", "rows/json/explore")
+        "rows/manner/echo-and-strict", "rows/manner/echo-of-a-bad-line", "rows/manner/interactive", "rows/otp25/answered-late",
+        "rows/json/interactive", "rows/explore/verdicts", "rows/json/sweep", "rows/json/sweep-base-alone", "rows/json/explore")
 
 # Refuses the allocation of the number in FAIL_ALLOCATION, counted from 1, and keeps in the file COUNT_FILE how many there
 # were: a program with threads ends without running what would be run at its end.

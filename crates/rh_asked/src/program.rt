@@ -16,8 +16,10 @@ pub enum Program {
     CheckJson,
     /// The commands of a script are answered.
     Run(Pick),
-    /// The same, by what live nodes of OTP 25.2.3 do, with messages taken in an order.
-    RunLive(Order),
+    /// The same, by what live nodes of OTP 25.2.3 do, with messages taken in an order, in a manner.
+    RunLive(Order, Manner),
+    /// The same, as lines of JSON.
+    RunLiveJson(Order),
     /// The commands of a script are answered, in a manner of its own.
     RunIn(Pick, Manner),
     /// The same as `Run`, as lines of JSON.

@@ -8,9 +8,10 @@ use Rattle.clap.specs.Faults.{fault_of, is_simple_and_free}
 use Rattle.clap.specs.declared.error.kind.ErrorKind.TheVariants as kind
 use Rattle.clap.proofs.OnLiterals.{clap_on_literals}
 use Rattle.rh_rules.specs.declared.pick.Pick.TheVariants.{First, Last}
+use Rattle.rh_otp_net.specs.declared.order.Order.{Order}
 use Rattle.rh_otp_net.specs.declared.order.Order.TheVariants.{FirstComes, LastComes, Drawn}
 use Rattle.rh_asked.specs.declared.program.Program.{Program}
-use Rattle.rh_asked.specs.declared.program.Program.TheVariants.{Check, CheckJson, Run, RunLive, RunIn, RunJson, Dialogue, DialogueJson, Story, Verify, Lint, Explore, ExploreJson, Sessions, Sweep, SweepJson}
+use Rattle.rh_asked.specs.declared.program.Program.TheVariants.{Check, CheckJson, Run, RunLive, RunLiveJson, RunIn, RunJson, Dialogue, DialogueJson, Story, Verify, Lint, Explore, ExploreJson, Sessions, Sweep, SweepJson}
 use Rattle.rh_command_line.specs.CommandLine.{AreNames, line}
 use Rattle.rh_command_line.specs.declared.building.Names.{Names}
 use Rattle.rh_command_line.specs.Table.{subcommand_named}
@@ -56,23 +57,34 @@ pick_row : (asks (codes "run" ∷ codes "--pick" ∷ codes "last" ∷ []) ≡ So
 unfolding clap_on_literals subcommand_named
 pick_row = (refl, refl, refl)
 
--- the rules by which a run answers: the manual's where none are named; those of live nodes have no other manner
-rules_row : (asks (codes "run" ∷ codes "--rules" ∷ codes "otp25" ∷ []) ≡ Some (RunLive FirstComes))
+-- a run on live nodes in the plain manner
+abbrev plain_live : Order → Program
+plain_live order = RunLive order (record { echo = false; strict = false })
+
+-- the rules by which a run answers: the manual's where none are named
+rules_row : (asks (codes "run" ∷ codes "--rules" ∷ codes "otp25" ∷ []) ≡ Some (plain_live FirstComes))
     × (faults (codes "run" ∷ codes "--rules" ∷ codes "otp25" ∷ []) ≡ [])
     × (asks (codes "run" ∷ codes "--rules=manual" ∷ codes "--pick=last" ∷ []) ≡ Some (Run Last))
-    × (asks (codes "run" ∷ codes "--rules=otp25" ∷ codes "--pick=first" ∷ []) ≡ Some (RunLive FirstComes))
-    × (asks (codes "run" ∷ codes "--rules=otp25" ∷ codes "--pick=last" ∷ []) ≡ Some (RunLive LastComes))
-    × (asks (codes "run" ∷ codes "--json" ∷ codes "--rules=otp25" ∷ []) ≡ None)
-    × (asks (codes "run" ∷ codes "--rules=otp25" ∷ codes "--interactive" ∷ []) ≡ None)
+    × (asks (codes "run" ∷ codes "--rules=otp25" ∷ codes "--pick=first" ∷ []) ≡ Some (plain_live FirstComes))
+    × (asks (codes "run" ∷ codes "--rules=otp25" ∷ codes "--pick=last" ∷ []) ≡ Some (plain_live LastComes))
     × (faults (codes "run" ∷ codes "--rules=otp26" ∷ []) ≡ kind.InvalidValue ∷ [])
     × (faults (codes "story" ∷ codes "--rules=otp25" ∷ []) ≡ kind.UnknownArgument ∷ [])
 unfolding clap_on_literals subcommand_named
-rules_row = (refl, refl, refl, refl, refl, refl, refl, refl, refl)
+rules_row = (refl, refl, refl, refl, refl, refl, refl)
+
+-- in which manners they are answered: not line by line, and by JSON in no other
+live_manner_row : (asks (codes "run" ∷ codes "--rules=otp25" ∷ codes "--echo" ∷ []) ≡ Some (RunLive FirstComes (record { echo = true; strict = false })))
+    × (asks (codes "run" ∷ codes "--strict" ∷ codes "--rules=otp25" ∷ codes "--pick=last" ∷ []) ≡ Some (RunLive LastComes (record { echo = false; strict = true })))
+    × (asks (codes "run" ∷ codes "--json" ∷ codes "--rules=otp25" ∷ codes "--pick=7" ∷ []) ≡ Some (RunLiveJson (Drawn 7)))
+    × (asks (codes "run" ∷ codes "--json" ∷ codes "--rules=otp25" ∷ codes "--echo" ∷ []) ≡ None)
+    × (asks (codes "run" ∷ codes "--rules=otp25" ∷ codes "--interactive" ∷ []) ≡ None)
+unfolding clap_on_literals subcommand_named
+live_manner_row = (refl, refl, refl, refl, refl)
 
 -- a number decides the order of messages of live nodes, from 1 to 2^31 - 2; by the manual's rules there is none to decide
-number_row : (asks (codes "run" ∷ codes "--rules=otp25" ∷ codes "--pick=7" ∷ []) ≡ Some (RunLive (Drawn 7)))
+number_row : (asks (codes "run" ∷ codes "--rules=otp25" ∷ codes "--pick=7" ∷ []) ≡ Some (plain_live (Drawn 7)))
     × (faults (codes "run" ∷ codes "--rules=otp25" ∷ codes "--pick=7" ∷ []) ≡ [])
-    × (asks (codes "run" ∷ codes "--pick" ∷ codes "2147483646" ∷ codes "--rules" ∷ codes "otp25" ∷ []) ≡ Some (RunLive (Drawn 2147483646)))
+    × (asks (codes "run" ∷ codes "--pick" ∷ codes "2147483646" ∷ codes "--rules" ∷ codes "otp25" ∷ []) ≡ Some (plain_live (Drawn 2147483646)))
     × (asks (codes "run" ∷ codes "--rules=otp25" ∷ codes "--pick=0" ∷ []) ≡ None)
     × (asks (codes "run" ∷ codes "--rules=otp25" ∷ codes "--pick=2147483647" ∷ []) ≡ None)
     × (asks (codes "run" ∷ codes "--rules=otp25" ∷ codes "--pick=middle" ∷ []) ≡ None)

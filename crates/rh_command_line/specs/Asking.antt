@@ -17,6 +17,7 @@ use Rattle.rh_rules.specs.declared.pick.Pick.TheVariants.{First, Last}
 use Rattle.rh_plans.specs.declared.workers.TheConstants.{MAX_WORKERS}
 use Rattle.rh_otp_net.specs.declared.order.Order.{Order}
 use Rattle.rh_otp_net.specs.declared.order.Order.TheVariants as order
+use Rattle.rh_asked.specs.declared.manner.Manner.{Manner}
 use Rattle.rh_asked.specs.declared.manner.SearchRoom.{SearchRoom}
 use Rattle.rh_asked.specs.declared.program.Program.{Program}
 use Rattle.rh_asked.specs.declared.program.Program.TheVariants as program
@@ -140,10 +141,15 @@ is_live (Some word) = bytes_eq word (codes "otp25")
 abbrev pub is_live_in : List Row → Bool
 is_live_in rows = is_live (first_of (codes "rules") rows)
 
--- a run on live nodes, with messages in this order: it has no other manner
-abbrev pub live_run : Option Order → Bool → Option Program
-live_run None other = None
-live_run (Some order) other = if other then None else Some (program.RunLive order)
+-- a run on live nodes, with messages in this order, by JSON or not: only the one that isn't has a manner
+abbrev pub live_as : Order → Manner → Bool → Option Program
+live_as order m json =
+    if json then (if m.echo || m.strict then None else Some (program.RunLiveJson order)) else Some (program.RunLive order m)
+
+-- where there is such an order; it answers all at once
+abbrev pub live_run : Option Order → Bool → Bool → Bool → Bool → Option Program
+live_run None echo strict json interactive = None
+live_run (Some order) echo strict json interactive = if interactive then None else live_as order (record { echo = echo; strict = strict }) json
 
 -- a run by the manual's rules, where this choice is named
 abbrev pub manual_run : Option Pick → Bool → Bool → Bool → Bool → Option Program
@@ -153,7 +159,7 @@ manual_run (Some pick) echo strict json interactive = run_as pick echo strict js
 -- a run by the rules that are named
 abbrev pub run_in : List Row → Option Program
 run_in rows =
-    if is_live_in rows then live_run (order_in rows) (flag_in Echo rows || flag_in Strict rows || flag_in Json rows || flag_in Interactive rows)
+    if is_live_in rows then live_run (order_in rows) (flag_in Echo rows) (flag_in Strict rows) (flag_in Json rows) (flag_in Interactive rows)
     else manual_run (pick_named (first_of (codes "pick") rows)) (flag_in Echo rows) (flag_in Strict rows) (flag_in Json rows) (flag_in Interactive rows)
 
 -- a list of what is wrong, in this manner
@@ -191,6 +197,34 @@ program_in word rows = option_and_then (λ s. program_of s rows) (subcommand_nam
 -- the program of the subcommand that the words name, with its matches
 abbrev pub program_among : Option (Text × List Row) → Option Program
 program_among = option_and_then (λ p. program_in p.0 p.1)
+
+-- ---- why words that the parser finds no fault in name no program, in words
+
+-- a run on live nodes, of this order, if there is such an order
+abbrev pub why_no_live_run : Option Order → Bool → Text
+why_no_live_run None interactive = codes "with --rules otp25, --pick takes first, last or a number from 1 to 2147483646"
+why_no_live_run (Some order) interactive =
+    if interactive then codes "--rules otp25 doesn't go with --interactive" else codes "--json goes with neither --echo nor --strict"
+
+-- a run by the manual's rules, of this choice, if there is such a choice
+abbrev pub why_no_manual_run : Option Pick → Text
+why_no_manual_run None = codes "--pick takes first or last, and a number only with --rules otp25"
+why_no_manual_run (Some pick) = codes "--json and --interactive go with neither --echo nor --strict"
+
+abbrev pub why_no_run : List Row → Text
+why_no_run rows =
+    if is_live_in rows then why_no_live_run (order_in rows) (flag_in Interactive rows)
+    else why_no_manual_run (pick_named (first_of (codes "pick") rows))
+
+-- only of a run there is more to say
+abbrev pub why_not : Text → List Row → Text
+why_not word rows = if bytes_eq word (codes "run") then why_no_run rows else codes "no program has this name and these options"
+
+abbrev pub why_none : Option (Text × List Row) → Text
+why_none None = codes "no program has this name and these options"
+why_none (Some met) = why_not met.0 met.1
+
+-- ---- what is asked
 
 -- the words ask for this program: the parser finds no fault in them, and their subcommand is this program
 abbrev pub AsksFor : List Text → Program → Type 0

@@ -116,8 +116,9 @@ With `--rules otp25` the same input is answered as live nodes of OTP 25 do, and
 not by the manual's rules: a call can be answered late, or never. Messages of
 different processes may come in any order there: they are taken as they were
 sent; with `--pick last` the last one first; with `--pick N` as N decides, from
-1 to 2147483646. It goes with no other option. What such nodes tell beside the
-lines above:
+1 to 2147483646. With `--strict` the exit status is 9 where a step isn't
+answered by `ok`. It doesn't go with `--interactive`. What such nodes tell
+beside the lines above:
 
   error WHY            what the call answered, as Erlang writes it
   no answer            the call is still open

@@ -7,7 +7,7 @@ ghost use Rattle.rh_rules.specs.declared.pick.Pick.TheVariants as pick;
 ghost use Rattle.rh_plans.specs.Workers.{AreWorkers};
 ghost use Rattle.rh_asked.specs.Programs.{IsStaffed};
 ghost use Rattle.rh_asked.specs.declared.program.Program.TheVariants as program;
-ghost use Rattle.rh_command_line.specs.Asking.{allowed, allowed_memory, allowed_number, allowed_states, answering, explore_of, flag_in, is_given, is_live, is_live_in, lint_of, live_run, manual_run, memory_in, number_in, order_in, order_of, pick_in, pick_named, program_among, program_in, program_of, room_in, run_as, run_in, run_of, states_in, sweep_of, workers_in};
+ghost use Rattle.rh_command_line.specs.Asking.{allowed, allowed_memory, allowed_number, allowed_states, answering, explore_of, flag_in, is_given, is_live, is_live_in, lint_of, live_as, live_run, manual_run, memory_in, number_in, order_in, order_of, pick_in, pick_named, program_among, program_in, program_of, room_in, run_as, run_in, run_of, states_in, sweep_of, why_no_live_run, why_no_manual_run, why_no_run, why_none, why_not, workers_in};
 
 use crate::table::{Flag, MOST_MEBIBYTES, MOST_NUMBER, MOST_STATES, Subcommand, subcommand_named};
 use clap::ArgMatches;
@@ -25,26 +25,59 @@ pub fn program_among(matches: &ArgMatches<'_>) -> Option<Program>
     program_in(name, matches)
 }
 
-/// Why matches of the whole command line name no program, in words.
-pub fn why_none<'a>(matches: &ArgMatches<'_>) -> &'a str {
+/// Why matches of the whole command line that name no program don't, in words.
+pub fn why_none<'a>(matches: &ArgMatches<'_>) -> &'a str
+    ensures { result.now ≡ why_none (subcommand_rows_of matches.now) }
+{
     match matches.subcommand() {
-        Some(("run", matches)) => why_no_run(matches),
-        _ => "no program has this name and these options",
+        Some((name, matches)) => why_not(name, matches),
+        None => "no program has this name and these options",
+    }
+}
+
+// Why the subcommand with this word is no program with these matches.
+fn why_not<'a>(word: &str, matches: &ArgMatches<'_>) -> &'a str
+    ensures { result.now ≡ why_not word.now (rows_of (found_of matches.now)) }
+{
+    if word == "run" {
+        why_no_run(matches)
+    } else {
+        "no program has this name and these options"
     }
 }
 
 // Why there is no such run.
-fn why_no_run<'a>(matches: &ArgMatches<'_>) -> &'a str {
+fn why_no_run<'a>(matches: &ArgMatches<'_>) -> &'a str
+    ensures { result.now ≡ why_no_run (rows_of (found_of matches.now)) }
+{
     if is_live_in(matches) {
-        if order_in(matches).is_some() {
-            "--rules otp25 goes with no other option than --pick"
-        } else {
-            "with --rules otp25, --pick takes first, last or a number from 1 to 2147483646"
-        }
-    } else if named_in(matches).is_some() {
-        "--json and --interactive go with neither --echo nor --strict"
+        why_no_live_run(order_in(matches), flag_in(matches, Flag::Interactive))
     } else {
+        why_no_manual_run(named_in(matches))
+    }
+}
+
+// Why there is no such run on live nodes, with messages in this order, if there is such an order.
+fn why_no_live_run<'a>(order: Option<Order>, interactive: bool) -> &'a str
+    ensures { result.now ≡ why_no_live_run order interactive }
+{
+    if order.is_none() {
+        "with --rules otp25, --pick takes first, last or a number from 1 to 2147483646"
+    } else if interactive {
+        "--rules otp25 doesn't go with --interactive"
+    } else {
+        "--json goes with neither --echo nor --strict"
+    }
+}
+
+// Why there is no such run by the manual's rules, with this choice, if there is such a choice.
+fn why_no_manual_run<'a>(pick: Option<Pick>) -> &'a str
+    ensures { result.now ≡ why_no_manual_run pick }
+{
+    if pick.is_none() {
         "--pick takes first or last, and a number only with --rules otp25"
+    } else {
+        "--json and --interactive go with neither --echo nor --strict"
     }
 }
 
@@ -110,20 +143,42 @@ fn run_in(matches: &ArgMatches<'_>) -> Option<Program>
     let json = flag_in(matches, Flag::Json);
     let interactive = flag_in(matches, Flag::Interactive);
     if is_live_in(matches) {
-        live_run(order_in(matches), echo || strict || json || interactive)
+        live_run(order_in(matches), echo, strict, json, interactive)
     } else {
         manual_run(named_in(matches), echo, strict, json, interactive)
     }
 }
 
-// A run on live nodes, if the order of messages is known: it has no other manner.
-fn live_run(order: Option<Order>, other: bool) -> Option<Program>
-    ensures named { result ≡ live_run order other }
+// A run on live nodes, if the order of messages is known: it answers all at once.
+fn live_run(
+    order: Option<Order>,
+    echo: bool,
+    strict: bool,
+    json: bool,
+    interactive: bool,
+) -> Option<Program>
+    ensures named { result ≡ live_run order echo strict json interactive }
     ensures staffed { IfSome result IsStaffed }
 {
-    match order {
-        Some(order) if !other => Some(Program::RunLive(order)),
-        _ => None,
+    let order = order?;
+    if interactive {
+        None
+    } else {
+        live_as(order, Manner { echo, strict }, json)
+    }
+}
+
+// The same, by JSON or not: only the one that isn't has a manner.
+fn live_as(order: Order, manner: Manner, json: bool) -> Option<Program>
+    ensures named { result ≡ live_as order manner json }
+    ensures staffed { IfSome result IsStaffed }
+{
+    if !json {
+        Some(Program::RunLive(order, manner))
+    } else if manner.echo || manner.strict {
+        None
+    } else {
+        Some(Program::RunLiveJson(order))
     }
 }
 

@@ -87,7 +87,7 @@ first_breaks takes fails a b first second f q = fault_before takes fails f a b f
 
 -- ---- a line in the midst of a run: what is asked here is head, and then tail
 
-or_assoc : (a b c : Bool) → ((a || b) || c) ≡ (a || (b || c))
+pub or_assoc : (a b c : Bool) → ((a || b) || c) ≡ (a || (b || c))
 or_assoc true b c = refl
 or_assoc false b c = refl
 

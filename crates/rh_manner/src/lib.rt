@@ -3,7 +3,8 @@
 //! [`run_in`] does what `run` of `rh_run` does, in a [`Manner`]: it may print each command before its answer, and may end with a
 //! fault of its own where a step was refused. With neither it is `run`, which is a law ([`plain_manner_is_run`]). [`run_dialogue`] does
 //! what `run` does, or `run_json` of `rh_json`, as its [`Voice`] says, over one device with both directions, which it asks for more only
-//! when all that is due was written and flushed.
+//! when all that is due was written and flushed. A run by other rules takes what a manner means from here ([`write_echo`],
+//! [`answer_bad_line`], [`end_of`]).
 #![tactic(auto)]
 
 mod dialogue;
@@ -19,5 +20,5 @@ pub use dialogue::run_dialogue;
 pub use laws::plain_manner_is_run;
 pub use pair::Pair;
 pub use rh_asked::Manner;
-pub use running::run_in;
+pub use running::{Turn, answer_bad_line, end_of, run_in, write_echo};
 pub use voice::{Form, Voice};

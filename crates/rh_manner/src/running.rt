@@ -92,7 +92,7 @@ fn answer_script<K: Sink>(
     answer_lines(alloc, &mut sim, script, writer, manner)
 }
 
-// What came of a line.
+/// What came of a line.
 #[derive(Clone, Copy)]
 pub enum Turn {
     /// It asked nothing, or was answered; whether it was a step that was refused.
@@ -133,8 +133,8 @@ fn answer_lines<K: Sink>(
     Ok(end_of(manner, refused))
 }
 
-// What the text tells that has no bad line.
-fn end_of(manner: Manner, refused: bool) -> Option<Told>
+/// What the text tells at its end that has no bad line: in a strict manner that a step was refused, if one was.
+pub fn end_of(manner: Manner, refused: bool) -> Option<Told>
     ensures { result ≡ end_of manner refused None }
 {
     if manner.strict && refused {
@@ -172,8 +172,8 @@ fn answer_line<K: Sink>(
     }
 }
 
-// Writes a line that is no command, where commands are printed, and its number.
-fn answer_bad_line<K: Sink>(
+/// Writes a line that is no command, where commands are printed, and that the line of this number is none.
+pub fn answer_bad_line<K: Sink>(
     alloc: Global,
     number: u64,
     line: &[u8],
@@ -253,8 +253,8 @@ fn write_answer<K: Sink>(
     write_text(writer, text.as_slice())
 }
 
-// Writes a line as it stands, where commands are printed.
-fn write_echo<K: Sink>(
+/// Writes a line as it stands, behind `> `, where commands are printed, and else nothing.
+pub fn write_echo<K: Sink>(
     alloc: Global,
     line: &[u8],
     writer: &mut Watched<K>,

@@ -1,61 +1,100 @@
 -- One line of a script, and those behind it.
-use Rattle.std.proofs.Common.{◌≡◌, ◌+◌, ℕ, List, ◌∷◌, ◌++◌, Bool, Option, None, Result, Ok, Err, refl, sym, ap, ◌∙◌, append_assoc}
+use Rattle.std.proofs.Common.{◌≡◌, ◌∙◌, ◌+◌, ◌||◌, ℕ, List, [], ◌∷◌, ◌++◌, Bool, true, false, Option, Some, Result, Ok, Err, refl, sym, ap, ap₂, subst, append_assoc}
 use Rattle.rh_calls.specs.declared.call.Call.{Call}
-use Rattle.rh_script.specs.declared.script.Line.{Line}
-use Rattle.rh_script.specs.declared.script.Line.TheVariants.{Asks}
+use Rattle.rh_script.specs.declared.script.Line.TheVariants.{Nothing, Asks, Bad}
+use Rattle.rh_script.specs.Answers.{bad_text}
+use Rattle.rh_run.specs.declared.fault.Told.{Told}
+use Rattle.rh_run.specs.declared.fault.Told.TheVariants as told
+use Rattle.rh_run.specs.RunText.{bad_line, Wrote}
 use Rattle.rh_devices.specs.declared.fault.WriteFault.{WriteFault}
 use Rattle.rh_devices.specs.declared.watched.Watched.{Watched}
 use Rattle.rh_devices.specs.Devices.{Passed, WroteFront}
-use Rattle.rh_script.specs.Commands.{calls_of}
-use Rattle.rh_run.specs.RunText.{bad_line, end_text, Wrote, Broke}
-use Rattle.rh_run.proofs.Turns.{wrote_behind}
-use Rattle.rh_devices.proofs.Passing.{passed_more, fault_before}
-use Rattle.rh_otp_sim.specs.Calls.{made_by}
+use Rattle.rh_devices.proofs.Passing.{passed_more, passed_none, fault_behind, fault_before}
+use Rattle.rh_asked.specs.declared.manner.Manner.{Manner}
+use Rattle.rh_manner.specs.declared.running.Turn.TheVariants.{Goes, Ends}
+use Rattle.rh_manner.specs.MannerText.{Said, asked, echo_of, end_of}
+use Rattle.rh_manner.specs.Turns.{WroteCall}
+use Rattle.rh_manner.proofs.Lines.{or_assoc}
+use Rattle.rh_otp_sim.specs.Calls.{made_by, reply_to}
 use Rattle.rh_otp_sim.specs.Sim.{LiveSimView}
-use Rattle.rh_otp_run.specs.LiveText.{answered_text, answers_text, script_text, Turns}
+use Rattle.rh_otp_run.specs.LiveText.{answered_text, any_refused, is_refused_step, said_text, Turns}
 
--- the text of a command, and that of the lines behind it
-asks_text : (sim : LiveSimView) (k : ℕ) (call : Call) (lines : List Line)
-    → script_text sim k (Asks call ∷ lines) ≡ answered_text sim call ++ script_text (made_by call sim) (k + 1) lines
-asks_text sim k call lines =
-    append_assoc (answered_text sim call) (answers_text (made_by call sim) (calls_of lines)) (end_text (bad_line (k + 1) lines))
-
--- a command was answered, or not
 module _ {K : Type 0} (takes : K → K → List ℕ → Type 0) (fails : K → K → Type 0)
-    (before after : LiveSimView) (k : ℕ) (call : Call) (lines : List Line) (old new : Watched K) where
-  pub turn_of_call : after ≡ made_by call before → Broke takes fails (Ok tt) (answered_text before call) old new
-      → Turns takes fails (Ok None) before after k (Asks call) lines old new
-  turn_of_call same broke = (
-    answered_text before call,
-    broke.0,
-    asks_text before k call lines ∙ (λ i. answered_text before call ++ script_text (sym same i) (k + 1) lines),
+    (m : Manner) (before after : LiveSimView) (k : ℕ) (line : List ℕ) (lines : List Said) (old new : Watched K) where
+  -- a line that asks nothing
+  pub turn_of_nothing : after ≡ before → old ≡ new → new.failed ≡ false
+      → Turns takes fails (Ok (Goes false)) m before after k (line, Nothing) lines old new
+  turn_of_nothing same kept well = (
+    [],
+    subst (λ (w : Watched K). Passed takes old.inner w.inner []) kept (passed_none takes old.inner),
+    ap (λ (s : LiveSimView). said_text m s (k + 1) lines) (sym same),
     refl,
-    broke.1,
+    ap (λ (s : LiveSimView). any_refused s lines) (sym same),
+    well,
   )
 
-  pub call_breaks : (f : WriteFault) → WroteFront takes fails f (answered_text before call) old new
-      → Turns takes fails (Err f) before after k (Asks call) lines old new
-  call_breaks f broke =
-      rw (asks_text before k call lines) (fault_before takes fails f old new _ (script_text (made_by call before) (k + 1) lines) broke)
+  -- a command that was answered, or wasn't
+  pub turn_of_call : (call : Call) (refused : Bool) → after ≡ made_by call before → refused ≡ is_refused_step (reply_to call before)
+      → WroteCall takes fails (Ok refused) (answered_text m line before call) old new
+      → Turns takes fails (Ok (Goes refused)) m before after k (line, Asks call) lines old new
+  turn_of_call call refused same is wrote = (
+    answered_text m line before call,
+    wrote.0,
+    ap (λ (s : LiveSimView). answered_text m line before call ++ said_text m s (k + 1) lines) (sym same),
+    refl,
+    ap₂ (λ (b : Bool) (s : LiveSimView). b || any_refused s lines) (sym is) (sym same),
+    wrote.1,
+  )
+
+  pub call_breaks : (call : Call) (f : WriteFault) → WroteFront takes fails f (answered_text m line before call) old new
+      → Turns takes fails (Err f) m before after k (line, Asks call) lines old new
+  call_breaks call f broke = fault_before takes fails f old new _ (said_text m (made_by call before) (k + 1) lines) broke
+
+  -- a line that is no command, and that was told, or wasn't
+  pub turn_of_bad : Passed takes old.inner new.inner (echo_of m line ++ bad_text k) → new.failed ≡ false
+      → Turns takes fails (Ok Ends) m before after k (line, Bad) lines old new
+  turn_of_bad wrote well = (wrote, refl, well)
+
+  pub bad_breaks : (f : WriteFault) → WroteFront takes fails f (echo_of m line ++ bad_text k) old new
+      → Turns takes fails (Err f) m before after k (line, Bad) lines old new
+  bad_breaks f broke = broke
 
 -- a line in the midst of a run: what is asked here is head, and then tail
 module _ {K : Type 0} (takes : K → K → List ℕ → Type 0) (fails : K → K → Type 0)
-    (start sim next : LiveSimView) (k : ℕ) (all here tail : List Line) (head : Line)
+    (m : Manner) (start sim next : LiveSimView) (k : ℕ) (refused : Bool) (all here tail : List Said) (head : Said)
     (a b d : Watched K) (done : List ℕ)
     (at : here ≡ head ∷ tail) (wrote : Passed takes a.inner b.inner done)
-    (so_far : script_text start 1 all ≡ done ++ script_text sim k here) (bad : bad_line 1 all ≡ bad_line k here) where
-  pub ends_here : (r : Result (Option ℕ) WriteFault) → Wrote takes fails r (script_text sim k (head ∷ tail)) (bad_line k (head ∷ tail)) b d
-      → Wrote takes fails r (script_text start 1 all) (bad_line 1 all) a d
-  ends_here r turn =
-      rw (so_far, bad, at) (wrote_behind takes fails r a b d done (script_text sim k (head ∷ tail)) (bad_line k (head ∷ tail)) wrote turn)
+    (so_far : said_text m start 1 all ≡ done ++ said_text m sim k here) (bad : bad_line 1 (asked all) ≡ bad_line k (asked here))
+    (told_so : any_refused start all ≡ (refused || any_refused sim here)) where
+  -- all of the text: what was written so far, and that of the lines from here on
+  whole : said_text m start 1 all ≡ done ++ said_text m sim k (head ∷ tail)
+  whole = so_far ∙ ap (λ (ls : List Said). done ++ said_text m sim k ls) at
 
-  pub text_goes_on : Turns takes fails (Ok None) sim next k head tail b d
-      → (more : List ℕ) × Passed takes a.inner d.inner more × (script_text start 1 all ≡ more ++ script_text next (k + 1) tail)
-  text_goes_on turn = (
-    done ++ turn.0,
-    passed_more takes a.inner b.inner d.inner done turn.0 wrote turn.1,
-    so_far ∙ ap (λ ls. done ++ script_text sim k ls) at ∙ ap (λ t. done ++ t) turn.2 ∙ sym (append_assoc done turn.0 (script_text next (k + 1) tail)),
+  pub breaks_here : (f : WriteFault) (owed : Option Told) → Turns takes fails (Err f) m sim next k head tail b d
+      → Wrote takes fails (Err f) (said_text m start 1 all) owed a d
+  breaks_here f owed turn = rw whole (fault_behind takes fails f a b d done (said_text m sim k (head ∷ tail)) wrote turn)
+
+  pub ends_here : Turns takes fails (Ok Ends) m sim next k head tail b d
+      → Wrote takes fails (Ok (Some (told.BadLine k))) (said_text m start 1 all) (end_of m (any_refused start all) (bad_line 1 (asked all))) a d
+  ends_here turn = (
+    ap (λ (o : Option ℕ). end_of m (any_refused start all) o) (bad ∙ ap (λ (ls : List Said). bad_line k (asked ls)) at ∙ turn.1),
+    rw whole (passed_more takes a.inner b.inner d.inner done (said_text m sim k (head ∷ tail)) wrote turn.0),
+    turn.2,
   )
 
-  pub bad_goes_on : Turns takes fails (Ok None) sim next k head tail b d → bad_line 1 all ≡ bad_line (k + 1) tail
-  bad_goes_on turn = bad ∙ ap (bad_line k) at ∙ turn.3
+  pub text_goes_on : (was : Bool) → Turns takes fails (Ok (Goes was)) m sim next k head tail b d
+      → (more : List ℕ) × Passed takes a.inner d.inner more × (said_text m start 1 all ≡ more ++ said_text m next (k + 1) tail)
+  text_goes_on was turn = (
+    done ++ turn.0,
+    passed_more takes a.inner b.inner d.inner done turn.0 wrote turn.1,
+    whole ∙ ap (λ (t : List ℕ). done ++ t) turn.2 ∙ sym (append_assoc done turn.0 (said_text m next (k + 1) tail)),
+  )
+
+  pub bad_goes_on : (was : Bool) → Turns takes fails (Ok (Goes was)) m sim next k head tail b d → bad_line 1 (asked all) ≡ bad_line (k + 1) (asked tail)
+  bad_goes_on was turn = bad ∙ ap (λ (ls : List Said). bad_line k (asked ls)) at ∙ turn.3
+
+  pub refusals_go_on : (was : Bool) → Turns takes fails (Ok (Goes was)) m sim next k head tail b d
+      → any_refused start all ≡ ((refused || was) || any_refused next tail)
+  refusals_go_on was turn =
+      told_so ∙ ap (λ (ls : List Said). refused || any_refused sim ls) at ∙ ap (λ (x : Bool). refused || x) turn.4
+      ∙ sym (or_assoc refused was (any_refused next tail))

@@ -4,7 +4,7 @@ use Rattle.rh_run.specs.declared.fault.RunFault.{RunFault}
 use Rattle.rh_run.specs.declared.fault.RunFault.TheVariants as end
 use Rattle.rh_run.specs.declared.fault.Told.{Told}
 use Rattle.rh_asked.specs.declared.program.Program.{Program}
-use Rattle.rh_asked.specs.declared.program.Program.TheVariants.{Check, CheckJson, Run, RunLive, RunIn, RunJson, Dialogue, DialogueJson, Story, Verify, Lint, Explore, ExploreJson, Sessions, Sweep, SweepJson}
+use Rattle.rh_asked.specs.declared.program.Program.TheVariants.{Check, CheckJson, Run, RunLive, RunLiveJson, RunIn, RunJson, Dialogue, DialogueJson, Story, Verify, Lint, Explore, ExploreJson, Sessions, Sweep, SweepJson}
 use Rattle.rh_devices.specs.declared.watched.Watched.{Watched}
 use Rattle.rh_devices.specs.Devices.{Passed}
 use Rattle.rh_run.specs.Programs.{IsInput, ProgramGives, NoThreads}
@@ -20,6 +20,7 @@ use Rattle.rh_explore_text.specs.ExploreJson.{OwesExploreJson}
 use Rattle.rh_json.specs.CheckJson.{OwesCheckJson}
 use Rattle.rh_json.specs.RunJson.{OwesRunJson}
 use Rattle.rh_manner.specs.MannerText.{OwesRunIn}
+use Rattle.rh_otp_json.specs.LiveJson.{OwesLiveJson}
 use Rattle.rh_otp_run.specs.LiveText.{OwesLiveRun}
 use Rattle.rh_story.specs.StoryText.{OwesStory}
 use Rattle.rh_json.specs.SweepJson.{OwesSweepJson}
@@ -31,7 +32,8 @@ abbrev pub Owes : Program → List ℕ → List ℕ → Option Told → Type 0
 Owes Check = OwesCheck
 Owes CheckJson = OwesCheckJson
 Owes (Run pick) = OwesRun pick
-Owes (RunLive order) = OwesLiveRun order
+Owes (RunLive order manner) = OwesLiveRun order manner
+Owes (RunLiveJson order) = OwesLiveJson order
 Owes (RunIn pick manner) = OwesRunIn manner pick
 Owes (RunJson pick) = OwesRunJson pick
 Owes (Dialogue pick) = OwesRun pick

@@ -14,6 +14,7 @@ use rh_explore_text::{explore_json, run_explore};
 use rh_json::{check_json, run_json};
 use rh_lint::run_lint;
 use rh_manner::{Form, Voice, run_dialogue, run_in};
+use rh_otp_json::live_json;
 use rh_otp_run::run_live;
 use rh_run::{RunFault, run, run_check};
 use rh_story::run_story;
@@ -123,7 +124,8 @@ fn ended_alone<S: Source, K: Sink, W: Watch>(
         Program::Check => run_check(alloc, reader, writer),
         Program::CheckJson => check_json(alloc, reader, writer),
         Program::Run(pick) | Program::Dialogue(pick) => run(alloc, reader, writer, pick),
-        Program::RunLive(order) => run_live(alloc, reader, writer, order),
+        Program::RunLive(order, manner) => run_live(alloc, reader, writer, order, manner),
+        Program::RunLiveJson(order) => live_json(alloc, reader, writer, order),
         Program::RunIn(pick, manner) => run_in(alloc, reader, writer, pick, manner),
         Program::RunJson(pick) | Program::DialogueJson(pick) => {
             run_json(alloc, reader, writer, pick)

@@ -7,4 +7,4 @@ pub returns-in_err-files-in-Ok : goal.returns-in_err-files-in-Ok
 returns-in_err-files-in-Ok g c =
     let p = err_from_is_err_and c.from_residual-in_err-files-in-Ok.result c.from_residual-in_err-files-in-Ok.ensures.1 in
     rw (p.1, p.2)
-    (nothing_yet g.K.Sink.takes g.K.Sink.fails c.args.writer.now.inner (live_text c.args.order c.args.input.now), c.requires)
+    (nothing_yet g.K.Sink.takes g.K.Sink.fails c.args.writer.now.inner (live_text c.args.order c.args.manner c.args.input.now), c.requires)

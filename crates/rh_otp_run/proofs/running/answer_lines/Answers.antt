@@ -1,69 +1,77 @@
-use Rattle.std.proofs.Common.{List, ℕ, Some, Ok, Err, map, ap, subst, ◌∙◌, arith}
+use Rattle.std.proofs.Common.{◌∙◌, List, ℕ, None, Ok, Err, map, ap, subst, arith}
 use Rattle.std.proofs.lemmas.Result.{err_from_is_err_and}
+use Rattle.rh_model.specs.ClusterView.{ClusterView}
 use Rattle.rh_script.specs.Lines.{raw_lines, content}
 use Rattle.rh_script.specs.Commands.{line_of}
-use Rattle.rh_model.specs.ClusterView.{ClusterView}
-use Rattle.rh_run.specs.RunText.{lines_asked}
+use Rattle.rh_manner.specs.MannerText.{said_by}
 use Rattle.rh_otp_run.specs.LiveText.{Turns}
-use Rattle.rh_otp_run.proofs.Turns.{ends_here, text_goes_on, bad_goes_on}
+use Rattle.rh_otp_run.proofs.Turns.{breaks_here, ends_here, text_goes_on, bad_goes_on, refusals_go_on}
 use Rattle.rh_otp_run.proofs.running.answer_lines.Goals as goal
 
-pub returns-in_err-bad : goal.returns-in_err-bad
-returns-in_err-bad g c =
+pub returns-in_err-turn : goal.returns-in_err-turn
+returns-in_err-turn g c =
     let takes = g.K.Sink.takes in
     let fails = g.K.Sink.fails in
     let c' = c.args.sim.now.cluster in
-    let asked = λ (ls : List (List ℕ)). lines_asked c' (map content ls) in
-    let tail = asked (raw_lines c.split_line.result.1.now) in
+    let said = λ (ls : List (List ℕ)). said_by c' (map content ls) in
+    let tail = said (raw_lines c.split_line.result.1.now) in
+    let line = content c.split_line.result.0.now in
     let p = err_from_is_err_and c.from_residual.result c.from_residual.ensures.1 in
+    let turn = subst (λ (l : List ℕ). Turns takes fails (Err c.in_err-turn.field-0.0) c.args.manner c.lines.sim c.answer_line.new.sim c.lines.number
+    (l, line_of c' l) tail c.lines.writer c.answer_line.new.writer) c.content.ensures
+    (subst (λ (k : ClusterView). Turns takes fails (Err c.in_err-turn.field-0.0) c.args.manner c.lines.sim c.answer_line.new.sim c.lines.number
+    (c.content.result.now, line_of k c.content.result.now) tail c.lines.writer c.answer_line.new.writer) c.lines.invariant.same (c.in_err-turn.ensures.text tail)) in
     rw (p.1, p.2)
-    (ends_here takes fails c.args.sim.now c.lines.sim c.answer_line.new.sim c.lines.number (asked (raw_lines c.args.script.now))
-    (asked (raw_lines c.lines.rest.now)) tail
-    (line_of c' (content c.split_line.result.0.now)) c.args.writer.now c.lines.writer c.answer_line.new.writer
-    c.lines.invariant.text.0 (ap asked c.split_line.ensures.line) c.lines.invariant.text.1 c.lines.invariant.text.2
-    c.lines.invariant.fault
-    (Err c.in_err-bad.field-0.0) (subst (λ (k : ClusterView). Turns takes fails (Err c.in_err-bad.field-0.0) c.lines.sim c.answer_line.new.sim c.lines.number
-    (line_of k (content c.split_line.result.0.now)) tail c.lines.writer c.answer_line.new.writer) c.lines.invariant.same (c.in_err-bad.ensures.text tail)))
+    (breaks_here takes fails c.args.manner c.args.sim.now c.lines.sim c.answer_line.new.sim c.lines.number c.lines.refused
+    (said (raw_lines c.args.script.now)) (said (raw_lines c.lines.rest.now)) tail (line, line_of c' line)
+    c.args.writer.now c.lines.writer c.answer_line.new.writer c.lines.invariant.text.0
+    (ap said c.split_line.ensures.line) c.lines.invariant.text.1 c.lines.invariant.text.2 c.lines.invariant.fault c.lines.invariant.told
+    c.in_err-turn.field-0.0 None turn)
 
-pub returns-in-Some : goal.returns-in-Some
-returns-in-Some g c =
+pub returns-in-Ends : goal.returns-in-Ends
+returns-in-Ends g c =
     let takes = g.K.Sink.takes in
     let fails = g.K.Sink.fails in
     let c' = c.args.sim.now.cluster in
-    let asked = λ (ls : List (List ℕ)). lines_asked c' (map content ls) in
-    let tail = asked (raw_lines c.split_line.result.1.now) in
-    let turn = rw c.in-Some.is at (subst (λ (k : ClusterView). Turns takes fails (Ok c.in_ok-bad.field-0) c.lines.sim c.answer_line.new.sim c.lines.number
-    (line_of k (content c.split_line.result.0.now)) tail c.lines.writer c.answer_line.new.writer)
-    c.lines.invariant.same (c.in_ok-bad.ensures.text tail)) in
-    ends_here takes fails c.args.sim.now c.lines.sim c.answer_line.new.sim c.lines.number (asked (raw_lines c.args.script.now))
-    (asked (raw_lines c.lines.rest.now)) tail
-    (line_of c' (content c.split_line.result.0.now)) c.args.writer.now c.lines.writer c.answer_line.new.writer
-    c.lines.invariant.text.0 (ap asked c.split_line.ensures.line) c.lines.invariant.text.1 c.lines.invariant.text.2
-    c.lines.invariant.fault
-    (Ok (Some c.in-Some.bad)) turn
+    let said = λ (ls : List (List ℕ)). said_by c' (map content ls) in
+    let tail = said (raw_lines c.split_line.result.1.now) in
+    let line = content c.split_line.result.0.now in
+    let turn = rw c.in-Ends.is at (subst (λ (l : List ℕ). Turns takes fails (Ok c.in_ok-turn.turn) c.args.manner c.lines.sim c.answer_line.new.sim c.lines.number
+    (l, line_of c' l) tail c.lines.writer c.answer_line.new.writer) c.content.ensures
+    (subst (λ (k : ClusterView). Turns takes fails (Ok c.in_ok-turn.turn) c.args.manner c.lines.sim c.answer_line.new.sim c.lines.number
+    (c.content.result.now, line_of k c.content.result.now) tail c.lines.writer c.answer_line.new.writer) c.lines.invariant.same (c.in_ok-turn.ensures.text tail))) in
+    ends_here takes fails c.args.manner c.args.sim.now c.lines.sim c.answer_line.new.sim c.lines.number c.lines.refused
+    (said (raw_lines c.args.script.now)) (said (raw_lines c.lines.rest.now)) tail (line, line_of c' line)
+    c.args.writer.now c.lines.writer c.answer_line.new.writer c.lines.invariant.text.0
+    (ap said c.split_line.ensures.line) c.lines.invariant.text.1 c.lines.invariant.text.2 c.lines.invariant.fault c.lines.invariant.told turn
 
 pub lines-preserved : goal.lines-preserved
 lines-preserved g c =
     let takes = g.K.Sink.takes in
     let fails = g.K.Sink.fails in
     let c' = c.args.sim.now.cluster in
-    let asked = λ (ls : List (List ℕ)). lines_asked c' (map content ls) in
-    let tail = asked (raw_lines c.split_line.result.1.now) in
-    let turn = rw c.in-None.is at (subst (λ (k : ClusterView). Turns takes fails (Ok c.in_ok-bad.field-0) c.lines.sim c.answer_line.new.sim c.lines.number
-    (line_of k (content c.split_line.result.0.now)) tail c.lines.writer c.answer_line.new.writer)
-    c.lines.invariant.same (c.in_ok-bad.ensures.text tail)) in
+    let said = λ (ls : List (List ℕ)). said_by c' (map content ls) in
+    let tail = said (raw_lines c.split_line.result.1.now) in
+    let line = content c.split_line.result.0.now in
+    let turn = rw c.in-Goes.is at (subst (λ (l : List ℕ). Turns takes fails (Ok c.in_ok-turn.turn) c.args.manner c.lines.sim c.answer_line.new.sim c.lines.number
+    (l, line_of c' l) tail c.lines.writer c.answer_line.new.writer) c.content.ensures
+    (subst (λ (k : ClusterView). Turns takes fails (Ok c.in_ok-turn.turn) c.args.manner c.lines.sim c.answer_line.new.sim c.lines.number
+    (c.content.result.now, line_of k c.content.result.now) tail c.lines.writer c.answer_line.new.writer) c.lines.invariant.same (c.in_ok-turn.ensures.text tail))) in
+    let was = c.in-Goes.was_refused in
     record {
-      text = text_goes_on takes fails c.args.sim.now c.lines.sim c.answer_line.new.sim c.lines.number (asked (raw_lines c.args.script.now))
-          (asked (raw_lines c.lines.rest.now)) tail
-          (line_of c' (content c.split_line.result.0.now)) c.args.writer.now c.lines.writer c.answer_line.new.writer
-          c.lines.invariant.text.0
-          (ap asked c.split_line.ensures.line) c.lines.invariant.text.1 c.lines.invariant.text.2 c.lines.invariant.fault turn;
-      fault = bad_goes_on takes fails c.args.sim.now c.lines.sim c.answer_line.new.sim c.lines.number (asked (raw_lines c.args.script.now))
-          (asked (raw_lines c.lines.rest.now)) tail
-          (line_of c' (content c.split_line.result.0.now)) c.args.writer.now c.lines.writer c.answer_line.new.writer
-          c.lines.invariant.text.0
-          (ap asked c.split_line.ensures.line) c.lines.invariant.text.1 c.lines.invariant.text.2 c.lines.invariant.fault turn;
-      watch = turn.4;
-      same = c.in_ok-bad.ensures.cluster ∙ c.lines.invariant.same;
+      text = text_goes_on takes fails c.args.manner c.args.sim.now c.lines.sim c.answer_line.new.sim c.lines.number c.lines.refused
+          (said (raw_lines c.args.script.now)) (said (raw_lines c.lines.rest.now)) tail (line, line_of c' line)
+          c.args.writer.now c.lines.writer c.answer_line.new.writer c.lines.invariant.text.0
+          (ap said c.split_line.ensures.line) c.lines.invariant.text.1 c.lines.invariant.text.2 c.lines.invariant.fault c.lines.invariant.told was turn;
+      fault = bad_goes_on takes fails c.args.manner c.args.sim.now c.lines.sim c.answer_line.new.sim c.lines.number c.lines.refused
+          (said (raw_lines c.args.script.now)) (said (raw_lines c.lines.rest.now)) tail (line, line_of c' line)
+          c.args.writer.now c.lines.writer c.answer_line.new.writer c.lines.invariant.text.0
+          (ap said c.split_line.ensures.line) c.lines.invariant.text.1 c.lines.invariant.text.2 c.lines.invariant.fault c.lines.invariant.told was turn;
+      told = refusals_go_on takes fails c.args.manner c.args.sim.now c.lines.sim c.answer_line.new.sim c.lines.number c.lines.refused
+          (said (raw_lines c.args.script.now)) (said (raw_lines c.lines.rest.now)) tail (line, line_of c' line)
+          c.args.writer.now c.lines.writer c.answer_line.new.writer c.lines.invariant.text.0
+          (ap said c.split_line.ensures.line) c.lines.invariant.text.1 c.lines.invariant.text.2 c.lines.invariant.fault c.lines.invariant.told was turn;
+      watch = turn.5;
+      same = c.in_ok-turn.ensures.cluster ∙ c.lines.invariant.same;
       count = omega (arith, c.lines.invariant.count, c.split_line.ensures.shorter);
     }
