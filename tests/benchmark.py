@@ -4,8 +4,9 @@
 The table has a row for each input: the subcommand, what the input is, its size in MiB, the exit status, the seconds, those of
 all processors together, and the peak memory in MiB. First come rehearsals of a cluster of 32 nodes and 64 applications, each of
 which is distributed over eight nodes, and sweeps of 20,000 plans of 10 to 30 events from a base of 100 steps; then those of
-64 nodes and 128 applications in the second profile, and searches through all failures of small clusters. Then come the inputs of
-hostile_texts.py, which are made to take long or much memory. Where words are given, these are the rows whose text has them all.
+64 nodes and 128 applications in the second profile, of 32 live nodes by the rules of OTP 25, and searches through all failures of small
+clusters. Then come the inputs of hostile_texts.py, which are made to take long or much memory. Where words are given, these are the rows
+whose text has them all.
 
 A run is ended after 20 seconds, and is refused memory behind 4 GiB; its output is thrown away. Nothing is asserted: the times
 depend on the machine. With --against another program that takes the same command line is measured in turn with this one
@@ -51,6 +52,20 @@ def steps(nodes, count):
         script += [b"crash %s" % node, b"tick 700", b"boot %s" % node, b"tick 100"]
         turn += 1
     return b"\n".join(script[:count]) + b"\n"
+
+
+def listed(node_count=32, app_count=8):
+    """So many nodes that wait for one another, and applications, each of these distributed over four nodes one behind the other."""
+    nodes = [b"n%d@lab" % number for number in range(node_count)]
+    lists = {b"a%d" % app: [nodes[(4 * app + step) % node_count] for step in range(4)] for app in range(app_count)}
+    entries = b", ".join(b"{%s, 500, [%s]}" % (name, b", ".join(four)) for name, four in lists.items())
+    text = b"{profile, 2}.\n"
+    for node in nodes:
+        others = b", ".join(other for other in nodes if other != node)
+        boot = b", ".join(b"{%s, temporary}" % name for name, four in lists.items() if node in four)
+        text += (b"{node, %s, [{kernel, [{distributed, [%s]}, {sync_nodes_optional, [%s]}, {sync_nodes_timeout, 1000}]}, "
+                 b"{rehearse, [{boot, [%s]}]}]}.\n" % (node, entries, others, boot))
+    return nodes, text + b" ".join(b"{application, %s, []}." % name for name in lists) + b"\n===\n"
 
 
 def ticks(nodes, count):
@@ -117,6 +132,13 @@ def rehearsals(kind, front, node_count, app_count):
             text + steps(nodes, node_count + 68) + plans(nodes, 20_000))
 
 
+def live_rehearsals():
+    """Triples as those of hostile_texts.py, by the rules of OTP 25."""
+    nodes, text = listed()
+    for count in (2_000, 60_000):
+        yield ["run", "--rules", "otp25"], f"{count:,} crashes, boots and ticks of 32 live nodes", lambda count=count: text + steps(nodes, count)
+
+
 def searches():
     """Triples as those of hostile_texts.py: searches through all crashes and boots, while time passes in steps of a second."""
     three, six = "examples/any-failures.txt", "tests/clusters/six-nodes.txt"
@@ -159,6 +181,7 @@ def measured(program, text, words):
 def rows():
     yield from rehearsals("a large cluster", b"", 32, 64)
     yield from rehearsals("the second profile", b"{profile, 2}.\n", 64, 128)
+    yield from live_rehearsals()
     yield from searches()
     yield from hostile_texts.texts()
 
@@ -181,7 +204,9 @@ def main():
         status, seconds, used, peak = measured(program, text, words)
         ended = f"over {LONGEST}" if status == -9 else f"{seconds:.2f}"
         shown = "ended" if status == -9 else status
-        print(f"| {words[0]} | {name} | {len(text) / MIB:.1f} | {shown} | {ended} | {used:.2f} | {peak:.0f} |", flush=True)
+        shown_words = " ".join(words[:3] if words[1:2] == ["--rules"] else words[:1])
+        print(f"| {shown_words} | {name} | {len(text) / MIB:.1f} | {shown} | {ended} | {used:.2f} | {peak:.0f} |", flush=True)
 
 
-main()
+if __name__ == "__main__":
+    main()

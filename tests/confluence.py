@@ -47,7 +47,7 @@ NEEDED: tuple[tuple[str, Union[str, int], int], ...] = (
     ("nothing hangs", "blocked-permit.txt", ORDERS), ("one timer at a time", "crossed-lists.txt", ORDERS),
     ("one loss at once", "crossed-lists-at-once.txt", 200))
 # More words on the program's command line, by each of which it has to tell what the model does, within the conditions.
-WORDS: tuple[tuple[str, ...], ...] = ((),)
+WORDS: tuple[tuple[str, ...], ...] = ((), ("--pick", "last"), ("--pick", "7"))
 
 Test = tuple[str, Optional[str]]
 Lines = tuple[str, frozenset[tuple[str, int]]]
