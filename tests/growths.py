@@ -83,8 +83,10 @@ MADE = {
     "rows/story/waits-for": ("why_node_waits", "awaited_text"),
     "rows/verify/report": ("run_verify",),
     "rows/json/report": ("run_json", "answer_call", "reply_line", "seen_line", "forbids_any", "push_string", "push_number",
-                         "close_array", "push_text", "push_bytes", "before_first", "after_first"),
-    "rows/json/failover": ("fired_by", "Trace::expect_boot"),
+                         "close_array", "push_text", "push_bytes", "before_first", "after_first", "push_command", "push_ok", "push_place",
+                         "push_node", "push_app", "push_start", "push_app_at", "push_node_at"),
+    "rows/json/failover": ("fired_by", "Trace::expect_boot", "push_pair"),
+    "rows/json/explore": ("push_bare_report",),
     "rows/json/refused-and-bad": ("write_bad", "bad_line"),
     "rows/json/names": ("check_json", "write_cluster", "cluster_line", "push_array"),
     "rows/json/fault-value": ("write_fault", "fault_line"),
@@ -284,7 +286,7 @@ SURFACE = {
     "rh_sweep": ("trial", "workers"), "rh_script": ("notes",), "rh_why": ("apps", "nodes", "text"),
     "rh_courses": ("course", "walk", "text"), "rh_story": ("story",), "rh_verify": ("verifying",),
     "rh_json_text": ("pieces", "words"),
-    "rh_json_lines": ("answers", "clusters", "notices", "outcomes"), "rh_json": ("running", "checking"),
+    "rh_json_lines": ("answers", "clusters", "notices", "outcomes", "reports", "starts"), "rh_json": ("running", "checking"),
     "rh_manner": ("running", "dialogue"),
 }
 # Calls that do nothing: their contracts are what they are for.

@@ -73,8 +73,8 @@ fn push_more(
     }
 }
 
-// Adds the number of a command's line, the line, and the key of its answer.
-fn push_command(
+/// Adds the number of a command's line, the line, and the key of its answer.
+pub fn push_command(
     alloc: Global,
     out: &mut Vec<u8>,
     number: u64,
@@ -90,9 +90,9 @@ fn push_command(
     push_text(out, ",\"answer\":")
 }
 
-// Adds the first line of the answer that a step or a report has: the word needs no escape.
+/// Adds the first line of the answer that a step or a report has: the word needs no escape.
 #[tactic(auto, unfolding(rh_json_text::specs::Json::json_string, rh_json_text::specs::Json::escaped))]
-fn push_ok(out: &mut Vec<u8>) -> Result<(), OutOfMemory>
+pub fn push_ok(out: &mut Vec<u8>) -> Result<(), OutOfMemory>
     ensures { OnOk result (out.new.items ≡ out.old.items ++ json_string (codes "ok")) }
 {
     push_text(out, "\"ok\"")

@@ -14,7 +14,7 @@ use rh_cluster::{App, Cluster, ClusterFault, Group, Node, Spread};
 use rh_json_text::{after_first, before_first, push_array, push_number, push_string, push_text};
 use std::alloc::Global;
 
-// Adds the name of a node.
+/// Adds the name of a node.
 #[tactic(auto, unfolding(crate::specs::ClusterLines::node_json))]
 pub fn push_node(out: &mut Vec<u8>, cluster: &Cluster, node: Node) -> Result<(), OutOfMemory>
     ensures { OnOk result (out.new.items ≡ out.old.items ++ node_json cluster.now node) }
@@ -22,7 +22,7 @@ pub fn push_node(out: &mut Vec<u8>, cluster: &Cluster, node: Node) -> Result<(),
     push_string(out, node_word(cluster, node).as_bytes())
 }
 
-// Adds the name of an application.
+/// Adds the name of an application.
 #[tactic(auto, unfolding(crate::specs::ClusterLines::app_json))]
 pub fn push_app(out: &mut Vec<u8>, cluster: &Cluster, app: App) -> Result<(), OutOfMemory>
     ensures { OnOk result (out.new.items ≡ out.old.items ++ app_json cluster.now app) }

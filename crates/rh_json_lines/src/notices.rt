@@ -34,9 +34,14 @@ fn notice_field(notice: &Notice) -> &'static str
     }
 }
 
-// Adds an application and a node.
+/// Adds an application and a node, each behind its key, in front of which stands a comma.
 #[tactic(auto, unfolding(crate::specs::Notices::pair_json))]
-fn push_pair(out: &mut Vec<u8>, cluster: &Cluster, app: App, node: Node) -> Result<(), OutOfMemory>
+pub fn push_pair(
+    out: &mut Vec<u8>,
+    cluster: &Cluster,
+    app: App,
+    node: Node,
+) -> Result<(), OutOfMemory>
     ensures { OnOk result (out.new.items ≡ out.old.items ++ pair_json cluster.now app node) }
 {
     push_app_at(out, ",\"application\":", cluster, app)?;

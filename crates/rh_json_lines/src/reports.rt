@@ -198,9 +198,9 @@ fn push_all_timers(alloc: Global, out: &mut Vec<u8>, state: &State) -> Result<()
     close_array(out, start)
 }
 
-// Adds the time, and how many steps stand, of how many.
+/// Adds what a report begins with: the time in milliseconds, and how many steps stand, of how many.
 #[tactic(auto, unfolding(crate::specs::Reports::place_json))]
-fn push_place(
+pub fn push_place(
     alloc: Global,
     out: &mut Vec<u8>,
     time: u64,

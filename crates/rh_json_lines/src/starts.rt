@@ -26,7 +26,7 @@ fn kind_field(kind: Kind) -> &'static str
     }
 }
 
-// Adds a node behind its key, which begins with a comma.
+/// Adds a node behind its key, which begins with a comma.
 pub fn push_node_at(
     out: &mut Vec<u8>,
     key: &str,
@@ -40,7 +40,7 @@ pub fn push_node_at(
     push_node(out, cluster, node)
 }
 
-// Adds an application behind its key, which begins with a comma.
+/// Adds an application behind its key, which begins with a comma.
 pub fn push_app_at(
     out: &mut Vec<u8>,
     key: &str,
@@ -65,7 +65,7 @@ fn push_from(out: &mut Vec<u8>, cluster: &Cluster, kind: Kind) -> Result<(), Out
     }
 }
 
-// Adds how an application was started.
+/// Adds how an application was started: its kind, and the node that it came from, if it came from one.
 #[tactic(auto, unfolding(crate::specs::Starts::start_json))]
 pub fn push_start(out: &mut Vec<u8>, cluster: &Cluster, kind: Kind) -> Result<(), OutOfMemory>
     ensures { OnOk result (out.new.items ≡ out.old.items ++ start_json cluster.now kind) }

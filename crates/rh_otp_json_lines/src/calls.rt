@@ -5,8 +5,8 @@ ghost use Rattle.rh_json_text.specs.Json.{json_string};
 ghost use Rattle.rh_otp_text.specs.Asks.{verb_words, flag_words, end_words};
 ghost use Rattle.rh_otp_json_lines.specs.Calls.{restart_json, last_json, call_json, error_json, error_in, verdict_json};
 
-use crate::names::push_pair;
 use rh_base::OutOfMemory;
+use rh_json_lines::push_pair;
 use rh_json_text::{push_string, push_text};
 use rh_model::{App, Cluster, Node, Restart};
 use rh_otp_model::Fault;

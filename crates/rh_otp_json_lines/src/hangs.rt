@@ -7,8 +7,8 @@ ghost use Rattle.rh_json_lines.specs.Notices.{pair_json};
 ghost use Rattle.rh_json_text.specs.Json.{json_array, behind_comma};
 ghost use Rattle.rh_otp_json_lines.specs.Nodes.{waited_json, blocked_json, block_json, boot_json, timed_json, timer_json, hanging_json};
 
-use crate::names::{push_app_at, push_node_at, push_pair};
 use rh_base::OutOfMemory;
+use rh_json_lines::{push_app_at, push_node_at, push_pair};
 use rh_json_text::{close_array, push_number, push_text};
 use rh_model::{App, Cluster, Node};
 use rh_otp_report::{Block, NodeReport, NodeTimer};

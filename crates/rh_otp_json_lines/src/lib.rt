@@ -8,7 +8,6 @@
 
 mod calls;
 mod hangs;
-mod names;
 mod nodes;
 mod notices;
 mod replies;

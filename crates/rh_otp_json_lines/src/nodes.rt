@@ -5,9 +5,9 @@ ghost use Rattle.rh_json_text.specs.Json.{json_string};
 ghost use Rattle.rh_otp_json_lines.specs.Nodes.{mode_words, mode_json, running_list, waiting_list, forbidden_list, starting_list, lists_json, node_report_json};
 
 use crate::hangs::push_hanging;
-use crate::names::push_node;
 use crate::rows::{push_apps, push_running, push_waiting};
 use rh_base::OutOfMemory;
+use rh_json_lines::push_node;
 use rh_json_text::{push_number, push_text};
 use rh_model::{App, Cluster};
 use rh_otp_node::Phase;

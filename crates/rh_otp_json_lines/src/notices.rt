@@ -9,13 +9,14 @@ ghost use Rattle.rh_otp_text.specs.Lines.{line_words};
 ghost use Rattle.rh_otp_json_lines.specs.Notices.{named_json, notice_json};
 
 use crate::calls::{push_call, push_error, push_verdict};
-use crate::names::{push_node_at, push_pair, push_start};
 use rh_base::OutOfMemory;
+use rh_json_lines::{push_node_at, push_pair, push_start};
 use rh_json_text::{close_array, push_text};
 use rh_model::{App, Cluster, Node};
 use rh_otp_model::{Fault, StartType};
 use rh_otp_sim::{Line, Verdict};
 use rh_otp_system::Ask;
+use rh_otp_text::kind_of;
 use std::alloc::Global;
 
 // The field of a notice's kind, with which its object begins: the word needs no escape.
@@ -48,7 +49,7 @@ fn push_started(
         ≡ out.old.items ++ named_json cluster.now (Line.Started app node kind)) }
 {
     push_pair(out, cluster, app, node)?;
-    push_start(out, cluster, kind)
+    push_start(out, cluster, kind_of(kind))
 }
 
 // Adds an application whose start by the boot script has failed, where, and why.

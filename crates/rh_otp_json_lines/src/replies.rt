@@ -1,7 +1,6 @@
 //! The line of a command with the answer of live nodes.
 
-ghost use Rattle.std.specs.Prelude.{◌≡◌, ◌++◌, codes, OnOk, IfOk};
-ghost use Rattle.std.specs.Fmt.{decimal};
+ghost use Rattle.std.specs.Prelude.{◌≡◌, ◌++◌, OnOk, IfOk};
 ghost use Rattle.rh_json_lines.specs.AnswerLines.{first_line};
 ghost use Rattle.rh_json_text.specs.Json.{json_string};
 ghost use Rattle.rh_otp_text.specs.Replies.{reply_text};
@@ -11,37 +10,13 @@ use crate::calls::push_error_in;
 use crate::notices::push_notices;
 use crate::reports::push_report;
 use rh_base::OutOfMemory;
-use rh_json_text::{before_first, push_number, push_string, push_text};
+use rh_json_lines::{push_command, push_ok};
+use rh_json_text::{before_first, push_string, push_text};
 use rh_model::Cluster;
 use rh_otp_report::report_of;
 use rh_otp_sim::{Answer, Happened, LiveReply, LiveSim, Outcome};
 use rh_otp_text::reply_text;
 use std::alloc::Global;
-
-// Adds the number of a command's line, the line, and the key of its answer.
-fn push_command(
-    alloc: Global,
-    out: &mut Vec<u8>,
-    number: u64,
-    command: &[u8],
-) -> Result<(), OutOfMemory>
-    ensures { OnOk result (out.new.items ≡ out.old.items ++ (codes "{\"line\":" ++ decimal number
-        ++ codes ",\"command\":" ++ json_string command.now ++ codes ",\"answer\":")) }
-{
-    push_text(out, "{\"line\":")?;
-    push_number(alloc, out, number as u128)?;
-    push_text(out, ",\"command\":")?;
-    push_string(out, command)?;
-    push_text(out, ",\"answer\":")
-}
-
-// Adds the first line of the answer that a report has: the word needs no escape.
-#[tactic(auto, unfolding(rh_json_text::specs::Json::json_string, rh_json_text::specs::Json::escaped))]
-fn push_ok(out: &mut Vec<u8>) -> Result<(), OutOfMemory>
-    ensures { OnOk result (out.new.items ≡ out.old.items ++ json_string (codes "ok")) }
-{
-    push_text(out, "\"ok\"")
-}
 
 // Adds the first line of an answer's text.
 fn push_first_line(

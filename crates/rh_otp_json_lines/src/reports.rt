@@ -2,17 +2,16 @@
 
 ghost use Rattle.std.specs.Prelude.{◌≡◌, ◌++◌, OnOk};
 ghost use Rattle.std.specs.List.{flat_map};
-ghost use Rattle.rh_json_lines.specs.Reports.{place_json};
 ghost use Rattle.rh_json_text.specs.Json.{json_array, behind_comma};
 ghost use Rattle.rh_otp_json_lines.specs.Nodes.{node_report_json};
 ghost use Rattle.rh_otp_json_lines.specs.Reports.{app_report_json, open_json, nodes_list, apps_list, open_list, parts_json, report_json};
 
 use crate::calls::push_call;
-use crate::names::push_app;
 use crate::nodes::push_node_report;
 use crate::rows::push_nodes;
 use rh_base::OutOfMemory;
-use rh_json_text::{close_array, push_number, push_text};
+use rh_json_lines::{push_app, push_place};
+use rh_json_text::{close_array, push_text};
 use rh_model::Cluster;
 use rh_otp_report::{AppReport, NodeReport, OpenCall, Report};
 use std::alloc::Global;
@@ -137,25 +136,6 @@ fn push_all_open(
     let start = out.len();
     push_each_open(out, cluster, calls)?;
     close_array(out, start)
-}
-
-// Adds the time, and how many steps stand, of how many.
-#[tactic(auto, unfolding(rh_json_lines::specs::Reports::place_json))]
-fn push_place(
-    alloc: Global,
-    out: &mut Vec<u8>,
-    time: u64,
-    cursor: usize,
-    trail: usize,
-) -> Result<(), OutOfMemory>
-    ensures { OnOk result (out.new.items ≡ out.old.items ++ place_json time cursor trail) }
-{
-    push_text(out, "{\"time\":")?;
-    push_number(alloc, out, time as u128)?;
-    push_text(out, ",\"steps\":")?;
-    push_number(alloc, out, cursor as u128)?;
-    push_text(out, ",\"trail\":")?;
-    push_number(alloc, out, trail as u128)
 }
 
 // Adds the nodes.

@@ -6,11 +6,12 @@ ghost use Rattle.rh_json_lines.specs.ClusterLines.{app_json, node_json, group_js
 ghost use Rattle.rh_json_text.specs.Json.{json_array, behind_comma};
 ghost use Rattle.rh_otp_json_lines.specs.Nodes.{known_json, started_json, running_json, waiting_json};
 
-use crate::names::{push_app, push_app_at, push_node, push_start};
 use rh_base::OutOfMemory;
+use rh_json_lines::{push_app, push_app_at, push_node, push_start};
 use rh_json_text::{close_array, push_text};
 use rh_model::{App, Cluster, Node, Restart};
 use rh_otp_report::{Runs, Waits};
+use rh_otp_text::kind_of;
 
 // The field of a restart type, if it is known: its word needs no escape.
 #[tactic(auto, unfolding(crate::specs::Nodes::known_json, rh_json_text::specs::Json::json_string, rh_json_text::specs::Json::escaped))]
@@ -46,7 +47,7 @@ fn push_runs(out: &mut Vec<u8>, cluster: &Cluster, runs: Runs) -> Result<(), Out
     ensures { OnOk result (out.new.items ≡ out.old.items ++ running_json cluster.now runs) }
 {
     push_started(out, cluster, runs.app, runs.restart)?;
-    push_start(out, cluster, runs.kind)?;
+    push_start(out, cluster, kind_of(runs.kind))?;
     push_text(out, "}")
 }
 

@@ -14,7 +14,7 @@ mod report;
 
 pub use asks::push_ask;
 pub use faults::push_fault;
-pub use lines::{push_line, push_verdict};
+pub use lines::{kind_of, push_line, push_verdict};
 pub use nodes::push_node_lines;
 pub use replies::reply_text;
 pub use report::report_text;

@@ -17,7 +17,7 @@ use rh_script::push_reason;
 use rh_state::Kind;
 
 /// How an application was started, in the manual's words.
-pub(crate) fn kind_of(kind: StartType) -> Kind
+pub fn kind_of(kind: StartType) -> Kind
     ensures { result ≡ kind_of kind }
 {
     match kind {
