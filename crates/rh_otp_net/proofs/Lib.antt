@@ -1,3 +1,3 @@
 mod Rows
-pub mod Cells
 pub mod Pairs
+pub mod Seen

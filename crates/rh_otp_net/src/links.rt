@@ -1,11 +1,15 @@
 //! Nodes that are connected.
 
-ghost use Rattle.std.specs.Prelude.{◌≡◌, IfOk, OnOk};
+ghost use Rattle.std.specs.Prelude.{◌≡◌, IfOk, IfSome, OnOk};
+ghost use Rattle.rh_model.specs.ClusterView.{is_in};
+ghost use Rattle.rh_model.specs.declared.node.Node.{Node};
 ghost use Rattle.rh_otp_net.specs.Links.{is_between, is_at, other_end};
+ghost use Rattle.rh_otp_net.specs.Matrix.{is_held};
 
 use crate::matrix::{Matrix, is_inside};
 use rh_base::{Duplicate, OutOfMemory};
-use rh_model::Node;
+use rh_model::{MAX_NODES, Node};
+use rh_place::NodeSet;
 use std::alloc::Global;
 use std::marker::Model;
 
@@ -54,6 +58,20 @@ fn other_end(node: Node, link: Link) -> Option<Node>
     } else {
         None
     }
+}
+
+// The set of these nodes, where each has a number that a node of a cluster can have.
+fn set_of(nodes: &[Node]) -> Option<NodeSet>
+    ensures { IfSome result (λ set. (n : Node) → is_held set n ≡ is_in n nodes.now) }
+{
+    let mut set = NodeSet::empty();
+    for node in nodes {
+        if node.0 as usize >= MAX_NODES {
+            return None;
+        }
+        set = set.with(*node);
+    }
+    Some(set)
 }
 
 impl Links {
@@ -116,9 +134,11 @@ impl Links {
 }
 
 impl Links {
-    ghost use Rattle.std.specs.Prelude.{◌++◌};
+    ghost use Rattle.std.specs.Prelude.{◌++◌, ◌==◌, ◌||◌, true, IfSome, IsTrue};
+    ghost use Rattle.rh_model.specs.ClusterView.{is_in};
+    ghost use Rattle.rh_model.specs.declared.node.Node.{Node};
     ghost use Rattle.rh_otp_net.specs.Links.{are_linked, around, is_to_connect, joined, to_connect};
-    ghost use Rattle.rh_otp_net.specs.Matrix.{IsMatrixOf};
+    ghost use Rattle.rh_otp_net.specs.Matrix.{is_held, IsMatrixOf};
 
     // The node itself, and those that it sees.
     fn around(&self, alloc: Global, node: Node) -> Result<Vec<Node>, OutOfMemory>
@@ -129,16 +149,28 @@ impl Links {
         Ok(nodes)
     }
 
-    // Are the two connected? The matrix says so, where it has a cell for them.
+    // Are the two connected? The matrix says so, where it has rows for them.
     fn are_linked_by(&self, matrix: &Matrix, a: Node, b: Node) -> bool
         requires { IsMatrixOf self.now matrix.now }
         ensures { result ≡ are_linked a b self.now }
     {
         if is_inside(a, b) {
-            matrix.is_marked(a, b)
+            !matrix.apart_from(a).has(b)
         } else {
             self.are_linked(a, b)
         }
+    }
+
+    // Does the node see all of a set, itself aside?
+    fn sees_all(&self, matrix: &Matrix, node: Node, set: NodeSet) -> bool
+        requires { IsMatrixOf self.now matrix.now }
+        ensures { IsTrue result → (b : Node) → is_held set b ≡ true
+            → (node.0 == b.0 || are_linked node b self.now) ≡ true }
+    {
+        if node.0 as usize >= MAX_NODES {
+            return false;
+        }
+        set.and(matrix.apart_from(node)).put(node, false).is_empty()
     }
 
     // Does global connect the last two when this pair is?
@@ -150,7 +182,7 @@ impl Links {
     }
 
     // A node with each of these that global connects with it.
-    fn join(
+    fn join_each(
         &self,
         matrix: &Matrix,
         found: &mut Vec<Link>,
@@ -170,8 +202,31 @@ impl Links {
         Ok(())
     }
 
+    // The same, at one look where it sees all of these, whose set this is.
+    fn join(
+        &self,
+        matrix: &Matrix,
+        found: &mut Vec<Link>,
+        pair: Link,
+        node: Node,
+        others: &[Node],
+        set: &Option<NodeSet>,
+    ) -> Result<(), OutOfMemory>
+        requires matrix { IsMatrixOf self.now matrix.now }
+        requires set { IfSome set.now (λ set. (n : Node) → is_held set n ≡ is_in n others.now) }
+        ensures { OnOk result (found.new.items
+            ≡ found.old.items ++ joined pair self.now node others.now) }
+    {
+        if let Some(set) = set {
+            if self.sees_all(matrix, node, *set) {
+                return Ok(());
+            }
+        }
+        self.join_each(matrix, found, pair, node, others)
+    }
+
     /// What global connects when these two are: what either of them sees with the other, and with what that sees. All connections are
-    /// read once, into a matrix, and not again for each two of these.
+    /// read once, into a matrix, and not again for each two of these; a node that sees all of those is done at one look.
     #[tactic(auto, unfolding(crate::specs::Links::to_connect))]
     pub fn to_connect(&self, alloc: Global, one: Node, two: Node) -> Result<Vec<Link>, OutOfMemory>
         ensures { IfOk result (λ links. links.items ≡ to_connect one two self.now) }
@@ -179,9 +234,17 @@ impl Links {
         let these = self.around(alloc, one)?;
         let those = self.around(alloc, two)?;
         let matrix = Matrix::of(alloc, self.as_slice())?;
+        let set = set_of(those.as_slice());
         let mut found = Vec::new(alloc);
         for node in these.as_slice() {
-            self.join(&matrix, &mut found, Link(one, two), *node, those.as_slice())?;
+            self.join(
+                &matrix,
+                &mut found,
+                Link(one, two),
+                *node,
+                those.as_slice(),
+                &set,
+            )?;
         }
         Ok(found)
     }

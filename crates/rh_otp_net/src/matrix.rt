@@ -1,32 +1,36 @@
-//! Which of a cluster's nodes are connected, as an adjacency matrix.
+//! Which of a cluster's nodes aren't connected, as an adjacency matrix whose rows are sets.
 
-ghost use Rattle.std.specs.Prelude.{◌≡◌, ◌||◌, true, false, IfOk};
+ghost use Rattle.std.specs.Prelude.{◌≡◌, ◌<◌, ◌&&◌, true, not, IfOk};
 ghost use Rattle.rh_model.specs.declared.node.Node.{Node};
+ghost use Rattle.rh_place.specs.Sets.{has};
 ghost use Rattle.rh_otp_net.specs.Links.{is_between};
-ghost use Rattle.rh_otp_net.specs.Matrix.{is_inside, cell, is_marked, IsMatrixOf};
+ghost use Rattle.rh_otp_net.specs.Matrix.{is_inside, is_pair, is_apart, IsMatrixOf};
 
 use crate::links::Link;
 use rh_base::OutOfMemory;
 use rh_model::{MAX_NODES, Node};
+use rh_place::NodeSet;
 use std::alloc::Global;
 use std::marker::Model;
 
-/// Which of the nodes that a cluster can have are connected: each has a row and a column, by its number.
+/// Of each node that a cluster can have those with which it isn't connected. A row is a set, so that one look says whether a node
+/// sees all of several others: most nodes see all.
 #[derive(Drop)]
 pub(crate) struct Matrix {
-    cells: Vec<bool>,
+    rows: Vec<NodeSet>,
 }
 
-/// Contracts see a `Matrix` as its cells, row by row.
+/// Contracts see a `Matrix` as its rows.
 impl Model for Matrix {
-    ghost use Rattle.std.specs.Prelude.{◌≡◌, ◌*◌, length, Bool, List};
+    ghost use Rattle.std.specs.Prelude.{◌≡◌, length, List};
     ghost use Rattle.rh_model.specs.declared.limits.TheConstants.{MAX_NODES};
+    ghost use Rattle.rh_place.specs.Sets.{NodeBits};
 
-    ghost Value = { List Bool };
+    ghost Value = { List NodeBits };
 
-    ghost view = { λ m. m.cells.items };
+    ghost view = { λ m. m.rows.items };
 
-    ghost invariant = { λ m. length m.cells.items ≡ MAX_NODES * MAX_NODES };
+    ghost invariant = { λ m. length m.rows.items ≡ MAX_NODES };
 }
 
 // Can nodes of a cluster have these numbers?
@@ -36,31 +40,35 @@ pub(crate) fn is_inside(one: Node, two: Node) -> bool
     (one.0 as usize) < MAX_NODES && (two.0 as usize) < MAX_NODES
 }
 
-// The cell in the row of the one and the column of the other.
-fn cell(one: Node, two: Node) -> usize
-    ensures { result ≡ cell one two }
-{
-    one.0 as usize * MAX_NODES + two.0 as usize
-}
-
 impl Matrix {
     // No nodes are connected.
     fn empty(alloc: Global) -> Result<Matrix, OutOfMemory>
-        ensures { IfOk result (λ m. (a b : Node) → is_marked m a b ≡ false) }
+        ensures { IfOk result
+            (λ m. (a b : Node) → is_inside a b ≡ true → is_apart m a b ≡ true) }
     {
         Ok(Matrix {
-            cells: vec![in alloc; false; MAX_NODES * MAX_NODES]?,
+            rows: vec![in alloc; NodeSet::all(); MAX_NODES]?,
         })
     }
 
-    // Two nodes are connected. Numbers that no node of a cluster can have it has no cells for.
+    // The first sees the second.
+    fn see(&mut self, one: Node, two: Node)
+        requires { is_inside one two ≡ true }
+        ensures { (a b : Node) → is_inside a b ≡ true
+            → is_apart self.new a b ≡ (is_apart self.old a b && not (is_pair one two a b)) }
+    {
+        let row = one.0 as usize;
+        self.rows[row] = self.rows[row].put(two, false);
+    }
+
+    // Two nodes are connected. Numbers that no node of a cluster can have it has no rows for.
     fn mark(&mut self, link: Link)
         ensures { (a b : Node) → is_inside a b ≡ true
-            → is_marked self.new a b ≡ (is_marked self.old a b || is_between a b link) }
+            → is_apart self.new a b ≡ (is_apart self.old a b && not (is_between a b link)) }
     {
         if is_inside(link.0, link.1) {
-            self.cells[cell(link.0, link.1)] = true;
-            self.cells[cell(link.1, link.0)] = true;
+            self.see(link.0, link.1);
+            self.see(link.1, link.0);
         }
     }
 
@@ -75,11 +83,11 @@ impl Matrix {
         Ok(matrix)
     }
 
-    // Are these two connected?
-    pub fn is_marked(&self, one: Node, two: Node) -> bool
-        requires { is_inside one two ≡ true }
-        ensures { result ≡ is_marked self.now one two }
+    // The nodes with which this one isn't connected.
+    pub fn apart_from(&self, node: Node) -> NodeSet
+        requires { node.0 < MAX_NODES }
+        ensures { (b : Node) → has result b ≡ is_apart self.now node b }
     {
-        self.cells[cell(one, two)]
+        self.rows[node.0 as usize]
     }
 }

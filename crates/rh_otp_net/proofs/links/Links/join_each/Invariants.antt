@@ -1,6 +1,6 @@
 use Rattle.std.proofs.Common.{◌≡◌, ◌++◌, drop}
 use Rattle.rh_otp_net.specs.Links.{joined}
-use Rattle.rh_otp_net.proofs.links.Links.join.Given as goal
+use Rattle.rh_otp_net.proofs.links.Links.join_each.Given as goal
 
 abbrev pub invariant-loop-other : goal.invariant-loop-other
 invariant-loop-other l =
