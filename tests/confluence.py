@@ -10,6 +10,9 @@ The conditions say where no two orders part, in what the file tells, and the rep
 no list has a tuple, each node waits for all others, nothing hangs before the command, and no two timers are due at one moment that it
 reaches; a failover time of 0 counts as one that is due at once. Within them no two of the orders that are tried may part. Without any
 one of them some rehearsal parts, which is told by name.
+
+Of crashes less is asked, since it is proved of them (rh_otp_crashes): where nothing hangs, no call is open and no failover time is 0, no two
+orders part at a crash, whatever the lists.
 """
 import os
 import random
@@ -40,6 +43,8 @@ KEPT_FIRST, KEPT_COUNT, KEPT_AT_ONCE = 70_000, 2_000, 100
 ORDERS = 8
 # At least so many rehearsals have to have such a file, with so many commands within the conditions.
 LEAST_REHEARSALS, LEAST_COMMANDS = 200, 2_000
+# And so many crashes of nodes at rest among the random rehearsals of any kind.
+LEAST_CRASHES = 200
 # For each condition a rehearsal that breaks it alone, and in which orders part: a script of tests/live, or a random one of a seed; and in
 # how many orders that shows.
 NEEDED: tuple[tuple[str, Union[str, int], int], ...] = (
@@ -127,25 +132,35 @@ def ends_two(cluster: ClusterFile, before: Lines, answer: Lines) -> bool:
     return sum(app in cluster.entries and cluster.entries[app].timeout == 0 for app in running) > 1
 
 
+def hangs(before: Lines) -> bool:
+    """A call is open, or a process stands in the middle of something."""
+    return any("  blocked " in line or line.startswith("open ") for line, _ in before[1])
+
+
+def is_crash_at_rest(cluster: ClusterFile, command: str, before: Lines) -> bool:
+    """A node ends where nothing hangs, and applications that are lost are started elsewhere after some time."""
+    return words_of(command)[0] == "crash" and not hangs(before) and all(entry.timeout > 0 for entry in cluster.entries.values())
+
+
 def broken_by_step(cluster: ClusterFile, command: str, before: Lines, answer: Lines) -> set[str]:
     """The conditions that a command breaks: a call is open before it or a process stands in the middle of something, or it reaches two
     timers that are due at one moment, or two losses that are due at once."""
     word, *rest = words_of(command)
     end = now_of(before) + int(rest[0]) if word == "tick" else 0
-    hangs = any("  blocked " in line or line.startswith("open ") for line, _ in before[1])
     meet = any(moment <= end and len(due) > 1 for moment, due in times_of(before).items())
-    return {name for name, is_so in (("nothing hangs", hangs), ("one timer at a time", meet),
+    return {name for name, is_so in (("nothing hangs", hangs(before)), ("one timer at a time", meet),
                                      ("one loss at once", ends_two(cluster, before, answer))) if is_so}
 
 
 @dataclass(frozen=True)
 class Measured:
-    """A rehearsal: its commands, the conditions that each of them breaks, those of the file the first one, and the first command at which
-    two orders part."""
+    """A rehearsal: its commands, the conditions that each of them breaks, those of the file the first one, which of them are crashes of
+    nodes at rest, and the first command at which two orders part."""
     name: str
     kind: str
     commands: list[str]
     broken: list[set[str]]
+    crashes: set[int]
     first: Optional[int]
 
     @property
@@ -160,12 +175,23 @@ class Measured:
             return None
         return f"two orders part at command {self.first + 1}, {self.commands[self.first]}"
 
+    @property
+    def wrong_crash(self) -> Optional[str]:
+        """At which crash of nodes at rest two orders part, or None."""
+        return f"two orders part at the crash {self.first + 1}" if self.first in self.crashes else None
+
 
 def broken_in(text: str, commands: list[str], told: list[Told]) -> list[set[str]]:
     """The conditions that each command of a rehearsal breaks."""
     cluster = cluster_of(split_input(text).cluster)
     later = [broken_by_step(cluster, command, before.report, one.answer) for command, before, one in zip(commands[1:], told, told[1:])]
     return [broken_by_file(cluster), *later]
+
+
+def crashes_in(text: str, commands: list[str], told: list[Told]) -> set[int]:
+    """Which commands of a rehearsal are crashes of nodes at rest."""
+    cluster = cluster_of(split_input(text).cluster)
+    return {place for place, (command, before) in enumerate(zip(commands[1:], told), 1) if is_crash_at_rest(cluster, command, before.report)}
 
 
 def parting(told: list[list[Told]]) -> Optional[int]:
@@ -176,7 +202,8 @@ def parting(told: list[list[Told]]) -> Optional[int]:
 def measured(one: Rehearsal, told: list[list[Told]]) -> Measured:
     """A rehearsal of which something is told in several orders."""
     commands = list(filter(is_command, split_input(one.text).lines))
-    return Measured(str(one.seed), one.kind, commands, broken_in(one.text, commands, told[0]), parting(told))
+    broken, crashes = (tell(one.text, commands, told[0]) for tell in (broken_in, crashes_in))
+    return Measured(str(one.seed), one.kind, commands, broken, crashes, parting(told))
 
 
 # ---- The tests
@@ -192,6 +219,7 @@ def anywhere(_program: str, seeds: range) -> Iterator[Test]:
     found = [in_orders(rehearsal(seed)) for seed in seeds]
     for one in found:
         yield f"orders of messages, rehearsal {one.name}", one.wrong
+        yield f"orders of messages at crashes, rehearsal {one.name}", one.wrong_crash
     return found
 
 
@@ -238,10 +266,18 @@ def row_of(text: str, found: list[Measured]) -> str:
             f"| {sum(one.within for one in found):,} | {sum(one.wrong is not None for one in found)} |")
 
 
+def crashes_row(count: int, commands: int) -> str:
+    """The page's line of crashes."""
+    return f"{count} of the {commands:,} commands are crashes of nodes at rest, where no application has a timeout of 0; of these none depends on it."
+
+
 def of_anywhere(parts: list[list[Measured]]) -> Iterator[Test]:
     """Somewhere orders do part, and the page has the counts."""
     found = [one for part in parts for one in part]
     yield "orders of messages: they matter", None if any(one.first is not None for one in found) else "no two orders part anywhere"
+    crashes = sum(len(one.crashes) for one in found)
+    yield "orders of messages: enough crashes", None if crashes >= LEAST_CRASHES else f"{crashes} crashes of nodes at rest"
+    yield "orders of messages at crashes: the page", is_in_page([crashes_row(crashes, sum(len(one.commands) for one in found))])
     rows = [row_of(kind.capitalize(), [one for one in found if one.kind == kind]) for kind in KINDS]
     yield "orders of messages: the page", is_in_page([*rows, row_of("All", found)])
 

@@ -12,7 +12,7 @@ use Rattle.rh_otp_orders.proofs.Reaching.{alike_back}
 
 -- ---- alike
 
-alike_itself : (s : SystemView) → AreAlike s s
+pub alike_itself : (s : SystemView) → AreAlike s s
 alike_itself s = record {
   cluster = refl;
   files = refl;

@@ -9,13 +9,13 @@ mod Working
 mod Calling
 mod Receiving
 mod Going
-mod Taking
+pub mod Taking
 mod Apart
-mod Commuting
+pub mod Commuting
 mod Leaving
 mod Falling
 mod Following
 mod Picking
-mod Moving
-mod Reaching
-mod Confluence
+pub mod Moving
+pub mod Reaching
+pub mod Confluence
