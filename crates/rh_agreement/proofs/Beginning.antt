@@ -42,7 +42,7 @@ module _ (c : ClusterView) (files : List OwnFile) (order : Order) where
   abbrev live : LiveSimView
   live = live_opened c files order
 
-  net_so : net_in live ≡ first_net
+  pub net_so : net_in live ≡ first_net
   net_so = ap net_of_cell (last_of_all (node_count c) (cell.Node never_begun) (cell.Net first_net))
 
   node_so : (n : Node) → n.0 < node_count c → slice_get live.history.now n.0 ≡ Some (cell.Node never_begun)

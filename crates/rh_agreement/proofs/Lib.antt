@@ -2,3 +2,4 @@ mod Beginning
 mod Reversing
 mod Refusing
 mod Quiet
+mod Rows

@@ -1,1 +1,2 @@
 pub mod LiveText
+pub mod Laws
