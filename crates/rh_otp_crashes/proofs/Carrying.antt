@@ -1,23 +1,26 @@
--- What comes of such a turn: messages to the node's own controller, and timers.
-use Rattle.std.proofs.Common.{◌≡◌, ◌<◌, ◌+◌, ◌++◌, ◌^◌, ℕ, Bool, true, false, cond, nat_lt, List, [], ◌∷◌, refl, sym, ap, subst, ◌∙◌, arith}
+-- What comes of a turn that only sends, and sets timers that aren't over at once.
+use Rattle.std.proofs.Common.{◌≡◌, ◌<◌, ◌+◌, ◌++◌, ◌^◌, ℕ, Bool, true, false, cond, nat_lt, List, [], ◌∷◌, refl, sym, ap, ◌∙◌, arith}
 use Rattle.std.specs.Prelude.{All}
 use Rattle.std.proofs.lemmas.Bool.{ne_eqb}
 use Rattle.std.proofs.lemmas.List.{append_assoc, append-nil}
-use Rattle.std.proofs.lemmas.List.Elements.{All-nil, All-cons, All-head, All-tail}
-use Rattle.rh_model.specs.declared.node.App.{App}
+use Rattle.std.proofs.lemmas.List.Elements.{All-head, All-tail}
 use Rattle.rh_model.specs.declared.node.Node.{Node}
 use Rattle.rh_otp_model.specs.declared.message.Message.{Message}
 use Rattle.rh_otp_model.specs.declared.output.Envelope.{Envelope}
 use Rattle.rh_otp_model.specs.declared.output.Output.{Output}
 use Rattle.rh_otp_model.specs.declared.output.Output.TheVariants as output
-use Rattle.rh_otp_model.specs.declared.process.Here.{Here}
 use Rattle.rh_otp_model.specs.declared.process.Process.{Process}
 use Rattle.rh_otp_model.specs.declared.process.Role.TheVariants as role
 use Rattle.rh_otp_net.specs.declared.timers.Timer.{Timer}
 use Rattle.rh_otp_system.specs.Outputs.{carried_out, all_carried_out}
 use Rattle.rh_otp_system.specs.Sending.{after, sent, with_timer}
 use Rattle.rh_otp_system.specs.State.{SystemView, process_in}
-use Rattle.rh_otp_crashes.proofs.Downing.{IsLoss, no_more}
+
+-- it sends, or sets such a timer
+abbrev pub IsPlain : Output → Type 0
+IsPlain (output.Send e) = Unit {0}
+IsPlain (output.After time m) = 0 < time
+IsPlain o = ⊥
 
 -- the messages
 abbrev pub letters : List Output → List Envelope
@@ -61,35 +64,21 @@ is_set time to m s later =
     by false true = refl
     by false false = none
 
-pub carries : (n : Node) (h : Here) (to : Process) (outs : List Output) (s : SystemView) → process_in s n role.DistAc ≡ to
-    → All (IsLoss h) outs → all_carried_out n outs s ≡ done to outs s
-carries n h to [] s is losses =
+pub carries : (n : Node) (to : Process) (outs : List Output) (s : SystemView) → process_in s n role.DistAc ≡ to
+    → All IsPlain outs → all_carried_out n outs s ≡ done to outs s
+carries n to [] s is losses =
     λ i. record s { messages = sym (append-nil s.messages) i; timers = sym (append-nil s.timers) i }
-carries n h to (output.Send e ∷ outs) s is losses =
+carries n to (output.Send e ∷ outs) s is losses =
     let next : SystemView = carried_out n (output.Send e) s in
-    carries n h to outs next is (All-tail (IsLoss h) (output.Send e) outs losses)
+    carries n to outs next is (All-tail IsPlain (output.Send e) outs losses)
     ∙ (λ i. record s { messages = append_assoc s.messages (e ∷ []) (letters outs) i; timers = s.timers ++ alarms s.clock s.step to outs })
-carries n h to (output.After time m ∷ outs) s is losses =
+carries n to (output.After time m ∷ outs) s is losses =
     let set : List Timer = alarm s.clock s.step to time m in
     ap (λ (p : Process). all_carried_out n outs (after time p m s)) is
-    ∙ ap (all_carried_out n outs) (is_set time to m s (All-head (IsLoss h) (output.After time m) outs losses))
-    ∙ carries n h to outs (timed set s) is (All-tail (IsLoss h) (output.After time m) outs losses)
+    ∙ ap (all_carried_out n outs) (is_set time to m s (All-head IsPlain (output.After time m) outs losses))
+    ∙ carries n to outs (timed set s) is (All-tail IsPlain (output.After time m) outs losses)
     ∙ (λ i. record s { messages = s.messages ++ letters outs; timers = append_assoc s.timers set (alarms s.clock s.step to outs) i })
-carries n h to (output.Tell e ∷ outs) s is losses = absurd (All-head (IsLoss h) (output.Tell e) outs losses)
-carries n h to (output.ToDist m x ∷ outs) s is losses = absurd (All-head (IsLoss h) (output.ToDist m x) outs losses)
-carries n h to (output.Monitor m ∷ outs) s is losses = absurd (All-head (IsLoss h) (output.Monitor m) outs losses)
-carries n h to (output.Free r p ∷ outs) s is losses = absurd (All-head (IsLoss h) (output.Free r p) outs losses)
-
--- each message tells its node's controller that an application runs nowhere
-pub letters_so : (h : Here) (P : Envelope → Type 0) → ((a : App) → P (no_more h a)) → (outs : List Output) → All (IsLoss h) outs
-    → All P (letters outs)
-letters_so h P so [] losses = All-nil P
-letters_so h P so (output.Send e ∷ outs) losses =
-    let here : (a : App) × (e ≡ no_more h a) = All-head (IsLoss h) (output.Send e) outs losses in
-    All-cons P e (letters outs) (subst P (sym here.1) (so here.0))
-    (letters_so h P so outs (All-tail (IsLoss h) (output.Send e) outs losses))
-letters_so h P so (output.After time m ∷ outs) losses = letters_so h P so outs (All-tail (IsLoss h) (output.After time m) outs losses)
-letters_so h P so (output.Tell e ∷ outs) losses = absurd (All-head (IsLoss h) (output.Tell e) outs losses)
-letters_so h P so (output.ToDist m x ∷ outs) losses = absurd (All-head (IsLoss h) (output.ToDist m x) outs losses)
-letters_so h P so (output.Monitor m ∷ outs) losses = absurd (All-head (IsLoss h) (output.Monitor m) outs losses)
-letters_so h P so (output.Free r p ∷ outs) losses = absurd (All-head (IsLoss h) (output.Free r p) outs losses)
+carries n to (output.Tell e ∷ outs) s is losses = absurd (All-head IsPlain (output.Tell e) outs losses)
+carries n to (output.ToDist m x ∷ outs) s is losses = absurd (All-head IsPlain (output.ToDist m x) outs losses)
+carries n to (output.Monitor m ∷ outs) s is losses = absurd (All-head IsPlain (output.Monitor m) outs losses)
+carries n to (output.Free r p ∷ outs) s is losses = absurd (All-head IsPlain (output.Free r p) outs losses)

@@ -32,9 +32,10 @@ use Rattle.rh_otp_laws.proofs.Nodes.{same_of_all, same_number}
 use Rattle.rh_otp_orders.proofs.Confluence.{orderly_alike, picks_alike}
 use Rattle.rh_otp_orders.proofs.Moving.{reached_order}
 use Rattle.rh_otp_crashes.specs.Crashes.{IsUnoccupied, AreAtRest, FailOverLater, CrashesEndAlike}
-use Rattle.rh_otp_crashes.proofs.Deeds.{own_in, AreLater}
-use Rattle.rh_otp_crashes.proofs.Falling.{IsFallout, Fallout, tells, end_told, here_in}
-use Rattle.rh_otp_crashes.proofs.Meeting.{orderly}
+use Rattle.rh_otp_crashes.proofs.Deeds.{AreLater}
+use Rattle.rh_otp_crashes.proofs.Falling.{IsFallout, Fallout, tells, end_told, orderly}
+use Rattle.rh_otp_crashes.proofs.Peace.{here_in}
+use Rattle.rh_otp_crashes.proofs.Turning.{own_in}
 
 -- ---- who is told
 
@@ -125,7 +126,7 @@ falls {lives} {gone} n s = record {
   each = All-nil (IsFallout lives gone);
 }
 
-abbrev lives_of : SystemView → Node → ℕ
+abbrev pub lives_of : SystemView → Node → ℕ
 lives_of s n = (node_at s n).life
 
 crash_tells : (n : Node) (s : SystemView) → Told (lives_of s) (process_at (here_in (lives_of s) n) role.DistAc) s (crashed n s)
@@ -181,7 +182,7 @@ unoccupied n v w d (inr is) free has = unoccupied_by n v v.dist d refl free (sym
 
 -- ---- what comes of it
 
-none_ends : (s : SystemView) (n : Node) → IsReached s → IsSettled s → is_alive_at s n ≡ true → is_to_end n s ≡ false
+pub none_ends : (s : SystemView) (n : Node) → IsReached s → IsSettled s → is_alive_at s n ≡ true → is_to_end n s ≡ false
 none_ends s n reached settled alive =
     false_from_ne_true (is_to_end n s) (λ is. settled (move.End n)
     ((settled_stays_so s s settled (here s)).0, ((alive_listed s reached).exactly n).1 alive, is))
@@ -195,22 +196,24 @@ falls_out s n reached rest timed =
     let none : s.messages ≡ [] = (settled_stays_so s s rest.settled (here s)).0.0 in
     let no_slow : s.slow ≡ [] = (settled_stays_so s s rest.settled (here s)).0.1 in
     record {
-      messages = subst (All (IsFallout (lives_of s) _)) (sym (tells.behind ∙ ap (λ (l : List Envelope). l ++ tells.more) none)) tells.each;
-      slow = alone.slow ∙ no_slow;
-      calls = alone.calls ∙ rest.calls;
-      dists = λ m d alive has.
-          let was : IsAsItWas n (node_at s m) (node_at t m) = alone.others m (another m alive) in
-          unoccupied n (node_at s m) (node_at t m) d was
-          (λ e had. rest.dists m e (sym (kept is_alive n (node_at s m) (node_at t m) (alive_kept n (node_at s m)) was) ∙ alive) had) has;
-      ends = λ m alive.
-          let was : IsAsItWas n (node_at s m) (node_at t m) = alone.others m (another m alive) in
-          ap (λ (soon : Bool). is_ending (node_at t m) && (soon || not (node_at t m).is_stopped)) tells.soon
-          ∙ kept (λ (v : LiveView). is_ending v && (s.ends_soon || not v.is_stopped)) n (node_at s m) (node_at t m)
-          (ending_kept s.ends_soon n (node_at s m)) was
-          ∙ none_ends s m reached rest.settled
-          (sym (kept is_alive n (node_at s m) (node_at t m) (alive_kept n (node_at s m)) was) ∙ alive);
-      listed = reached_order t (later s t reached (acts s t (crashes s n)));
-      same_lives = tells.same_lives;
+      peace = record {
+        messages = subst (All (IsFallout (lives_of s) _)) (sym (tells.behind ∙ ap (λ (l : List Envelope). l ++ tells.more) none)) tells.each;
+        slow = alone.slow ∙ no_slow;
+        calls = alone.calls ∙ rest.calls;
+        dists = λ m d alive has.
+            let was : IsAsItWas n (node_at s m) (node_at t m) = alone.others m (another m alive) in
+            unoccupied n (node_at s m) (node_at t m) d was
+            (λ e had. rest.dists m e (sym (kept is_alive n (node_at s m) (node_at t m) (alive_kept n (node_at s m)) was) ∙ alive) had) has;
+        ends = λ m alive.
+            let was : IsAsItWas n (node_at s m) (node_at t m) = alone.others m (another m alive) in
+            ap (λ (soon : Bool). is_ending (node_at t m) && (soon || not (node_at t m).is_stopped)) tells.soon
+            ∙ kept (λ (v : LiveView). is_ending v && (s.ends_soon || not v.is_stopped)) n (node_at s m) (node_at t m)
+            (ending_kept s.ends_soon n (node_at s m)) was
+            ∙ none_ends s m reached rest.settled
+            (sym (kept is_alive n (node_at s m) (node_at t m) (alive_kept n (node_at s m)) was) ∙ alive);
+        listed = reached_order t (later s t reached (acts s t (crashes s n)));
+        same_lives = tells.same_lives;
+      };
       later = λ m. subst (λ (files : List OwnFile). AreLater (own_in files m)) (sym tells.files) (timed m);
     }
   where
@@ -220,13 +223,15 @@ falls_out s n reached rest timed =
 
 forgets : {lives : Node → ℕ} {gone : Process} (s : SystemView) → Fallout lives gone s → Fallout lives gone (record s { answers = [] })
 forgets s f = record {
-  messages = f.messages;
-  slow = f.slow;
-  calls = f.calls;
-  dists = f.dists;
-  ends = f.ends;
-  listed = f.listed;
-  same_lives = f.same_lives;
+  peace = record {
+    messages = f.peace.messages;
+    slow = f.peace.slow;
+    calls = f.peace.calls;
+    dists = f.peace.dists;
+    ends = f.peace.ends;
+    listed = f.peace.listed;
+    same_lives = f.peace.same_lives;
+  };
   later = f.later;
 }
 

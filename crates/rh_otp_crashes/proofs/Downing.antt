@@ -3,7 +3,7 @@
 use Rattle.std.proofs.Common.{◌≡◌, ◌<◌, ◌==◌, ℕ, Bool, true, false, not, cond, List, [], ◌∷◌, filter, reverse, refl, sym, ap, subst, ◌∙◌}
 use Rattle.std.specs.Prelude.{All}
 use Rattle.std.proofs.lemmas.List.{reverse-append}
-use Rattle.std.proofs.lemmas.List.Elements.{All-nil, All-cons, All-head, All-tail, All-append, All-filter, All-map}
+use Rattle.std.proofs.lemmas.List.Elements.{All-nil, All-cons, All-head, All-tail, All-append, All-filter, All-map, All-weaker}
 use Rattle.rh_model.specs.declared.node.App.{App}
 use Rattle.rh_model.specs.declared.node.Node.{Node}
 use Rattle.rh_otp_model.specs.declared.message.Change.TheVariants as change
@@ -21,6 +21,8 @@ use Rattle.rh_otp_dist.specs.Down.{lose, lose_each, lost_with, is_lost, set_time
 use Rattle.rh_otp_dist.specs.Sending.{to_controller}
 use Rattle.rh_otp_dist.specs.State.{TurnView, standing_of, may_run}
 use Rattle.rh_otp_dist.specs.Told.{set_standing, with_waits}
+use Rattle.rh_otp_crashes.proofs.Carrying.{IsPlain, letters}
+use Rattle.rh_otp_crashes.proofs.Turning.{weighing}
 
 -- a controller is told that an application runs nowhere
 abbrev pub no_more : Here → App → Envelope
@@ -154,9 +156,6 @@ sees_down n t none later =
 
 -- ---- whatever the weight of its node is
 
-abbrev pub weighing : ℕ → TurnView → TurnView
-weighing w t = record t { weight = w }
-
 lose_so : (w : ℕ) (n : Node) (a : App) (s : Standing) (t : TurnView) → lose n a s (weighing w t) ≡ weighing w (lose n a s t)
 lose_so w n a (standing.Distributed m) t =
     by (not (m.0 == n.0)) (may_run t.state t.here.node a) (set_standing a (standing.Failover n) t)
@@ -191,3 +190,30 @@ down_so w n t none =
     ap (λ (u : TurnView). time_each rows (unknow n (check_waiting n (forget_node n u)))) (lose_each_so w n t.own.entries t)
     ∙ ap (λ (u : TurnView). time_each rows (unknow n u)) (check_so w n forgot ((loses_each n t.own.entries t).permits ∙ none))
     ∙ time_each_so w rows (unknow n (check_waiting n forgot))
+
+-- ---- what comes of it
+
+plain_loss : (h : Here) (o : Output) → IsLoss h o → IsPlain o
+plain_loss h (output.Send e) loss = tt
+plain_loss h (output.After time m) loss = loss
+plain_loss h (output.Tell e) loss = absurd loss
+plain_loss h (output.ToDist m x) loss = absurd loss
+plain_loss h (output.Monitor m) loss = absurd loss
+plain_loss h (output.Free r p) loss = absurd loss
+
+pub plain_losses : (h : Here) (outs : List Output) → All (IsLoss h) outs → All IsPlain outs
+plain_losses h outs losses = All-weaker (IsLoss h) IsPlain (plain_loss h) outs losses
+
+-- each message tells its node's controller that an application runs nowhere
+pub letters_so : (h : Here) (P : Envelope → Type 0) → ((a : App) → P (no_more h a)) → (outs : List Output) → All (IsLoss h) outs
+    → All P (letters outs)
+letters_so h P so [] losses = All-nil P
+letters_so h P so (output.Send e ∷ outs) losses =
+    let here : (a : App) × (e ≡ no_more h a) = All-head (IsLoss h) (output.Send e) outs losses in
+    All-cons P e (letters outs) (subst P (sym here.1) (so here.0))
+    (letters_so h P so outs (All-tail (IsLoss h) (output.Send e) outs losses))
+letters_so h P so (output.After time m ∷ outs) losses = letters_so h P so outs (All-tail (IsLoss h) (output.After time m) outs losses)
+letters_so h P so (output.Tell e ∷ outs) losses = absurd (All-head (IsLoss h) (output.Tell e) outs losses)
+letters_so h P so (output.ToDist m x ∷ outs) losses = absurd (All-head (IsLoss h) (output.ToDist m x) outs losses)
+letters_so h P so (output.Monitor m ∷ outs) losses = absurd (All-head (IsLoss h) (output.Monitor m) outs losses)
+letters_so h P so (output.Free r p ∷ outs) losses = absurd (All-head (IsLoss h) (output.Free r p) outs losses)

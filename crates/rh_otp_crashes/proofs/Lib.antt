@@ -1,6 +1,14 @@
-pub mod Downing
 pub mod Carrying
+pub mod Turning
+pub mod Peace
+pub mod Crossing
+pub mod Downing
 pub mod Deeds
 pub mod Falling
-pub mod Meeting
 pub mod Crash
+pub mod Starting
+pub mod Begun
+pub mod News
+pub mod Telling
+pub mod Underway
+pub mod Failover

@@ -1,0 +1,344 @@
+-- What the dist_ac of the node does that starts an application: at the loss, and when it runs.
+use Rattle.std.proofs.Common.{◌≡◌, ◌≢◌, ◌⊎◌, ◌+◌, ◌++◌, ◌==◌, ◌&&◌, ◌||◌, ℕ, Bool, true, false, cond, length, filter, List, [], ◌∷◌, Option, Some, None, refl, sym, ap, subst, ◌∙◌, inl, inr}
+use Rattle.std.specs.Prelude.{All}
+use Rattle.std.proofs.lemmas.Bool.{eq-eqb, false≢true}
+use Rattle.std.proofs.lemmas.List.{append_assoc, append-nil}
+use Rattle.std.proofs.lemmas.List.Elements.{All-nil, All-cons, All-weaker}
+use Rattle.std.proofs.lemmas.Option.{none-some, same_Some}
+use Rattle.rh_model.specs.declared.node.App.{App}
+use Rattle.rh_model.specs.declared.node.Node.{Node}
+use Rattle.rh_otp_model.specs.declared.fault.Outcome.TheVariants.{Done}
+use Rattle.rh_otp_model.specs.declared.message.Message.{Message}
+use Rattle.rh_otp_model.specs.declared.message.Message.TheVariants as message
+use Rattle.rh_otp_model.specs.declared.output.Envelope.{Envelope}
+use Rattle.rh_otp_model.specs.declared.output.Output.{Output}
+use Rattle.rh_otp_model.specs.declared.output.Output.TheVariants as output
+use Rattle.rh_otp_model.specs.declared.process.Role.TheVariants as role
+use Rattle.rh_otp_model.specs.Processes.{process_at}
+use Rattle.rh_otp_model.specs.Rows.{without_rows}
+use Rattle.rh_otp_dist.specs.declared.state.Stand.TheVariants as stand
+use Rattle.rh_otp_dist.specs.declared.state.Standing.TheVariants as standing
+use Rattle.rh_otp_dist.specs.Outside.{with_message}
+use Rattle.rh_otp_dist.specs.Sending.{send_all, send_to, del_t_reqs, answer_each, with_takeovers}
+use Rattle.rh_otp_dist.specs.State.{DistView, TurnView, with_standing, is_among}
+use Rattle.rh_otp_dist.specs.Told.{run, set_standing}
+use Rattle.rh_otp_dist.specs.Waiting.{takes}
+use Rattle.rh_otp_net.specs.Links.{are_linked, to_connect}
+use Rattle.rh_otp_node.specs.Live.{LiveView, is_alive}
+use Rattle.rh_otp_system.specs.Connecting.{connect, link, reach, send_reached, send_to_dist, with_slow_links}
+use Rattle.rh_otp_system.specs.Outputs.{all_carried_out}
+use Rattle.rh_otp_system.specs.State.{SystemView, live_at, node_at, with_node, has_dist_at, is_alive_at, process_in}
+use Rattle.rh_otp_system.specs.Working.{mailed}
+use Rattle.rh_otp_laws.proofs.Nodes.{alive_is_there, same_of_all}
+use Rattle.rh_otp_crashes.specs.Crashes.{IsUnoccupied}
+use Rattle.rh_otp_crashes.specs.Failovers.{IsFirst}
+use Rattle.rh_otp_crashes.proofs.Carrying.{IsPlain}
+use Rattle.rh_otp_crashes.proofs.News.{IsNews, IsAbroad, IsLater, starts, tells, moves, hears, learns, it_fails_over, news, is_to}
+use Rattle.rh_otp_crashes.proofs.Peace.{AtPeace, Acted, ActedAs, acts_dist_as}
+use Rattle.rh_otp_crashes.proofs.Starting.{restarts, started_over}
+use Rattle.rh_otp_crashes.proofs.Turning.{Turned, own_in, node_is, turn, weighing, none_on, idle_comes, waits_on, still_waits}
+
+-- What becomes of it: nobody waits for a takeover, and it knows the same nodes as before.
+pub record Knows (o : Option DistView) (d : DistView) : Type 0 where
+  pub takeovers : d.t_reqs ≡ []
+  pub before : DistView
+  pub had : o ≡ Some before
+  pub known : d.known ≡ before.known
+
+-- ---- the loss
+
+pub record Lost (lives : Node → ℕ) (n : Node) (a : App) (s t : SystemView) : Type 0 where
+  pub acted : Acted (IsNews lives n a) n s t
+  pub later : All IsLater acted.more
+  pub few : length (filter (is_to n) acted.more) ≡ 1
+  pub controller : acted.new.controller ≡ acted.old.controller
+  pub knows : (d : DistView) → acted.new.dist ≡ Some d → Knows (node_at s n).dist d
+
+pub loses : {lives : Node → ℕ} {n : Node} {a : App} (loss : ℕ) (s : SystemView) → AtPeace (IsNews lives n a) lives s → is_alive_at s n ≡ true
+    → IsFirst (own_in s.files n) n a (node_at s n) → ((d : DistView) → (node_at s n).dist ≡ Some d → d.t_reqs ≡ [])
+    → Lost lives n a s (mailed n (message.RestartAppl a loss) s)
+loses {lives} {n} {a} loss s f alive first none =
+    let d : DistView = first.dist in
+    let free : IsUnoccupied d = f.dists n d alive first.has in
+    let t : TurnView = turn s.cluster (own_in s.files n) n (lives n) d in
+    let over : TurnView = started_over a first.gone t in
+    let turned : Turned (IsNews lives n a) s.cluster s.files n (lives n) (message.RestartAppl a loss) (node_at s n).dist = record {
+      next = Some over.state;
+      outs = over.out;
+      comes = λ q v there has same in_cluster in_files.
+          idle_comes s.cluster s.files n (lives n) (message.RestartAppl a loss) d over free first.takes_all refl
+          (λ w. restarts a first.gone (weighing w t) first.lost first.first first.unknown) q v there (has ∙ first.has) same in_cluster in_files;
+      plain = All-cons IsPlain _ [] tt (All-nil IsPlain);
+      kinds = All-cons (IsNews lives n a) (it_fails_over lives n a first.gone) [] (starts first.gone) (All-nil (IsNews lives n a));
+      rest = λ e is. subst IsUnoccupied (same_Some over.state e is) (record {
+        stand = inl refl;
+        mail = All-nil (λ (x : Message). takes over.state.stand x ≡ false);
+        permits = free.permits;
+        parked = free.parked;
+      });
+    } in
+    let as_so = acts_dist_as n (message.RestartAppl a loss) s f alive turned in
+    record {
+      acted = as_so.acted;
+      later = subst (All IsLater) (sym as_so.sent) (All-cons IsLater (it_fails_over lives n a first.gone) [] refl (All-nil IsLater));
+      few = ap (λ (l : List Envelope). length (filter (is_to n) l)) as_so.sent
+          ∙ ap (λ (b : Bool). length (cond b (it_fails_over lives n a first.gone ∷ []) [])) (eq-eqb n.0 n.0 refl);
+      controller = as_so.controller;
+      knows = λ e is. subst (Knows (node_at s n).dist) (same_Some over.state e (sym as_so.dist ∙ is))
+          (record { takeovers = none d first.has; before = d; had = first.has; known = refl });
+    }
+
+-- ---- it runs
+
+-- the others that it knows are told
+abbrev posts : Node → App → List Node → List Output
+posts n a [] = []
+posts n a (m ∷ nodes) = cond (m.0 == n.0) (posts n a nodes) (output.ToDist m (message.AppStarted n a None) ∷ posts n a nodes)
+
+sends_by : (n : Node) (a : App) (m : Node) (nodes : List Node) (b : Bool) (t : TurnView)
+    → ((out : List Output) → send_all nodes (message.AppStarted n a None) (record t { out = out }) ≡ record t { out = out ++ posts n a nodes })
+    → send_all nodes (message.AppStarted n a None) (cond b t (send_to m (message.AppStarted n a None) t))
+    ≡ record t { out = t.out ++ cond b (posts n a nodes) (output.ToDist m (message.AppStarted n a None) ∷ posts n a nodes) }
+sends_by n a m nodes true t rest = rest t.out
+sends_by n a m nodes false t rest =
+    rest (t.out ++ output.ToDist m (message.AppStarted n a None) ∷ [])
+    ∙ (λ i. record t { out = append_assoc t.out (output.ToDist m (message.AppStarted n a None) ∷ []) (posts n a nodes) i })
+
+sends : (a : App) (nodes : List Node) (t : TurnView)
+    → send_all nodes (message.AppStarted t.here.node a None) t ≡ record t { out = t.out ++ posts t.here.node a nodes }
+sends a [] t = λ i. record t { out = sym (append-nil t.out) i }
+sends a (m ∷ nodes) t =
+    sends_by t.here.node a m nodes (m.0 == t.here.node.0) t (λ out. sends a nodes (record t { out = out }))
+
+abbrev run_over : App → TurnView → TurnView
+run_over a t = record t {
+  state = record (with_standing a standing.Local t.state) { t_reqs = [] };
+  out = t.out ++ posts t.here.node a t.state.known;
+}
+
+runs_so : (a : App) (t : TurnView) → t.state.t_reqs ≡ [] → run a None t ≡ run_over a t
+unfolding run del_t_reqs
+runs_so a t none =
+    ap (λ (u : TurnView). set_standing a standing.Local (with_takeovers (without_rows a u.state.t_reqs) (answer_each a Done u.state.t_reqs u)))
+    (sends a t.state.known t)
+    ∙ ap (λ rows. set_standing a standing.Local (with_takeovers (without_rows a rows)
+    (answer_each a Done rows (record t { out = t.out ++ posts t.here.node a t.state.known })))) none
+
+-- those that are alive and have a dist_ac get it
+abbrev mails : (Node → ℕ) → SystemView → Node → App → List Node → List Envelope
+mails lives s n a [] = []
+mails lives s n a (m ∷ nodes) =
+    cond (m.0 == n.0) (mails lives s n a nodes)
+    (cond (is_alive_at s m && has_dist_at s m) (news lives n a m ∷ mails lives s n a nodes) (mails lives s n a nodes))
+
+-- no connection is made for it
+stays : (n m : Node) (s : SystemView) → (n.0 == m.0 || are_linked n m s.links) ≡ true → reach n m s ≡ s
+unfolding connect
+stays n m s seen = by (n.0 == m.0) (are_linked n m s.links) seen
+  where
+    by : (p q : Bool) → (p || q) ≡ true → cond p s (cond q s (with_slow_links (to_connect n m s.links) (link n m s))) ≡ s
+    by true q seen = refl
+    by false true seen = refl
+    by false false seen = absurd (false≢true seen)
+
+posted : {lives : Node → ℕ} (n m : Node) (a : App) (s : SystemView) → ((k : Node) → (node_at s k).life ≡ lives k)
+    → (is_alive_at s m ≡ true → (n.0 == m.0 || are_linked n m s.links) ≡ true)
+    → send_to_dist n m (message.AppStarted n a None) s
+    ≡ cond (is_alive_at s m && has_dist_at s m) (record s { messages = s.messages ++ news lives n a m ∷ [] }) s
+posted {lives} n m a s same seen = by (is_alive_at s m) refl
+  where
+    sent_so : record s {
+      messages = s.messages ++ record {
+        from = process_in s n role.DistAc;
+        to = process_in s m role.DistAc;
+        message = message.AppStarted n a None;
+      } ∷ [];
+    }
+        ≡ record s { messages = s.messages ++ news lives n a m ∷ [] }
+    sent_so = λ i. record s {
+      messages = s.messages ++ record {
+        from = process_at (record { node = n; life = same n i }) role.DistAc;
+        to = process_at (record { node = m; life = same m i }) role.DistAc;
+        message = message.AppStarted n a None;
+      } ∷ [];
+    }
+
+    has : (c : Bool) → cond c (record s {
+      messages = s.messages ++ record {
+        from = process_in s n role.DistAc;
+        to = process_in s m role.DistAc;
+        message = message.AppStarted n a None;
+      } ∷ [];
+    }) s
+        ≡ cond c (record s { messages = s.messages ++ news lives n a m ∷ [] }) s
+    has true = sent_so
+    has false = refl
+
+    by : (b : Bool) → is_alive_at s m ≡ b → cond b (send_reached n m (message.AppStarted n a None) (reach n m s)) s
+        ≡ cond (b && has_dist_at s m) (record s { messages = s.messages ++ news lives n a m ∷ [] }) s
+    by true alive = ap (send_reached n m (message.AppStarted n a None)) (stays n m s (seen alive)) ∙ has (has_dist_at s m)
+    by false dead = refl
+
+post_by : (lives : Node → ℕ) (n m : Node) (a : App) (nodes : List Node) (s : SystemView) (b : Bool)
+    → ((l : List Envelope) → all_carried_out n (posts n a nodes) (record s { messages = l }) ≡ record s { messages = l ++ mails lives s n a nodes })
+    → send_to_dist n m (message.AppStarted n a None) s
+    ≡ cond (is_alive_at s m && has_dist_at s m) (record s { messages = s.messages ++ news lives n a m ∷ [] }) s
+    → all_carried_out n (cond b (posts n a nodes) (output.ToDist m (message.AppStarted n a None) ∷ posts n a nodes)) s
+    ≡ record s {
+      messages = s.messages ++ cond b (mails lives s n a nodes)
+          (cond (is_alive_at s m && has_dist_at s m) (news lives n a m ∷ mails lives s n a nodes) (mails lives s n a nodes));
+    }
+post_by lives n m a nodes s true rest one = rest s.messages
+post_by lives n m a nodes s false rest one = ap (all_carried_out n (posts n a nodes)) one ∙ by (is_alive_at s m && has_dist_at s m)
+  where
+    by : (c : Bool) → all_carried_out n (posts n a nodes) (cond c (record s { messages = s.messages ++ news lives n a m ∷ [] }) s)
+        ≡ record s { messages = s.messages ++ cond c (news lives n a m ∷ mails lives s n a nodes) (mails lives s n a nodes) }
+    by true =
+        rest (s.messages ++ news lives n a m ∷ [])
+        ∙ (λ i. record s { messages = append_assoc s.messages (news lives n a m ∷ []) (mails lives s n a nodes) i })
+    by false = rest s.messages
+
+either_way : (p : Bool) → (p || true) ≡ true
+either_way true = refl
+either_way false = refl
+
+all_posted : {lives : Node → ℕ} (n : Node) (a : App) (nodes : List Node) (s : SystemView) → ((k : Node) → (node_at s k).life ≡ lives k)
+    → ((m : Node) → is_among m nodes ≡ true → is_alive_at s m ≡ true → (n.0 == m.0 || are_linked n m s.links) ≡ true)
+    → all_carried_out n (posts n a nodes) s ≡ record s { messages = s.messages ++ mails lives s n a nodes }
+all_posted n a [] s same seen = λ i. record s { messages = sym (append-nil s.messages) i }
+all_posted {lives} n a (m ∷ nodes) s same seen =
+    post_by lives n m a nodes s (m.0 == n.0)
+    (λ l. all_posted n a nodes (record s { messages = l }) same
+    (λ k among. seen k (ap (λ (c : Bool). k.0 == m.0 || c) among ∙ either_way (k.0 == m.0))))
+    (posted n m a s same (seen m (ap (λ (b : Bool). b || is_among m nodes) (eq-eqb m.0 m.0 refl))))
+
+abroad_by : {lives : Node → ℕ} (s : SystemView) (n m : Node) (a : App) (nodes : List Node) (b : Bool) → (m.0 == n.0) ≡ b → (c : Bool)
+    → All (IsAbroad lives n a) (mails lives s n a nodes)
+    → All (IsAbroad lives n a) (cond b (mails lives s n a nodes) (cond c (news lives n a m ∷ mails lives s n a nodes) (mails lives s n a nodes)))
+abroad_by s n m a nodes true is c rest = rest
+abroad_by {lives} s n m a nodes false is true rest =
+    All-cons (IsAbroad lives n a) (news lives n a m) (mails lives s n a nodes)
+    (hears m (λ same. false≢true (sym is ∙ eq-eqb m.0 n.0 same))) rest
+abroad_by s n m a nodes false is false rest = rest
+
+mails_abroad : {lives : Node → ℕ} (s : SystemView) (n : Node) (a : App) (nodes : List Node) → All (IsAbroad lives n a) (mails lives s n a nodes)
+mails_abroad {lives} s n a [] = All-nil (IsAbroad lives n a)
+mails_abroad {lives} s n a (m ∷ nodes) =
+    abroad_by s n m a nodes (m.0 == n.0) refl (is_alive_at s m && has_dist_at s m) (mails_abroad s n a nodes)
+
+pub is_news : {lives : Node → ℕ} {n : Node} {a : App} (e : Envelope) → IsAbroad lives n a e → IsNews lives n a e
+is_news _ (hears m other) = tells m other
+is_news _ (learns m other) = moves m other
+
+pub record Ran (lives : Node → ℕ) (n : Node) (a : App) (s t : SystemView) : Type 0 where
+  pub acted : Acted (IsNews lives n a) n s t
+  pub away : All (IsAbroad lives n a) acted.more
+  pub controller : acted.new.controller ≡ (node_at s n).controller
+  pub knows : (d : DistView) → acted.new.dist ≡ Some d → Knows (node_at s n).dist d
+
+old_is : {K : Envelope → Type 0} {n : Node} {s t : SystemView} (a : Acted K n s t) → a.old ≡ node_at s n
+old_is {n = n} {s = s} a = sym (node_is s n a.old a.there)
+
+-- it has none, or takes nothing yet
+ran_plainly : {lives : Node → ℕ} {n : Node} {a : App} (s : SystemView) (next : Option DistView)
+    → ActedAs (IsNews lives n a) n s (mailed n (message.Run a None) s) next []
+    → ((d : DistView) → next ≡ Some d → Knows (node_at s n).dist d) → Ran lives n a s (mailed n (message.Run a None) s)
+ran_plainly {lives} {n} {a} s next as_so knows = record {
+  acted = as_so.acted;
+  away = subst (All (IsAbroad lives n a)) (sym as_so.sent) (All-nil (IsAbroad lives n a));
+  controller = as_so.controller ∙ ap (λ (v : LiveView). v.controller) (old_is as_so.acted);
+  knows = λ d is. knows d (sym as_so.dist ∙ is);
+}
+
+ran_idle : {lives : Node → ℕ} {n : Node} {a : App} (s : SystemView) (d : DistView) → AtPeace (IsNews lives n a) lives s
+    → is_alive_at s n ≡ true → (node_at s n).dist ≡ Some d → IsUnoccupied d → d.stand ≡ stand.Idle → d.t_reqs ≡ []
+    → ((m : Node) → is_among m d.known ≡ true → is_alive_at s m ≡ true → (n.0 == m.0 || are_linked n m s.links) ≡ true)
+    → Ran lives n a s (mailed n (message.Run a None) s)
+ran_idle {lives} {n} {a} s d f alive has free is none seen =
+    let at : (v : LiveView) × (live_at s n ≡ Some v) = alive_is_there s n alive in
+    let old : LiveView = node_at s n in
+    let there : live_at s n ≡ Some old = at.1 ∙ ap Some (sym (node_is s n at.0 at.1)) in
+    let t : TurnView = turn s.cluster (own_in s.files n) n (lives n) d in
+    let over : TurnView = run_over a t in
+    let new : LiveView = record old { dist = Some over.state } in
+    let next : SystemView = with_node n new s in
+    let more : List Envelope = mails lives next n a d.known in
+    let away : All (IsAbroad lives n a) more = mails_abroad next n a d.known in
+    let lives_on : (k : Node) → (node_at next k).life ≡ lives k =
+    λ k. same_of_all (λ (v : LiveView). v.life) s n k new refl ∙ f.same_lives k in
+    let awake : (k : Node) → is_alive_at next k ≡ is_alive_at s k = λ k. same_of_all is_alive s n k new refl in
+    record {
+      acted = record {
+        old = old;
+        new = new;
+        there = there;
+        more = more;
+        set = [];
+        seen = [];
+        is = idle_comes s.cluster s.files n (lives n) (message.Run a None) d over free is refl
+            (λ w. runs_so a (weighing w t) none) s old there has (f.same_lives n) refl refl
+            ∙ all_posted n a d.known next lives_on (λ m among up. seen m among (sym (awake m) ∙ up))
+            ∙ (λ i. record next {
+              messages = s.messages ++ more;
+              timers = sym (append-nil s.timers) i;
+              events = sym (append-nil s.events) i;
+            });
+        life = refl;
+        phase = refl;
+        stopped = refl;
+        ending = refl;
+        rest = λ e is_next. subst IsUnoccupied (same_Some over.state e is_next) (record {
+          stand = inl refl;
+          mail = All-nil (λ (x : Message). takes over.state.stand x ≡ false);
+          permits = free.permits;
+          parked = free.parked;
+        });
+        kinds = All-weaker (IsAbroad lives n a) (IsNews lives n a) is_news more away;
+      };
+      away = away;
+      controller = refl;
+      knows = λ e is_next. subst (Knows (node_at s n).dist) (same_Some over.state e is_next)
+          (record { takeovers = refl; before = d; had = has; known = refl });
+    }
+
+pub ran : {lives : Node → ℕ} {n : Node} {a : App} (s : SystemView) → AtPeace (IsNews lives n a) lives s → is_alive_at s n ≡ true
+    → ((d : DistView) → (node_at s n).dist ≡ Some d → d.t_reqs ≡ [])
+    → ((d : DistView) → (node_at s n).dist ≡ Some d → (m : Node) → is_among m d.known ≡ true → is_alive_at s m ≡ true
+    → (n.0 == m.0 || are_linked n m s.links) ≡ true)
+    → Ran lives n a s (mailed n (message.Run a None) s)
+ran {lives} {n} {a} s f alive none seen = by (node_at s n).dist refl
+  where
+    msg : Message
+    msg = message.Run a None
+
+    waits : (d : DistView) → (node_at s n).dist ≡ Some d → d.stand ≡ stand.ForGo
+        → ActedAs (IsNews lives n a) n s (mailed n msg s) (Some (with_message msg d)) []
+    waits d has is = acts_dist_as n msg s f alive (record {
+      next = Some (with_message msg d);
+      outs = [];
+      comes = λ q v there had same in_cluster in_files. waits_on n msg q v d there (had ∙ has) (f.dists n d alive has) is refl;
+      plain = All-nil IsPlain;
+      kinds = All-nil (IsNews lives n a);
+      rest = λ e is_next. subst IsUnoccupied (same_Some (with_message msg d) e is_next) (still_waits msg d (f.dists n d alive has) is refl);
+    })
+
+    at : (d : DistView) → (node_at s n).dist ≡ Some d → (d.stand ≡ stand.Idle) ⊎ (d.stand ≡ stand.ForGo) → Ran lives n a s (mailed n msg s)
+    at d has (inl is) = ran_idle s d f alive has (f.dists n d alive has) is (none d has) (seen d has)
+    at d has (inr is) =
+        ran_plainly s (Some (with_message msg d)) (waits d has is)
+        (λ e is_next. subst (Knows (node_at s n).dist) (same_Some (with_message msg d) e is_next)
+        (record { takeovers = none d has; before = d; had = has; known = refl }))
+
+    by : (o : Option DistView) → (node_at s n).dist ≡ o → Ran lives n a s (mailed n msg s)
+    by None has =
+        ran_plainly s None
+        (acts_dist_as n msg s f alive (record {
+          next = None;
+          outs = [];
+          comes = λ q v there had same in_cluster in_files. none_on n msg q v there (had ∙ has);
+          plain = All-nil IsPlain;
+          kinds = All-nil (IsNews lives n a);
+          rest = λ d is. absurd (none-some d is);
+        }))
+        (λ d is. absurd (none-some d is))
+    by (Some d) has = at d has (f.dists n d alive has).stand
