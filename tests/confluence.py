@@ -11,8 +11,8 @@ no list has a tuple, each node waits for all others, nothing hangs before the co
 reaches; a failover time of 0 counts as one that is due at once. Within them no two of the orders that are tried may part. Without any
 one of them some rehearsal parts, which is told by name.
 
-Of crashes less is asked, since it is proved of them (rh_otp_crashes): where nothing hangs, no call is open and no failover time is 0, no two
-orders part at a crash, whatever the lists.
+Of crashes and of failovers at one node less is asked, since it is proved of them (rh_otp_crashes): where nothing hangs and no call is open,
+no two orders part at a crash where no failover time is 0, nor at a tick within which one timer is due, which is a failover's.
 """
 import os
 import random
@@ -43,8 +43,8 @@ KEPT_FIRST, KEPT_COUNT, KEPT_AT_ONCE = 70_000, 2_000, 100
 ORDERS = 8
 # At least so many rehearsals have to have such a file, with so many commands within the conditions.
 LEAST_REHEARSALS, LEAST_COMMANDS = 200, 2_000
-# And so many crashes of nodes at rest among the random rehearsals of any kind.
-LEAST_CRASHES = 200
+# And so many crashes of nodes at rest, and so many failovers at one node, among the random rehearsals of any kind.
+LEAST_CRASHES, LEAST_FAILOVERS = 200, 25
 # For each condition a rehearsal that breaks it alone, and in which orders part: a script of tests/live, or a random one of a seed; and in
 # how many orders that shows.
 NEEDED: tuple[tuple[str, Union[str, int], int], ...] = (
@@ -142,6 +142,16 @@ def is_crash_at_rest(cluster: ClusterFile, command: str, before: Lines) -> bool:
     return words_of(command)[0] == "crash" and not hangs(before) and all(entry.timeout > 0 for entry in cluster.entries.values())
 
 
+def is_lone_failover(command: str, before: Lines) -> bool:
+    """Time passes where nothing hangs, and one timer is due, a failover's, of one node."""
+    word, *rest = words_of(command)
+    if word != "tick" or hangs(before):
+        return False
+    end = now_of(before) + int(rest[0])
+    due = [words_of(line.partition("  timer ")[2]) for line, count in before[1] for _ in range(count) if "  timer " in line]
+    return [kind for kind, *_, moment in due if int(moment) <= end] == ["failover"]
+
+
 def broken_by_step(cluster: ClusterFile, command: str, before: Lines, answer: Lines) -> set[str]:
     """The conditions that a command breaks: a call is open before it or a process stands in the middle of something, or it reaches two
     timers that are due at one moment, or two losses that are due at once."""
@@ -155,12 +165,13 @@ def broken_by_step(cluster: ClusterFile, command: str, before: Lines, answer: Li
 @dataclass(frozen=True)
 class Measured:
     """A rehearsal: its commands, the conditions that each of them breaks, those of the file the first one, which of them are crashes of
-    nodes at rest, and the first command at which two orders part."""
+    nodes at rest, and which failovers at one node, and the first command at which two orders part."""
     name: str
     kind: str
     commands: list[str]
     broken: list[set[str]]
     crashes: set[int]
+    failovers: set[int]
     first: Optional[int]
 
     @property
@@ -176,9 +187,9 @@ class Measured:
         return f"two orders part at command {self.first + 1}, {self.commands[self.first]}"
 
     @property
-    def wrong_crash(self) -> Optional[str]:
-        """At which crash of nodes at rest two orders part, or None."""
-        return f"two orders part at the crash {self.first + 1}" if self.first in self.crashes else None
+    def wrong_proof(self) -> Optional[str]:
+        """At which crash of nodes at rest, or failover at one node, two orders part, or None."""
+        return f"two orders part at command {self.first + 1}" if self.first in self.crashes | self.failovers else None
 
 
 def broken_in(text: str, commands: list[str], told: list[Told]) -> list[set[str]]:
@@ -194,6 +205,11 @@ def crashes_in(text: str, commands: list[str], told: list[Told]) -> set[int]:
     return {place for place, (command, before) in enumerate(zip(commands[1:], told), 1) if is_crash_at_rest(cluster, command, before.report)}
 
 
+def failovers_in(commands: list[str], told: list[Told]) -> set[int]:
+    """Which commands of a rehearsal are failovers at one node."""
+    return {place for place, (command, before) in enumerate(zip(commands[1:], told), 1) if is_lone_failover(command, before.report)}
+
+
 def parting(told: list[list[Told]]) -> Optional[int]:
     """The first command of which several orders tell otherwise than the first one."""
     return next((place for place, one in enumerate(told[0]) if any(other[place] != one for other in told[1:])), None)
@@ -203,7 +219,7 @@ def measured(one: Rehearsal, told: list[list[Told]]) -> Measured:
     """A rehearsal of which something is told in several orders."""
     commands = list(filter(is_command, split_input(one.text).lines))
     broken, crashes = (tell(one.text, commands, told[0]) for tell in (broken_in, crashes_in))
-    return Measured(str(one.seed), one.kind, commands, broken, crashes, parting(told))
+    return Measured(str(one.seed), one.kind, commands, broken, crashes, failovers_in(commands, told[0]), parting(told))
 
 
 # ---- The tests
@@ -219,7 +235,7 @@ def anywhere(_program: str, seeds: range) -> Iterator[Test]:
     found = [in_orders(rehearsal(seed)) for seed in seeds]
     for one in found:
         yield f"orders of messages, rehearsal {one.name}", one.wrong
-        yield f"orders of messages at crashes, rehearsal {one.name}", one.wrong_crash
+        yield f"orders of messages at crashes and failovers, rehearsal {one.name}", one.wrong_proof
     return found
 
 
@@ -266,18 +282,20 @@ def row_of(text: str, found: list[Measured]) -> str:
             f"| {sum(one.within for one in found):,} | {sum(one.wrong is not None for one in found)} |")
 
 
-def crashes_row(count: int, commands: int) -> str:
-    """The page's line of crashes."""
-    return f"{count} of the {commands:,} commands are crashes of nodes at rest, where no application has a timeout of 0; of these none depends on it."
+def proved_row(crashes: int, failovers: int, commands: int) -> str:
+    """The page's line of crashes and failovers."""
+    return (f"{crashes} of the {commands:,} commands are crashes of nodes at rest, where no application has a timeout of 0, and {failovers} are "
+            "failovers at one node; of these none depends on it.")
 
 
 def of_anywhere(parts: list[list[Measured]]) -> Iterator[Test]:
     """Somewhere orders do part, and the page has the counts."""
     found = [one for part in parts for one in part]
     yield "orders of messages: they matter", None if any(one.first is not None for one in found) else "no two orders part anywhere"
-    crashes = sum(len(one.crashes) for one in found)
-    yield "orders of messages: enough crashes", None if crashes >= LEAST_CRASHES else f"{crashes} crashes of nodes at rest"
-    yield "orders of messages at crashes: the page", is_in_page([crashes_row(crashes, sum(len(one.commands) for one in found))])
+    crashes, failovers = sum(len(one.crashes) for one in found), sum(len(one.failovers) for one in found)
+    is_enough = crashes >= LEAST_CRASHES and failovers >= LEAST_FAILOVERS
+    yield "orders of messages: enough crashes", None if is_enough else f"{crashes} crashes of nodes at rest, {failovers} failovers at one node"
+    yield "orders of messages at crashes: the page", is_in_page([proved_row(crashes, failovers, sum(len(one.commands) for one in found))])
     rows = [row_of(kind.capitalize(), [one for one in found if one.kind == kind]) for kind in KINDS]
     yield "orders of messages: the page", is_in_page([*rows, row_of("All", found)])
 
