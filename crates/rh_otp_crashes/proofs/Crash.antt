@@ -34,7 +34,7 @@ use Rattle.rh_otp_orders.proofs.Moving.{reached_order}
 use Rattle.rh_otp_crashes.specs.Crashes.{IsUnoccupied, AreAtRest, FailOverLater, CrashesEndAlike}
 use Rattle.rh_otp_crashes.proofs.Deeds.{AreLater}
 use Rattle.rh_otp_crashes.proofs.Falling.{IsFallout, Fallout, tells, end_told, orderly}
-use Rattle.rh_otp_crashes.proofs.Peace.{here_in}
+use Rattle.rh_otp_crashes.proofs.Peace.{here_in, peace_forgets}
 use Rattle.rh_otp_crashes.proofs.Turning.{own_in}
 
 -- ---- who is told
@@ -222,18 +222,7 @@ falls_out s n reached rest timed =
         false≢true (sym (ends_alone s n).itself ∙ sym (ap is_alive (same_number (crashed n s) m n one)) ∙ alive)
 
 forgets : {lives : Node → ℕ} {gone : Process} (s : SystemView) → Fallout lives gone s → Fallout lives gone (record s { answers = [] })
-forgets s f = record {
-  peace = record {
-    messages = f.peace.messages;
-    slow = f.peace.slow;
-    calls = f.peace.calls;
-    dists = f.peace.dists;
-    ends = f.peace.ends;
-    listed = f.peace.listed;
-    same_lives = f.peace.same_lives;
-  };
-  later = f.later;
-}
+forgets s f = record { peace = peace_forgets s f.peace; later = f.later }
 
 pub crashes_alike : CrashesEndAlike
 crashes_alike s n reached rest timed =

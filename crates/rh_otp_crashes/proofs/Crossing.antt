@@ -1,7 +1,7 @@
 -- A dist_ac and the controller of its own node each change their own state, so which of two messages for them comes first makes no
 -- difference.
 use Rattle.std.proofs.Common.{◌≡◌, ◌⊎◌, ◌++◌, ℕ, true, false, List, Some, refl, sym, ap, subst, ◌∙◌, inl, inr}
-use Rattle.std.proofs.lemmas.Bool.{cases_Bool}
+use Rattle.std.proofs.lemmas.Bool.{cases_Bool, false_from_ne_true, false≢true}
 use Rattle.rh_model.specs.declared.node.Node.{Node}
 use Rattle.rh_otp_model.specs.declared.message.Message.{Message}
 use Rattle.rh_otp_model.specs.declared.output.Envelope.{Envelope}
@@ -13,6 +13,7 @@ use Rattle.rh_otp_node.specs.Live.{LiveView, is_alive}
 use Rattle.rh_otp_system.specs.Delivering.{arrived}
 use Rattle.rh_otp_system.specs.State.{SystemView, live_at, node_at, with_node, is_alive_at}
 use Rattle.rh_otp_laws.proofs.Nodes.{alive_is_there, node_written, there_written, alive_written}
+use Rattle.rh_otp_laws.proofs.Order.{pair_itself, same_pair}
 use Rattle.rh_otp_orders.specs.Confluence.{Meet}
 use Rattle.rh_otp_orders.specs.Orders.{Arrives, AreAlike}
 use Rattle.rh_otp_orders.proofs.Confluence.{alike_itself}
@@ -33,6 +34,13 @@ cross_meet t u e f (v, w, to_v, to_w, same) =
 pub meet_back : (t u : SystemView) → Meet t u → Meet u t
 meet_back t u (inl same) = inl (alike_back t u same)
 meet_back t u (inr (v, w, to_v, to_w, same)) = inr (w, v, to_w, to_v, alike_back v w same)
+
+pub same_node : (n m : Node) → n.0 ≡ m.0 → n ≡ m
+same_node n m is = λ i. record { 0 = is i }
+
+-- what isn't of one pair isn't, either way round
+pub not_back : (e f : Envelope) → is_of_pair e f ≡ false → is_of_pair f e ≡ false
+not_back e f apart = false_from_ne_true (is_of_pair f e) (λ is. false≢true (sym apart ∙ same_pair f e f is ∙ pair_itself f))
 
 -- a message for the dist_ac of a node, and one for its controller
 abbrev pub for_dist : (Node → ℕ) → Node → Process → Message → Envelope

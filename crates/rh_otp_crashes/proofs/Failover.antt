@@ -19,6 +19,7 @@ use Rattle.rh_otp_crashes.specs.Failovers.{FailsOverAt, LoneFailoversEndAlike}
 use Rattle.rh_otp_crashes.proofs.Begun.{AreNobodys}
 use Rattle.rh_otp_crashes.proofs.Crash.{none_ends, lives_of}
 use Rattle.rh_otp_crashes.proofs.News.{IsNews, fires, is_to, it_is_lost}
+use Rattle.rh_otp_crashes.proofs.Peace.{peace_forgets}
 use Rattle.rh_otp_crashes.proofs.Underway.{Underway, orderly}
 
 -- the timer has fired
@@ -60,15 +61,7 @@ is_underway s n a reached rest failover =
 
 forgets : {lives : Node → ℕ} {n : Node} {a : App} (s : SystemView) → Underway lives n a s → Underway lives n a (record s { answers = [] })
 forgets s f = record {
-  peace = record {
-    messages = f.peace.messages;
-    slow = f.peace.slow;
-    calls = f.peace.calls;
-    dists = f.peace.dists;
-    ends = f.peace.ends;
-    listed = f.peace.listed;
-    same_lives = f.peace.same_lives;
-  };
+  peace = peace_forgets s f.peace;
   lone = f.lone;
   early = f.early;
   able = f.able;

@@ -1,6 +1,6 @@
 -- What there is on its way behind a crash of nodes that were at rest, and that any two of these messages meet again.
 use Rattle.std.proofs.Common.{◌≡◌, ◌⊎◌, ℕ, true, false, List, refl, sym, ap, subst, ◌∙◌, inl, inr}
-use Rattle.std.proofs.lemmas.Bool.{cases_Bool, false_from_ne_true, false≢true}
+use Rattle.std.proofs.lemmas.Bool.{cases_Bool, false≢true}
 use Rattle.rh_model.specs.declared.node.App.{App}
 use Rattle.rh_model.specs.declared.node.Node.{Node}
 use Rattle.rh_otp_model.specs.declared.message.Message.TheVariants as message
@@ -12,11 +12,11 @@ use Rattle.rh_otp_net.specs.Queue.{is_of_pair}
 use Rattle.rh_otp_system.specs.Delivering.{arrived}
 use Rattle.rh_otp_system.specs.Moves.{Delivers, Reaches, here, behind_one}
 use Rattle.rh_otp_system.specs.State.{SystemView, node_at, is_alive_at}
-use Rattle.rh_otp_laws.proofs.Order.{pair_itself, same_pair}
+use Rattle.rh_otp_laws.proofs.Order.{pair_itself}
 use Rattle.rh_otp_orders.specs.Confluence.{Meet, IsOrderly}
 use Rattle.rh_otp_orders.specs.Orders.{is_call}
 use Rattle.rh_otp_orders.proofs.Taking.{Taken}
-use Rattle.rh_otp_crashes.proofs.Crossing.{crosses, meet_back}
+use Rattle.rh_otp_crashes.proofs.Crossing.{crosses, meet_back, not_back, same_node}
 use Rattle.rh_otp_crashes.proofs.Deeds.{turns, changes, AreLater}
 use Rattle.rh_otp_crashes.proofs.Downing.{no_more}
 use Rattle.rh_otp_crashes.proofs.Peace.{AtPeace, Came, Delivered, here_in, without, only_messages, peace_on, peace_left, acts_dist, acts_controller, arrives_alive, arrives_dead, meets, MeetHere, taken_all}
@@ -88,9 +88,6 @@ goes_on {lives} {gone} s t f one =
 
 -- ---- at one node
 
-same_node : (n m : Node) → n.0 ≡ m.0 → n ≡ m
-same_node n m is = λ i. record { 0 = is i }
-
 -- its dist_ac and its controller
 cross_here : {lives : Node → ℕ} {gone : Process} (s : SystemView) → Fallout lives gone s → (n m : Node) (a : App) (left_e left_f : List Envelope)
     → Taken (end_told lives gone n) s.messages left_e → Taken (no_more (here_in lives m) a) s.messages left_f
@@ -105,9 +102,6 @@ cross_here {lives} {gone} s f n m a left_e left_f taken_e taken_f apart one =
     (λ taken apart. crosses s n gone (no_more (here_in lives n) a).from (message.NodeDown gone.node) (no_more (here_in lives n) a).message left_e left_f
     f.peace.same_lives (λ alive. down_at n s f alive) (changes s.cluster s.files n a) taken_e taken apart)
     taken_f apart
-
-not_back : (e f : Envelope) → is_of_pair e f ≡ false → is_of_pair f e ≡ false
-not_back e f apart = false_from_ne_true (is_of_pair f e) (λ is. false≢true (sym apart ∙ same_pair f e f is ∙ pair_itself f))
 
 meet_here : {lives : Node → ℕ} {gone : Process} (s : SystemView) → Fallout lives gone s → MeetHere (IsFallout lives gone) s
 meet_here {lives} {gone} s f _ _ left_e left_f (tells n) (tells m) taken_e taken_f apart one =

@@ -131,6 +131,18 @@ peace_left s left f all = record {
   same_lives = f.same_lives;
 }
 
+-- who has answered whom is nothing to it
+pub peace_forgets : {K : Envelope → Type 0} {lives : Node → ℕ} (s : SystemView) → AtPeace K lives s → AtPeace K lives (record s { answers = [] })
+peace_forgets s f = record {
+  messages = f.messages;
+  slow = f.slow;
+  calls = f.calls;
+  dists = f.dists;
+  ends = f.ends;
+  listed = f.listed;
+  same_lives = f.same_lives;
+}
+
 -- ---- a message arrives
 
 pub arrives_alive : (to : Process) (m : Message) (s : SystemView) → is_alive_at s to.node ≡ true → (node_at s to.node).life ≡ to.life

@@ -1,7 +1,7 @@
 -- A start at one node that is underway: any two messages meet again.
 use Rattle.std.proofs.Common.{◌≡◌, ◌≢◌, ◌⊎◌, ◌≤◌, ◌+◌, ◌++◌, ◌==◌, ◌||◌, ℕ, Bool, true, false, cond, length, filter, List, [], ◌∷◌, Option, Some, None, refl, sym, ap, subst, ◌∙◌, inl, inr, arith}
 use Rattle.std.specs.Prelude.{All}
-use Rattle.std.proofs.lemmas.Bool.{cases_Bool, eq-eqb, false_from_ne_true, false≢true}
+use Rattle.std.proofs.lemmas.Bool.{cases_Bool, eq-eqb, false≢true}
 use Rattle.std.proofs.lemmas.List.{length-append}
 use Rattle.std.proofs.lemmas.List.Elements.{All-nil, All-cons, All-head, All-tail, All-append, All-weaker, filter-append}
 use Rattle.rh_model.specs.ClusterView.{ClusterView}
@@ -24,13 +24,13 @@ use Rattle.rh_otp_system.specs.Moves.{Delivers, Reaches, here, behind_one}
 use Rattle.rh_otp_system.specs.State.{SystemView, node_at, with_node, is_alive_at}
 use Rattle.rh_otp_system.specs.Working.{mailed}
 use Rattle.rh_otp_laws.proofs.Nodes.{node_written, others_same}
-use Rattle.rh_otp_laws.proofs.Order.{pair_itself, same_pair}
+use Rattle.rh_otp_laws.proofs.Order.{pair_itself}
 use Rattle.rh_otp_orders.specs.Confluence.{Meet, IsOrderly}
 use Rattle.rh_otp_orders.proofs.Taking.{Taken, both_taken}
 use Rattle.rh_otp_crashes.specs.Failovers.{IsFirst, IsAble}
 use Rattle.rh_otp_crashes.proofs.Begun.{AreNobodys, says_failover, says_started}
 use Rattle.rh_otp_crashes.proofs.Carrying.{letters}
-use Rattle.rh_otp_crashes.proofs.Crossing.{crosses, meet_back}
+use Rattle.rh_otp_crashes.proofs.Crossing.{crosses, meet_back, not_back, same_node}
 use Rattle.rh_otp_crashes.proofs.News.{IsNews, IsAbroad, IsLater, IsLast, fires, starts, started, running, tells, moves, hears, learns, news, runs_there, is_to, abroad, abroad_later, no_call, count_taken, none_passes, all_pass, Spoke, speaks, it_is_lost, it_fails_over, it_started, it_runs}
 use Rattle.rh_otp_crashes.proofs.Peace.{AtPeace, Acted, Came, Delivered, without, only_messages, peace_on, peace_left, acts_dist_as, acts_controller_as, alive_on, arrives_alive, arrives_dead, meets, MeetHere, taken_all}
 use Rattle.rh_otp_crashes.proofs.Starting.{hears_of, moves_elsewhere}
@@ -414,12 +414,6 @@ goes_on {lives} {n} {a} s t f one =
     subst (Underway lives n a) (sym d.is) (came_on s d.message d.left f d.taken d.kind).1
 
 -- ---- at one node
-
-same_node : (n m : Node) → n.0 ≡ m.0 → n ≡ m
-same_node n m is = λ i. record { 0 = is i }
-
-not_back : (e f : Envelope) → is_of_pair e f ≡ false → is_of_pair f e ≡ false
-not_back e f apart = false_from_ne_true (is_of_pair f e) (λ is. false≢true (sym apart ∙ same_pair f e f is ∙ pair_itself f))
 
 -- two for the node that starts it there never are
 not_two : {lives : Node → ℕ} {n : Node} {a : App} (s : SystemView) (e f : Envelope) (left_e left_f : List Envelope) → Underway lives n a s
