@@ -1,5 +1,5 @@
 -- Where no node has begun both tell the same.
-use Rattle.std.proofs.Common.{◌≡◌, ◌≤◌, ◌<◌, ◌+◌, ℕ, zero, suc, List, [], ◌∷◌, ◌++◌, length, replicate, slice_get, slice_index, unwrap_or, Option, Some, refl, sym, ap, subst, ◌∙◌, arith}
+use Rattle.std.proofs.Common.{◌≡◌, ◌≤◌, ◌<◌, ◌+◌, ℕ, zero, suc, List, [], ◌∷◌, ◌++◌, length, replicate, slice_get, unwrap_or, Option, Some, refl, sym, ap, subst, ◌∙◌, arith}
 use Rattle.std.specs.Option.{option_and_then}
 use Rattle.std.proofs.lemmas.List.{get_or-replicate, length-replicate, length_push}
 use Rattle.rh_model.specs.ClusterView.{ClusterView, node_count}
@@ -8,19 +8,18 @@ use Rattle.rh_rules.specs.declared.pick.Pick.{Pick}
 use Rattle.rh_state.specs.declared.status.Mode.TheVariants as mode
 use Rattle.rh_state.specs.First.{first}
 use Rattle.rh_state.specs.Limits.{incarnation_limit}
-use Rattle.rh_state.specs.StateView.{mode_of, incarnation_of}
+use Rattle.rh_state.specs.StateView.{incarnation_of}
 use Rattle.rh_trail.specs.Lone.{opened}
 use Rattle.rh_trail.specs.SimView.{state_of}
 use Rattle.rh_otp_model.specs.declared.wait.OwnFile.{OwnFile}
 use Rattle.rh_otp_net.specs.declared.order.Order.{Order}
-use Rattle.rh_otp_node.specs.Live.{LiveView, never_begun}
-use Rattle.rh_otp_sim.specs.Refusing.{phase_in, life_in}
-use Rattle.rh_otp_sim.specs.Sim.{LiveSimView, first_net, first_cells, net_in, net_of_cell, at_step_of}
+use Rattle.rh_otp_node.specs.Live.{never_begun}
+use Rattle.rh_otp_sim.specs.Sim.{LiveSimView, first_net, net_in, net_of_cell, at_step_of}
 use Rattle.rh_otp_sim.specs.Sim.{opened as live_opened}
 use Rattle.rh_otp_system.specs.declared.cell.Cell.{Cell}
 use Rattle.rh_otp_system.specs.declared.cell.Cell.TheVariants as cell
 use Rattle.rh_otp_system.specs.State.{live_in}
-use Rattle.rh_agreement.specs.Telling.{TellTheSame, GoTogether, at_step, mode_of_phase}
+use Rattle.rh_agreement.specs.Telling.{TellTheSame, at_step, mode_of_phase}
 use Rattle.rh_agreement.specs.Laws.{RehearsalsBeginTogether}
 
 at_replicate : {A : Type 0} (count i : ℕ) (x : A) → unwrap_or (slice_get (replicate count x) i) x ≡ x

@@ -21,7 +21,7 @@ use Rattle.rh_calls.specs.declared.call.Call.TheVariants as call
 use Rattle.rh_calls.specs.declared.call.Reply.TheVariants as reply
 use Rattle.rh_script.specs.Answers.{answer_text}
 use Rattle.rh_state.specs.StateView.{StateView, earliest}
-use Rattle.rh_step.specs.Runs.{step, after}
+use Rattle.rh_step.specs.Runs.{step}
 use Rattle.rh_trail.specs.Lone.{answered, served, stepped, with_event, trail_limit}
 use Rattle.rh_trail.specs.SimView.{SimView, state_of}
 use Rattle.rh_trail.proofs.Histories.{state_earlier, state_last}
@@ -32,25 +32,25 @@ use Rattle.rh_otp_model.specs.declared.output.Envelope.{Envelope}
 use Rattle.rh_otp_node.specs.Live.{LiveView, never_begun}
 use Rattle.rh_otp_sim.specs.declared.calls.LiveReply.TheVariants as live_reply
 use Rattle.rh_otp_sim.specs.declared.stepping.Outcome.TheVariants as live
-use Rattle.rh_otp_sim.specs.Acting.{acted, is_acted, time_passed, is_passed, most_moves}
+use Rattle.rh_otp_sim.specs.Acting.{acted, is_acted, most_moves}
 use Rattle.rh_otp_sim.specs.Calls.{made_by, reply_to}
-use Rattle.rh_otp_sim.specs.Refusing.{refusal_of, or_full, is_full, refuse_tick, phase_in, life_in}
+use Rattle.rh_otp_sim.specs.Refusing.{refusal_of, or_full, is_full}
 use Rattle.rh_otp_sim.specs.Sim.{LiveSimView, net_in, net_of_cell, at_step_of}
 use Rattle.rh_otp_sim.specs.Sim.{live_in as live_at_node}
-use Rattle.rh_otp_sim.specs.Stepping.{begun, run, happened, net_behind, cells_behind, system_with, ends_with, outcome_with, with_step, stepped_with, stepped_if, outcome_if}
+use Rattle.rh_otp_sim.specs.Stepping.{begun, happened, net_behind, cells_behind, system_with, ends_with, outcome_with, with_step, stepped_with, stepped_if, outcome_if}
 use Rattle.rh_otp_system.specs.declared.cell.Cell.{Cell}
 use Rattle.rh_otp_system.specs.declared.cell.Cell.TheVariants as cell
 use Rattle.rh_otp_system.specs.declared.moves.Move.TheVariants as move
 use Rattle.rh_otp_system.specs.declared.slow.Slow.{Slow}
 use Rattle.rh_otp_system.specs.Doing.{next_until, passed_by, passed, is_past_by, is_past, ticking as began_ticking, ticked_behind, ticked as live_ticked, is_ticked}
 use Rattle.rh_otp_system.specs.Moves.{can_go_on_at, is_to_end, first_call_from, first_call, next_node, next_end, call_or_end, lock_or_more, slow_or_more, message_or_more, next_move, moved_by, moved, is_quiet_by, is_quiet_behind, settled, is_settled_by}
-use Rattle.rh_otp_system.specs.Resting.{rested, forgotten, open_of, sleeping_dists, sleeping_calls}
+use Rattle.rh_otp_system.specs.Resting.{rested, forgotten, open_of}
 use Rattle.rh_otp_system.specs.State.{SystemView, live_in}
 use Rattle.rh_otp_system.specs.Views.{NetView}
 use Rattle.rh_otp_text.specs.Lines.{verdict_words}
 use Rattle.rh_otp_text.specs.Replies.{reply_text}
 use Rattle.rh_agreement.specs.Telling.{TellTheSame, GoTogether, at_step, mode_of_phase}
-use Rattle.rh_agreement.specs.Laws.{IsAnsweredAlike, HasRoom, IsStill, ticking, QuietTicksAreAnsweredAlike}
+use Rattle.rh_agreement.specs.Laws.{IsAnsweredAlike, HasRoom, IsStill, QuietTicksAreAnsweredAlike}
 use Rattle.rh_agreement.proofs.Refusing.{nodes_events_alike, refused_by_both}
 
 -- ---- by the manual's rules

@@ -1,8 +1,8 @@
 -- What can't be given to a node is refused alike.
-use Rattle.std.proofs.Common.{◌≡◌, ◌<◌, ◌≤◌, ◌+◌, ◌++◌, ◌==◌, ℕ, Bool, true, false, cond, not, nat_lt, nat_le, List, [], ◌∷◌, codes, Option, Some, None, refl, sym, ap, subst, append_assoc, ◌∙◌, arith}
+use Rattle.std.proofs.Common.{◌≡◌, ◌<◌, ◌≤◌, ◌+◌, ◌++◌, ◌==◌, ℕ, Bool, true, false, cond, not, nat_lt, nat_le, List, [], ◌∷◌, codes, Option, Some, None, refl, sym, ap, ◌∙◌, arith}
 use Rattle.std.proofs.lemmas.Bool.{true≢false, false≢true, ltb-true}
 use Rattle.std.proofs.lemmas.Bool.Decides.{nat_tests}
-use Rattle.std.proofs.lemmas.Option.{same_Some, none-some}
+use Rattle.std.proofs.lemmas.Option.{none-some}
 use Rattle.rh_model.specs.ClusterView.{ClusterView, node_count, app_count}
 use Rattle.rh_model.specs.declared.node.App.{App}
 use Rattle.rh_model.specs.declared.node.Node.{Node}
@@ -17,14 +17,13 @@ use Rattle.rh_rules.specs.Refusals.{refused, dep_tests, first_that_applies, refu
 use Rattle.rh_calls.specs.declared.call.Call.TheVariants as call
 use Rattle.rh_calls.specs.declared.call.Reply.TheVariants as reply
 use Rattle.rh_script.specs.Answers.{answer_text, reason_words}
-use Rattle.rh_state.specs.Limits.{incarnation_limit, time_limit}
+use Rattle.rh_state.specs.Limits.{incarnation_limit}
 use Rattle.rh_state.specs.StateView.{StateView, mode_of, incarnation_of, is_alive, is_up}
-use Rattle.rh_trail.specs.Lone.{served, stepped, answered}
+use Rattle.rh_trail.specs.Lone.{stepped}
 use Rattle.rh_trail.specs.SimView.{SimView, state_of}
 use Rattle.rh_otp_node.specs.declared.node.Phase.{Phase}
 use Rattle.rh_otp_node.specs.declared.node.Phase.TheVariants as phase
 use Rattle.rh_otp_node.specs.Live.{is_down, is_phase_up}
-use Rattle.rh_otp_sim.specs.declared.calls.LiveReply.{LiveReply}
 use Rattle.rh_otp_sim.specs.declared.calls.LiveReply.TheVariants as live_reply
 use Rattle.rh_otp_sim.specs.declared.stepping.Outcome.TheVariants as outcome
 use Rattle.rh_otp_sim.specs.Calls.{made_by, reply_to}
@@ -33,7 +32,7 @@ use Rattle.rh_otp_sim.specs.Sim.{LiveSimView, net_in}
 use Rattle.rh_otp_sim.specs.Stepping.{stepped_if, outcome_if}
 use Rattle.rh_otp_text.specs.Replies.{reply_text}
 use Rattle.rh_agreement.specs.Telling.{TellTheSame, GoTogether, mode_of_phase}
-use Rattle.rh_agreement.specs.Laws.{IsAnsweredAlike, is_of_nodes, is_at_a_node, WhatNoNodeTakesIsRefusedByBoth, NodesEventsAreRefusedAlike}
+use Rattle.rh_agreement.specs.Laws.{is_at_a_node, WhatNoNodeTakesIsRefusedByBoth, NodesEventsAreRefusedAlike}
 
 -- ---- what both sides ask of a node
 

@@ -1,10 +1,9 @@
 -- Undo and redo are answered alike.
-use Rattle.std.proofs.Common.{◌≡◌, ◌≤◌, ◌<◌, ◌+◌, ◌-◌, ◌==◌, ℕ, zero, suc, Bool, true, false, cond, not, nat_lt, length, refl, sym, ap, subst, ◌∙◌, arith}
+use Rattle.std.proofs.Common.{◌≡◌, ◌≤◌, ◌+◌, ◌-◌, ◌==◌, ℕ, Bool, true, false, cond, not, nat_lt, length, refl, sym, ap, subst, ◌∙◌, arith}
 use Rattle.std.proofs.lemmas.Bool.Decides.{nat_tests}
 use Rattle.std.proofs.lemmas.Bool.{true≢false}
 use Rattle.rh_calls.specs.declared.call.Call.{Call}
 use Rattle.rh_calls.specs.declared.call.Call.TheVariants as call
-use Rattle.rh_calls.specs.declared.call.Reply.{Reply}
 use Rattle.rh_calls.specs.declared.call.Reply.TheVariants as reply
 use Rattle.rh_script.specs.Answers.{answer_text}
 use Rattle.rh_trail.specs.Lone.{Served, served, answered}
@@ -15,7 +14,7 @@ use Rattle.rh_otp_sim.specs.Calls.{made_by, reply_to}
 use Rattle.rh_otp_sim.specs.Sim.{LiveSimView, at_step_of}
 use Rattle.rh_otp_text.specs.Replies.{reply_text}
 use Rattle.rh_agreement.specs.Telling.{GoTogether, at_step}
-use Rattle.rh_agreement.specs.Laws.{IsAnsweredAlike, is_reversal, ReversalsAreAnsweredAlike}
+use Rattle.rh_agreement.specs.Laws.{IsAnsweredAlike, ReversalsAreAnsweredAlike}
 
 -- with another number of steps done they still go together
 moved : (sim : SimView) (live : LiveSimView) (k : ℕ) → k ≤ length sim.trail → GoTogether sim live → GoTogether (at_step k sim) (at_step_of k live)

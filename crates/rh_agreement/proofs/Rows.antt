@@ -1,6 +1,6 @@
 -- Where a rehearsal begins nothing is to come by itself, so its first tick is answered alike: of any cluster, whatever breaks a tie, whatever
 -- the nodes' own files say and in whichever order messages are taken.
-use Rattle.std.proofs.Common.{◌≡◌, ◌<◌, ◌+◌, ◌++◌, ◌||◌, ◌&&◌, not, ℕ, zero, suc, false, List, [], ◌∷◌, replicate, slice_get, unwrap_or, refl, sym, ap, subst, ◌∙◌, arith}
+use Rattle.std.proofs.Common.{◌≡◌, ◌<◌, ◌+◌, ◌++◌, ◌||◌, ◌&&◌, not, ℕ, zero, suc, false, List, [], ◌∷◌, replicate, slice_get, unwrap_or, refl, sym, ap, subst, arith}
 use Rattle.std.specs.Option.{option_map, option_and_then}
 use Rattle.rh_model.specs.ClusterView.{ClusterView, node_count}
 use Rattle.rh_model.specs.declared.node.Node.{Node}
@@ -18,7 +18,7 @@ use Rattle.rh_otp_system.specs.declared.cell.Cell.TheVariants as cell
 use Rattle.rh_otp_system.specs.Doing.{until_if}
 use Rattle.rh_otp_system.specs.Moves.{can_go_on_at, can_unpark_in, is_sync_free, is_to_end}
 use Rattle.rh_otp_system.specs.Resting.{forgotten}
-use Rattle.rh_otp_system.specs.State.{SystemView, live_in, node_at}
+use Rattle.rh_otp_system.specs.State.{live_in, node_at}
 use Rattle.rh_otp_system.specs.Views.{NetView}
 use Rattle.rh_otp_system.specs.Working.{alive_of, lock_in}
 use Rattle.rh_agreement.specs.Laws.{HasRoom, IsStill, IsAnsweredAlike, ticking}

@@ -6,7 +6,7 @@ use Rattle.rh_model.specs.declared.node.Node.{Node}
 use Rattle.rh_otp_model.specs.declared.output.Envelope.{Envelope}
 use Rattle.rh_otp_model.specs.declared.process.Process.{Process}
 use Rattle.rh_otp_net.specs.declared.timers.Timer.{Timer}
-use Rattle.rh_otp_net.specs.Timers.{left, fired}
+use Rattle.rh_otp_net.specs.Timers.{left}
 use Rattle.rh_otp_system.specs.Doing.{all_fired, fired_next}
 use Rattle.rh_otp_system.specs.Moves.{here}
 use Rattle.rh_otp_system.specs.State.{SystemView}

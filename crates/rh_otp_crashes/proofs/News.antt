@@ -18,7 +18,7 @@ use Rattle.rh_otp_model.specs.declared.process.Role.TheVariants as role
 use Rattle.rh_otp_model.specs.Processes.{process_at}
 use Rattle.rh_otp_controller.specs.Changes.{received}
 use Rattle.rh_otp_controller.specs.State.{TurnView}
-use Rattle.rh_otp_node.specs.Live.{LiveView, with_kind, is_ending}
+use Rattle.rh_otp_node.specs.Live.{LiveView, with_kind}
 use Rattle.rh_otp_node.specs.Turns.{controller_turn, controlled_by}
 use Rattle.rh_otp_system.specs.Delivering.{controlled}
 use Rattle.rh_otp_system.specs.Outputs.{all_carried_out}

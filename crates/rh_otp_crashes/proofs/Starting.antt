@@ -17,7 +17,6 @@ use Rattle.rh_otp_model.specs.declared.output.Event.TheVariants as event
 use Rattle.rh_otp_model.specs.declared.output.Output.{Output}
 use Rattle.rh_otp_model.specs.declared.output.Output.TheVariants as output
 use Rattle.rh_otp_model.specs.declared.process.Role.TheVariants as role
-use Rattle.rh_otp_model.specs.declared.process.StartType.TheVariants.{Failover}
 use Rattle.rh_otp_model.specs.declared.wait.OwnFile.{OwnFile}
 use Rattle.rh_otp_model.specs.Own.{WrittenView, controls}
 use Rattle.rh_otp_model.specs.Processes.{process_at}
