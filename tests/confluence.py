@@ -282,10 +282,12 @@ def row_of(text: str, found: list[Measured]) -> str:
             f"| {sum(one.within for one in found):,} | {sum(one.wrong is not None for one in found)} |")
 
 
-def proved_row(crashes: int, failovers: int, commands: int) -> str:
-    """The page's line of crashes and failovers."""
-    return (f"{crashes} of the {commands:,} commands are crashes of nodes at rest, where no application has a timeout of 0, and {failovers} are "
-            "failovers at one node; of these none depends on it.")
+def proved_rows(found: list[Measured]) -> list[str]:
+    """The page's table of crashes and failovers: how many there are, and at how many two orders part."""
+    of_kind = {"A crash of a node at rest, where no application has a timeout of 0": [one.crashes for one in found],
+               "A failover at one node": [one.failovers for one in found]}
+    return [f"| {kind} | {sum(map(len, commands))} | {sum(one.first in those for one, those in zip(found, commands))} |"
+            for kind, commands in of_kind.items()]
 
 
 def of_anywhere(parts: list[list[Measured]]) -> Iterator[Test]:
@@ -295,7 +297,7 @@ def of_anywhere(parts: list[list[Measured]]) -> Iterator[Test]:
     crashes, failovers = sum(len(one.crashes) for one in found), sum(len(one.failovers) for one in found)
     is_enough = crashes >= LEAST_CRASHES and failovers >= LEAST_FAILOVERS
     yield "orders of messages: enough crashes", None if is_enough else f"{crashes} crashes of nodes at rest, {failovers} failovers at one node"
-    yield "orders of messages at crashes: the page", is_in_page([proved_row(crashes, failovers, sum(len(one.commands) for one in found))])
+    yield "orders of messages at crashes: the page", is_in_page(proved_rows(found))
     rows = [row_of(kind.capitalize(), [one for one in found if one.kind == kind]) for kind in KINDS]
     yield "orders of messages: the page", is_in_page([*rows, row_of("All", found)])
 
