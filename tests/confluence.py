@@ -11,8 +11,9 @@ no list has a tuple, each node waits for all others, nothing hangs before the co
 reaches; a failover time of 0 counts as one that is due at once. Within them no two of the orders that are tried may part. Without any
 one of them some rehearsal parts, which is told by name.
 
-Of crashes and of failovers at one node less is asked, since it is proved of them (rh_otp_crashes): where nothing hangs and no call is open,
-no two orders part at a crash where no failover time is 0, nor at a tick within which one timer is due, which is a failover's.
+Of crashes and of failovers at one node less is asked: where nothing hangs and no call is open, no two orders part at a crash where no
+failover time is 0, nor at a tick within which one timer is due, which is a failover's. It is proved of them (rh_otp_crashes), of failovers
+under more conditions than are asked here.
 """
 import os
 import random

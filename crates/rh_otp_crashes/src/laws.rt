@@ -10,8 +10,10 @@ pub fn crashes_end_alike()
     ensures { CrashesEndAlike }
 {}
 
-/// Where live nodes are at rest and the timer of a lost application fires at one node alone, which is the first of the list that may run
-/// it, the failover comes to the same in every order: the start there, and all that other nodes do at the news.
+/// Where live nodes are at rest and the timer of a lost application fires at one node alone, the failover comes to the same in every
+/// order: the start there, and all that other nodes do at the news. That node is the first of the list that may run the application, with
+/// no tuple before it, and knows of nobody that runs it; what the application needs runs there, and nobody waits there for a start or a
+/// takeover; and it sees all those that it knows of and that are alive.
 pub fn lone_failovers_end_alike()
     ensures { LoneFailoversEndAlike }
 {}
