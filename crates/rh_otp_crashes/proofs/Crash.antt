@@ -34,7 +34,7 @@ use Rattle.rh_otp_orders.proofs.Moving.{reached_order}
 use Rattle.rh_otp_crashes.specs.Crashes.{IsUnoccupied, AreAtRest, FailOverLater, CrashesEndAlike}
 use Rattle.rh_otp_crashes.proofs.Deeds.{AreLater}
 use Rattle.rh_otp_crashes.proofs.Falling.{IsFallout, Fallout, tells, end_told, orderly}
-use Rattle.rh_otp_crashes.proofs.Peace.{here_in, peace_forgets}
+use Rattle.rh_otp_crashes.proofs.Peace.{here_in, at_ease, peace_forgets}
 use Rattle.rh_otp_crashes.proofs.Turning.{own_in}
 
 -- ---- who is told
@@ -187,7 +187,7 @@ none_ends s n reached settled alive =
     false_from_ne_true (is_to_end n s) (λ is. settled (move.End n)
     ((settled_stays_so s s settled (here s)).0, ((alive_listed s reached).exactly n).1 alive, is))
 
-falls_out : (s : SystemView) (n : Node) → IsReached s → AreAtRest s → FailOverLater s
+pub falls_out : (s : SystemView) (n : Node) → IsReached s → AreAtRest s → FailOverLater s
     → Fallout (lives_of s) (process_at (here_in (lives_of s) n) role.DistAc) (crashed n s)
 falls_out s n reached rest timed =
     let t : SystemView = crashed n s in
@@ -200,6 +200,7 @@ falls_out s n reached rest timed =
         messages = subst (All (IsFallout (lives_of s) _)) (sym (tells.behind ∙ ap (λ (l : List Envelope). l ++ tells.more) none)) tells.each;
         slow = alone.slow ∙ no_slow;
         calls = alone.calls ∙ rest.calls;
+        calm = at_ease;
         dists = λ m d alive has.
             let was : IsAsItWas n (node_at s m) (node_at t m) = alone.others m (another m alive) in
             unoccupied n (node_at s m) (node_at t m) d was

@@ -24,10 +24,10 @@ use Rattle.rh_otp_crashes.proofs.Peace.{here_in, without, arrives_alive, arrives
 use Rattle.rh_otp_crashes.proofs.Turning.{Turned, Changed, node_is, written_twice}
 
 -- both messages come to the same, whichever comes first
-abbrev Cross : SystemView → SystemView → Envelope → Envelope → Type 0
+abbrev pub Cross : SystemView → SystemView → Envelope → Envelope → Type 0
 Cross t u e f = (v : SystemView) × (w : SystemView) × Arrives f t v × Arrives e u w × (v ≡ w)
 
-cross_meet : (t u : SystemView) (e f : Envelope) → Cross t u e f → Meet t u
+pub cross_meet : (t u : SystemView) (e f : Envelope) → Cross t u e f → Meet t u
 cross_meet t u e f (v, w, to_v, to_w, same) =
     inr (v, w, delivers f t v to_v, delivers e u w to_w, subst (AreAlike v) same (alike_itself v))
 
@@ -50,7 +50,7 @@ abbrev pub for_controller : (Node → ℕ) → Node → Process → Message → 
 for_controller lives n from m = record { from = from; to = process_at (here_in lives n) role.Controller; message = m }
 
 -- to a node that isn't alive
-cross_dead : (s t u : SystemView) (e f : Envelope) (left_e left_f left : List Envelope) → f.to.node ≡ e.to.node
+pub cross_dead : (s t u : SystemView) (e f : Envelope) (left_e left_f left : List Envelope) → f.to.node ≡ e.to.node
     → is_alive_at s e.to.node ≡ false → t ≡ arrived e.to e.message (without s left_e) → u ≡ arrived f.to f.message (without s left_f)
     → Taken f left_e left → Taken e left_f left → Cross t u e f
 cross_dead s t u e f left_e left_f left one_node dead is_t is_u taken_f taken_e =

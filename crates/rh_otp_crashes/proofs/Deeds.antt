@@ -96,7 +96,7 @@ clears a t =
     by true = refl
     by false = refl
 
-comes_so : (n : Node) (a : App) (s : SystemView) (v : LiveView) → live_at s n ≡ Some v
+pub comes_so : (n : Node) (a : App) (s : SystemView) (v : LiveView) → live_at s n ≡ Some v
     → controlled n (message.Change a change_of.NotRunning) s ≡ with_node n (record v { controller = cleared a v.controller }) s
 unfolding controlled_by
 comes_so n a s v there =

@@ -19,7 +19,7 @@ use Rattle.rh_otp_orders.proofs.Taking.{Taken}
 use Rattle.rh_otp_crashes.proofs.Crossing.{crosses, meet_back, not_back, same_node}
 use Rattle.rh_otp_crashes.proofs.Deeds.{turns, changes, AreLater}
 use Rattle.rh_otp_crashes.proofs.Downing.{no_more}
-use Rattle.rh_otp_crashes.proofs.Peace.{AtPeace, Came, Delivered, here_in, without, only_messages, peace_on, peace_left, acts_dist, acts_controller, arrives_alive, arrives_dead, meets, MeetHere, taken_all}
+use Rattle.rh_otp_crashes.proofs.Peace.{AtPeace, AtEase, Came, Delivered, here_in, without, only_messages, peace_on, peace_left, acts_dist, acts_controller, arrives_alive, arrives_dead, meets, MeetHere, taken_all}
 use Rattle.rh_otp_crashes.proofs.Turning.{Turned, own_in}
 
 -- a dist_ac is told of the end
@@ -33,7 +33,7 @@ pub data IsFallout (lives : Node → ℕ) (gone : Process) : Envelope → Type 0
 
 -- all else is at rest, and no loss is over at once
 pub record Fallout (lives : Node → ℕ) (gone : Process) (s : SystemView) : Type 0 where
-  pub peace : AtPeace (IsFallout lives gone) lives s
+  pub peace : AtPeace AtEase (IsFallout lives gone) lives s
   pub later : (n : Node) → AreLater (own_in s.files n)
 
 no_call : {lives : Node → ℕ} {gone : Process} (e : Envelope) → IsFallout lives gone e → is_call e.to.role ≡ false
@@ -49,13 +49,13 @@ down_at {lives} {gone} n s f alive =
 
 -- a node that is alive acts for itself, and what comes to one that isn't is lost
 comes : {lives : Node → ℕ} {gone : Process} (e : Envelope) (s : SystemView) → IsFallout lives gone e → Fallout lives gone s
-    → Came (IsFallout lives gone) e.to.node s (arrived e.to e.message s)
+    → Came AtEase (IsFallout lives gone) e.to.node s (arrived e.to e.message s)
 comes {lives} {gone} _ s (tells n) f = by (cases_Bool (is_alive_at s n))
   where
     e : Envelope
     e = end_told lives gone n
 
-    by : (is_alive_at s n ≡ true) ⊎ (is_alive_at s n ≡ false) → Came (IsFallout lives gone) n s (arrived e.to e.message s)
+    by : (is_alive_at s n ≡ true) ⊎ (is_alive_at s n ≡ false) → Came AtEase (IsFallout lives gone) n s (arrived e.to e.message s)
     by (inl alive) =
         inl (rw (arrives_alive e.to e.message s alive (f.peace.same_lives n)) (acts_dist n e.message s f.peace alive (down_at n s f alive)))
     by (inr dead) = inr (arrives_dead e.to e.message s dead)
@@ -64,22 +64,22 @@ comes {lives} {gone} _ s (clears n a) f = by (cases_Bool (is_alive_at s n))
     e : Envelope
     e = no_more (here_in lives n) a
 
-    by : (is_alive_at s n ≡ true) ⊎ (is_alive_at s n ≡ false) → Came (IsFallout lives gone) n s (arrived e.to e.message s)
+    by : (is_alive_at s n ≡ true) ⊎ (is_alive_at s n ≡ false) → Came AtEase (IsFallout lives gone) n s (arrived e.to e.message s)
     by (inl alive) =
         inl (rw (arrives_alive e.to e.message s alive (f.peace.same_lives n))
         (acts_controller n e.message s f.peace alive (changes s.cluster s.files n a)))
     by (inr dead) = inr (arrives_dead e.to e.message s dead)
 
 -- files are never written
-files_on : {K : Envelope → Type 0} (n : Node) (s t : SystemView) → Came K n s t → t.files ≡ s.files
+files_on : {K : Envelope → Type 0} (n : Node) (s t : SystemView) → Came AtEase K n s t → t.files ≡ s.files
 files_on n s t (inl a) = ap (λ (x : SystemView). x.files) a.is
 files_on n s t (inr same) = ap (λ (x : SystemView). x.files) same
 
-goes_on : {lives : Node → ℕ} {gone : Process} (s t : SystemView) → Fallout lives gone s → Delivers s t → Fallout lives gone t
+pub goes_on : {lives : Node → ℕ} {gone : Process} (s t : SystemView) → Fallout lives gone s → Delivers s t → Fallout lives gone t
 goes_on {lives} {gone} s t f one =
-    let d : Delivered (IsFallout lives gone) lives s t = only_messages s t f.peace one in
-    let came : Came (IsFallout lives gone) d.message.to.node (without s d.left) t =
-    subst (Came (IsFallout lives gone) d.message.to.node (without s d.left)) (sym d.is)
+    let d : Delivered AtEase (IsFallout lives gone) lives s t = only_messages s t f.peace one in
+    let came : Came AtEase (IsFallout lives gone) d.message.to.node (without s d.left) t =
+    subst (Came AtEase (IsFallout lives gone) d.message.to.node (without s d.left)) (sym d.is)
     (comes d.message (without s d.left) d.kind (record { peace = d.still; later = f.later })) in
     record {
       peace = peace_on d.message.to.node (without s d.left) t d.still came;

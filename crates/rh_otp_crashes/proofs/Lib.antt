@@ -7,8 +7,16 @@ pub mod Deeds
 pub mod Falling
 pub mod Crash
 pub mod Starting
+pub mod Standing
+pub mod Waiting
+pub mod Hearing
+pub mod Racing
 pub mod Begun
 pub mod News
 pub mod Telling
+pub mod Phases
 pub mod Underway
+pub mod Coming
+pub mod Meeting
 pub mod Failover
+pub mod Rows

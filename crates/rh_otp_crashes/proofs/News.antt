@@ -1,5 +1,5 @@
 -- What there is on its way while an application is started at one node, and what each of these messages comes to.
-use Rattle.std.proofs.Common.{◌≡◌, ◌≢◌, ◌≤◌, ◌+◌, ◌++◌, ◌==◌, ℕ, Bool, true, false, cond, length, filter, List, [], ◌∷◌, Some, None, refl, sym, ap, subst, ◌∙◌, inl, inr, arith}
+use Rattle.std.proofs.Common.{◌≡◌, ◌≢◌, ◌≤◌, ◌+◌, ◌++◌, ◌==◌, ◌&&◌, ℕ, Bool, true, false, cond, length, filter, List, [], ◌∷◌, Some, None, refl, sym, ap, subst, ◌∙◌, inl, inr, arith}
 use Rattle.std.specs.Prelude.{All}
 use Rattle.std.proofs.lemmas.Bool.{eq-eqb, ne_eqb, false≢true}
 use Rattle.std.proofs.lemmas.List.{append-nil}
@@ -31,6 +31,7 @@ use Rattle.rh_otp_crashes.proofs.Begun.{Words, silent, runs, begins, Said, AreNo
 use Rattle.rh_otp_crashes.proofs.Carrying.{letters}
 use Rattle.rh_otp_crashes.proofs.Peace.{AtPeace, Acted, here_in}
 use Rattle.rh_otp_crashes.proofs.Turning.{own_in, node_is, written_twice}
+use Rattle.rh_otp_crashes.proofs.Waiting.{Behaves}
 
 -- ---- the messages
 
@@ -76,7 +77,7 @@ runs_there lives n a m = record {
   message = message.Change a (change_of.Started n);
 }
 
--- the timer has fired; the controller is told to start it; it has started; it runs; and other nodes hear of it
+-- the timer has fired; the controller is told to start it; it has started; it runs; other nodes hear of it; and timers of theirs have fired
 pub data IsNews (lives : Node → ℕ) (n : Node) (a : App) : Envelope → Type 0 where
   fires : (loss : ℕ) → IsNews lives n a (it_is_lost lives n a loss)
   starts : (gone : Node) → IsNews lives n a (it_fails_over lives n a gone)
@@ -84,6 +85,7 @@ pub data IsNews (lives : Node → ℕ) (n : Node) (a : App) : Envelope → Type 
   running : IsNews lives n a (it_runs lives n a)
   tells : (m : Node) → m.0 ≢ n.0 → IsNews lives n a (news lives n a m)
   moves : (m : Node) → m.0 ≢ n.0 → IsNews lives n a (runs_there lives n a m)
+  wakes : (m : Node) → m.0 ≢ n.0 → (loss : ℕ) → IsNews lives n a (it_is_lost lives m a loss)
 
 -- is it for the node that starts it?
 abbrev pub is_to : Node → Envelope → Bool
@@ -93,6 +95,7 @@ is_to n e = e.to.node.0 == n.0
 pub data IsAbroad (lives : Node → ℕ) (n : Node) (a : App) : Envelope → Type 0 where
   hears : (m : Node) → m.0 ≢ n.0 → IsAbroad lives n a (news lives n a m)
   learns : (m : Node) → m.0 ≢ n.0 → IsAbroad lives n a (runs_there lives n a m)
+  wakens : (m : Node) → m.0 ≢ n.0 → (loss : ℕ) → IsAbroad lives n a (it_is_lost lives m a loss)
 
 to_itself : (n : Node) → (n.0 == n.0) ≡ true
 to_itself n = eq-eqb n.0 n.0 refl
@@ -104,6 +107,7 @@ abroad {n = n} _ started away = absurd (false≢true (sym away ∙ to_itself n))
 abroad {n = n} _ running away = absurd (false≢true (sym away ∙ to_itself n))
 abroad _ (tells m other) away = hears m other
 abroad _ (moves m other) away = learns m other
+abroad _ (wakes m other loss) away = wakens m other loss
 
 pub no_call : {lives : Node → ℕ} {n : Node} {a : App} (e : Envelope) → IsNews lives n a e → is_call e.to.role ≡ false
 no_call _ (fires loss) = refl
@@ -112,6 +116,7 @@ no_call _ started = refl
 no_call _ running = refl
 no_call _ (tells m other) = refl
 no_call _ (moves m other) = refl
+no_call _ (wakes m other loss) = refl
 
 -- ---- what has been said
 
@@ -124,16 +129,57 @@ is_asked (message.RestartAppl a loss) = true
 is_asked (message.Change a (change_of.Failover gone)) = true
 is_asked m = false
 
--- behind the timer; and behind what the controller is told
-abbrev pub IsLater : Envelope → Type 0
-IsLater e = is_fired e.message ≡ false
+abbrev pub is_moved : Message → Bool
+is_moved (message.Change a (change_of.Started n)) = true
+is_moved m = false
 
-abbrev pub IsLast : Envelope → Type 0
-IsLast e = is_asked e.message ≡ false
+-- the node's timer; and what tells its controller where the application runs
+abbrev pub is_timer : Node → Envelope → Bool
+is_timer m e = is_fired e.message && is_to m e
 
-pub abroad_later : {lives : Node → ℕ} {n : Node} {a : App} (e : Envelope) → IsAbroad lives n a e → IsLater e × IsLast e × (is_to n e ≡ false)
+abbrev pub is_learned : Node → Envelope → Bool
+is_learned m e = is_moved e.message && is_to m e
+
+-- behind the node's timer; and behind what its controller is told
+abbrev pub IsLater : Node → Envelope → Type 0
+IsLater n e = is_timer n e ≡ false
+
+abbrev pub IsLast : Node → Envelope → Type 0
+IsLast n e = (is_asked e.message && is_to n e) ≡ false
+
+-- its controller isn't told where it runs
+abbrev pub IsUnmoved : Node → Envelope → Type 0
+IsUnmoved m e = is_learned m e ≡ false
+
+-- neither of these, at whichever node
+pub record IsFresh (e : Envelope) : Type 0 where
+  pub fired : is_fired e.message ≡ false
+  pub moved : is_moved e.message ≡ false
+
+pub fresh_later : (m : Node) (e : Envelope) → IsFresh e → IsLater m e
+fresh_later m e fresh = ap (λ (b : Bool). b && is_to m e) fresh.fired
+
+pub fresh_unmoved : (m : Node) (e : Envelope) → IsFresh e → IsUnmoved m e
+fresh_unmoved m e fresh = ap (λ (b : Bool). b && is_to m e) fresh.moved
+
+pub abroad_later : {lives : Node → ℕ} {n : Node} {a : App} (e : Envelope) → IsAbroad lives n a e
+    → IsLater n e × IsLast n e × (is_to n e ≡ false)
 abroad_later {n = n} _ (hears m other) = (refl, refl, ne_eqb m.0 n.0 other)
 abroad_later {n = n} _ (learns m other) = (refl, refl, ne_eqb m.0 n.0 other)
+abroad_later {n = n} _ (wakens m other loss) = (ne_eqb m.0 n.0 other, ne_eqb m.0 n.0 other, ne_eqb m.0 n.0 other)
+
+-- what another node's dist_ac tells its controller
+abbrev pub IsHis : (Node → ℕ) → Node → App → Node → Envelope → Type 0
+IsHis lives n a m e = e ≡ runs_there lives n a m
+
+pub his_abroad : {lives : Node → ℕ} {n : Node} {a : App} (m : Node) → m.0 ≢ n.0 → (e : Envelope) → IsHis lives n a m e → IsAbroad lives n a e
+his_abroad {lives} {n} {a} m other e is = subst (IsAbroad lives n a) (sym is) (learns m other)
+
+pub his_later : (lives : Node → ℕ) (n : Node) (a : App) (m k : Node) (e : Envelope) → IsHis lives n a m e → IsLater k e
+his_later lives n a m k e is = subst (IsLater k) (sym is) refl
+
+pub his_unmoved : (lives : Node → ℕ) (n : Node) (a : App) (m k : Node) → m.0 ≢ k.0 → (e : Envelope) → IsHis lives n a m e → IsUnmoved k e
+his_unmoved lives n a m k other e is = subst (IsUnmoved k) (sym is) (ne_eqb m.0 k.0 other)
 
 -- ---- counting
 
@@ -253,9 +299,9 @@ words_few h a _ (begins kind) = omega arith
 
 -- A controller at work on a start: its node's dist_ac is as it was, and no more than one message is on its way for it.
 pub record Spoke (lives : Node → ℕ) (n : Node) (a : App) (s t : SystemView) : Type 0 where
-  pub acted : Acted (IsNews lives n a) n s t
-  pub last : All IsLast acted.more
-  pub later : All IsLater acted.more
+  pub acted : Acted (Behaves n a) (IsNews lives n a) n s t
+  pub last : All (IsLast n) acted.more
+  pub fresh : All IsFresh acted.more
   pub few : length acted.more ≤ 1
   pub requests : AreNobodys acted.new.controller.start_req
   pub dist : acted.new.dist ≡ (node_at s n).dist
@@ -263,7 +309,7 @@ pub record Spoke (lives : Node → ℕ) (n : Node) (a : App) (s t : SystemView) 
 abbrev turn_at : SystemView → Node → LiveView → TurnView
 turn_at s n v = controller_turn s.cluster (own_in s.files n) n v
 
-pub speaks : {lives : Node → ℕ} {n : Node} {a : App} (m : Message) (s : SystemView) → AtPeace (IsNews lives n a) lives s
+pub speaks : {lives : Node → ℕ} {n : Node} {a : App} (m : Message) (s : SystemView) → AtPeace (Behaves n a) (IsNews lives n a) lives s
     → is_alive_at s n ≡ true → Said a (turn_at s n (node_at s n)) (received m (turn_at s n (node_at s n)))
     → Spoke lives n a s (controlled n m s)
 unfolding controlled_by
@@ -308,8 +354,8 @@ speaks {lives} {n} {a} m s f alive said =
         rest = λ d has. f.dists n d alive (sym done.dist ∙ has);
         kinds = kinds (IsNews lives n a) running started;
       };
-      last = kinds IsLast refl refl;
-      later = kinds IsLater refl refl;
+      last = kinds (IsLast n) refl refl;
+      fresh = kinds IsFresh (record { fired = refl; moved = refl }) (record { fired = refl; moved = refl });
       few = words_few h a u.out said.words;
       requests = subst (λ c. AreNobodys c.start_req) (sym done.controller) said.requests;
       dist = done.dist;

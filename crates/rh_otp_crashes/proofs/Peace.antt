@@ -47,18 +47,42 @@ here_in lives n = record { node = n; life = lives n }
 abbrev pub without : SystemView → List Envelope → SystemView
 without s left = record s { messages = left }
 
--- All messages are of a kind, each node is in this life, and all else is at rest.
-pub record AtPeace (K : Envelope → Type 0) (lives : Node → ℕ) (s : SystemView) : Type 0 where
+-- A dist_ac waits for no lock, and no start request does.
+pub record IsFree (d : DistView) : Type 0 where
+  pub lock : lock_of d.stand ≡ None
+  pub parked : d.parked ≡ []
+
+-- How dist_acs are: those that do nothing are so, and those that are so are free.
+pub record AreCalm (P : Node → DistView → Type 0) : Type 0 where
+  pub ease : (n : Node) (d : DistView) → IsUnoccupied d → P n d
+  pub free : (n : Node) (d : DistView) → P n d → IsFree d
+
+-- each does nothing
+abbrev pub AtEase : Node → DistView → Type 0
+AtEase n d = IsUnoccupied d
+
+pub is_free_at_ease : (d : DistView) → IsUnoccupied d → IsFree d
+is_free_at_ease d free = record {
+  lock = elim free.stand [ inl is ↦ ap lock_of is | inr is ↦ ap lock_of is ];
+  parked = free.parked;
+}
+
+pub at_ease : AreCalm AtEase
+at_ease = record { ease = λ n d free. free; free = λ n d free. is_free_at_ease d free }
+
+-- All messages are of a kind, each node is in this life, each dist_ac is so, and all else is at rest.
+pub record AtPeace (P : Node → DistView → Type 0) (K : Envelope → Type 0) (lives : Node → ℕ) (s : SystemView) : Type 0 where
   pub messages : All K s.messages
   pub slow : s.slow ≡ []
   pub calls : s.calls ≡ []
-  pub dists : (n : Node) (d : DistView) → is_alive_at s n ≡ true → (node_at s n).dist ≡ Some d → IsUnoccupied d
+  pub calm : AreCalm P
+  pub dists : (n : Node) (d : DistView) → is_alive_at s n ≡ true → (node_at s n).dist ≡ Some d → P n d
   pub ends : (n : Node) → is_alive_at s n ≡ true → is_to_end n s ≡ false
   pub listed : (n : Node) → IsAmong n s.alive → is_alive_at s n ≡ true
   pub same_lives : (n : Node) → (node_at s n).life ≡ lives n
 
 -- a node that is alive has done something for itself
-pub record Acted (K : Envelope → Type 0) (n : Node) (s t : SystemView) : Type 0 where
+pub record Acted (P : Node → DistView → Type 0) (K : Envelope → Type 0) (n : Node) (s t : SystemView) : Type 0 where
   pub old : LiveView
   pub new : LiveView
   pub there : live_at s n ≡ Some old
@@ -70,12 +94,12 @@ pub record Acted (K : Envelope → Type 0) (n : Node) (s t : SystemView) : Type 
   pub phase : new.phase ≡ old.phase
   pub stopped : new.is_stopped ≡ old.is_stopped
   pub ending : is_ending new ≡ is_ending old
-  pub rest : (d : DistView) → new.dist ≡ Some d → IsUnoccupied d
+  pub rest : (d : DistView) → new.dist ≡ Some d → P n d
   pub kinds : All K more
 
 -- or what came to it was lost
-abbrev pub Came : (Envelope → Type 0) → Node → SystemView → SystemView → Type 0
-Came K n s t = Acted K n s t ⊎ (t ≡ s)
+abbrev pub Came : (Node → DistView → Type 0) → (Envelope → Type 0) → Node → SystemView → SystemView → Type 0
+Came P K n s t = Acted P K n s t ⊎ (t ≡ s)
 
 -- ---- all else stays at rest
 
@@ -85,17 +109,18 @@ ends_by soon v = is_ending v && (soon || not v.is_stopped)
 same_alive : (v w : LiveView) → v.phase ≡ w.phase → is_alive v ≡ is_alive w
 same_alive v w is = ap (λ (p : Phase). cond (is_down p) false true) is
 
-pub alive_on : {K : Envelope → Type 0} (n k : Node) (s t : SystemView) (a : Acted K n s t)
+pub alive_on : {P : Node → DistView → Type 0} {K : Envelope → Type 0} (n k : Node) (s t : SystemView) (a : Acted P K n s t)
     → is_alive_at (with_node n a.new s) k ≡ is_alive_at s k
 alive_on n k s t a =
     same_of_all is_alive s n k a.new (same_alive a.new a.old a.phase ∙ sym (ap is_alive (node_is s n a.old a.there)))
 
-stays_at_peace : {K : Envelope → Type 0} {lives : Node → ℕ} (n : Node) (s t : SystemView) → AtPeace K lives s → (a : Acted K n s t)
-    → AtPeace K lives (record (with_node n a.new s) { messages = s.messages ++ a.more; timers = s.timers ++ a.set; events = s.events ++ a.seen })
-stays_at_peace {K} n s t f a = record {
+stays_at_peace : {P : Node → DistView → Type 0} {K : Envelope → Type 0} {lives : Node → ℕ} (n : Node) (s t : SystemView) → AtPeace P K lives s → (a : Acted P K n s t)
+    → AtPeace P K lives (record (with_node n a.new s) { messages = s.messages ++ a.more; timers = s.timers ++ a.set; events = s.events ++ a.seen })
+stays_at_peace {P} {K} n s t f a = record {
   messages = All-append K s.messages a.more f.messages a.kinds;
   slow = f.slow;
   calls = f.calls;
+  calm = f.calm;
   dists = λ k d alive has. rest_at k d (sym (still k) ∙ alive) has (as_it_was_or_written s n k a.new);
   ends = λ k alive.
       same_of_all (ends_by s.ends_soon) s n k a.new
@@ -111,20 +136,22 @@ stays_at_peace {K} n s t f a = record {
     still k = alive_on n k s t a
 
     rest_at : (k : Node) (d : DistView) → is_alive_at s k ≡ true → (node_at (with_node n a.new s) k).dist ≡ Some d
-        → (node_at (with_node n a.new s) k ≡ node_at s k) ⊎ ((k.0 ≡ n.0) × (node_at (with_node n a.new s) k ≡ a.new)) → IsUnoccupied d
+        → (node_at (with_node n a.new s) k ≡ node_at s k) ⊎ ((k.0 ≡ n.0) × (node_at (with_node n a.new s) k ≡ a.new)) → P k d
     rest_at k d alive has (inl same) = f.dists k d alive (sym (ap (λ (v : LiveView). v.dist) same) ∙ has)
-    rest_at k d alive has (inr here) = a.rest d (sym (ap (λ (v : LiveView). v.dist) here.1) ∙ has)
+    rest_at k d alive has (inr here) =
+        subst (λ (j : Node). P j d) (λ i. record { 0 = sym here.0 i }) (a.rest d (sym (ap (λ (v : LiveView). v.dist) here.1) ∙ has))
 
-pub peace_on : {K : Envelope → Type 0} {lives : Node → ℕ} (n : Node) (s t : SystemView) → AtPeace K lives s → Came K n s t → AtPeace K lives t
-peace_on {K} {lives} n s t f (inl a) = subst (AtPeace K lives) (sym a.is) (stays_at_peace n s t f a)
-peace_on {K} {lives} n s t f (inr same) = subst (AtPeace K lives) (sym same) f
+pub peace_on : {P : Node → DistView → Type 0} {K : Envelope → Type 0} {lives : Node → ℕ} (n : Node) (s t : SystemView) → AtPeace P K lives s → Came P K n s t → AtPeace P K lives t
+peace_on {P} {K} {lives} n s t f (inl a) = subst (AtPeace P K lives) (sym a.is) (stays_at_peace n s t f a)
+peace_on {P} {K} {lives} n s t f (inr same) = subst (AtPeace P K lives) (sym same) f
 
-pub peace_left : {K : Envelope → Type 0} {lives : Node → ℕ} (s : SystemView) (left : List Envelope) → AtPeace K lives s → All K left
-    → AtPeace K lives (without s left)
+pub peace_left : {P : Node → DistView → Type 0} {K : Envelope → Type 0} {lives : Node → ℕ} (s : SystemView) (left : List Envelope) → AtPeace P K lives s → All K left
+    → AtPeace P K lives (without s left)
 peace_left s left f all = record {
   messages = all;
   slow = f.slow;
   calls = f.calls;
+  calm = f.calm;
   dists = f.dists;
   ends = f.ends;
   listed = f.listed;
@@ -132,11 +159,12 @@ peace_left s left f all = record {
 }
 
 -- who has answered whom is nothing to it
-pub peace_forgets : {K : Envelope → Type 0} {lives : Node → ℕ} (s : SystemView) → AtPeace K lives s → AtPeace K lives (record s { answers = [] })
+pub peace_forgets : {P : Node → DistView → Type 0} {K : Envelope → Type 0} {lives : Node → ℕ} (s : SystemView) → AtPeace P K lives s → AtPeace P K lives (record s { answers = [] })
 peace_forgets s f = record {
   messages = f.messages;
   slow = f.slow;
   calls = f.calls;
+  calm = f.calm;
   dists = f.dists;
   ends = f.ends;
   listed = f.listed;
@@ -168,15 +196,15 @@ turned_so {K} {life} n m s q v o d there has same in_cluster in_files =
     d.plain
 
 -- it is a dist_ac that has: it is so behind it, and has sent so much; its controller is as it was
-pub record ActedAs (K : Envelope → Type 0) (n : Node) (s t : SystemView) (next : Option DistView) (more : List Envelope) : Type 0 where
-  pub acted : Acted K n s t
+pub record ActedAs (P : Node → DistView → Type 0) (K : Envelope → Type 0) (n : Node) (s t : SystemView) (next : Option DistView) (more : List Envelope) : Type 0 where
+  pub acted : Acted P K n s t
   pub dist : acted.new.dist ≡ next
   pub controller : acted.new.controller ≡ acted.old.controller
   pub sent : acted.more ≡ more
 
-pub acts_dist_as : {K : Envelope → Type 0} {lives : Node → ℕ} (n : Node) (m : Message) (s : SystemView) → AtPeace K lives s
-    → is_alive_at s n ≡ true → (d : Turned K s.cluster s.files n (lives n) m (node_at s n).dist) → ActedAs K n s (mailed n m s) d.next (letters d.outs)
-acts_dist_as {K} {lives} n m s f alive d =
+pub acts_dist_as : {P : Node → DistView → Type 0} {K : Envelope → Type 0} {lives : Node → ℕ} (n : Node) (m : Message) (s : SystemView) → AtPeace P K lives s
+    → is_alive_at s n ≡ true → (d : Turned K s.cluster s.files n (lives n) m (node_at s n).dist) → ActedAs P K n s (mailed n m s) d.next (letters d.outs)
+acts_dist_as {P} {K} {lives} n m s f alive d =
     let at : (v : LiveView) × (live_at s n ≡ Some v) = alive_is_there s n alive in
     let here : node_at s n ≡ at.0 = node_is s n at.0 at.1 in
     let same : at.0.life ≡ lives n = sym (ap (λ (v : LiveView). v.life) here) ∙ f.same_lives n in
@@ -198,7 +226,7 @@ acts_dist_as {K} {lives} n m s f alive d =
         phase = refl;
         stopped = refl;
         ending = refl;
-        rest = d.rest;
+        rest = λ e has. f.calm.ease n e (d.rest e has);
         kinds = d.kinds;
       };
       dist = refl;
@@ -206,13 +234,14 @@ acts_dist_as {K} {lives} n m s f alive d =
       sent = refl;
     }
 
-pub acts_dist : {K : Envelope → Type 0} {lives : Node → ℕ} (n : Node) (m : Message) (s : SystemView) → AtPeace K lives s
-    → is_alive_at s n ≡ true → Turned K s.cluster s.files n (lives n) m (node_at s n).dist → Acted K n s (mailed n m s)
+pub acts_dist : {P : Node → DistView → Type 0} {K : Envelope → Type 0} {lives : Node → ℕ} (n : Node) (m : Message) (s : SystemView) → AtPeace P K lives s
+    → is_alive_at s n ≡ true → Turned K s.cluster s.files n (lives n) m (node_at s n).dist → Acted P K n s (mailed n m s)
 acts_dist n m s f alive d = (acts_dist_as n m s f alive d).acted
 
-pub acts_controller_as : {K : Envelope → Type 0} {lives : Node → ℕ} (n : Node) (m : Message) (s : SystemView) → AtPeace K lives s
-    → is_alive_at s n ≡ true → Changed s.cluster s.files n m → (a : Acted K n s (controlled n m s)) × (a.more ≡ [])
-acts_controller_as {K} {lives} n m s f alive c =
+pub acts_controller_as : {P : Node → DistView → Type 0} {K : Envelope → Type 0} {lives : Node → ℕ} (n : Node) (m : Message) (s : SystemView) → AtPeace P K lives s
+    → is_alive_at s n ≡ true → Changed s.cluster s.files n m
+    → (a : Acted P K n s (controlled n m s)) × (a.more ≡ []) × (a.new.dist ≡ (node_at s n).dist)
+acts_controller_as {P} {K} {lives} n m s f alive c =
     let at : (v : LiveView) × (live_at s n ≡ Some v) = alive_is_there s n alive in
     let here : node_at s n ≡ at.0 = node_is s n at.0 at.1 in
     let new : LiveView = record at.0 { controller = c.next at.0.controller } in
@@ -238,10 +267,11 @@ acts_controller_as {K} {lives} n m s f alive c =
         kinds = All-nil K;
       },
       refl,
+      sym (ap (λ (v : LiveView). v.dist) here),
     )
 
-pub acts_controller : {K : Envelope → Type 0} {lives : Node → ℕ} (n : Node) (m : Message) (s : SystemView) → AtPeace K lives s
-    → is_alive_at s n ≡ true → Changed s.cluster s.files n m → Acted K n s (controlled n m s)
+pub acts_controller : {P : Node → DistView → Type 0} {K : Envelope → Type 0} {lives : Node → ℕ} (n : Node) (m : Message) (s : SystemView) → AtPeace P K lives s
+    → is_alive_at s n ≡ true → Changed s.cluster s.files n m → Acted P K n s (controlled n m s)
 acts_controller n m s f alive c = (acts_controller_as n m s f alive c).0
 
 -- ---- only messages move
@@ -271,43 +301,41 @@ pub delivers : (e : Envelope) (s t : SystemView) → Arrives e s t → moves.Del
 delivers e s t (place, is, made_so) = (move.Deliver place, within s place e is, made_so)
 
 -- a message that arrives, what is left, and what it comes to
-pub record Delivered (K : Envelope → Type 0) (lives : Node → ℕ) (s t : SystemView) : Type 0 where
+pub record Delivered (P : Node → DistView → Type 0) (K : Envelope → Type 0) (lives : Node → ℕ) (s t : SystemView) : Type 0 where
   pub message : Envelope
   pub left : List Envelope
   pub arrives : Arrives message s t
   pub taken : Taken message s.messages left
   pub is : t ≡ arrived message.to message.message (without s left)
   pub kind : K message
-  pub still : AtPeace K lives (without s left)
+  pub still : AtPeace P K lives (without s left)
 
 no_place : {A : Type 0} (xs : List A) (place : ℕ) → xs ≡ [] → place < length xs → ⊥
 no_place xs place none within = let empty : length xs ≡ 0 = ap length none in omega (arith, empty, within)
 
-no_lock_at : (n : Node) (s : SystemView) (o : Option DistView) → ((d : DistView) → o ≡ Some d → IsUnoccupied d)
+nobody_parked : (b c : Bool) → (b && false && c) ≡ false
+nobody_parked true c = refl
+nobody_parked false c = refl
+
+pub no_lock_at : (n : Node) (s : SystemView) (o : Option DistView) → ((d : DistView) → o ≡ Some d → IsFree d)
     → (moves.is_sync_free n (option_map (alive_of s) (lock_in o)) s || moves.can_unpark_in n o s) ≡ false
 no_lock_at n s None free = refl
 no_lock_at n s (Some d) free =
-    let unoccupied : IsUnoccupied d = free d refl in
-    elim unoccupied.stand [
-      | inl is ↦ (λ i. moves.is_sync_free n (option_map (alive_of s) (lock_of (is i))) s
-          || (moves.is_idle (is i) && moves.is_some_app (unoccupied.parked i) && is_own_free))
-      | inr is ↦ (λ i. moves.is_sync_free n (option_map (alive_of s) (lock_of (is i))) s
-          || (moves.is_idle (is i) && moves.is_some_app (unoccupied.parked i) && is_own_free))
-    ]
-  where
-    is_own_free : Bool
-    is_own_free = is_free (Alone (process_in s n role.DistAc)) (n ∷ []) s.locks
+    let is_own_free : Bool = is_free (Alone (process_in s n role.DistAc)) (n ∷ []) s.locks in
+    (λ i. moves.is_sync_free n (option_map (alive_of s) ((free d refl).lock i)) s
+    || (moves.is_idle d.stand && moves.is_some_app ((free d refl).parked i) && is_own_free))
+    ∙ nobody_parked (moves.is_idle d.stand) is_own_free
 
-no_lock : {K : Envelope → Type 0} {lives : Node → ℕ} (n : Node) (s : SystemView) → AtPeace K lives s → is_alive_at s n ≡ true
+no_lock : {P : Node → DistView → Type 0} {K : Envelope → Type 0} {lives : Node → ℕ} (n : Node) (s : SystemView) → AtPeace P K lives s → is_alive_at s n ≡ true
     → moves.can_go_on_at n s ≡ false
-no_lock n s f alive = no_lock_at n s (node_at s n).dist (λ d has. f.dists n d alive has)
+no_lock n s f alive = no_lock_at n s (node_at s n).dist (λ d has. f.calm.free n d (f.dists n d alive has))
 
 no_call_at : (s : SystemView) (place : ℕ) (call : Call) → s.calls ≡ [] → slice_get s.calls place ≡ Some call → ⊥
 no_call_at s place call none there = none-some call (sym (ap (λ (l : List Call). slice_get l place) none) ∙ there)
 
-pub only_messages : {K : Envelope → Type 0} {lives : Node → ℕ} (s t : SystemView) → AtPeace K lives s → moves.Delivers s t
-    → Delivered K lives s t
-only_messages {K} {lives} s t f (move.Deliver place, possible, is) =
+pub only_messages : {P : Node → DistView → Type 0} {K : Envelope → Type 0} {lives : Node → ℕ} (s t : SystemView) → AtPeace P K lives s → moves.Delivers s t
+    → Delivered P K lives s t
+only_messages {P} {K} {lives} s t f (move.Deliver place, possible, is) =
     let come : ArrivesInOrder place s (moves.made (move.Deliver place) s) = keeps_order s place possible in
     let arrives : Arrives come.message s t = (place, come.is_there, is) in
     let so : (left : List Envelope) × Taken come.message s.messages left × (t ≡ arrived come.message.to come.message.message (without s left)) =
@@ -329,7 +357,7 @@ only_messages s t f (move.End n, possible, is) = absurd (false≢true (sym (f.en
 
 -- ---- at two nodes
 
-leaves : {K : Envelope → Type 0} (n m : Node) (s t : SystemView) (left : List Envelope) → Came K m (without s left) t → LeavesAlone n s t
+leaves : {P : Node → DistView → Type 0} {K : Envelope → Type 0} (n m : Node) (s t : SystemView) (left : List Envelope) → Came P K m (without s left) t → LeavesAlone n s t
 leaves n m s t left (inl acted) =
     subst (LeavesAlone n s) (sym acted.is) (record {
       links = refl;
@@ -340,9 +368,9 @@ leaves n m s t left (inl acted) =
 leaves n m s t left (inr same) =
     subst (LeavesAlone n s) (sym same) (record { links = refl; locks = refl; alive = λ k. refl; answers = λ k app. inl refl })
 
-apart_meet : {K : Envelope → Type 0} {lives : Node → ℕ} → ((e : Envelope) → K e → is_call e.to.role ≡ false) → (s t u : SystemView)
-    → AtPeace K lives s → (d : Delivered K lives s t) (e : Delivered K lives s u) → Came K d.message.to.node (without s d.left) t
-    → Came K e.message.to.node (without s e.left) u → d.message.to.node.0 ≢ e.message.to.node.0 → Meet t u
+apart_meet : {P : Node → DistView → Type 0} {K : Envelope → Type 0} {lives : Node → ℕ} → ((e : Envelope) → K e → is_call e.to.role ≡ false) → (s t u : SystemView)
+    → AtPeace P K lives s → (d : Delivered P K lives s t) (e : Delivered P K lives s u) → Came P K d.message.to.node (without s d.left) t
+    → Came P K e.message.to.node (without s e.left) u → d.message.to.node.0 ≢ e.message.to.node.0 → Meet t u
 apart_meet no_call s t u f d e came_d came_e apart =
     let one : Envelope = d.message in
     let other : Envelope = e.message in
@@ -366,27 +394,27 @@ MeetHere K s = (e f : Envelope) (left_e left_f : List Envelope) → K e → K f 
     → is_of_pair e f ≡ false → e.to.node.0 ≡ f.to.node.0
     → Meet (arrived e.to e.message (without s left_e)) (arrived f.to f.message (without s left_f))
 
-pub meets : {K : Envelope → Type 0} {lives : Node → ℕ} → ((e : Envelope) → K e → is_call e.to.role ≡ false) → (s t u : SystemView)
-    → AtPeace K lives s
+pub meets : {P : Node → DistView → Type 0} {K : Envelope → Type 0} {lives : Node → ℕ} → ((e : Envelope) → K e → is_call e.to.role ≡ false) → (s t u : SystemView)
+    → AtPeace P K lives s
     → ((e : Envelope) (left : List Envelope) → K e → Taken e s.messages left
-    → Came K e.to.node (without s left) (arrived e.to e.message (without s left)))
+    → Came P K e.to.node (without s left) (arrived e.to e.message (without s left)))
     → MeetHere K s → moves.Delivers s t → moves.Delivers s u → Meet t u
-meets {K} {lives} no_call s t u f comes here to_t to_u = by (cases_Bool (is_of_pair d.message e.message))
+meets {P} {K} {lives} no_call s t u f comes here to_t to_u = by (cases_Bool (is_of_pair d.message e.message))
   where
-    d : Delivered K lives s t
+    d : Delivered P K lives s t
     d = only_messages s t f to_t
 
-    e : Delivered K lives s u
+    e : Delivered P K lives s u
     e = only_messages s u f to_u
 
     same : (d.message ≡ e.message) × (d.left ≡ e.left) → t ≡ u
     same is = d.is ∙ (λ i. arrived (is.0 i).to (is.0 i).message (without s (is.1 i))) ∙ sym e.is
 
-    came_d : Came K d.message.to.node (without s d.left) t
-    came_d = subst (Came K d.message.to.node (without s d.left)) (sym d.is) (comes d.message d.left d.kind d.taken)
+    came_d : Came P K d.message.to.node (without s d.left) t
+    came_d = subst (Came P K d.message.to.node (without s d.left)) (sym d.is) (comes d.message d.left d.kind d.taken)
 
-    came_e : Came K e.message.to.node (without s e.left) u
-    came_e = subst (Came K e.message.to.node (without s e.left)) (sym e.is) (comes e.message e.left e.kind e.taken)
+    came_e : Came P K e.message.to.node (without s e.left) u
+    came_e = subst (Came P K e.message.to.node (without s e.left)) (sym e.is) (comes e.message e.left e.kind e.taken)
 
     by : (is_of_pair d.message e.message ≡ true) ⊎ (is_of_pair d.message e.message ≡ false) → Meet t u
     by (inl pair) =

@@ -87,7 +87,7 @@ walks_by attempt m candidates (n ∷ nodes) false behind t other rest goes_on no
         ∙ ap (λ (x : Node). is_to_start attempt x t) (same_Some n m is)
     at false is = goes_on is
 
-walks : (attempt : AttemptView) (m : Node) (candidates : List Node) (k : ℕ) (places : List WrittenView) (t : TurnView)
+pub walks : (attempt : AttemptView) (m : Node) (candidates : List Node) (k : ℕ) (places : List WrittenView) (t : TurnView)
     → first_of candidates places ≡ Some m → runs_at (standing_of t.state attempt.app) ≡ None → remote t.state attempt.app ≡ None
     → find_from attempt candidates k places t ≡ is_to_start attempt m t
 walks attempt m candidates k [] t is none unknown = absurd (none-some m is)
@@ -140,7 +140,7 @@ runs_there_now a m t = record {
   message = message.Change a (change_of.Started m);
 }
 
-abbrev heard : App → Node → TurnView → TurnView
+abbrev pub heard : App → Node → TurnView → TurnView
 heard a m t = record t {
   state = record (with_standing a (standing.Distributed m) t.state) { tmp_weights = keydelete a t.state.tmp_weights; p_reqs = [] };
   out = t.out ++ output.Send (runs_there_now a m t) ∷ [];
@@ -149,7 +149,7 @@ heard a m t = record t {
 abbrev pub hears : App → Node → TurnView → TurnView
 hears a m t = cond (controls t.own a && has_app a t.state.started) (heard a m t) (add_remote a m t)
 
-hears_so : (a : App) (m : Node) (t : TurnView) → t.state.p_reqs ≡ [] → app_started m a None t ≡ hears a m t
+pub hears_so : (a : App) (m : Node) (t : TurnView) → t.state.p_reqs ≡ [] → app_started m a None t ≡ hears a m t
 unfolding app_started answer_permits
 hears_so a m t none =
     ap (λ (x : TurnView). cond (controls t.own a && has_app a t.state.started) x (add_remote a m t))
@@ -158,14 +158,14 @@ hears_so a m t none =
       out = t.out ++ output.Send (runs_there_now a m t) ∷ [];
     }))) none)
 
-hears_whatever : (a : App) (m : Node) (w : ℕ) (t : TurnView) → hears a m (weighing w t) ≡ weighing w (hears a m t)
+pub hears_whatever : (a : App) (m : Node) (w : ℕ) (t : TurnView) → hears a m (weighing w t) ≡ weighing w (hears a m t)
 hears_whatever a m w t = by (controls t.own a && has_app a t.state.started)
   where
     by : (b : Bool) → cond b (weighing w (heard a m t)) (weighing w (add_remote a m t)) ≡ weighing w (cond b (heard a m t) (add_remote a m t))
     by true = refl
     by false = refl
 
-hears_plainly : (K : Envelope → Type 0) (a : App) (m : Node) (t : TurnView) → t.out ≡ [] → K (runs_there_now a m t)
+pub hears_plainly : (K : Envelope → Type 0) (a : App) (m : Node) (t : TurnView) → t.out ≡ [] → K (runs_there_now a m t)
     → All IsPlain (hears a m t).out × All K (letters (hears a m t).out)
 hears_plainly K a m t none kind = by (controls t.own a && has_app a t.state.started)
   where
@@ -183,7 +183,7 @@ hears_plainly K a m t none kind = by (controls t.own a && has_app a t.state.star
     by true = sent
     by false = silent
 
-hears_at_rest : (a : App) (m : Node) (t : TurnView) → t.state.stand ≡ stand.Idle → t.state.mail ≡ [] → t.state.p_reqs ≡ []
+pub hears_at_rest : (a : App) (m : Node) (t : TurnView) → t.state.stand ≡ stand.Idle → t.state.mail ≡ [] → t.state.p_reqs ≡ []
     → t.state.parked ≡ [] → IsUnoccupied (hears a m t).state
 hears_at_rest a m t is none permits parked = by (controls t.own a && has_app a t.state.started)
   where

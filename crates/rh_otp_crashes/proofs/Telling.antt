@@ -1,5 +1,5 @@
 -- What the dist_ac of the node does that starts an application: at the loss, and when it runs.
-use Rattle.std.proofs.Common.{◌≡◌, ◌⊎◌, ◌++◌, ◌==◌, ◌&&◌, ◌||◌, ℕ, Bool, true, false, cond, length, filter, List, [], ◌∷◌, Option, Some, None, refl, sym, ap, subst, ◌∙◌, inl, inr}
+use Rattle.std.proofs.Common.{◌≡◌, ◌≢◌, ◌⊎◌, ◌++◌, ◌==◌, ◌&&◌, ◌||◌, ℕ, Bool, true, false, cond, length, filter, List, [], ◌∷◌, Option, Some, None, refl, sym, ap, subst, ◌∙◌, inl, inr}
 use Rattle.std.specs.Prelude.{All}
 use Rattle.std.proofs.lemmas.Bool.{eq-eqb, false≢true}
 use Rattle.std.proofs.lemmas.List.{append_assoc, append-nil}
@@ -23,9 +23,9 @@ use Rattle.rh_otp_dist.specs.Sending.{send_all, send_to, del_t_reqs, answer_each
 use Rattle.rh_otp_dist.specs.State.{DistView, TurnView, with_standing, is_among}
 use Rattle.rh_otp_dist.specs.Told.{run, set_standing}
 use Rattle.rh_otp_dist.specs.Waiting.{takes}
-use Rattle.rh_otp_net.specs.Links.{are_linked, to_connect}
+use Rattle.rh_otp_net.specs.Links.{are_linked}
 use Rattle.rh_otp_node.specs.Live.{LiveView, is_alive}
-use Rattle.rh_otp_system.specs.Connecting.{connect, link, reach, send_reached, send_to_dist, with_slow_links}
+use Rattle.rh_otp_system.specs.Connecting.{reach, send_reached, send_to_dist}
 use Rattle.rh_otp_system.specs.Outputs.{all_carried_out}
 use Rattle.rh_otp_system.specs.State.{SystemView, live_at, node_at, with_node, has_dist_at, is_alive_at, process_in}
 use Rattle.rh_otp_system.specs.Working.{mailed}
@@ -33,10 +33,11 @@ use Rattle.rh_otp_laws.proofs.Nodes.{alive_is_there, same_of_all}
 use Rattle.rh_otp_crashes.specs.Crashes.{IsUnoccupied}
 use Rattle.rh_otp_crashes.specs.Failovers.{IsFirst}
 use Rattle.rh_otp_crashes.proofs.Carrying.{IsPlain}
-use Rattle.rh_otp_crashes.proofs.News.{IsNews, IsAbroad, IsLater, starts, tells, moves, hears, learns, it_fails_over, news, is_to}
+use Rattle.rh_otp_crashes.proofs.News.{IsNews, IsAbroad, IsFresh, starts, tells, moves, wakes, hears, learns, wakens, it_fails_over, news, is_to}
 use Rattle.rh_otp_crashes.proofs.Peace.{AtPeace, Acted, ActedAs, acts_dist_as}
 use Rattle.rh_otp_crashes.proofs.Starting.{restarts, started_over}
 use Rattle.rh_otp_crashes.proofs.Turning.{Turned, own_in, node_is, turn, weighing, none_on, idle_comes, waits_on, still_waits}
+use Rattle.rh_otp_crashes.proofs.Waiting.{Behaves, first_is_free, stays}
 
 -- What becomes of it: nobody waits for a takeover, and it knows the same nodes as before.
 pub record Knows (o : Option DistView) (d : DistView) : Type 0 where
@@ -48,18 +49,18 @@ pub record Knows (o : Option DistView) (d : DistView) : Type 0 where
 -- ---- the loss
 
 pub record Lost (lives : Node → ℕ) (n : Node) (a : App) (s t : SystemView) : Type 0 where
-  pub acted : Acted (IsNews lives n a) n s t
-  pub later : All IsLater acted.more
+  pub acted : Acted (Behaves n a) (IsNews lives n a) n s t
+  pub fresh : All IsFresh acted.more
   pub few : length (filter (is_to n) acted.more) ≡ 1
   pub controller : acted.new.controller ≡ acted.old.controller
   pub knows : (d : DistView) → acted.new.dist ≡ Some d → Knows (node_at s n).dist d
 
-pub loses : {lives : Node → ℕ} {n : Node} {a : App} (loss : ℕ) (s : SystemView) → AtPeace (IsNews lives n a) lives s → is_alive_at s n ≡ true
+pub loses : {lives : Node → ℕ} {n : Node} {a : App} (loss : ℕ) (s : SystemView) → AtPeace (Behaves n a) (IsNews lives n a) lives s → is_alive_at s n ≡ true
     → IsFirst (own_in s.files n) n a (node_at s n) → ((d : DistView) → (node_at s n).dist ≡ Some d → d.t_reqs ≡ [])
     → Lost lives n a s (mailed n (message.RestartAppl a loss) s)
 loses {lives} {n} {a} loss s f alive first none =
     let d : DistView = first.dist in
-    let free : IsUnoccupied d = f.dists n d alive first.has in
+    let free : IsUnoccupied d = first_is_free n a d (f.dists n d alive first.has) in
     let t : TurnView = turn s.cluster (own_in s.files n) n (lives n) d in
     let over : TurnView = started_over a first.gone t in
     let turned : Turned (IsNews lives n a) s.cluster s.files n (lives n) (message.RestartAppl a loss) (node_at s n).dist = record {
@@ -80,7 +81,8 @@ loses {lives} {n} {a} loss s f alive first none =
     let as_so = acts_dist_as n (message.RestartAppl a loss) s f alive turned in
     record {
       acted = as_so.acted;
-      later = subst (All IsLater) (sym as_so.sent) (All-cons IsLater (it_fails_over lives n a first.gone) [] refl (All-nil IsLater));
+      fresh = subst (All IsFresh) (sym as_so.sent)
+          (All-cons IsFresh (it_fails_over lives n a first.gone) [] (record { fired = refl; moved = refl }) (All-nil IsFresh));
       few = ap (λ (l : List Envelope). length (filter (is_to n) l)) as_so.sent
           ∙ ap (λ (b : Bool). length (cond b (it_fails_over lives n a first.gone ∷ []) [])) (eq-eqb n.0 n.0 refl);
       controller = as_so.controller;
@@ -130,16 +132,6 @@ mails lives s n a [] = []
 mails lives s n a (m ∷ nodes) =
     cond (m.0 == n.0) (mails lives s n a nodes)
     (cond (is_alive_at s m && has_dist_at s m) (news lives n a m ∷ mails lives s n a nodes) (mails lives s n a nodes))
-
--- no connection is made for it
-stays : (n m : Node) (s : SystemView) → (n.0 == m.0 || are_linked n m s.links) ≡ true → reach n m s ≡ s
-unfolding connect
-stays n m s seen = by (n.0 == m.0) (are_linked n m s.links) seen
-  where
-    by : (p q : Bool) → (p || q) ≡ true → cond p s (cond q s (with_slow_links (to_connect n m s.links) (link n m s))) ≡ s
-    by true q seen = refl
-    by false true seen = refl
-    by false false seen = absurd (false≢true seen)
 
 posted : {lives : Node → ℕ} (n m : Node) (a : App) (s : SystemView) → ((k : Node) → (node_at s k).life ≡ lives k)
     → (is_alive_at s m ≡ true → (n.0 == m.0 || are_linked n m s.links) ≡ true)
@@ -212,45 +204,49 @@ all_posted {lives} n a (m ∷ nodes) s same seen =
     (λ k among. seen k (ap (λ (c : Bool). k.0 == m.0 || c) among ∙ either_way (k.0 == m.0))))
     (posted n m a s same (seen m (ap (λ (b : Bool). b || is_among m nodes) (eq-eqb m.0 m.0 refl))))
 
-abroad_by : {lives : Node → ℕ} (s : SystemView) (n m : Node) (a : App) (nodes : List Node) (b : Bool) → (m.0 == n.0) ≡ b → (c : Bool)
-    → All (IsAbroad lives n a) (mails lives s n a nodes)
-    → All (IsAbroad lives n a) (cond b (mails lives s n a nodes) (cond c (news lives n a m ∷ mails lives s n a nodes) (mails lives s n a nodes)))
-abroad_by s n m a nodes true is c rest = rest
-abroad_by {lives} s n m a nodes false is true rest =
-    All-cons (IsAbroad lives n a) (news lives n a m) (mails lives s n a nodes)
-    (hears m (λ same. false≢true (sym is ∙ eq-eqb m.0 n.0 same))) rest
-abroad_by s n m a nodes false is false rest = rest
+mailed_by : (lives : Node → ℕ) (P : Envelope → Type 0) (s : SystemView) (n m : Node) (a : App) (nodes : List Node) (b : Bool)
+    → ((k : Node) → k.0 ≢ n.0 → P (news lives n a k)) → (m.0 == n.0) ≡ b → (c : Bool) → All P (mails lives s n a nodes)
+    → All P (cond b (mails lives s n a nodes) (cond c (news lives n a m ∷ mails lives s n a nodes) (mails lives s n a nodes)))
+mailed_by lives P s n m a nodes true so is c rest = rest
+mailed_by lives P s n m a nodes false so is true rest =
+    All-cons P (news lives n a m) (mails lives s n a nodes) (so m (λ same. false≢true (sym is ∙ eq-eqb m.0 n.0 same))) rest
+mailed_by lives P s n m a nodes false so is false rest = rest
 
-mails_abroad : {lives : Node → ℕ} (s : SystemView) (n : Node) (a : App) (nodes : List Node) → All (IsAbroad lives n a) (mails lives s n a nodes)
-mails_abroad {lives} s n a [] = All-nil (IsAbroad lives n a)
-mails_abroad {lives} s n a (m ∷ nodes) =
-    abroad_by s n m a nodes (m.0 == n.0) refl (is_alive_at s m && has_dist_at s m) (mails_abroad s n a nodes)
+-- what is so of the news to each other node is so of all that is sent
+all_mailed : (lives : Node → ℕ) (P : Envelope → Type 0) (s : SystemView) (n : Node) (a : App) (nodes : List Node)
+    → ((k : Node) → k.0 ≢ n.0 → P (news lives n a k)) → All P (mails lives s n a nodes)
+all_mailed lives P s n a [] so = All-nil P
+all_mailed lives P s n a (m ∷ nodes) so =
+    mailed_by lives P s n m a nodes (m.0 == n.0) so refl (is_alive_at s m && has_dist_at s m) (all_mailed lives P s n a nodes so)
 
 pub is_news : {lives : Node → ℕ} {n : Node} {a : App} (e : Envelope) → IsAbroad lives n a e → IsNews lives n a e
 is_news _ (hears m other) = tells m other
 is_news _ (learns m other) = moves m other
+is_news _ (wakens m other loss) = wakes m other loss
 
 pub record Ran (lives : Node → ℕ) (n : Node) (a : App) (s t : SystemView) : Type 0 where
-  pub acted : Acted (IsNews lives n a) n s t
+  pub acted : Acted (Behaves n a) (IsNews lives n a) n s t
   pub away : All (IsAbroad lives n a) acted.more
+  pub fresh : All IsFresh acted.more
   pub controller : acted.new.controller ≡ (node_at s n).controller
   pub knows : (d : DistView) → acted.new.dist ≡ Some d → Knows (node_at s n).dist d
 
-old_is : {K : Envelope → Type 0} {n : Node} {s t : SystemView} (a : Acted K n s t) → a.old ≡ node_at s n
+old_is : {P : Node → DistView → Type 0} {K : Envelope → Type 0} {n : Node} {s t : SystemView} (a : Acted P K n s t) → a.old ≡ node_at s n
 old_is {n = n} {s = s} a = sym (node_is s n a.old a.there)
 
 -- it has none, or takes nothing yet
 ran_plainly : {lives : Node → ℕ} {n : Node} {a : App} (s : SystemView) (next : Option DistView)
-    → ActedAs (IsNews lives n a) n s (mailed n (message.Run a None) s) next []
+    → ActedAs (Behaves n a) (IsNews lives n a) n s (mailed n (message.Run a None) s) next []
     → ((d : DistView) → next ≡ Some d → Knows (node_at s n).dist d) → Ran lives n a s (mailed n (message.Run a None) s)
 ran_plainly {lives} {n} {a} s next as_so knows = record {
   acted = as_so.acted;
   away = subst (All (IsAbroad lives n a)) (sym as_so.sent) (All-nil (IsAbroad lives n a));
+  fresh = subst (All IsFresh) (sym as_so.sent) (All-nil IsFresh);
   controller = as_so.controller ∙ ap (λ (v : LiveView). v.controller) (old_is as_so.acted);
   knows = λ d is. knows d (sym as_so.dist ∙ is);
 }
 
-ran_idle : {lives : Node → ℕ} {n : Node} {a : App} (s : SystemView) (d : DistView) → AtPeace (IsNews lives n a) lives s
+ran_idle : {lives : Node → ℕ} {n : Node} {a : App} (s : SystemView) (d : DistView) → AtPeace (Behaves n a) (IsNews lives n a) lives s
     → is_alive_at s n ≡ true → (node_at s n).dist ≡ Some d → IsUnoccupied d → d.stand ≡ stand.Idle → d.t_reqs ≡ []
     → ((m : Node) → is_among m d.known ≡ true → is_alive_at s m ≡ true → (n.0 == m.0 || are_linked n m s.links) ≡ true)
     → Ran lives n a s (mailed n (message.Run a None) s)
@@ -263,7 +259,7 @@ ran_idle {lives} {n} {a} s d f alive has free is none seen =
     let new : LiveView = record old { dist = Some over.state } in
     let next : SystemView = with_node n new s in
     let more : List Envelope = mails lives next n a d.known in
-    let away : All (IsAbroad lives n a) more = mails_abroad next n a d.known in
+    let away : All (IsAbroad lives n a) more = all_mailed lives (IsAbroad lives n a) next n a d.known hears in
     let lives_on : (k : Node) → (node_at next k).life ≡ lives k =
     λ k. same_of_all (λ (v : LiveView). v.life) s n k new refl ∙ f.same_lives k in
     let awake : (k : Node) → is_alive_at next k ≡ is_alive_at s k = λ k. same_of_all is_alive s n k new refl in
@@ -287,21 +283,22 @@ ran_idle {lives} {n} {a} s d f alive has free is none seen =
         phase = refl;
         stopped = refl;
         ending = refl;
-        rest = λ e is_next. subst IsUnoccupied (same_Some over.state e is_next) (record {
+        rest = λ e is_next. inl (subst IsUnoccupied (same_Some over.state e is_next) (record {
           stand = inl refl;
           mail = All-nil (λ (x : Message). takes over.state.stand x ≡ false);
           permits = free.permits;
           parked = free.parked;
-        });
+        }));
         kinds = All-weaker (IsAbroad lives n a) (IsNews lives n a) is_news more away;
       };
       away = away;
+      fresh = all_mailed lives IsFresh next n a d.known (λ k other. record { fired = refl; moved = refl });
       controller = refl;
       knows = λ e is_next. subst (Knows (node_at s n).dist) (same_Some over.state e is_next)
           (record { takeovers = refl; before = d; had = has; known = refl });
     }
 
-pub ran : {lives : Node → ℕ} {n : Node} {a : App} (s : SystemView) → AtPeace (IsNews lives n a) lives s → is_alive_at s n ≡ true
+pub ran : {lives : Node → ℕ} {n : Node} {a : App} (s : SystemView) → AtPeace (Behaves n a) (IsNews lives n a) lives s → is_alive_at s n ≡ true
     → ((d : DistView) → (node_at s n).dist ≡ Some d → d.t_reqs ≡ [])
     → ((d : DistView) → (node_at s n).dist ≡ Some d → (m : Node) → is_among m d.known ≡ true → is_alive_at s m ≡ true
     → (n.0 == m.0 || are_linked n m s.links) ≡ true)
@@ -311,19 +308,22 @@ ran {lives} {n} {a} s f alive none seen = by (node_at s n).dist refl
     msg : Message
     msg = message.Run a None
 
+    free : (d : DistView) → (node_at s n).dist ≡ Some d → IsUnoccupied d
+    free d has = first_is_free n a d (f.dists n d alive has)
+
     waits : (d : DistView) → (node_at s n).dist ≡ Some d → d.stand ≡ stand.ForGo
-        → ActedAs (IsNews lives n a) n s (mailed n msg s) (Some (with_message msg d)) []
+        → ActedAs (Behaves n a) (IsNews lives n a) n s (mailed n msg s) (Some (with_message msg d)) []
     waits d has is = acts_dist_as n msg s f alive (record {
       next = Some (with_message msg d);
       outs = [];
-      comes = λ q v there had same in_cluster in_files. waits_on n msg q v d there (had ∙ has) (f.dists n d alive has) is refl;
+      comes = λ q v there had same in_cluster in_files. waits_on n msg q v d there (had ∙ has) (free d has) is refl;
       plain = All-nil IsPlain;
       kinds = All-nil (IsNews lives n a);
-      rest = λ e is_next. subst IsUnoccupied (same_Some (with_message msg d) e is_next) (still_waits msg d (f.dists n d alive has) is refl);
+      rest = λ e is_next. subst IsUnoccupied (same_Some (with_message msg d) e is_next) (still_waits msg d (free d has) is refl);
     })
 
     at : (d : DistView) → (node_at s n).dist ≡ Some d → (d.stand ≡ stand.Idle) ⊎ (d.stand ≡ stand.ForGo) → Ran lives n a s (mailed n msg s)
-    at d has (inl is) = ran_idle s d f alive has (f.dists n d alive has) is (none d has) (seen d has)
+    at d has (inl is) = ran_idle s d f alive has (free d has) is (none d has) (seen d has)
     at d has (inr is) =
         ran_plainly s (Some (with_message msg d)) (waits d has is)
         (λ e is_next. subst (Knows (node_at s n).dist) (same_Some (with_message msg d) e is_next)
@@ -341,4 +341,4 @@ ran {lives} {n} {a} s f alive none seen = by (node_at s n).dist refl
           rest = λ d is. absurd (none-some d is);
         }))
         (λ d is. absurd (none-some d is))
-    by (Some d) has = at d has (f.dists n d alive has).stand
+    by (Some d) has = at d has (free d has).stand

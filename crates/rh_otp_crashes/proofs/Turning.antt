@@ -1,5 +1,5 @@
 -- What a dist_ac and a controller do at a message, whatever the other of the two has done meanwhile.
-use Rattle.std.proofs.Common.{◌≡◌, ◌+◌, ◌++◌, ℕ, zero, suc, Bool, true, false, not, cond, length, List, [], ◌∷◌, slice_get, position, unwrap_or, is_some, Option, Some, None, refl, sym, ap, subst, ◌∙◌, arith}
+use Rattle.std.proofs.Common.{◌≡◌, ◌+◌, ◌++◌, ℕ, zero, suc, Bool, false, not, cond, length, List, [], ◌∷◌, slice_get, position, unwrap_or, is_some, Option, Some, None, refl, sym, ap, subst, ◌∙◌, arith}
 use Rattle.std.specs.List.{position_or_len}
 use Rattle.std.specs.Option.{option_map}
 use Rattle.std.specs.Prelude.{All}
@@ -63,10 +63,10 @@ pub record Turned (K : Envelope → Type 0) (c : ClusterView) (files : List OwnF
   pub rest : (d : DistView) → next ≡ Some d → IsUnoccupied d
 
 -- behind its mail comes its work
-abbrev mailed_to : Node → Message → LiveView → SystemView → SystemView
+abbrev pub mailed_to : Node → Message → LiveView → SystemView → SystemView
 mailed_to n m v s = with_node n (remote.mailed m v) s
 
-works_on : (n : Node) (m : Message) (s : SystemView) (v : LiveView) → live_at s n ≡ Some v
+pub works_on : (n : Node) (m : Message) (s : SystemView) (v : LiveView) → live_at s n ≡ Some v
     → working.mailed n m s ≡ working.work n (mailed_to n m v s)
 unfolding working.mailed
 works_on n m s v is = ap (λ (w : LiveView). working.work n (mailed_to n m w s)) (node_is s n v is)
@@ -224,7 +224,7 @@ none_in_idle : (mail : List Message) → All (λ (m : Message). takes stand.Idle
 none_in_idle [] none = refl
 none_in_idle (m ∷ mail) none = absurd (false≢true (sym (All-head (λ (x : Message). takes stand.Idle x ≡ false) m mail none)))
 
-is_idle : (d : DistView) → IsUnoccupied d → d.stand ≡ stand.Idle → d ≡ idle d
+pub is_idle : (d : DistView) → IsUnoccupied d → d.stand ≡ stand.Idle → d ≡ idle d
 is_idle d free is =
     let none : d.mail ≡ [] =
     none_in_idle d.mail (subst (λ w. All (λ (m : Message). takes w m ≡ false) d.mail) is free.mail) in

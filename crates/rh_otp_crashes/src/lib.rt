@@ -1,9 +1,9 @@
 //! Crashes and failovers of live nodes of OTP 25, behind which the order of messages makes no difference.
 //!
-//! A law is a function without a body, whose contract is the law ([`crashes_end_alike`], [`lone_failovers_end_alike`]); its statement
+//! A law is a function without a body, whose contract is the law ([`crashes_end_alike`], [`failovers_end_alike`]); its statement
 //! stands in `specs/`. No program stands on it. Each shows of a whole command that it is orderly, as the laws of `rh_otp_orders` ask for it.
 #![tactic(auto)]
 
 mod laws;
 
-pub use laws::{crashes_end_alike, lone_failovers_end_alike};
+pub use laws::{crashes_end_alike, failovers_end_alike};
