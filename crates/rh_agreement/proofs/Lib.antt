@@ -1,5 +1,17 @@
 mod Beginning
+mod AtFirst
 mod Reversing
 mod Refusing
+mod Resting
+mod Stepping
 mod Quiet
+mod Ending
+mod Crashing
+mod Bounded
+mod CrashAlike
+mod Rest
+mod Peace
+mod Always
 mod Rows
+mod RowsCrashes
+mod RowsPeace

@@ -65,13 +65,13 @@ module _ (sim : SimView) (live : LiveSimView) (together : GoTogether sim live) w
   }
   redo_by false false is more = absurd (true≢false (sym is))
 
-some_or_none : (k : ℕ) → nat_lt 0 k ≡ not (k == 0)
+pub some_or_none : (k : ℕ) → nat_lt 0 k ≡ not (k == 0)
 some_or_none k = grind (arith, nat_tests)
 
-more_or_none : (k n : ℕ) → k ≤ n → nat_lt (k + 1) (n + 1) ≡ not (k == n)
+pub more_or_none : (k n : ℕ) → k ≤ n → nat_lt (k + 1) (n + 1) ≡ not (k == n)
 more_or_none k n within = grind (arith, nat_tests, within)
 
-more_left : (k n : ℕ) → k ≤ n → (k == n) ≡ false → k + 1 ≤ n
+pub more_left : (k n : ℕ) → k ≤ n → (k == n) ≡ false → k + 1 ≤ n
 more_left k n within is = grind (arith, nat_tests, within, is)
 
 both : (sim : SimView) (live : LiveSimView) (c : Call) → AreAlike (served sim c) (made_by c live) (reply_to c live) sim

@@ -1,7 +1,7 @@
--- Where a rehearsal begins nothing is to come by itself, so its first tick is answered alike: of any cluster, whatever breaks a tie, whatever
--- the nodes' own files say and in whichever order messages are taken.
-use Rattle.std.proofs.Common.{◌≡◌, ◌<◌, ◌+◌, ◌++◌, ◌||◌, ◌&&◌, not, ℕ, zero, suc, false, List, [], ◌∷◌, replicate, slice_get, unwrap_or, refl, sym, ap, subst, arith}
-use Rattle.std.specs.Option.{option_map, option_and_then}
+-- Worked rows: the laws are about something. The first simulations are still, and the first tick is answered alike, whatever the cluster is,
+-- what the nodes' own files say and in which order messages are taken.
+use Rattle.std.proofs.Common.{◌≡◌, ◌<◌, ◌+◌, ◌||◌, ◌&&◌, not, ℕ, false, List, refl, sym, ap, subst, arith}
+use Rattle.std.specs.Option.{option_map}
 use Rattle.rh_model.specs.ClusterView.{ClusterView, node_count}
 use Rattle.rh_model.specs.declared.node.Node.{Node}
 use Rattle.rh_rules.specs.declared.event.Event.TheVariants as event
@@ -14,23 +14,16 @@ use Rattle.rh_otp_net.specs.Timers.{next_due}
 use Rattle.rh_otp_node.specs.Live.{LiveView, never_begun, is_ending}
 use Rattle.rh_otp_sim.specs.Sim.{LiveSimView, net_in, first_net}
 use Rattle.rh_otp_sim.specs.Sim.{opened as live_opened}
-use Rattle.rh_otp_system.specs.declared.cell.Cell.TheVariants as cell
 use Rattle.rh_otp_system.specs.Doing.{until_if}
 use Rattle.rh_otp_system.specs.Moves.{can_go_on_at, can_unpark_in, is_sync_free, is_to_end}
-use Rattle.rh_otp_system.specs.Resting.{forgotten}
-use Rattle.rh_otp_system.specs.State.{live_in, node_at}
+use Rattle.rh_otp_system.specs.Resting.{forgotten, open_of}
+use Rattle.rh_otp_system.specs.State.{node_at}
 use Rattle.rh_otp_system.specs.Views.{NetView}
 use Rattle.rh_otp_system.specs.Working.{alive_of, lock_in}
 use Rattle.rh_agreement.specs.Laws.{HasRoom, IsStill, IsAnsweredAlike, ticking}
+use Rattle.rh_agreement.proofs.AtFirst.{none_begun}
 use Rattle.rh_agreement.proofs.Beginning.{begin_together, net_so}
 use Rattle.rh_agreement.proofs.Quiet.{quiet_ticks_alike}
-
-none_begun : (count k : ℕ) (net : NetView)
-    → unwrap_or (option_and_then live_in (slice_get (replicate count (cell.Node never_begun) ++ cell.Net net ∷ []) k)) never_begun ≡ never_begun
-none_begun zero zero net = refl
-none_begun zero (suc k) net = refl
-none_begun (suc count) zero net = refl
-none_begun (suc count) (suc k) net = none_begun count k net
 
 module _ (c : ClusterView) (pick : Pick) (files : List OwnFile) (order : Order) (ms : ℕ) where
   abbrev live : LiveSimView
@@ -53,9 +46,9 @@ module _ (c : ClusterView) (pick : Pick) (files : List OwnFile) (order : Order) 
   first_is_still = record {
     timers = refl;
     live_timers = ap (λ (v : NetView). until_if ((net_in live).clock + ms) (next_due v.timers)) (net_so c files order);
-    calls = ap (λ (v : NetView). v.calls) (net_so c files order);
-    locks = no_lock;
-    ends = no_end;
+    calls = ap (λ (v : NetView). open_of v.calls) (net_so c files order);
+    locks = λ n among. no_lock n;
+    ends = λ n among. no_end n;
   }
 
   has_room : HasRoom (opened c pick) live

@@ -22,7 +22,7 @@ use Rattle.rh_otp_sim.specs.Sim.{LiveSimView, net_in}
 use Rattle.rh_otp_sim.specs.Sim.{opened as live_opened}
 use Rattle.rh_otp_sim.specs.Stepping.{begun}
 use Rattle.rh_otp_system.specs.Doing.{next_until}
-use Rattle.rh_otp_system.specs.Moves.{can_go_on_at, is_to_end}
+use Rattle.rh_otp_system.specs.Moves.{IsAmong, can_go_on_at, is_to_end}
 use Rattle.rh_otp_system.specs.State.{SystemView}
 use Rattle.rh_otp_text.specs.Replies.{reply_text}
 use Rattle.rh_agreement.specs.Telling.{GoTogether}
@@ -90,14 +90,14 @@ ReversalsAreAnsweredAlike = (sim : SimView) (live : LiveSimView) (c : Call) → 
 abbrev pub ticking : ℕ → LiveSimView → SystemView
 ticking ms live = record (begun (net_in live) (event.Tick ms) live) { is_ticking = true }
 
--- Nothing is to come by itself: by the manual's rules no timer is due by then; on live nodes none either, no call is open, no dist_ac can
--- go on with a lock, also where it asks once more, and no node has to end.
+-- Nothing is to come by itself: by the manual's rules no timer is due by then; on live nodes none either, no call is open, no dist_ac of a
+-- node that is alive can go on with a lock, also where it asks once more, and no such node has to end.
 pub record IsStill (ms : ℕ) (sim : SimView) (live : LiveSimView) : Type 0 where
   pub timers : due_by ((state_of sim).time + ms) (earliest (state_of sim)) ≡ None
   pub live_timers : next_until ((net_in live).clock + ms) (ticking ms live) ≡ None
-  pub calls : (net_in live).calls ≡ []
-  pub locks : (n : Node) → can_go_on_at n (ticking ms live) ≡ false
-  pub ends : (n : Node) → is_to_end n (ticking ms live) ≡ false
+  pub calls : (ticking ms live).calls ≡ []
+  pub locks : (n : Node) → IsAmong n (ticking ms live).alive → can_go_on_at n (ticking ms live) ≡ false
+  pub ends : (n : Node) → IsAmong n (ticking ms live).alive → is_to_end n (ticking ms live) ≡ false
 
 -- Where nothing is to come by itself a tick is answered by both alike, refused or not, and leads to what is told alike.
 abbrev pub QuietTicksAreAnsweredAlike : Type 0

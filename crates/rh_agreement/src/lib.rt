@@ -9,6 +9,8 @@
 mod laws;
 
 pub use laws::{
-    nodes_events_are_refused_alike, quiet_ticks_are_answered_alike, rehearsals_begin_together,
-    reversals_are_answered_alike, what_no_node_takes_is_refused_by_both,
+    crashes_are_answered_alike, crashes_come_to_an_end, nodes_events_are_refused_alike,
+    peaceful_calls_are_answered_alike, quiet_ticks_are_answered_alike, rehearsals_begin_at_rest,
+    rehearsals_begin_together, reversals_are_answered_alike, ticks_at_rest_are_answered_alike,
+    what_no_node_takes_is_refused_by_both,
 };
