@@ -11,9 +11,9 @@ no list has a tuple, each node waits for all others, nothing hangs before the co
 reaches; a failover time of 0 counts as one that is due at once. Within them no two of the orders that are tried may part. Without any
 one of them some rehearsal parts, which is told by name.
 
-Of crashes and of failovers at one node less is asked: where nothing hangs and no call is open, no two orders part at a crash where no
-failover time is 0, nor at a tick within which one timer is due, which is a failover's. It is proved of them (rh_otp_crashes), of failovers
-under more conditions than are asked here.
+Of crashes and of failovers less is asked: where nothing hangs and no call is open, no two orders part at a crash where no failover time is
+0, nor at a tick within which one timer is due, which is a failover's, or several at one moment, which are failovers of one application
+without a tuple in its list. It is proved of them (rh_otp_crashes), of failovers under more conditions than are asked here.
 """
 import os
 import random
@@ -27,7 +27,7 @@ from groups import Group
 from lint_measure import is_in_page, shown
 from live_conditions import lacks_lists
 from live_rules import report_of, split_answers
-from random_live import KINDS, Rehearsal, rehearsal, sane, wild
+from random_live import KINDS, TYPES, Cluster, Rehearsal, Spread, complete_lists, rehearsal, sane, wild
 from support import TOP, fault_of, run
 
 sys.path.append(os.path.join(TOP, "companions"))
@@ -46,6 +46,8 @@ ORDERS = 8
 LEAST_REHEARSALS, LEAST_COMMANDS = 200, 2_000
 # And so many crashes of nodes at rest, and so many failovers at one node, among the random rehearsals of any kind.
 LEAST_CRASHES, LEAST_FAILOVERS = 200, 25
+# Seeds of random clusters that lose the node at which their one application runs, and so many failovers at several nodes there have to be.
+LOST_FIRST, LOST_COUNT, LOST_AT_ONCE, LEAST_JOINT = 75_000, 200, 50, 100
 # For each condition a rehearsal that breaks it alone, and in which orders part: a script of tests/live, or a random one of a seed; and in
 # how many orders that shows.
 NEEDED: tuple[tuple[str, Union[str, int], int], ...] = (
@@ -143,14 +145,28 @@ def is_crash_at_rest(cluster: ClusterFile, command: str, before: Lines) -> bool:
     return words_of(command)[0] == "crash" and not hangs(before) and all(entry.timeout > 0 for entry in cluster.entries.values())
 
 
-def is_lone_failover(command: str, before: Lines) -> bool:
-    """Time passes where nothing hangs, and one timer is due, a failover's, of one node."""
+def due_in(command: str, before: Lines) -> list[list[str]]:
+    """The timers that are due where time passes and nothing hangs, each as its words."""
     word, *rest = words_of(command)
     if word != "tick" or hangs(before):
-        return False
+        return []
     end = now_of(before) + int(rest[0])
-    due = [words_of(line.partition("  timer ")[2]) for line, count in before[1] for _ in range(count) if "  timer " in line]
-    return [kind for kind, *_, moment in due if int(moment) <= end] == ["failover"]
+    timers = [words_of(line.partition("  timer ")[2]) for line, count in before[1] for _ in range(count) if "  timer " in line]
+    return [timer for timer in timers if int(timer[-1]) <= end]
+
+
+def is_lone_failover(command: str, before: Lines) -> bool:
+    """Time passes where nothing hangs, and one timer is due, a failover's, of one node."""
+    return [kind for kind, *_ in due_in(command, before)] == ["failover"]
+
+
+def is_joint_failover(cluster: ClusterFile, command: str, before: Lines) -> bool:
+    """Time passes where nothing hangs, and several timers are due, all at one moment, of one application that is lost at several nodes and
+    has no tuple in its list."""
+    due = due_in(command, before)
+    if len(due) < 2 or any(timer != due[0] for timer in due) or due[0][0] != "failover":
+        return False
+    return not any(isinstance(group, tuple) for group in cluster.entries[due[0][1]].groups)
 
 
 def broken_by_step(cluster: ClusterFile, command: str, before: Lines, answer: Lines) -> set[str]:
@@ -166,13 +182,14 @@ def broken_by_step(cluster: ClusterFile, command: str, before: Lines, answer: Li
 @dataclass(frozen=True)
 class Measured:
     """A rehearsal: its commands, the conditions that each of them breaks, those of the file the first one, which of them are crashes of
-    nodes at rest, and which failovers at one node, and the first command at which two orders part."""
+    nodes at rest, which failovers at one node and which at several, and the first command at which two orders part."""
     name: str
     kind: str
     commands: list[str]
     broken: list[set[str]]
     crashes: set[int]
     failovers: set[int]
+    joint: set[int]
     first: Optional[int]
 
     @property
@@ -189,8 +206,8 @@ class Measured:
 
     @property
     def wrong_proof(self) -> Optional[str]:
-        """At which crash of nodes at rest, or failover at one node, two orders part, or None."""
-        return f"two orders part at command {self.first + 1}" if self.first in self.crashes | self.failovers else None
+        """At which crash of nodes at rest, or failover, two orders part, or None."""
+        return f"two orders part at command {self.first + 1}" if self.first in self.crashes | self.failovers | self.joint else None
 
 
 def broken_in(text: str, commands: list[str], told: list[Told]) -> list[set[str]]:
@@ -211,6 +228,12 @@ def failovers_in(commands: list[str], told: list[Told]) -> set[int]:
     return {place for place, (command, before) in enumerate(zip(commands[1:], told), 1) if is_lone_failover(command, before.report)}
 
 
+def joint_in(text: str, commands: list[str], told: list[Told]) -> set[int]:
+    """Which commands of a rehearsal are failovers at several nodes."""
+    cluster = cluster_of(split_input(text).cluster)
+    return {place for place, (command, before) in enumerate(zip(commands[1:], told), 1) if is_joint_failover(cluster, command, before.report)}
+
+
 def parting(told: list[list[Told]]) -> Optional[int]:
     """The first command of which several orders tell otherwise than the first one."""
     return next((place for place, one in enumerate(told[0]) if any(other[place] != one for other in told[1:])), None)
@@ -219,8 +242,9 @@ def parting(told: list[list[Told]]) -> Optional[int]:
 def measured(one: Rehearsal, told: list[list[Told]]) -> Measured:
     """A rehearsal of which something is told in several orders."""
     commands = list(filter(is_command, split_input(one.text).lines))
-    broken, crashes = (tell(one.text, commands, told[0]) for tell in (broken_in, crashes_in))
-    return Measured(str(one.seed), one.kind, commands, broken, crashes, failovers_in(commands, told[0]), parting(told))
+    broken = broken_in(one.text, commands, told[0])
+    crashes, joint = (tell(one.text, commands, told[0]) for tell in (crashes_in, joint_in))
+    return Measured(str(one.seed), one.kind, commands, broken, crashes, failovers_in(commands, told[0]), joint, parting(told))
 
 
 # ---- The tests
@@ -252,6 +276,36 @@ def kept(_program: str, seeds: range) -> Iterator[Test]:
     for one in found:
         yield f"orders of messages within the conditions, rehearsal {one.name}", one.wrong
     return found
+
+
+def loss(seed: int) -> Rehearsal:
+    """A random cluster with one distributed application, in a list without tuples: all nodes boot, that where it runs is lost, and its
+    failover time passes."""
+    chance = random.Random(seed)
+    nodes = [f"n{number}@lab" for number in range(1, chance.randint(3, 6) + 1)]
+    listed, timeout = chance.sample(nodes, chance.randint(3, len(nodes))), chance.choice([1_000, 4_000, 8_000])
+    cluster = Cluster(2, nodes, ["d1"], {"d1": Spread(timeout, [[node] for node in listed])}, nodes, 5_000)
+    complete_lists(chance, cluster)
+    cluster.boot = {node: [("d1", chance.choice(TYPES))] for node in listed}
+    cluster.permissions = {node: {"d1": False} for node in listed[1:] if chance.random() < 0.2}
+    lines = [*(f"boot {node}" for node in nodes), f"crash {listed[0]}", f"tick {timeout}"]
+    return Rehearsal(seed, KINDS[0], f"{cluster.text}===\n" + "".join(f"{line}\n" for line in lines))
+
+
+def losses(_program: str, seeds: range) -> Iterator[Test]:
+    """Clusters that lose a node."""
+    found = [in_orders(loss(seed)) for seed in seeds]
+    for one in found:
+        yield f"orders of messages at a loss, cluster {one.name}", one.wrong_proof
+    return found
+
+
+def of_losses(parts: list[list[Measured]]) -> Iterator[Test]:
+    """There are enough failovers at several nodes, and the page has their count."""
+    count = sum(len(one.joint) for part in parts for one in part)
+    yield "orders of messages: enough failovers at several nodes", None if count >= LEAST_JOINT else f"{count} of them"
+    yield "orders of messages at failovers at several nodes: the page", is_in_page(
+        [f"| A failover at several nodes at one moment, of one application without a tuple in its list | {count} | 0 |"])
 
 
 def by_words(program: str, seeds: range) -> Iterator[Test]:
@@ -315,4 +369,4 @@ def of_kept(parts: list[list[Measured]]) -> Iterator[Test]:
 KEPT = ranges(KEPT_FIRST, KEPT_COUNT, KEPT_AT_ONCE)
 TESTS: tuple[Group | Callable[[str], Iterable[Test]], ...] = (
     Group(anywhere, ranges(FIRST, COUNT, AT_ONCE), is_long=True, end=of_anywhere), Group(kept, KEPT, is_long=True, end=of_kept),
-    Group(by_words, KEPT), needed)
+    Group(by_words, KEPT), Group(losses, ranges(LOST_FIRST, LOST_COUNT, LOST_AT_ONCE), end=of_losses), needed)
