@@ -1,3 +1,4 @@
+pub mod Telling
 pub mod HeadText
 pub mod LineText
 pub mod TableText

@@ -26,6 +26,8 @@ use Rattle.rh_script.specs.declared.script.Line.TheVariants.{Nothing, Asks, Bad}
 use Rattle.rh_script.specs.Lines.{raw_lines, content}
 use Rattle.rh_script.specs.Answers.{answer_text, notice_line, bad_text}
 use Rattle.rh_story.specs.HeadText.{closed}
+use Rattle.rh_story.specs.TableText.{table_text}
+use Rattle.rh_story.specs.Telling.{Telling}
 
 -- ---- comment lines
 
@@ -84,19 +86,36 @@ call_lines s call reply = answer_lines (answer_text s.cluster reply)
 abbrev pub kept : List ℕ → List ℕ
 kept line = if is_told (content line) then [] else line
 
--- the text of the k-th line, by what it asks
-abbrev pub line_text : SimView → ℕ → List ℕ → Line → List ℕ
-line_text s k line Nothing = kept line
-line_text s k line (Asks call) = closed line ++ call_lines s call (served s call).reply
-line_text s k line Bad = closed line ++ answer_lines (bad_text k)
-
--- the simulation behind a line
-abbrev pub behind_line : SimView → Line → SimView
-behind_line s Nothing = s
-behind_line s (Asks call) = (served s call).sim
-behind_line s Bad = s
-
 abbrev pub is_bad : Line → Bool
 is_bad Nothing = false
 is_bad (Asks call) = false
 is_bad Bad = true
+
+-- the text of the k-th line, by what it asks
+abbrev pub line_by : {V : Type 0} → Telling V → V → ℕ → List ℕ → Line → List ℕ
+line_by t s k line Nothing = kept line
+line_by t s k line (Asks call) = closed line ++ t.told s call
+line_by t s k line Bad = closed line ++ answer_lines (bad_text k)
+
+-- the simulation behind a line
+abbrev pub behind_by : {V : Type 0} → Telling V → V → Line → V
+behind_by t s Nothing = s
+behind_by t s (Asks call) = t.behind s call
+behind_by t s Bad = s
+
+-- ---- by the rules of the manual
+
+-- at the end stands the table of where each distributed application ran
+abbrev pub manual : Telling SimView
+manual = record {
+  cluster = λ s. s.cluster;
+  told = λ s call. call_lines s call (served s call).reply;
+  behind = λ s call. (served s call).sim;
+  ending = λ lack s. table_text lack s;
+}
+
+abbrev pub line_text : SimView → ℕ → List ℕ → Line → List ℕ
+line_text s k line asked = line_by manual s k line asked
+
+abbrev pub behind_line : SimView → Line → SimView
+behind_line s asked = behind_by manual s asked

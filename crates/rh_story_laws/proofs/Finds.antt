@@ -23,6 +23,7 @@ use Rattle.rh_story.specs.LineText.{call_lines}
 use Rattle.rh_story.specs.TableText.{course_line, table_text, lack_behind, is_left_out}
 use Rattle.rh_story.specs.StoryText.{lines_text}
 use Rattle.rh_verify.specs.Spaces.{lines_of}
+use Rattle.rh_verify.specs.Manual.{manual}
 use Rattle.rh_verify.specs.Expected.{Check, check_of, asked_by, ahead, checks, answer_in, wanted_in, answers_in, wanted_among}
 use Rattle.rh_story_laws.proofs.Texts.{free, nothing, line, ended_append}
 use Rattle.rh_story_laws.proofs.Rows.{Rows, none, last, more, content_is, content_bare}
@@ -39,14 +40,14 @@ pub data Alike (c : ClusterView) : List Check → List Check → Type 0 where
   no_more : Alike c [] []
   one_more : (j k : ℕ) (l m : List ℕ) (s : SimView) (asked : Call) (said kept : List (List ℕ)) (xs ys : List Check)
       → s.cluster ≡ c → answers_in said ≡ lines_of (answer_text c (served s asked).reply) → wanted_among said ≡ wanted_among kept → Alike c xs ys
-      → Alike c (check_of j l s asked said ∷ xs) (check_of k m s asked kept ∷ ys)
+      → Alike c (check_of manual j l s asked said ∷ xs) (check_of manual k m s asked kept ∷ ys)
 
 -- lines without a bad one, whose commands are like these, whatever the number of the first; before the first no answer is expected,
 -- and this of a report
 pub record Finds (c : ClusterView) (s : SimView) (lines : List (List ℕ)) (ys : List Check) (wanted : List (List ℕ)) : Type 0 where
   pub silent : answers_in (ahead (asked_by c lines)) ≡ []
   pub wants : wanted_among (ahead (asked_by c lines)) ≡ wanted
-  pub alike : (j : ℕ) → Alike c (checks s j (asked_by c lines)) ys
+  pub alike : (j : ℕ) → Alike c (checks manual s j (asked_by c lines)) ys
   pub good : (j : ℕ) → bad_line j (lines_asked c lines) ≡ None
 
 finds_none : (c : ClusterView) (s : SimView) → Finds c s [] [] []
@@ -59,11 +60,11 @@ module _ (c : ClusterView) where
   ahead_passes (q ∷ qs) lines h =
       ap (λ (a : Line). ahead ((q, a) ∷ asked_by c (qs ++ lines))) h.0 ∙ ap (λ (ls : List (List ℕ)). q ∷ ls) (ahead_passes qs lines h.1)
 
-  checks_pass : (s : SimView) (qs lines : List (List ℕ)) (ys : List Check) → Comments c qs → ((j : ℕ) → Alike c (checks s j (asked_by c lines)) ys)
-      → (j : ℕ) → Alike c (checks s j (asked_by c (qs ++ lines))) ys
+  checks_pass : (s : SimView) (qs lines : List (List ℕ)) (ys : List Check) → Comments c qs → ((j : ℕ) → Alike c (checks manual s j (asked_by c lines)) ys)
+      → (j : ℕ) → Alike c (checks manual s j (asked_by c (qs ++ lines))) ys
   checks_pass s [] lines ys h behind j = behind j
   checks_pass s (q ∷ qs) lines ys h behind j =
-      subst (λ (a : Line). Alike c (checks s j ((q, a) ∷ asked_by c (qs ++ lines))) ys) (sym h.0) (checks_pass s qs lines ys h.1 behind (j + 1))
+      subst (λ (a : Line). Alike c (checks manual s j ((q, a) ∷ asked_by c (qs ++ lines))) ys) (sym h.0) (checks_pass s qs lines ys h.1 behind (j + 1))
 
   bad_passes : (qs lines : List (List ℕ)) → Comments c qs → ((j : ℕ) → bad_line j (lines_asked c lines) ≡ None)
       → (j : ℕ) → bad_line j (lines_asked c (qs ++ lines)) ≡ None
@@ -109,13 +110,13 @@ module _ (c : ClusterView) where
   -- a command with its answer
   finds_command : (s : SimView) (k : ℕ) (l m : List ℕ) (asked : Call) (qs kept lines : List (List ℕ)) (ys : List Check) → s.cluster ≡ c
       → line_of c l ≡ Asks asked → Says c qs (lines_of (answer_text c (served s asked).reply)) → Finds c (served s asked).sim lines ys (wanted_among kept)
-      → Finds c s (l ∷ (qs ++ lines)) (check_of k m s asked kept ∷ ys) []
+      → Finds c s (l ∷ (qs ++ lines)) (check_of manual k m s asked kept ∷ ys) []
   finds_command s k l m asked qs kept lines ys on is said f = record {
     silent = ap (λ (a : Line). answers_in (ahead ((l, a) ∷ asked_by c (qs ++ lines)))) is;
     wants = ap (λ (a : Line). wanted_among (ahead ((l, a) ∷ asked_by c (qs ++ lines)))) is;
     alike = λ j.
-        subst (λ (a : Line). Alike c (checks s j ((l, a) ∷ asked_by c (qs ++ lines))) (check_of k m s asked kept ∷ ys)) (sym is)
-        (one_more j k l m s asked (ahead (asked_by c (qs ++ lines))) kept (checks (served s asked).sim (j + 1) (asked_by c (qs ++ lines))) ys on
+        subst (λ (a : Line). Alike c (checks manual s j ((l, a) ∷ asked_by c (qs ++ lines))) (check_of manual k m s asked kept ∷ ys)) (sym is)
+        (one_more j k l m s asked (ahead (asked_by c (qs ++ lines))) kept (checks manual (served s asked).sim (j + 1) (asked_by c (qs ++ lines))) ys on
         (answers_pass qs lines said.comments ∙ (λ i. said.answers i ++ f.silent i) ∙ append-nil (lines_of (answer_text c (served s asked).reply)))
         (wanted_pass qs lines said.comments ∙ (λ i. said.unwanted i ++ f.wants i))
         (checks_pass (served s asked).sim qs lines ys said.comments f.alike (j + 1)));
@@ -180,7 +181,7 @@ module _ (c : ClusterView) (names : HasUnbroken c) (platforms : All IsUnbroken c
 module _ (c : ClusterView) (pick : Pick) (within : IsWithin c) (names : HasUnbroken c) (platforms : All IsUnbroken c.platform_names) where
   -- what a line and those behind it are in the input
   abbrev checks_by : SimView → ℕ → List ℕ → List (List ℕ) → Line → List Check
-  checks_by s j l rest asked = checks s j ((content l, asked) ∷ asked_by c (map content rest))
+  checks_by s j l rest asked = checks manual s j ((content l, asked) ∷ asked_by c (map content rest))
 
   abbrev wanted_by : List ℕ → List (List ℕ) → Line → List (List ℕ)
   wanted_by l rest asked = wanted_among (ahead ((content l, asked) ∷ asked_by c (map content rest)))
@@ -188,13 +189,13 @@ module _ (c : ClusterView) (pick : Pick) (within : IsWithin c) (names : HasUnbro
   abbrev AllFind : List (List ℕ) → Type 0
   AllFind lines = (done : List Call) (s : SimView) → Reached c pick within names platforms done s → (k j : ℕ)
       → bad_line k (lines_asked c (map content lines)) ≡ None
-      → Finds c s (lines_of (lines_text s k [] lines)) (checks s j (asked_by c (map content lines))) (wanted_among (ahead (asked_by c (map content lines))))
+      → Finds c s (lines_of (lines_text s k [] lines)) (checks manual s j (asked_by c (map content lines))) (wanted_among (ahead (asked_by c (map content lines))))
 
   -- a command, and the text behind its answer
   command_finds : (done : List Call) (s : SimView) → Reached c pick within names platforms done s → (j : ℕ) (x m : List ℕ) (asked : Call) (text : List ℕ)
       (kept : List (List ℕ)) (ys : List Check) → free x ≡ true → line_of c (content (x ++ 10 ∷ [])) ≡ Asks asked
       → Finds c (served s asked).sim (lines_of text) ys (wanted_among kept)
-      → Finds c s (lines_of (((x ++ 10 ∷ []) ++ call_lines s asked (served s asked).reply) ++ text)) (check_of j m s asked kept ∷ ys) []
+      → Finds c s (lines_of (((x ++ 10 ∷ []) ++ call_lines s asked (served s asked).reply) ++ text)) (check_of manual j m s asked kept ∷ ys) []
   command_finds done s at j x m asked text kept ys u is f =
       let l = x ++ 10 ∷ [] in
       let on = on_cluster c pick within names platforms done s at in
@@ -203,7 +204,7 @@ module _ (c : ClusterView) (pick : Pick) (within : IsWithin c) (names : HasUnbro
       let all : Says c (lines_of said) (lines_of (answer_text c (served s asked).reply)) =
       subst (λ (d : ClusterView). Says c (lines_of said) (lines_of (answer_text d (served s asked).reply))) on
       (says c said (answer_text s.cluster (served s asked).reply) tells (call_marked c names platforms s on asked)) in
-      subst (λ (ls : List (List ℕ)). Finds c s ls (check_of j m s asked kept ∷ ys) [])
+      subst (λ (ls : List (List ℕ)). Finds c s ls (check_of manual j m s asked kept ∷ ys) [])
       (sym (ap lines_of (append_assoc l said text) ∙ contents_first x (said ++ text) u
       ∙ ap (λ (ls : List (List ℕ)). content l ∷ ls) (contents_append said text tells.ended)))
       (finds_command c s j (content l) m asked (lines_of said) kept (lines_of text) ys on is all f)
@@ -218,18 +219,18 @@ module _ (c : ClusterView) (pick : Pick) (within : IsWithin c) (names : HasUnbro
       l = x ++ 10 ∷ []
 
       ys : List Check
-      ys = checks s (j + 1) (asked_by c (map content rest))
+      ys = checks manual s (j + 1) (asked_by c (map content rest))
 
       wanted : List (List ℕ)
       wanted = wanted_among (ahead (asked_by c (map content rest)))
 
-      behind : Finds c s (lines_of (lines_text s (k + 1) [] rest)) (checks s (j + 1) (asked_by c (map content rest))) (wanted_among (ahead (asked_by c (map content rest))))
+      behind : Finds c s (lines_of (lines_text s (k + 1) [] rest)) (checks manual s (j + 1) (asked_by c (map content rest))) (wanted_among (ahead (asked_by c (map content rest))))
       behind = others done s at (k + 1) (j + 1) good
 
       by : (out old : Bool) → is_left_out (x ++ 10 ∷ []) rest ≡ out → is_told (content (x ++ 10 ∷ [])) ≡ old
           → Finds c s (lines_of (cond out [] (cond old [] (x ++ 10 ∷ []))
           ++ lines_text s (k + 1) (lack_behind [] (cond out [] (cond old [] (x ++ 10 ∷ [])))) rest))
-          (checks s (j + 1) (asked_by c (map content rest)))
+          (checks manual s (j + 1) (asked_by c (map content rest)))
           (cons_option (wanted_in (note_of (content (x ++ 10 ∷ [])))) (wanted_among (ahead (asked_by c (map content rest)))))
       by true old out h =
           finds_less c s (content l) (lines_of (lines_text s (k + 1) [] rest)) ys wanted
@@ -249,7 +250,7 @@ module _ (c : ClusterView) (pick : Pick) (within : IsWithin c) (names : HasUnbro
       by : (out : Bool) → is_left_out (x ++ 10 ∷ []) rest ≡ out
           → Finds c s (lines_of (cond out [] (closed (x ++ 10 ∷ []) ++ call_lines s asked (served s asked).reply)
           ++ lines_text (served s asked).sim (k + 1) (lack_behind [] (cond out [] (closed (x ++ 10 ∷ []) ++ call_lines s asked (served s asked).reply))) rest))
-          (check_of j (content (x ++ 10 ∷ [])) s asked (ahead (asked_by c (map content rest))) ∷ checks (served s asked).sim (j + 1) (asked_by c (map content rest))) []
+          (check_of manual j (content (x ++ 10 ∷ [])) s asked (ahead (asked_by c (map content rest))) ∷ checks manual (served s asked).sim (j + 1) (asked_by c (map content rest))) []
       by true out = absurd (left_out_nothing c (x ++ 10 ∷ []) rest asked out is)
       by false out =
           let l = x ++ 10 ∷ [] in
@@ -258,8 +259,8 @@ module _ (c : ClusterView) (pick : Pick) (within : IsWithin c) (names : HasUnbro
           let ended = (call_tells c names platforms s on (is_valid c pick within names platforms done s at) asked).ended in
           let lack : lack_behind [] (l ++ said) ≡ [] = lack_ended (l ++ said) (ended_append l said (line x [] u nothing) ended) in
           let kept = ahead (asked_by c (map content rest)) in
-          let ys = checks (served s asked).sim (j + 1) (asked_by c (map content rest)) in
-          let wants : List Check = check_of j (content l) s asked kept ∷ ys in
+          let ys = checks manual (served s asked).sim (j + 1) (asked_by c (map content rest)) in
+          let wants : List Check = check_of manual j (content l) s asked kept ∷ ys in
           subst (λ (t : List ℕ). Finds c s (lines_of ((t ++ said) ++ lines_text (served s asked).sim (k + 1) (lack_behind [] (t ++ said)) rest)) wants [])
           (sym (closed_ended x))
           (subst (λ (lack : List ℕ). Finds c s (lines_of ((l ++ said) ++ lines_text (served s asked).sim (k + 1) lack rest)) wants []) (sym lack)
@@ -296,7 +297,7 @@ module _ (c : ClusterView) (pick : Pick) (within : IsWithin c) (names : HasUnbro
       by : (out : Bool) → is_left_out x [] ≡ out
           → Finds c s (lines_of (cond out [] (closed x ++ call_lines s asked (served s asked).reply)
           ++ table_text (lack_behind [] (cond out [] (closed x ++ call_lines s asked (served s asked).reply))) (served s asked).sim))
-          (check_of j (content x) s asked [] ∷ []) []
+          (check_of manual j (content x) s asked [] ∷ []) []
       by true out = absurd (left_out_nothing c x [] asked out is)
       by false out =
           let y = (closes x u).0 in
@@ -306,7 +307,7 @@ module _ (c : ClusterView) (pick : Pick) (within : IsWithin c) (names : HasUnbro
           let same : content l ≡ content x = h.content ∙ sym (content_bare x u) in
           let ended = (call_tells c names platforms s on (is_valid c pick within names platforms done s at) asked).ended in
           let lack : lack_behind [] (l ++ said) ≡ [] = lack_ended (l ++ said) (ended_append l said (line y [] h.free nothing) ended) in
-          let wants : List Check = check_of j (content x) s asked [] ∷ [] in
+          let wants : List Check = check_of manual j (content x) s asked [] ∷ [] in
           subst (λ (t : List ℕ). Finds c s (lines_of ((t ++ said) ++ table_text (lack_behind [] (t ++ said)) (served s asked).sim)) wants []) (sym h.is)
           (subst (λ (lack : List ℕ). Finds c s (lines_of ((l ++ said) ++ table_text lack (served s asked).sim)) wants []) (sym lack)
           (command_finds done s at j y (content x) asked (table_text [] (served s asked).sim) [] [] h.free (ap (line_of c) same ∙ is)
@@ -328,6 +329,6 @@ module _ (c : ClusterView) (pick : Pick) (within : IsWithin c) (names : HasUnbro
       (one_finds x rest u (all_find rest r) done s at k j (line_of c (content l)) refl good)
 
   pub lines_find : (lines : List (List ℕ)) (j : ℕ) → Rows lines → bad_line 1 (lines_asked c (map content lines)) ≡ None
-      → Finds c (opened c pick) (lines_of (lines_text (opened c pick) 1 [] lines)) (checks (opened c pick) j (asked_by c (map content lines)))
+      → Finds c (opened c pick) (lines_of (lines_text (opened c pick) 1 [] lines)) (checks manual (opened c pick) j (asked_by c (map content lines)))
       (wanted_among (ahead (asked_by c (map content lines))))
   lines_find lines j r good = all_find lines r [] (opened c pick) refl 1 j good

@@ -27,6 +27,7 @@ use Rattle.rh_run.specs.declared.fault.Told.TheVariants as told
 use Rattle.rh_story.specs.TableText.{table_text, is_left_out}
 use Rattle.rh_story.specs.StoryText.{lines_text}
 use Rattle.rh_verify.specs.Spaces.{lines_of, without_front, without_spaces}
+use Rattle.rh_verify.specs.Manual.{manual}
 use Rattle.rh_verify.specs.Blocks.{is_answered, has_line, block_text, stray_text}
 use Rattle.rh_verify.specs.Counts.{tally_text}
 use Rattle.rh_verify.specs.VerifyText.{first_line, script_text, script_end}
@@ -37,7 +38,7 @@ alone = record { profile = 1; node_names = codes "a" ∷ []; app_names = []; pla
 
 -- what is told of a script whose first line is the fourth of its file
 abbrev told_of : List ℕ → List ℕ
-told_of script = script_text alone First 4 (lines_of script)
+told_of script = script_text manual (opened alone First) 4 (lines_of script)
 
 -- ---- lines
 -- the lines of the cluster's text and the line `===` count
@@ -64,14 +65,14 @@ report_line_row = (refl, refl, refl, refl)
 -- ---- scripts
 -- comments, times and reasons may stand among the lines of an answer; a command without lines is free
 holds_row : (told_of (codes "# first\nboot a\n# a comment\n#= ok\n\n#@ 5\n#- why\n#= up a\ncrash b\n#= refused S1 unknown_node\nundo\n") ≡ codes "ok 2 of 3 commands checked\n")
-    × (script_end alone First 4 (lines_of (codes "boot a\n#= ok\n#= up a\nundo\n")) ≡ None)
+    × (script_end manual (opened alone First) 4 (lines_of (codes "boot a\n#= ok\n#= up a\nundo\n")) ≡ None)
 unfolding content line_of verb_named answer_text notice_line block_text tally_text nodes_of apps_of configured moved_by all_moved all_alive is_ready mark_all
     come_up come_up_if_ready ready_come_up booted followed refused next step digits is_utf8 chars encode
 holds_row = (refl, refl)
 
 -- one that lacks a line, behind which another one holds
 differs_row : (told_of (codes "# one\n boot  a \n#= ok\nundo\n#= ok\n") ≡ codes "line 5: boot  a\n  wanted ok\n  came ok\n  came up a\ndiffers 1 of 2\n")
-    × (script_end alone First 4 (lines_of (codes "boot a\n#= ok\n")) ≡ Some told.Differs)
+    × (script_end manual (opened alone First) 4 (lines_of (codes "boot a\n#= ok\n")) ≡ Some told.Differs)
 unfolding content line_of verb_named answer_text notice_line block_text tally_text nodes_of apps_of configured moved_by all_moved all_alive is_ready mark_all
     come_up come_up_if_ready ready_come_up booted followed refused next step digits is_utf8 chars encode
 differs_row = (refl, refl)
@@ -83,7 +84,7 @@ stray_row = refl
 
 -- a line that is no command is told in place of the counts, behind what differs before it
 bad_line_row : (told_of (codes "undo\n#= ok\nflip\n#= no\nundo\n#= no\n") ≡ codes "line 4: undo\n  wanted ok\n  came refused at_start\nbad line 3\n")
-    × (script_end alone First 4 (lines_of (codes "undo\n#= ok\nflip\n")) ≡ Some (told.BadLine 3))
+    × (script_end manual (opened alone First) 4 (lines_of (codes "undo\n#= ok\nflip\n")) ≡ Some (told.BadLine 3))
 unfolding content line_of verb_named answer_text bad_text block_text tally_text nodes_of apps_of configured step digits is_utf8 chars encode
 bad_line_row = (refl, refl)
 
@@ -96,7 +97,7 @@ one = record alone {
 }
 
 -- the report is that behind the command, and not the one before it; a front of a line isn't the line
-reports_row : script_text one First 1 (lines_of (codes "boot a\n#? running w permanent normal\n#?   app w running a\nundo\n#? node a down 0\n#? node a up 1\n#? app w\n"))
+reports_row : script_text manual (opened one First) 1 (lines_of (codes "boot a\n#? running w permanent normal\n#?   app w running a\nundo\n#? node a down 0\n#? node a up 1\n#? app w\n"))
     ≡ codes "line 4: undo\n  wanted in the report node a up 1\n  wanted in the report app w\ndiffers 1 of 2\n"
 unfolding content line_of verb_named answer_text notice_line block_text tally_text node_line running_line waiting_line forbidden_line line_if_forbidden
     standing_line app_line timer_line node_lines with_mark mark_all nodes_of apps_of configured moved_by all_moved all_alive is_ready come_up come_up_if_ready

@@ -29,8 +29,9 @@ use Rattle.rh_run.specs.RunText.{lines_asked}
 use Rattle.rh_story.specs.HeadText.{head_text}
 use Rattle.rh_story.specs.StoryText.{lines_text, story_over, story_text}
 use Rattle.rh_verify.specs.Spaces.{lines_of}
+use Rattle.rh_verify.specs.Manual.{manual}
 use Rattle.rh_verify.specs.Expected.{Check, check_of, asked_by, ahead, checks, answer_in, wanted_in, answers_in, wanted_among, is_expectation, is_checked, numbered, stray}
-use Rattle.rh_verify.specs.Blocks.{is_answered, report_behind, missing, holds}
+use Rattle.rh_verify.specs.Blocks.{is_answered, missing, holds}
 use Rattle.rh_verify.specs.Counts.{tally_text}
 use Rattle.rh_verify.specs.VerifyText.{first_line, script_checks, blocks_text, verify_text, verify_end}
 use Rattle.rh_verify.specs.Laws.{IsScript}
@@ -52,7 +53,7 @@ use Rattle.rh_story_laws.proofs.Finds.{Alike, no_more, one_more, Finds, lines_fi
 
 -- what a report lacks of what is wanted
 abbrev lacking : Check → List (List ℕ)
-lacking x = missing (report_behind x) (wanted_among x.behind)
+lacking x = missing x.report (wanted_among x.behind)
 
 abbrev LacksNothing : Check → Type 0
 LacksNothing x = lacking x ≡ []
@@ -80,40 +81,40 @@ module _ (c : ClusterView) (names : HasUnbroken c) (platforms : All IsUnbroken c
 
   one_holds : (j k : ℕ) (l m : List ℕ) (s : SimView) (asked : Call) (said kept : List (List ℕ)) → s.cluster ≡ c
       → answers_in said ≡ lines_of (answer_text c (served s asked).reply) → wanted_among said ≡ wanted_among kept
-      → holds c (check_of j l s asked said) ≡ (length (lacking (check_of k m s asked kept)) == 0)
+      → holds (check_of manual j l s asked said) ≡ (length (lacking (check_of manual k m s asked kept)) == 0)
   one_holds j k l m s asked said kept on answers wants =
-      (λ i. is_answered (answers i) (answer_text c (served s asked).reply)
-      && (length (missing (report_behind (check_of k m s asked kept)) (wants i)) == 0))
-      ∙ ap (λ (t : Bool). t && (length (lacking (check_of k m s asked kept)) == 0)) (itself s on asked)
+      (λ i. is_answered (answers i) (answer_text (on i) (served s asked).reply)
+      && (length (missing (manual.report (manual.behind s asked)) (wants i)) == 0))
+      ∙ ap (λ (t : Bool). t && (length (lacking (check_of manual k m s asked kept)) == 0)) (itself s on asked)
 
-  none_differ : (xs ys : List Check) → Alike c xs ys → All LacksNothing ys → length (filter (λ x. not (holds c x)) xs) ≡ 0
+  none_differ : (xs ys : List Check) → Alike c xs ys → All LacksNothing ys → length (filter (λ x. not (holds x)) xs) ≡ 0
   none_differ _ _ no_more all = refl
   none_differ _ _ (one_more j k l m s asked said kept xs ys on answers wants rest) all =
-      let x = check_of j l s asked said in
-      let y = check_of k m s asked kept in
+      let x = check_of manual j l s asked said in
+      let y = check_of manual k m s asked kept in
       let same = one_holds j k l m s asked said kept on answers wants ∙ ap (λ (ls : List (List ℕ)). length ls == 0) (All-head LacksNothing y ys all) in
-      ap (λ (t : Bool). length (cond (not t) (x ∷ filter (λ x. not (holds c x)) xs) (filter (λ x. not (holds c x)) xs))) same
+      ap (λ (t : Bool). length (cond (not t) (x ∷ filter (λ x. not (holds x)) xs) (filter (λ x. not (holds x)) xs))) same
       ∙ none_differ xs ys rest (All-tail LacksNothing y ys all)
 
-  all_lack_nothing : (xs ys : List Check) → Alike c xs ys → length (filter (λ x. not (holds c x)) xs) ≡ 0 → All LacksNothing ys
+  all_lack_nothing : (xs ys : List Check) → Alike c xs ys → length (filter (λ x. not (holds x)) xs) ≡ 0 → All LacksNothing ys
   all_lack_nothing _ _ no_more none = All-nil LacksNothing
   all_lack_nothing _ _ (one_more j k l m s asked said kept xs ys on answers wants rest) none =
-      by (length (lacking (check_of k m s asked kept)) == 0) refl (λ counted. all_lack_nothing xs ys rest counted)
+      by (length (lacking (check_of manual k m s asked kept)) == 0) refl (λ counted. all_lack_nothing xs ys rest counted)
     where
       x : Check
-      x = check_of j l s asked said
+      x = check_of manual j l s asked said
 
       y : Check
-      y = check_of k m s asked kept
+      y = check_of manual k m s asked kept
 
-      by : (t : Bool) → (length (lacking (check_of k m s asked kept)) == 0) ≡ t
-          → (length (filter (λ x. not (holds c x)) xs) ≡ 0 → All LacksNothing ys) → All LacksNothing (check_of k m s asked kept ∷ ys)
+      by : (t : Bool) → (length (lacking (check_of manual k m s asked kept)) == 0) ≡ t
+          → (length (filter (λ x. not (holds x)) xs) ≡ 0 → All LacksNothing ys) → All LacksNothing (check_of manual k m s asked kept ∷ ys)
       by true is others =
-          let counted = ap (λ (b : Bool). length (cond (not b) (x ∷ filter (λ x. not (holds c x)) xs) (filter (λ x. not (holds c x)) xs)))
+          let counted = ap (λ (b : Bool). length (cond (not b) (x ∷ filter (λ x. not (holds x)) xs) (filter (λ x. not (holds x)) xs)))
           (one_holds j k l m s asked said kept on answers wants ∙ is) in
           All-cons LacksNothing y ys (no_bytes (lacking y) is) (others (sym counted ∙ none))
       by false is others =
-          let counted = ap (λ (b : Bool). length (cond (not b) (x ∷ filter (λ x. not (holds c x)) xs) (filter (λ x. not (holds c x)) xs)))
+          let counted = ap (λ (b : Bool). length (cond (not b) (x ∷ filter (λ x. not (holds x)) xs) (filter (λ x. not (holds x)) xs)))
           (one_holds j k l m s asked said kept on answers wants ∙ is) in
           absurd (omega (arith, sym counted ∙ none))
 
@@ -121,7 +122,7 @@ module _ (c : ClusterView) (names : HasUnbroken c) (platforms : All IsUnbroken c
   all_are_checked : (xs ys : List Check) → Alike c xs ys → length (filter is_checked xs) ≡ length ys
   all_are_checked _ _ no_more = refl
   all_are_checked _ _ (one_more j k l m s asked said kept xs ys on answers wants rest) =
-      ap (λ (t : Bool). length (cond (not t || not (length (wanted_among said) == 0)) (check_of j l s asked said ∷ filter is_checked xs) (filter is_checked xs)))
+      ap (λ (t : Bool). length (cond (not t || not (length (wanted_among said) == 0)) (check_of manual j l s asked said ∷ filter is_checked xs) (filter is_checked xs)))
       (ap (λ (ls : List (List ℕ)). length ls == 0) answers ∙ some_answer c (served s asked).reply)
       ∙ ap (λ (n : ℕ). suc n) (all_are_checked xs ys rest)
 
@@ -130,12 +131,12 @@ module _ (c : ClusterView) (names : HasUnbroken c) (platforms : All IsUnbroken c
   as_many _ _ (one_more j k l m s asked said kept xs ys on answers wants rest) = ap (λ (n : ℕ). suc n) (as_many xs ys rest)
 
 -- ---- commands are counted
-counted : (c : ClusterView) (s : SimView) (j : ℕ) (lines : List (List ℕ)) → length (checks s j (asked_by c lines)) ≡ length (calls_of (lines_asked c lines))
+counted : (c : ClusterView) (s : SimView) (j : ℕ) (lines : List (List ℕ)) → length (checks manual s j (asked_by c lines)) ≡ length (calls_of (lines_asked c lines))
 counted c s j [] = refl
 counted c s j (l ∷ lines) = by (line_of c l) (λ t. counted c t (j + 1) lines)
   where
-    by : (a : Line) → ((t : SimView) → length (checks t (j + 1) (asked_by c lines)) ≡ length (calls_of (lines_asked c lines)))
-        → length (checks s j ((l, a) ∷ asked_by c lines)) ≡ length (calls_of (a ∷ lines_asked c lines))
+    by : (a : Line) → ((t : SimView) → length (checks manual t (j + 1) (asked_by c lines)) ≡ length (calls_of (lines_asked c lines)))
+        → length (checks manual s j ((l, a) ∷ asked_by c lines)) ≡ length (calls_of (a ∷ lines_asked c lines))
     by Nothing others = others s
     by (Asks asked) others = ap (λ (n : ℕ). suc n) (others (served s asked).sim)
     by Bad others = refl
@@ -188,20 +189,20 @@ module _ (text : List ℕ) (c : ClusterView) (pick : Pick) (is : IsScript text c
   before = ahead (asked_by c (script_lines text))
 
   abbrev each_check : List Check
-  each_check = script_checks c pick (first_line text) (script_lines text)
+  each_check = script_checks manual (opened c pick) (first_line text) (script_lines text)
 
   abbrev strays : ℕ
   strays = length (stray (first_line text) (asked_by c (script_lines text)))
 
   abbrev failing : ℕ
-  failing = length (filter (λ x. not (holds c x)) each_check)
+  failing = length (filter (λ x. not (holds x)) each_check)
 
   ends : verify_end text pick ≡ cond (strays + failing == 0) None (Some told.Differs)
   unfolding verify_end
   ends = rw (is.cluster, is.lines) refl
 
   says : verify_text text pick
-      ≡ blocks_text c pick (first_line text) (script_lines text)
+      ≡ blocks_text manual (opened c pick) (first_line text) (script_lines text)
       ++ tally_text (record { commands = length each_check; checked = strays + length (filter is_checked each_check); differing = strays + failing })
   unfolding verify_text
   says = rw (is.cluster, is.lines) refl
@@ -279,7 +280,7 @@ module _ (bytes : List ℕ) (c : ClusterView) (pick : Pick) (run : IsRun bytes c
       ap script_lines made ∙ ap (map content) (stands.behind script)
 
   abbrev commands : List Check
-  commands = script_checks c pick (first_line bytes) (script_lines bytes)
+  commands = script_checks manual (opened c pick) (first_line bytes) (script_lines bytes)
 
   abbrev wants : List (List ℕ)
   wants = wanted_among (ahead (asked_by c (script_lines bytes)))
@@ -321,16 +322,16 @@ unwanted_ahead c (l ∷ lines) all = by (line_of c l) (unwanted_ahead c lines (A
     by (Asks asked) others = refl
     by Bad others = refl
 
-unwanted_behind : (c : ClusterView) (s : SimView) (j : ℕ) (lines : List (List ℕ)) → All Unwanted lines → All LacksNothing (checks s j (asked_by c lines))
+unwanted_behind : (c : ClusterView) (s : SimView) (j : ℕ) (lines : List (List ℕ)) → All Unwanted lines → All LacksNothing (checks manual s j (asked_by c lines))
 unwanted_behind c s j [] all = All-nil LacksNothing
 unwanted_behind c s j (l ∷ lines) all = by (line_of c l) (λ t. unwanted_behind c t (j + 1) lines (All-tail Unwanted l lines all))
   where
-    by : (a : Line) → ((t : SimView) → All LacksNothing (checks t (j + 1) (asked_by c lines))) → All LacksNothing (checks s j ((l, a) ∷ asked_by c lines))
+    by : (a : Line) → ((t : SimView) → All LacksNothing (checks manual t (j + 1) (asked_by c lines))) → All LacksNothing (checks manual s j ((l, a) ∷ asked_by c lines))
     by Nothing others = others s
     by (Asks asked) others =
-        let x = check_of j l s asked (ahead (asked_by c lines)) in
-        All-cons LacksNothing x (checks (served s asked).sim (j + 1) (asked_by c lines))
-        (ap (missing (report_behind x)) (unwanted_ahead c lines (All-tail Unwanted l lines all)))
+        let x = check_of manual j l s asked (ahead (asked_by c lines)) in
+        All-cons LacksNothing x (checks manual (served s asked).sim (j + 1) (asked_by c lines))
+        (ap (missing x.report) (unwanted_ahead c lines (All-tail Unwanted l lines all)))
         (others (served s asked).sim)
     by Bad others = All-nil LacksNothing
 

@@ -4,13 +4,15 @@ use Rattle.std.specs.Fmt.{decimal}
 use Rattle.rh_model.specs.ClusterView.{ClusterView}
 use Rattle.rh_script.specs.Notes.{note_of}
 use Rattle.rh_rules.specs.declared.pick.Pick.{Pick}
+use Rattle.rh_trail.specs.Lone.{opened}
 use Rattle.rh_script.specs.Lines.{script_lines}
 use Rattle.rh_script.specs.Commands.{calls_of}
 use Rattle.rh_run.specs.declared.fault.Told.{Told}
 use Rattle.rh_run.specs.RunText.{lines_asked}
 use Rattle.rh_story.specs.StoryText.{OwesStory}
-use Rattle.rh_verify.specs.Expected.{asked_by, ahead, wanted_in, wanted_among}
-use Rattle.rh_verify.specs.Blocks.{report_behind, missing}
+use Rattle.rh_verify.specs.Manual.{manual}
+use Rattle.rh_verify.specs.Expected.{Check, asked_by, ahead, wanted_in, wanted_among}
+use Rattle.rh_verify.specs.Blocks.{missing}
 use Rattle.rh_verify.specs.VerifyText.{first_line, script_checks, OwesVerify}
 use Rattle.rh_story_laws.specs.Answers.{IsRun}
 use Rattle.rh_story_laws.specs.Again.{HasScript}
@@ -29,7 +31,7 @@ WantsNothing bytes = All (λ line. wanted_in (note_of line) ≡ None) (script_li
 
 -- each line `#? TEXT` of the script is in the report behind its command, and none stands before the first command
 pub record ReportsHold (bytes : List ℕ) (c : ClusterView) (pick : Pick) : Type 0 where
-  pub behind : All (λ x. missing (report_behind x) (wanted_among x.behind) ≡ []) (script_checks c pick (first_line bytes) (script_lines bytes))
+  pub behind : All (λ (x : Check). missing x.report (wanted_among x.behind) ≡ []) (script_checks manual (opened c pick) (first_line bytes) (script_lines bytes))
   pub none_ahead : wanted_among (ahead (asked_by c (script_lines bytes))) ≡ []
 
 -- in the whole story of an input without lines `#?` a verification checks each command, finds nothing to differ and ends in success

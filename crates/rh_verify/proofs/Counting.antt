@@ -1,8 +1,7 @@
 -- Commands that are counted one after the other.
-use Rattle.std.proofs.Common.{◌≡◌, ◌≤◌, ◌+◌, ℕ, List, [], ◌∷◌, ◌++◌, length, filter, Bool, true, false, not, cond, refl, sym, ap, ◌∙◌, append-nil, arith}
+use Rattle.std.proofs.Common.{◌≡◌, ◌≤◌, ◌+◌, ℕ, List, [], ◌∷◌, ◌++◌, length, filter, Bool, true, false, not, cond, refl, sym, ap, ◌∙◌, arith}
 use Rattle.std.proofs.lemmas.List.{length-append}
 use Rattle.std.proofs.lemmas.List.Elements.{filter-append}
-use Rattle.rh_model.specs.ClusterView.{ClusterView}
 use Rattle.rh_verify.specs.declared.tally.Tally.{Tally}
 use Rattle.rh_verify.specs.Expected.{Check, is_checked}
 use Rattle.rh_verify.specs.Blocks.{holds}
@@ -21,19 +20,19 @@ filter_bound p (x ∷ xs) = by (p x) (filter_bound p xs)
     by false rest = omega (arith, rest)
 
 -- the commands that were counted, and more
-pub counted_more : (c : ClusterView) (done more : List Check) → with_checks c (tally_of c done) more ≡ tally_of c (done ++ more)
-counted_more c done more = λ i. record {
+pub counted_more : (done more : List Check) → with_checks (tally_of done) more ≡ tally_of (done ++ more)
+counted_more done more = λ i. record {
   commands = sym (length-append done more) i;
   checked = filtered is_checked done more i;
-  differing = filtered (λ x. not (holds c x)) done more i;
+  differing = filtered (λ x. not (holds x)) done more i;
 }
 
 -- one of them
-pub counted_one : (c : ClusterView) (t : Tally) (x : Check) → with_verdict t (verdict_on c x) ≡ with_checks c t (x ∷ [])
-counted_one c t x = λ i. record {
+pub counted_one : (t : Tally) (x : Check) → with_verdict t (verdict_on x) ≡ with_checks t (x ∷ [])
+counted_one t x = λ i. record {
   commands = t.commands + 1;
   checked = t.checked + one (is_checked x) i;
-  differing = t.differing + one (not (holds c x)) i;
+  differing = t.differing + one (not (holds x)) i;
 }
   where
     one : (b : Bool) → one_if b ≡ length (cond b (x ∷ []) [])
@@ -41,17 +40,17 @@ counted_one c t x = λ i. record {
     one false = refl
 
 -- none
-pub counted_none : (c : ClusterView) (t : Tally) → t ≡ with_checks c t []
-counted_none c t = λ i. record { commands = none t.commands i; checked = none t.checked i; differing = none t.differing i }
+pub counted_none : (t : Tally) → t ≡ with_checks t []
+counted_none t = λ i. record { commands = none t.commands i; checked = none t.checked i; differing = none t.differing i }
   where
     none : (n : ℕ) → n ≡ n + 0
     none n = omega arith
 
 -- none of the counts is more than the commands are
-pub within : (c : ClusterView) (done : List Check) (t : Tally) (n : ℕ) → t ≡ tally_of c done → length done ≤ n
+pub within : (done : List Check) (t : Tally) (n : ℕ) → t ≡ tally_of done → length done ≤ n
     → (t.commands ≤ n) × (t.checked ≤ n) × (t.differing ≤ n)
-within c done t n is few = (
+within done t n is few = (
   omega (arith, ap (λ (u : Tally). u.commands) is, few),
   omega (arith, ap (λ (u : Tally). u.checked) is, filter_bound is_checked done, few),
-  omega (arith, ap (λ (u : Tally). u.differing) is, filter_bound (λ x. not (holds c x)) done, few),
+  omega (arith, ap (λ (u : Tally). u.differing) is, filter_bound (λ x. not (holds x)) done, few),
 )

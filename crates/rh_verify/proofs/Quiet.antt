@@ -1,14 +1,13 @@
 -- Scripts in which nothing is expected.
-use Rattle.std.proofs.Common.{◌≡◌, ◌+◌, ℕ, List, [], ◌∷◌, length, filter, All, Bool, true, false, not, cond, Option, Some, None, is_some, refl, sym, ap, ◌∙◌, true≢false}
+use Rattle.std.proofs.Common.{◌≡◌, ◌+◌, ℕ, List, [], ◌∷◌, length, filter, All, true, false, not, Option, Some, None, is_some, refl, true≢false}
 use Rattle.std.specs.Prelude.{◌||◌}
 use Rattle.std.proofs.lemmas.List.Elements.{All-nil, All-cons, All-head, All-tail}
 use Rattle.rh_model.specs.ClusterView.{ClusterView}
-use Rattle.rh_trail.specs.SimView.{SimView}
-use Rattle.rh_trail.specs.Lone.{served}
 use Rattle.rh_script.specs.declared.script.Line.{Line}
 use Rattle.rh_script.specs.declared.script.Line.TheVariants.{Nothing, Asks, Bad}
 use Rattle.rh_script.specs.Commands.{line_of}
 use Rattle.rh_script.specs.Notes.{note_of}
+use Rattle.rh_verify.specs.Rules.{Rules}
 use Rattle.rh_verify.specs.Expected.{Check, check_of, asked_by, ahead, checks, numbered, stray, is_expectation, answer_in, wanted_in, answers_in, wanted_among}
 use Rattle.rh_verify.specs.Blocks.{holds}
 
@@ -29,8 +28,8 @@ nothing_given (line ∷ lines) q =
     (rw (here.0, later.0) refl, rw (here.1, later.1) refl)
 
 -- so all of it holds
-quiet_holds : (c : ClusterView) (x : Check) → IsQuiet x.behind → holds c x ≡ true
-quiet_holds c x q = let none = nothing_given x.behind q in rw (none.0, none.1) refl
+quiet_holds : (x : Check) → IsQuiet x.behind → holds x ≡ true
+quiet_holds x q = let none = nothing_given x.behind q in rw (none.0, none.1) refl
 
 quiet_ahead : (c : ClusterView) (lines : List (List ℕ)) → IsQuiet lines → IsQuiet (ahead (asked_by c lines))
 quiet_ahead c [] q = All-nil (λ l. is_expectation l ≡ false)
@@ -42,19 +41,19 @@ quiet_ahead c (line ∷ lines) q = by (line_of c line) (quiet_ahead c lines (All
     by Bad rest = All-nil (λ l. is_expectation l ≡ false)
 
 -- no command differs
-pub quiet_checks : (c : ClusterView) (sim : SimView) (k : ℕ) (lines : List (List ℕ)) → IsQuiet lines
-    → length (filter (λ x. not (holds c x)) (checks sim k (asked_by c lines))) ≡ 0
-quiet_checks c sim k [] q = refl
-quiet_checks c sim k (line ∷ lines) q =
-    by (line_of c line) (λ s. quiet_checks c s (k + 1) lines (All-tail (λ l. is_expectation l ≡ false) line lines q))
+pub quiet_checks : {V : Type 0} (r : Rules V) (c : ClusterView) (sim : V) (k : ℕ) (lines : List (List ℕ)) → IsQuiet lines
+    → length (filter (λ x. not (holds x)) (checks r sim k (asked_by c lines))) ≡ 0
+quiet_checks r c sim k [] q = refl
+quiet_checks {V = V} r c sim k (line ∷ lines) q =
+    by (line_of c line) (λ s. quiet_checks r c s (k + 1) lines (All-tail (λ l. is_expectation l ≡ false) line lines q))
   where
-    by : (a : Line) → ((s : SimView) → length (filter (λ x. not (holds c x)) (checks s (k + 1) (asked_by c lines))) ≡ 0)
-        → length (filter (λ x. not (holds c x)) (checks sim k ((line, a) ∷ asked_by c lines))) ≡ 0
+    by : (a : Line) → ((s : V) → length (filter (λ x. not (holds x)) (checks r s (k + 1) (asked_by c lines))) ≡ 0)
+        → length (filter (λ x. not (holds x)) (checks r sim k ((line, a) ∷ asked_by c lines))) ≡ 0
     by Nothing rest = rest sim
     by (Asks call) rest =
-        rw (quiet_holds c (check_of k line sim call (ahead (asked_by c lines)))
+        rw (quiet_holds (check_of r k line sim call (ahead (asked_by c lines)))
         (quiet_ahead c lines (All-tail (λ l. is_expectation l ≡ false) line lines q)))
-        (rest (served sim call).sim)
+        (rest (r.behind sim call))
     by Bad rest = refl
 
 -- and nothing is expected without a command

@@ -3,23 +3,10 @@ use Rattle.std.specs.Prelude.{ℕ, List, [], ◌∷◌, ◌++◌, Bool, true, no
 use Rattle.std.specs.List.{filter, flat_map, list_any}
 use Rattle.std.specs.Fmt.{decimal}
 use Rattle.std.specs.Str.{bytes_eq}
-use Rattle.rh_model.specs.ClusterView.{ClusterView}
-use Rattle.rh_trail.specs.Lone.{served}
-use Rattle.rh_trail.specs.SimView.{SimView, state_of}
-use Rattle.rh_calls.specs.Report.{report_text}
-use Rattle.rh_script.specs.Answers.{answer_text}
 use Rattle.rh_verify.specs.Spaces.{lines_of, without_front, without_spaces, below}
 use Rattle.rh_verify.specs.Expected.{Check, answers_in, wanted_among}
 
 -- ---- what doesn't hold
-
--- what a command is answered
-abbrev pub answer_to : ClusterView → Check → List ℕ
-answer_to c x = answer_text c (served x.before x.call).reply
-
--- the report behind it
-abbrev pub report_behind : Check → List ℕ
-report_behind x = report_text (state_of (served x.before x.call).sim)
 
 -- the text is these lines and no other; where there are none, it may be any
 abbrev pub is_answered : List (List ℕ) → List ℕ → Bool
@@ -42,8 +29,8 @@ abbrev pub all_holds : List (List ℕ) → List ℕ → List (List ℕ) → Bool
 all_holds wanted came lacking = is_answered wanted came && (length lacking == 0)
 
 -- all that is expected of a command holds
-abbrev pub holds : ClusterView → Check → Bool
-holds c x = all_holds (answers_in x.behind) (answer_to c x) (missing (report_behind x) (wanted_among x.behind))
+abbrev pub holds : Check → Bool
+holds x = all_holds (answers_in x.behind) x.came (missing x.report (wanted_among x.behind))
 
 -- ---- how it is told
 
@@ -65,8 +52,8 @@ block_of k line wanted came lacking =
     else head_line k (without_spaces line) ++ answer_part wanted came ++ flat_map (below (codes "wanted in the report ")) lacking
 
 -- the block of a command
-unfoldable pub block_text : ClusterView → Check → List ℕ
-block_text c x = block_of x.number x.line (answers_in x.behind) (answer_to c x) (missing (report_behind x) (wanted_among x.behind))
+unfoldable pub block_text : Check → List ℕ
+block_text x = block_of x.number x.line (answers_in x.behind) x.came (missing x.report (wanted_among x.behind))
 
 -- what is told of an expectation to which there is no command
 unfoldable pub stray_text : ℕ × List ℕ → List ℕ

@@ -2,17 +2,16 @@
 use Rattle.std.specs.Prelude.{ℕ, ◌+◌, List, ◌++◌, length, not, ◌==◌, codes, if◌then◌else◌}
 use Rattle.std.specs.List.{filter}
 use Rattle.std.specs.Fmt.{decimal}
-use Rattle.rh_model.specs.ClusterView.{ClusterView}
 use Rattle.rh_verify.specs.declared.tally.Tally.{Tally}
 use Rattle.rh_verify.specs.Expected.{Check, is_checked}
 use Rattle.rh_verify.specs.Blocks.{holds}
 
 -- how many commands there are, of how many something is expected, and of how many something doesn't hold
-abbrev pub tally_of : ClusterView → List Check → Tally
-tally_of c xs = record {
+abbrev pub tally_of : List Check → Tally
+tally_of xs = record {
   commands = length xs;
   checked = length (filter is_checked xs);
-  differing = length (filter (λ x. not (holds c x)) xs);
+  differing = length (filter (λ x. not (holds x)) xs);
 }
 
 -- an expectation without a command is one that was checked, and that differs

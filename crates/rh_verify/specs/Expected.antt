@@ -1,16 +1,15 @@
 -- The commands of a script, each with what is expected of it (ours).
-use Rattle.std.specs.Prelude.{◌≡◌, ℕ, ◌+◌, List, [], ◌∷◌, ◌++◌, map, Bool, true, false, not, ◌&&◌, ◌||◌, ◌==◌, length, Option, Some, None, is_some}
+use Rattle.std.specs.Prelude.{◌≡◌, ℕ, ◌+◌, List, [], ◌∷◌, ◌++◌, map, Bool, not, ◌||◌, ◌==◌, length, Option, Some, None, is_some}
 use Rattle.std.specs.List.{filter, filter_map}
 use Rattle.rh_model.specs.ClusterView.{ClusterView}
 use Rattle.rh_calls.specs.declared.call.Call.{Call}
-use Rattle.rh_trail.specs.SimView.{SimView}
-use Rattle.rh_trail.specs.Lone.{served}
 use Rattle.rh_script.specs.declared.notes.Kind.{Kind}
 use Rattle.rh_script.specs.declared.notes.Kind.TheVariants as kind
 use Rattle.rh_script.specs.Notes.{note_of}
 use Rattle.rh_script.specs.declared.script.Line.{Line}
 use Rattle.rh_script.specs.declared.script.Line.TheVariants.{Nothing, Asks, Bad}
 use Rattle.rh_script.specs.Commands.{line_of}
+use Rattle.rh_verify.specs.Rules.{Rules}
 
 -- ---- what stands where
 
@@ -38,22 +37,24 @@ pub record Check : Type 0 where
   -- the number of its line, and what stands there
   pub number : ℕ
   pub line : List ℕ
-  -- the simulation before it, and what it asks of that
-  pub before : SimView
-  pub call : Call
+  -- what it is answered, and the report behind it
+  pub came : List ℕ
+  pub report : List ℕ
   -- the comments and blank lines behind it, up to the next command
   pub behind : List (List ℕ)
 
-abbrev pub check_of : ℕ → List ℕ → SimView → Call → List (List ℕ) → Check
-check_of k line sim call behind = record { number = k; line = line; before = sim; call = call; behind = behind }
+-- the command that asks this of a rehearsal by such rules
+abbrev pub check_of : {V : Type 0} → Rules V → ℕ → List ℕ → V → Call → List (List ℕ) → Check
+check_of r k line sim call behind =
+    record { number = k; line = line; came = r.answer sim call; report = r.report (r.behind sim call); behind = behind }
 
 -- the commands up to the first line that is none; the first line has number k
-abbrev pub checks : SimView → ℕ → List (List ℕ × Line) → List Check
-checks sim k [] = []
-checks sim k ((line, Nothing) ∷ lines) = checks sim (k + 1) lines
-checks sim k ((line, Asks call) ∷ lines) =
-    check_of k line sim call (ahead lines) ∷ checks (served sim call).sim (k + 1) lines
-checks sim k ((line, Bad) ∷ lines) = []
+abbrev pub checks : {V : Type 0} → Rules V → V → ℕ → List (List ℕ × Line) → List Check
+checks r sim k [] = []
+checks r sim k ((line, Nothing) ∷ lines) = checks r sim (k + 1) lines
+checks r sim k ((line, Asks call) ∷ lines) =
+    check_of r k line sim call (ahead lines) ∷ checks r (r.behind sim call) (k + 1) lines
+checks r sim k ((line, Bad) ∷ lines) = []
 
 -- ---- what is expected
 

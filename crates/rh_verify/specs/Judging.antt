@@ -1,8 +1,6 @@
 -- How commands are judged one after the other, counted and written (ours).
 use Rattle.std.specs.Prelude.{◌≡◌, ℕ, ◌+◌, ◌≤◌, List, ◌∷◌, ◌++◌, length, Bool, true, false, not, ◌||◌, ◌==◌, if◌then◌else◌, Result, Ok, Err}
 use Rattle.std.specs.List.{filter, flat_map}
-use Rattle.rh_model.specs.ClusterView.{ClusterView}
-use Rattle.rh_trail.specs.SimView.{SimView}
 use Rattle.rh_script.specs.declared.script.Line.{Line}
 use Rattle.rh_script.specs.declared.script.Line.TheVariants.{Bad}
 use Rattle.rh_devices.specs.declared.fault.WriteFault.{WriteFault}
@@ -11,8 +9,9 @@ use Rattle.rh_devices.specs.Devices.{Passed, WroteFront}
 use Rattle.rh_verify.specs.declared.blocks.Taken.{Taken}
 use Rattle.rh_verify.specs.declared.tally.Tally.{Tally}
 use Rattle.rh_verify.specs.declared.tally.Verdict.{Verdict}
+use Rattle.rh_verify.specs.Rules.{Rules}
 use Rattle.rh_verify.specs.Expected.{Check, checks, answers_in, wanted_among, is_checked}
-use Rattle.rh_verify.specs.Blocks.{answer_to, report_behind, missing, all_holds, holds, block_text}
+use Rattle.rh_verify.specs.Blocks.{missing, all_holds, holds, block_text}
 
 -- ---- how they are counted
 
@@ -27,16 +26,16 @@ abbrev pub verdict_of : List (List ℕ) → List ℕ → List (List ℕ) → Lis
 verdict_of answers came wanted lacking =
     record { is_checked = not (length answers == 0) || not (length wanted == 0); differs = not (all_holds answers came lacking) }
 
-abbrev pub verdict_on : ClusterView → Check → Verdict
-verdict_on c x =
-    verdict_of (answers_in x.behind) (answer_to c x) (wanted_among x.behind) (missing (report_behind x) (wanted_among x.behind))
+abbrev pub verdict_on : Check → Verdict
+verdict_on x =
+    verdict_of (answers_in x.behind) x.came (wanted_among x.behind) (missing x.report (wanted_among x.behind))
 
 -- the tally with these commands more
-abbrev pub with_checks : ClusterView → Tally → List Check → Tally
-with_checks c t xs = record {
+abbrev pub with_checks : Tally → List Check → Tally
+with_checks t xs = record {
   commands = t.commands + length xs;
   checked = t.checked + length (filter is_checked xs);
-  differing = t.differing + length (filter (λ x. not (holds c x)) xs);
+  differing = t.differing + length (filter (λ x. not (holds x)) xs);
 }
 
 -- ---- how they are written
@@ -52,12 +51,12 @@ was_bad (Ok taken) = Ok taken.is_bad
 was_bad (Err f) = Err f
 
 -- a line was taken, which makes a command or none, and the other lines are left; or it is bad, and nothing was done
-abbrev pub Takes : {K : Type 0} → (K → K → List ℕ → Type 0) → (K → K → Type 0) → Result Bool WriteFault → ClusterView → SimView → SimView → Tally → Tally
+abbrev pub Takes : {K V : Type 0} → (K → K → List ℕ → Type 0) → (K → K → Type 0) → Rules V → Result Bool WriteFault → V → V → Tally → Tally
     → ℕ → List ℕ × Line → List (List ℕ × Line) → Watched K → Watched K → Type 0
-Takes takes fails (Ok false) c before after sum total k line lines old new =
-    (more : List Check) × Passed takes old.inner new.inner (flat_map (block_text c) more)
-    × (checks before k (line ∷ lines) ≡ more ++ checks after (k + 1) lines) × (line.1 ≡ Bad → ⊥) × (total ≡ with_checks c sum more)
+Takes takes fails r (Ok false) before after sum total k line lines old new =
+    (more : List Check) × Passed takes old.inner new.inner (flat_map block_text more)
+    × (checks r before k (line ∷ lines) ≡ more ++ checks r after (k + 1) lines) × (line.1 ≡ Bad → ⊥) × (total ≡ with_checks sum more)
     × (length more ≤ 1) × (new.failed ≡ false)
-Takes takes fails (Ok true) c before after sum total k line lines old new = (line.1 ≡ Bad) × (total ≡ sum) × (new ≡ old)
-Takes takes fails (Err f) c before after sum total k line lines old new =
-    WroteFront takes fails f (flat_map (block_text c) (checks before k (line ∷ lines))) old new
+Takes takes fails r (Ok true) before after sum total k line lines old new = (line.1 ≡ Bad) × (total ≡ sum) × (new ≡ old)
+Takes takes fails r (Err f) before after sum total k line lines old new =
+    WroteFront takes fails f (flat_map block_text (checks r before k (line ∷ lines))) old new

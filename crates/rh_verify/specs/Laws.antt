@@ -3,8 +3,10 @@ use Rattle.std.specs.Prelude.{◌≡◌, ◌↔◌, ℕ, List, [], All, false, N
 use Rattle.rh_model.specs.ClusterView.{ClusterView}
 use Rattle.rh_cluster.specs.ClusterOf.{cluster_of}
 use Rattle.rh_rules.specs.declared.pick.Pick.{Pick}
+use Rattle.rh_trail.specs.Lone.{opened}
 use Rattle.rh_script.specs.Lines.{cluster_text, script_lines}
 use Rattle.rh_run.specs.RunText.{bad_line, lines_asked}
+use Rattle.rh_verify.specs.Manual.{manual}
 use Rattle.rh_verify.specs.Expected.{is_expectation}
 use Rattle.rh_verify.specs.VerifyText.{first_line, blocks_text, verify_end}
 
@@ -17,7 +19,7 @@ pub record IsScript (bytes : List ℕ) (c : ClusterView) : Type 0 where
 abbrev pub DifferencesAreTold : Type 0
 DifferencesAreTold =
     (bytes : List ℕ) (c : ClusterView) (pick : Pick) → IsScript bytes c
-    → (blocks_text c pick (first_line bytes) (script_lines bytes) ≡ []) ↔ (verify_end bytes pick ≡ None)
+    → (blocks_text manual (opened c pick) (first_line bytes) (script_lines bytes) ≡ []) ↔ (verify_end bytes pick ≡ None)
 
 -- where nothing is expected, nothing differs
 abbrev pub NothingExpectedHolds : Type 0

@@ -1,3 +1,5 @@
+pub mod Rules
+pub mod Manual
 pub mod Spaces
 pub mod Expected
 pub mod Blocks

@@ -2,22 +2,22 @@
 
 ghost use Rattle.std.specs.Prelude.{◌≡◌, ◌+◌, ◌<◌, ◌≤◌, ◌^◌, length, map, false, IfOk, OnOk};
 ghost use Rattle.std.specs.List.{filter, flat_map};
-ghost use Rattle.rh_trail.specs.Lone.{served};
 ghost use Rattle.rh_script.specs.Commands.{line_of};
 ghost use Rattle.rh_run.specs.RunText.{bad_line, lines_asked};
 ghost use Rattle.rh_verify.specs.Spaces.{lines_of};
-ghost use Rattle.rh_verify.specs.Expected.{check_of, asked_by, checks, Passes, numbered, is_expectation};
+ghost use Rattle.rh_verify.specs.Expected.{check_of, asked_by, Passes, numbered, is_expectation};
 ghost use Rattle.rh_verify.specs.Blocks.{block_text, stray_text};
 ghost use Rattle.rh_verify.specs.Counts.{tally_of};
 ghost use Rattle.rh_verify.specs.Judging.{verdict_on, Gave, Takes, was_bad};
+ghost use Rattle.rh_verify.specs.VerifyText.{script_checks};
 
 use crate::expected::{is_expectation, lines_ahead};
 use crate::judging::{judge, stray_text};
+use crate::rehearsal::Rehearsal;
 use crate::tally::{Tally, Verdict, with_verdict};
 use rh_calls::Call;
 use rh_devices::{Sink, Watched, WriteFault, write_text};
-use rh_script::{Line, answer_text, content, line_of, split_line};
-use rh_trail::Sim;
+use rh_script::{Line, content, line_of, split_line};
 use std::alloc::Global;
 
 // Writes the blocks of the expectations among these lines, of which the first has this number, and answers how many there are.
@@ -47,9 +47,9 @@ pub fn write_stray<K: Sink>(
 
 // Writes the blocks of the commands of a script, whose first line has this number, up to the first bad line. It answers what was
 // counted, and the number of that line, counted from 1.
-pub fn write_blocks<K: Sink>(
+pub fn write_blocks<R: Rehearsal, K: Sink>(
     alloc: Global,
-    sim: &mut Sim,
+    rehearsal: &mut R,
     first: u64,
     script: &[u8],
     writer: &mut Watched<K>,
@@ -57,9 +57,11 @@ pub fn write_blocks<K: Sink>(
     requires writer { writer.old.failed ≡ false }
     requires begun { 1 ≤ first }
     requires numbers { first + length script.now ≤ 2 ^ 64 }
-    ensures text { let c = sim.old.seen.cluster in let all = checks sim.old.seen first (asked_by c
-        (lines_of script.now)) in Gave K.takes K.fails result (flat_map (block_text c) all)
-        (tally_of c all, bad_line 1 (lines_asked c (lines_of script.now))) writer.old writer.new }
+    ensures text { let sim = R.view rehearsal.old in let lines = lines_of script.now in
+        let all = script_checks R.rules sim first lines in
+        let bad = bad_line 1 (lines_asked ((R.rules).cluster sim) lines) in
+        Gave K.takes K.fails result (flat_map block_text all) (tally_of all, bad)
+        writer.old writer.new }
     ensures counted { IfOk result (λ v. (v.0.commands ≤ length script.now)
         × (v.0.checked ≤ length script.now) × (v.0.differing ≤ length script.now)) }
 {
@@ -75,7 +77,7 @@ pub fn write_blocks<K: Sink>(
         let (line, after) = split_line(rest);
         let taken = take_line(
             alloc,
-            sim,
+            rehearsal,
             first + passed,
             content(line),
             after,
@@ -104,9 +106,9 @@ pub struct Taken<'a> {
 
 // Takes a line, and writes the block of its command, if it is one. With a command the comments and blank lines behind it are taken:
 // they are put into a list, whatever that held.
-fn take_line<'a, K: Sink>(
+fn take_line<'a, R: Rehearsal, K: Sink>(
     alloc: Global,
-    sim: &mut Sim,
+    rehearsal: &mut R,
     number: u64,
     line: &[u8],
     after: &'a [u8],
@@ -118,17 +120,20 @@ fn take_line<'a, K: Sink>(
     requires commands { tally.old.commands + 1 < 2 ^ 64 }
     requires checked { tally.old.checked + 1 < 2 ^ 64 }
     requires differing { tally.old.differing + 1 < 2 ^ 64 }
-    ensures taken { let c = sim.old.seen.cluster in Takes K.takes K.fails
-        (was_bad result) c sim.old.seen sim.new.seen tally.old tally.new number
-        (line.now, line_of c line.now) (asked_by c (lines_of after.now)) writer.old writer.new }
-    ensures cluster { OnOk result (sim.new.seen.cluster ≡ sim.old.seen.cluster) }
-    ensures rest { let c = sim.old.seen.cluster in IfOk result (λ taken. Passes
-        (asked_by c (lines_of after.now)) (asked_by c (lines_of taken.rest.now)) taken.count) }
+    ensures taken { let sim = R.view rehearsal.old in let c = (R.rules).cluster sim in
+        Takes K.takes K.fails R.rules (was_bad result) sim (R.view rehearsal.new)
+        tally.old tally.new number (line.now, line_of c line.now) (asked_by c (lines_of after.now))
+        writer.old writer.new }
+    ensures cluster { OnOk result ((R.rules).cluster (R.view rehearsal.new)
+        ≡ (R.rules).cluster (R.view rehearsal.old)) }
+    ensures rest { let c = (R.rules).cluster (R.view rehearsal.old) in IfOk result (λ taken.
+        Passes (asked_by c (lines_of after.now)) (asked_by c (lines_of taken.rest.now))
+        taken.count) }
     ensures some { IfOk result (λ taken. 1 ≤ taken.count) }
     ensures within { IfOk result
         (λ taken. taken.count + length taken.rest.now ≤ length after.now + 1) }
 {
-    match line_of(alloc, sim.cluster(), line)? {
+    match line_of(alloc, rehearsal.cluster(), line)? {
         Line::Nothing => Ok(Taken {
             is_bad: false,
             rest: after,
@@ -140,8 +145,9 @@ fn take_line<'a, K: Sink>(
             count: 1,
         }),
         Line::Asks(call) => {
-            let rest = lines_ahead(alloc, sim.cluster(), behind, after)?;
-            let verdict = write_block(alloc, sim, number, line, call, behind.as_slice(), writer)?;
+            let rest = lines_ahead(alloc, rehearsal.cluster(), behind, after)?;
+            let lines = behind.as_slice();
+            let verdict = write_block(alloc, rehearsal, number, line, call, lines, writer)?;
             *tally = with_verdict(*tally, verdict);
             Ok(Taken {
                 is_bad: false,
@@ -152,11 +158,11 @@ fn take_line<'a, K: Sink>(
     }
 }
 
-// Gives a call to the simulation, and writes what doesn't hold of its command, behind which these lines stand.
-#[tactic(auto, unfolding(crate::specs::Blocks::block_text), using(rh_run::proofs::Keeping::served_keeps_cluster))]
-fn write_block<K: Sink>(
+// Makes a call, and writes what doesn't hold of its command, behind which these lines stand.
+#[tactic(auto, unfolding(crate::specs::Blocks::block_text))]
+fn write_block<R: Rehearsal, K: Sink>(
     alloc: Global,
-    sim: &mut Sim,
+    rehearsal: &mut R,
     number: u64,
     line: &[u8],
     call: Call,
@@ -164,15 +170,16 @@ fn write_block<K: Sink>(
     writer: &mut Watched<K>,
 ) -> Result<Verdict, WriteFault>
     requires { writer.old.failed ≡ false }
-    ensures sim { OnOk result (sim.new.seen ≡ (served sim.old.seen call).sim) }
-    ensures cluster { OnOk result (sim.new.seen.cluster ≡ sim.old.seen.cluster) }
-    ensures text { let c = sim.old.seen.cluster in
-        let x = check_of number line.now sim.old.seen call (map (λ l. l.now) behind.now) in
-        Gave K.takes K.fails result (block_text c x) (verdict_on c x) writer.old writer.new }
+    ensures behind { OnOk result
+        (R.view rehearsal.new ≡ (R.rules).behind (R.view rehearsal.old) call) }
+    ensures cluster { OnOk result ((R.rules).cluster (R.view rehearsal.new)
+        ≡ (R.rules).cluster (R.view rehearsal.old)) }
+    ensures text { let sim = R.view rehearsal.old in
+        let x = check_of R.rules number line.now sim call (map (λ l. l.now) behind.now) in
+        Gave K.takes K.fails result (block_text x) (verdict_on x) writer.old writer.new }
 {
-    let reply = sim.answer(alloc, call)?.into_one();
-    let came = answer_text(alloc, sim.cluster(), &reply)?;
-    let (block, verdict) = judge(alloc, sim.state(), number, line, came.as_slice(), behind)?;
+    let came = rehearsal.answer(alloc, call)?;
+    let (block, verdict) = judge(alloc, rehearsal, number, line, came.as_slice(), behind)?;
     write_text(writer, block.as_slice())?;
     Ok(verdict)
 }

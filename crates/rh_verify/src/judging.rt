@@ -4,19 +4,16 @@ ghost use Rattle.std.specs.Prelude.{◌≡◌, ◌≢◌, ◌++◌, List, ℕ, m
 ghost use Rattle.std.specs.List.{flat_map};
 ghost use Rattle.std.specs.Option.{MatchOption};
 ghost use Rattle.std.specs.Str.{bytes_eq};
-ghost use Rattle.rh_state.specs.Stored.{read};
-ghost use Rattle.rh_calls.specs.Report.{report_text};
 ghost use Rattle.rh_verify.specs.Spaces.{lines_of, below};
 ghost use Rattle.rh_verify.specs.Expected.{answers_in, wanted_among};
 ghost use Rattle.rh_verify.specs.Judging.{verdict_of};
 ghost use Rattle.rh_verify.specs.Blocks.{is_answered, has_line, missing, head_line, block_of, stray_text};
 
 use crate::expected::{answers_in, wanted_among};
+use crate::rehearsal::Rehearsal;
 use crate::spaces::{lines_of, push_each, without_front, without_spaces};
 use crate::tally::Verdict;
 use rh_base::OutOfMemory;
-use rh_calls::report;
-use rh_state::State;
 use std::alloc::Global;
 
 // What stands behind this line and its end, where a text begins with them.
@@ -87,19 +84,19 @@ fn missing_lines<'a>(
     Ok(lines)
 }
 
-// Those of the wanted lines that the report of a state lacks. Where none is wanted, the report isn't made.
-fn missing_in_report<'a>(
+// Those of the wanted lines that the report of a rehearsal lacks. Where none is wanted, the report isn't made.
+fn missing_in_report<'a, R: Rehearsal>(
     alloc: Global,
-    state: &State,
+    rehearsal: &R,
     wanted: &[&'a [u8]],
 ) -> Result<Vec<&'a [u8]>, OutOfMemory>
     ensures { IfOk result (λ lines. map (λ line. line.now) lines.items
-        ≡ missing (report_text (read state.now)) (map (λ line. line.now) wanted.now)) }
+        ≡ missing ((R.rules).report (R.view rehearsal.now)) (map (λ line. line.now) wanted.now)) }
 {
     if wanted.is_empty() {
         return Ok(Vec::new(alloc));
     }
-    let report = report(alloc, state)?;
+    let report = rehearsal.report(alloc)?;
     missing_lines(alloc, report.as_slice(), wanted)
 }
 
@@ -153,25 +150,25 @@ fn block_of(
     Ok(block)
 }
 
-// The block of a command that was answered this, with such lines behind it, and what became of it. The state is that behind it.
-pub fn judge(
+// The block of a command that was answered this, with such lines behind it, and what became of it. The rehearsal is that behind it.
+pub fn judge<R: Rehearsal>(
     alloc: Global,
-    state: &State,
+    rehearsal: &R,
     number: u64,
     line: &[u8],
     came: &[u8],
     behind: &[&[u8]],
 ) -> Result<(Vec<u8>, Verdict), OutOfMemory>
-    ensures block { IfOk result (λ found.
-        let lines = map (λ l. l.now) behind.now in found.0.items ≡ block_of number line.now
-        (answers_in lines) came.now (missing (report_text (read state.now)) (wanted_among lines))) }
-    ensures verdict { IfOk result (λ found.
-        let lines = map (λ l. l.now) behind.now in found.1 ≡ verdict_of (answers_in lines) came.now
-        (wanted_among lines) (missing (report_text (read state.now)) (wanted_among lines))) }
+    ensures block { IfOk result (λ found. let lines = map (λ l. l.now) behind.now in found.0.items
+        ≡ block_of number line.now (answers_in lines) came.now
+        (missing ((R.rules).report (R.view rehearsal.now)) (wanted_among lines))) }
+    ensures verdict { IfOk result (λ found. let lines = map (λ l. l.now) behind.now in found.1
+        ≡ verdict_of (answers_in lines) came.now (wanted_among lines)
+        (missing ((R.rules).report (R.view rehearsal.now)) (wanted_among lines))) }
 {
     let answers = answers_in(alloc, behind)?;
     let wanted = wanted_among(alloc, behind)?;
-    let lacking = missing_in_report(alloc, state, wanted.as_slice())?;
+    let lacking = missing_in_report(alloc, rehearsal, wanted.as_slice())?;
     let block = block_of(
         alloc,
         number,

@@ -1,19 +1,18 @@
 //! The program `verify`: commands are answered, and what is expected of them is compared.
 
-ghost use Rattle.std.specs.Prelude.{◌≡◌, ◌+◌, ◌≤◌, ◌^◌, length, false};
+ghost use Rattle.std.specs.Prelude.{◌≡◌, false};
+ghost use Rattle.rh_trail.specs.Lone.{opened};
 ghost use Rattle.rh_run.specs.RunText.{Wrote};
 ghost use Rattle.rh_run.specs.Programs.{ProgramGives, NoThreads};
+ghost use Rattle.rh_verify.specs.Manual.{manual};
 ghost use Rattle.rh_verify.specs.Spaces.{lines_of};
-ghost use Rattle.rh_verify.specs.VerifyText.{script_text, script_end, last_text, last_end, tally_end, verify_text, verify_end, OwesVerify};
+ghost use Rattle.rh_verify.specs.VerifyText.{line_behind, script_text, script_end, verify_text, verify_end, OwesVerify};
 
-use crate::blocks::{write_blocks, write_stray};
-use crate::expected::lines_before;
-use crate::spaces::line_count;
-use crate::tally::{Tally, tally_text, with_stray};
+use crate::scripts::verify_script;
 use rh_cluster::{Cluster, read_cluster};
-use rh_devices::{Sink, Source, Watched, WriteFault, read_input, write_text};
+use rh_devices::{Sink, Source, Watched, WriteFault, read_input};
 use rh_rules::Pick;
-use rh_run::{RunFault, Told, answer_bad, ended, write_fault};
+use rh_run::{RunFault, Told, ended, write_fault};
 use rh_script::cut;
 use rh_trail::Sim;
 use std::alloc::Global;
@@ -58,7 +57,6 @@ fn verify_input<K: Sink>(
         (verify_end input.now pick) writer.old writer.new }
 {
     let (text, script) = cut(input);
-    let first = line_count(text) + 2;
     match read_cluster(alloc, text) {
         Err(fault) => {
             if fault.is_memory() {
@@ -67,63 +65,24 @@ fn verify_input<K: Sink>(
             write_fault(alloc, &fault, writer)?;
             Ok(Some(Told::Cluster(fault)))
         }
-        Ok(cluster) => verify_script(alloc, cluster, first, script, writer, pick),
+        Ok(cluster) => verify_cluster(alloc, cluster, text, script, writer, pick),
     }
 }
 
-// Writes what the verification of a script tells, whose first line has this number.
-fn verify_script<K: Sink>(
+// Writes what the verification of a script tells, whose cluster is of this text.
+fn verify_cluster<K: Sink>(
     alloc: Global,
     cluster: Cluster,
-    first: u64,
+    text: &[u8],
     script: &[u8],
     writer: &mut Watched<K>,
     pick: Pick,
 ) -> Result<Option<Told>, WriteFault>
-    requires writer { writer.old.failed ≡ false }
-    requires begun { 1 ≤ first }
-    requires numbers { first + length script.now ≤ 2 ^ 64 }
-    ensures { Wrote K.takes K.fails result (script_text cluster pick first (lines_of script.now))
-        (script_end cluster pick first (lines_of script.now)) writer.old writer.new }
-{
-    let lines = lines_before(alloc, &cluster, script)?;
-    let count = write_stray(alloc, first, lines.as_slice(), writer)?;
-    let mut sim = Sim::open(alloc, cluster, pick)?;
-    let counted = write_blocks(alloc, &mut sim, first, script, writer)?;
-    write_last(alloc, with_stray(count, counted.0), counted.1, writer)
-}
-
-// Writes the counts, or the line that is no command, and answers the fault that this tells.
-fn write_last<K: Sink>(
-    alloc: Global,
-    tally: Tally,
-    bad: Option<u64>,
-    writer: &mut Watched<K>,
-) -> Result<Option<Told>, WriteFault>
     requires { writer.old.failed ≡ false }
-    ensures { Wrote K.takes K.fails result (last_text tally bad)
-        (last_end tally bad) writer.old writer.new }
+    ensures { let k = line_behind text.now in Wrote K.takes K.fails result
+        (script_text manual (opened cluster pick) k (lines_of script.now))
+        (script_end manual (opened cluster pick) k (lines_of script.now)) writer.old writer.new }
 {
-    match bad {
-        Some(number) => {
-            answer_bad(alloc, number, writer)?;
-            Ok(Some(Told::BadLine(number)))
-        }
-        None => {
-            let text = tally_text(alloc, tally)?;
-            write_text(writer, text.as_bytes())?;
-            Ok(tally_end(tally))
-        }
-    }
-}
-
-// The fault that the last line tells.
-fn tally_end(tally: Tally) -> Option<Told>
-    ensures { result ≡ tally_end tally }
-{
-    if tally.differing == 0 {
-        None
-    } else {
-        Some(Told::Differs)
-    }
+    let mut sim = Sim::open(alloc, cluster, pick)?;
+    verify_script(alloc, &mut sim, text, script, writer)
 }

@@ -1,4 +1,4 @@
-use Rattle.std.proofs.Common.{◌≡◌, ◌≤◌, ◌+◌, ◌++◌, ℕ, List, length, false}
+use Rattle.std.proofs.Common.{◌≡◌, ◌≤◌, ◌+◌, ◌++◌, List, length, false}
 use Rattle.std.specs.List.{flat_map}
 use Rattle.rh_devices.specs.Devices.{Passed}
 use Rattle.rh_run.specs.RunText.{bad_line, lines_asked}
@@ -9,16 +9,20 @@ use Rattle.rh_verify.specs.Counts.{tally_of}
 use Rattle.rh_verify.proofs.blocks.write_blocks.Given as goal
 
 abbrev pub invariant-lines : goal.invariant-lines
-invariant-lines g l = record {
-  text : (done : List Check) × Passed g.K.Sink.takes l.fn.writer.inner l.writer.inner (flat_map (block_text l.fn.sim.seen.cluster) done)
-      × (checks l.fn.sim.seen l.first (asked_by l.fn.sim.seen.cluster (lines_of l.script))
-      ≡ done ++ checks l.sim.seen (l.first + l.passed) (asked_by l.fn.sim.seen.cluster (lines_of l.rest)))
-      × (l.tally ≡ tally_of l.fn.sim.seen.cluster done) × (length done ≤ l.passed);
-  bad : bad_line 1 (lines_asked l.fn.sim.seen.cluster (lines_of l.script)) ≡ bad_line (l.passed + 1) (lines_asked l.fn.sim.seen.cluster (lines_of l.rest));
-  watch : l.writer.failed ≡ false;
-  same : l.sim.seen.cluster ≡ l.fn.sim.seen.cluster;
-  count : l.passed + length l.rest ≤ length l.script;
-}
+invariant-lines g l =
+    let r = g.R.Rehearsal.rules in
+    let start = g.R.Rehearsal.view l.fn.rehearsal in
+    let sim = g.R.Rehearsal.view l.rehearsal in
+    record {
+      text : (done : List Check) × Passed g.K.Sink.takes l.fn.writer.inner l.writer.inner (flat_map block_text done)
+          × (checks r start l.first (asked_by (r.cluster start) (lines_of l.script))
+          ≡ done ++ checks r sim (l.first + l.passed) (asked_by (r.cluster start) (lines_of l.rest)))
+          × (l.tally ≡ tally_of done) × (length done ≤ l.passed);
+      bad : bad_line 1 (lines_asked (r.cluster start) (lines_of l.script)) ≡ bad_line (l.passed + 1) (lines_asked (r.cluster start) (lines_of l.rest));
+      watch : l.writer.failed ≡ false;
+      same : r.cluster sim ≡ r.cluster start;
+      count : l.passed + length l.rest ≤ length l.script;
+    }
 
 abbrev pub decreases-lines : goal.decreases-lines
 decreases-lines g l = length l.rest

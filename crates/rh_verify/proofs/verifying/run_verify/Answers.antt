@@ -1,6 +1,5 @@
-use Rattle.std.proofs.Common.{refl, sym, subst, length, ◌≤◌, List, ℕ}
+use Rattle.std.proofs.Common.{refl, sym, subst}
 use Rattle.std.proofs.lemmas.Result.{err_from_is_err_and}
-use Rattle.rh_devices.specs.Devices.{input_limit}
 use Rattle.rh_run.specs.Programs.{IsInput, NoThreads}
 use Rattle.rh_verify.specs.VerifyText.{verify_text, verify_end, OwesVerify}
 use Rattle.rh_run.proofs.Ending.{not_read, not_written, is_written}

@@ -5,14 +5,13 @@ use Rattle.std.proofs.lemmas.Result.{err_from_is_err_and}
 use Rattle.rh_devices.specs.declared.fault.WriteFault.{WriteFault}
 use Rattle.rh_devices.specs.Devices.{WroteFront}
 use Rattle.rh_model.specs.ClusterView.{ClusterView}
-use Rattle.rh_trail.specs.SimView.{SimView}
 use Rattle.rh_script.specs.Lines.{raw_lines, content}
 use Rattle.rh_script.specs.Commands.{line_of}
 use Rattle.rh_run.specs.RunText.{bad_line, lines_asked}
 use Rattle.rh_story.specs.LineText.{is_bad}
 use Rattle.rh_story.specs.TableText.{shown}
-use Rattle.rh_story.proofs.Telling.{lines_join, line_keeps_cluster, fault_here, fault_later, line_breaks, rest_breaks, story_ends, story_goes_on, table_breaks, table_ends}
-use Rattle.rh_story.proofs.story.tell_lines.Goals as goal
+use Rattle.rh_story.proofs.Telling.{lines_join, fault_here, fault_later, line_breaks, rest_breaks, story_ends, story_goes_on, ending_breaks, ending_ends}
+use Rattle.rh_story.proofs.writing.tell_lines.Goals as goal
 
 pub returns-in_err-write_text : goal.returns-in_err-write_text
 returns-in_err-write_text g c =
@@ -20,7 +19,7 @@ returns-in_err-write_text g c =
     let fails = g.K.Sink.fails in
     let p = err_from_is_err_and c.from_residual-in_err-write_text.result c.from_residual-in_err-write_text.ensures.1 in
     rw (p.1, p.2)
-    (line_breaks takes fails c.args.sim.now.seen c.lines.sim.seen c.lines.number c.args.lack.now c.lines.behind.now c.split_line.result.0.now
+    (line_breaks takes fails g.T.Teller.telling (g.T.Teller.view c.args.sim.now) (g.T.Teller.view c.lines.sim) c.lines.number c.args.lack.now c.lines.behind.now c.split_line.result.0.now
     (raw_lines c.args.script.now) (raw_lines c.lines.rest.now) (raw_lines c.split_line.result.1.now)
     c.args.writer.now c.lines.writer c.write_text.new.writer c.lines.invariant.text.0 c.text_to_show-text.result.now
     c.split_line.ensures.line c.lines.invariant.text.1 c.lines.invariant.text.2
@@ -36,7 +35,7 @@ returns-in_err-write_text-2 g c =
     let rest = c.split_line.result.1.now in
     let p = err_from_is_err_and c.from_residual-in_err-write_text-2.result c.from_residual-in_err-write_text-2.ensures.1 in
     rw (p.1, p.2)
-    (rest_breaks takes fails c.args.sim.now.seen c.lines.sim.seen c.lines.number c.args.lack.now c.lines.behind.now c.split_line.result.0.now
+    (rest_breaks takes fails g.T.Teller.telling (g.T.Teller.view c.args.sim.now) (g.T.Teller.view c.lines.sim) c.lines.number c.args.lack.now c.lines.behind.now c.split_line.result.0.now
     (raw_lines c.args.script.now) (raw_lines c.lines.rest.now) (raw_lines rest)
     c.args.writer.now c.lines.writer c.write_text.new.writer c.lines.invariant.text.0 c.text_to_show-text.result.now
     c.split_line.ensures.line c.lines.invariant.text.1 c.lines.invariant.text.2
@@ -54,10 +53,10 @@ returns-then-is_bad g c =
     let rest = c.split_line.result.1.now in
     let line = c.split_line.result.0.now in
     let bad = sym c.in_ok-is_bad.ensures.bad ∙ c.if-is_bad.true in (
-      fault_here c.args.sim.now.seen.cluster c.lines.number line (raw_lines c.args.script.now) (raw_lines c.lines.rest.now) (raw_lines rest)
+      fault_here (g.T.Teller.telling.cluster (g.T.Teller.view c.args.sim.now)) c.lines.number line (raw_lines c.args.script.now) (raw_lines c.lines.rest.now) (raw_lines rest)
           c.split_line.ensures.line c.lines.invariant.fault
           (subst (λ (k : ClusterView). is_bad (line_of k (content line)) ≡ true) c.lines.invariant.same bad),
-      story_ends takes fails c.args.sim.now.seen c.lines.sim.seen c.lines.number c.args.lack.now c.lines.behind.now line
+      story_ends takes fails g.T.Teller.telling (g.T.Teller.view c.args.sim.now) (g.T.Teller.view c.lines.sim) c.lines.number c.args.lack.now c.lines.behind.now line
           (raw_lines c.args.script.now) (raw_lines c.lines.rest.now) (raw_lines rest)
           c.args.writer.now c.lines.writer c.write_text.new.writer c.lines.invariant.text.0 c.text_to_show-text.result.now
           c.split_line.ensures.line c.lines.invariant.text.1 c.lines.invariant.text.2
@@ -67,26 +66,26 @@ returns-then-is_bad g c =
       c.in_ok-write_text-2.ensures.ok,
     )
 
-pub returns-in_err-write_table : goal.returns-in_err-write_table
-returns-in_err-write_table g c =
-    let p = err_from_is_err_and c.from_residual-in_err-write_table.result c.from_residual-in_err-write_table.ensures.1 in
+pub returns-in_err-write_ending : goal.returns-in_err-write_ending
+returns-in_err-write_ending g c =
+    let p = err_from_is_err_and c.from_residual-in_err-write_ending.result c.from_residual-in_err-write_ending.ensures.1 in
     let none : c.lines.rest.now ≡ [] = nil_from_length c.lines.rest.now (grind (arith, nat_tests, c.is_empty.ensures, c.lines-test.false)) in
     rw (p.1, p.2)
-    (table_breaks g.K.Sink.takes g.K.Sink.fails c.args.sim.now.seen c.lines.sim.seen c.lines.number c.args.lack.now c.lines.behind.now
-    (raw_lines c.args.script.now) (raw_lines c.lines.rest.now) c.args.writer.now c.lines.writer c.write_table.new.writer
+    (ending_breaks g.K.Sink.takes g.K.Sink.fails g.T.Teller.telling (g.T.Teller.view c.args.sim.now) (g.T.Teller.view c.lines.sim) c.lines.number c.args.lack.now c.lines.behind.now
+    (raw_lines c.args.script.now) (raw_lines c.lines.rest.now) c.args.writer.now c.lines.writer c.write_ending.new.writer
     c.lines.invariant.text.0 (ap raw_lines none) c.lines.invariant.text.1 c.lines.invariant.text.2
-    c.in_err-write_table.field-0.0 c.in_err-write_table.ensures)
+    c.in_err-write_ending.field-0.0 c.in_err-write_ending.ensures)
 
 pub returns : goal.returns
 returns g c =
     let none : c.lines.rest.now ≡ [] = nil_from_length c.lines.rest.now (grind (arith, nat_tests, c.is_empty.ensures, c.lines-test.false)) in (
       c.lines.invariant.fault
-          ∙ ap (λ (bytes : List ℕ). bad_line c.lines.number (lines_asked c.args.sim.now.seen.cluster (map content (raw_lines bytes)))) none,
-      table_ends g.K.Sink.takes g.K.Sink.fails c.args.sim.now.seen c.lines.sim.seen c.lines.number c.args.lack.now c.lines.behind.now
-          (raw_lines c.args.script.now) (raw_lines c.lines.rest.now) c.args.writer.now c.lines.writer c.write_table.new.writer
+          ∙ ap (λ (bytes : List ℕ). bad_line c.lines.number (lines_asked (g.T.Teller.telling.cluster (g.T.Teller.view c.args.sim.now)) (map content (raw_lines bytes)))) none,
+      ending_ends g.K.Sink.takes g.K.Sink.fails g.T.Teller.telling (g.T.Teller.view c.args.sim.now) (g.T.Teller.view c.lines.sim) c.lines.number c.args.lack.now c.lines.behind.now
+          (raw_lines c.args.script.now) (raw_lines c.lines.rest.now) c.args.writer.now c.lines.writer c.write_ending.new.writer
           c.lines.invariant.text.0 (ap raw_lines none) c.lines.invariant.text.1 c.lines.invariant.text.2
-          c.in_ok-write_table.ensures.0,
-      c.in_ok-write_table.ensures.1,
+          c.in_ok-write_ending.ensures.0,
+      c.in_ok-write_ending.ensures.1,
     )
 
 pub lines-preserved : goal.lines-preserved
@@ -95,21 +94,20 @@ lines-preserved g c =
     let fails = g.K.Sink.fails in
     let rest = c.split_line.result.1.now in
     let line = c.split_line.result.0.now in
-    let asked = line_of c.lines.sim.seen.cluster (content line) in
     let good = sym c.in_ok-is_bad.ensures.bad ∙ c.if-is_bad.false in
     record {
-      text = story_goes_on takes fails c.args.sim.now.seen c.lines.sim.seen c.lines.number c.args.lack.now c.lines.behind.now line
+      text = story_goes_on takes fails g.T.Teller.telling (g.T.Teller.view c.args.sim.now) (g.T.Teller.view c.lines.sim) c.lines.number c.args.lack.now c.lines.behind.now line
           (raw_lines c.args.script.now) (raw_lines c.lines.rest.now) (raw_lines rest)
           c.args.writer.now c.lines.writer c.write_text.new.writer c.lines.invariant.text.0 c.text_to_show-text.result.now
           c.split_line.ensures.line c.lines.invariant.text.1 c.lines.invariant.text.2
           (c.text_to_show-text.ensures ∙ ap (λ t. shown c.split_line.result.0.now (raw_lines c.split_line.result.1.now) t) (c.as_slice.ensures.value ∙ c.in_ok-is_bad.ensures.text))
-          good c.tell_line.new.sim.seen c.in_ok-is_bad.ensures.sim c.lack_behind-behind.result.now c.lack_behind-behind.ensures
+          good (g.T.Teller.view c.tell_line.new.sim) c.in_ok-is_bad.ensures.sim c.lack_behind-behind.result.now c.lack_behind-behind.ensures
           c.in_ok-write_text.ensures.whole;
-      fault = fault_later c.args.sim.now.seen.cluster c.lines.number line (raw_lines c.args.script.now) (raw_lines c.lines.rest.now) (raw_lines rest)
+      fault = fault_later (g.T.Teller.telling.cluster (g.T.Teller.view c.args.sim.now)) c.lines.number line (raw_lines c.args.script.now) (raw_lines c.lines.rest.now) (raw_lines rest)
           c.split_line.ensures.line c.lines.invariant.fault
           (subst (λ (k : ClusterView). is_bad (line_of k (content line)) ≡ false) c.lines.invariant.same good);
       watch = c.in_ok-write_text.ensures.ok;
-      same = ap (λ (v : SimView). v.cluster) c.in_ok-is_bad.ensures.sim ∙ line_keeps_cluster c.lines.sim.seen asked ∙ c.lines.invariant.same;
+      same = c.in_ok-is_bad.ensures.cluster ∙ c.lines.invariant.same;
       utf8 = c.lack_behind-behind.utf8;
       count = omega (arith, c.lines.invariant.count, c.split_line.ensures.shorter);
     }
