@@ -1,0 +1,2 @@
+pub mod LiveVerify
+pub mod Laws
