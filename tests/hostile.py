@@ -30,6 +30,8 @@ def inputs():
     yield "explore", cluster + b"boot a@x\nundo\n" * 40 + b"may crash *\nmay boot *\n"
     yield "explore --json", cluster + b"boot a@x\nundo\n" * 20 + b"may crash *\nmay boot *\n"
     yield "run --rules otp25", cluster + b"boot a@x\ncrash a@x\n" * 40
+    yield "story --rules otp25", cluster + b"boot a@x\ncrash a@x\n" * 20
+    yield "verify --rules otp25", cluster + b"boot a@x\n#= ok\ncrash a@x\n" * 20
     yield "run --interactive", cluster + b"boot a@x\ncrash a@x\n" * 40
     yield "run --interactive --json", cluster + b"boot a@x\ncrash a@x\n" * 20
 

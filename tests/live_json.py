@@ -153,6 +153,8 @@ def of_rows(program: str) -> Iterator[Test]:
     """The rows of these rules."""
     for path in files_below(f"{ROWS}/otp25"):
         row = row_at(path)
+        if row.words[0] != "run":
+            continue
         options = [word for word in row.words[1:] if word not in ("--rules", "otp25", "--echo", "--strict", "--json")]
         yield f"JSON of {path}", wrong_with(program, options, row.input)
 

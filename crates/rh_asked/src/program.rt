@@ -30,8 +30,12 @@ pub enum Program {
     DialogueJson(Pick),
     /// The script is printed again, with what came of each command; behind the cluster file, if it is to be whole.
     Story(Pick, bool),
+    /// The same, with what comes of each command on live nodes, with messages taken in an order.
+    StoryLive(Order, bool),
     /// What came of each command is compared with what the script expects.
     Verify(Pick),
+    /// The same, with what comes of each command on live nodes, with messages taken in an order.
+    VerifyLive(Order),
     /// What is wrong with the input is listed, in a manner.
     Lint(Pick, LintManner),
     /// All states are searched that events reach from a base, in so much room, by so many workers.

@@ -11,7 +11,7 @@ use Rattle.rh_rules.specs.declared.pick.Pick.TheVariants.{First, Last}
 use Rattle.rh_otp_net.specs.declared.order.Order.{Order}
 use Rattle.rh_otp_net.specs.declared.order.Order.TheVariants.{FirstComes, LastComes, Drawn}
 use Rattle.rh_asked.specs.declared.program.Program.{Program}
-use Rattle.rh_asked.specs.declared.program.Program.TheVariants.{Check, CheckJson, Run, RunLive, RunLiveJson, RunIn, RunJson, Dialogue, DialogueJson, Story, Verify, Lint, Explore, ExploreJson, Sessions, Sweep, SweepJson}
+use Rattle.rh_asked.specs.declared.program.Program.TheVariants.{Check, CheckJson, Run, RunLive, RunLiveJson, RunIn, RunJson, Dialogue, DialogueJson, Story, StoryLive, Verify, VerifyLive, Lint, Explore, ExploreJson, Sessions, Sweep, SweepJson}
 use Rattle.rh_command_line.specs.CommandLine.{AreNames, line}
 use Rattle.rh_command_line.specs.declared.building.Names.{Names}
 use Rattle.rh_command_line.specs.Table.{subcommand_named}
@@ -68,7 +68,7 @@ rules_row : (asks (codes "run" ∷ codes "--rules" ∷ codes "otp25" ∷ []) ≡
     × (asks (codes "run" ∷ codes "--rules=otp25" ∷ codes "--pick=first" ∷ []) ≡ Some (plain_live FirstComes))
     × (asks (codes "run" ∷ codes "--rules=otp25" ∷ codes "--pick=last" ∷ []) ≡ Some (plain_live LastComes))
     × (faults (codes "run" ∷ codes "--rules=otp26" ∷ []) ≡ kind.InvalidValue ∷ [])
-    × (faults (codes "story" ∷ codes "--rules=otp25" ∷ []) ≡ kind.UnknownArgument ∷ [])
+    × (faults (codes "explore" ∷ codes "--rules=otp25" ∷ []) ≡ kind.UnknownArgument ∷ [])
 unfolding clap_on_literals subcommand_named
 rules_row = (refl, refl, refl, refl, refl, refl, refl)
 
@@ -90,9 +90,10 @@ number_row : (asks (codes "run" ∷ codes "--rules=otp25" ∷ codes "--pick=7" �
     × (asks (codes "run" ∷ codes "--rules=otp25" ∷ codes "--pick=middle" ∷ []) ≡ None)
     × (asks (codes "run" ∷ codes "--pick=7" ∷ []) ≡ None)
     × (asks (codes "run" ∷ codes "--pick=middle" ∷ []) ≡ None)
-    × (faults (codes "story" ∷ codes "--pick=7" ∷ []) ≡ kind.InvalidValue ∷ [])
+    × (asks (codes "story" ∷ codes "--pick=7" ∷ []) ≡ None)
+    × (faults (codes "sessions" ∷ codes "--pick=7" ∷ []) ≡ kind.InvalidValue ∷ [])
 unfolding clap_on_literals subcommand_named
-number_row = (refl, refl, refl, refl, refl, refl, refl, refl, refl)
+number_row = (refl, refl, refl, refl, refl, refl, refl, refl, refl, refl)
 
 -- each word beside the choice, and both; a word that stands twice, and one that is given a value
 flags_row : (asks (codes "run" ∷ codes "--echo" ∷ []) ≡ Some (RunIn First (record { echo = true; strict = false })))
@@ -130,6 +131,15 @@ story_row : (asks (codes "story" ∷ []) ≡ Some (Story First false))
     × (faults (codes "verify" ∷ codes "--whole" ∷ []) ≡ kind.UnknownArgument ∷ [])
 unfolding clap_on_literals subcommand_named
 story_row = (refl, refl, refl, refl)
+
+-- by the rules of live nodes, in an order of messages
+live_story_row : (asks (codes "story" ∷ codes "--rules=otp25" ∷ []) ≡ Some (StoryLive FirstComes false))
+    × (asks (codes "story" ∷ codes "--whole" ∷ codes "--rules=otp25" ∷ codes "--pick=last" ∷ []) ≡ Some (StoryLive LastComes true))
+    × (asks (codes "verify" ∷ codes "--pick" ∷ codes "7" ∷ codes "--rules" ∷ codes "otp25" ∷ []) ≡ Some (VerifyLive (Drawn 7)))
+    × (faults (codes "verify" ∷ codes "--pick" ∷ codes "7" ∷ codes "--rules" ∷ codes "otp25" ∷ []) ≡ [])
+    × (asks (codes "verify" ∷ codes "--pick=7" ∷ []) ≡ None)
+unfolding clap_on_literals subcommand_named
+live_story_row = (refl, refl, refl, refl, refl)
 
 -- what is listed: also behind a step that hangs, whether hints count, and as JSON
 lint_row : (asks (codes "lint" ∷ []) ≡ Some (Lint First (record { all = false; strict = false; json = false })))
@@ -190,12 +200,13 @@ unfolding clap_on_literals subcommand_named
 explore_json_row = (refl, refl, refl)
 
 -- another choice, an option that a subcommand hasn't, one that stands twice
-options_row : (faults (codes "sweep" ∷ codes "--pick" ∷ codes "middle" ∷ []) ≡ kind.InvalidValue ∷ [])
+options_row : (faults (codes "sessions" ∷ codes "--pick" ∷ codes "middle" ∷ []) ≡ kind.InvalidValue ∷ [])
+    × (faults (codes "sweep" ∷ codes "--rules=otp25" ∷ []) ≡ kind.UnknownArgument ∷ [])
     × (faults (codes "check" ∷ codes "--pick" ∷ codes "last" ∷ []) ≡ kind.UnknownArgument ∷ [])
     × (faults (codes "run" ∷ codes "--workers" ∷ codes "4" ∷ []) ≡ kind.UnknownArgument ∷ [])
     × (faults (codes "run" ∷ codes "--pick=last" ∷ codes "--pick=last" ∷ []) ≡ kind.ArgumentConflict ∷ [])
 unfolding clap_on_literals subcommand_named
-options_row = (refl, refl, refl, refl)
+options_row = (refl, refl, refl, refl, refl)
 
 -- no subcommand, an unknown one, and what asks for help or the version
 other_row : (faults [] ≡ kind.MissingSubcommand ∷ []) × (asks [] ≡ None)

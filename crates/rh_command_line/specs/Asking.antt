@@ -25,6 +25,8 @@ use Rattle.rh_asked.specs.Programs.{IsStaffed}
 use Rattle.rh_command_line.specs.Table.{flag_word, subcommand_named}
 use Rattle.rh_command_line.specs.CommandLine.{AreNames, line}
 use Rattle.rh_command_line.specs.declared.building.Names.{Names}
+use Rattle.rh_command_line.specs.declared.rules.Rules.{Rules}
+use Rattle.rh_command_line.specs.declared.rules.Rules.TheVariants as rules
 use Rattle.rh_command_line.specs.declared.table.TheConstants.{MOST_MEBIBYTES, MOST_NUMBER, MOST_STATES}
 use Rattle.rh_command_line.specs.declared.table.Flag.{Flag}
 use Rattle.rh_command_line.specs.declared.table.Flag.TheVariants.{Echo, Strict, Json, Whole, Hints, All, Interactive}
@@ -146,21 +148,31 @@ abbrev pub live_as : Order → Manner → Bool → Option Program
 live_as order m json =
     if json then (if m.echo || m.strict then None else Some (program.RunLiveJson order)) else Some (program.RunLive order m)
 
--- where there is such an order; it answers all at once
-abbrev pub live_run : Option Order → Bool → Bool → Bool → Bool → Option Program
-live_run None echo strict json interactive = None
-live_run (Some order) echo strict json interactive = if interactive then None else live_as order (record { echo = echo; strict = strict }) json
+-- it answers all at once
+abbrev pub live_run : Order → Bool → Bool → Bool → Bool → Option Program
+live_run order echo strict json interactive = if interactive then None else live_as order (record { echo = echo; strict = strict }) json
 
--- a run by the manual's rules, where this choice is named
-abbrev pub manual_run : Option Pick → Bool → Bool → Bool → Bool → Option Program
-manual_run None echo strict json interactive = None
-manual_run (Some pick) echo strict json interactive = run_as pick echo strict json interactive
+-- the rules that are named, with what they leave open: the choice at a tie of the manual's, the order of messages of live nodes
+abbrev pub rules_in : List Row → Option Rules
+rules_in rows =
+    if is_live_in rows then option_map rules.Live (order_in rows) else option_map rules.Manual (pick_named (first_of (codes "pick") rows))
 
--- a run by the rules that are named
+-- a run by these rules, with what the matches say besides
+abbrev pub run_by : List Row → Rules → Option Program
+run_by rows (rules.Manual pick) = run_as pick (flag_in Echo rows) (flag_in Strict rows) (flag_in Json rows) (flag_in Interactive rows)
+run_by rows (rules.Live order) = live_run order (flag_in Echo rows) (flag_in Strict rows) (flag_in Json rows) (flag_in Interactive rows)
+
 abbrev pub run_in : List Row → Option Program
-run_in rows =
-    if is_live_in rows then live_run (order_in rows) (flag_in Echo rows) (flag_in Strict rows) (flag_in Json rows) (flag_in Interactive rows)
-    else manual_run (pick_named (first_of (codes "pick") rows)) (flag_in Echo rows) (flag_in Strict rows) (flag_in Json rows) (flag_in Interactive rows)
+run_in rows = option_and_then (run_by rows) (rules_in rows)
+
+-- a story, whole or not, and a verification
+abbrev pub story_of : Rules → Bool → Program
+story_of (rules.Manual pick) whole = program.Story pick whole
+story_of (rules.Live order) whole = program.StoryLive order whole
+
+abbrev pub verify_of : Rules → Program
+verify_of (rules.Manual pick) = program.Verify pick
+verify_of (rules.Live order) = program.VerifyLive order
 
 -- a list of what is wrong, in this manner
 abbrev pub lint_of : Pick → Bool → Bool → Bool → Program
@@ -183,9 +195,9 @@ explore_with pick json (Some room) workers = option_map (explore_of pick json ro
 abbrev pub program_of : Subcommand → List Row → Option Program
 program_of Check rows = Some (if flag_in Json rows then program.CheckJson else program.Check)
 program_of Run rows = run_in rows
-program_of Story rows = Some (program.Story (pick_in rows) (flag_in Whole rows))
+program_of Story rows = option_map (λ rules. story_of rules (flag_in Whole rows)) (rules_in rows)
 program_of Lint rows = Some (lint_of (pick_in rows) (flag_in All rows) (flag_in Hints rows) (flag_in Json rows))
-program_of Verify rows = Some (program.Verify (pick_in rows))
+program_of Verify rows = option_map verify_of (rules_in rows)
 program_of Sessions rows = Some (program.Sessions (pick_in rows))
 program_of Sweep rows = option_map (sweep_of (pick_in rows) (flag_in Json rows)) (workers_in rows)
 program_of Explore rows = explore_with (pick_in rows) (flag_in Json rows) (room_in rows) (workers_in rows)
@@ -200,25 +212,42 @@ program_among = option_and_then (λ p. program_in p.0 p.1)
 
 -- ---- why words that the parser finds no fault in name no program, in words
 
--- a run on live nodes, of this order, if there is such an order
-abbrev pub why_no_live_run : Option Order → Bool → Text
-why_no_live_run None interactive = codes "with --rules otp25, --pick takes first, last or a number from 1 to 2147483646"
-why_no_live_run (Some order) interactive =
+-- where no rules are named with what they leave open: `--pick` has a word that means nothing there
+abbrev pub why_no_rules : List Row → Text
+why_no_rules rows =
+    if is_live_in rows then codes "with --rules otp25, --pick takes first, last or a number from 1 to 2147483646"
+    else codes "--pick takes first or last, and a number only with --rules otp25"
+
+-- a run by these rules, in such a manner
+abbrev pub why_no_live_manner : Bool → Text
+why_no_live_manner interactive =
     if interactive then codes "--rules otp25 doesn't go with --interactive" else codes "--json goes with neither --echo nor --strict"
 
--- a run by the manual's rules, of this choice, if there is such a choice
-abbrev pub why_no_manual_run : Option Pick → Text
-why_no_manual_run None = codes "--pick takes first or last, and a number only with --rules otp25"
-why_no_manual_run (Some pick) = codes "--json and --interactive go with neither --echo nor --strict"
+abbrev pub why_no_manner : Rules → Bool → Text
+why_no_manner (rules.Manual pick) interactive = codes "--json and --interactive go with neither --echo nor --strict"
+why_no_manner (rules.Live order) interactive = why_no_live_manner interactive
+
+-- a run that names no rules so, or names these
+abbrev pub why_no_run_by : List Row → Option Rules → Text
+why_no_run_by rows None = why_no_rules rows
+why_no_run_by rows (Some rules) = why_no_manner rules (flag_in Interactive rows)
 
 abbrev pub why_no_run : List Row → Text
-why_no_run rows =
-    if is_live_in rows then why_no_live_run (order_in rows) (flag_in Interactive rows)
-    else why_no_manual_run (pick_named (first_of (codes "pick") rows))
+why_no_run rows = why_no_run_by rows (rules_in rows)
 
--- only of a run there is more to say
+-- only of subcommands that take rules there is more to say
+abbrev pub why_no_program : Subcommand → List Row → Text
+why_no_program Run rows = why_no_run rows
+why_no_program Story rows = why_no_rules rows
+why_no_program Verify rows = why_no_rules rows
+why_no_program s rows = codes "no program has this name and these options"
+
+abbrev pub why_without : Option Subcommand → List Row → Text
+why_without None rows = codes "no program has this name and these options"
+why_without (Some s) rows = why_no_program s rows
+
 abbrev pub why_not : Text → List Row → Text
-why_not word rows = if bytes_eq word (codes "run") then why_no_run rows else codes "no program has this name and these options"
+why_not word rows = why_without (subcommand_named word) rows
 
 abbrev pub why_none : Option (Text × List Row) → Text
 why_none None = codes "no program has this name and these options"

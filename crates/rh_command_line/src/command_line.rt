@@ -7,7 +7,8 @@ ghost use Rattle.rh_command_line.specs.Asking.{AsksFor, IsAsked, IsAskedBy, IsNo
 ghost use Rattle.rh_command_line.specs.CommandLine.{AreNames};
 
 use crate::building::{Names, whole_command};
-use crate::reading::{program_among, why_none};
+use crate::reading::program_among;
+use crate::reasons::why_none;
 use clap::Error;
 use clap::error::ErrorKind;
 use rh_asked::Program;

@@ -204,10 +204,18 @@ At the first line that is no command the answers end with `#= bad line K`, and
 the rest stands as it was, without a table. K counts lines from 1 behind
 `===`, with blank lines and comments. docs/SCRIPTS.md explains each line.
 
+With `--rules otp25` the answers are those of live nodes of OTP 25, as `rehearse
+run --rules otp25` tells them, in the order of messages that `--pick` says. No
+times are told and no table; and behind a command stands what hangs since then:
+
+  #- N blocked ..  for what a process of node N waits that doesn't come by
+                   itself, as the report tells it
+
 Examples:
 
   ./rehearse story < examples/repaired-node.txt
-  ./rehearse story --whole < examples/failover-and-takeover.txt";
+  ./rehearse story --whole < examples/failover-and-takeover.txt
+  ./rehearse story --rules otp25 < examples/repaired-node.txt";
 
 pub static VERIFY_ABOUT: &str = "Answers a script, and compares what comes with what it expects";
 
@@ -232,6 +240,10 @@ The last line is `ok K of N commands checked`, where K commands had an
 expectation, or `differs J of K`, with status 9. An expectation before the
 first command differs by itself. A line that is no command ends it as `run`
 does, with `bad line K` and status 3.
+
+With `--rules otp25` answers and reports are those of live nodes of OTP 25, as
+`rehearse run --rules otp25` tells them, in the order of messages that `--pick`
+says.
 
 Example:
 

@@ -7,6 +7,8 @@ mod building;
 mod command_line;
 mod help;
 mod reading;
+mod reasons;
+mod rules;
 mod table;
 
 pub use command_line::{Asked, Words, asked_of};

@@ -7,8 +7,9 @@ ghost use Rattle.rh_rules.specs.declared.pick.Pick.TheVariants as pick;
 ghost use Rattle.rh_plans.specs.Workers.{AreWorkers};
 ghost use Rattle.rh_asked.specs.Programs.{IsStaffed};
 ghost use Rattle.rh_asked.specs.declared.program.Program.TheVariants as program;
-ghost use Rattle.rh_command_line.specs.Asking.{allowed, allowed_memory, allowed_number, allowed_states, answering, explore_of, flag_in, is_given, is_live, is_live_in, lint_of, live_as, live_run, manual_run, memory_in, number_in, order_in, order_of, pick_in, pick_named, program_among, program_in, program_of, room_in, run_as, run_in, run_of, states_in, sweep_of, why_no_live_run, why_no_manual_run, why_no_run, why_none, why_not, workers_in};
+ghost use Rattle.rh_command_line.specs.Asking.{allowed, allowed_memory, allowed_number, allowed_states, answering, explore_of, flag_in, is_given, is_live, is_live_in, lint_of, live_as, live_run, memory_in, number_in, order_in, order_of, pick_in, pick_named, program_among, program_in, program_of, room_in, rules_in, run_as, run_in, run_of, states_in, story_of, sweep_of, verify_of, workers_in};
 
+use crate::rules::Rules;
 use crate::table::{Flag, MOST_MEBIBYTES, MOST_NUMBER, MOST_STATES, Subcommand, subcommand_named};
 use clap::ArgMatches;
 use rh_asked::{LintManner, Manner, Program, SearchRoom};
@@ -23,62 +24,6 @@ pub fn program_among(matches: &ArgMatches<'_>) -> Option<Program>
 {
     let (name, matches) = matches.subcommand()?;
     program_in(name, matches)
-}
-
-/// Why matches of the whole command line that name no program don't, in words.
-pub fn why_none<'a>(matches: &ArgMatches<'_>) -> &'a str
-    ensures { result.now ≡ why_none (subcommand_rows_of matches.now) }
-{
-    match matches.subcommand() {
-        Some((name, matches)) => why_not(name, matches),
-        None => "no program has this name and these options",
-    }
-}
-
-// Why the subcommand with this word is no program with these matches.
-fn why_not<'a>(word: &str, matches: &ArgMatches<'_>) -> &'a str
-    ensures { result.now ≡ why_not word.now (rows_of (found_of matches.now)) }
-{
-    if word == "run" {
-        why_no_run(matches)
-    } else {
-        "no program has this name and these options"
-    }
-}
-
-// Why there is no such run.
-fn why_no_run<'a>(matches: &ArgMatches<'_>) -> &'a str
-    ensures { result.now ≡ why_no_run (rows_of (found_of matches.now)) }
-{
-    if is_live_in(matches) {
-        why_no_live_run(order_in(matches), flag_in(matches, Flag::Interactive))
-    } else {
-        why_no_manual_run(named_in(matches))
-    }
-}
-
-// Why there is no such run on live nodes, with messages in this order, if there is such an order.
-fn why_no_live_run<'a>(order: Option<Order>, interactive: bool) -> &'a str
-    ensures { result.now ≡ why_no_live_run order interactive }
-{
-    if order.is_none() {
-        "with --rules otp25, --pick takes first, last or a number from 1 to 2147483646"
-    } else if interactive {
-        "--rules otp25 doesn't go with --interactive"
-    } else {
-        "--json goes with neither --echo nor --strict"
-    }
-}
-
-// Why there is no such run by the manual's rules, with this choice, if there is such a choice.
-fn why_no_manual_run<'a>(pick: Option<Pick>) -> &'a str
-    ensures { result.now ≡ why_no_manual_run pick }
-{
-    if pick.is_none() {
-        "--pick takes first or last, and a number only with --rules otp25"
-    } else {
-        "--json and --interactive go with neither --echo nor --strict"
-    }
 }
 
 // The program of the subcommand with this word and these matches.
@@ -98,14 +43,14 @@ fn program_of(subcommand: Subcommand, matches: &ArgMatches<'_>) -> Option<Progra
     match subcommand {
         Subcommand::Check => Some(check_of(flag_in(matches, Flag::Json))),
         Subcommand::Run => run_in(matches),
-        Subcommand::Story => Some(Program::Story(pick_in(matches), flag_in(matches, Flag::Whole))),
+        Subcommand::Story => Some(story_of(rules_in(matches)?, flag_in(matches, Flag::Whole))),
         Subcommand::Lint => Some(lint_of(
             pick_in(matches),
             flag_in(matches, Flag::All),
             flag_in(matches, Flag::Hints),
             flag_in(matches, Flag::Json),
         )),
-        Subcommand::Verify => Some(Program::Verify(pick_in(matches))),
+        Subcommand::Verify => Some(verify_of(rules_in(matches)?)),
         Subcommand::Sessions => Some(Program::Sessions(pick_in(matches))),
         Subcommand::Sweep => Some(sweep_of(
             pick_in(matches),
@@ -138,20 +83,20 @@ fn run_in(matches: &ArgMatches<'_>) -> Option<Program>
     ensures named { result ≡ run_in (rows_of (found_of matches.now)) }
     ensures staffed { IfSome result IsStaffed }
 {
+    let rules = rules_in(matches)?;
     let echo = flag_in(matches, Flag::Echo);
     let strict = flag_in(matches, Flag::Strict);
     let json = flag_in(matches, Flag::Json);
     let interactive = flag_in(matches, Flag::Interactive);
-    if is_live_in(matches) {
-        live_run(order_in(matches), echo, strict, json, interactive)
-    } else {
-        manual_run(named_in(matches), echo, strict, json, interactive)
+    match rules {
+        Rules::Manual(pick) => run_as(pick, echo, strict, json, interactive),
+        Rules::Live(order) => live_run(order, echo, strict, json, interactive),
     }
 }
 
-// A run on live nodes, if the order of messages is known: it answers all at once.
+// A run on live nodes: it answers all at once.
 fn live_run(
-    order: Option<Order>,
+    order: Order,
     echo: bool,
     strict: bool,
     json: bool,
@@ -160,7 +105,6 @@ fn live_run(
     ensures named { result ≡ live_run order echo strict json interactive }
     ensures staffed { IfSome result IsStaffed }
 {
-    let order = order?;
     if interactive {
         None
     } else {
@@ -180,20 +124,6 @@ fn live_as(order: Order, manner: Manner, json: bool) -> Option<Program>
     } else {
         Some(Program::RunLiveJson(order))
     }
-}
-
-// A run by the manual's rules, if the choice is known.
-fn manual_run(
-    pick: Option<Pick>,
-    echo: bool,
-    strict: bool,
-    json: bool,
-    interactive: bool,
-) -> Option<Program>
-    ensures named { result ≡ manual_run pick echo strict json interactive }
-    ensures staffed { IfSome result IsStaffed }
-{
-    run_as(pick?, echo, strict, json, interactive)
 }
 
 // A run, by JSON or not, line by line or not: only the one that is neither has another manner.
@@ -244,6 +174,28 @@ fn lint_of(pick: Pick, all: bool, strict: bool, json: bool) -> Program
     Program::Lint(pick, LintManner { all, strict, json })
 }
 
+// A story by these rules, whole or not.
+fn story_of(rules: Rules, whole: bool) -> Program
+    ensures named { result ≡ story_of rules whole }
+    ensures staffed { IsStaffed result }
+{
+    match rules {
+        Rules::Manual(pick) => Program::Story(pick, whole),
+        Rules::Live(order) => Program::StoryLive(order, whole),
+    }
+}
+
+// A verification by these rules.
+fn verify_of(rules: Rules) -> Program
+    ensures named { result ≡ verify_of rules }
+    ensures staffed { IsStaffed result }
+{
+    match rules {
+        Rules::Manual(pick) => Program::Verify(pick),
+        Rules::Live(order) => Program::VerifyLive(order),
+    }
+}
+
 // A sweep by so many workers, by JSON or not.
 fn sweep_of(pick: Pick, json: bool, workers: usize) -> Program
     requires { AreWorkers workers }
@@ -270,8 +222,8 @@ fn explore_of(pick: Pick, json: bool, room: SearchRoom, workers: usize) -> Progr
     }
 }
 
-// Whether a word without a value was given.
-fn flag_in(matches: &ArgMatches<'_>, flag: Flag) -> bool
+/// Whether a word without a value was given.
+pub fn flag_in(matches: &ArgMatches<'_>, flag: Flag) -> bool
     ensures { result ≡ flag_in flag (rows_of (found_of matches.now)) }
 {
     is_given(matches.get_str(flag.word()))
@@ -287,8 +239,8 @@ fn is_given(text: Option<&str>) -> bool
     }
 }
 
-// Whether the rules are those of live nodes.
-fn is_live_in(matches: &ArgMatches<'_>) -> bool
+/// Whether the rules are those of live nodes.
+pub fn is_live_in(matches: &ArgMatches<'_>) -> bool
     ensures { result ≡ is_live_in (rows_of (found_of matches.now)) }
 {
     is_live(matches.get_str("rules"))
@@ -385,6 +337,17 @@ fn order_in(matches: &ArgMatches<'_>) -> Option<Order>
     ensures { result ≡ order_in (rows_of (found_of matches.now)) }
 {
     order_of(named_in(matches), number_in(matches))
+}
+
+/// The rules that are named, with what they leave open, if that is named so that it means something.
+pub fn rules_in(matches: &ArgMatches<'_>) -> Option<Rules>
+    ensures { result ≡ rules_in (rows_of (found_of matches.now)) }
+{
+    if is_live_in(matches) {
+        Some(Rules::Live(order_in(matches)?))
+    } else {
+        Some(Rules::Manual(named_in(matches)?))
+    }
 }
 
 // The number of workers, if there may be so many.

@@ -91,7 +91,13 @@ static JSON: [Setting; 1] = [Setting::Flag(Flag::Json)];
 
 static PICK: [Setting; 1] = [Setting::Pick];
 
-static PICK_WHOLE: [Setting; 2] = [Setting::Pick, Setting::Flag(Flag::Whole)];
+static PICK_RULES: [Setting; 2] = [Setting::PickOrNumber, Setting::Rules];
+
+static PICK_RULES_WHOLE: [Setting; 3] = [
+    Setting::PickOrNumber,
+    Setting::Rules,
+    Setting::Flag(Flag::Whole),
+];
 
 static PICK_ALL_HINTS_JSON: [Setting; 4] = [
     Setting::Pick,
@@ -181,13 +187,13 @@ impl Subcommand {
             ),
             Subcommand::Story => entry_of(
                 "story",
-                PICK_WHOLE.as_slice(),
+                PICK_RULES_WHOLE.as_slice(),
                 STORY_ABOUT,
                 STORY_AFTER_HELP,
             ),
             Subcommand::Verify => entry_of(
                 "verify",
-                PICK.as_slice(),
+                PICK_RULES.as_slice(),
                 VERIFY_ABOUT,
                 VERIFY_AFTER_HELP,
             ),

@@ -4,7 +4,7 @@ use Rattle.rh_run.specs.declared.fault.RunFault.{RunFault}
 use Rattle.rh_run.specs.declared.fault.RunFault.TheVariants as end
 use Rattle.rh_run.specs.declared.fault.Told.{Told}
 use Rattle.rh_asked.specs.declared.program.Program.{Program}
-use Rattle.rh_asked.specs.declared.program.Program.TheVariants.{Check, CheckJson, Run, RunLive, RunLiveJson, RunIn, RunJson, Dialogue, DialogueJson, Story, Verify, Lint, Explore, ExploreJson, Sessions, Sweep, SweepJson}
+use Rattle.rh_asked.specs.declared.program.Program.TheVariants.{Check, CheckJson, Run, RunLive, RunLiveJson, RunIn, RunJson, Dialogue, DialogueJson, Story, StoryLive, Verify, VerifyLive, Lint, Explore, ExploreJson, Sessions, Sweep, SweepJson}
 use Rattle.rh_devices.specs.declared.watched.Watched.{Watched}
 use Rattle.rh_devices.specs.Devices.{Passed}
 use Rattle.rh_run.specs.Programs.{IsInput, ProgramGives, NoThreads}
@@ -22,6 +22,8 @@ use Rattle.rh_json.specs.RunJson.{OwesRunJson}
 use Rattle.rh_manner.specs.MannerText.{OwesRunIn}
 use Rattle.rh_otp_json.specs.LiveJson.{OwesLiveJson}
 use Rattle.rh_otp_run.specs.LiveText.{OwesLiveRun}
+use Rattle.rh_otp_story.specs.LiveStory.{OwesLiveStory}
+use Rattle.rh_otp_verify.specs.LiveVerify.{OwesLiveVerify}
 use Rattle.rh_story.specs.StoryText.{OwesStory}
 use Rattle.rh_json.specs.SweepJson.{OwesSweepJson}
 use Rattle.rh_verify.specs.VerifyText.{OwesVerify}
@@ -39,7 +41,9 @@ Owes (RunJson pick) = OwesRunJson pick
 Owes (Dialogue pick) = OwesRun pick
 Owes (DialogueJson pick) = OwesRunJson pick
 Owes (Story pick whole) = OwesStory pick whole
+Owes (StoryLive order whole) = OwesLiveStory order whole
 Owes (Verify pick) = OwesVerify pick
+Owes (VerifyLive order) = OwesLiveVerify order
 Owes (Lint pick manner) = OwesLint manner pick
 Owes (Explore pick room workers) = OwesExplore pick room
 Owes (ExploreJson pick room workers) = OwesExploreJson pick room

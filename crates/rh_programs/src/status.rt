@@ -16,6 +16,8 @@ use rh_lint::run_lint;
 use rh_manner::{Form, Voice, run_dialogue, run_in};
 use rh_otp_json::live_json;
 use rh_otp_run::run_live;
+use rh_otp_story::run_live_story;
+use rh_otp_verify::run_live_verify;
 use rh_run::{RunFault, run, run_check};
 use rh_story::run_story;
 use rh_verify::run_verify;
@@ -131,7 +133,9 @@ fn ended_alone<S: Source, K: Sink, W: Watch>(
             run_json(alloc, reader, writer, pick)
         }
         Program::Story(pick, whole) => run_story(alloc, reader, writer, pick, whole),
+        Program::StoryLive(order, whole) => { run_live_story(alloc, reader, writer, order, whole) }
         Program::Verify(pick) => run_verify(alloc, reader, writer, pick),
+        Program::VerifyLive(order) => run_live_verify(alloc, reader, writer, order),
         Program::Lint(pick, manner) => run_lint(alloc, reader, writer, pick, manner),
         Program::Explore(pick, room, _) => {
             run_explore(&Alone, watch, alloc, reader, writer, pick, room)
