@@ -124,9 +124,9 @@ pub(crate) fn push_error_in(
     }
 }
 
-// Adds the fields of the answer to a call: its words, and the error alone, where it is one.
+/// Adds the fields of the answer to a call: its words, and the error alone, where it is one.
 #[tactic(auto, unfolding(crate::specs::Calls::verdict_json))]
-pub(crate) fn push_verdict(
+pub fn push_verdict(
     alloc: Global,
     out: &mut Vec<u8>,
     cluster: &Cluster,

@@ -55,9 +55,13 @@ fn push_blocked(out: &mut Vec<u8>, cluster: &Cluster, block: Block) -> Result<()
     push_text(out, "}")
 }
 
-// Adds a dist_ac, if it is blocked.
+/// Adds the field of a dist_ac, if it is blocked.
 #[tactic(auto, unfolding(crate::specs::Nodes::block_json))]
-fn push_block(out: &mut Vec<u8>, cluster: &Cluster, block: Option<Block>) -> Result<(), OutOfMemory>
+pub fn push_block(
+    out: &mut Vec<u8>,
+    cluster: &Cluster,
+    block: Option<Block>,
+) -> Result<(), OutOfMemory>
     ensures { OnOk result (out.new.items ≡ out.old.items ++ block_json cluster.now block) }
 {
     match block {
@@ -66,9 +70,9 @@ fn push_block(out: &mut Vec<u8>, cluster: &Cluster, block: Option<Block>) -> Res
     }
 }
 
-// Adds a boot script, if it waits.
+/// Adds the field of a boot script, if it waits.
 #[tactic(auto, unfolding(crate::specs::Nodes::boot_json))]
-fn push_boot(out: &mut Vec<u8>, cluster: &Cluster, boot: Option<App>) -> Result<(), OutOfMemory>
+pub fn push_boot(out: &mut Vec<u8>, cluster: &Cluster, boot: Option<App>) -> Result<(), OutOfMemory>
     ensures { OnOk result (out.new.items ≡ out.old.items ++ boot_json cluster.now boot) }
 {
     match boot {

@@ -151,16 +151,24 @@ fn push_nodes_at(
     push_all_nodes(alloc, out, cluster, nodes)
 }
 
-// Adds the distributed applications.
-fn push_apps_at(out: &mut Vec<u8>, cluster: &Cluster, apps: &[AppReport]) -> Result<(), OutOfMemory>
+/// Adds the field of the distributed applications.
+pub fn push_apps_at(
+    out: &mut Vec<u8>,
+    cluster: &Cluster,
+    apps: &[AppReport],
+) -> Result<(), OutOfMemory>
     ensures { OnOk result (out.new.items ≡ out.old.items ++ apps_list cluster.now apps.now) }
 {
     push_text(out, ",\"applications\":")?;
     push_all_apps(out, cluster, apps)
 }
 
-// Adds the calls that haven't returned.
-fn push_open_at(out: &mut Vec<u8>, cluster: &Cluster, calls: &[OpenCall]) -> Result<(), OutOfMemory>
+/// Adds the field of the calls that haven't returned.
+pub fn push_open_at(
+    out: &mut Vec<u8>,
+    cluster: &Cluster,
+    calls: &[OpenCall],
+) -> Result<(), OutOfMemory>
     ensures { OnOk result (out.new.items ≡ out.old.items ++ open_list cluster.now calls.now) }
 {
     push_text(out, ",\"open\":")?;

@@ -52,6 +52,10 @@ opened cluster files order = record {
   };
 }
 
+-- the simulation without its past: its cells are those with which it began, and no step is done
+abbrev pub without_past : LiveSimView → LiveSimView
+without_past sim = record sim { history = record { now = sim.history.now; states = sim.history.now ∷ []; cursor = 0 } }
+
 -- a node, if there is one of this number
 abbrev pub live_in : LiveSimView → Node → Option LiveView
 live_in sim n = option_and_then system.live_in (slice_get sim.history.now n.0)

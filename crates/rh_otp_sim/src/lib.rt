@@ -5,6 +5,7 @@
 //! (`rh_history`), lets the system settle (`rh_otp_system`), writes what was touched as one step, and tells what has happened
 //! ([`Happened`]). A step that is refused, or has no end, changes nothing. Undo and redo are those of `rh_history`: after any calls they
 //! are each other's reverse ([`live_calls_are_reversible`]). [`LiveSim::answer`] does what a call of a script asks.
+//! [`LiveSim::without_past`] is a copy for who tries something else from the same state.
 #![tactic(auto)]
 
 mod acting;

@@ -4,9 +4,9 @@ ghost use Rattle.std.specs.Prelude.{◌≡◌, ◌∷◌, ◌++◌, ◌<◌, ◌
 ghost use Rattle.std.specs.Option.{option_map};
 ghost use Rattle.rh_model.specs.ClusterView.{node_count};
 ghost use Rattle.rh_history.specs.HistoryView.{at_step};
-ghost use Rattle.rh_otp_sim.specs.Sim.{first_cells, opened, live_in, net_in, can_undo, can_redo, at_step_of};
+ghost use Rattle.rh_otp_sim.specs.Sim.{first_cells, opened, without_past, live_in, net_in, can_undo, can_redo, at_step_of};
 
-use rh_base::{Duplicate, OutOfMemory};
+use rh_base::{Duplicate, OutOfMemory, copies_of};
 use rh_history::History;
 use rh_model::{Cluster, Node};
 use rh_otp_model::OwnFile;
@@ -15,12 +15,14 @@ use rh_otp_node::LiveNode;
 use rh_otp_system::{Cell, Net};
 use std::alloc::Global;
 use std::marker::Model;
+use std::sync::Arc;
 
 /// A simulation of live nodes.
 #[derive(Drop)]
 pub struct LiveSim {
     pub(crate) cluster: Cluster,
-    pub(crate) files: Vec<OwnFile>,
+    // A simulation shares them with those that were made of it.
+    pub(crate) files: Arc<Vec<OwnFile>>,
     // In which order messages are taken at each command.
     pub(crate) order: Order,
     // A cell for each node, and the last one for what is between them.
@@ -36,7 +38,7 @@ impl Model for LiveSim {
 
     ghost view = { λ s. record {
       cluster = s.cluster;
-      files = s.files.items;
+      files = s.files.value.items;
       order = s.order;
       history = s.history;
     } };
@@ -71,8 +73,22 @@ impl LiveSim {
         let cells = first_cells(alloc, cluster.node_count())?;
         Ok(LiveSim {
             cluster,
-            files,
+            files: Arc::new(alloc, files)?,
             order,
+            history: History::new(alloc, cells),
+        })
+    }
+
+    /// The simulation without its past, in memory of its own: its cells are those with which it began, and no step is done. What the
+    /// nodes' own files say lies in memory once.
+    pub fn without_past(&self, alloc: Global) -> Result<LiveSim, OutOfMemory>
+        ensures { IfOk result (λ sim. sim ≡ without_past self.now) }
+    {
+        let cells = copies_of(alloc, self.history.cells())?;
+        Ok(LiveSim {
+            cluster: self.cluster.copy(alloc)?,
+            files: Arc::try_clone(&self.files)?,
+            order: self.order,
             history: History::new(alloc, cells),
         })
     }

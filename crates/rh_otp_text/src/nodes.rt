@@ -149,8 +149,8 @@ fn push_starting(text: &mut String, cluster: &Cluster, apps: &[App]) -> Result<(
     Ok(())
 }
 
-// Adds for what a dist_ac waits.
-fn push_block(text: &mut String, cluster: &Cluster, block: Block) -> Result<(), OutOfMemory>
+/// Adds for what a dist_ac waits.
+pub fn push_block(text: &mut String, cluster: &Cluster, block: Block) -> Result<(), OutOfMemory>
     ensures { OnOk result
         (string_bytes text.new ≡ string_bytes text.old ++ block_words cluster.now block) }
 {

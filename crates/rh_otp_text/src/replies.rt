@@ -15,8 +15,8 @@ use rh_otp_report::report_of;
 use rh_otp_sim::{Answer, Happened, Line, LiveReply, LiveSim, Outcome};
 use std::alloc::Global;
 
-// Adds the line of the answer to a command.
-fn push_answer(text: &mut String, cluster: &Cluster, answer: Answer) -> Result<(), OutOfMemory>
+/// Adds the line of the answer to a command.
+pub fn push_answer(text: &mut String, cluster: &Cluster, answer: Answer) -> Result<(), OutOfMemory>
     ensures { OnOk result
         (string_bytes text.new ≡ string_bytes text.old ++ answer_line cluster.now answer) }
 {

@@ -73,8 +73,12 @@ fn push_app_line(text: &mut String, cluster: &Cluster, app: &AppReport) -> Resul
     Ok(())
 }
 
-// Adds those of all distributed applications.
-fn push_apps(text: &mut String, cluster: &Cluster, apps: &[AppReport]) -> Result<(), OutOfMemory>
+/// Adds the lines of distributed applications.
+pub fn push_apps(
+    text: &mut String,
+    cluster: &Cluster,
+    apps: &[AppReport],
+) -> Result<(), OutOfMemory>
     ensures { OnOk result (string_bytes text.new
         ≡ string_bytes text.old ++ flat_map (app_line cluster.now) apps.now) }
 {
@@ -95,8 +99,12 @@ fn push_call_line(text: &mut String, cluster: &Cluster, call: OpenCall) -> Resul
     Ok(())
 }
 
-// Adds those of all such calls.
-fn push_calls(text: &mut String, cluster: &Cluster, calls: &[OpenCall]) -> Result<(), OutOfMemory>
+/// Adds the lines of calls that haven't returned.
+pub fn push_calls(
+    text: &mut String,
+    cluster: &Cluster,
+    calls: &[OpenCall],
+) -> Result<(), OutOfMemory>
     ensures { OnOk result (string_bytes text.new
         ≡ string_bytes text.old ++ flat_map (call_line cluster.now) calls.now) }
 {

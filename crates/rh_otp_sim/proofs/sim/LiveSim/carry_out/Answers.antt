@@ -59,7 +59,7 @@ returns-clause-state c =
     ∙ (λ i. cells_behind c.args.net.now (count i) (behind i)) in
     (λ i. record {
       cluster = c.self.inside.cluster;
-      files = c.self.inside.files.items;
+      files = c.self.inside.files.value.items;
       order = c.self.inside.order;
       history = (c.in_ok-make.ensures.ok ∙ (λ j. committed (record c.self.inside.history { now = cells j }))) i;
     })
