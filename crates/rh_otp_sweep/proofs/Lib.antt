@@ -1,0 +1,5 @@
+pub mod Bare
+pub mod Courses
+pub mod Roots
+pub mod Shares
+pub mod Crossing

@@ -1,0 +1,3 @@
+pub mod Outcomes
+pub mod Sweeping
+pub mod Working
