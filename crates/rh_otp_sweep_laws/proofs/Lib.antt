@@ -1,0 +1,3 @@
+mod Bare
+mod Beside
+mod Plans
