@@ -1,0 +1,4 @@
+pub mod OutcomeText
+pub mod LiveSweep
+pub mod OutcomeJson
+pub mod LiveSweepJson
