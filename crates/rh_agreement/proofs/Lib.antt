@@ -1,16 +1,16 @@
 mod Beginning
 mod AtFirst
 mod Reversing
-mod Refusing
-mod Resting
-mod Stepping
+pub mod Refusing
+pub mod Resting
+pub mod Stepping
 mod Quiet
 mod Ending
 mod Crashing
 mod Bounded
 mod CrashAlike
-mod Rest
-mod Peace
+pub mod Rest
+pub mod Peace
 mod Always
 mod Rows
 mod RowsCrashes

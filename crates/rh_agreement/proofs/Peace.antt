@@ -49,7 +49,7 @@ module _ (sim : SimView) (l : LiveSimView) (e : Event) (last : SystemView) (toge
   pub made : made_by (call.Step e) l ≡ then
   made = live_made sim l e together room live_fine ∙ steps
 
-  both_rest : AreBothAtRest (served sim (call.Step e)).sim (made_by (call.Step e) l)
+  pub both_rest : AreBothAtRest (served sim (call.Step e)).sim (made_by (call.Step e) l)
   both_rest =
       subst (AreBothAtRest (served sim (call.Step e)).sim) (sym made)
       (record {

@@ -1,0 +1,5 @@
+mod Ready
+mod Seeing
+mod Waiting
+mod BootAlike
+mod Rows
