@@ -9,7 +9,8 @@ fail, and memory (refused_memory.py), more devices (hostile.py) and each of thei
 profiles (profiles.py), random scripts beside a model (random_scripts.py), searches beside the model (explored.py) and of states whose
 keys would collide (colliding_keys.py), runs whose lines are answered as they come (dialogues.py), what is told as
 JSON (json_lines.py), what lint owes for the examples and for mistaken inputs (linted.py), what it tells of random rehearsals, by a
-second way and beside live nodes (lint_measure.py), rehearsals by the rules of OTP 25 beside their model (live_rules.py), as JSON (live_json.py), their stories (live_stories.py), beside the rules of `run` (agreement.py), in several orders of messages (confluence.py) and beside the laws of `run` (live_laws.py), stories of the
+second way and beside live nodes (lint_measure.py), rehearsals by the rules of OTP 25 beside their model (live_rules.py), as JSON (live_json.py), their stories (live_stories.py) and
+plans (live_sweeps.py), beside the rules of `run` (agreement.py), in several orders of messages (confluence.py) and beside the laws of `run` (live_laws.py), stories of the
 examples (stories.py), rows by pytest (pytest_items.py), the scripts that run, build and ship the program (shipped.py), what ./rehearse
 does in front of it (front.py, front_talks.py) and tells of refused files (places.py), the packages of it (package.py), one of them installed (own_root.py), the benchmark's inputs (benched.py) and the documents (check_docs.py). Calls that the
 programs `rh_growths` and `rh_part_growths` beside PROGRAM make have their growths of memory counted and refused, and have to leave all
@@ -44,6 +45,7 @@ import live_json  # noqa: E402
 import live_laws  # noqa: E402
 import live_rules  # noqa: E402
 import live_stories  # noqa: E402
+import live_sweeps  # noqa: E402
 import made_pages  # noqa: E402
 import own_root  # noqa: E402
 import package  # noqa: E402
@@ -175,8 +177,8 @@ def command_lines(program):
                                    b"platform", b"0 to 10^12 milliseconds", b"32 nodes and 64 applications", b"profile 2",
                                    b"64 and 128", b"docs/CLUSTER_FILES.md"]),
             (["sessions", "--help"], [b"--pick", b"entry S COMMAND", b"final", b"1 boot a@x", b"docs/SCRIPTS.md"]),
-            (["sweep", "--help"], [b"--pick", b"--workers", b"plan NAME accepted K failovers K takeovers K", b"bad line K", b"V2", b"V3",
-                                   b"docs/SCRIPTS.md"]),
+            (["sweep", "--help"], [b"--pick", b"--rules", b"--workers", b"plan NAME accepted K failovers K takeovers K", b"bad line K", b"V2",
+                                   b"V3", b"plan NAME accepted K\n", b"docs/SCRIPTS.md"]),
             (["story", "--help"], [b"--pick", b"--rules", b"--whole", b"#- N blocked", b"docs/SCRIPTS.md"]),
             (["verify", "--help"], [b"--pick", b"--rules", b"#? TEXT"]),
             (["explore", "--help"], [b"--pick", b"--workers", b"--states", b"--memory", b"--json", b"may EVENT", b"ask app A running",
@@ -195,7 +197,7 @@ def command_lines(program):
             (["--rules", "otp25", "--json", "--echo"], b"--json goes with neither --echo nor --strict"),
             (["--json", "--strict"], b"--json and --interactive go with neither --echo nor --strict")):
         # The options of rules are told alike wherever they are taken.
-        every = ("run", "story", "verify") if b"--pick" in text else ("run",)
+        every = ("run", "story", "verify", "sweep") if b"--pick" in text else ("run",)
         for word in every:
             done = run(program, [word, *words], input=b"")
             yield " ".join([word, *words]), fault_of(done, 1, b"") or (None if text in done.stderr else f"standard error: {done.stderr}")
@@ -265,7 +267,7 @@ def no_threads(program):
         alone, refused = without_threads(program, folder)
         wrong = history_fault(alone, read(BY_CHANCE))
         yield "sessions without threads", wrong or (None if refused() else "no thread was asked for")
-        for kind in ("sweep", "explore"):
+        for kind in ("sweep", "explore", "otp25"):
             for path in files_below(os.path.join(ROWS, kind)):
                 row = row_at(path)
                 if "--workers" in row.words and row.status in (0, 6, 9, 10):
@@ -278,6 +280,10 @@ def no_threads(program):
             asked, owed = refused(), workers - 1
             wrong = None if done.returncode == 0 and asked == owed else f"status {done.returncode}, {asked} threads in place of {owed}"
             yield f"threads that a sweep by {workers} asks for", wrong
+            done = run(alone, ["sweep", "--rules", "otp25", "--workers", str(workers)], input=read(sweeps.EXAMPLE))
+            asked = refused()
+            wrong = None if done.returncode == 0 and asked == owed else f"status {done.returncode}, {asked} threads in place of {owed}"
+            yield f"threads that a sweep on live nodes by {workers} asks for", wrong
             done = run(alone, ["explore", "--workers", str(workers)], input=read(os.path.join(TOP, "examples", "any-failures.txt")))
             # So it is each time that states are shared out, however often that is.
             asked, owed = refused(), workers - 1
@@ -300,7 +306,7 @@ QUICK = (*made_pages.TESTS, *refused_memory.TESTS, *failing_calls.TESTS, *hostil
          Group(no_threads, needs=("cc",)), *shipped.TESTS, *front.TESTS, *front_talks.TESTS, *places.TESTS, *stories.TESTS, *linted.TESTS,
          *colliding_keys.TESTS, *dialogues.TESTS, *pytest_items.TESTS)
 # Those that take longest begin first.
-ALL = (*prefixes.TESTS, *growths.TESTS, *lint_measure.TESTS, *live_rules.TESTS, *live_stories.TESTS, *confluence.TESTS, *agreement.TESTS, *live_laws.TESTS, *live_json.TESTS,
+ALL = (*prefixes.TESTS, *growths.TESTS, *lint_measure.TESTS, *live_rules.TESTS, *live_sweeps.TESTS, *live_stories.TESTS, *confluence.TESTS, *agreement.TESTS, *live_laws.TESTS, *live_json.TESTS,
        *random_scripts.TESTS, *explored.TESTS, *benched.TESTS, *json_lines.TESTS,
        *check_docs.TESTS, *package.TESTS, *own_root.TESTS, *QUICK, *MADE, *map(profiles.under_profile_1, MADE), *profiles.TESTS, cluster_limits,
        command_lines, full_inputs, several_sessions)

@@ -48,6 +48,10 @@ pub enum Program {
     Sweep(Pick, usize),
     /// The same, as lines of JSON.
     SweepJson(Pick, usize),
+    /// Plans are tried on live nodes, with messages taken in an order, by so many workers.
+    SweepLive(Order, usize),
+    /// The same, as lines of JSON.
+    SweepLiveJson(Order, usize),
 }
 
 impl Program {
@@ -59,6 +63,7 @@ impl Program {
             Program::Sessions(_) => false,
             Program::Explore(_, _, workers) | Program::ExploreJson(_, _, workers) => workers == 1,
             Program::Sweep(_, workers) | Program::SweepJson(_, workers) => workers == 1,
+            Program::SweepLive(_, workers) | Program::SweepLiveJson(_, workers) => workers == 1,
             _ => true,
         }
     }

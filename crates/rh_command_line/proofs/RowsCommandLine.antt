@@ -11,7 +11,7 @@ use Rattle.rh_rules.specs.declared.pick.Pick.TheVariants.{First, Last}
 use Rattle.rh_otp_net.specs.declared.order.Order.{Order}
 use Rattle.rh_otp_net.specs.declared.order.Order.TheVariants.{FirstComes, LastComes, Drawn}
 use Rattle.rh_asked.specs.declared.program.Program.{Program}
-use Rattle.rh_asked.specs.declared.program.Program.TheVariants.{Check, CheckJson, Run, RunLive, RunLiveJson, RunIn, RunJson, Dialogue, DialogueJson, Story, StoryLive, Verify, VerifyLive, Lint, Explore, ExploreJson, Sessions, Sweep, SweepJson}
+use Rattle.rh_asked.specs.declared.program.Program.TheVariants.{Check, CheckJson, Run, RunLive, RunLiveJson, RunIn, RunJson, Dialogue, DialogueJson, Story, StoryLive, Verify, VerifyLive, Lint, Explore, ExploreJson, Sessions, Sweep, SweepJson, SweepLive, SweepLiveJson}
 use Rattle.rh_command_line.specs.CommandLine.{AreNames, line}
 use Rattle.rh_command_line.specs.declared.building.Names.{Names}
 use Rattle.rh_command_line.specs.Table.{subcommand_named}
@@ -169,6 +169,14 @@ sweep_json_row : (asks (codes "sweep" ∷ codes "--json" ∷ []) ≡ Some (Sweep
 unfolding clap_on_literals subcommand_named
 sweep_json_row = (refl, refl, refl)
 
+-- plans on live nodes, by one worker or by several, as lines or as JSON
+live_sweep_row : (asks (codes "sweep" ∷ codes "--rules=otp25" ∷ []) ≡ Some (SweepLive FirstComes 1)) × (faults (codes "sweep" ∷ codes "--rules=otp25" ∷ []) ≡ [])
+    × (asks (codes "sweep" ∷ codes "--workers=3" ∷ codes "--rules=otp25" ∷ codes "--pick=9" ∷ []) ≡ Some (SweepLive (Drawn 9) 3))
+    × (asks (codes "sweep" ∷ codes "--rules=otp25" ∷ codes "--json" ∷ codes "--workers=16" ∷ []) ≡ Some (SweepLiveJson FirstComes 16))
+    × (asks (codes "sweep" ∷ codes "--pick=9" ∷ []) ≡ None)
+unfolding clap_on_literals subcommand_named
+live_sweep_row = (refl, refl, refl, refl, refl)
+
 -- another number, or none
 workers_row : (faults (codes "sweep" ∷ codes "--workers" ∷ codes "0" ∷ []) ≡ kind.ValueValidation ∷ [])
     × (faults (codes "sweep" ∷ codes "--workers" ∷ codes "17" ∷ []) ≡ kind.ValueValidation ∷ [])
@@ -201,7 +209,7 @@ explore_json_row = (refl, refl, refl)
 
 -- another choice, an option that a subcommand hasn't, one that stands twice
 options_row : (faults (codes "sessions" ∷ codes "--pick" ∷ codes "middle" ∷ []) ≡ kind.InvalidValue ∷ [])
-    × (faults (codes "sweep" ∷ codes "--rules=otp25" ∷ []) ≡ kind.UnknownArgument ∷ [])
+    × (asks (codes "sweep" ∷ codes "--pick" ∷ codes "middle" ∷ []) ≡ None)
     × (faults (codes "check" ∷ codes "--pick" ∷ codes "last" ∷ []) ≡ kind.UnknownArgument ∷ [])
     × (faults (codes "run" ∷ codes "--workers" ∷ codes "4" ∷ []) ≡ kind.UnknownArgument ∷ [])
     × (faults (codes "run" ∷ codes "--pick=last" ∷ codes "--pick=last" ∷ []) ≡ kind.ArgumentConflict ∷ [])

@@ -179,8 +179,20 @@ abbrev pub lint_of : Pick → Bool → Bool → Bool → Program
 lint_of pick all strict json = program.Lint pick (record { all = all; strict = strict; json = json })
 
 -- a sweep by so many workers, by JSON or not
-abbrev pub sweep_of : Pick → Bool → ℕ → Program
-sweep_of pick json workers = if json then program.SweepJson pick workers else program.Sweep pick workers
+abbrev pub manual_sweep : Pick → Bool → ℕ → Program
+manual_sweep pick json workers = if json then program.SweepJson pick workers else program.Sweep pick workers
+
+abbrev pub live_sweep : Order → Bool → ℕ → Program
+live_sweep order json workers = if json then program.SweepLiveJson order workers else program.SweepLive order workers
+
+abbrev pub sweep_of : Rules → Bool → ℕ → Program
+sweep_of (rules.Manual pick) json workers = manual_sweep pick json workers
+sweep_of (rules.Live order) json workers = live_sweep order json workers
+
+-- where there are such rules, and may be so many workers
+abbrev pub sweep_with : Bool → Option Rules → Option ℕ → Option Program
+sweep_with json None workers = None
+sweep_with json (Some rules) workers = option_map (sweep_of rules json) workers
 
 -- a search in so much room by so many workers, by JSON or not
 abbrev pub explore_of : Pick → Bool → SearchRoom → ℕ → Program
@@ -199,7 +211,7 @@ program_of Story rows = option_map (λ rules. story_of rules (flag_in Whole rows
 program_of Lint rows = Some (lint_of (pick_in rows) (flag_in All rows) (flag_in Hints rows) (flag_in Json rows))
 program_of Verify rows = option_map verify_of (rules_in rows)
 program_of Sessions rows = Some (program.Sessions (pick_in rows))
-program_of Sweep rows = option_map (sweep_of (pick_in rows) (flag_in Json rows)) (workers_in rows)
+program_of Sweep rows = sweep_with (flag_in Json rows) (rules_in rows) (workers_in rows)
 program_of Explore rows = explore_with (pick_in rows) (flag_in Json rows) (room_in rows) (workers_in rows)
 
 -- the program of the subcommand with this word and these matches
@@ -240,6 +252,7 @@ abbrev pub why_no_program : Subcommand → List Row → Text
 why_no_program Run rows = why_no_run rows
 why_no_program Story rows = why_no_rules rows
 why_no_program Verify rows = why_no_rules rows
+why_no_program Sweep rows = why_no_rules rows
 why_no_program s rows = codes "no program has this name and these options"
 
 abbrev pub why_without : Option Subcommand → List Row → Text

@@ -372,11 +372,28 @@ where the base and a plan have more than 65535 events together.
 
 With `--json` each answer and each plan is a line of JSON, for programs.
 
+With `--rules otp25` plans are tried on live nodes of OTP 25, and the base is
+answered as in `rehearse run --rules otp25`, in the order of messages that
+`--pick` says. There a call can be answered late, or never, so a plan goes on
+whatever its events are answered, up to one that no node can be given:
+
+  plan NAME accepted K
+  answer J ..                event J was made, and not answered by `ok`: the
+                             first line of its answer, as in `rehearse run`
+  refused J ..               event J can't be given to a node: why
+  endless J                  at event J nodes would send messages for ever
+  app A running N ..         where each distributed application runs then, at
+                             several nodes if it does; else `app A nowhere`
+  blocked N ..               for what a process of node N waits then that
+                             doesn't come by itself
+  open COMMAND               the call of this command hasn't returned
+
 docs/SCRIPTS.md explains each line, and the fields of JSON.
 
-Example:
+Examples:
 
-  ./rehearse sweep --workers 4 < examples/five-nodes-sweep.txt";
+  ./rehearse sweep --workers 4 < examples/five-nodes-sweep.txt
+  ./rehearse sweep --rules otp25 < examples/five-nodes-sweep.txt";
 
 pub static EXPLORE_ABOUT: &str = "Says what no sequence of the events that may come can do";
 

@@ -7,7 +7,7 @@ ghost use Rattle.rh_rules.specs.declared.pick.Pick.TheVariants as pick;
 ghost use Rattle.rh_plans.specs.Workers.{AreWorkers};
 ghost use Rattle.rh_asked.specs.Programs.{IsStaffed};
 ghost use Rattle.rh_asked.specs.declared.program.Program.TheVariants as program;
-ghost use Rattle.rh_command_line.specs.Asking.{allowed, allowed_memory, allowed_number, allowed_states, answering, explore_of, flag_in, is_given, is_live, is_live_in, lint_of, live_as, live_run, memory_in, number_in, order_in, order_of, pick_in, pick_named, program_among, program_in, program_of, room_in, rules_in, run_as, run_in, run_of, states_in, story_of, sweep_of, verify_of, workers_in};
+ghost use Rattle.rh_command_line.specs.Asking.{allowed, allowed_memory, allowed_number, allowed_states, answering, explore_of, flag_in, is_given, is_live, is_live_in, lint_of, live_as, live_run, live_sweep, manual_sweep, memory_in, number_in, order_in, order_of, pick_in, pick_named, program_among, program_in, program_of, room_in, rules_in, run_as, run_in, run_of, states_in, story_of, sweep_of, verify_of, workers_in};
 
 use crate::rules::Rules;
 use crate::table::{Flag, MOST_MEBIBYTES, MOST_NUMBER, MOST_STATES, Subcommand, subcommand_named};
@@ -53,7 +53,7 @@ fn program_of(subcommand: Subcommand, matches: &ArgMatches<'_>) -> Option<Progra
         Subcommand::Verify => Some(verify_of(rules_in(matches)?)),
         Subcommand::Sessions => Some(Program::Sessions(pick_in(matches))),
         Subcommand::Sweep => Some(sweep_of(
-            pick_in(matches),
+            rules_in(matches)?,
             flag_in(matches, Flag::Json),
             workers_in(matches)?,
         )),
@@ -196,16 +196,41 @@ fn verify_of(rules: Rules) -> Program
     }
 }
 
-// A sweep by so many workers, by JSON or not.
-fn sweep_of(pick: Pick, json: bool, workers: usize) -> Program
+// A sweep by these rules and so many workers, by JSON or not.
+fn sweep_of(rules: Rules, json: bool, workers: usize) -> Program
     requires { AreWorkers workers }
-    ensures named { result ≡ sweep_of pick json workers }
+    ensures named { result ≡ sweep_of rules json workers }
+    ensures staffed { IsStaffed result }
+{
+    match rules {
+        Rules::Manual(pick) => manual_sweep(pick, json, workers),
+        Rules::Live(order) => live_sweep(order, json, workers),
+    }
+}
+
+// A sweep by the manual's rules.
+fn manual_sweep(pick: Pick, json: bool, workers: usize) -> Program
+    requires { AreWorkers workers }
+    ensures named { result ≡ manual_sweep pick json workers }
     ensures staffed { IsStaffed result }
 {
     if json {
         Program::SweepJson(pick, workers)
     } else {
         Program::Sweep(pick, workers)
+    }
+}
+
+// A sweep on live nodes.
+fn live_sweep(order: Order, json: bool, workers: usize) -> Program
+    requires { AreWorkers workers }
+    ensures named { result ≡ live_sweep order json workers }
+    ensures staffed { IsStaffed result }
+{
+    if json {
+        Program::SweepLiveJson(order, workers)
+    } else {
+        Program::SweepLive(order, workers)
     }
 }
 

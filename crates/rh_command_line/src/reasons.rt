@@ -35,7 +35,7 @@ fn why_no_program<'a>(subcommand: Subcommand, matches: &ArgMatches<'_>) -> &'a s
 {
     match subcommand {
         Subcommand::Run => why_no_run(matches),
-        Subcommand::Story | Subcommand::Verify => why_no_rules(matches),
+        Subcommand::Story | Subcommand::Verify | Subcommand::Sweep => why_no_rules(matches),
         _ => "no program has this name and these options",
     }
 }

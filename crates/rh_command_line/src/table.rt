@@ -106,8 +106,9 @@ static PICK_ALL_HINTS_JSON: [Setting; 4] = [
     Setting::Flag(Flag::Json),
 ];
 
-static PICK_WORKERS_JSON: [Setting; 3] = [
-    Setting::Pick,
+static PICK_RULES_WORKERS_JSON: [Setting; 4] = [
+    Setting::PickOrNumber,
+    Setting::Rules,
     Setting::Workers,
     Setting::Flag(Flag::Json),
 ];
@@ -205,7 +206,7 @@ impl Subcommand {
             ),
             Subcommand::Sweep => entry_of(
                 "sweep",
-                PICK_WORKERS_JSON.as_slice(),
+                PICK_RULES_WORKERS_JSON.as_slice(),
                 SWEEP_ABOUT,
                 SWEEP_AFTER_HELP,
             ),

@@ -4,7 +4,7 @@ use Rattle.rh_run.specs.declared.fault.RunFault.{RunFault}
 use Rattle.rh_run.specs.declared.fault.RunFault.TheVariants as end
 use Rattle.rh_run.specs.declared.fault.Told.{Told}
 use Rattle.rh_asked.specs.declared.program.Program.{Program}
-use Rattle.rh_asked.specs.declared.program.Program.TheVariants.{Check, CheckJson, Run, RunLive, RunLiveJson, RunIn, RunJson, Dialogue, DialogueJson, Story, StoryLive, Verify, VerifyLive, Lint, Explore, ExploreJson, Sessions, Sweep, SweepJson}
+use Rattle.rh_asked.specs.declared.program.Program.TheVariants.{Check, CheckJson, Run, RunLive, RunLiveJson, RunIn, RunJson, Dialogue, DialogueJson, Story, StoryLive, Verify, VerifyLive, Lint, Explore, ExploreJson, Sessions, Sweep, SweepJson, SweepLive, SweepLiveJson}
 use Rattle.rh_devices.specs.declared.watched.Watched.{Watched}
 use Rattle.rh_devices.specs.Devices.{Passed}
 use Rattle.rh_run.specs.Programs.{IsInput, ProgramGives, NoThreads}
@@ -21,6 +21,8 @@ use Rattle.rh_json.specs.CheckJson.{OwesCheckJson}
 use Rattle.rh_json.specs.RunJson.{OwesRunJson}
 use Rattle.rh_manner.specs.MannerText.{OwesRunIn}
 use Rattle.rh_otp_json.specs.LiveJson.{OwesLiveJson}
+use Rattle.rh_otp_plans.specs.LiveSweep.{OwesLiveSweep}
+use Rattle.rh_otp_plans.specs.LiveSweepJson.{OwesLiveSweepJson}
 use Rattle.rh_otp_run.specs.LiveText.{OwesLiveRun}
 use Rattle.rh_otp_story.specs.LiveStory.{OwesLiveStory}
 use Rattle.rh_otp_verify.specs.LiveVerify.{OwesLiveVerify}
@@ -50,6 +52,8 @@ Owes (ExploreJson pick room workers) = OwesExploreJson pick room
 Owes (Sessions pick) = MayGive pick
 Owes (Sweep pick workers) = OwesSweep pick
 Owes (SweepJson pick workers) = OwesSweepJson pick
+Owes (SweepLive order workers) = OwesLiveSweep order
+Owes (SweepLiveJson order workers) = OwesLiveSweepJson order
 
 -- for which inputs its threads may make no one history
 abbrev pub MayTear : Program → List ℕ → Type 0

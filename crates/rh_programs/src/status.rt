@@ -15,8 +15,10 @@ use rh_json::{check_json, run_json};
 use rh_lint::run_lint;
 use rh_manner::{Form, Voice, run_dialogue, run_in};
 use rh_otp_json::live_json;
+use rh_otp_plans::{sweep_live, sweep_live_json};
 use rh_otp_run::run_live;
 use rh_otp_story::run_live_story;
+use rh_otp_sweep::{Alone as OneTries, Threaded as ManyTry};
 use rh_otp_verify::run_live_verify;
 use rh_run::{RunFault, run, run_check};
 use rh_story::run_story;
@@ -145,6 +147,10 @@ fn ended_alone<S: Source, K: Sink, W: Watch>(
         }
         Program::Sweep(pick, _) => run_sweep_alone(alloc, reader, writer, pick),
         Program::SweepJson(pick, _) => sweep_json_alone(alloc, reader, writer, pick),
+        Program::SweepLive(order, _) => { sweep_live(&OneTries, alloc, reader, writer, order) }
+        Program::SweepLiveJson(order, _) => {
+            sweep_live_json(&OneTries, alloc, reader, writer, order)
+        }
         Program::Sessions(_) => unreachable!(),
     }
 }
@@ -177,6 +183,14 @@ fn ended_together<T: Threads + Wait + Sync, S: Source, K: Sink, W: Watch>(
         Program::Sweep(pick, workers) => run_sweep(rt, alloc, reader, writer, pick, workers),
         Program::SweepJson(pick, workers) => {
             sweep_json(rt, alloc, reader, writer, pick, workers)
+        }
+        Program::SweepLive(order, workers) => {
+            let crew = ManyTry::new(rt, workers);
+            sweep_live(&crew, alloc, reader, writer, order)
+        }
+        Program::SweepLiveJson(order, workers) => {
+            let crew = ManyTry::new(rt, workers);
+            sweep_live_json(&crew, alloc, reader, writer, order)
         }
         _ => ended_alone(alloc, program, reader, writer, watch),
     }
