@@ -3,6 +3,7 @@
   ./rehearse sweep --json < plans.txt | companions/survey
   ./rehearse sweep --json < plans.txt | companions/survey --of plans.txt
   ./rehearse sweep --json < plans.txt | companions/survey --of plans.txt --least --fail-if nowhere --fail-if refused
+  ./rehearse sweep --rules otp25 --json < plans.txt | companions/survey --fail-if hangs
 
 OUTPUT is what `rehearse sweep --json` (or companions/spread --json) printed; `-` or nothing is standard input. A sweep tells where each
 application stands at the end of a plan, and no times. For these name the sweep's input by --of: then the program goes
@@ -13,11 +14,15 @@ time isn't over, so let the plan end by a longer tick; `quiet`, it was stopped o
 
 With --of the first line says how many errors and warnings `rehearse lint` has for INPUT, if any.
 
+Of a sweep on live nodes (`rehearse sweep --rules otp25 --json`) it tells which plans end where something hangs, and which leave an
+application nowhere or at several nodes. It has no times, so --of and --least don't go with it.
+
 The time without an application is the one from its end to its next start, within a plan. Where the plan ends first, the
 application is counted as nowhere, and the time up to there is told as `at least`.
 
 In a pipeline --fail-if gives the status 9 where some plan ends in a way that may not be, and names it on standard error: with an
-application `nowhere`, `moved` (it runs elsewhere than behind the base: that needs --of), or `refused` at an event.
+application `nowhere`, `moved` (it runs elsewhere than behind the base: that needs --of), or `refused` at an event; on live nodes also
+`hangs` (something does) and `twice` (an application runs at several nodes).
 
 Exit status: 0 done, 1 a wrong command line, 2 what was read is refused: it is no sweep's output, or not that of --of; 9 what
 --fail-if names.
@@ -25,7 +30,7 @@ Exit status: 0 done, 1 a wrong command line, 2 what was read is refused: it is n
 import sys
 from argparse import Namespace
 from collections import Counter
-from collections.abc import Iterator, Sequence
+from collections.abc import Iterable, Iterator, Sequence
 from dataclasses import dataclass
 from typing import Optional
 
@@ -33,8 +38,8 @@ from rehearse_tools.command_line import CommandLine, as_called
 from rehearse_tools.courses import Courses, Gap, courses_of, losses_of, paired
 from rehearse_tools.endings import tell
 from rehearse_tools.findings import notice_of
-from rehearse_tools.inputs import (before_plans, called, lines_of, read_bytes, read_chunks, read_text, split_input, text_of, to_text,
-                                   write_out)
+from rehearse_tools.inputs import before_plans, called, lines_of, read_chunks, read_text, split_input, text_of, to_text, write_out
+from rehearse_tools.live_tallies import live_failures, live_summary, live_tally_of, parted
 from rehearse_tools.outcomes import outcomes_in
 from rehearse_tools.tallies import Tally, tally_of
 from rehearse_tools.words import plural, some
@@ -66,9 +71,9 @@ def command_line() -> CommandLine:
     line.add_argument("--least", action="store_true",
                       help="with --of: tells for each application the least sets of lost nodes that leave it `wanted`, those of "
                       "which no part does so")
-    line.add_argument("--fail-if", choices=("nowhere", "moved", "refused"), action="append", default=[],
+    line.add_argument("--fail-if", choices=("nowhere", "moved", "refused", "hangs", "twice"), action="append", default=[],
                       help="ends with status 9 where some plan leaves an application nowhere, has moved one (with --of), or ended "
-                      "at a refused event; may be repeated")
+                      "at a refused event; on live nodes where something hangs, or an application runs twice; may be repeated")
     line.add_program()
     return line
 
@@ -120,12 +125,12 @@ def failures(swept: Swept, wanted: Sequence[str]) -> Iterator[str]:
             yield f"--fail-if {word}: {some(found, MOST_NAMES)}"
 
 
-def swept_of(line: CommandLine, given: Namespace) -> Swept:
-    """What is known of the sweep that a command line names."""
+def swept_of(line: CommandLine, given: Namespace, chunks: Iterable[bytes]) -> Swept:
+    """What is known of the sweep that a command line names, by what it told."""
     source, most = called(given.output), None if given.all else MOST_NAMES
     if given.of is None:
-        return Swept(tally_of(read_chunks(given.output), source, most))
-    output = read_bytes(given.output)
+        return Swept(tally_of(chunks, source, most))
+    output = b"".join(chunks)
     tally = tally_of([output], source, most)
     program, text = line.program(given), read_text(given.of)
     program.check_script(text, called(given.of))
@@ -148,6 +153,18 @@ def summary(swept: Swept, is_least: bool, most: Optional[int]) -> Iterator[str]:
         yield from lines_about(app, swept, is_least, most)
 
 
+def summed(line: CommandLine, given: Namespace, chunks: Iterable[bytes]) -> tuple[str, list[str]]:
+    """What is told of a sweep by the manual's rules, and what of it may not be."""
+    swept = swept_of(line, given, chunks)
+    return text_of(summary(swept, given.least, None if given.all else MOST_NAMES)), list(failures(swept, given.fail_if))
+
+
+def summed_live(given: Namespace, chunks: Iterable[bytes]) -> tuple[str, list[str]]:
+    """The same of a sweep on live nodes."""
+    tally = live_tally_of(chunks, called(given.output), None if given.all else MOST_NAMES)
+    return text_of(live_summary(tally)), list(live_failures(tally, given.fail_if))
+
+
 def main(words: Sequence[str]) -> None:
     """Sums up a sweep."""
     line = command_line()
@@ -155,9 +172,11 @@ def main(words: Sequence[str]) -> None:
     for word, is_wanted in (("--least", given.least), ("--fail-if moved", "moved" in given.fail_if)):
         if is_wanted and given.of is None:
             line.error(f"{word} needs --of INPUT")
-    swept = swept_of(line, given)
-    write_out(text_of(summary(swept, given.least, None if given.all else MOST_NAMES)))
-    failed = list(failures(swept, given.fail_if))
+    is_live, chunks = parted(read_chunks(given.output))
+    if is_live and given.of is not None:
+        line.error("--of doesn't go with a sweep on live nodes, of which no times are told")
+    told, failed = summed_live(given, chunks) if is_live else summed(line, given, chunks)
+    write_out(told)
     for why in failed:
         tell("survey", why)
     if failed:

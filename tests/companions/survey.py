@@ -50,6 +50,36 @@ ctl: nowhere at the end of 2 of 5 plans
 """
 
 
+def live_line(name, accepted, places, **more):
+    """The line of a plan on live nodes: where each application runs, by the names of the nodes, and what else it tells."""
+    apps = [{"name": app, "nodes": nodes.split()} for app, nodes in places]
+    return json.dumps({"plan": name, "accepted": accepted, "answers": [], **more, "applications": apps, "blocked": [], "open": [],
+                       **{key: value for key, value in more.items() if key in ("blocked", "open", "answers")}}, separators=(",", ":")) + "\n"
+
+
+CALL = {"call": "start", "node": "b@x", "application": "web", "restart": "permanent"}
+HANG = {"node": "b@x", "dist_ac": {"for": "start", "application": "web", "node": "a@x"}}
+LIVE = (FRONT + live_line("p1", 2, [("web", "b@x"), ("ctl", "")])
+        + live_line("p2", 1, [("web", ""), ("ctl", "")], refused={"event": 2, "answer": "refused S5 not_alive"})
+        + live_line("p3", 3, [("web", "a@x b@x"), ("ctl", "c@x")], answers=[{"event": 2, "answer": "no answer"}], blocked=[HANG], open=[CALL])
+        + live_line("p4", 0, [("web", "b@x"), ("ctl", "c@x")], endless=1))
+LIVE_SUMMED = """4 plans on live nodes, 2 distributed applications
+something hangs at the end of 1 plan: p3
+an event isn't answered by ok in 1 plan: p3
+an event can't be given to a node in 1 plan: p2 (2 S5 not_alive)
+an event has no end in 1 plan: p4
+
+web: nowhere at the end of 1 of 4 plans
+  nowhere: p2
+  at several nodes: p3
+  ran at the end at b@x (2 plans), a@x and b@x (1 plan)
+
+ctl: nowhere at the end of 2 of 4 plans
+  nowhere: p1, p2
+  ran at the end at c@x (2 plans)
+"""
+
+
 def survey(program, words, text):
     """A finished run of the companion, with an input. That lint has something is kept apart."""
     done = subprocess.run([COMPANION, "--rehearse", program, *words], input=text.encode(), capture_output=True, timeout=LONGEST_RUN)
@@ -333,6 +363,31 @@ def failing(program):
         yield f"refused: {told}", None if done.returncode == 1 and told in done.stderr.decode() and not done.stdout else f"{done}"
 
 
+def of_live_nodes(program):
+    """A sweep on live nodes: what hangs, what runs nowhere, and what runs twice."""
+    yield "four plans on live nodes", fault_of(survey(program, [], LIVE), 0, LIVE_SUMMED.encode())
+    every = ["--fail-if", "hangs", "--fail-if", "twice", "--fail-if", "nowhere", "--fail-if", "refused"]
+    done = survey(program, every, LIVE)
+    told = ("refused: an event in 1 plan", "hangs: something in 1 plan", "nowhere: web in 1 plan, ctl in 2 plans", "twice: web in 1 plan")
+    is_right = (done.returncode, done.stderr.decode(), done.stdout) == (9, "".join(f"survey: --fail-if {line}\n" for line in told), LIVE_SUMMED.encode())
+    yield "--fail-if on live nodes", None if is_right else f"{done}"
+    good = FRONT + live_line("p1", 2, [("web", "b@x"), ("ctl", "c@x")])
+    owed = "1 plan on live nodes, 2 distributed applications\n\n"
+    owed += "\n".join(f"{app}: nowhere at the end of 0 of 1 plan\n  ran at the end at {node} (1 plan)\n" for app, node in (("web", "b@x"), ("ctl", "c@x")))
+    yield "a plan in which all is well", fault_of(survey(program, every, good), 0, owed.encode())
+    many = FRONT + "".join(live_line(f"q{number}", 0, [("web", "")]) for number in range(12))
+    owed = "12 plans on live nodes, 1 distributed application\n\nweb: nowhere at the end of 12 of 12 plans\n  nowhere: "
+    owed += ", ".join(f"q{number}" for number in range(10))
+    yield "many plans on live nodes", fault_of(survey(program, [], many), 0, (owed + " and 2 more\n").encode())
+    yield "each of many named", fault_of(survey(program, ["--all"], many), 0, (owed + ", q10, q11\n").encode())
+    done = survey(program, ["--of", "x"], LIVE)
+    told = "--of doesn't go with a sweep on live nodes"
+    yield "no times on live nodes", None if done.returncode == 1 and told in done.stderr.decode() and not done.stdout else f"{done}"
+    done = survey(program, [], LIVE + live_line("p5", 0, [("web", "b@x")]))
+    told = "line 7: plan p5 tells of other applications than the first one"
+    yield "another application", None if done.returncode == 2 and told in done.stderr.decode() and not done.stdout else f"{done}"
+
+
 def faults(program):
     """What isn't a sweep's output, or not that of this input."""
     good = "plan p\ncrash a@x\ntick 5000\n"
@@ -382,4 +437,4 @@ def faults(program):
     yield "no file", fault_of(done, 2, b"") if b"/nowhere/output: No such file" not in done.stderr else None
 
 
-TESTS = (Group(limits, is_long=True), without_times, with_times, profiles, several, losses, failing, faults)
+TESTS = (Group(limits, is_long=True), without_times, with_times, profiles, several, losses, failing, of_live_nodes, faults)
