@@ -31,7 +31,7 @@ def inputs():
     yield "explore --json", cluster + b"boot a@x\nundo\n" * 20 + b"may crash *\nmay boot *\n"
     yield "run --rules otp25", cluster + b"boot a@x\ncrash a@x\n" * 40
     yield "story --rules otp25", cluster + b"boot a@x\ncrash a@x\n" * 20
-    yield "verify --rules otp25", cluster + b"boot a@x\n#= ok\ncrash a@x\n" * 20
+    yield "verify --rules otp25", cluster + b"boot a@x\n#= ok\n#= up a@x\ncrash a@x\n" * 20
     yield "sweep --rules otp25 --json", cluster + b"boot a@x\nplan p\ncrash a@x\n" + b"plan q\n" * 20
     yield "run --interactive", cluster + b"boot a@x\ncrash a@x\n" * 40
     yield "run --interactive --json", cluster + b"boot a@x\ncrash a@x\n" * 20

@@ -281,7 +281,9 @@ def no_threads(program):
             wrong = None if done.returncode == 0 and asked == owed else f"status {done.returncode}, {asked} threads in place of {owed}"
             yield f"threads that a sweep by {workers} asks for", wrong
             done = run(alone, ["sweep", "--rules", "otp25", "--workers", str(workers)], input=read(sweeps.EXAMPLE))
-            asked = refused()
+            # There each worker but the last gets as many plans, so that fewer may do.
+            plans = read(sweeps.EXAMPLE).count(b"\nplan ")
+            asked, owed = refused(), -(-plans // ((plans - 1) // workers + 1)) - 1
             wrong = None if done.returncode == 0 and asked == owed else f"status {done.returncode}, {asked} threads in place of {owed}"
             yield f"threads that a sweep on live nodes by {workers} asks for", wrong
             done = run(alone, ["explore", "--workers", str(workers)], input=read(os.path.join(TOP, "examples", "any-failures.txt")))
