@@ -15,8 +15,6 @@ mod files;
 mod laws;
 mod parameters;
 mod shapes;
-#[cfg(test)]
-mod tests;
 mod waits;
 
 pub use files::own_files;

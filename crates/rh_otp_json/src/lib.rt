@@ -6,7 +6,5 @@
 #![tactic(auto)]
 
 mod running;
-#[cfg(test)]
-mod tests;
 
 pub use running::live_json;

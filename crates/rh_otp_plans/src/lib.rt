@@ -10,8 +10,6 @@ mod json;
 mod outcome_line;
 mod outcome_text;
 mod sweeping;
-#[cfg(test)]
-mod tests;
 
 pub use json::sweep_live_json;
 pub use sweeping::sweep_live;

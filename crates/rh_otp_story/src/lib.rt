@@ -9,7 +9,5 @@
 mod hanging;
 mod story;
 mod telling;
-#[cfg(test)]
-mod tests;
 
 pub use story::run_live_story;

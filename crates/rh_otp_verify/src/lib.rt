@@ -7,8 +7,6 @@
 
 mod laws;
 mod rehearsing;
-#[cfg(test)]
-mod tests;
 mod verifying;
 
 pub use laws::live_differences_are_told;

@@ -1,8 +1,8 @@
 //! What no clause says: whole verifications, with texts that were written by hand from those of `run --rules otp25`.
 
-use crate::run_live_verify;
 use rh_devices::{Bytes, Text, Watched};
 use rh_otp_net::Order;
+use rh_otp_verify::run_live_verify;
 use std::alloc::Global;
 use std::process::Abort;
 

@@ -1,9 +1,9 @@
 //! What no clause says: that the call can succeed, and that the definitions say what is written in files.
 
-use crate::own_files;
 use rh_base::OutOfMemory;
 use rh_cluster::read_cluster;
 use rh_model::Cluster;
+use rh_otp_file::own_files;
 use rh_otp_model::{OwnFile, Written};
 use std::alloc::Global;
 use std::process::Abort;

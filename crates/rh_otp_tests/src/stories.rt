@@ -1,8 +1,8 @@
 //! What no clause says: whole stories, with texts that were written by hand from those of `run --rules otp25`.
 
-use crate::run_live_story;
 use rh_devices::{Bytes, Text, Watched};
 use rh_otp_net::Order;
+use rh_otp_story::run_live_story;
 use std::alloc::Global;
 use std::process::Abort;
 

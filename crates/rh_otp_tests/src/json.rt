@@ -1,9 +1,9 @@
 //! What no clause says: whole runs, and a line of each kind, with texts that were written by hand from those of `run --rules otp25`.
 
-use crate::live_json;
 use rh_base::OutOfMemory;
 use rh_cluster::{App, Cluster, Dep, Node, Restart, read_cluster};
 use rh_devices::{Bytes, Text, Watched};
+use rh_otp_json::live_json;
 use rh_otp_json_lines::{push_node_report, push_notices, push_report};
 use rh_otp_model::{Fault, StartType};
 use rh_otp_net::Order;

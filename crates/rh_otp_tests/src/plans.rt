@@ -1,8 +1,8 @@
 //! What no clause says: whole sweeps, with texts that were written by hand from those of `run --rules otp25`.
 
-use crate::{sweep_live, sweep_live_json};
 use rh_devices::{Bytes, Text, Watched};
 use rh_otp_net::Order;
+use rh_otp_plans::{sweep_live, sweep_live_json};
 use rh_otp_sweep::Alone;
 use std::alloc::Global;
 use std::process::Abort;
