@@ -2,7 +2,6 @@
 use Rattle.std.proofs.Common.{◌≡◌, ◌∙◌, ℕ, List, [], ◌∷◌, ◌++◌, refl, sym, subst, append_assoc, append-nil}
 use Rattle.std.specs.List.{flat_map}
 use Rattle.rh_devices.specs.Devices.{InTurn, Passed}
-use Rattle.rh_manner.specs.declared.voice.Voice.{Voice}
 use Rattle.rh_manner.specs.Deeds.{Deed, Took, given, taken, is_ended, Goes}
 use Rattle.rh_manner.specs.DialogueText.{IsPrompt}
 
@@ -14,7 +13,7 @@ module _ {D : Type 0} (gives takes : D → D → List ℕ → Type 0) (flushes :
     pub came : given log' ≡ given log
     pub took : taken log' ≡ taken log ++ text
     pub end : is_ended log' ≡ is_ended log
-    pub prompt : (voice : Voice) → IsPrompt voice log → IsPrompt voice log'
+    pub prompt : (said : List ℕ → List ℕ) → IsPrompt said log → IsPrompt said log'
 
   in_turn : (d b : D) (log : List Deed) (pieces : List (List ℕ)) → Goes gives takes flushes a d log → InTurn takes d b pieces
       → Later b log (flat_map (λ piece. piece) pieces)
@@ -24,7 +23,7 @@ module _ {D : Type 0} (gives takes : D → D → List ℕ → Type 0) (flushes :
     came = refl;
     took = sym (append-nil (taken log));
     end = refl;
-    prompt = λ voice p. p;
+    prompt = λ said p. p;
   }
   in_turn d b log (piece ∷ pieces) goes h =
       let more = in_turn h.0 b (Took piece ∷ log) pieces (d, goes, h.1) h.2 in
@@ -34,7 +33,7 @@ module _ {D : Type 0} (gives takes : D → D → List ℕ → Type 0) (flushes :
         came = more.came;
         took = more.took ∙ append_assoc (taken log) piece (flat_map (λ p. p) pieces);
         end = more.end;
-        prompt = λ voice p. more.prompt voice p;
+        prompt = λ said p. more.prompt said p;
       }
 
   pub later : (d b : D) (log : List Deed) (text : List ℕ) → Goes gives takes flushes a d log → Passed takes d b text → Later b log text

@@ -1,5 +1,6 @@
 pub mod Plain
 pub mod Lines
+pub mod Manual
 pub mod Rows
 pub mod Closings
 pub mod Ending

@@ -7,6 +7,7 @@ use Rattle.rh_manner.specs.declared.voice.Form.TheVariants.{Plain, Json}
 use Rattle.rh_manner.specs.declared.voice.Voice.{Voice}
 use Rattle.rh_manner.specs.Deeds.{Gave, Took, Flushed, given, taken, is_flushed, is_ended}
 use Rattle.rh_manner.specs.DialogueText.{IsPrompt, due_text, whole_lines}
+use Rattle.rh_manner.specs.Voices.{voiced}
 
 -- a voice for people, and one for programs
 plain : Voice
@@ -30,14 +31,14 @@ whole_row : whole_lines (codes "a\nb\nc") ≡ codes "a\n" ∷ codes "b\n" ∷ []
 whole_row = refl
 
 half_row : (list_any is_separator (whole_lines (codes "a\n===\nb")) ≡ true) × (list_any is_separator (whole_lines (codes "a\n===")) ≡ false)
-    × (due_text plain (codes "a\n===") ≡ []) × (due_text json (codes "a\n===") ≡ [])
+    × (due_text (voiced plain) (codes "a\n===") ≡ []) × (due_text (voiced json) (codes "a\n===") ≡ [])
 unfolding content
 half_row = (refl, refl, refl, refl)
 
 -- who asks for more before what was written is flushed isn't in time
-unflushed_row : IsPrompt plain (Gave [] ∷ Took (codes "x") ∷ []) → ⊥
+unflushed_row : IsPrompt (voiced plain) (Gave [] ∷ Took (codes "x") ∷ []) → ⊥
 unflushed_row prompt = cc prompt.0.1
 
 -- nor is who has written before the line `===` came
-early_row : IsPrompt json (Gave (codes "\n") ∷ Flushed ∷ Took (codes "x") ∷ []) → ⊥
+early_row : IsPrompt (voiced json) (Gave (codes "\n") ∷ Flushed ∷ Took (codes "x") ∷ []) → ⊥
 early_row prompt = cc prompt.0.0

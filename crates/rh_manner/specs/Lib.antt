@@ -1,6 +1,8 @@
 pub mod MannerText
 pub mod Turns
 pub mod Voices
+pub mod Speech
+pub mod Manual
 pub mod Pairs
 pub mod Laws
 pub mod Deeds

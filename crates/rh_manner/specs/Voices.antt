@@ -1,16 +1,16 @@
 -- What a dialogue writes in each form, piece by piece and as a whole (ours).
-use Rattle.std.specs.Prelude.{ℕ, List, [], ◌++◌, Result, Ok, Err}
+use Rattle.std.specs.Prelude.{ℕ, List, []}
 use Rattle.rh_cluster.specs.declared.fault.ClusterFault.{ClusterFault}
 use Rattle.rh_model.specs.ClusterView.{ClusterView}
 use Rattle.rh_rules.specs.declared.pick.Pick.{Pick}
 use Rattle.rh_calls.specs.declared.call.Call.{Call}
 use Rattle.rh_trail.specs.SimView.{SimView}
-use Rattle.rh_trail.specs.Lone.{served, opened}
+use Rattle.rh_trail.specs.Lone.{served}
 use Rattle.rh_script.specs.Answers.{answer_text, bad_text, fault_text}
-use Rattle.rh_run.specs.RunText.{lines_asked, run_text, script_text}
+use Rattle.rh_run.specs.RunText.{run_text}
 use Rattle.rh_json_lines.specs.AnswerLines.{answer_line, bad_json}
 use Rattle.rh_json_lines.specs.ClusterLines.{cluster_line, fault_line}
-use Rattle.rh_json.specs.RunJson.{run_json, script_json}
+use Rattle.rh_json.specs.RunJson.{run_json}
 use Rattle.rh_manner.specs.declared.voice.Form.{Form}
 use Rattle.rh_manner.specs.declared.voice.Form.TheVariants.{Plain, Json}
 use Rattle.rh_manner.specs.declared.voice.Voice.{Voice}
@@ -47,13 +47,3 @@ answer_in Json c sim k line call = answer_line c sim k line call
 abbrev pub bad_in : Form → ℕ → List ℕ
 bad_in Plain k = bad_text k
 bad_in Json k = bad_json k
-
--- the answers to lines of which the first has this number, up to the first bad one
-abbrev pub script_in : Form → ClusterView → SimView → ℕ → List (List ℕ) → List ℕ
-script_in Plain c sim k lines = script_text c sim k (lines_asked c lines)
-script_in Json c sim k lines = script_json c sim k lines
-
--- the text for a cluster and a script, or for the fault of a text that is no cluster
-abbrev pub over_in : Form → Pick → List (List ℕ) → Result ClusterView ClusterFault → List ℕ
-over_in form pick lines (Ok c) = opening_in form c ++ script_in form c (opened c pick) 1 lines
-over_in form pick lines (Err f) = fault_in form f

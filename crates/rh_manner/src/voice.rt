@@ -1,10 +1,11 @@
-//! How a dialogue speaks.
+//! How a dialogue speaks that is held by the manual's rules.
 
-ghost use Rattle.std.specs.Prelude.{◌≡◌, false, OnOk};
-ghost use Rattle.rh_trail.specs.Lone.{served};
+ghost use Rattle.std.specs.Prelude.{◌≡◌, false};
 ghost use Rattle.rh_run.specs.RunText.{Broke};
-ghost use Rattle.rh_manner.specs.Voices.{answer_in, bad_in, fault_in, opening_in};
+ghost use Rattle.rh_manner.specs.Voices.{bad_in, fault_in, opening_in};
 
+use crate::speaker::Speaker;
+use rh_base::OutOfMemory;
 use rh_calls::Call;
 use rh_cluster::{Cluster, ClusterFault};
 use rh_devices::{Sink, Watched, WriteFault};
@@ -61,28 +62,6 @@ impl Form {
         }
     }
 
-    /// Gives the call of a line, which has this number, to the simulation, and writes the answer.
-    pub(crate) fn answer<K: Sink>(
-        self,
-        alloc: Global,
-        sim: &mut Sim,
-        number: u64,
-        line: &[u8],
-        call: Call,
-        writer: &mut Watched<K>,
-    ) -> Result<(), WriteFault>
-        requires { writer.old.failed ≡ false }
-        ensures sim { OnOk result (sim.new.seen ≡ (served sim.old.seen call).sim) }
-        ensures cluster { OnOk result (sim.new.seen.cluster ≡ sim.old.seen.cluster) }
-        ensures text { Broke K.takes K.fails result (answer_in self sim.old.seen.cluster
-            sim.old.seen number line.now call) writer.old writer.new }
-    {
-        match self {
-            Form::Plain => rh_run::answer_call(alloc, sim, call, writer),
-            Form::Json => rh_json::answer_call(alloc, sim, number, line, call, writer),
-        }
-    }
-
     /// Writes that the line of this number is no command.
     pub(crate) fn mark_bad<K: Sink>(
         self,
@@ -96,6 +75,46 @@ impl Form {
         match self {
             Form::Plain => rh_run::answer_bad(alloc, number, writer),
             Form::Json => rh_json::write_bad(alloc, number, writer),
+        }
+    }
+}
+
+impl Speaker for Voice {
+    ghost use Rattle.rh_trail.specs.SimView.{SimView};
+    ghost use Rattle.rh_manner.specs.Manual.{manual};
+
+    type Rehearsal = Sim;
+
+    ghost View = { SimView };
+
+    ghost view = { λ sim. sim.seen };
+
+    ghost speech = { manual };
+
+    fn form(&self) -> Form {
+        self.form
+    }
+
+    fn open(&self, alloc: Global, cluster: Cluster, _text: &[u8]) -> Result<Sim, OutOfMemory> {
+        Sim::open(alloc, cluster, self.pick)
+    }
+
+    fn cluster<'a>(&self, sim: &'a Sim) -> &'a Cluster {
+        sim.cluster()
+    }
+
+    fn answer<K: Sink>(
+        &self,
+        alloc: Global,
+        sim: &mut Sim,
+        number: u64,
+        line: &[u8],
+        call: Call,
+        writer: &mut Watched<K>,
+    ) -> Result<(), WriteFault> {
+        match self.form {
+            Form::Plain => rh_run::answer_call(alloc, sim, call, writer),
+            Form::Json => rh_json::answer_call(alloc, sim, number, line, call, writer),
         }
     }
 }

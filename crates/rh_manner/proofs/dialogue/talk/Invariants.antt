@@ -2,6 +2,7 @@ use Rattle.std.proofs.Common.{◌≡◌, ◌-◌, List, ℕ, false}
 use Rattle.rh_devices.specs.Devices.{input_limit}
 use Rattle.rh_manner.specs.Deeds.{Deed, Goes}
 use Rattle.rh_manner.specs.DialogueText.{IsPrompt}
+use Rattle.rh_manner.specs.Speech.{spoken}
 use Rattle.rh_manner.specs.Talking.{Stands}
 use Rattle.rh_manner.proofs.dialogue.talk.Given as goal
 
@@ -9,7 +10,7 @@ abbrev pub invariant-talk : goal.invariant-talk
 invariant-talk g l = record {
   stands : (log : List Deed) × (consumed : List ℕ)
       × Goes g.D.Source.gives g.D.Sink.takes g.D.Sink.flushes l.fn.device.inner l.device.inner log
-      × IsPrompt l.fn.voice log × Stands l.fn.voice log consumed l.ear l.stage;
+      × IsPrompt (spoken (g.T.Speaker.speech l.fn.speaker)) log × Stands (g.T.Speaker.speech l.fn.speaker) g.T.Speaker.view log consumed l.ear l.stage;
   watch : l.device.failed ≡ false;
 }
 

@@ -6,14 +6,17 @@ use Rattle.rh_manner.proofs.stage.take_script.Given as goal
 
 abbrev pub invariant-lines : goal.invariant-lines
 invariant-lines g l =
-    let c = l.fn.start.seen.cluster in
+    let sp = g.T.Speaker.speech l.fn.speaker in
+    let start = g.T.Speaker.view l.fn.start in
+    let here = g.T.Speaker.view l.rehearsal in
     record {
       text : (done : List ℕ) × Passed g.K.Sink.takes l.fn.writer.inner l.writer.inner done
-          × ((more : List (List ℕ)) → script_from l.fn.voice.form c l.fn.start.seen l.fn.first (raw_lines l.fn.lines ++ more)
-          ≡ done ++ script_from l.fn.voice.form c l.sim.seen l.number (raw_lines l.rest ++ more));
-      bad : (more : List (List ℕ)) → bad_from c l.fn.first (raw_lines l.fn.lines ++ more) ≡ bad_from c l.number (raw_lines l.rest ++ more);
+          × ((more : List (List ℕ)) → script_from sp start l.fn.first (raw_lines l.fn.lines ++ more)
+          ≡ done ++ script_from sp here l.number (raw_lines l.rest ++ more));
+      bad : (more : List (List ℕ)) → bad_from (sp.cluster start) l.fn.first (raw_lines l.fn.lines ++ more)
+          ≡ bad_from (sp.cluster start) l.number (raw_lines l.rest ++ more);
       watch : l.writer.failed ≡ false;
-      same : l.sim.seen.cluster ≡ c;
+      same : sp.cluster here ≡ sp.cluster start;
       count : l.number + length (raw_lines l.rest) ≤ l.fn.first + length (raw_lines l.fn.lines);
     }
 
