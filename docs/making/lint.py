@@ -16,6 +16,7 @@ LEVELS = CRATES / "rh_step_findings" / "specs" / "Levels.antt"
 TERMS = CRATES / "rh_cluster_lint" / "specs" / "Terms.antt"
 STEPS = CRATES / "rh_script_lint" / "specs" / "Steps.antt"
 REFUSED = CRATES / "rh_script_lint" / "specs" / "Refused.antt"
+LIVE = [CRATES / "rh_otp_lint" / "specs" / name for name in ("Answers.antt", "Hanging.antt", "Twice.antt")]
 HEAD, LINE = "| Code | What it says |", "|---|---|"
 
 
@@ -42,7 +43,7 @@ def records(path: Path) -> Iterator[tuple[str, str]]:
 def findings() -> dict[str, str]:
     """What each finding is worth, by its code."""
     found = dict([*records(TERMS), *variants(FILE_WORDS, FILE_WORDS), *variants(STEP_WORDS, LEVELS), *records(REFUSED),
-                  *records(STEPS)])
+                  *records(STEPS), *(finding for path in LIVE for finding in records(path))])
     if not all(found):
         raise BadSource("a finding of lint has no code")
     return found

@@ -19,8 +19,8 @@ use rh_script_lint::step_lines;
 use rh_trail::Sim;
 use std::alloc::Global;
 
-// How many lines a text has.
-fn line_count(text: &[u8]) -> u64
+/// How many lines a text has.
+pub fn line_count(text: &[u8]) -> u64
     ensures count { result ≡ length (raw_lines text.now) }
     ensures within { result ≤ length text.now }
 {
@@ -34,8 +34,12 @@ fn line_count(text: &[u8]) -> u64
     count
 }
 
-// What is found in a text that is no cluster. Want of memory is no fault of the text.
-fn of_fault(alloc: Global, text: &[u8], fault: &ClusterFault) -> Result<Vec<Finding>, OutOfMemory>
+/// What is found in a text that is no cluster. Want of memory is no fault of the text.
+pub fn of_fault(
+    alloc: Global,
+    text: &[u8],
+    fault: &ClusterFault,
+) -> Result<Vec<Finding>, OutOfMemory>
     requires { length text.now + 1 < 2 ^ 32 }
     ensures found { IfOk result (λ found. found.items ≡ of_fault text.now fault.now) }
     ensures fault { IfOk result (λ _. is_memory fault.now ≡ false) }

@@ -65,8 +65,8 @@ fn lint_input(
     Ok((text, told))
 }
 
-// The text that lists findings, as JSON or not.
-fn list_text(alloc: Global, json: bool, findings: &[Finding]) -> Result<Vec<u8>, OutOfMemory>
+/// The text that lists findings, as JSON or not.
+pub fn list_text(alloc: Global, json: bool, findings: &[Finding]) -> Result<Vec<u8>, OutOfMemory>
     ensures { IfOk result (λ text. text.items ≡ list_text json findings.now) }
 {
     if json {
@@ -77,8 +77,8 @@ fn list_text(alloc: Global, json: bool, findings: &[Finding]) -> Result<Vec<u8>,
     }
 }
 
-// The fault that the text tells.
-fn lint_end(clean: bool) -> Option<Told>
+/// The fault that the text tells, if something was found that counts.
+pub fn lint_end(clean: bool) -> Option<Told>
     ensures { result ≡ lint_end clean }
 {
     if clean { None } else { Some(Told::Differs) }

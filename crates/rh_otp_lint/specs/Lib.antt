@@ -1,0 +1,5 @@
+pub mod Answers
+pub mod Hanging
+pub mod Twice
+pub mod LiveSteps
+pub mod LiveLint
