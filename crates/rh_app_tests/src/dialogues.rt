@@ -44,7 +44,7 @@ static TWO_NODES_JSON: [&str; 5] = [
 static TWO_NODES_JSON_DUE: [usize; 7] = [0, 0, 54, 139, 139, 228, 270];
 
 /// How a dialogue ended, in a word.
-fn word_of_end(ended: Result<(), RunFault>) -> &'static str {
+pub fn word_of_end(ended: Result<(), RunFault>) -> &'static str {
     match ended {
         Ok(()) => "done",
         Err(RunFault::Cluster(_)) => "cluster",
@@ -82,8 +82,8 @@ fn answers_each_line_before_the_next(rt: HostRuntime) {
     assert!(rt; partner.due.as_slice() == TWO_NODES_DUE.as_slice());
 }
 
-// The text that these lines make.
-fn join_lines(alloc: Global, lines: &[&str]) -> String {
+/// The text that these lines make.
+pub fn join_lines(alloc: Global, lines: &[&str]) -> String {
     let mut text = String::new(alloc);
     for line in lines {
         let _ = text.push_str(line);

@@ -9,6 +9,8 @@ mod devices;
 #[cfg(test)]
 mod dialogues;
 #[cfg(test)]
+mod live_dialogues;
+#[cfg(test)]
 mod partner;
 #[cfg(test)]
 mod rehearsals;

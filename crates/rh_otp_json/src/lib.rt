@@ -7,4 +7,4 @@
 
 mod running;
 
-pub use running::live_json;
+pub use running::{answer_call, live_json};

@@ -166,9 +166,9 @@ fn answer_line<K: Sink>(
     }
 }
 
-// Gives the call of a line, which has this number, to the simulation, and writes the line with the answer.
+/// Gives the call of a line, which has this number, to the simulation, and writes the line with the answer.
 #[tactic(auto, using(rh_otp_run::proofs::Keeping::call_keeps_cluster))]
-fn answer_call<K: Sink>(
+pub fn answer_call<K: Sink>(
     alloc: Global,
     sim: &mut LiveSim,
     number: u64,

@@ -183,9 +183,9 @@ fn answer_command<K: Sink>(
     answer_call(alloc, sim, call, writer)
 }
 
-// Gives a call to the simulation, and writes the answer. Whether it was a step that isn't answered by `ok`.
+/// Gives a call to the simulation, and writes the answer. Whether it was a step that isn't answered by `ok`.
 #[tactic(auto, using(crate::proofs::Keeping::call_keeps_cluster))]
-fn answer_call<K: Sink>(
+pub fn answer_call<K: Sink>(
     alloc: Global,
     sim: &mut LiveSim,
     call: Call,
