@@ -4,9 +4,9 @@ use Rattle.rh_devices.specs.declared.watched.Watched.{Watched}
 use Rattle.rh_asked.specs.declared.program.Program.{Program}
 use Rattle.rh_asked.specs.Programs.{IsStaffed}
 use Rattle.rh_manner.specs.declared.pair.Pair.{Pair}
-use Rattle.rh_manner.specs.declared.voice.Voice.{Voice}
 use Rattle.rh_manner.specs.Pairs.{given_by, unread_by, taken_by, written_by}
-use Rattle.rh_programs.specs.Status.{DialogueStatus, IsDone, StatusGives}
+use Rattle.rh_programs.specs.declared.status.Tongue.{Tongue}
+use Rattle.rh_programs.specs.Status.{DialogueStatus, IsDone, StatusGives, said_in}
 use Rattle.rh_command_line.specs.Asking.{IsAsked}
 use Rattle.rehearse.specs.Process.{EndsBy, unused}
 use Rattle.rh_command_line.specs.declared.command_line.Asked.TheVariants as asked
@@ -36,14 +36,14 @@ module _ {S K : Type 0} (gives : S → S → List ℕ → Type 0) (unread : S �
   )
 
   -- and so is the one device of a dialogue
-  pub dialogue_over : (voice : Voice) (reader : S) (writer : K) (pair : Pair S K) (old new : Watched (Pair S K))
+  pub dialogue_over : (tongue : Tongue) (reader : S) (writer : K) (pair : Pair S K) (old new : Watched (Pair S K))
       → pair ≡ record { reader = reader; writer = writer } → old ≡ unused pair
-      → DialogueStatus (given_by gives) (unread_by unread) (taken_by takes) (written_by flushes) (written_by unwritten) voice status old new
-      → EndsBy gives unread takes flushes unwritten (Some voice) program reader writer status
-  dialogue_over voice reader writer pair old new is_pair is_old ends = (
+      → DialogueStatus (given_by gives) (unread_by unread) (taken_by takes) (written_by flushes) (written_by unwritten) (said_in tongue) status old new
+      → EndsBy gives unread takes flushes unwritten (Some tongue) program reader writer status
+  dialogue_over tongue reader writer pair old new is_pair is_old ends = (
     new,
-    subst (λ (p : Pair S K). DialogueStatus (given_by gives) (unread_by unread) (taken_by takes) (written_by flushes) (written_by unwritten) voice status
+    subst (λ (p : Pair S K). DialogueStatus (given_by gives) (unread_by unread) (taken_by takes) (written_by flushes) (written_by unwritten) (said_in tongue) status
         (unused p) new) is_pair
         (subst (λ (o : Watched (Pair S K)). DialogueStatus (given_by gives) (unread_by unread) (taken_by takes) (written_by flushes) (written_by unwritten)
-        voice status o new) is_old ends),
+        (said_in tongue) status o new) is_old ends),
   )

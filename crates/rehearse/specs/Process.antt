@@ -5,9 +5,9 @@ use Rattle.rh_devices.specs.declared.device.Failed.{Failed}
 use Rattle.rh_devices.specs.declared.watched.Watched.{Watched}
 use Rattle.rh_asked.specs.declared.program.Program.{Program}
 use Rattle.rh_manner.specs.declared.pair.Pair.{Pair}
-use Rattle.rh_manner.specs.declared.voice.Voice.{Voice}
 use Rattle.rh_manner.specs.Pairs.{given_by, unread_by, taken_by, written_by}
-use Rattle.rh_programs.specs.Status.{DialogueStatus, StatusGives, IsDone, voice_of}
+use Rattle.rh_programs.specs.declared.status.Tongue.{Tongue}
+use Rattle.rh_programs.specs.Status.{DialogueStatus, StatusGives, IsDone, said_in, tongue_of}
 use Rattle.rh_command_line.specs.Asking.{IsAsked}
 use Rattle.rh_command_line.specs.declared.command_line.Asked.{Asked}
 use Rattle.rh_command_line.specs.declared.command_line.Asked.TheVariants as asked
@@ -19,9 +19,10 @@ unused device = record { inner = device; failed = false }
 
 -- a program that answers as it reads ran over both as one device; any other over each
 abbrev pub EndsBy : {S K : Type 0} → (S → S → List ℕ → Type 0) → (S → S → Type 0) → (K → K → List ℕ → Type 0) → (K → K → Type 0) → (K → K → Type 0)
-    → Option Voice → Program → S → K → ℕ → Type 0
-EndsBy {S = S} {K = K} gives unread takes flushes unwritten (Some voice) program reader writer status =
-    (new : Watched (Pair S K)) × DialogueStatus (given_by gives) (unread_by unread) (taken_by takes) (written_by flushes) (written_by unwritten) voice status
+    → Option Tongue → Program → S → K → ℕ → Type 0
+EndsBy {S = S} {K = K} gives unread takes flushes unwritten (Some tongue) program reader writer status =
+    (new : Watched (Pair S K)) × DialogueStatus (given_by gives) (unread_by unread) (taken_by takes) (written_by flushes) (written_by unwritten)
+    (said_in tongue) status
     (unused (record { reader = reader; writer = writer })) new
 EndsBy {S = S} {K = K} gives unread takes flushes unwritten None program reader writer status =
     (new : Watched S) × (after : Watched K)
@@ -32,7 +33,7 @@ EndsBy {S = S} {K = K} gives unread takes flushes unwritten None program reader 
 abbrev pub EndsOver : {S K : Type 0} → (S → S → List ℕ → Type 0) → (S → S → Type 0) → (K → K → List ℕ → Type 0) → (K → K → Type 0) → (K → K → Type 0)
     → Program → S → K → ℕ → Type 0
 EndsOver gives unread takes flushes unwritten program reader writer status =
-    EndsBy gives unread takes flushes unwritten (voice_of program) program reader writer status
+    EndsBy gives unread takes flushes unwritten (tongue_of program) program reader writer status
 
 -- the same, where there may be no memory for the writer's buffer
 abbrev pub EndsIfBuffered : {S K : Type 0} → (S → S → List ℕ → Type 0) → (S → S → Type 0) → (K → K → List ℕ → Type 0) → (K → K → Type 0) → (K → K → Type 0)

@@ -3,14 +3,14 @@
 ghost use Rattle.std.specs.Prelude.{◌≡◌, None, false};
 ghost use Rattle.clap.specs.declared.error.Error.{Error};
 ghost use Rattle.rh_asked.specs.Programs.{IsStaffed, is_alone};
-ghost use Rattle.rh_programs.specs.Status.{IsDone, StatusGives, voice_of};
+ghost use Rattle.rh_programs.specs.Status.{IsDone, StatusGives, tongue_of};
 ghost use Rattle.rehearse.specs.Process.{EndsBy, EndsOver, ProcessGives};
 
 use clap::Error;
 use rh_asked::Program;
 use rh_command_line::{Asked, Words, asked_of};
 use rh_devices::{Failed, Sink, Source, Watched};
-use rh_programs::{Pair, Watch, rehearse_alone, rehearse_dialogue, voice_of};
+use rh_programs::{Pair, Watch, rehearse_alone, rehearse_dialogue, tongue_of};
 use std::alloc::Global;
 
 // The status of a command line that is refused, or asks for help.
@@ -98,10 +98,10 @@ fn over_devices<S: Source + Drop, K: Sink + Drop, H: Together, W: Watch>(
     requires ready { H.ready threads.now }
     ensures { EndsOver S.gives S.fails K.takes K.flushes K.fails program reader writer result }
 {
-    match voice_of(program) {
-        Some(voice) => {
+    match tongue_of(program) {
+        Some(tongue) => {
             let mut device = Watched::new(Pair::new(reader, writer));
-            rehearse_dialogue(alloc, voice, &mut device)
+            rehearse_dialogue(alloc, tongue, &mut device)
         }
         None => over_both(alloc, program, reader, writer, threads, watch),
     }

@@ -12,7 +12,7 @@ pub struct Manner {
 /// How lint lists what it finds.
 #[derive(Clone, Copy, Debug, PartialEq, Eq)]
 pub struct LintManner {
-    /// The steps behind one that hangs on live nodes are told of, too.
+    /// The steps behind one that hangs on live nodes are told of, too. By the rules of live nodes they are in any case.
     pub all: bool,
     /// Hints count as warnings do.
     pub strict: bool,

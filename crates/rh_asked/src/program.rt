@@ -28,6 +28,10 @@ pub enum Program {
     Dialogue(Pick),
     /// The same, as lines of JSON.
     DialogueJson(Pick),
+    /// The same as `Dialogue`, by what live nodes do, with messages taken in an order.
+    DialogueLive(Order),
+    /// The same, as lines of JSON.
+    DialogueLiveJson(Order),
     /// The script is printed again, with what came of each command; behind the cluster file, if it is to be whole.
     Story(Pick, bool),
     /// The same, with what comes of each command on live nodes, with messages taken in an order.
@@ -38,6 +42,8 @@ pub enum Program {
     VerifyLive(Order),
     /// What is wrong with the input is listed, in a manner.
     Lint(Pick, LintManner),
+    /// The same, with what comes of each step on live nodes, with messages taken in an order.
+    LintLive(Order, LintManner),
     /// All states are searched that events reach from a base, in so much room, by so many workers.
     Explore(Pick, SearchRoom, usize),
     /// The same, as lines of JSON.

@@ -11,7 +11,7 @@ use Rattle.rh_rules.specs.declared.pick.Pick.TheVariants.{First, Last}
 use Rattle.rh_otp_net.specs.declared.order.Order.{Order}
 use Rattle.rh_otp_net.specs.declared.order.Order.TheVariants.{FirstComes, LastComes, Drawn}
 use Rattle.rh_asked.specs.declared.program.Program.{Program}
-use Rattle.rh_asked.specs.declared.program.Program.TheVariants.{Check, CheckJson, Run, RunLive, RunLiveJson, RunIn, RunJson, Dialogue, DialogueJson, Story, StoryLive, Verify, VerifyLive, Lint, Explore, ExploreJson, Sessions, Sweep, SweepJson, SweepLive, SweepLiveJson}
+use Rattle.rh_asked.specs.declared.program.Program.TheVariants.{Check, CheckJson, Run, RunLive, RunLiveJson, RunIn, RunJson, Dialogue, DialogueJson, DialogueLive, DialogueLiveJson, Story, StoryLive, Verify, VerifyLive, Lint, LintLive, Explore, ExploreJson, Sessions, Sweep, SweepJson, SweepLive, SweepLiveJson}
 use Rattle.rh_command_line.specs.CommandLine.{AreNames, line}
 use Rattle.rh_command_line.specs.declared.building.Names.{Names}
 use Rattle.rh_command_line.specs.Table.{subcommand_named}
@@ -72,14 +72,16 @@ rules_row : (asks (codes "run" ∷ codes "--rules" ∷ codes "otp25" ∷ []) ≡
 unfolding clap_on_literals subcommand_named
 rules_row = (refl, refl, refl, refl, refl, refl, refl)
 
--- in which manners they are answered: not line by line, and by JSON in no other
+-- in which manners they are answered: by JSON, line by line, or both in no other
 live_manner_row : (asks (codes "run" ∷ codes "--rules=otp25" ∷ codes "--echo" ∷ []) ≡ Some (RunLive FirstComes (record { echo = true; strict = false })))
     × (asks (codes "run" ∷ codes "--strict" ∷ codes "--rules=otp25" ∷ codes "--pick=last" ∷ []) ≡ Some (RunLive LastComes (record { echo = false; strict = true })))
     × (asks (codes "run" ∷ codes "--json" ∷ codes "--rules=otp25" ∷ codes "--pick=7" ∷ []) ≡ Some (RunLiveJson (Drawn 7)))
     × (asks (codes "run" ∷ codes "--json" ∷ codes "--rules=otp25" ∷ codes "--echo" ∷ []) ≡ None)
-    × (asks (codes "run" ∷ codes "--rules=otp25" ∷ codes "--interactive" ∷ []) ≡ None)
+    × (asks (codes "run" ∷ codes "--rules=otp25" ∷ codes "--interactive" ∷ []) ≡ Some (DialogueLive FirstComes))
+    × (asks (codes "run" ∷ codes "--interactive" ∷ codes "--rules=otp25" ∷ codes "--json" ∷ codes "--pick=last" ∷ []) ≡ Some (DialogueLiveJson LastComes))
+    × (asks (codes "run" ∷ codes "--rules=otp25" ∷ codes "--interactive" ∷ codes "--strict" ∷ []) ≡ None)
 unfolding clap_on_literals subcommand_named
-live_manner_row = (refl, refl, refl, refl, refl)
+live_manner_row = (refl, refl, refl, refl, refl, refl, refl)
 
 -- a number decides the order of messages of live nodes, from 1 to 2^31 - 2; by the manual's rules there is none to decide
 number_row : (asks (codes "run" ∷ codes "--rules=otp25" ∷ codes "--pick=7" ∷ []) ≡ Some (plain_live (Drawn 7)))
@@ -149,6 +151,14 @@ lint_row : (asks (codes "lint" ∷ []) ≡ Some (Lint First (record { all = fals
     × (faults (codes "run" ∷ codes "--all" ∷ []) ≡ kind.UnknownArgument ∷ [])
 unfolding clap_on_literals subcommand_named
 lint_row = (refl, refl, refl, refl, refl)
+
+-- by the rules of live nodes, where all steps are told of
+live_lint_row : (asks (codes "lint" ∷ codes "--rules=otp25" ∷ []) ≡ Some (LintLive FirstComes (record { all = false; strict = false; json = false })))
+    × (asks (codes "lint" ∷ codes "--strict" ∷ codes "--rules=otp25" ∷ codes "--pick=7" ∷ codes "--json" ∷ [])
+    ≡ Some (LintLive (Drawn 7) (record { all = false; strict = true; json = true })))
+    × (asks (codes "lint" ∷ codes "--rules=otp25" ∷ codes "--all" ∷ []) ≡ None) × (asks (codes "lint" ∷ codes "--pick=7" ∷ []) ≡ None)
+unfolding clap_on_literals subcommand_named
+live_lint_row = (refl, refl, refl, refl)
 
 sessions_row : (asks (codes "sessions" ∷ []) ≡ Some (Sessions First))
     × (asks (codes "sessions" ∷ codes "--pick" ∷ codes "last" ∷ []) ≡ Some (Sessions Last))

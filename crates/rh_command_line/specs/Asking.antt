@@ -143,14 +143,16 @@ is_live (Some word) = bytes_eq word (codes "otp25")
 abbrev pub is_live_in : List Row → Bool
 is_live_in rows = is_live (first_of (codes "rules") rows)
 
--- a run on live nodes, with messages in this order, by JSON or not: only the one that isn't has a manner
-abbrev pub live_as : Order → Manner → Bool → Option Program
-live_as order m json =
-    if json then (if m.echo || m.strict then None else Some (program.RunLiveJson order)) else Some (program.RunLive order m)
+-- a run on live nodes, with messages in this order, that answers by JSON, line by line, or both
+abbrev pub live_answering : Order → Bool → Bool → Program
+live_answering order json interactive =
+    if interactive then (if json then program.DialogueLiveJson order else program.DialogueLive order) else program.RunLiveJson order
 
--- it answers all at once
+-- such a one has no manner
 abbrev pub live_run : Order → Bool → Bool → Bool → Bool → Option Program
-live_run order echo strict json interactive = if interactive then None else live_as order (record { echo = echo; strict = strict }) json
+live_run order echo strict json interactive =
+    if json || interactive then (if echo || strict then None else Some (live_answering order json interactive))
+    else Some (program.RunLive order (record { echo = echo; strict = strict }))
 
 -- the rules that are named, with what they leave open: the choice at a tie of the manual's, the order of messages of live nodes
 abbrev pub rules_in : List Row → Option Rules
@@ -177,6 +179,15 @@ verify_of (rules.Live order) = program.VerifyLive order
 -- a list of what is wrong, in this manner
 abbrev pub lint_of : Pick → Bool → Bool → Bool → Program
 lint_of pick all strict json = program.Lint pick (record { all = all; strict = strict; json = json })
+
+-- on live nodes all steps are told of, so nobody asks for that
+abbrev pub live_lint : Order → Bool → Bool → Bool → Option Program
+live_lint order all strict json =
+    if all then None else Some (program.LintLive order (record { all = all; strict = strict; json = json }))
+
+abbrev pub lint_by : Rules → Bool → Bool → Bool → Option Program
+lint_by (rules.Manual pick) all strict json = Some (lint_of pick all strict json)
+lint_by (rules.Live order) all strict json = live_lint order all strict json
 
 -- a sweep by so many workers, by JSON or not
 abbrev pub manual_sweep : Pick → Bool → ℕ → Program
@@ -208,7 +219,7 @@ abbrev pub program_of : Subcommand → List Row → Option Program
 program_of Check rows = Some (if flag_in Json rows then program.CheckJson else program.Check)
 program_of Run rows = run_in rows
 program_of Story rows = option_map (λ rules. story_of rules (flag_in Whole rows)) (rules_in rows)
-program_of Lint rows = Some (lint_of (pick_in rows) (flag_in All rows) (flag_in Hints rows) (flag_in Json rows))
+program_of Lint rows = option_and_then (λ rules. lint_by rules (flag_in All rows) (flag_in Hints rows) (flag_in Json rows)) (rules_in rows)
 program_of Verify rows = option_map verify_of (rules_in rows)
 program_of Sessions rows = Some (program.Sessions (pick_in rows))
 program_of Sweep rows = sweep_with (flag_in Json rows) (rules_in rows) (workers_in rows)
@@ -230,26 +241,26 @@ why_no_rules rows =
     if is_live_in rows then codes "with --rules otp25, --pick takes first, last or a number from 1 to 2147483646"
     else codes "--pick takes first or last, and a number only with --rules otp25"
 
--- a run by these rules, in such a manner
-abbrev pub why_no_live_manner : Bool → Text
-why_no_live_manner interactive =
-    if interactive then codes "--rules otp25 doesn't go with --interactive" else codes "--json goes with neither --echo nor --strict"
-
-abbrev pub why_no_manner : Rules → Bool → Text
-why_no_manner (rules.Manual pick) interactive = codes "--json and --interactive go with neither --echo nor --strict"
-why_no_manner (rules.Live order) interactive = why_no_live_manner interactive
-
--- a run that names no rules so, or names these
+-- a run that names no rules so, or options that don't go together
 abbrev pub why_no_run_by : List Row → Option Rules → Text
 why_no_run_by rows None = why_no_rules rows
-why_no_run_by rows (Some rules) = why_no_manner rules (flag_in Interactive rows)
+why_no_run_by rows (Some rules) = codes "--json and --interactive go with neither --echo nor --strict"
 
 abbrev pub why_no_run : List Row → Text
 why_no_run rows = why_no_run_by rows (rules_in rows)
 
+-- a list of what is wrong
+abbrev pub why_no_lint_by : List Row → Option Rules → Text
+why_no_lint_by rows None = why_no_rules rows
+why_no_lint_by rows (Some rules) = codes "--all doesn't go with --rules otp25, by which all steps are told of"
+
+abbrev pub why_no_lint : List Row → Text
+why_no_lint rows = why_no_lint_by rows (rules_in rows)
+
 -- only of subcommands that take rules there is more to say
 abbrev pub why_no_program : Subcommand → List Row → Text
 why_no_program Run rows = why_no_run rows
+why_no_program Lint rows = why_no_lint rows
 why_no_program Story rows = why_no_rules rows
 why_no_program Verify rows = why_no_rules rows
 why_no_program Sweep rows = why_no_rules rows

@@ -22,7 +22,7 @@ flag_word Interactive = codes "interactive"
 abbrev pub entry_of : Subcommand → List ℕ × List Setting
 entry_of Run = (codes "run", setting.PickOrNumber ∷ setting.Rules ∷ setting.Flag Echo ∷ setting.Flag Strict ∷ setting.Flag Json ∷ setting.Flag Interactive ∷ [])
 entry_of Check = (codes "check", setting.Flag Json ∷ [])
-entry_of Lint = (codes "lint", setting.Pick ∷ setting.Flag All ∷ setting.Flag Hints ∷ setting.Flag Json ∷ [])
+entry_of Lint = (codes "lint", setting.PickOrNumber ∷ setting.Rules ∷ setting.Flag All ∷ setting.Flag Hints ∷ setting.Flag Json ∷ [])
 entry_of Story = (codes "story", setting.PickOrNumber ∷ setting.Rules ∷ setting.Flag Whole ∷ [])
 entry_of Verify = (codes "verify", setting.PickOrNumber ∷ setting.Rules ∷ [])
 entry_of Sessions = (codes "sessions", setting.Pick ∷ [])

@@ -117,8 +117,7 @@ not by the manual's rules: a call can be answered late, or never. Messages of
 different processes may come in any order there: they are taken as they were
 sent; with `--pick last` the last one first; with `--pick N` as N decides, from
 1 to 2147483646. With `--strict` the exit status is 9 where a step isn't
-answered by `ok`. It doesn't go with `--interactive`. What such nodes tell
-beside the lines above:
+answered by `ok`. What such nodes tell beside the lines above:
 
   error WHY            what the call answered, as Erlang writes it
   no answer            the call is still open
@@ -277,6 +276,12 @@ Behind the first warning of a step that hangs on live nodes no more is told of
 the steps, since these have another past there. `--all` tells it nevertheless.
 With `--json` each line is an object, with the fields `line`, `kind`, `code`,
 `words` and `path`; the last one has `errors`, `warnings` and `hints`.
+
+With `--rules otp25` the commands are made on live nodes of OTP 25, as by
+`rehearse run --rules otp25`, in the order of messages that `--pick` says. What
+comes of each stands in place of what may: where something begins to hang, an
+application to run twice, a call has no answer, a step no end, a start fails, or
+the answer isn't `ok`. All steps are told of, so `--all` doesn't go with it.
 
 Example:
 

@@ -7,7 +7,7 @@ ghost use Rattle.rh_rules.specs.declared.pick.Pick.TheVariants as pick;
 ghost use Rattle.rh_plans.specs.Workers.{AreWorkers};
 ghost use Rattle.rh_asked.specs.Programs.{IsStaffed};
 ghost use Rattle.rh_asked.specs.declared.program.Program.TheVariants as program;
-ghost use Rattle.rh_command_line.specs.Asking.{allowed, allowed_memory, allowed_number, allowed_states, answering, explore_of, flag_in, is_given, is_live, is_live_in, lint_of, live_as, live_run, live_sweep, manual_sweep, memory_in, number_in, order_in, order_of, pick_in, pick_named, program_among, program_in, program_of, room_in, rules_in, run_as, run_in, run_of, states_in, story_of, sweep_of, verify_of, workers_in};
+ghost use Rattle.rh_command_line.specs.Asking.{allowed, allowed_memory, allowed_number, allowed_states, answering, explore_of, flag_in, is_given, is_live, is_live_in, lint_by, lint_of, live_answering, live_lint, live_run, live_sweep, manual_sweep, memory_in, number_in, order_in, order_of, pick_in, pick_named, program_among, program_in, program_of, room_in, rules_in, run_as, run_in, run_of, states_in, story_of, sweep_of, verify_of, workers_in};
 
 use crate::rules::Rules;
 use crate::table::{Flag, MOST_MEBIBYTES, MOST_NUMBER, MOST_STATES, Subcommand, subcommand_named};
@@ -44,12 +44,12 @@ fn program_of(subcommand: Subcommand, matches: &ArgMatches<'_>) -> Option<Progra
         Subcommand::Check => Some(check_of(flag_in(matches, Flag::Json))),
         Subcommand::Run => run_in(matches),
         Subcommand::Story => Some(story_of(rules_in(matches)?, flag_in(matches, Flag::Whole))),
-        Subcommand::Lint => Some(lint_of(
-            pick_in(matches),
+        Subcommand::Lint => lint_by(
+            rules_in(matches)?,
             flag_in(matches, Flag::All),
             flag_in(matches, Flag::Hints),
             flag_in(matches, Flag::Json),
-        )),
+        ),
         Subcommand::Verify => Some(verify_of(rules_in(matches)?)),
         Subcommand::Sessions => Some(Program::Sessions(pick_in(matches))),
         Subcommand::Sweep => Some(sweep_of(
@@ -94,7 +94,7 @@ fn run_in(matches: &ArgMatches<'_>) -> Option<Program>
     }
 }
 
-// A run on live nodes: it answers all at once.
+// A run on live nodes, by JSON or not, line by line or not: only the one that is neither has a manner.
 fn live_run(
     order: Order,
     echo: bool,
@@ -105,24 +105,27 @@ fn live_run(
     ensures named { result ≡ live_run order echo strict json interactive }
     ensures staffed { IfSome result IsStaffed }
 {
-    if interactive {
-        None
-    } else {
-        live_as(order, Manner { echo, strict }, json)
-    }
-}
-
-// The same, by JSON or not: only the one that isn't has a manner.
-fn live_as(order: Order, manner: Manner, json: bool) -> Option<Program>
-    ensures named { result ≡ live_as order manner json }
-    ensures staffed { IfSome result IsStaffed }
-{
-    if !json {
+    let manner = Manner { echo, strict };
+    if !json && !interactive {
         Some(Program::RunLive(order, manner))
     } else if manner.echo || manner.strict {
         None
     } else {
-        Some(Program::RunLiveJson(order))
+        Some(live_answering(order, json, interactive))
+    }
+}
+
+// One by JSON, line by line, or both.
+fn live_answering(order: Order, json: bool, interactive: bool) -> Program
+    ensures named { result ≡ live_answering order json interactive }
+    ensures staffed { IsStaffed result }
+{
+    if interactive && json {
+        Program::DialogueLiveJson(order)
+    } else if interactive {
+        Program::DialogueLive(order)
+    } else {
+        Program::RunLiveJson(order)
     }
 }
 
@@ -166,7 +169,30 @@ fn run_of(pick: Pick, echo: bool, strict: bool) -> Program
     }
 }
 
-// A list of what is wrong, in this manner.
+// A list of what is wrong, by these rules and in this manner.
+fn lint_by(rules: Rules, all: bool, strict: bool, json: bool) -> Option<Program>
+    ensures named { result ≡ lint_by rules all strict json }
+    ensures staffed { IfSome result IsStaffed }
+{
+    match rules {
+        Rules::Manual(pick) => Some(lint_of(pick, all, strict, json)),
+        Rules::Live(order) => live_lint(order, all, strict, json),
+    }
+}
+
+// On live nodes all steps are told of, so nobody asks for that.
+fn live_lint(order: Order, all: bool, strict: bool, json: bool) -> Option<Program>
+    ensures named { result ≡ live_lint order all strict json }
+    ensures staffed { IfSome result IsStaffed }
+{
+    if all {
+        None
+    } else {
+        Some(Program::LintLive(order, LintManner { all, strict, json }))
+    }
+}
+
+// By the manual's rules.
 fn lint_of(pick: Pick, all: bool, strict: bool, json: bool) -> Program
     ensures named { result ≡ lint_of pick all strict json }
     ensures staffed { IsStaffed result }

@@ -2,11 +2,10 @@
 
 ghost use Rattle.std.specs.Prelude.{◌≡◌};
 ghost use Rattle.clap.specs.Words.{found_of, rows_of, subcommand_rows_of};
-ghost use Rattle.rh_command_line.specs.Asking.{why_no_live_manner, why_no_manner, why_no_program, why_no_rules, why_no_run, why_none, why_not};
+ghost use Rattle.rh_command_line.specs.Asking.{why_no_lint, why_no_program, why_no_rules, why_no_run, why_none, why_not};
 
-use crate::reading::{flag_in, is_live_in, rules_in};
-use crate::rules::Rules;
-use crate::table::{Flag, Subcommand, subcommand_named};
+use crate::reading::{is_live_in, rules_in};
+use crate::table::{Subcommand, subcommand_named};
 use clap::ArgMatches;
 
 /// Why matches of the whole command line that name no program don't, in words.
@@ -35,39 +34,29 @@ fn why_no_program<'a>(subcommand: Subcommand, matches: &ArgMatches<'_>) -> &'a s
 {
     match subcommand {
         Subcommand::Run => why_no_run(matches),
+        Subcommand::Lint => why_no_lint(matches),
         Subcommand::Story | Subcommand::Verify | Subcommand::Sweep => why_no_rules(matches),
         _ => "no program has this name and these options",
     }
 }
 
-// Why there is no such run: no such rules, or other options that don't go with them.
+// Why there is no such run: no such rules, or other options that don't go together.
 fn why_no_run<'a>(matches: &ArgMatches<'_>) -> &'a str
     ensures { result.now ≡ why_no_run (rows_of (found_of matches.now)) }
 {
     match rules_in(matches) {
-        Some(rules) => why_no_manner(rules, flag_in(matches, Flag::Interactive)),
+        Some(_) => "--json and --interactive go with neither --echo nor --strict",
         None => why_no_rules(matches),
     }
 }
 
-// Why there is no run by these rules in such a manner.
-fn why_no_manner<'a>(rules: Rules, interactive: bool) -> &'a str
-    ensures { result.now ≡ why_no_manner rules interactive }
+// Why nothing is listed so.
+fn why_no_lint<'a>(matches: &ArgMatches<'_>) -> &'a str
+    ensures { result.now ≡ why_no_lint (rows_of (found_of matches.now)) }
 {
-    match rules {
-        Rules::Manual(_) => "--json and --interactive go with neither --echo nor --strict",
-        Rules::Live(_) => why_no_live_manner(interactive),
-    }
-}
-
-// The same on live nodes.
-fn why_no_live_manner<'a>(interactive: bool) -> &'a str
-    ensures { result.now ≡ why_no_live_manner interactive }
-{
-    if interactive {
-        "--rules otp25 doesn't go with --interactive"
-    } else {
-        "--json goes with neither --echo nor --strict"
+    match rules_in(matches) {
+        Some(_) => "--all doesn't go with --rules otp25, by which all steps are told of",
+        None => why_no_rules(matches),
     }
 }
 

@@ -99,8 +99,9 @@ static PICK_RULES_WHOLE: [Setting; 3] = [
     Setting::Flag(Flag::Whole),
 ];
 
-static PICK_ALL_HINTS_JSON: [Setting; 4] = [
-    Setting::Pick,
+static PICK_RULES_ALL_HINTS_JSON: [Setting; 5] = [
+    Setting::PickOrNumber,
+    Setting::Rules,
     Setting::Flag(Flag::All),
     Setting::Flag(Flag::Hints),
     Setting::Flag(Flag::Json),
@@ -182,7 +183,7 @@ impl Subcommand {
             }
             Subcommand::Lint => entry_of(
                 "lint",
-                PICK_ALL_HINTS_JSON.as_slice(),
+                PICK_RULES_ALL_HINTS_JSON.as_slice(),
                 LINT_ABOUT,
                 LINT_AFTER_HELP,
             ),

@@ -1,31 +1,42 @@
 //! A program from its devices to the exit status.
 
 ghost use Rattle.std.specs.Prelude.{◌≡◌, false, true};
+ghost use Rattle.rh_manner.specs.DialogueText.{DialogueGives};
 ghost use Rattle.rh_run.specs.Programs.{ProgramGives};
 ghost use Rattle.rh_asked.specs.Programs.{IsStaffed, is_alone};
-ghost use Rattle.rh_programs.specs.Status.{DialogueStatus, Owes, MayTear, Flushed, IsDone, StatusGives, status_of, voice_of};
+ghost use Rattle.rh_programs.specs.Status.{DialogueStatus, Owes, MayTear, Flushed, IsDone, StatusGives, live, manual, said_in, status_of, tongue_of};
 
 use crate::sweeping::{sweep_json, sweep_json_alone};
 use rh_app::{run_sessions, run_sweep, run_sweep_alone};
-use rh_asked::Program;
+use rh_asked::{Manner, Program};
 use rh_devices::{Sink, Source, Watched};
 use rh_explore::{Alone, Threaded, Watch};
 use rh_explore_text::{explore_json, run_explore};
 use rh_json::{check_json, run_json};
 use rh_lint::run_lint;
 use rh_manner::{Form, Voice, run_dialogue, run_in};
+use rh_otp_dialogue::{LiveVoice, run_live_dialogue};
 use rh_otp_json::live_json;
+use rh_otp_lint::run_live_lint;
+use rh_otp_net::Order;
 use rh_otp_plans::{sweep_live, sweep_live_json};
 use rh_otp_run::run_live;
 use rh_otp_story::run_live_story;
 use rh_otp_sweep::{Alone as OneTries, Threaded as ManyTry};
 use rh_otp_verify::run_live_verify;
+use rh_rules::Pick;
 use rh_run::{RunFault, run, run_check};
 use rh_story::run_story;
 use rh_verify::run_verify;
 use std::alloc::Global;
 use std::sync::Wait;
 use std::thread::Threads;
+
+// The manner in which a run writes the answers alone.
+const PLAIN: Manner = Manner {
+    echo: false,
+    strict: false,
+};
 
 /// Runs a program that starts no threads over its devices, flushes the writer, however it ended, and answers the exit status.
 /// It is lent nothing by which it could wait. Of a search it is told how far that is.
@@ -77,37 +88,72 @@ pub fn rehearse_together<T: Threads + Wait + Sync, S: Source, K: Sink, W: Watch>
     flush_and_answer(ended, writer)
 }
 
-/// In which voice a program answers each line of a script before more is read, by [`rehearse_dialogue`]; nothing where it reads all
+/// In which voice a program answers each line of a script before more is read, and by which rules.
+#[derive(Clone, Copy)]
+pub enum Tongue {
+    /// By the manual's rules.
+    Manual(Voice),
+    /// By those of live nodes.
+    Live(LiveVoice),
+}
+
+/// In which tongue a program answers each line of a script before more is read, by [`rehearse_dialogue`]; nothing where it reads all
 /// first.
-pub fn voice_of(program: Program) -> Option<Voice>
-    ensures { result ≡ voice_of program }
+pub fn tongue_of(program: Program) -> Option<Tongue>
+    ensures { result ≡ tongue_of program }
 {
     match program {
-        Program::Dialogue(pick) => Some(Voice {
-            pick,
-            form: Form::Plain,
-        }),
-        Program::DialogueJson(pick) => Some(Voice {
-            pick,
-            form: Form::Json,
-        }),
+        Program::Dialogue(pick) => Some(manual(pick, Form::Plain)),
+        Program::DialogueJson(pick) => Some(manual(pick, Form::Json)),
+        Program::DialogueLive(order) => Some(live(order, Form::Plain)),
+        Program::DialogueLiveJson(order) => Some(live(order, Form::Json)),
         _ => None,
     }
 }
 
-/// Answers each command of a script before more is read, in this voice, over one device with both directions, flushes it, however
+// By the manual's rules, in this form.
+fn manual(pick: Pick, form: Form) -> Tongue
+    ensures { result ≡ manual pick form }
+{
+    Tongue::Manual(Voice { pick, form })
+}
+
+// By those of live nodes.
+fn live(order: Order, form: Form) -> Tongue
+    ensures { result ≡ live order form }
+{
+    Tongue::Live(LiveVoice { order, form })
+}
+
+/// Answers each command of a script before more is read, in this tongue, over one device with both directions, flushes it, however
 /// that ended, and answers the exit status, which is that of [`rehearse_alone`].
 pub fn rehearse_dialogue<D: Source + Sink>(
     alloc: Global,
-    voice: Voice,
+    tongue: Tongue,
     device: &mut Watched<D>,
 ) -> u8
     requires { device.old.failed ≡ false }
     ensures { DialogueStatus D.Source.gives D.Source.fails D.Sink.takes D.Sink.flushes D.Sink.fails
-        voice result device.old device.new }
+        (said_in tongue) result device.old device.new }
 {
-    let ended = run_dialogue(alloc, device, voice);
+    let ended = talk(alloc, tongue, device);
     flush_and_answer(ended, device)
+}
+
+// Answers them so, and says how that ended.
+fn talk<D: Source + Sink>(
+    alloc: Global,
+    tongue: Tongue,
+    device: &mut Watched<D>,
+) -> Result<(), RunFault>
+    requires { device.old.failed ≡ false }
+    ensures { DialogueGives D.Source.gives D.Source.fails D.Sink.takes D.Sink.flushes D.Sink.fails
+        (said_in tongue) result device.old device.new }
+{
+    match tongue {
+        Tongue::Manual(voice) => run_dialogue(alloc, device, voice),
+        Tongue::Live(voice) => run_live_dialogue(alloc, device, voice),
+    }
 }
 
 // Runs a program that starts no threads over its devices.
@@ -129,7 +175,10 @@ fn ended_alone<S: Source, K: Sink, W: Watch>(
         Program::CheckJson => check_json(alloc, reader, writer),
         Program::Run(pick) | Program::Dialogue(pick) => run(alloc, reader, writer, pick),
         Program::RunLive(order, manner) => run_live(alloc, reader, writer, order, manner),
-        Program::RunLiveJson(order) => live_json(alloc, reader, writer, order),
+        Program::DialogueLive(order) => run_live(alloc, reader, writer, order, PLAIN),
+        Program::RunLiveJson(order) | Program::DialogueLiveJson(order) => {
+            live_json(alloc, reader, writer, order)
+        }
         Program::RunIn(pick, manner) => run_in(alloc, reader, writer, pick, manner),
         Program::RunJson(pick) | Program::DialogueJson(pick) => {
             run_json(alloc, reader, writer, pick)
@@ -139,6 +188,7 @@ fn ended_alone<S: Source, K: Sink, W: Watch>(
         Program::Verify(pick) => run_verify(alloc, reader, writer, pick),
         Program::VerifyLive(order) => run_live_verify(alloc, reader, writer, order),
         Program::Lint(pick, manner) => run_lint(alloc, reader, writer, pick, manner),
+        Program::LintLive(order, manner) => run_live_lint(alloc, reader, writer, order, manner),
         Program::Explore(pick, room, _) => {
             run_explore(&Alone, watch, alloc, reader, writer, pick, room)
         }
