@@ -7,8 +7,9 @@ import os
 import signal
 import subprocess
 import tempfile
-from collections.abc import Sequence
+from collections.abc import Callable, Sequence
 from contextlib import suppress
+from dataclasses import dataclass
 from itertools import islice
 from threading import Thread
 from typing import Optional
@@ -17,6 +18,7 @@ from rehearse_tools.endings import Refused, why_of
 from rehearse_tools.inputs import joined, to_bytes, to_text
 from rehearse_tools.program import NO_SUBCOMMAND, BadLine, Program, hand_on
 from rehearse_tools.reading import Answer, JsonRun, Names, Report
+from rehearse_tools.reading_live import LiveAnswer
 
 SHOW = "show"
 # Once nothing more comes the process has so many seconds for its end.
@@ -73,12 +75,23 @@ class Child:
             return status, to_text(self.errors.read())
 
 
+@dataclass(frozen=True)
+class Rules:
+    """By which rules is answered: the words that say so to the program, and how its answers are read."""
+    words: tuple[str, ...]
+    answer: Callable[[str], Answer]
+
+
+MANUAL = Rules((), Answer)
+LIVE = Rules(("--rules", "otp25"), LiveAnswer)
+
+
 class Conversation:
     """A rehearsal that goes on: the commands that were made, and the process that made them. Where that has ended, as it does at a line
     that is no command, the next question begins it anew behind these commands."""
 
-    def __init__(self, program: Program, cluster: str, source: str):
-        self.program, self.cluster, self.source = program, cluster, source
+    def __init__(self, program: Program, cluster: str, source: str, rules: Rules = MANUAL):
+        self.program, self.cluster, self.source, self.rules = program, cluster, source, rules
         self.made: list[str] = []
         self.child: Optional[Child] = None
         self.first = ""
@@ -97,7 +110,7 @@ class Conversation:
     def ask(self, commands: Sequence[str]) -> tuple[list[Answer], Report]:
         """The answers to some more commands, and the report behind them. Where one of these lines is no command, none is made."""
         again = [] if self.child else list(self.made)
-        *answers, shown = self.run([*again, *commands, SHOW]).answers
+        *answers, shown = (self.rules.answer(answer.line) for answer in self.run([*again, *commands, SHOW]).answers)
         if "report" not in shown.fields:
             self.end()
             raise Refused(f"{self.program.path} isn't the program: it doesn't answer each command")
@@ -107,7 +120,8 @@ class Conversation:
     def run(self, lines: Sequence[str]) -> JsonRun:
         """What is told of some more lines, each of which is owed an answer; a new process is given the cluster file first."""
         is_new = self.child is None
-        child = self.child = self.child or Child([self.program.path, "run", "--interactive", "--json", "--pick", self.program.pick])
+        child = self.child = self.child or Child([self.program.path, "run", "--interactive", "--json", *self.rules.words,
+                                                  "--pick", self.program.pick])
         # One CR at the end of a line is dropped: so a line keeps its own.
         text = (joined(self.cluster, []) if is_new else "") + "".join(f"{line}\r\n" for line in lines)
         try:
@@ -127,7 +141,8 @@ class Conversation:
         """Why the process ended when it had told so much; the first line that is left is that of which it told last."""
         status, error = self.end()
         if status == NO_SUBCOMMAND:
-            return Refused(f"{self.program.path} is older than this tool: its `run` has no --interactive")
+            asked = " ".join(["--interactive", *self.rules.words])
+            return Refused(f"{self.program.path} is older than this tool: its `run` has no {asked}")
         hand_on(error)
         run = JsonRun(status, told)
         if run.bad_line is not None:

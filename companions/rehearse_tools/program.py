@@ -116,9 +116,10 @@ class Program:
             raise Refused(f"{self.path} isn't the program: it doesn't answer each command")
         return answers
 
-    def story(self, cluster: str, script: Sequence[str], source: str) -> bytes:
-        """A script told as a story, behind its cluster file: an input again, with each answer as comments."""
-        done = self.done(["story", "--whole", "--pick", self.pick], joined(cluster, script))
+    def story(self, cluster: str, script: Sequence[str], source: str, rules: Sequence[str] = ()) -> bytes:
+        """A script told as a story, behind its cluster file: an input again, with each answer as comments. Some words may say by which
+        rules."""
+        done = self.done(["story", "--whole", *rules, "--pick", self.pick], joined(cluster, script))
         if done.returncode != 0:
             raise Refused(f"{source}: {self.ended(PlainRun(done.returncode, lines_of(to_text(done.stdout))))}")
         return done.stdout

@@ -15,6 +15,9 @@ next timers. Besides the commands of a script (`help` lists them) there are:
   help           the commands; help COMMAND tells of one
   quit           ends, as `exit` and Ctrl-D do
 
+With --rules otp25 live nodes of OTP 25.2.3 answer, as by `rehearse run --rules otp25`: a call can stay open (`no answer`), and `show`
+tells what hangs. Then `live` has nothing to tell.
+
 What is saved is what `rehearse story` writes: an input of `rehearse run`, of `rehearse verify` (which tells what comes otherwise), and
 of this companion. One process of the program (`rehearse run --interactive`) answers all commands, each as fast behind many as behind
 few. A line that is no command ends it: it is begun anew then, on all that was entered so far.
@@ -33,7 +36,7 @@ from typing import TYPE_CHECKING, Optional
 
 from rehearse_tools.colours import CYAN, GREEN, RED, YELLOW, coloured, shows_colours
 from rehearse_tools.command_line import CommandLine
-from rehearse_tools.conversing import Conversation
+from rehearse_tools.conversing import LIVE, MANUAL, Conversation
 from rehearse_tools.endings import Refused
 from rehearse_tools.inputs import Input, called, commands_of, is_command, joined, read_text, split_input, words_of
 from rehearse_tools.program import BadLine
@@ -45,11 +48,14 @@ if TYPE_CHECKING:
     from rehearse_tools.shell_history import History
     from rehearse_tools.shell_live import Beside
 
+# By which rules is answered, as the option has it.
+RULES = {"manual": MANUAL, "otp25": LIVE}
 # What moves in a story, and is no step of it.
 MOVES = ("undo", "redo", "undo_all", "redo_all")
 # Which lines have which colour.
 COLOURS = {"refused ": RED, "that is no command": RED, "started ": GREEN, "up ": GREEN, "stopped ": YELLOW, "ended ": YELLOW,
-           "waits ": CYAN, "< ": RED, "> ": YELLOW, "! ": YELLOW, "? ": YELLOW}
+           "waits ": CYAN, "no answer": YELLOW, "error ": RED, "endless": RED, "failed ": RED, "pending ": YELLOW, "answered ": GREEN,
+           "  blocked ": RED, "open ": YELLOW, "< ": RED, "> ": YELLOW, "! ": YELLOW, "? ": YELLOW}
 LIVE_HEAD = "beside each answer what live nodes do otherwise: < by the rules, > live nodes, ! why"
 
 
@@ -143,7 +149,7 @@ def saved(session: Session, is_all: bool) -> bytes:
     """The input that is saved: the cluster file and its script, with the answers as the program tells a story."""
     steps, notes = story(session.lines, session.told)
     lines = session.lines if is_all else [line for step in steps for line in step.lines] + notes
-    return session.talk.program.story(session.talk.cluster, lines, session.talk.source)
+    return session.talk.program.story(session.talk.cluster, lines, session.talk.source, session.talk.rules.words)
 
 
 def save(session: Session, words: Sequence[str]) -> str:
@@ -158,11 +164,13 @@ def save(session: Session, words: Sequence[str]) -> str:
     except OSError as fault:
         return f"{words[1]}: {fault.strerror}"
     session.saved.add(path)
-    return f"saved: rehearse verify < {words[1]}"
+    return f"saved: {' '.join(['rehearse verify', *session.talk.rules.words])} < {words[1]}"
 
 
 def set_live(session: Session, words: Sequence[str]) -> str:
     """Tells of live nodes, now, or from now on beside each answer."""
+    if session.talk.rules is LIVE:
+        return "live nodes answer here; without --rules otp25 the manual's rules do, and live tells where they differ"
     if list(words[1:]) not in ([], ["on"], ["off"]):
         return "live, live on, or live off"
     if len(words) == 1:
@@ -229,13 +237,16 @@ def opened(talk: Conversation, parts: Input) -> tuple[Session, str]:
     behind = f", behind {plural(len(parts.base), 'command')} of the script" if parts.base else ""
     names = session.names
     counts = f"{plural(len(names.nodes), 'node')}, {plural(len(names.apps), 'application')}"
-    return session, f"{counts}, profile {names.profile}{behind}; help lists the commands"
+    who = ", live nodes of OTP 25" if talk.rules is LIVE else ""
+    return session, f"{counts}, profile {names.profile}{who}{behind}; help lists the commands"
 
 
 def command_line() -> CommandLine:
     """The command line of this tool."""
     line = CommandLine("shell", __doc__)
     line.add_argument("file", metavar="FILE", help="a cluster file, with a script or without one")
+    line.add_argument("--rules", choices=tuple(RULES), default="manual",
+                      help="who answers: the manual's rules, or live nodes of OTP 25.2.3 (default: manual)")
     line.add_program()
     return line
 
@@ -247,7 +258,7 @@ def main(words: Sequence[str]) -> None:
     if sys.stdin is None or sys.stdout is None:
         raise Refused(f"standard {'input' if sys.stdin is None else 'output'}: it is closed")
     program, parts = line.program(given), split_input(read_text(given.file))
-    with Conversation(program, parts.cluster, called(given.file)) as talk:
+    with Conversation(program, parts.cluster, called(given.file), RULES[given.rules]) as talk:
         session, told = opened(talk, parts)
         print(told)
         converse(session)

@@ -122,6 +122,56 @@ def live_nodes(program):
             yield f"live nodes {name}", fault_of(done, 0, None) or (None if re.fullmatch(owed, told) else told)
 
 
+# A start waits for a better node, which is up and never starts it.
+HANGING = """{node, n1@lab, [
+  {kernel, [{distributed, [{svc, 1000, [n1@lab, n2@lab]}]},
+    {sync_nodes_optional, [n2@lab]}, {sync_nodes_timeout, 1000}]}]}.
+{node, n2@lab, [
+  {kernel, [{distributed, [{svc, 1000, [n1@lab, n2@lab]}]},
+    {sync_nodes_optional, [n1@lab]}, {sync_nodes_timeout, 1000}]}]}.
+{application, svc, []}.
+"""
+HANGS = "boot n1@lab\nboot n2@lab\nstart n2@lab svc transient\n"
+HUNG = "ok\nok\nup n2@lab\nup n1@lab\nno answer\n"
+HUNG_REPORT = ("ok\nnow 0\nnode n1@lab up 1\nnode n2@lab up 1\n  starting svc\n  blocked dist_ac start svc for n1@lab\n"
+               "app svc nowhere\nopen start n2@lab svc transient\n")
+HUNG_STORY = """boot n1@lab
+#= ok
+boot n2@lab
+#= ok
+#= up n2@lab
+#= up n1@lab
+start n2@lab svc transient
+#= no answer
+#- n2@lab blocked dist_ac start svc for n1@lab
+"""
+
+
+def by_live_nodes(program):
+    """With --rules otp25 live nodes answer: what is said, shown, taken back and saved."""
+    live = ("--rules", "otp25")
+    banner = "2 nodes, 1 application, profile 1, live nodes of OTP 25; help lists the commands\n"
+    with Files() as files:
+        file, story = files.path("cluster", HANGING), files.path("story")
+        for name, entered, owed in [
+                ("a start that hangs", HANGS + "show\ncrash n1@lab\nundo\nundo\nredo\nshow\n",
+                 HUNG + HUNG_REPORT + "ok\nended n1@lab\nstarted svc n2@lab normal\nanswered start n2@lab svc transient: ok\nok\nok\nok\n" + HUNG_REPORT),
+                ("what is refused", "start n1@lab svc transient\nboot n1@lap\nboots n1@lab\n",
+                 "refused S8 node_not_up\nrefused S1 unknown_node\ndid you mean n1@lab?\nthat is no command (did you mean boot?): help lists them\n"),
+                ("live", "live\n", "live nodes answer here; without --rules otp25 the manual's rules do, and live tells where they differ\n")]:
+            yield f"by live nodes: {name}", fault_of(talk(program, entered, file, live), 0, (banner + owed).encode())
+        done = talk(program, f"# A start that waits.\n{HANGS}boot n1@lab\nshow\nsave {story}\n", file, live)
+        saved = banner + HUNG + "refused S3 already_alive\n" + HUNG_REPORT + f"saved: rehearse verify --rules otp25 < {story}\n"
+        yield "by live nodes: save", fault_of(done, 0, saved.encode())
+        text, kept = f"{HANGING}===\n# A start that waits.\n{HUNG_STORY}".encode(), read(story)
+        yield "by live nodes: what is saved", None if kept == text else difference(text, kept)
+        done = run(program, ["verify", *live], input=read(story))
+        yield "by live nodes: it holds", fault_of(done, 0, b"ok 3 of 3 commands checked\n")
+        done = talk(program, "show\n", story, live)
+        behind = banner.replace("; help", ", behind 3 commands of the script; help")
+        yield "by live nodes: behind a story", fault_of(done, 0, (behind + HUNG_REPORT).encode())
+
+
 def second_profile(program):
     """A file of profile 2: a permission that is given back pulls web back, and what is saved is of that profile too."""
     text = "% The profile of a live OTP.\n{profile, 2}. " + CLUSTER
@@ -571,5 +621,5 @@ def faults(program):
     yield "--help", fault_of(done, 0, None) or (None if b"save PATH" in done.stdout else f"{done}")
 
 
-TESTS = (conversations, live_nodes, second_profile, banners, like_a_run, stories, keys, history, colours, one_process, deaths, interrupts, timers,
+TESTS = (conversations, live_nodes, by_live_nodes, second_profile, banners, like_a_run, stories, keys, history, colours, one_process, deaths, interrupts, timers,
          faults)
