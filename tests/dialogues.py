@@ -19,8 +19,9 @@ INPUT_LIMIT = 16_777_216
 LONGEST_WAIT = 20
 NOTHING_COMES = 0.05
 FORMS = ((), ("--json",))
+LIVE = ("--rules", "otp25")
 # In another manner no line is answered as it comes.
-OTHERS = {"--echo", "--strict", "--interactive", "--rules"}
+OTHERS = {"--echo", "--strict", "--interactive"}
 
 
 class Talk:
@@ -122,6 +123,9 @@ def ends_at_once(program):
             ((), CLUSTER + b"boot a@x\nboot\nboot b@x\n", 3, b"ok\nup a@x\nbad line 2\n"),
             (("--json",), CLUSTER + b"undo\nboot\n", 3,
              JSON_CLUSTER + b'{"line":1,"command":"undo","answer":"refused at_start"}\n{"line":2,"bad":true}\n'),
+            (LIVE, CLUSTER + b"boot a@x\nboot\nboot b@x\n", 3, b"ok\nup a@x\nbad line 2\n"),
+            ((*LIVE, "--json"), CLUSTER + b"undo\nboot\n", 3,
+             JSON_CLUSTER + b'{"line":1,"command":"undo","answer":"refused at_start"}\n{"line":2,"bad":true}\n'),
             ((), b"===\n", 2, b"cluster refused C2 no_nodes\n"),
             (("--json",), b"===\n", 2, b'{"refused":"C2","reason":"no_nodes"}\n')]:
         with Talk(program, words) as talk:
@@ -172,4 +176,4 @@ def long_inputs(program):
         yield f"{len(text)} bytes line by line", fault_of(done, status, b"ok\nup a@x\n")
 
 
-TESTS = (rows, examples, Group(held_pipes, FORMS), ends_at_once, pieces, many_commands, long_inputs)
+TESTS = (rows, examples, Group(held_pipes, (*FORMS, LIVE, (*LIVE, "--json"))), ends_at_once, pieces, many_commands, long_inputs)

@@ -74,6 +74,7 @@ INPUTS = {
     "verify --rules otp25": (CLUSTER + b"boot a@x\n#= ok\n#= up a@x\n#? node a@x up 1\nundo\n", b"ok 1 of 2 commands checked\n"),
     "sweep --rules otp25": (CLUSTER + b"boot a@x\nplan p\nplan q\ncrash b@x\n",
                             b"ok\nup a@x\nplan p accepted 0\nplan q accepted 0\nrefused 1 S5 not_alive\n"),
+    "run --rules otp25 --interactive": (CLUSTER + b"boot a@x\n# again\nboot a@x\nundo", b"ok\nup a@x\nrefused S3 already_alive\nok\n"),
     "run --interactive": (CLUSTER + b"boot a@x\n# again\nboot a@x\nundo", b"ok\nup a@x\nrefused S3 already_alive\nok\n"),
     "run --interactive --json": (CLUSTER + b"boot a@x\nboot a@x", b'{"profile":1,"nodes":["a@x","b@x"],"applications":[]}\n'
                                  b'{"line":1,"command":"boot a@x","answer":"ok","notices":[{"kind":"up","node":"a@x"}]}\n'

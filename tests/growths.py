@@ -94,7 +94,8 @@ MADE = {
     "rows/json/sweep-not-at-end": ("sweep_fault_line",),
     "rows/manner/echo-and-strict": ("run_in", "write_echo", "end_of"),
     "rows/manner/echo-of-a-bad-line": ("answer_bad_line",),
-    "rows/manner/interactive": ("run_dialogue",),
+    "rows/manner/interactive": ("run_dialogue", "run_dialogue_by"),
+    "rows/otp25/interactive": ("run_live_dialogue",),
 }
 # Those that are made five thousand times, of a cluster of the second profile with 128 applications: none wants memory.
 MANY = ("Sim::step", "Room::serve", "try_plan")
@@ -287,7 +288,7 @@ SURFACE = {
     "rh_courses": ("course", "walk", "text"), "rh_story": ("story",), "rh_verify": ("verifying",),
     "rh_json_text": ("pieces", "words"),
     "rh_json_lines": ("answers", "clusters", "notices", "outcomes", "reports", "starts"), "rh_json": ("running", "checking"),
-    "rh_manner": ("running", "dialogue"),
+    "rh_manner": ("running", "dialogue"), "rh_otp_dialogue": ("dialogue",),
 }
 # Calls that do nothing: their contracts are what they are for.
 FACTS = {"Cluster::is_within", "Lists::formed", "Wheel::formed", "State::formed", "Sim::is_chained", "Sim::is_reversible",
