@@ -13,6 +13,7 @@ pub mod Hearing
 pub mod Racing
 pub mod Begun
 pub mod News
+pub mod Posting
 pub mod Telling
 pub mod Phases
 pub mod Underway

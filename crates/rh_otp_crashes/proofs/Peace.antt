@@ -285,7 +285,7 @@ taken_all P e (m ∷ messages) left (inr later) all =
     (more.0, subst (All P) (sym later.2) (All-cons P m later.1 (All-head P m messages all) more.1))
 
 -- of one pair there is one first message
-one_first : (e f : Envelope) (messages left_e left_f : List Envelope) → is_of_pair e f ≡ true → Taken e messages left_e
+pub one_first : (e f : Envelope) (messages left_e left_f : List Envelope) → is_of_pair e f ≡ true → Taken e messages left_e
     → Taken f messages left_f → (e ≡ f) × (left_e ≡ left_f)
 one_first e f [] left_e left_f same taken_e taken_f = absurd taken_e
 one_first e f (m ∷ messages) left_e left_f same (inl here_e) (inl here_f) = (sym here_e.0 ∙ here_f.0, here_e.1 ∙ sym here_f.1)
@@ -310,7 +310,7 @@ pub record Delivered (P : Node → DistView → Type 0) (K : Envelope → Type 0
   pub kind : K message
   pub still : AtPeace P K lives (without s left)
 
-no_place : {A : Type 0} (xs : List A) (place : ℕ) → xs ≡ [] → place < length xs → ⊥
+pub no_place : {A : Type 0} (xs : List A) (place : ℕ) → xs ≡ [] → place < length xs → ⊥
 no_place xs place none within = let empty : length xs ≡ 0 = ap length none in omega (arith, empty, within)
 
 nobody_parked : (b c : Bool) → (b && false && c) ≡ false

@@ -1,8 +1,8 @@
 -- What the dist_ac of the node does that starts an application: at the loss, and when it runs.
-use Rattle.std.proofs.Common.{◌≡◌, ◌≢◌, ◌⊎◌, ◌++◌, ◌==◌, ◌&&◌, ◌||◌, ℕ, Bool, true, false, cond, length, filter, List, [], ◌∷◌, Option, Some, None, refl, sym, ap, subst, ◌∙◌, inl, inr}
+use Rattle.std.proofs.Common.{◌≡◌, ◌⊎◌, ◌++◌, ◌==◌, ◌||◌, ℕ, Bool, true, false, cond, length, filter, List, [], ◌∷◌, Option, Some, None, refl, sym, ap, subst, ◌∙◌, inl, inr}
 use Rattle.std.specs.Prelude.{All}
-use Rattle.std.proofs.lemmas.Bool.{eq-eqb, false≢true}
-use Rattle.std.proofs.lemmas.List.{append_assoc, append-nil}
+use Rattle.std.proofs.lemmas.Bool.{eq-eqb}
+use Rattle.std.proofs.lemmas.List.{append-nil}
 use Rattle.std.proofs.lemmas.List.Elements.{All-nil, All-cons, All-weaker}
 use Rattle.std.proofs.lemmas.Option.{none-some, same_Some}
 use Rattle.rh_model.specs.declared.node.App.{App}
@@ -11,33 +11,28 @@ use Rattle.rh_otp_model.specs.declared.fault.Outcome.TheVariants.{Done}
 use Rattle.rh_otp_model.specs.declared.message.Message.{Message}
 use Rattle.rh_otp_model.specs.declared.message.Message.TheVariants as message
 use Rattle.rh_otp_model.specs.declared.output.Envelope.{Envelope}
-use Rattle.rh_otp_model.specs.declared.output.Output.{Output}
-use Rattle.rh_otp_model.specs.declared.output.Output.TheVariants as output
-use Rattle.rh_otp_model.specs.declared.process.Role.TheVariants as role
-use Rattle.rh_otp_model.specs.Processes.{process_at}
 use Rattle.rh_otp_model.specs.Rows.{without_rows}
 use Rattle.rh_otp_dist.specs.declared.state.Stand.TheVariants as stand
 use Rattle.rh_otp_dist.specs.declared.state.Standing.TheVariants as standing
 use Rattle.rh_otp_dist.specs.Outside.{with_message}
-use Rattle.rh_otp_dist.specs.Sending.{send_all, send_to, del_t_reqs, answer_each, with_takeovers}
+use Rattle.rh_otp_dist.specs.Sending.{del_t_reqs, answer_each, with_takeovers}
 use Rattle.rh_otp_dist.specs.State.{DistView, TurnView, with_standing, is_among}
 use Rattle.rh_otp_dist.specs.Told.{run, set_standing}
 use Rattle.rh_otp_dist.specs.Waiting.{takes}
 use Rattle.rh_otp_net.specs.Links.{are_linked}
 use Rattle.rh_otp_node.specs.Live.{LiveView, is_alive}
-use Rattle.rh_otp_system.specs.Connecting.{reach, send_reached, send_to_dist}
-use Rattle.rh_otp_system.specs.Outputs.{all_carried_out}
-use Rattle.rh_otp_system.specs.State.{SystemView, live_at, node_at, with_node, has_dist_at, is_alive_at, process_in}
+use Rattle.rh_otp_system.specs.State.{SystemView, live_at, node_at, with_node, is_alive_at}
 use Rattle.rh_otp_system.specs.Working.{mailed}
 use Rattle.rh_otp_laws.proofs.Nodes.{alive_is_there, same_of_all}
 use Rattle.rh_otp_crashes.specs.Crashes.{IsUnoccupied}
 use Rattle.rh_otp_crashes.specs.Failovers.{IsFirst}
 use Rattle.rh_otp_crashes.proofs.Carrying.{IsPlain}
-use Rattle.rh_otp_crashes.proofs.News.{IsNews, IsAbroad, IsFresh, starts, tells, moves, wakes, hears, learns, wakens, it_fails_over, news, is_to}
+use Rattle.rh_otp_crashes.proofs.News.{IsNews, IsAbroad, IsFresh, starts, tells, moves, wakes, hears, learns, wakens, it_fails_over, is_to}
 use Rattle.rh_otp_crashes.proofs.Peace.{AtPeace, Acted, ActedAs, acts_dist_as}
+use Rattle.rh_otp_crashes.proofs.Posting.{posts, sends, mails, all_posted, all_mailed}
 use Rattle.rh_otp_crashes.proofs.Starting.{restarts, started_over}
 use Rattle.rh_otp_crashes.proofs.Turning.{Turned, own_in, node_is, turn, weighing, none_on, idle_comes, waits_on, still_waits}
-use Rattle.rh_otp_crashes.proofs.Waiting.{Behaves, first_is_free, stays}
+use Rattle.rh_otp_crashes.proofs.Waiting.{Behaves, first_is_free}
 
 -- What becomes of it: nobody waits for a takeover, and it knows the same nodes as before.
 pub record Knows (o : Option DistView) (d : DistView) : Type 0 where
@@ -92,132 +87,23 @@ loses {lives} {n} {a} loss s f alive first none =
 
 -- ---- it runs
 
--- the others that it knows are told
-abbrev posts : Node → App → List Node → List Output
-posts n a [] = []
-posts n a (m ∷ nodes) = cond (m.0 == n.0) (posts n a nodes) (output.ToDist m (message.AppStarted n a None) ∷ posts n a nodes)
-
-sends_by : (n : Node) (a : App) (m : Node) (nodes : List Node) (b : Bool) (t : TurnView)
-    → ((out : List Output) → send_all nodes (message.AppStarted n a None) (record t { out = out }) ≡ record t { out = out ++ posts n a nodes })
-    → send_all nodes (message.AppStarted n a None) (cond b t (send_to m (message.AppStarted n a None) t))
-    ≡ record t { out = t.out ++ cond b (posts n a nodes) (output.ToDist m (message.AppStarted n a None) ∷ posts n a nodes) }
-sends_by n a m nodes true t rest = rest t.out
-sends_by n a m nodes false t rest =
-    rest (t.out ++ output.ToDist m (message.AppStarted n a None) ∷ [])
-    ∙ (λ i. record t { out = append_assoc t.out (output.ToDist m (message.AppStarted n a None) ∷ []) (posts n a nodes) i })
-
-sends : (a : App) (nodes : List Node) (t : TurnView)
-    → send_all nodes (message.AppStarted t.here.node a None) t ≡ record t { out = t.out ++ posts t.here.node a nodes }
-sends a [] t = λ i. record t { out = sym (append-nil t.out) i }
-sends a (m ∷ nodes) t =
-    sends_by t.here.node a m nodes (m.0 == t.here.node.0) t (λ out. sends a nodes (record t { out = out }))
+-- what the others that it knows are told
+abbrev it_is_here : Node → App → Message
+it_is_here n a = message.AppStarted n a None
 
 abbrev run_over : App → TurnView → TurnView
 run_over a t = record t {
   state = record (with_standing a standing.Local t.state) { t_reqs = [] };
-  out = t.out ++ posts t.here.node a t.state.known;
+  out = t.out ++ posts t.here.node (it_is_here t.here.node a) t.state.known;
 }
 
 runs_so : (a : App) (t : TurnView) → t.state.t_reqs ≡ [] → run a None t ≡ run_over a t
 unfolding run del_t_reqs
 runs_so a t none =
     ap (λ (u : TurnView). set_standing a standing.Local (with_takeovers (without_rows a u.state.t_reqs) (answer_each a Done u.state.t_reqs u)))
-    (sends a t.state.known t)
+    (sends (it_is_here t.here.node a) t.state.known t)
     ∙ ap (λ rows. set_standing a standing.Local (with_takeovers (without_rows a rows)
-    (answer_each a Done rows (record t { out = t.out ++ posts t.here.node a t.state.known })))) none
-
--- those that are alive and have a dist_ac get it
-abbrev mails : (Node → ℕ) → SystemView → Node → App → List Node → List Envelope
-mails lives s n a [] = []
-mails lives s n a (m ∷ nodes) =
-    cond (m.0 == n.0) (mails lives s n a nodes)
-    (cond (is_alive_at s m && has_dist_at s m) (news lives n a m ∷ mails lives s n a nodes) (mails lives s n a nodes))
-
-posted : {lives : Node → ℕ} (n m : Node) (a : App) (s : SystemView) → ((k : Node) → (node_at s k).life ≡ lives k)
-    → (is_alive_at s m ≡ true → (n.0 == m.0 || are_linked n m s.links) ≡ true)
-    → send_to_dist n m (message.AppStarted n a None) s
-    ≡ cond (is_alive_at s m && has_dist_at s m) (record s { messages = s.messages ++ news lives n a m ∷ [] }) s
-posted {lives} n m a s same seen = by (is_alive_at s m) refl
-  where
-    sent_so : record s {
-      messages = s.messages ++ record {
-        from = process_in s n role.DistAc;
-        to = process_in s m role.DistAc;
-        message = message.AppStarted n a None;
-      } ∷ [];
-    }
-        ≡ record s { messages = s.messages ++ news lives n a m ∷ [] }
-    sent_so = λ i. record s {
-      messages = s.messages ++ record {
-        from = process_at (record { node = n; life = same n i }) role.DistAc;
-        to = process_at (record { node = m; life = same m i }) role.DistAc;
-        message = message.AppStarted n a None;
-      } ∷ [];
-    }
-
-    has : (c : Bool) → cond c (record s {
-      messages = s.messages ++ record {
-        from = process_in s n role.DistAc;
-        to = process_in s m role.DistAc;
-        message = message.AppStarted n a None;
-      } ∷ [];
-    }) s
-        ≡ cond c (record s { messages = s.messages ++ news lives n a m ∷ [] }) s
-    has true = sent_so
-    has false = refl
-
-    by : (b : Bool) → is_alive_at s m ≡ b → cond b (send_reached n m (message.AppStarted n a None) (reach n m s)) s
-        ≡ cond (b && has_dist_at s m) (record s { messages = s.messages ++ news lives n a m ∷ [] }) s
-    by true alive = ap (send_reached n m (message.AppStarted n a None)) (stays n m s (seen alive)) ∙ has (has_dist_at s m)
-    by false dead = refl
-
-post_by : (lives : Node → ℕ) (n m : Node) (a : App) (nodes : List Node) (s : SystemView) (b : Bool)
-    → ((l : List Envelope) → all_carried_out n (posts n a nodes) (record s { messages = l }) ≡ record s { messages = l ++ mails lives s n a nodes })
-    → send_to_dist n m (message.AppStarted n a None) s
-    ≡ cond (is_alive_at s m && has_dist_at s m) (record s { messages = s.messages ++ news lives n a m ∷ [] }) s
-    → all_carried_out n (cond b (posts n a nodes) (output.ToDist m (message.AppStarted n a None) ∷ posts n a nodes)) s
-    ≡ record s {
-      messages = s.messages ++ cond b (mails lives s n a nodes)
-          (cond (is_alive_at s m && has_dist_at s m) (news lives n a m ∷ mails lives s n a nodes) (mails lives s n a nodes));
-    }
-post_by lives n m a nodes s true rest one = rest s.messages
-post_by lives n m a nodes s false rest one = ap (all_carried_out n (posts n a nodes)) one ∙ by (is_alive_at s m && has_dist_at s m)
-  where
-    by : (c : Bool) → all_carried_out n (posts n a nodes) (cond c (record s { messages = s.messages ++ news lives n a m ∷ [] }) s)
-        ≡ record s { messages = s.messages ++ cond c (news lives n a m ∷ mails lives s n a nodes) (mails lives s n a nodes) }
-    by true =
-        rest (s.messages ++ news lives n a m ∷ [])
-        ∙ (λ i. record s { messages = append_assoc s.messages (news lives n a m ∷ []) (mails lives s n a nodes) i })
-    by false = rest s.messages
-
-either_way : (p : Bool) → (p || true) ≡ true
-either_way true = refl
-either_way false = refl
-
-all_posted : {lives : Node → ℕ} (n : Node) (a : App) (nodes : List Node) (s : SystemView) → ((k : Node) → (node_at s k).life ≡ lives k)
-    → ((m : Node) → is_among m nodes ≡ true → is_alive_at s m ≡ true → (n.0 == m.0 || are_linked n m s.links) ≡ true)
-    → all_carried_out n (posts n a nodes) s ≡ record s { messages = s.messages ++ mails lives s n a nodes }
-all_posted n a [] s same seen = λ i. record s { messages = sym (append-nil s.messages) i }
-all_posted {lives} n a (m ∷ nodes) s same seen =
-    post_by lives n m a nodes s (m.0 == n.0)
-    (λ l. all_posted n a nodes (record s { messages = l }) same
-    (λ k among. seen k (ap (λ (c : Bool). k.0 == m.0 || c) among ∙ either_way (k.0 == m.0))))
-    (posted n m a s same (seen m (ap (λ (b : Bool). b || is_among m nodes) (eq-eqb m.0 m.0 refl))))
-
-mailed_by : (lives : Node → ℕ) (P : Envelope → Type 0) (s : SystemView) (n m : Node) (a : App) (nodes : List Node) (b : Bool)
-    → ((k : Node) → k.0 ≢ n.0 → P (news lives n a k)) → (m.0 == n.0) ≡ b → (c : Bool) → All P (mails lives s n a nodes)
-    → All P (cond b (mails lives s n a nodes) (cond c (news lives n a m ∷ mails lives s n a nodes) (mails lives s n a nodes)))
-mailed_by lives P s n m a nodes true so is c rest = rest
-mailed_by lives P s n m a nodes false so is true rest =
-    All-cons P (news lives n a m) (mails lives s n a nodes) (so m (λ same. false≢true (sym is ∙ eq-eqb m.0 n.0 same))) rest
-mailed_by lives P s n m a nodes false so is false rest = rest
-
--- what is so of the news to each other node is so of all that is sent
-all_mailed : (lives : Node → ℕ) (P : Envelope → Type 0) (s : SystemView) (n : Node) (a : App) (nodes : List Node)
-    → ((k : Node) → k.0 ≢ n.0 → P (news lives n a k)) → All P (mails lives s n a nodes)
-all_mailed lives P s n a [] so = All-nil P
-all_mailed lives P s n a (m ∷ nodes) so =
-    mailed_by lives P s n m a nodes (m.0 == n.0) so refl (is_alive_at s m && has_dist_at s m) (all_mailed lives P s n a nodes so)
+    (answer_each a Done rows (record t { out = t.out ++ posts t.here.node (it_is_here t.here.node a) t.state.known })))) none
 
 pub is_news : {lives : Node → ℕ} {n : Node} {a : App} (e : Envelope) → IsAbroad lives n a e → IsNews lives n a e
 is_news _ (hears m other) = tells m other
@@ -258,8 +144,9 @@ ran_idle {lives} {n} {a} s d f alive has free is none seen =
     let over : TurnView = run_over a t in
     let new : LiveView = record old { dist = Some over.state } in
     let next : SystemView = with_node n new s in
-    let more : List Envelope = mails lives next n a d.known in
-    let away : All (IsAbroad lives n a) more = all_mailed lives (IsAbroad lives n a) next n a d.known hears in
+    let msg : Message = it_is_here n a in
+    let more : List Envelope = mails lives next n msg d.known in
+    let away : All (IsAbroad lives n a) more = all_mailed lives (IsAbroad lives n a) next n msg d.known hears in
     let lives_on : (k : Node) → (node_at next k).life ≡ lives k =
     λ k. same_of_all (λ (v : LiveView). v.life) s n k new refl ∙ f.same_lives k in
     let awake : (k : Node) → is_alive_at next k ≡ is_alive_at s k = λ k. same_of_all is_alive s n k new refl in
@@ -273,7 +160,7 @@ ran_idle {lives} {n} {a} s d f alive has free is none seen =
         seen = [];
         is = idle_comes s.cluster s.files n (lives n) (message.Run a None) d over free is refl
             (λ w. runs_so a (weighing w t) none) s old there has (f.same_lives n) refl refl
-            ∙ all_posted n a d.known next lives_on (λ m among up. seen m among (sym (awake m) ∙ up))
+            ∙ all_posted n msg d.known next lives_on (λ m among up. seen m among (sym (awake m) ∙ up))
             ∙ (λ i. record next {
               messages = s.messages ++ more;
               timers = sym (append-nil s.timers) i;
@@ -292,7 +179,7 @@ ran_idle {lives} {n} {a} s d f alive has free is none seen =
         kinds = All-weaker (IsAbroad lives n a) (IsNews lives n a) is_news more away;
       };
       away = away;
-      fresh = all_mailed lives IsFresh next n a d.known (λ k other. record { fired = refl; moved = refl });
+      fresh = all_mailed lives IsFresh next n msg d.known (λ k other. record { fired = refl; moved = refl });
       controller = refl;
       knows = λ e is_next. subst (Knows (node_at s n).dist) (same_Some over.state e is_next)
           (record { takeovers = refl; before = d; had = has; known = refl });
