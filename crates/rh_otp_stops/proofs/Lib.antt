@@ -1,0 +1,9 @@
+mod Saying
+mod Words
+mod Ending
+mod Answering
+mod Still
+mod Stopping
+mod Meeting
+mod Stop
+mod Rows
