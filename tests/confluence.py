@@ -13,7 +13,10 @@ one of them some rehearsal parts, which is told by name.
 
 Of crashes and of failovers less is asked: where nothing hangs and no call is open, no two orders part at a crash where no failover time is
 0, nor at a tick within which one timer is due, which is a failover's, or several at one moment, which are failovers of one application
-without a tuple in its list. It is proved of them (rh_otp_crashes), of failovers under more conditions than are asked here.
+without a tuple in its list. It is proved of them (rh_otp_crashes), of failovers under more conditions than are asked here. Nor do two part
+at a stop where nothing hangs and no call is open, at an exit there that keeps its node, or where an application is forbidden there that
+isn't distributed. That is proved (rh_otp_stops) where no call has a lock and, of a distributed one, the node sees all that it knows of and
+nobody waits at it.
 """
 import os
 import random
@@ -44,8 +47,9 @@ KEPT_FIRST, KEPT_COUNT, KEPT_AT_ONCE = 70_000, 2_000, 100
 ORDERS = 8
 # At least so many rehearsals have to have such a file, with so many commands within the conditions.
 LEAST_REHEARSALS, LEAST_COMMANDS = 200, 2_000
-# And so many crashes of nodes at rest, and so many failovers at one node, among the random rehearsals of any kind.
-LEAST_CRASHES, LEAST_FAILOVERS = 200, 25
+# And so many crashes of nodes at rest, failovers at one node, stops at rest, exits there that keep their node, and forbids there of what
+# isn't distributed, among the random rehearsals of any kind.
+LEAST_CRASHES, LEAST_FAILOVERS, LEAST_STOPS, LEAST_EXITS, LEAST_FORBIDS = 200, 25, 150, 15, 40
 # Seeds of random clusters that lose the node at which their one application runs, and so many failovers at several nodes there have to be.
 LOST_FIRST, LOST_COUNT, LOST_AT_ONCE, LEAST_JOINT = 75_000, 200, 50, 100
 # For each condition a rehearsal that breaks it alone, and in which orders part: a script of tests/live, or a random one of a seed; and in
@@ -145,6 +149,18 @@ def is_crash_at_rest(cluster: ClusterFile, command: str, before: Lines) -> bool:
     return words_of(command)[0] == "crash" and not hangs(before) and all(entry.timeout > 0 for entry in cluster.entries.values())
 
 
+def is_end_at_rest(word: str, command: str, before: Lines, answer: Lines) -> bool:
+    """An application is stopped, or ends by itself, where nothing hangs, and no node ends with it."""
+    is_done = answer[0] == "ok" and not any(line.startswith("ended ") for line, _ in answer[1])
+    return words_of(command)[0] == word and not hangs(before) and is_done
+
+
+def is_forbid_at_rest(cluster: ClusterFile, command: str, before: Lines, answer: Lines) -> bool:
+    """An application that isn't distributed is forbidden where nothing hangs."""
+    word, *rest = words_of(command)
+    return word == "permit" and rest[2] == "false" and rest[1] not in cluster.entries and not hangs(before) and answer[0] == "ok"
+
+
 def due_in(command: str, before: Lines) -> list[list[str]]:
     """The timers that are due where time passes and nothing hangs, each as its words."""
     word, *rest = words_of(command)
@@ -182,7 +198,8 @@ def broken_by_step(cluster: ClusterFile, command: str, before: Lines, answer: Li
 @dataclass(frozen=True)
 class Measured:
     """A rehearsal: its commands, the conditions that each of them breaks, those of the file the first one, which of them are crashes of
-    nodes at rest, which failovers at one node and which at several, and the first command at which two orders part."""
+    nodes at rest, which failovers at one node and which at several, which stops at rest, which exits that keep their node, which forbids of
+    what isn't distributed, and the first command at which two orders part."""
     name: str
     kind: str
     commands: list[str]
@@ -190,6 +207,9 @@ class Measured:
     crashes: set[int]
     failovers: set[int]
     joint: set[int]
+    stops: set[int]
+    exits: set[int]
+    forbids: set[int]
     first: Optional[int]
 
     @property
@@ -206,8 +226,9 @@ class Measured:
 
     @property
     def wrong_proof(self) -> Optional[str]:
-        """At which crash of nodes at rest, or failover, two orders part, or None."""
-        return f"two orders part at command {self.first + 1}" if self.first in self.crashes | self.failovers | self.joint else None
+        """At which crash, stop, exit or forbid at rest, or failover, two orders part, or None."""
+        proved = self.crashes | self.failovers | self.joint | self.stops | self.exits | self.forbids
+        return f"two orders part at command {self.first + 1}" if self.first in proved else None
 
 
 def broken_in(text: str, commands: list[str], told: list[Told]) -> list[set[str]]:
@@ -234,6 +255,19 @@ def joint_in(text: str, commands: list[str], told: list[Told]) -> set[int]:
     return {place for place, (command, before) in enumerate(zip(commands[1:], told), 1) if is_joint_failover(cluster, command, before.report)}
 
 
+def ends_in(word: str, commands: list[str], told: list[Told]) -> set[int]:
+    """Which commands of a rehearsal are stops at rest, or exits that keep their node."""
+    return {place for place, (command, before, one) in enumerate(zip(commands[1:], told, told[1:]), 1)
+            if is_end_at_rest(word, command, before.report, one.answer)}
+
+
+def forbids_in(text: str, commands: list[str], told: list[Told]) -> set[int]:
+    """Which commands of a rehearsal forbid an application that isn't distributed, at nodes at rest."""
+    cluster = cluster_of(split_input(text).cluster)
+    return {place for place, (command, before, one) in enumerate(zip(commands[1:], told, told[1:]), 1)
+            if is_forbid_at_rest(cluster, command, before.report, one.answer)}
+
+
 def parting(told: list[list[Told]]) -> Optional[int]:
     """The first command of which several orders tell otherwise than the first one."""
     return next((place for place, one in enumerate(told[0]) if any(other[place] != one for other in told[1:])), None)
@@ -243,8 +277,10 @@ def measured(one: Rehearsal, told: list[list[Told]]) -> Measured:
     """A rehearsal of which something is told in several orders."""
     commands = list(filter(is_command, split_input(one.text).lines))
     broken = broken_in(one.text, commands, told[0])
-    crashes, joint = (tell(one.text, commands, told[0]) for tell in (crashes_in, joint_in))
-    return Measured(str(one.seed), one.kind, commands, broken, crashes, failovers_in(commands, told[0]), joint, parting(told))
+    crashes, joint, forbids = (tell(one.text, commands, told[0]) for tell in (crashes_in, joint_in, forbids_in))
+    stops, exits = (ends_in(word, commands, told[0]) for word in ("stop", "exit"))
+    failovers = failovers_in(commands, told[0])
+    return Measured(str(one.seed), one.kind, commands, broken, crashes, failovers, joint, stops, exits, forbids, parting(told))
 
 
 # ---- The tests
@@ -260,7 +296,7 @@ def anywhere(_program: str, seeds: range) -> Iterator[Test]:
     found = [in_orders(rehearsal(seed)) for seed in seeds]
     for one in found:
         yield f"orders of messages, rehearsal {one.name}", one.wrong
-        yield f"orders of messages at crashes and failovers, rehearsal {one.name}", one.wrong_proof
+        yield f"orders of messages at what is proved alike, rehearsal {one.name}", one.wrong_proof
     return found
 
 
@@ -338,9 +374,12 @@ def row_of(text: str, found: list[Measured]) -> str:
 
 
 def proved_rows(found: list[Measured]) -> list[str]:
-    """The page's table of crashes and failovers: how many there are, and at how many two orders part."""
+    """The page's table of what is proved to end alike: how many such commands there are, and at how many two orders part."""
     of_kind = {"A crash of a node at rest, where no application has a timeout of 0": [one.crashes for one in found],
-               "A failover at one node": [one.failovers for one in found]}
+               "A failover at one node": [one.failovers for one in found],
+               "A stop at a node at rest": [one.stops for one in found],
+               "An exit at a node at rest, which keeps the node": [one.exits for one in found],
+               "A forbid of an application that isn't distributed, at a node at rest": [one.forbids for one in found]}
     return [f"| {kind} | {sum(map(len, commands))} | {sum(one.first in those for one, those in zip(found, commands))} |"
             for kind, commands in of_kind.items()]
 
@@ -349,10 +388,12 @@ def of_anywhere(parts: list[list[Measured]]) -> Iterator[Test]:
     """Somewhere orders do part, and the page has the counts."""
     found = [one for part in parts for one in part]
     yield "orders of messages: they matter", None if any(one.first is not None for one in found) else "no two orders part anywhere"
-    crashes, failovers = sum(len(one.crashes) for one in found), sum(len(one.failovers) for one in found)
-    is_enough = crashes >= LEAST_CRASHES and failovers >= LEAST_FAILOVERS
-    yield "orders of messages: enough crashes", None if is_enough else f"{crashes} crashes of nodes at rest, {failovers} failovers at one node"
-    yield "orders of messages at crashes: the page", is_in_page(proved_rows(found))
+    counts = [sum(map(len, places)) for places in zip(*((one.crashes, one.failovers, one.stops, one.exits, one.forbids) for one in found))]
+    least = (LEAST_CRASHES, LEAST_FAILOVERS, LEAST_STOPS, LEAST_EXITS, LEAST_FORBIDS)
+    is_enough = all(count >= enough for count, enough in zip(counts, least))
+    names = "crashes of nodes at rest, failovers at one node, stops, exits and forbids"
+    yield "orders of messages: enough of what is proved alike", None if is_enough else f"{counts} {names}"
+    yield "orders of messages at what is proved alike: the page", is_in_page(proved_rows(found))
     rows = [row_of(kind.capitalize(), [one for one in found if one.kind == kind]) for kind in KINDS]
     yield "orders of messages: the page", is_in_page([*rows, row_of("All", found)])
 
