@@ -5,17 +5,15 @@ the reports before and behind it tell: a call that isn't answered, an answer oth
 `blocked` lines of a node and applications at several nodes that the report before hasn't. The lines of JSON have the same.
 """
 import json
-import os
 import re
 from collections.abc import Iterable, Iterator
 from typing import Optional
 
 from groups import Group
-from live_rules import SCRIPTS, back_and_forth
+from live_rules import in_random_ones, in_scripts
 from live_stories import LIVE, answers_of
-from random_live import rehearsal
 from stories import is_command
-from support import fault_of, read, run
+from support import fault_of, run
 
 # A finding: its line, if it is known, its kind, its code and its words.
 Finding = tuple[Optional[int], str, str, str]
@@ -131,17 +129,12 @@ def wrong_with(program: str, text: bytes, options: list[str]) -> Iterator[tuple[
 
 def of_scripts(program: str) -> Iterator[Test]:
     """The scripts that real nodes made."""
-    for path in SCRIPTS:
-        for name, wrong in wrong_with(program, read(path), []):
-            yield f"{os.path.basename(path)} on live nodes: {name}", wrong
+    return in_scripts(program, wrong_with)
 
 
 def of_random_ones(program: str, seeds: Iterable[int]) -> Iterator[Test]:
-    """Random rehearsals, some of which go back and forth, in other orders, too."""
-    for seed in seeds:
-        text = back_and_forth(seed) if seed % 2 else rehearsal(seed).text
-        for name, wrong in wrong_with(program, text.encode(), ["--pick", "last"] if seed % 4 < 2 else []):
-            yield f"random rehearsal {seed} on live nodes: {name}", wrong
+    """Random rehearsals."""
+    return in_random_ones(program, seeds, wrong_with)
 
 
 TESTS = (of_scripts, Group(of_random_ones, [range(seed, seed + AT_ONCE) for seed in range(FIRST, FIRST + COUNT, AT_ONCE)], is_long=True))

@@ -10,13 +10,13 @@ which calls are open.
 import os
 import random
 import sys
-from collections.abc import Iterable, Iterator
+from collections.abc import Callable, Iterable, Iterator
 from glob import glob
 from typing import Optional
 
 from groups import Group
 from random_live import rehearsal
-from support import TOP, fault_of, run
+from support import TOP, fault_of, read, run
 
 sys.path.append(os.path.join(TOP, "companions"))
 from rehearse_tools.inputs import is_command, split_input, words_of  # noqa: E402
@@ -33,6 +33,8 @@ FIRST_WORDS = ("ok", "refused", "no answer", "error", "endless", "bad line", "cl
 ORDERLESS = ("waits ", "pending ", "  waiting ", "  timer ")
 
 Test = tuple[str, Optional[str]]
+# What is tested of a rehearsal with some options, and what is wrong.
+Wrong = Callable[[str, bytes, list[str]], Iterator[Test]]
 
 
 class Model:
@@ -195,6 +197,21 @@ def back_and_forth(seed: int) -> str:
             lines += chance.choice([["undo", "show", "redo"], ["undo"], ["undo", "undo", "redo"], ["undo_all", "redo_all"], ["undo_all", "redo"]])
     lines += ["show", "undo_all", "show", "redo_all", "show"]
     return head + separator + "".join(f"{line}\n" for line in lines)
+
+
+def in_scripts(program: str, wrong_with: Wrong) -> Iterator[Test]:
+    """What is tested of the scripts that real nodes made."""
+    for path in SCRIPTS:
+        for name, wrong in wrong_with(program, read(path), []):
+            yield f"{os.path.basename(path)} on live nodes: {name}", wrong
+
+
+def in_random_ones(program: str, seeds: Iterable[int], wrong_with: Wrong) -> Iterator[Test]:
+    """What is tested of random rehearsals, some of which go back and forth, in other orders, too."""
+    for seed in seeds:
+        text = back_and_forth(seed) if seed % 2 else rehearsal(seed).text
+        for name, wrong in wrong_with(program, text.encode(), ["--pick", "last"] if seed % 4 < 2 else []):
+            yield f"random rehearsal {seed} on live nodes: {name}", wrong
 
 
 def scripts(program: str) -> Iterator[Test]:

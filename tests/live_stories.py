@@ -11,8 +11,7 @@ from collections.abc import Iterable, Iterator
 from typing import Optional
 
 from groups import Group
-from live_rules import SCRIPTS, back_and_forth, split_answers
-from random_live import rehearsal
+from live_rules import SCRIPTS, in_random_ones, in_scripts, split_answers
 from stories import ANSWER, differing, is_command, verified, woven
 from support import fault_of, read, run
 
@@ -78,17 +77,12 @@ def wrong_with(program: str, text: bytes, options: list[str]) -> Iterator[tuple[
 
 def of_scripts(program: str) -> Iterator[Test]:
     """The scripts that real nodes made."""
-    for path in SCRIPTS:
-        for name, wrong in wrong_with(program, read(path), []):
-            yield f"{os.path.basename(path)} on live nodes: {name}", wrong
+    return in_scripts(program, wrong_with)
 
 
 def of_random_ones(program: str, seeds: Iterable[int]) -> Iterator[Test]:
-    """Random rehearsals, some of which go back and forth, in other orders, too."""
-    for seed in seeds:
-        text = back_and_forth(seed) if seed % 2 else rehearsal(seed).text
-        for name, wrong in wrong_with(program, text.encode(), ["--pick", "last"] if seed % 4 < 2 else []):
-            yield f"random rehearsal {seed} on live nodes: {name}", wrong
+    """Random rehearsals."""
+    return in_random_ones(program, seeds, wrong_with)
 
 
 def wanted_in_reports(program: str) -> Iterator[Test]:
