@@ -9,15 +9,17 @@
 #   sources  one checksum over all that it was built from: of each crate that it stands on `src`, `specs`, `proofs` and
 #            the line of crates.txt
 
-# The crates that a crate stands on, lowest first, and the crate itself, as a list of words in `crates`.
+# The crates that a crate stands on, lowest first, and the crate itself, as a list of words in `crates`; the lines that
+# crates.txt has of them, in that order, in `crate_lines`.
 find_crates() {
   local line name
-  local -A below=()
-  while read -r line; do
+  local -A below=() lines=()
+  while IFS= read -r line; do
     name=${line%%:*}
-    [[ $line == \#* || $line != *:* ]] || below[${name%% *}]=${line#*:}
+    [[ $line == \#* || $line != *:* ]] || below[${name%% *}]=${line#*:} lines[${name%% *}]=$line
   done < "$top/crates.txt"
   crates=
+  crate_lines=
   add_crates "$1"
 }
 
@@ -27,25 +29,28 @@ add_crates() {
     [[ -z ${below[$name]+is} || " $crates " == *" $name "* ]] || add_crates "$name"
   done
   crates+=" $1"
+  crate_lines+=${lines[$1]}$'\n'
 }
 
-# The checksum of what a program is built from, by the bytes of all files.
+# The checksum of what a program is built from, by the bytes of all files. A few processes make it, however many crates
+# and files there are: whoever calls ./rehearse waits for it.
 checksum_of() {
-  local crates name
+  local crates crate_lines name folders=()
   find_crates "$1"
+  for name in $crates; do
+    folders+=("crates/$name/src" "crates/$name/specs" "crates/$name/proofs")
+  done
   (
     cd "$top" || exit 1
     export LC_ALL=C
-    for name in $crates; do grep -E "^$name( [^:]*)?:" crates.txt; done
-    for name in $crates; do
-      find "crates/$name/src" "crates/$name/specs" "crates/$name/proofs" -type f 2> /dev/null
-    done | sort | tr '\n' '\0' | xargs -0 sha256sum
+    printf %s "$crate_lines"
+    find "${folders[@]}" -type f -print0 2> /dev/null | sort -z | xargs -0 sha256sum
   ) | sha256sum | cut -d ' ' -f 1
 }
 
 # The folders of what a program is built from, and crates.txt, as a list in `paths`.
 find_paths() {
-  local crates name
+  local crates crate_lines name
   find_crates "$1"
   paths=(crates.txt)
   for name in $crates; do
