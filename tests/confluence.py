@@ -16,7 +16,8 @@ Of crashes and of failovers less is asked: where nothing hangs and no call is op
 without a tuple in its list. It is proved of them (rh_otp_crashes), of failovers under more conditions than are asked here. Nor do two part
 at a stop where nothing hangs and no call is open, at an exit there that keeps its node, or where an application is forbidden there that
 isn't distributed. That is proved (rh_otp_stops) where no call has a lock and, of a distributed one, the node sees all that it knows of and
-nobody waits at it.
+nobody waits at it. Nor do they where an application that isn't distributed is started there, or permitted, or ends its node; nor at a
+start of one that runs at the first node of its list. It is proved of them (rh_otp_starts), of the last under more conditions.
 """
 import os
 import random
@@ -47,9 +48,11 @@ KEPT_FIRST, KEPT_COUNT, KEPT_AT_ONCE = 70_000, 2_000, 100
 ORDERS = 8
 # At least so many rehearsals have to have such a file, with so many commands within the conditions.
 LEAST_REHEARSALS, LEAST_COMMANDS = 200, 2_000
-# And so many crashes of nodes at rest, failovers at one node, stops at rest, exits there that keep their node, and forbids there of what
-# isn't distributed, among the random rehearsals of any kind.
-LEAST_CRASHES, LEAST_FAILOVERS, LEAST_STOPS, LEAST_EXITS, LEAST_FORBIDS = 200, 25, 150, 15, 40
+# And so many crashes of nodes at rest, failovers at one node, stops at rest, exits there that keep their node, forbids, starts and permits
+# there of what isn't distributed, exits there of it that end their node, and starts there of what runs at the first node of its list, among
+# the random rehearsals of any kind.
+LEAST_CRASHES, LEAST_FAILOVERS, LEAST_STOPS, LEAST_EXITS = 200, 25, 150, 15
+LEAST_FORBIDS, LEAST_STARTS, LEAST_PERMITS, LEAST_FATAL, LEAST_ELSEWHERE = 40, 15, 8, 5, 5
 # Seeds of random clusters that lose the node at which their one application runs, and so many failovers at several nodes there have to be.
 LOST_FIRST, LOST_COUNT, LOST_AT_ONCE, LEAST_JOINT = 75_000, 200, 50, 100
 # For each condition a rehearsal that breaks it alone, and in which orders part: a script of tests/live, or a random one of a seed; and in
@@ -161,6 +164,28 @@ def is_forbid_at_rest(cluster: ClusterFile, command: str, before: Lines, answer:
     return word == "permit" and rest[2] == "false" and rest[1] not in cluster.entries and not hangs(before) and answer[0] == "ok"
 
 
+def is_start_at_rest(word: str, cluster: ClusterFile, command: str, before: Lines) -> bool:
+    """An application that isn't distributed is started, or permitted, where nothing hangs, whatever the answer is."""
+    first, *rest = words_of(command)
+    return first == word and rest[1] not in cluster.entries and rest[2:] != ["false"] and not hangs(before)
+
+
+def is_fatal_at_rest(cluster: ClusterFile, command: str, before: Lines, answer: Lines) -> bool:
+    """An application that isn't distributed ends by itself where nothing hangs, its node ends with it, and no failover time is 0."""
+    word, *rest = words_of(command)
+    is_alone = word == "exit" and rest[1] not in cluster.entries and all(entry.timeout > 0 for entry in cluster.entries.values())
+    return is_alone and not hangs(before) and any(line.startswith("ended ") for line, _ in answer[1])
+
+
+def is_start_elsewhere(cluster: ClusterFile, command: str, before: Lines) -> bool:
+    """An application is started where nothing hangs, and runs at another node, which is the first of its list."""
+    word, *rest = words_of(command)
+    if word != "start" or rest[1] not in cluster.entries or hangs(before):
+        return False
+    first = cluster.entries[rest[1]].groups[0]
+    return isinstance(first, str) and first != rest[0] and (f"app {rest[1]} running {first}", 1) in before[1]
+
+
 def due_in(command: str, before: Lines) -> list[list[str]]:
     """The timers that are due where time passes and nothing hangs, each as its words."""
     word, *rest = words_of(command)
@@ -198,8 +223,9 @@ def broken_by_step(cluster: ClusterFile, command: str, before: Lines, answer: Li
 @dataclass(frozen=True)
 class Measured:
     """A rehearsal: its commands, the conditions that each of them breaks, those of the file the first one, which of them are crashes of
-    nodes at rest, which failovers at one node and which at several, which stops at rest, which exits that keep their node, which forbids of
-    what isn't distributed, and the first command at which two orders part."""
+    nodes at rest, which failovers at one node and which at several, which stops at rest, which exits that keep their node, which forbids,
+    starts and permits of what isn't distributed, which exits of it that end their node, which starts of what runs at the first node of
+    its list, and the first command at which two orders part."""
     name: str
     kind: str
     commands: list[str]
@@ -210,6 +236,10 @@ class Measured:
     stops: set[int]
     exits: set[int]
     forbids: set[int]
+    starts: set[int]
+    permits: set[int]
+    fatal: set[int]
+    elsewhere: set[int]
     first: Optional[int]
 
     @property
@@ -226,8 +256,9 @@ class Measured:
 
     @property
     def wrong_proof(self) -> Optional[str]:
-        """At which crash, stop, exit or forbid at rest, or failover, two orders part, or None."""
-        proved = self.crashes | self.failovers | self.joint | self.stops | self.exits | self.forbids
+        """At which command of those that are proved alike two orders part, or None."""
+        ends = self.crashes | self.failovers | self.joint | self.stops | self.exits | self.fatal
+        proved = ends | self.forbids | self.starts | self.permits | self.elsewhere
         return f"two orders part at command {self.first + 1}" if self.first in proved else None
 
 
@@ -268,6 +299,25 @@ def forbids_in(text: str, commands: list[str], told: list[Told]) -> set[int]:
             if is_forbid_at_rest(cluster, command, before.report, one.answer)}
 
 
+def starts_in(word: str, text: str, commands: list[str], told: list[Told]) -> set[int]:
+    """Which commands of a rehearsal start an application that isn't distributed, or permit one, at nodes at rest."""
+    cluster = cluster_of(split_input(text).cluster)
+    return {place for place, (command, before) in enumerate(zip(commands[1:], told), 1) if is_start_at_rest(word, cluster, command, before.report)}
+
+
+def fatal_in(text: str, commands: list[str], told: list[Told]) -> set[int]:
+    """Which commands of a rehearsal are exits of an application that isn't distributed, at nodes at rest, which end their node."""
+    cluster = cluster_of(split_input(text).cluster)
+    return {place for place, (command, before, one) in enumerate(zip(commands[1:], told, told[1:]), 1)
+            if is_fatal_at_rest(cluster, command, before.report, one.answer)}
+
+
+def elsewhere_in(text: str, commands: list[str], told: list[Told]) -> set[int]:
+    """Which commands of a rehearsal start an application that runs at the first node of its list, at another node at rest."""
+    cluster = cluster_of(split_input(text).cluster)
+    return {place for place, (command, before) in enumerate(zip(commands[1:], told), 1) if is_start_elsewhere(cluster, command, before.report)}
+
+
 def parting(told: list[list[Told]]) -> Optional[int]:
     """The first command of which several orders tell otherwise than the first one."""
     return next((place for place, one in enumerate(told[0]) if any(other[place] != one for other in told[1:])), None)
@@ -279,8 +329,11 @@ def measured(one: Rehearsal, told: list[list[Told]]) -> Measured:
     broken = broken_in(one.text, commands, told[0])
     crashes, joint, forbids = (tell(one.text, commands, told[0]) for tell in (crashes_in, joint_in, forbids_in))
     stops, exits = (ends_in(word, commands, told[0]) for word in ("stop", "exit"))
+    starts, permits = (starts_in(word, one.text, commands, told[0]) for word in ("start", "permit"))
     failovers = failovers_in(commands, told[0])
-    return Measured(str(one.seed), one.kind, commands, broken, crashes, failovers, joint, stops, exits, forbids, parting(told))
+    fatal, elsewhere = (tell(one.text, commands, told[0]) for tell in (fatal_in, elsewhere_in))
+    return Measured(str(one.seed), one.kind, commands, broken, crashes, failovers, joint, stops, exits, forbids, starts, permits, fatal,
+                    elsewhere, parting(told))
 
 
 # ---- The tests
@@ -379,7 +432,11 @@ def proved_rows(found: list[Measured]) -> list[str]:
                "A failover at one node": [one.failovers for one in found],
                "A stop at a node at rest": [one.stops for one in found],
                "An exit at a node at rest, which keeps the node": [one.exits for one in found],
-               "A forbid of an application that isn't distributed, at a node at rest": [one.forbids for one in found]}
+               "A forbid of an application that isn't distributed, at a node at rest": [one.forbids for one in found],
+               "A start of an application that isn't distributed, at a node at rest": [one.starts for one in found],
+               "A permit of an application that isn't distributed, at a node at rest": [one.permits for one in found],
+               "An exit of an application that isn't distributed, at a node at rest, which ends the node": [one.fatal for one in found],
+               "A start of an application that runs at the first node of its list, at another one at rest": [one.elsewhere for one in found]}
     return [f"| {kind} | {sum(map(len, commands))} | {sum(one.first in those for one, those in zip(found, commands))} |"
             for kind, commands in of_kind.items()]
 
@@ -388,10 +445,13 @@ def of_anywhere(parts: list[list[Measured]]) -> Iterator[Test]:
     """Somewhere orders do part, and the page has the counts."""
     found = [one for part in parts for one in part]
     yield "orders of messages: they matter", None if any(one.first is not None for one in found) else "no two orders part anywhere"
-    counts = [sum(map(len, places)) for places in zip(*((one.crashes, one.failovers, one.stops, one.exits, one.forbids) for one in found))]
-    least = (LEAST_CRASHES, LEAST_FAILOVERS, LEAST_STOPS, LEAST_EXITS, LEAST_FORBIDS)
+    proved = ((one.crashes, one.failovers, one.stops, one.exits, one.forbids, one.starts, one.permits, one.fatal, one.elsewhere)
+              for one in found)
+    counts = [sum(map(len, places)) for places in zip(*proved)]
+    least = (LEAST_CRASHES, LEAST_FAILOVERS, LEAST_STOPS, LEAST_EXITS, LEAST_FORBIDS, LEAST_STARTS, LEAST_PERMITS, LEAST_FATAL,
+             LEAST_ELSEWHERE)
     is_enough = all(count >= enough for count, enough in zip(counts, least))
-    names = "crashes of nodes at rest, failovers at one node, stops, exits and forbids"
+    names = "crashes of nodes at rest, failovers at one node, stops, exits, forbids, starts, permits, fatal exits and starts elsewhere"
     yield "orders of messages: enough of what is proved alike", None if is_enough else f"{counts} {names}"
     yield "orders of messages at what is proved alike: the page", is_in_page(proved_rows(found))
     rows = [row_of(kind.capitalize(), [one for one in found if one.kind == kind]) for kind in KINDS]

@@ -1,9 +1,9 @@
-mod Saying
-mod Words
-mod Ending
-mod Answering
-mod Still
-mod Stopping
-mod Meeting
-mod Stop
-mod Rows
+pub mod Saying
+pub mod Words
+pub mod Ending
+pub mod Answering
+pub mod Still
+pub mod Stopping
+pub mod Meeting
+pub mod Stop
+pub mod Rows

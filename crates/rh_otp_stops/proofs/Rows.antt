@@ -60,16 +60,16 @@ use Rattle.rh_otp_stops.specs.Stops.{CanEnd, KeepsNode}
 
 -- ---- the cluster
 
-abbrev n1 : Node
+abbrev pub n1 : Node
 n1 = numbered 0
 
-abbrev n2 : Node
+abbrev pub n2 : Node
 n2 = numbered 1
 
-abbrev d1 : App
+abbrev pub d1 : App
 d1 = app_numbered 0
 
-abbrev l1 : App
+abbrev pub l1 : App
 l1 = app_numbered 1
 
 -- it waits for the other one, and starts both applications
@@ -98,7 +98,7 @@ cluster = record {
   } ∷ record { deps = []; start_arg = None; phases = false; spread = None } ∷ [];
 }
 
-abbrev file : OwnFile
+abbrev pub file : OwnFile
 file = record {
   own = record {
     has_dist = true;
@@ -113,7 +113,7 @@ file = record {
 
 -- ---- what happens
 
-abbrev no_net : NetView
+abbrev pub no_net : NetView
 no_net = record {
   clock = 0;
   step = 0;
@@ -131,7 +131,7 @@ abbrev none_begun : SystemView
 none_begun = system_of cluster (file ∷ file ∷ []) (cell.Node never_begun ∷ cell.Node never_begun ∷ cell.Net no_net ∷ []) no_net false
 
 -- all that comes of it, in one order
-abbrev quiet : SystemView → SystemView
+abbrev pub quiet : SystemView → SystemView
 quiet s = settled 1000 FirstComes s
 
 abbrev one_up : SystemView
@@ -142,17 +142,17 @@ both_up = quiet (booted n2 one_up)
 
 -- ---- what the prover computes of it
 
-abbrev dist_of : SystemView → Node → DistView
+abbrev pub dist_of : SystemView → Node → DistView
 dist_of s n = unwrap_or (node_at s n).dist (beginning 0 0 n [])
 
 -- a node has a dist_ac, which does nothing
-record IsThere (n : Node) (s : SystemView) : Type 0 where
-  alive : is_alive_at s n ≡ true
-  has : is_some (node_at s n).dist ≡ true
-  takes_all : (dist_of s n).stand ≡ stand.Idle
-  mail : (dist_of s n).mail ≡ []
-  permits : (dist_of s n).p_reqs ≡ []
-  parked : (dist_of s n).parked ≡ []
+pub record IsThere (n : Node) (s : SystemView) : Type 0 where
+  pub alive : is_alive_at s n ≡ true
+  pub has : is_some (node_at s n).dist ≡ true
+  pub takes_all : (dist_of s n).stand ≡ stand.Idle
+  pub mail : (dist_of s n).mail ≡ []
+  pub permits : (dist_of s n).p_reqs ≡ []
+  pub parked : (dist_of s n).parked ≡ []
 
 -- the first node runs both, and its dist_ac knows the second one
 record Runs (s : SystemView) : Type 0 where
@@ -170,7 +170,7 @@ record Runs (s : SystemView) : Type 0 where
   unlisted : controls (own_at s n1) l1 ≡ false
 
 -- there are two nodes
-abbrev NoMore : SystemView → Type 0
+abbrev pub NoMore : SystemView → Type 0
 NoMore s = (k : ℕ) → is_alive_at s (record { 0 = suc (suc k) }) ≡ false
 
 first_there : IsThere n1 both_up
@@ -225,7 +225,7 @@ first_reached = new none_begun (record {
   slow = refl;
 })
 
-begins_at : (s : SystemView) (n : Node) (v : LiveView) → live_at s n ≡ Some v → is_alive_at s n ≡ false → IsReached s
+pub begins_at : (s : SystemView) (n : Node) (v : LiveView) → live_at s n ≡ Some v → is_alive_at s n ≡ false → IsReached s
     → IsReached (quiet (booted n s))
 begins_at s n v there dead reached =
     commands_reached.settles_there 1000 FirstComes (booted n s)
@@ -242,10 +242,10 @@ has_it None d is = absurd (false≢true is)
 has_it (Some e) d is = refl
 
 -- it is the dist_ac that was computed
-is_it : (s : SystemView) (n : Node) (d : DistView) → IsThere n s → (node_at s n).dist ≡ Some d → dist_of s n ≡ d
+pub is_it : (s : SystemView) (n : Node) (d : DistView) → IsThere n s → (node_at s n).dist ≡ Some d → dist_of s n ≡ d
 is_it s n d is has = same_Some (dist_of s n) d (sym (has_it (node_at s n).dist (beginning 0 0 n []) is.has) ∙ has)
 
-at_rest : (s : SystemView) (n : Node) → IsThere n s → (d : DistView) → (node_at s n).dist ≡ Some d → IsUnoccupied d
+pub at_rest : (s : SystemView) (n : Node) → IsThere n s → (d : DistView) → (node_at s n).dist ≡ Some d → IsUnoccupied d
 at_rest s n is d has = subst IsUnoccupied (is_it s n d is has) (record {
   stand = inl is.takes_all;
   mail = subst (All (λ (m : Message). takes (dist_of s n).stand m ≡ false)) (sym is.mail)
@@ -255,7 +255,7 @@ at_rest s n is d has = subst IsUnoccupied (is_it s n d is has) (record {
 })
 
 -- what is so of both is so of all that are alive
-of_both : (P : Node → Type 0) (s : SystemView) → NoMore s → P n1 → P n2 → (k : ℕ) → is_alive_at s (record { 0 = k }) ≡ true
+pub of_both : (P : Node → Type 0) (s : SystemView) → NoMore s → P n1 → P n2 → (k : ℕ) → is_alive_at s (record { 0 = k }) ≡ true
     → P (record { 0 = k })
 of_both P s none first second zero alive = first
 of_both P s none first second (suc zero) alive = second

@@ -49,10 +49,10 @@ use Rattle.rh_otp_stops.proofs.Stopping.{Stopping, stopping_on, there_is}
 use Rattle.rh_otp_stops.proofs.Words.{IsNews, ends, answers}
 
 -- what a call asks its node's controller
-abbrev its_call : Call → Envelope
+abbrev pub its_call : Call → Envelope
 its_call c = record { from = process_of c; to = record (process_of c) { role = role.Controller }; message = message_of c }
 
-abbrev turn_at : SystemView → Node → TurnView
+abbrev pub turn_at : SystemView → Node → TurnView
 turn_at s n = controller_turn s.cluster (own_in s.files n) n (node_at s n)
 
 -- The call is all that is on its way. What its controller says is what one says where an application ends.
@@ -156,7 +156,7 @@ behind {lives} {c} {told} s f = by (cases_Bool (is_alive_at s c.node))
 
 -- ---- nothing else can come first
 
-only_first : (e f : Envelope) (left : List Envelope) → Taken f (e ∷ []) left → (e ≡ f) × (left ≡ [])
+pub only_first : (e f : Envelope) (left : List Envelope) → Taken f (e ∷ []) left → (e ≡ f) × (left ≡ [])
 only_first e f left (inl first) = (first.0, first.1)
 only_first e f left (inr behind) = absurd behind.3
 
@@ -167,7 +167,7 @@ comes_first {c = c} s t f one =
     only_first (its_call c) come.message come.left (subst (λ (l : List Envelope). Taken come.message l come.left) f.messages come.taken) in
     come.is ∙ (λ i. arrived (sym so.0 i).to (sym so.0 i).message (without s (so.1 i)))
 
-from_first : (s p : SystemView) → Reaches s p → (first : SystemView) → ((q : SystemView) → Delivers s q → q ≡ first) → IsOrderly first
+pub from_first : (s p : SystemView) → Reaches s p → (first : SystemView) → ((q : SystemView) → Delivers s q → q ≡ first) → IsOrderly first
     → (t u : SystemView) → Delivers p t → Delivers p u → Meet t u
 from_first _ _ (here s) first only order t u to_t to_u = inl (subst (AreAlike t) (only t to_t ∙ sym (only u to_u)) (alike_itself t))
 from_first _ _ (behind_one s q p one rest) first only order t u to_t to_u =
@@ -194,7 +194,7 @@ forgets s f = record {
 
 -- ---- the call is made
 
-abbrev asked : Call → SystemView → SystemView
+abbrev pub asked : Call → SystemView → SystemView
 asked c s = record s { calls = c ∷ []; last_call = c.number; messages = its_call c ∷ [] }
 
 is_asked : (c : Call) (s : SystemView) → IsReached s → AreAtRest s → CanEnd c.node c.app s → c.stage ≡ stage.Controller
@@ -235,7 +235,7 @@ ends_alike s reached f = (
       picks_alike s most one other reached (asked_orderly (record s { answers = [] }) (forgets s f)) quiet quiet_too,
 )
 
-call_asks : (k : Ask) (s : SystemView) (n : Node) (a : App) → is_takeover k ≡ false → AreAtRest s
+pub call_asks : (k : Ask) (s : SystemView) (n : Node) (a : App) → is_takeover k ≡ false → AreAtRest s
     → called k n a s ≡ asked (call_of k n a s) s
 unfolding called
 call_asks k s n a first rest =

@@ -1,0 +1,10 @@
+mod Alone
+mod Falling
+mod Ending
+mod Turns
+mod Saying
+mod Start
+mod Requests
+mod Asking
+mod Elsewhere
+mod Rows

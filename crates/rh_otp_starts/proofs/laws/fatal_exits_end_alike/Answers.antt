@@ -1,0 +1,5 @@
+use Rattle.rh_otp_starts.proofs.Start.{fatal_exits_alike}
+use Rattle.rh_otp_starts.proofs.laws.fatal_exits_end_alike.Goals as goal
+
+pub returns : goal.returns
+returns c = fatal_exits_alike
