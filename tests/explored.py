@@ -62,7 +62,8 @@ def wait_in(state) -> Optional[list[str]]:
 
 
 class Question:
-    """A line `ask`: whether it is asked of each state, the application and the nodes that it names, and how long one may wait."""
+    """A line `ask`: whether it is asked of each state, what has to be so, the application and the nodes that it names, and how long one may
+    wait."""
 
     def __init__(self, words: list[str]):
         self.within = int(words[-1]) if words[-2] == "within" else None
@@ -70,7 +71,10 @@ class Question:
         rest = words[2 if self.always else 1:]
         if self.within is not None:
             self.always, rest = True, rest[:-2]
-        self.app, self.down = rest[1], rest[5:]
+        # By these rules nothing hangs.
+        self.hangs = rest == ["nothing", "hangs"]
+        self.app, self.state, self.down = (None, None, []) if self.hangs else (rest[1], rest[2], rest[5:])
+        self.always = self.always or self.hangs or self.state == "once"
 
     def holds(self, search, state) -> bool:
         if not self.always and state.timers:
@@ -78,8 +82,11 @@ class Question:
         return any(self.is_met(search.rehearsal, later) for later in search.waiting(state, self.within))
 
     def is_met(self, rehearsal, state) -> bool:
+        if self.hangs:
+            return True
         app = rehearsal.number(rehearsal.cluster.apps, self.app)
-        if any(app in running for running in state.running):
+        places = sum(app in running for running in state.running)
+        if places <= 1 if self.state == "once" else places > 0:
             return True
         nodes = [rehearsal.number(rehearsal.cluster.nodes, name) for name in self.down]
         return bool(nodes) and all(state.mode[node] != "up" for node in nodes)
@@ -231,12 +238,14 @@ def search(number: int) -> tuple[str, list[str], int, str]:
         lines.append(f"down {chance.randint(0, len(part.nodes))}")
     for _ in range(chance.randint(0, 3)):
         line = "ask always" if chance.random() < 0.4 else "ask"
-        line += f" app {chance.choice(part.apps)} running"
+        line += f" app {chance.choice(part.apps)} {chance.choice(['running', 'running', 'running', 'once'])}"
         if chance.random() < 0.6:
             line += " or down " + " ".join(chance.sample(part.nodes, chance.randint(1, len(part.nodes))))
         if chance.random() < 0.3:
             line += f" within {chance.choice([0, 499, 500, 1000, 2500, 6000])}"
         lines.append(line)
+    if chance.random() < 0.15:
+        lines.append(chance.choice(["ask nothing hangs", "ask always nothing hangs", "ask nothing hangs within 500"]))
     if chance.random() < 0.3:
         lines = losses(part, chance)
         closes = True
@@ -260,6 +269,10 @@ def explored(program, numbers):
         reached["closed"] += owed.whole is None
         reached["soon"] += sum(verdict is None and any(not ask.is_met(owed.rehearsal, state) for _, state in owed.found)
                                for ask, verdict in zip(owed.asks, owed.verdicts) if ask.within)
+        for ask, verdict in zip(owed.asks, owed.verdicts):
+            reached["once"] += ask.state == "once" and verdict is None and len(owed.found) > 3
+            reached["twice"] += ask.state == "once" and verdict is not None
+            reached["nothing hangs"] += ask.hangs and len(owed.found) > 3
         reached["waited"] += any(["wait"] == move for move in owed.events) and len(owed.found) > 3
         reached["unfinished"] += owed.unfinished
         if owed.steps < MOST_STEPS and not owed.unfinished:
@@ -282,7 +295,7 @@ def reaches_all(counters):
     """Together the searches reach all that they are made for."""
     reached = sum(counters, collections.Counter())
     for what, least in (("states", 1_000), ("holds", 20), ("fails", 20), ("closed", 20), ("unfinished", 5), ("soon", 3), ("waited", 10),
-                        ("compared", 40), ("merged", 5)):
+                        ("compared", 40), ("merged", 5), ("once", 8), ("twice", 3), ("nothing hangs", 5)):
         yield f"random searches: {what}", None if reached[what] >= least else f"{reached[what]} of {least}"
 
 

@@ -27,7 +27,7 @@ use Rattle.rh_step.proofs.Validity.{next_valid}
 use Rattle.rh_step.specs.Runs.{step}
 use Rattle.rh_explore.specs.declared.asking.Ask.{Ask}
 use Rattle.rh_explore.specs.declared.asking.Condition.{Condition}
-use Rattle.rh_explore.specs.declared.asking.Condition.TheVariants.{RunsSomewhere, RunsNowhere, RunsAt, IsUp, IsNotUp}
+use Rattle.rh_explore.specs.declared.asking.Condition.TheVariants.{RunsSomewhere, RunsNowhere, RunsAt, IsUp, IsNotUp, RunsAtMostOnce, NothingHangs}
 use Rattle.rh_explore.specs.declared.moves.Move.{Move}
 use Rattle.rh_explore.specs.declared.moves.Move.TheVariants.{Make, Wait}
 use Rattle.rh_explore.specs.Asking.{has_timer, is_so, is_met, is_met_at, is_met_by, holds_in, MayWait}
@@ -82,6 +82,8 @@ module _ (s : StateView) (time : ℕ) (incarnations : List ℕ) (kinds : List (L
   so_same (RunsAt a n) = refl
   so_same (IsUp n) = refl
   so_same (IsNotUp n) = refl
+  so_same (RunsAtMostOnce a) = refl
+  so_same NothingHangs = refl
 
   pub met_same : (ask : Ask) → is_met ask (other s time incarnations kinds timers) ≡ is_met ask s
   met_same ask = λ i. list_any (λ conditions. list_all (λ c. so_same c i) conditions.items) ask.any_of.items

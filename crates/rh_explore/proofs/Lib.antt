@@ -30,4 +30,5 @@ pub mod Leading
 pub mod FrontLists
 pub mod Pieces
 pub mod Crossing
+pub mod Counting
 mod Rows

@@ -28,7 +28,7 @@ use Rattle.rh_rules.specs.Time.{fired, fired_by, all_fired, ticked}
 use Rattle.rh_step.specs.Runs.{step}
 use Rattle.rh_explore.specs.declared.moves.Move.{Move}
 use Rattle.rh_explore.specs.declared.moves.Move.TheVariants.{Make, Wait}
-use Rattle.rh_explore.specs.declared.asking.Condition.TheVariants.{RunsSomewhere, RunsNowhere, RunsAt, IsUp, IsNotUp}
+use Rattle.rh_explore.specs.declared.asking.Condition.TheVariants.{RunsSomewhere, RunsNowhere, RunsAt, IsUp, IsNotUp, RunsAtMostOnce, NothingHangs}
 use Rattle.rh_explore.specs.declared.bounds.Covered.TheVariants as covered
 use Rattle.rh_explore.specs.Asking.{has_timer, is_so}
 use Rattle.rh_explore.specs.Exploring.{CoversAll}
@@ -124,6 +124,22 @@ row_runs_at = refl
 
 row_runs_elsewhere : is_so running (RunsAt web n1) ≡ false
 row_runs_elsewhere = refl
+
+-- at no two nodes, at one or at none; and not where it runs at two, which the rules never let come
+row_once : is_so running (RunsAtMostOnce web) ≡ true
+unfolding nodes_of
+row_once = refl
+
+row_never : is_so lost (RunsAtMostOnce web) ≡ true
+unfolding nodes_of
+row_never = refl
+
+row_twice : is_so (record running { running = (web ∷ []) ∷ (web ∷ []) ∷ [] ∷ [] }) (RunsAtMostOnce web) ≡ false
+unfolding nodes_of
+row_twice = refl
+
+row_hangs : is_so lost NothingHangs ≡ true
+row_hangs = refl
 
 -- one that waits is not up, and neither is one that isn't there
 row_waits : is_so lost (IsNotUp n2) ≡ true

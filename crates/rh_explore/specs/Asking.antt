@@ -1,5 +1,5 @@
 -- What is asked of a state (Distributed Applications; kernel(6), sync_nodes_timeout, distributed; ours).
-use Rattle.std.specs.Prelude.{ℕ, ◌≤◌, ◌+◌, Bool, not, nat_le, is_some, is_none, Option, Some, None, ◌||◌, ◌&&◌}
+use Rattle.std.specs.Prelude.{ℕ, ◌≤◌, ◌+◌, count_by, Bool, true, not, nat_le, is_some, is_none, Option, Some, None, ◌||◌, ◌&&◌}
 use Rattle.std.specs.List.{list_any, list_all}
 use Rattle.rh_model.specs.declared.node.App.{App}
 use Rattle.rh_state.specs.declared.status.Timer.{Timer}
@@ -11,7 +11,7 @@ use Rattle.rh_rules.specs.Refusals.{refused}
 use Rattle.rh_step.specs.Runs.{step}
 use Rattle.rh_explore.specs.declared.asking.Ask.{Ask}
 use Rattle.rh_explore.specs.declared.asking.Condition.{Condition}
-use Rattle.rh_explore.specs.declared.asking.Condition.TheVariants.{RunsSomewhere, RunsNowhere, RunsAt, IsUp, IsNotUp}
+use Rattle.rh_explore.specs.declared.asking.Condition.TheVariants.{RunsSomewhere, RunsNowhere, RunsAt, IsUp, IsNotUp, RunsAtMostOnce, NothingHangs}
 use Rattle.rh_explore.specs.Moves.{ms_to, wait_for}
 
 -- a sync timer or a failover timer is set
@@ -22,13 +22,19 @@ has_timer s = is_some (earliest s)
 abbrev pub runs_somewhere : StateView → App → Bool
 runs_somewhere s a = list_any (λ n. runs_at s n a) (nodes_of s.cluster)
 
--- a condition is so
+-- at how many nodes it does
+abbrev pub places : StateView → App → ℕ
+places s a = count_by (λ n. runs_at s n a) (nodes_of s.cluster)
+
+-- a condition is so; nothing hangs by these rules
 abbrev pub is_so : StateView → Condition → Bool
 is_so s (RunsSomewhere a) = runs_somewhere s a
 is_so s (RunsNowhere a) = not (runs_somewhere s a)
 is_so s (RunsAt a n) = runs_at s n a
 is_so s (IsUp n) = is_up (mode_of s n)
 is_so s (IsNotUp n) = not (is_up (mode_of s n))
+is_so s (RunsAtMostOnce a) = nat_le (places s a) 1
+is_so s NothingHangs = true
 
 -- all conditions of one of its lists are so
 abbrev pub is_met : Ask → StateView → Bool

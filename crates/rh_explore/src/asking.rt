@@ -1,11 +1,11 @@
 //! What is asked of the states that are reached.
 
-ghost use Rattle.std.specs.Prelude.{◌≡◌, [], IfOk, OnOk};
+ghost use Rattle.std.specs.Prelude.{◌≡◌, ◌≤◌, [], IfOk, OnOk, if◌then◌else◌};
 ghost use Rattle.std.specs.List.{list_any, list_all};
 ghost use Rattle.rh_state.specs.StateView.{is_up, mode_of, runs_at};
 ghost use Rattle.rh_state.specs.Stored.{read};
 ghost use Rattle.rh_trace.specs.Validity.{IsValid};
-ghost use Rattle.rh_explore.specs.Asking.{runs_somewhere, is_so, is_met, is_met_at, holds_in};
+ghost use Rattle.rh_explore.specs.Asking.{runs_somewhere, places, is_so, is_met, is_met_at, holds_in};
 
 use crate::moves::ms_to;
 use crate::trial::Trial;
@@ -28,6 +28,10 @@ pub enum Condition {
     IsUp(Node),
     /// The node waits or is down.
     IsNotUp(Node),
+    /// The application runs at no two nodes.
+    RunsAtMostOnce(App),
+    /// Nothing waits for ever. By the manual's rules nothing does.
+    NothingHangs,
 }
 
 /// What is asked of each state: that it is met, at once or soon. It is met where all conditions of one of its lists are so.
@@ -152,6 +156,8 @@ fn is_so(condition: Condition, state: &State) -> bool
         Condition::RunsAt(app, node) => runs_at(app, node, state),
         Condition::IsUp(node) => is_up(node, state),
         Condition::IsNotUp(node) => !is_up(node, state),
+        Condition::RunsAtMostOnce(app) => places(app, state) <= 1,
+        Condition::NothingHangs => true,
     }
 }
 
@@ -167,6 +173,27 @@ fn runs_somewhere(app: App, state: &State) -> bool
         }
     }
     false
+}
+
+// At how many nodes does an application run?
+#[tactic(auto, unfolding(rh_state::specs::Numbers::nodes_of))]
+fn places(app: App, state: &State) -> usize
+    ensures { result ≡ places (read state.now) app }
+{
+    let mut places = 0;
+    let count = state.cluster().node_count();
+    for number in 0..count {
+        places += one_if_runs(app, Node(number as u8), state);
+    }
+    places
+}
+
+// 1 for a node at which it runs, and 0 for another one.
+fn one_if_runs(app: App, node: Node, state: &State) -> usize
+    ensures one { result ≡ (if runs_at (read state.now) node app then 1 else 0) }
+    ensures few { result ≤ 1 }
+{
+    if runs_at(app, node, state) { 1 } else { 0 }
 }
 
 // Does an application run at a node?

@@ -9,7 +9,7 @@ use Rattle.rh_model.specs.declared.node.App.{App}
 use Rattle.rh_script.specs.Commands.{milliseconds}
 use Rattle.rh_explore.specs.declared.asking.Ask.{Ask}
 use Rattle.rh_explore.specs.declared.asking.Condition.{Condition}
-use Rattle.rh_explore.specs.declared.asking.Condition.TheVariants.{RunsSomewhere, IsNotUp}
+use Rattle.rh_explore.specs.declared.asking.Condition.TheVariants.{RunsSomewhere, IsNotUp, RunsAtMostOnce, NothingHangs}
 
 -- what is asked: of each state or only of those without a timer; in how many milliseconds it has to be met, if not at once; and the
 -- lists of conditions, of one of which all are to be so
@@ -46,18 +46,37 @@ other_ways c (word ∷ []) = None
 other_ways c (word ∷ next ∷ names) =
     if bytes_eq word (codes "or") && bytes_eq next (codes "down") then option_map (λ way. way ∷ []) (all_down c names) else None
 
--- these ways, and that the application runs somewhere
-abbrev pub ways_with : Option App → Option (List (List Condition)) → Option (List (List Condition))
+-- these ways, and that a condition is so
+abbrev pub ways_with : Option Condition → Option (List (List Condition)) → Option (List (List Condition))
 ways_with None ways = None
-ways_with (Some a) ways = option_map (λ others. others ++ (RunsSomewhere a ∷ []) ∷ []) ways
+ways_with (Some condition) ways = option_map (λ others. others ++ (condition ∷ []) ∷ []) ways
 
--- `app A running`, and other ways behind it
+-- `running` or `once`: the application of this name runs somewhere, or at no two nodes
+abbrev pub state_named : ClusterView → List ℕ → List ℕ → Option Condition
+state_named c name state =
+    if bytes_eq state (codes "running") then option_map RunsSomewhere (app_of c name)
+    else if bytes_eq state (codes "once") then option_map RunsAtMostOnce (app_of c name)
+    else None
+
+-- `nothing hangs`
+abbrev pub hanging_named : List ℕ → List ℕ → Option (List (List Condition))
+hanging_named word verb =
+    if bytes_eq word (codes "nothing") && bytes_eq verb (codes "hangs") then Some ((NothingHangs ∷ []) ∷ []) else None
+
+-- that, or `app A running` or `app A once`, and other ways behind these
 abbrev pub ways_named : ClusterView → List (List ℕ) → Option (List (List Condition))
 ways_named c [] = None
 ways_named c (word ∷ []) = None
-ways_named c (word ∷ name ∷ []) = None
+ways_named c (word ∷ name ∷ []) = hanging_named word name
 ways_named c (word ∷ name ∷ state ∷ more) =
-    if bytes_eq word (codes "app") && bytes_eq state (codes "running") then ways_with (app_of c name) (other_ways c more) else None
+    if bytes_eq word (codes "app") then ways_with (state_named c name state) (other_ways c more) else None
+
+-- what is asked of each state, with or without `always`: that nothing hangs, or that an application runs once
+abbrev pub is_of_each : List (List ℕ) → Bool
+is_of_each [] = false
+is_of_each (word ∷ []) = false
+is_of_each (word ∷ name ∷ []) = true
+is_of_each (word ∷ name ∷ state ∷ more) = bytes_eq state (codes "once")
 
 abbrev pub asked_of : Bool → Option (List (List Condition)) → Option AskView
 asked_of always = option_map (λ ways. record { always = always; within = None; any_of = ways })
@@ -66,7 +85,8 @@ asked_of always = option_map (λ ways. record { always = always; within = None; 
 abbrev pub at_once_named : ClusterView → List (List ℕ) → Option AskView
 at_once_named c [] = None
 at_once_named c (word ∷ words) =
-    if bytes_eq word (codes "always") then asked_of true (ways_named c words) else asked_of false (ways_named c (word ∷ words))
+    if bytes_eq word (codes "always") then asked_of true (ways_named c words)
+    else asked_of (is_of_each (word ∷ words)) (ways_named c (word ∷ words))
 
 -- ---- `within D` behind it: it is asked of each state, and time may pass
 

@@ -2,7 +2,7 @@
 
 ghost use Rattle.std.specs.Prelude.{◌≡◌, ◌≤◌, [], ◌∷◌, true, Some, None, length, map, IfOk, IsTrue};
 ghost use Rattle.std.specs.Option.{option_map};
-ghost use Rattle.rh_explore_text.specs.Asks.{ask_view, ways_view, are_nodes, down_at, all_down, other_ways, ways_with, ways_named, asked_of, at_once_named, ends_within, time_named, soon, ask_named};
+ghost use Rattle.rh_explore_text.specs.Asks.{ask_view, ways_view, are_nodes, down_at, all_down, other_ways, ways_with, state_named, hanging_named, ways_named, is_of_each, asked_of, at_once_named, ends_within, time_named, soon, ask_named};
 
 use crate::words::number_of;
 use rh_base::OutOfMemory;
@@ -137,27 +137,58 @@ fn one_way(
     }
 }
 
-// These ways, and that the application runs somewhere.
+// These ways, and that a condition is so, if there is one.
 fn ways_with(
     alloc: Global,
-    app: Option<App>,
+    condition: Option<Condition>,
     ways: Option<Vec<Vec<Condition>>>,
 ) -> Result<Option<Vec<Vec<Condition>>>, OutOfMemory>
     ensures { IfOk result
-        (λ all. option_map ways_view all ≡ ways_with app (option_map ways_view ways)) }
+        (λ all. option_map ways_view all ≡ ways_with condition (option_map ways_view ways)) }
 {
-    match (app, ways) {
-        (Some(app), Some(mut ways)) => {
-            let mut runs = Vec::new(alloc);
-            runs.push(Condition::RunsSomewhere(app))?;
-            ways.push(runs)?;
+    match (condition, ways) {
+        (Some(condition), Some(mut ways)) => {
+            let mut way = Vec::new(alloc);
+            way.push(condition)?;
+            ways.push(way)?;
             Ok(Some(ways))
         }
         _ => Ok(None),
     }
 }
 
-// The ways that these words name: an application runs, and others behind that.
+// What is said of the application of this name: that it runs somewhere, or at no two nodes.
+fn state_named(cluster: &Cluster, name: &str, state: &str) -> Option<Condition>
+    ensures { result ≡ state_named cluster.now name.now state.now }
+{
+    let app = cluster.app_of(name)?;
+    if state == "running" {
+        Some(Condition::RunsSomewhere(app))
+    } else if state == "once" {
+        Some(Condition::RunsAtMostOnce(app))
+    } else {
+        None
+    }
+}
+
+// That nothing hangs, if these words say so.
+fn hanging_named(
+    alloc: Global,
+    word: &str,
+    verb: &str,
+) -> Result<Option<Vec<Vec<Condition>>>, OutOfMemory>
+    ensures { IfOk result
+        (λ ways. option_map ways_view ways ≡ hanging_named word.now verb.now) }
+{
+    if word != "nothing" || verb != "hangs" {
+        return Ok(None);
+    }
+    let mut way = Vec::new(alloc);
+    way.push(Condition::NothingHangs)?;
+    one_way(alloc, Some(way))
+}
+
+// The ways that these words name: nothing hangs, or an application runs, and others behind that.
 fn ways_named(
     alloc: Global,
     cluster: &Cluster,
@@ -167,14 +198,26 @@ fn ways_named(
         option_map ways_view ways ≡ ways_named cluster.now (map (λ word. word.now) words.now)) }
 {
     match words {
+        [word, verb] => hanging_named(alloc, *word, *verb),
         [word, name, state, more @ ..] => {
-            if *word == "app" && *state == "running" {
+            if *word == "app" {
                 let ways = other_ways(alloc, cluster, more)?;
-                return ways_with(alloc, cluster.app_of(*name), ways);
+                return ways_with(alloc, state_named(cluster, *name, *state), ways);
             }
             Ok(None)
         }
         _ => Ok(None),
+    }
+}
+
+// Is what these words ask asked of each state, also without `always`?
+fn is_of_each(words: &[&str]) -> bool
+    ensures { result ≡ is_of_each (map (λ word. word.now) words.now) }
+{
+    match words {
+        [_, _] => true,
+        [_, _, state, ..] => *state == "once",
+        _ => false,
     }
 }
 
@@ -203,7 +246,8 @@ fn at_once_named(
             if *word == "always" {
                 return Ok(asked_of(true, ways_named(alloc, cluster, rest)?));
             }
-            Ok(asked_of(false, ways_named(alloc, cluster, words)?))
+            let each = is_of_each(words);
+            Ok(asked_of(each, ways_named(alloc, cluster, words)?))
         }
     }
 }

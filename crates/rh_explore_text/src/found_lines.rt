@@ -32,8 +32,12 @@ fn push_states(alloc: Global, out: &mut Vec<u8>, found: &Explored) -> Result<(),
     push_number(alloc, out, found.deepest as u128)
 }
 
-// Adds of how many events the longest lists are of which all were looked at, unless they are all.
-fn push_steps(alloc: Global, out: &mut Vec<u8>, covered: Covered) -> Result<(), OutOfMemory>
+/// Adds the field of how many events the longest lists are of which all were looked at, unless they are all.
+pub fn push_steps_field(
+    alloc: Global,
+    out: &mut Vec<u8>,
+    covered: Covered,
+) -> Result<(), OutOfMemory>
     ensures { OnOk result (out.new.items ≡ out.old.items ++ steps_json covered) }
 {
     if let Covered::UpTo(steps) = covered {
@@ -43,8 +47,8 @@ fn push_steps(alloc: Global, out: &mut Vec<u8>, covered: Covered) -> Result<(), 
     Ok(())
 }
 
-// Adds how many nodes are not up at most, unless all may be.
-fn push_down(
+/// Adds the field of how many nodes are not up at most, unless all may be.
+pub fn push_down_field(
     alloc: Global,
     out: &mut Vec<u8>,
     cluster: &Cluster,
@@ -83,8 +87,8 @@ pub fn search_line(
 {
     let mut line = Vec::new(alloc);
     push_states(alloc, &mut line, found)?;
-    push_steps(alloc, &mut line, found.covered)?;
-    push_down(alloc, &mut line, cluster, search.down)?;
+    push_steps_field(alloc, &mut line, found.covered)?;
+    push_down_field(alloc, &mut line, cluster, search.down)?;
     push_finished(&mut line, search.steps, found.covered)?;
     Ok(line)
 }
@@ -120,9 +124,9 @@ fn push_each_event(
     Ok(())
 }
 
-// Adds the array of the events.
+/// Adds the array of the events, each as the command that asks it.
 #[tactic(auto, using(rh_json_text::proofs::Arrays::array_is_closed))]
-fn push_events(
+pub fn push_events_array(
     alloc: Global,
     out: &mut Vec<u8>,
     cluster: &Cluster,
@@ -152,7 +156,7 @@ fn push_fails(
         (out.new.items ≡ out.old.items ++ fails_json cluster.now pick (read base.now) events.now) }
 {
     push_text(out, ",\"holds\":false,\"events\":")?;
-    push_events(alloc, out, cluster, events)?;
+    push_events_array(alloc, out, cluster, events)?;
     push_text(out, ",\"report\":")?;
     let state = state_behind(alloc, base, pick, events)?;
     push_bare_report(alloc, out, &state)?;
@@ -179,9 +183,9 @@ fn push_verdict(
     }
 }
 
-// Adds the number of an ask.
+/// Adds the number of an ask, as the first field of its line.
 #[tactic(auto, unfolding(crate::specs::FoundLines::asked_json))]
-fn push_asked(alloc: Global, out: &mut Vec<u8>, number: usize) -> Result<(), OutOfMemory>
+pub fn push_asked(alloc: Global, out: &mut Vec<u8>, number: usize) -> Result<(), OutOfMemory>
     ensures { OnOk result (out.new.items ≡ out.old.items ++ asked_json number) }
 {
     push_text(out, "{\"ask\":")?;

@@ -4,6 +4,8 @@
 //! reach. It tells of each ask that it holds, or the shortest list of events behind which it doesn't. [`explore_json`] tells the same
 //! by lines of JSON, for programs; a law says that its lines of the base are those of the same commands
 //! ([`search_base_is_answered`]). A [`rh_explore::Crew`] expands the states for both, and what is told is the same for any.
+//!
+//! What a script asks of a search ([`search_in`]), and the words of bounds and events, serve the search on live nodes too.
 #![tactic(auto)]
 
 mod asks;
@@ -19,5 +21,8 @@ mod telling;
 mod words;
 
 pub use exploring::run_explore;
+pub use found_lines::{push_asked, push_down_field, push_events_array, push_steps_field};
 pub use json::explore_json;
 pub use laws::search_base_is_answered;
+pub use reading::{Search, SearchScript, search_in};
+pub use telling::{is_unfinished, push_down, push_events, push_steps};

@@ -20,8 +20,8 @@ use rh_state::State;
 use rh_step::{Event, Pick, perform};
 use std::alloc::Global;
 
-// The lists of events of which all were looked at, unless they are all.
-fn push_steps(text: &mut String, covered: Covered) -> Result<(), OutOfMemory>
+/// Adds of how many events the longest lists are of which all were looked at, unless they are all.
+pub fn push_steps(text: &mut String, covered: Covered) -> Result<(), OutOfMemory>
     ensures { OnOk result (string_bytes text.new ≡ string_bytes text.old ++ steps_words covered) }
 {
     if let Covered::UpTo(steps) = covered {
@@ -30,8 +30,8 @@ fn push_steps(text: &mut String, covered: Covered) -> Result<(), OutOfMemory>
     Ok(())
 }
 
-// How many nodes are not up at most, unless all may be.
-fn push_down(text: &mut String, cluster: &Cluster, down: usize) -> Result<(), OutOfMemory>
+/// Adds how many nodes are not up at most, unless all may be.
+pub fn push_down(text: &mut String, cluster: &Cluster, down: usize) -> Result<(), OutOfMemory>
     ensures { OnOk result
         (string_bytes text.new ≡ string_bytes text.old ++ down_words cluster.now down) }
 {
@@ -76,8 +76,8 @@ fn push_event(
     Ok(())
 }
 
-// Adds events as commands.
-fn push_events(
+/// Adds events as commands.
+pub fn push_events(
     alloc: Global,
     text: &mut Vec<u8>,
     cluster: &Cluster,
@@ -190,7 +190,7 @@ fn push_verdicts(
     Ok(())
 }
 
-// Did the search end before all was looked at?
+/// Did the search end before all was looked at?
 pub fn is_unfinished(steps: u32, covered: Covered) -> bool
     ensures { result ≡ is_unfinished steps covered }
 {

@@ -17,7 +17,7 @@ returns c =
     let array = json_array (event_json c.args.cluster.now) events in
     let label = codes ",\"report\":" in
     let report = bare_report (fold (step c.args.pick) (read c.args.base.now) events) in
-    let with_events = c.in_ok-push_events.ensures ∙ ap (λ (t : List ℕ). t ++ array) c.in_ok-push_text.ensures ∙ append_assoc begun key array in
+    let with_events = c.in_ok-push_events_array.ensures ∙ ap (λ (t : List ℕ). t ++ array) c.in_ok-push_text.ensures ∙ append_assoc begun key array in
     let with_label = c.in_ok-push_text-2.ensures ∙ ap (λ (t : List ℕ). t ++ label) with_events ∙ append_assoc begun (key ++ array) label in
     let with_report = c.in_ok-push_bare_report.ensures ∙ ap (λ (s : StateView). c.push_text-2.new.out.items ++ bare_report s) c.in_ok-state.ensures
     ∙ ap (λ (t : List ℕ). t ++ report) with_label ∙ append_assoc begun ((key ++ array) ++ label) report in
