@@ -3,6 +3,8 @@
 #![tactic(auto)]
 
 #[cfg(test)]
+mod explored;
+#[cfg(test)]
 mod files;
 #[cfg(test)]
 mod json;

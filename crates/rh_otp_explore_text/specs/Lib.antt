@@ -1,0 +1,4 @@
+pub mod FoundText
+pub mod FoundLines
+pub mod Bases
+pub mod LiveExplore
