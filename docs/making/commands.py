@@ -11,6 +11,7 @@ from tree import CRATES, TOP, BadSource, read, shown
 FORMS = CRATES / "rh_script" / "src" / "forms.rt"
 REFUSALS = CRATES / "rh_rules" / "specs" / "Refusals.antt"
 HELP_SOURCE = CRATES / "rh_command_line" / "src" / "help.rt"
+EXPLORE_HELP = CRATES / "rh_command_line" / "src" / "explore_help.rt"
 JSON = TOP / "companions" / "rehearse_tools" / "commands.json"
 # How an argument of each kind is written in texts of help.
 LETTERS = {"Node": "N", "App": "A", "Restart": "T", "Truth": "B", "Ending": "R", "Milliseconds": "D"}

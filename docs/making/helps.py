@@ -5,7 +5,7 @@ from dataclasses import dataclass
 from functools import cache
 from pathlib import Path
 
-from commands import HELP_SOURCE, with_help
+from commands import EXPLORE_HELP, HELP_SOURCE, with_help
 from tree import CRATES, TOP, BadSource, read, shown
 
 SOURCES = CRATES / "rh_command_line" / "src"
@@ -39,8 +39,9 @@ def one(pattern: str, text: str, what: str) -> str:
 
 @cache
 def texts() -> dict[str, str]:
-    """The texts of help.rt, by their names."""
-    found = re.findall(r"(?s)pub static (\w+): &str =\s+" + STRING + ";", with_help(read(HELP_SOURCE)))
+    """The texts of help.rt and explore_help.rt, by their names."""
+    sources = with_help(read(HELP_SOURCE)) + read(EXPLORE_HELP)
+    found = re.findall(r"(?s)pub static (\w+): &str =\s+" + STRING + ";", sources)
     wrong = [name for name, text in found if "\\" in text]
     if wrong:
         raise BadSource(f"{shown(HELP_SOURCE)}: {wrong[0]} has a backslash, which isn't read here")

@@ -48,6 +48,8 @@ pub enum Program {
     Explore(Pick, SearchRoom, usize),
     /// The same, as lines of JSON.
     ExploreJson(Pick, SearchRoom, usize),
+    /// All lists of events are tried on live nodes behind a base, with messages taken in an order, so many at most; as lines of JSON, if so.
+    ExploreLive(Order, usize, bool),
     /// Sessions share a cluster.
     Sessions(Pick),
     /// Plans are tried, by so many workers.

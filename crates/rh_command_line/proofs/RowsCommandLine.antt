@@ -11,7 +11,7 @@ use Rattle.rh_rules.specs.declared.pick.Pick.TheVariants.{First, Last}
 use Rattle.rh_otp_net.specs.declared.order.Order.{Order}
 use Rattle.rh_otp_net.specs.declared.order.Order.TheVariants.{FirstComes, LastComes, Drawn}
 use Rattle.rh_asked.specs.declared.program.Program.{Program}
-use Rattle.rh_asked.specs.declared.program.Program.TheVariants.{Check, CheckJson, Run, RunLive, RunLiveJson, RunIn, RunJson, Dialogue, DialogueJson, DialogueLive, DialogueLiveJson, Story, StoryLive, Verify, VerifyLive, Lint, LintLive, Explore, ExploreJson, Sessions, Sweep, SweepJson, SweepLive, SweepLiveJson}
+use Rattle.rh_asked.specs.declared.program.Program.TheVariants.{Check, CheckJson, Run, RunLive, RunLiveJson, RunIn, RunJson, Dialogue, DialogueJson, DialogueLive, DialogueLiveJson, Story, StoryLive, Verify, VerifyLive, Lint, LintLive, Explore, ExploreJson, ExploreLive, Sessions, Sweep, SweepJson, SweepLive, SweepLiveJson}
 use Rattle.rh_command_line.specs.CommandLine.{AreNames, line}
 use Rattle.rh_command_line.specs.declared.building.Names.{Names}
 use Rattle.rh_command_line.specs.Table.{subcommand_named}
@@ -68,7 +68,7 @@ rules_row : (asks (codes "run" ∷ codes "--rules" ∷ codes "otp25" ∷ []) ≡
     × (asks (codes "run" ∷ codes "--rules=otp25" ∷ codes "--pick=first" ∷ []) ≡ Some (plain_live FirstComes))
     × (asks (codes "run" ∷ codes "--rules=otp25" ∷ codes "--pick=last" ∷ []) ≡ Some (plain_live LastComes))
     × (faults (codes "run" ∷ codes "--rules=otp26" ∷ []) ≡ kind.InvalidValue ∷ [])
-    × (faults (codes "explore" ∷ codes "--rules=otp25" ∷ []) ≡ kind.UnknownArgument ∷ [])
+    × (faults (codes "sessions" ∷ codes "--rules=otp25" ∷ []) ≡ kind.UnknownArgument ∷ [])
 unfolding clap_on_literals subcommand_named
 rules_row = (refl, refl, refl, refl, refl, refl, refl)
 
@@ -216,6 +216,16 @@ explore_json_row : (asks (codes "explore" ∷ codes "--json" ∷ []) ≡ Some (E
     ≡ Some (ExploreJson Last (record { states = 9; mebibytes = 1024 }) 3))
 unfolding clap_on_literals subcommand_named
 explore_json_row = (refl, refl, refl)
+
+-- on live nodes by one worker alone, and so many lists in place of states; a number decides an order there, and no tie
+live_explore_row : (asks (codes "explore" ∷ codes "--rules=otp25" ∷ []) ≡ Some (ExploreLive FirstComes 1000000 false))
+    × (faults (codes "explore" ∷ codes "--rules=otp25" ∷ []) ≡ [])
+    × (asks (codes "explore" ∷ codes "--pick=9" ∷ codes "--states=7" ∷ codes "--json" ∷ codes "--rules=otp25" ∷ [])
+    ≡ Some (ExploreLive (Drawn 9) 7 true))
+    × (asks (codes "explore" ∷ codes "--rules=otp25" ∷ codes "--workers=2" ∷ []) ≡ None)
+    × (asks (codes "explore" ∷ codes "--pick=9" ∷ []) ≡ None)
+unfolding clap_on_literals subcommand_named
+live_explore_row = (refl, refl, refl, refl, refl)
 
 -- another choice, an option that a subcommand hasn't, one that stands twice
 options_row : (faults (codes "sessions" ∷ codes "--pick" ∷ codes "middle" ∷ []) ≡ kind.InvalidValue ∷ [])

@@ -1,6 +1,6 @@
 -- What the words of a command line ask (ours).
 use Rattle.std.specs.Prelude.{◌≡◌, ◌⊎◌, ℕ, List, [], Bool, true, false, Option, Some, None, map}
-use Rattle.std.specs.Prelude.{◌&&◌, ◌||◌, codes, if◌then◌else◌, nat_le, option_map, option_and_then}
+use Rattle.std.specs.Prelude.{◌==◌, ◌&&◌, ◌||◌, codes, if◌then◌else◌, nat_le, option_map, option_and_then}
 use Rattle.std.specs.String.{string_bytes}
 use Rattle.std.specs.Str.{bytes_eq}
 use Rattle.std.specs.Str.Parse.{digits_value, without_leading_plus}
@@ -209,10 +209,22 @@ sweep_with json (Some rules) workers = option_map (sweep_of rules json) workers
 abbrev pub explore_of : Pick → Bool → SearchRoom → ℕ → Program
 explore_of pick json room workers = if json then program.ExploreJson pick room workers else program.Explore pick room workers
 
--- where there may be so much room, and so many workers
-abbrev pub explore_with : Pick → Bool → Option SearchRoom → Option ℕ → Option Program
-explore_with pick json None workers = None
-explore_with pick json (Some room) workers = option_map (explore_of pick json room) workers
+-- on live nodes one worker tries lists, so many at most, and keeps no states
+abbrev pub live_explore : Order → Bool → ℕ → ℕ → Option Program
+live_explore order json lists workers = if workers == 1 then Some (program.ExploreLive order lists json) else None
+
+abbrev pub explore_by : Bool → SearchRoom → Rules → ℕ → Option Program
+explore_by json room (rules.Manual pick) workers = Some (explore_of pick json room workers)
+explore_by json room (rules.Live order) workers = live_explore order json room.states workers
+
+-- where there are such rules, and may be so much room, and so many workers
+abbrev pub explore_in : Bool → Option Rules → SearchRoom → Option ℕ → Option Program
+explore_in json None room workers = None
+explore_in json (Some rules) room workers = option_and_then (explore_by json room rules) workers
+
+abbrev pub explore_with : Bool → Option Rules → Option SearchRoom → Option ℕ → Option Program
+explore_with json rules None workers = None
+explore_with json rules (Some room) workers = explore_in json rules room workers
 
 -- the program that a subcommand means with these matches
 abbrev pub program_of : Subcommand → List Row → Option Program
@@ -223,7 +235,7 @@ program_of Lint rows = option_and_then (λ rules. lint_by rules (flag_in All row
 program_of Verify rows = option_map verify_of (rules_in rows)
 program_of Sessions rows = Some (program.Sessions (pick_in rows))
 program_of Sweep rows = sweep_with (flag_in Json rows) (rules_in rows) (workers_in rows)
-program_of Explore rows = explore_with (pick_in rows) (flag_in Json rows) (room_in rows) (workers_in rows)
+program_of Explore rows = explore_with (flag_in Json rows) (rules_in rows) (room_in rows) (workers_in rows)
 
 -- the program of the subcommand with this word and these matches
 abbrev pub program_in : Text → List Row → Option Program
@@ -257,6 +269,14 @@ why_no_lint_by rows (Some rules) = codes "--all doesn't go with --rules otp25, b
 abbrev pub why_no_lint : List Row → Text
 why_no_lint rows = why_no_lint_by rows (rules_in rows)
 
+-- a search
+abbrev pub why_no_explore_by : List Row → Option Rules → Text
+why_no_explore_by rows None = why_no_rules rows
+why_no_explore_by rows (Some rules) = codes "--workers doesn't go with explore --rules otp25, which tries one list after the other"
+
+abbrev pub why_no_explore : List Row → Text
+why_no_explore rows = why_no_explore_by rows (rules_in rows)
+
 -- only of subcommands that take rules there is more to say
 abbrev pub why_no_program : Subcommand → List Row → Text
 why_no_program Run rows = why_no_run rows
@@ -264,6 +284,7 @@ why_no_program Lint rows = why_no_lint rows
 why_no_program Story rows = why_no_rules rows
 why_no_program Verify rows = why_no_rules rows
 why_no_program Sweep rows = why_no_rules rows
+why_no_program Explore rows = why_no_explore rows
 why_no_program s rows = codes "no program has this name and these options"
 
 abbrev pub why_without : Option Subcommand → List Row → Text

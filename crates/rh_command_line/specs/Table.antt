@@ -27,7 +27,7 @@ entry_of Story = (codes "story", setting.PickOrNumber ∷ setting.Rules ∷ sett
 entry_of Verify = (codes "verify", setting.PickOrNumber ∷ setting.Rules ∷ [])
 entry_of Sessions = (codes "sessions", setting.Pick ∷ [])
 entry_of Sweep = (codes "sweep", setting.PickOrNumber ∷ setting.Rules ∷ setting.Workers ∷ setting.Flag Json ∷ [])
-entry_of Explore = (codes "explore", setting.Pick ∷ setting.Workers ∷ setting.States ∷ setting.Memory ∷ setting.Flag Json ∷ [])
+entry_of Explore = (codes "explore", setting.PickOrNumber ∷ setting.Rules ∷ setting.Workers ∷ setting.States ∷ setting.Memory ∷ setting.Flag Json ∷ [])
 
 abbrev pub word_of : Subcommand → List ℕ
 word_of s = (entry_of s).0

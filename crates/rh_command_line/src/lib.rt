@@ -5,6 +5,7 @@
 
 mod building;
 mod command_line;
+mod explore_help;
 mod help;
 mod reading;
 mod reasons;

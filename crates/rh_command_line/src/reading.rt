@@ -7,7 +7,7 @@ ghost use Rattle.rh_rules.specs.declared.pick.Pick.TheVariants as pick;
 ghost use Rattle.rh_plans.specs.Workers.{AreWorkers};
 ghost use Rattle.rh_asked.specs.Programs.{IsStaffed};
 ghost use Rattle.rh_asked.specs.declared.program.Program.TheVariants as program;
-ghost use Rattle.rh_command_line.specs.Asking.{allowed, allowed_memory, allowed_number, allowed_states, answering, explore_of, flag_in, is_given, is_live, is_live_in, lint_by, lint_of, live_answering, live_lint, live_run, live_sweep, manual_sweep, memory_in, number_in, order_in, order_of, pick_in, pick_named, program_among, program_in, program_of, room_in, rules_in, run_as, run_in, run_of, states_in, story_of, sweep_of, verify_of, workers_in};
+ghost use Rattle.rh_command_line.specs.Asking.{allowed, allowed_memory, allowed_number, allowed_states, answering, explore_by, explore_of, flag_in, is_given, is_live, is_live_in, lint_by, lint_of, live_answering, live_explore, live_lint, live_run, live_sweep, manual_sweep, memory_in, number_in, order_in, order_of, pick_in, pick_named, program_among, program_in, program_of, room_in, rules_in, run_as, run_in, run_of, states_in, story_of, sweep_of, verify_of, workers_in};
 
 use crate::rules::Rules;
 use crate::table::{Flag, MOST_MEBIBYTES, MOST_NUMBER, MOST_STATES, Subcommand, subcommand_named};
@@ -57,12 +57,12 @@ fn program_of(subcommand: Subcommand, matches: &ArgMatches<'_>) -> Option<Progra
             flag_in(matches, Flag::Json),
             workers_in(matches)?,
         )),
-        Subcommand::Explore => Some(explore_of(
-            pick_in(matches),
+        Subcommand::Explore => explore_by(
+            rules_in(matches)?,
             flag_in(matches, Flag::Json),
             room_in(matches)?,
             workers_in(matches)?,
-        )),
+        ),
     }
 }
 
@@ -260,7 +260,31 @@ fn live_sweep(order: Order, json: bool, workers: usize) -> Program
     }
 }
 
-// A search in so much room by so many workers, by JSON or not.
+// A search by these rules, in so much room by so many workers, by JSON or not.
+fn explore_by(rules: Rules, json: bool, room: SearchRoom, workers: usize) -> Option<Program>
+    requires { AreWorkers workers }
+    ensures named { result ≡ explore_by json room rules workers }
+    ensures staffed { IfSome result IsStaffed }
+{
+    match rules {
+        Rules::Manual(pick) => Some(explore_of(pick, json, room, workers)),
+        Rules::Live(order) => live_explore(order, json, room.states, workers),
+    }
+}
+
+// On live nodes one worker tries lists, so many at most, and keeps no states.
+fn live_explore(order: Order, json: bool, lists: usize, workers: usize) -> Option<Program>
+    ensures named { result ≡ live_explore order json lists workers }
+    ensures staffed { IfSome result IsStaffed }
+{
+    if workers == 1 {
+        Some(Program::ExploreLive(order, lists, json))
+    } else {
+        None
+    }
+}
+
+// A search by the manual's rules, in so much room by so many workers, by JSON or not.
 fn explore_of(pick: Pick, json: bool, room: SearchRoom, workers: usize) -> Program
     requires { AreWorkers workers }
     ensures named { result ≡ explore_of pick json room workers }

@@ -2,7 +2,7 @@
 
 ghost use Rattle.std.specs.Prelude.{◌≡◌};
 ghost use Rattle.clap.specs.Words.{found_of, rows_of, subcommand_rows_of};
-ghost use Rattle.rh_command_line.specs.Asking.{why_no_lint, why_no_program, why_no_rules, why_no_run, why_none, why_not};
+ghost use Rattle.rh_command_line.specs.Asking.{why_no_explore, why_no_lint, why_no_program, why_no_rules, why_no_run, why_none, why_not};
 
 use crate::reading::{is_live_in, rules_in};
 use crate::table::{Subcommand, subcommand_named};
@@ -35,6 +35,7 @@ fn why_no_program<'a>(subcommand: Subcommand, matches: &ArgMatches<'_>) -> &'a s
     match subcommand {
         Subcommand::Run => why_no_run(matches),
         Subcommand::Lint => why_no_lint(matches),
+        Subcommand::Explore => why_no_explore(matches),
         Subcommand::Story | Subcommand::Verify | Subcommand::Sweep => why_no_rules(matches),
         _ => "no program has this name and these options",
     }
@@ -56,6 +57,18 @@ fn why_no_lint<'a>(matches: &ArgMatches<'_>) -> &'a str
 {
     match rules_in(matches) {
         Some(_) => "--all doesn't go with --rules otp25, by which all steps are told of",
+        None => why_no_rules(matches),
+    }
+}
+
+// Why there is no such search.
+fn why_no_explore<'a>(matches: &ArgMatches<'_>) -> &'a str
+    ensures { result.now ≡ why_no_explore (rows_of (found_of matches.now)) }
+{
+    match rules_in(matches) {
+        Some(_) => {
+            "--workers doesn't go with explore --rules otp25, which tries one list after the other"
+        }
         None => why_no_rules(matches),
     }
 }

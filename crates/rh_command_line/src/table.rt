@@ -4,10 +4,11 @@ ghost use Rattle.std.specs.Prelude.{◌≡◌, position};
 ghost use Rattle.std.specs.Str.{bytes_eq};
 ghost use Rattle.rh_command_line.specs.Table.{flag_word, settings_of, subcommand_named, word_of};
 
+use crate::explore_help::{EXPLORE_ABOUT, EXPLORE_AFTER_HELP};
 use crate::help::{
-    CHECK_ABOUT, CHECK_AFTER_HELP, EXPLORE_ABOUT, EXPLORE_AFTER_HELP, LINT_ABOUT, LINT_AFTER_HELP,
-    RUN_ABOUT, RUN_AFTER_HELP, SESSIONS_ABOUT, SESSIONS_AFTER_HELP, STORY_ABOUT, STORY_AFTER_HELP,
-    SWEEP_ABOUT, SWEEP_AFTER_HELP, VERIFY_ABOUT, VERIFY_AFTER_HELP,
+    CHECK_ABOUT, CHECK_AFTER_HELP, LINT_ABOUT, LINT_AFTER_HELP, RUN_ABOUT, RUN_AFTER_HELP,
+    SESSIONS_ABOUT, SESSIONS_AFTER_HELP, STORY_ABOUT, STORY_AFTER_HELP, SWEEP_ABOUT,
+    SWEEP_AFTER_HELP, VERIFY_ABOUT, VERIFY_AFTER_HELP,
 };
 
 /// A word of a subcommand that takes no value: it is given, or it isn't.
@@ -114,8 +115,9 @@ static PICK_RULES_WORKERS_JSON: [Setting; 4] = [
     Setting::Flag(Flag::Json),
 ];
 
-static PICK_WORKERS_STATES_MEMORY_JSON: [Setting; 5] = [
-    Setting::Pick,
+static PICK_RULES_WORKERS_STATES_MEMORY_JSON: [Setting; 6] = [
+    Setting::PickOrNumber,
+    Setting::Rules,
     Setting::Workers,
     Setting::States,
     Setting::Memory,
@@ -213,7 +215,7 @@ impl Subcommand {
             ),
             Subcommand::Explore => entry_of(
                 "explore",
-                PICK_WORKERS_STATES_MEMORY_JSON.as_slice(),
+                PICK_RULES_WORKERS_STATES_MEMORY_JSON.as_slice(),
                 EXPLORE_ABOUT,
                 EXPLORE_AFTER_HELP,
             ),

@@ -4,7 +4,7 @@ use Rattle.rh_run.specs.declared.fault.RunFault.{RunFault}
 use Rattle.rh_run.specs.declared.fault.RunFault.TheVariants as end
 use Rattle.rh_run.specs.declared.fault.Told.{Told}
 use Rattle.rh_asked.specs.declared.program.Program.{Program}
-use Rattle.rh_asked.specs.declared.program.Program.TheVariants.{Check, CheckJson, Run, RunLive, RunLiveJson, RunIn, RunJson, Dialogue, DialogueJson, DialogueLive, DialogueLiveJson, Story, StoryLive, Verify, VerifyLive, Lint, LintLive, Explore, ExploreJson, Sessions, Sweep, SweepJson, SweepLive, SweepLiveJson}
+use Rattle.rh_asked.specs.declared.program.Program.TheVariants.{Check, CheckJson, Run, RunLive, RunLiveJson, RunIn, RunJson, Dialogue, DialogueJson, DialogueLive, DialogueLiveJson, Story, StoryLive, Verify, VerifyLive, Lint, LintLive, Explore, ExploreJson, ExploreLive, Sessions, Sweep, SweepJson, SweepLive, SweepLiveJson}
 use Rattle.rh_devices.specs.declared.watched.Watched.{Watched}
 use Rattle.rh_devices.specs.Devices.{Passed}
 use Rattle.rh_run.specs.Programs.{IsInput, ProgramGives, NoThreads}
@@ -25,6 +25,7 @@ use Rattle.rh_manner.specs.MannerText.{OwesRunIn}
 use Rattle.rh_otp_net.specs.declared.order.Order.{Order}
 use Rattle.rh_rules.specs.declared.pick.Pick.{Pick}
 use Rattle.rh_otp_dialogue.specs.LiveVoices.{live_voiced}
+use Rattle.rh_otp_explore_text.specs.LiveExplore.{OwesLiveExplore}
 use Rattle.rh_otp_json.specs.LiveJson.{OwesLiveJson}
 use Rattle.rh_otp_lint.specs.LiveLint.{OwesLiveLint}
 use Rattle.rh_otp_plans.specs.LiveSweep.{OwesLiveSweep}
@@ -60,6 +61,7 @@ Owes (Lint pick manner) = OwesLint manner pick
 Owes (LintLive order manner) = OwesLiveLint manner order
 Owes (Explore pick room workers) = OwesExplore pick room
 Owes (ExploreJson pick room workers) = OwesExploreJson pick room
+Owes (ExploreLive order lists json) = OwesLiveExplore order lists json
 Owes (Sessions pick) = MayGive pick
 Owes (Sweep pick workers) = OwesSweep pick
 Owes (SweepJson pick workers) = OwesSweepJson pick

@@ -16,6 +16,7 @@ use rh_json::{check_json, run_json};
 use rh_lint::run_lint;
 use rh_manner::{Form, Voice, run_dialogue, run_in};
 use rh_otp_dialogue::{LiveVoice, run_live_dialogue};
+use rh_otp_explore_text::run_explore_live;
 use rh_otp_json::live_json;
 use rh_otp_lint::run_live_lint;
 use rh_otp_net::Order;
@@ -194,6 +195,9 @@ fn ended_alone<S: Source, K: Sink, W: Watch>(
         }
         Program::ExploreJson(pick, room, _) => {
             explore_json(&Alone, watch, alloc, reader, writer, pick, room)
+        }
+        Program::ExploreLive(order, lists, json) => {
+            run_explore_live(alloc, reader, writer, order, lists, json)
         }
         Program::Sweep(pick, _) => run_sweep_alone(alloc, reader, writer, pick),
         Program::SweepJson(pick, _) => sweep_json_alone(alloc, reader, writer, pick),
