@@ -67,6 +67,12 @@ INPUTS = {
                        b'{"profile":1,"nodes":["a@x","b@x"],"applications":[{"name":"web","distributed":false}]}\n'
                        b'{"line":1,"command":"boot a@x","answer":"ok","notices":[{"kind":"up","node":"a@x"}]}\n'
                        b'{"states":2,"deepest":1,"finished":true}\n{"ask":1,"holds":true}\n'),
+    "explore --rules otp25": (CLUSTER + b"boot a@x\nmay crash *\nmay boot *\nsteps 1\nask nothing hangs\n",
+                              b"ok\nup a@x\nexplored 3 lists up to 1 steps\nholds\n"),
+    "explore --rules otp25 --json": (b"{application, web, []}. " + CLUSTER + b"boot a@x\nmay crash a@x\nask app web once or down b@x\n",
+                                     b'{"profile":1,"nodes":["a@x","b@x"],"applications":[{"name":"web","distributed":false}]}\n'
+                                     b'{"line":1,"command":"boot a@x","answer":"ok","notices":[{"kind":"up","node":"a@x"}]}\n'
+                                     b'{"lists":2,"finished":true}\n{"ask":1,"holds":true}\n'),
     "run --rules otp25": (CLUSTER + b"boot a@x\nboot a@x\nshow\n",
                           b"ok\nup a@x\nrefused S3 already_alive\nok\nnow 0\nnode a@x up 1\nnode b@x down 0\n"),
     "story --rules otp25": (CLUSTER + b"boot a@x\n# again\nboot a@x\n",

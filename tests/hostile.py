@@ -33,6 +33,7 @@ def inputs():
     yield "story --rules otp25", cluster + b"boot a@x\ncrash a@x\n" * 20
     yield "verify --rules otp25", cluster + b"boot a@x\n#= ok\n#= up a@x\ncrash a@x\n" * 20
     yield "sweep --rules otp25 --json", cluster + b"boot a@x\nplan p\ncrash a@x\n" + b"plan q\n" * 20
+    yield "explore --rules otp25", cluster + b"boot a@x\nundo\n" * 40 + b"may crash *\nmay boot *\nsteps 1\nask nothing hangs\n"
     yield "run --rules otp25 --interactive", cluster + b"boot a@x\ncrash a@x\n" * 20
     yield "run --interactive", cluster + b"boot a@x\ncrash a@x\n" * 40
     yield "run --interactive --json", cluster + b"boot a@x\ncrash a@x\n" * 20

@@ -379,8 +379,10 @@ def json_of_rows(program):
         row = row_at(path)
         check = {"run": check_run, "lint": check_lint, "sweep": check_sweep, "explore": check_explore}.get(row.words[0] if row.words else "")
         is_plain = not {"--json", "--echo", "--strict", "--rules"} & {*row.words} and row.status in (0, 2, 3, 6)
+        # Of findings and of searches any end is told; of searches on live nodes live_explore.py says more.
+        is_told = check is check_lint or check is check_explore and "--rules" not in row.words
         # With status 1 nothing is told: it is no command line.
-        if check and row.status != 1 and (is_plain or check in (check_lint, check_explore) and "--json" not in row.words):
+        if check and row.status != 1 and (is_plain or is_told and "--json" not in row.words):
             yield f"json of {os.path.relpath(path, ROWS)}", fault_in(check, program, row.words[1:], row.input)
 
 

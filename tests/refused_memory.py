@@ -13,7 +13,7 @@ RUNS = ("rows/bare-nodes/two-bare-nodes", "rows/sessions/one-session-all-calls",
         "rows/story/waits-for", "rows/verify/report", "rows/json/report", "rows/json/failover", "rows/json/names",
         "rows/json/refused-and-bad", "rows/json/fault-value", "rows/json/sweep-not-at-end",
         "rows/manner/echo-and-strict", "rows/manner/echo-of-a-bad-line", "rows/manner/interactive", "rows/otp25/answered-late",
-        "rows/otp25/interactive",
+        "rows/otp25/interactive", "rows/otp25/explore-few-lists",
         "rows/json/interactive", "rows/explore/verdicts", "rows/json/sweep", "rows/json/sweep-base-alone", "rows/json/explore")
 
 # Refuses the allocation of the number in FAIL_ALLOCATION, counted from 1, and keeps in the file COUNT_FILE how many there

@@ -10,7 +10,7 @@ profiles (profiles.py), random scripts beside a model (random_scripts.py), searc
 keys would collide (colliding_keys.py), runs whose lines are answered as they come (dialogues.py), what is told as
 JSON (json_lines.py), what lint owes for the examples and for mistaken inputs (linted.py), what it tells of random rehearsals, by a
 second way and beside live nodes (lint_measure.py), rehearsals by the rules of OTP 25 beside their model (live_rules.py), as JSON (live_json.py), their stories (live_stories.py),
-plans (live_sweeps.py) and what lint tells of them (live_lint.py), beside the rules of `run` (agreement.py), in several orders of messages (confluence.py) and beside the laws of `run` (live_laws.py), stories of the
+plans (live_sweeps.py), searches (live_explore.py) and what lint tells of them (live_lint.py), beside the rules of `run` (agreement.py), in several orders of messages (confluence.py) and beside the laws of `run` (live_laws.py), stories of the
 examples (stories.py), rows by pytest (pytest_items.py), the scripts that run, build and ship the program (shipped.py), what ./rehearse
 does in front of it (front.py, front_talks.py) and tells of refused files (places.py), the packages of it (package.py), one of them installed (own_root.py), the benchmark's inputs (benched.py) and the documents (check_docs.py). Calls that the
 programs `rh_growths` and `rh_part_growths` beside PROGRAM make have their growths of memory counted and refused, and have to leave all
@@ -41,6 +41,7 @@ import hostile  # noqa: E402
 import json_lines  # noqa: E402
 import lint_measure  # noqa: E402
 import linted  # noqa: E402
+import live_explore  # noqa: E402
 import live_json  # noqa: E402
 import live_laws  # noqa: E402
 import live_lint  # noqa: E402
@@ -182,8 +183,8 @@ def command_lines(program):
                                    b"V3", b"plan NAME accepted K\n", b"docs/SCRIPTS.md"]),
             (["story", "--help"], [b"--pick", b"--rules", b"--whole", b"#- N blocked", b"docs/SCRIPTS.md"]),
             (["verify", "--help"], [b"--pick", b"--rules", b"#? TEXT"]),
-            (["explore", "--help"], [b"--pick", b"--workers", b"--states", b"--memory", b"--json", b"may EVENT", b"ask app A running",
-                                     b"explored K states", b"bad line K", b"unfinished", b"docs/SCRIPTS.md"]),
+            (["explore", "--help"], [b"--pick", b"--rules", b"--workers", b"--states", b"--memory", b"--json", b"may EVENT", b"ask app A running",
+                                     b"ask nothing hangs", b"ask app A once", b"explored K states", b"explored K lists", b"bad line K", b"unfinished", b"docs/SCRIPTS.md"]),
             (["--version"], [b"rehearse 0.1.0"])]:
         done = run(program, words, input=b"")
         missing = [text for text in texts if text not in done.stderr]
@@ -199,7 +200,7 @@ def command_lines(program):
             (["--json", "--strict"], b"--json and --interactive go with neither --echo nor --strict"),
             (["--rules", "otp25", "--all"], b"--all doesn't go with --rules otp25, by which all steps are told of")):
         # The options of rules are told alike wherever they are taken.
-        every = ("run", "lint", "story", "verify", "sweep") if b"--pick" in text else ("lint",) if "--all" in words else ("run",)
+        every = ("run", "lint", "story", "verify", "sweep", "explore") if b"--pick" in text else ("lint",) if "--all" in words else ("run",)
         for word in every:
             done = run(program, [word, *words], input=b"")
             yield " ".join([word, *words]), fault_of(done, 1, b"") or (None if text in done.stderr else f"standard error: {done.stderr}")
@@ -310,7 +311,7 @@ QUICK = (*made_pages.TESTS, *refused_memory.TESTS, *failing_calls.TESTS, *hostil
          Group(no_threads, needs=("cc",)), *shipped.TESTS, *front.TESTS, *front_talks.TESTS, *places.TESTS, *stories.TESTS, *linted.TESTS,
          *colliding_keys.TESTS, *dialogues.TESTS, *pytest_items.TESTS)
 # Those that take longest begin first.
-ALL = (*prefixes.TESTS, *growths.TESTS, *lint_measure.TESTS, *live_rules.TESTS, *live_sweeps.TESTS, *live_stories.TESTS, *live_lint.TESTS, *confluence.TESTS, *agreement.TESTS, *live_laws.TESTS, *live_json.TESTS,
+ALL = (*prefixes.TESTS, *growths.TESTS, *lint_measure.TESTS, *live_rules.TESTS, *live_explore.TESTS, *live_sweeps.TESTS, *live_stories.TESTS, *live_lint.TESTS, *confluence.TESTS, *agreement.TESTS, *live_laws.TESTS, *live_json.TESTS,
        *random_scripts.TESTS, *explored.TESTS, *benched.TESTS, *json_lines.TESTS,
        *check_docs.TESTS, *package.TESTS, *own_root.TESTS, *QUICK, *MADE, *map(profiles.under_profile_1, MADE), *profiles.TESTS, cluster_limits,
        command_lines, full_inputs, several_sessions)
