@@ -1,3 +1,3 @@
-mod Bare
-mod Beside
-mod Plans
+pub mod Bare
+pub mod Beside
+pub mod Plans

@@ -64,7 +64,7 @@ ends_behind (e ∷ events) made k sim is =
 
 -- ---- what is told of it
 
-report_bare : (sim : LiveSimView) → report_of (without_past sim) ≡ report_of sim
+pub report_bare : (sim : LiveSimView) → report_of (without_past sim) ≡ report_of sim
 unfolding report_of
 report_bare sim = refl
 

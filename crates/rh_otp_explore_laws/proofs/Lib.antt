@@ -1,0 +1,5 @@
+mod Elements
+mod Alike
+mod Lists
+mod Searched
+mod OneAnswer
