@@ -65,10 +65,10 @@ module _ (sim : SimView) (l : LiveSimView) (e : Event) (cells : List Cell) (toge
         (rest.always k (omega (arith, below, together.within)))
   ]
 
-  then_rest : AreAlwaysAtRest (with_event sim e) (with_step cells l)
+  pub then_rest : AreAlwaysAtRest (with_event sim e) (with_step cells l)
   then_rest = record { now = now; always = each }
 
-accepted_rest : (sim : SimView) (l : LiveSimView) (e : Event) (cells : List Cell) → GoTogether sim l → HasRoom sim l → AreAlwaysAtRest sim l
+pub accepted_rest : (sim : SimView) (l : LiveSimView) (e : Event) (cells : List Cell) → GoTogether sim l → HasRoom sim l → AreAlwaysAtRest sim l
     → refused (state_of sim) e ≡ None → made_by (call.Step e) l ≡ with_step cells l
     → AreBothAtRest (served sim (call.Step e)).sim (made_by (call.Step e) l)
     → AreAlwaysAtRest (served sim (call.Step e)).sim (made_by (call.Step e) l)
@@ -114,12 +114,12 @@ reversals_rest sim l c together is rest = absurd (true≢false (sym is))
 -- ---- one after the other
 
 -- behind each both go together, and are at rest wherever undo and redo lead
-record GoesOn (c : Call) (sim : SimView) (l : LiveSimView) : Type 0 where
-  alike : IsAnsweredAlike c sim l
-  together : GoTogether (served sim c).sim (made_by c l)
-  rest : AreAlwaysAtRest (served sim c).sim (made_by c l)
+pub record GoesOn (c : Call) (sim : SimView) (l : LiveSimView) : Type 0 where
+  pub alike : IsAnsweredAlike c sim l
+  pub together : GoTogether (served sim c).sim (made_by c l)
+  pub rest : AreAlwaysAtRest (served sim c).sim (made_by c l)
 
-steps_on : (e : Event) (sim : SimView) (l : LiveSimView) → GoTogether sim l → HasRoom sim l → AreAlwaysAtRest sim l → IsPeaceful e sim l
+pub steps_on : (e : Event) (sim : SimView) (l : LiveSimView) → GoTogether sim l → HasRoom sim l → AreAlwaysAtRest sim l → IsPeaceful e sim l
     → GoesOn (call.Step e) sim l
 steps_on (event.Tick ms) sim l together room rest peaceful =
     let all = ticks_alike sim l ms together room rest.now peaceful in
@@ -145,7 +145,7 @@ steps_on (event.Crash n) sim l together room rest peaceful =
     }
 steps_on e sim l together room rest peaceful = absurd peaceful
 
-back_on : (c : Call) (sim : SimView) (l : LiveSimView) → GoTogether sim l → AreAlwaysAtRest sim l → is_reversal c ≡ true → GoesOn c sim l
+pub back_on : (c : Call) (sim : SimView) (l : LiveSimView) → GoTogether sim l → AreAlwaysAtRest sim l → is_reversal c ≡ true → GoesOn c sim l
 back_on c sim l together rest is =
     let all = reversals_alike sim l c together is in
     record { alike = all.0; together = all.1; rest = reversals_rest sim l c together is rest }

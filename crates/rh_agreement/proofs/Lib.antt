@@ -1,5 +1,5 @@
-mod Beginning
-mod AtFirst
+pub mod Beginning
+pub mod AtFirst
 mod Reversing
 pub mod Refusing
 pub mod Resting
@@ -11,7 +11,7 @@ mod Bounded
 mod CrashAlike
 pub mod Rest
 pub mod Peace
-mod Always
+pub mod Always
 mod Rows
 mod RowsCrashes
 mod RowsPeace

@@ -130,7 +130,7 @@ by_hand s live n a others why same is =
     goes_first (is_unknown s n) (is_unknown_app s a) (not (is_up (mode_of s n))) (first_that_applies others) why
     (sym (call_tests s live same n a) ∙ is)
 
-refused_too : (sim : SimView) (live : LiveSimView) (e : Event) (why : Refusal) → GoTogether sim live → is_at_a_node e ≡ true
+pub refused_too : (sim : SimView) (live : LiveSimView) (e : Event) (why : Refusal) → GoTogether sim live → is_at_a_node e ≡ true
     → refusal_of (net_in live).clock e live ≡ Some why → refused (state_of sim) e ≡ Some why
 unfolding refused
 refused_too sim live (event.Boot n) why together at is = sym (boot_alike (state_of sim) live together.now n) ∙ is

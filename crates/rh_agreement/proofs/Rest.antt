@@ -47,7 +47,7 @@ use Rattle.rh_agreement.proofs.Stepping.{net_so, set_here}
 
 -- No call is open; no dist_ac of a node that is alive stands in the middle of something, and no such node has to end.
 pub record AreIdle (s : SystemView) : Type 0 where
-  pub calls : s.calls ≡ []
+  pub calls : open_of s.calls ≡ []
   pub listed : (n : Node) → IsAmong n s.alive → is_alive_at s n ≡ true
   pub dists : (n : Node) (d : DistView) → is_alive_at s n ≡ true → (node_at s n).dist ≡ Some d → IsUnoccupied d
   pub ends : (n : Node) → is_alive_at s n ≡ true → (is_ending (node_at s n) && not (node_at s n).is_stopped) ≡ false
@@ -122,7 +122,7 @@ module _ (l : LiveSimView) (last : SystemView) (over : IsOver l last) where
 
   calls_so : begins.calls ≡ []
   unfolding forgotten
-  calls_so = ap open_of over.idle.calls
+  calls_so = over.idle.calls
 
   settled_so : IsSettled begins
   unfolding forgotten
@@ -173,7 +173,7 @@ no_net None is = absurd (false≢true is)
 no_net (Some (cell.Node v)) is = refl
 no_net (Some (cell.Net _)) is = absurd (false≢true is)
 
-nobody_there : (l : LiveSimView) → IsReached (held l) → (n : Node) → n.0 ≡ node_count l.cluster → is_alive_at (held l) n ≡ false
+pub nobody_there : (l : LiveSimView) → IsReached (held l) → (n : Node) → n.0 ≡ node_count l.cluster → is_alive_at (held l) n ≡ false
 unfolding forgotten
 nobody_there l reached n there =
     false_from_ne_true (is_alive_at (held l) n) (λ alive.
@@ -183,10 +183,10 @@ nobody_there l reached n there =
     (sym (ap (λ (k : ℕ). is_alive (in_cell (slice_get l.history.now k))) there) ∙ alive) in
     none-some n (sym (ap (λ (nodes : List Node). slice_get nodes among.0) none) ∙ among.1))
 
-idle_at_rest : (l : LiveSimView) → IsReached (held l) → AreAtRest (held l) → AreIdle (held l)
+pub idle_at_rest : (l : LiveSimView) → IsReached (held l) → AreAtRest (held l) → AreIdle (held l)
 unfolding forgotten
 idle_at_rest l reached rest = record {
-  calls = rest.calls;
+  calls = ap open_of rest.calls;
   listed = λ n among. ((alive_listed (held l) reached).exactly n).0 among;
   dists = rest.dists;
   ends = λ n alive. none_ends (held l) n reached rest.settled alive;
@@ -258,7 +258,7 @@ module _ (l : LiveSimView) (n : Node) (over : ends_with (net_in l) (event.Crash 
   crash_idle : AreIdle settled_then
   unfolding forgotten
   crash_idle = record {
-    calls = crash_ends.calls ∙ rest.calls;
+    calls = ap open_of (crash_ends.calls ∙ rest.calls);
     listed = crash_falls.peace.listed;
     dists = crash_falls.peace.dists;
     ends = λ k alive.

@@ -11,7 +11,7 @@ use Rattle.rh_otp_system.specs.declared.slow.Slow.{Slow}
 use Rattle.rh_otp_system.specs.Moves.{IsAmong, can_go_on_at, is_to_end, first_call_from, next_node, next_end, call_or_end, lock_or_more, quiet_move, slow_or_more, message_or_more, next_move, moved_by, moved, is_quiet_by, is_quiet_behind}
 use Rattle.rh_otp_system.specs.State.{SystemView}
 
-none_found : (p : Node → Bool) (nodes : List Node) → ((n : Node) → IsAmong n nodes → p n ≡ false) → find p nodes ≡ None
+pub none_found : (p : Node → Bool) (nodes : List Node) → ((n : Node) → IsAmong n nodes → p n ≡ false) → find p nodes ≡ None
 none_found p [] none = refl
 none_found p (n ∷ nodes) none =
     ap (λ (b : Bool). cond b (Some n) (find p nodes)) (none n (0, refl))

@@ -23,7 +23,7 @@ use Rattle.rh_otp_sim.specs.Stepping.{begun, happened, cells_behind, system_with
 use Rattle.rh_otp_system.specs.declared.cell.Cell.TheVariants as cell
 use Rattle.rh_otp_system.specs.Doing.{begun_at, booted}
 use Rattle.rh_otp_system.specs.Moves.{IsAmong, next_move, settled, is_settled_by}
-use Rattle.rh_otp_system.specs.Resting.{forgotten, rested}
+use Rattle.rh_otp_system.specs.Resting.{forgotten, rested, open_of}
 use Rattle.rh_otp_system.specs.State.{SystemView, live_at, node_at, own_at, wait_at, is_alive_at}
 use Rattle.rh_otp_laws.specs.Acting.{IsThere, IsReached, later, acts, begins, rests, takes_up}
 use Rattle.rh_otp_laws.proofs.Beginning.{begun_there}
@@ -100,7 +100,7 @@ module _ (n : Node) (s : SystemView) (v : LiveView) (there : live_at s n ≡ Som
 
   idle_so : AreIdle waiting
   idle_so = record {
-    calls = is.calls;
+    calls = ap open_of is.calls;
     listed = λ m among. ap is_alive (node_here m (listed_so m among));
     dists = λ m d alive has. elim (cases_eq m.0 n.0) [
       | inl here ↦ dist_here m d here has

@@ -1,0 +1,15 @@
+mod Fewer
+mod Ended
+mod Controlling
+mod Moving
+mod Told
+mod ByHand
+mod CallAlike
+mod StopAlike
+mod Started
+mod Starting
+mod StartTold
+mod StartAlike
+mod Calm
+mod Rows
+mod RowsStart
